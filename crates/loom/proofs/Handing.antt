@@ -1,0 +1,116 @@
+-- One operation more of a run.
+use Rattle.std.proofs.Common.{◌≡◌, ◌<◌, ◌≤◌, ◌+◌, ℕ, zero, suc, List, [], ◌∷◌, length, get_or, sym, ◌∙◌, ap, refl, arith}
+use Rattle.std.specs.Prelude.{Ok, Err, Option, Some, None, slice_get, slice_set, ⊤}
+use Rattle.loom_views.specs.declared.rt.failure.FailureKind.TheVariants.{Misuse}
+use Rattle.loom_objects.specs.declared.failure.Stop.{Stop}
+use Rattle.loom_objects.specs.declared.failure.Stop.TheVariants.{Failure as Because, Memory}
+use Rattle.loom_objects.specs.declared.operation.Op.{Op}
+use Rattle.loom_objects.specs.declared.operation.Reply.{Reply}
+use Rattle.loom_objects.specs.declared.operation.Reply.TheVariants as reply
+use Rattle.loom_objects.specs.declared.operation.Turn.{Turn}
+use Rattle.loom_objects.specs.declared.operation.Turn.TheVariants as turn
+use Rattle.loom_objects.specs.declared.rt.run.RunState.{RunState}
+use Rattle.loom_objects.specs.Operation.{plain, started}
+use Rattle.loom_objects.specs.Shown.{Shows, world_of}
+use Rattle.loom_objects.specs.Tree.{Gives, ◌>>=◌, found}
+use Rattle.loom_objects.specs.World.{World}
+use Rattle.loom_engine.specs.Execution.{Comes}
+use Rattle.loom_engine.specs.Machine.{submit}
+use Rattle.loom_engine.specs.Routes.{Route, trail, settings_of, whole_search, drives}
+use Rattle.loom_engine.specs.Runs.{Meaning, with_child, at_turn, handed, play}
+use Rattle.loom_engine.specs.Trees.Drive.{drive}
+use Rattle.loom_engine.specs.Trees.Marks.{marking}
+use Rattle.loom_engine.proofs.Binding.{drive_then, drive_fails}
+use Rattle.loom.specs.Ending.{Outcome, IsUnderWay, ComesToTurn}
+
+pub slice_get-is : {A : Type 0} (xs : List A) (i : ℕ) (x : A) → i < length xs → x ≡ get_or xs i x → slice_get xs i ≡ Some x
+slice_get-is [] i x l e = absurd (omega arith)
+slice_get-is (y ∷ ys) zero x l e = ap Some (sym e)
+slice_get-is (y ∷ ys) (suc i) x l e = slice_get-is ys i x (omega arith) e
+
+slice_get-past : {A : Type 0} (xs : List A) (i : ℕ) → length xs ≤ i → slice_get xs i ≡ None
+slice_get-past [] i p = refl
+slice_get-past (x ∷ xs) zero p = absurd (omega arith)
+slice_get-past (x ∷ xs) (suc i) p = slice_get-past xs i (omega arith)
+
+module _ {D S : Type 0} (next : Meaning D S) where
+  opened : (left : ℕ) (bodies : List S) (w : World D) (thread : ℕ) (answer : Reply D) (body : S) (stepped : S × Op D S)
+      → slice_get bodies thread ≡ Some body → stepped ≡ next body answer
+      → play next (suc left) bodies w thread answer ≡ handed (play next left) bodies w thread stepped
+  unfolding play
+  opened left bodies w thread answer body stepped at step =
+      ap (λ o. found o Misuse >>= (λ b. handed (play next left) bodies w thread (next b answer))) at
+      ∙ ap (handed (play next left) bodies w thread) (sym step)
+
+  nobody : (left : ℕ) (bodies : List S) (w : World D) (thread : ℕ) (answer : Reply D) (path : Route) → length bodies ≤ thread
+      → drives (play next (suc left) bodies w thread answer) path ≡ (Err Misuse, trail path)
+  unfolding play
+  nobody left bodies w thread answer path past =
+      ap (λ o. drives (found o Misuse >>= (λ b. handed (play next left) bodies w thread (next b answer))) path) (slice_get-past bodies thread past)
+
+  module _ (outcome : Outcome D) where
+    -- a thread that has no body
+    pub no_body : (bodies : List S) (run : RunState D) (path : Route) (thread : ℕ) (answer : Reply D) → length bodies ≤ thread
+        → IsUnderWay next outcome bodies run path thread answer → outcome ≡ (Err Misuse, trail path)
+    no_body bodies run path thread answer past z = sym z.left ∙ nobody z.world.steps_left bodies z.world thread answer path past
+
+    -- the operation that the thread's body hands over
+    pub record IsHanded (bodies : List S) (thread : ℕ) (answer : Reply D) (body after : S) (op : Op D S) : Type 0 where
+      pub within : thread < length bodies
+      pub at : body ≡ get_or bodies thread body
+      pub step : (after, op) ≡ next body answer
+
+    left_is : (bodies : List S) (run : RunState D) (path : Route) (thread : ℕ) (answer : Reply D) (body after : S) (op : Op D S)
+        → IsHanded bodies thread answer body after op → (z : IsUnderWay next outcome bodies run path thread answer)
+        → drives (handed (play next z.world.steps_left) bodies z.world thread (after, op)) path ≡ outcome
+    left_is bodies run path thread answer body after op h z =
+        ap (λ t. drives t path) (sym (opened z.world.steps_left bodies z.world thread answer body (after, op) (slice_get-is bodies thread body h.within h.at) h.step))
+        ∙ z.left
+
+    -- the operation stops the run
+    pub stops : (bodies : List S) (run run' : RunState D) (path path' : Route) (thread : ℕ) (answer : Reply D) (body after : S) (op : Op D S) (todo : Op D ⊤) (stop : Stop)
+        → IsHanded bodies thread answer body after op → todo ≡ plain op
+        → ((w : World D) → Shows w run → Comes (submit todo w) path (Err stop) run' path')
+        → IsUnderWay next outcome bodies run path thread answer
+        → (bodies' : List S) → ComesToTurn next outcome (Err stop) bodies' run' path'
+    stops bodies run run' path path' thread answer body after op todo Memory h same_op event z bodies' = tt
+    stops bodies run run' path path' thread answer body after op todo (Because failure) h same_op event z bodies' =
+        sym (left_is bodies run path thread answer body after op h z)
+        ∙ drive_fails (settings_of path) (marking None) (submit (plain op) z.world) _ (trail path) (trail path') failure.kind
+        (ap (λ (o : Op D ⊤). drives (submit o z.world) path) (sym same_op) ∙ event z.world z.shown)
+
+    -- what is left after the turn
+    after_turn : (turned : Turn D) (bodies : List S) (run : RunState D) (path : Route) (w : World D) (left : ℕ) → Shows w run → left ≡ suc w.steps_left
+        → drives (at_turn (play next left bodies w) (λ value. Gives value) turned) path ≡ outcome
+        → ComesToTurn next outcome (Ok turned) bodies run path
+    after_turn (turn.Reply thread answer) bodies run path w left shown size e = record {
+      world = w;
+      shown = shown;
+      left = ap (λ n. drives (play next n bodies w thread answer) path) (sym size) ∙ e;
+    }
+    after_turn (turn.Start thread) bodies run path w left shown size e = record {
+      world = w;
+      shown = shown;
+      left = ap (λ n. drives (play next n bodies w thread reply.Start) path) (sym size) ∙ e;
+    }
+    after_turn (turn.Ended value) bodies run path w left shown size e = sym e
+
+    -- the operation leads to a turn
+    pub turns : (bodies : List S) (run run' : RunState D) (path path' : Route) (thread : ℕ) (answer : Reply D) (body after : S) (op : Op D S) (todo : Op D ⊤) (child : Option S) (turned : Turn D)
+        → IsHanded bodies thread answer body after op → todo ≡ plain op → child ≡ started op
+        → ((w : World D) → Shows w run → Comes (submit todo w) path (Ok turned) run' path')
+        → run.steps_left ≡ run'.steps_left + 1 → path'.max_branches ≡ path.max_branches
+        → IsUnderWay next outcome bodies run path thread answer
+        → (bodies' : List S) → bodies' ≡ with_child (slice_set bodies thread after) child
+        → ComesToTurn next outcome (Ok turned) bodies' run' path'
+    turns bodies run run' path path' thread answer body after op todo child turned h same_op same_child event steps same z bodies' more =
+        let come = event z.world z.shown in
+        let counted : z.world.steps_left ≡ run.steps_left = ap (λ (w : World D). w.steps_left) z.shown in
+        let shown : come.0 ≡ world_of run' = come.1 in
+        let counts : come.0.steps_left ≡ run'.steps_left = ap (λ (w : World D). w.steps_left) shown in
+        after_turn turned bodies' run' path' come.0 z.world.steps_left come.1 (omega arith)
+        (ap (λ k. drive (whole_search k) (marking None) (at_turn (play next z.world.steps_left bodies' come.0) (λ value. Gives value) turned) (trail path')) same
+        ∙ ap (λ (b : List S). drive (settings_of path) (marking None) (at_turn (play next z.world.steps_left b come.0) (λ value. Gives value) turned) (trail path')) (more ∙ ap (with_child (slice_set bodies thread after)) same_child)
+        ∙ sym (drive_then (settings_of path) (marking None) (submit (plain op) z.world) _ (trail path) (trail path') (turned, come.0)
+        (ap (λ (o : Op D ⊤). drives (submit o z.world) path) (sym same_op) ∙ come.2))
+        ∙ left_is bodies run path thread answer body after op h z)

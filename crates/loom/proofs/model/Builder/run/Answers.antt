@@ -1,0 +1,11 @@
+use Rattle.loom.proofs.model.Builder.run.Goals as goal
+
+pub returns-in-Err-Failure-clause-along : goal.returns-in-Err-Failure-clause-along
+returns-in-Err-Failure-clause-along g c =
+    let e = rw c.in-Err-Failure.field-0-is at c.in-Err-Failure.ensures.turn in
+    e _ c.loop-bodies.invariant.under_way
+
+pub returns-in-Ok-Ended-clause-along : goal.returns-in-Ok-Ended-clause-along
+returns-in-Ok-Ended-clause-along g c =
+    let e = rw c.in-Ok-Ended.field-0-is at c.in-Ok-Ended.ensures.turn in
+    e _ c.loop-bodies.invariant.under_way

@@ -1,0 +1,43 @@
+-- One run along a path, an operation after another.
+use Rattle.std.specs.Prelude.{◌≡◌, ℕ, suc, List, Result, Ok, Err}
+use Rattle.loom_views.specs.declared.rt.failure.FailureKind.{FailureKind}
+use Rattle.loom_objects.specs.declared.failure.Stop.{Stop}
+use Rattle.loom_objects.specs.declared.failure.Stop.TheVariants.{Failure as Because, Memory}
+use Rattle.loom_objects.specs.declared.operation.Reply.{Reply}
+use Rattle.loom_objects.specs.declared.operation.Reply.TheVariants as reply
+use Rattle.loom_objects.specs.declared.operation.Turn.{Turn}
+use Rattle.loom_objects.specs.declared.operation.Turn.TheVariants as turn
+use Rattle.loom_objects.specs.declared.rt.run.RunState.{RunState}
+use Rattle.loom_objects.specs.Tree.{Tree}
+use Rattle.loom_objects.specs.World.{World}
+use Rattle.loom_objects.specs.Shown.{Shows}
+use Rattle.loom_engine.specs.Routes.{Route, trail, drives}
+use Rattle.loom_engine.specs.Runs.{Meaning, play}
+use Rattle.loom_engine.specs.Trees.Drive.{Trail}
+use Rattle.loom.specs.declared.model.Ending.{Ending}
+use Rattle.loom.specs.declared.model.Ending.TheVariants.{Ended, Failed}
+
+-- what a run came to, and the path after it
+abbrev pub Outcome : Type 0 → Type 0
+Outcome D = Result D FailureKind × Trail
+
+-- the run of the tree along the path ends so, and leaves the path so
+abbrev pub RunsAlong : {D : Type 0} → Tree D → Route → Ending D → Route → Type 0
+RunsAlong tree old (Ended value) new = drives tree old ≡ (Ok value, trail new)
+RunsAlong tree old (Failed failure) new = drives tree old ≡ (Err failure.kind, trail new)
+
+module _ {D S : Type 0} (next : Meaning D S) (outcome : Outcome D) where
+  -- A run under way whose outcome this will be: the thread is to be told the reply, and from a state of the machine that
+  -- the code's state shows, what is left of the run comes to the outcome along the path.
+  pub record IsUnderWay (bodies : List S) (run : RunState D) (path : Route) (thread : ℕ) (answer : Reply D) : Type 0 where
+    pub world : World D
+    pub shown : Shows world run
+    pub left : drives (play next (suc world.steps_left) bodies world thread answer) path ≡ outcome
+
+  -- the next turn of such a run
+  abbrev pub ComesToTurn : Result (Turn D) Stop → List S → RunState D → Route → Type 0
+  ComesToTurn (Ok (turn.Reply thread answer)) bodies run path = IsUnderWay bodies run path thread answer
+  ComesToTurn (Ok (turn.Start thread)) bodies run path = IsUnderWay bodies run path thread reply.Start
+  ComesToTurn (Ok (turn.Ended value)) bodies run path = outcome ≡ (Ok value, trail path)
+  ComesToTurn (Err (Because failure)) bodies run path = outcome ≡ (Err failure.kind, trail path)
+  ComesToTurn (Err Memory) bodies run path = Unit {0}

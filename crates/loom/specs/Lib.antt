@@ -1,0 +1,4 @@
+pub mod Errors
+pub mod Settings
+pub mod Ending
+pub mod Check

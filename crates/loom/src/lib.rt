@@ -1,0 +1,25 @@
+//! Loom explores the interleavings of concurrent code: a body is run once for each choice of the scheduled thread, and
+//! what a complete check has made is a stated set of runs.
+#![tactic(auto)]
+
+pub mod error;
+pub mod model;
+pub mod visitor;
+
+pub use loom_objects::body::Body;
+pub use loom_objects::choice::Choice;
+pub use loom_objects::data::Data;
+pub use loom_objects::failure::Failure;
+pub use loom_objects::operation::{Op, Reply};
+pub use loom_objects::rt::location::Location;
+pub use loom_ops::{fail, sync, thread};
+pub use loom_views::rt::failure::FailureKind;
+
+/// How many threads a run may have at most, main included (loom's `MAX_THREADS`).
+pub const MAX_THREADS: usize = 5;
+
+/// The parts of a run, public for their contracts' sake.
+pub mod rt {
+    pub use loom_engine::rt::{execution, node, path};
+    pub use loom_objects::rt::{location, run};
+}

@@ -1,0 +1,291 @@
+ghost use Rattle.std.specs.Prelude.{◌≡◌, ◌<◌, ◌≤◌, ◌+◌, ◌⊎◌, None, OnOk, IfOk, IfErr, vec_len};
+ghost use Rattle.loom_engine.specs.Execution.{over_after};
+ghost use Rattle.loom_engine.specs.Runs.{runs as runs_of, with_child};
+ghost use Rattle.loom.specs.Check.{Reports, ReportsAlone, Replays};
+ghost use Rattle.loom.specs.Ending.{Outcome, RunsAlong, IsUnderWay, ComesToTurn};
+ghost use Rattle.loom.specs.Settings.{tested};
+
+use crate::error::CheckError;
+use crate::visitor::Visitor;
+use loom_engine::rt::execution::{Execution, Limits};
+use loom_engine::rt::path::Path;
+use loom_objects::body::Body;
+use loom_objects::choice::Choice;
+use loom_objects::failure::{Failure, Stop};
+use loom_objects::operation::{Reply, Turn};
+use loom_views::rt::failure::FailureKind;
+use std::alloc::{AllocError, Global};
+
+/// How a check is done (loom's `model::Builder`).
+#[derive(Clone, Copy, Debug)]
+pub struct Builder {
+    /// How many threads a run may have, main included: 1 to 5.
+    pub max_threads: usize,
+    /// How many nodes a run may have: 1 to 1,000,000.
+    pub max_branches: usize,
+    /// How many operations the threads of a run may hand over: at least 1.
+    pub max_steps: usize,
+}
+
+/// What a check found. `runs` counts the runs that ended without a failure.
+#[derive(Debug, Drop)]
+pub enum Report {
+    /// Every run was made that was to be made, and none failed.
+    Complete {
+        runs: u64,
+    },
+    /// A limit was reached.
+    Stopped {
+        runs: u64,
+        limit: Limit,
+    },
+    /// A run failed, under these choices.
+    Failed {
+        runs: u64,
+        failure: Failure,
+        choices: Vec<Choice>,
+    },
+}
+
+/// Which limit stopped a check.
+#[derive(Clone, Copy, Debug, PartialEq, Eq)]
+pub enum Limit {
+    /// The number of runs.
+    Permutations,
+}
+
+/// One run that follows given choices: how it ended, and the choices that it made.
+#[derive(Drop)]
+pub enum Replay<D> {
+    Ended {
+        choices: Vec<Choice>,
+        value: D,
+    },
+    Failed {
+        failure: Failure,
+        choices: Vec<Choice>,
+    },
+}
+
+// A visitor that keeps nothing.
+struct Nobody;
+
+impl<D: Drop> Visitor<D> for Nobody {
+    ghost takes = { λ old choices value new. Unit {0} };
+
+    fn run(&mut self, _choices: &[Choice], _value: D) -> Result<(), AllocError> {
+        Ok(())
+    }
+}
+
+// How a run ended.
+#[derive(Drop)]
+enum Ending<D> {
+    Ended(D),
+    Failed(Failure),
+}
+
+impl Default for Builder {
+    fn default() -> Builder {
+        Builder::new()
+    }
+}
+
+impl Builder {
+    /// The defaults: 5 threads, 1,000 branch points and 1,000,000 operations.
+    pub fn new() -> Builder
+        ensures { result ≡ record { max_threads = 5; max_branches = 1000; max_steps = 1000000 } }
+    {
+        Builder {
+            max_threads: 5,
+            max_branches: 1000,
+            max_steps: 1_000_000,
+        }
+    }
+
+    // The first setting that is out of range.
+    fn test(&self) -> Result<(), CheckError>
+        ensures tested { result ≡ tested self.now }
+        ensures some { OnOk result (1 ≤ self.now.max_threads) }
+        ensures few { OnOk result (self.now.max_threads ≤ 5) }
+    {
+        if self.max_threads < 1 || self.max_threads > 5 {
+            return Err(CheckError::MaxThreads);
+        }
+        if self.max_branches < 1 || self.max_branches > 1_000_000 {
+            return Err(CheckError::MaxBranches);
+        }
+        if self.max_steps < 1 {
+            return Err(CheckError::MaxSteps);
+        }
+        Ok(())
+    }
+
+    /// A check in which nobody is given the runs. Errors are those of `check_with`.
+    pub fn check<B: Body>(&self, alloc: Global, body: &B) -> Result<Report, CheckError>
+        ensures reports { IfOk result (ReportsAlone self.now.max_branches (runs_of B.next self.now.max_threads self.now.max_steps body.now)) }
+        ensures refused { IfErr (tested self.now) (λ e. result ≡ Err e) }
+        ensures errors { IfErr result (λ e. (e ≡ CheckError.Memory) ⊎ (tested self.now ≡ Err e)) }
+    {
+        let mut nobody = Nobody;
+        let report = self.check_with(alloc, body, &mut nobody);
+        let Nobody = nobody;
+        report
+    }
+
+    /// Makes one run of the body after another, until no choice is left to try or a run fails, and gives each that ended
+    /// without a failure to the visitor. A setting out of range is refused before any run, the first one first; besides
+    /// that an error comes only where a growth was refused, in the check, the body or the visitor.
+    pub fn check_with<B: Body, V: Visitor<B::Data>>(
+        &self,
+        alloc: Global,
+        body: &B,
+        visitor: &mut V,
+    ) -> Result<Report, CheckError>
+        ensures reports { IfOk result (Reports V.takes visitor.old visitor.new self.now.max_branches (runs_of B.next self.now.max_threads self.now.max_steps body.now)) }
+        ensures refused { IfErr (tested self.now) (λ e. (result ≡ Err e) × (visitor.new ≡ visitor.old)) }
+        ensures errors { IfErr result (λ e. (e ≡ CheckError.Memory) ⊎ (tested self.now ≡ Err e)) }
+    {
+        self.test()?;
+        let mut path = Path::new(alloc, self.max_branches);
+        let mut runs = 0u64;
+        while runs < u64::MAX {
+            match self.run(alloc, body, &mut path)? {
+                Ending::Failed(failure) => {
+                    let choices = path.choices(alloc)?;
+                    return Ok(Report::Failed {
+                        runs,
+                        failure,
+                        choices,
+                    });
+                }
+                Ending::Ended(value) => {
+                    let choices = path.choices(alloc)?;
+                    visitor.run(choices.as_slice(), value)?;
+                    runs += 1;
+                    if !path.step() {
+                        return Ok(Report::Complete { runs });
+                    }
+                }
+            }
+        }
+        Ok(Report::Stopped {
+            runs,
+            limit: Limit::Permutations,
+        })
+    }
+
+    /// One run, which follows these choices and then takes defaults. A choice that is no option where it comes, or that is
+    /// left over at the run's end, ends it as `NotDeterministic` with the choices that it followed. Errors are those of
+    /// `check_with`.
+    pub fn replay<B: Body>(
+        &self,
+        alloc: Global,
+        body: &B,
+        choices: &[Choice],
+    ) -> Result<Replay<B::Data>, CheckError>
+        ensures replays { IfOk result (Replays self.now.max_branches (runs_of B.next self.now.max_threads self.now.max_steps body.now) choices.now) }
+        ensures refused { IfErr (tested self.now) (λ e. result ≡ Err e) }
+        ensures errors { IfErr result (λ e. (e ≡ CheckError.Memory) ⊎ (tested self.now ≡ Err e)) }
+    {
+        self.test()?;
+        let mut path = Path::following(alloc, self.max_branches, choices)?;
+        let ending = self.run(alloc, body, &mut path)?;
+        let choices = path.choices(alloc)?;
+        match ending {
+            Ending::Failed(failure) => Ok(Replay::Failed { failure, choices }),
+            Ending::Ended(value) => Ok(Replay::Ended { choices, value }),
+        }
+    }
+
+    // One run along the path.
+    fn run<B: Body>(
+        &self,
+        alloc: Global,
+        body: &B,
+        path: &mut Path,
+    ) -> Result<Ending<B::Data>, AllocError>
+        requires some { 1 ≤ self.now.max_threads }
+        requires few { self.now.max_threads ≤ 5 }
+        ensures along { IfOk result (λ ending. RunsAlong (runs_of B.next self.now.max_threads self.now.max_steps body.now) path.old ending path.new) }
+        ensures same { path.new.max_branches ≡ path.old.max_branches }
+    {
+        let limits = Limits {
+            max_threads: self.max_threads,
+            max_steps: self.max_steps,
+        };
+        let mut execution = Execution::new(alloc, limits)?;
+        let mut bodies = Vec::new(alloc);
+        bodies.push(body.try_clone()?)?;
+        let mut thread = 0usize;
+        let mut reply = Reply::Start;
+        loop {
+            match hand_over(&mut execution, &mut bodies, path, thread, reply) {
+                Err(Stop::Memory) => return Err(AllocError),
+                Err(Stop::Failure(failure)) => return Ok(Ending::Failed(failure)),
+                Ok(Turn::Ended(value)) => return Ok(Ending::Ended(value)),
+                Ok(Turn::Reply(next, answer)) => {
+                    thread = next as usize;
+                    reply = answer;
+                }
+                Ok(Turn::Start(next)) => {
+                    thread = next as usize;
+                    reply = Reply::Start;
+                }
+            }
+        }
+    }
+}
+
+/// The thread is told the reply, and what its body hands over is submitted. What that starts is a body more.
+fn hand_over<B: Body>(
+    execution: &mut Execution<B::Data>,
+    bodies: &mut Vec<B>,
+    path: &mut Path,
+    thread: usize,
+    reply: Reply<B::Data>,
+) -> Result<Turn<B::Data>, Stop>
+    requires { execution.old.over ≡ None }
+    ensures turn { (outcome : Outcome B.Data) → IsUnderWay B.next outcome bodies.old.items execution.old.run path.old thread reply
+        → ComesToTurn B.next outcome result bodies.new.items execution.new.run path.new }
+    ensures over { OnOk result (execution.new.over ≡ over_after result) }
+    ensures steps { OnOk result (execution.old.run.steps_left ≡ execution.new.run.steps_left + 1) }
+    ensures same { path.new.max_branches ≡ path.old.max_branches }
+{
+    if thread >= bodies.len() {
+        return Err(Stop::Failure(Failure {
+            kind: FailureKind::Misuse,
+            location: None,
+        }));
+    }
+    let body = &mut bodies[thread];
+    let (op, started) = match body.resume(reply) {
+        Ok(op) => op.split(),
+        Err(_) => return Err(Stop::Memory),
+    };
+    match execution.submit(path, op) {
+        Err(stop) => Err(stop),
+        Ok(turn) => match add_child(bodies, started) {
+            Ok(()) => Ok(turn),
+            Err(_) => Err(Stop::Memory),
+        },
+    }
+}
+
+/// What a spawn started is a body more.
+fn add_child<B: Drop>(bodies: &mut Vec<B>, started: Option<B>) -> Result<(), AllocError>
+    ensures { OnOk result (bodies.new.items ≡ with_child bodies.old.items started) }
+{
+    if let Some(child) = started {
+        bodies.push(child)?;
+    }
+    Ok(())
+}
+
+/// A check with the defaults (loom's `model`).
+pub fn model<B: Body>(alloc: Global, body: &B) -> Result<Report, CheckError>
+    ensures reports { IfOk result (ReportsAlone 1000 (runs_of B.next 5 1000000 body.now)) }
+    ensures errors { IfErr result (λ e. e ≡ CheckError.Memory) }
+{
+    Builder::new().check(alloc, body)
+}

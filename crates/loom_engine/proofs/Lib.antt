@@ -1,0 +1,5 @@
+pub mod Walk
+pub mod Trees
+pub mod Binding
+pub mod Runs
+pub mod Nodes

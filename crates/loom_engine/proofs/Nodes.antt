@@ -1,0 +1,8 @@
+-- Proofs about the nodes of the path, and about the path.
+pub mod Defaults
+pub mod Statuses
+pub mod Choosing
+pub mod Making
+pub mod Given
+pub mod Paths
+pub mod Fronts

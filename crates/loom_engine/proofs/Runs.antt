@@ -1,0 +1,6 @@
+-- Proofs of the laws of runs.
+pub mod Defaults
+pub mod Events
+pub mod Steps
+pub mod Bodies
+pub mod Rows

@@ -1,0 +1,49 @@
+-- One execution: the run so far, and whether it is over.
+use Rattle.std.specs.Prelude.{◌≡◌, Option, Some, None, Result, Ok, Err, ⊤}
+use Rattle.loom_views.specs.declared.rt.failure.FailureKind.TheVariants.{Misuse}
+use Rattle.loom_objects.specs.declared.failure.Stop.{Stop}
+use Rattle.loom_objects.specs.declared.failure.Stop.TheVariants.{Failure, Memory}
+use Rattle.loom_objects.specs.declared.operation.Op.{Op}
+use Rattle.loom_objects.specs.declared.operation.Turn.{Turn}
+use Rattle.loom_objects.specs.declared.operation.Turn.TheVariants.{Reply, Start, Ended}
+use Rattle.loom_objects.specs.declared.rt.run.RunState.{RunState}
+use Rattle.loom_objects.specs.Tree.{Tree}
+use Rattle.loom_objects.specs.World.{World}
+use Rattle.loom_objects.specs.Shown.{Shows, world_of}
+use Rattle.loom_engine.specs.Machine.{submit}
+use Rattle.loom_engine.specs.Routes.{Route, trail, drives}
+
+-- the state of the run, and what every further operation is answered once the run is over
+pub record ExecutionState (D : Type 0) : Type 0 where
+  pub run : RunState D
+  pub over : Option Stop
+
+module _ {D : Type 0} where
+  -- The tree comes to this along the path, memory aside. After a turn the state shows where the tree leads.
+  abbrev pub Comes : Tree (Turn D × World D) → Route → Result (Turn D) Stop → RunState D → Route → Type 0
+  Comes tree old (Ok turn) run new = (w : World D) × Shows w run × (drives tree old ≡ (Ok (turn, w), trail new))
+  Comes tree old (Err (Failure failure)) run new = drives tree old ≡ (Err failure.kind, trail new)
+  Comes tree old (Err Memory) run new = Unit {0}
+
+  -- what the code came to along the path is what the tree comes to that the rule says of the state before it
+  abbrev pub Along : (World D → Tree (Turn D × World D)) → RunState D → Route → Result (Turn D) Stop → RunState D → Route → Type 0
+  Along rule old path (Ok turn) new after = drives (rule (world_of old)) path ≡ (Ok (turn, world_of new), trail after)
+  Along rule old path (Err (Failure failure)) new after = drives (rule (world_of old)) path ≡ (Err failure.kind, trail after)
+  Along rule old path (Err Memory) new after = Unit {0}
+
+  -- what every further operation is answered: after the end Misuse, after a stop the same stop
+  abbrev pub over_after : Result (Turn D) Stop → Option Stop
+  over_after (Ok (Reply thread reply)) = None
+  over_after (Ok (Start thread)) = None
+  over_after (Ok (Ended value)) = Some (Failure (record { kind = Misuse; location = None }))
+  over_after (Err stop) = Some stop
+
+  abbrev pub SubmitsAt : Option Stop → ExecutionState D → Op D ⊤ → Route → Result (Turn D) Stop → ExecutionState D → Route → Type 0
+  SubmitsAt None old op path answer new after =
+      ((w : World D) → Shows w old.run → Comes (submit op w) path answer new.run after) × (new.over ≡ over_after answer)
+  SubmitsAt (Some stop) old op path answer new after = (answer ≡ Err stop) × (new ≡ old) × (after ≡ path)
+
+  -- One event of the machine along the path, from each of its states that the execution shows. Once the run is over it is
+  -- the same answer again, and nothing changes.
+  abbrev pub Submits : ExecutionState D → Op D ⊤ → Route → Result (Turn D) Stop → ExecutionState D → Route → Type 0
+  Submits old op path answer new after = SubmitsAt old.over old op path answer new after

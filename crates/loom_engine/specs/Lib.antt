@@ -1,0 +1,8 @@
+pub mod Walk
+pub mod Trees
+pub mod Nodes
+pub mod Routes
+pub mod Machine
+pub mod Execution
+pub mod Runs
+pub mod Rows

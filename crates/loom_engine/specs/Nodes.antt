@@ -1,0 +1,105 @@
+-- A node of the path as a walk sees it.
+use Rattle.std.specs.Prelude.{ℕ, zero, suc, ◌≡◌, Bool, true, false, List, [], ◌∷◌, map, Option, Some, None, slice_set}
+use Rattle.std.specs.List.{position_from}
+use Rattle.loom_objects.specs.declared.choice.Choice.{Choice}
+use Rattle.loom_objects.specs.declared.choice.Choice.TheVariants.{Thread, Load, Spurious}
+use Rattle.loom_objects.specs.declared.rt.thread.Ability.{Ability}
+use Rattle.loom_objects.specs.declared.rt.thread.Ability.TheVariants.{Able, Yielding, Unable}
+use Rattle.loom_objects.specs.Question.{WhichThread, Question, made_of}
+use Rattle.loom_engine.specs.Walk.Path.{Status as State, Closed, Skip as Skipped, Pending as ToTry, Active as Chosen, Visited as Tried, Stored, IsAtRest, advance}
+use Rattle.loom_engine.specs.declared.rt.node.Status.{Status}
+use Rattle.loom_engine.specs.declared.rt.node.Status.TheVariants.{Disabled, Skip, Yield, Pending, Active, Visited}
+use Rattle.loom_engine.specs.declared.rt.node.Node.{Node}
+use Rattle.loom_engine.specs.declared.rt.node.Node.TheVariants as node
+use Rattle.loom_engine.specs.declared.rt.node.Schedule.{Schedule}
+
+-- what a thread with this status offered when the node was made
+abbrev pub ability_of : Status → Ability
+ability_of Disabled = Unable
+ability_of Skip = Able
+ability_of Yield = Yielding
+ability_of Pending = Able
+ability_of Active = Able
+ability_of Visited = Able
+
+-- what a thread's status says of the option that it is
+abbrev pub state_of : Status → State
+state_of Disabled = Closed
+state_of Skip = Skipped
+state_of Yield = Closed
+state_of Pending = ToTry
+state_of Active = Chosen
+state_of Visited = Tried
+
+-- the state of the option that is the thread of this number
+abbrev pub state_at : List Status → ℕ → State
+state_at [] k = Closed
+state_at (s ∷ statuses) zero = state_of s
+state_at (s ∷ statuses) (suc k) = state_at statuses k
+
+-- the state of an option of a schedule; without a default none is the one option, and it is the choice
+abbrev pub thread_state : Option ℕ → List Status → Choice → State
+thread_state first statuses (Thread (Some k)) = state_at statuses k
+thread_state None statuses (Thread None) = Chosen
+thread_state (Some k) statuses (Thread None) = Closed
+thread_state first statuses (Load slot) = Closed
+thread_state first statuses (Spurious answer) = Closed
+
+-- the thread is the choice
+abbrev pub is_active : Status → Bool
+is_active Active = true
+is_active _ = false
+
+-- the thread is to be tried
+abbrev pub is_pending : Status → Bool
+is_pending Pending = true
+is_pending _ = false
+
+-- the first thread that is active
+abbrev pub active_thread : List Status → Option ℕ
+active_thread statuses = position_from is_active 0 statuses
+
+-- the question that made the schedule
+abbrev pub asked : Option ℕ → Bool → List Status → Question
+asked first exploring statuses = WhichThread exploring (record { default = first; abilities = map ability_of statuses; unordered = [] })
+
+-- a schedule with this default and these statuses
+abbrev pub seen_threads : Option ℕ → Bool → List Status → Stored
+seen_threads first exploring statuses = record {
+  made = made_of (asked first exploring statuses);
+  present = Thread (active_thread statuses);
+  status = thread_state first statuses;
+}
+
+-- the schedule as a walk sees it
+abbrev pub seen_schedule : Schedule → Stored
+seen_schedule n = seen_threads n.first n.exploring n.statuses
+
+-- the node as a walk sees it
+abbrev pub seen : Node → Stored
+seen (node.Schedule n) = seen_schedule n
+
+-- a node that a run has made, with one choice, which is one of its options
+abbrev pub IsWell : Node → Type 0
+IsWell n = IsAtRest (seen n)
+
+-- each of the nodes is so
+abbrev pub AreWell : List Node → Type 0
+AreWell [] = Unit {0}
+AreWell (n ∷ nodes) = IsWell n × AreWell nodes
+
+-- the status, as the node is made, of a thread that isn't the choice: each option is to be tried
+abbrev pub made_status : Ability → Status
+made_status Able = Pending
+made_status Yielding = Yield
+made_status Unable = Disabled
+
+-- the thread, if there is one, gets the status
+abbrev pub with_status : Option ℕ → Status → List Status → List Status
+with_status None status statuses = statuses
+with_status (Some k) status statuses = slice_set statuses k status
+
+-- the node went on to its next choice, or it can't, and stays
+abbrev pub Advances : Stored → Bool → Stored → Type 0
+Advances old true new = advance old ≡ Some new
+Advances old false new = (advance old ≡ None) × (new ≡ old)

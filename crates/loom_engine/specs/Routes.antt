@@ -1,0 +1,65 @@
+-- A path as its callers see it, and what it says to a run.
+use Rattle.std.specs.Prelude.{ℕ, ◌≡◌, Bool, true, false, List, [], map, take, Option, Some, None, Result, Ok, Err}
+use Rattle.loom_views.specs.declared.rt.failure.FailureKind.{FailureKind}
+use Rattle.loom_objects.specs.declared.choice.Choice.{Choice}
+use Rattle.loom_objects.specs.declared.choice.Choice.TheVariants.{Thread}
+use Rattle.loom_objects.specs.declared.failure.Stop.{Stop}
+use Rattle.loom_objects.specs.declared.failure.Stop.TheVariants.{Failure, Memory}
+use Rattle.loom_objects.specs.declared.rt.thread.Ability.{Ability}
+use Rattle.loom_objects.specs.Question.{Question, WhichThread}
+use Rattle.loom_objects.specs.Steps.{default_thread}
+use Rattle.loom_objects.specs.Tree.{Tree}
+use Rattle.loom_engine.specs.declared.rt.node.Node.{Node}
+use Rattle.loom_engine.specs.Walk.Path.{Stored, choices, step}
+use Rattle.loom_engine.specs.Trees.Meeting.{Settings}
+use Rattle.loom_engine.specs.Trees.Drive.{Trail, branch, drive}
+use Rattle.loom_engine.specs.Trees.Marks.{marking}
+use Rattle.loom_engine.specs.Nodes.{seen}
+
+-- the largest number of nodes, the nodes, how many of them the run has passed, and the choices that new nodes take in turn
+pub record Route : Type 0 where
+  pub max_branches : ℕ
+  pub nodes : List Node
+  pub position : ℕ
+  pub given : List Choice
+
+-- between two runs
+abbrev pub at_rest : ℕ → List Node → Route
+at_rest max_branches nodes = record { max_branches = max_branches; nodes = nodes; position = 0; given = [] }
+
+-- each option is to be tried, without a bound on preemptions
+abbrev pub whole_search : ℕ → Settings
+whole_search max_branches = record { reduce = false; bound = None; max_branches = max_branches }
+
+abbrev pub settings_of : Route → Settings
+settings_of route = whole_search route.max_branches
+
+abbrev pub stored : List Node → List Stored
+stored nodes = map seen nodes
+
+-- the path as a walk sees it
+abbrev pub trail : Route → Trail
+trail route = record { nodes = stored route.nodes; position = route.position; given = route.given }
+
+-- the choices at the nodes that the run has passed
+abbrev pub chosen : Route → List Choice
+chosen route = choices (take route.position (stored route.nodes))
+
+-- a schedule, while the active thread is this one and the threads offer this
+abbrev pub which_thread : ℕ → List Ability → Question
+which_thread active abilities = WhichThread true (record { default = default_thread active abilities; abilities = abilities; unordered = [] })
+
+-- The path answers the question by a thread, and passes the node; or it refuses, and stays as it was.
+abbrev pub Says : Route → Question → Result (Option ℕ) Stop → Route → Type 0
+Says old question (Ok thread) new = branch (settings_of old) (trail old) question ≡ (Ok (Thread thread), trail new)
+Says old question (Err (Failure failure)) new = (branch (settings_of old) (trail old) question ≡ (Err failure.kind, trail old)) × (new ≡ old)
+Says old question (Err Memory) new = new ≡ old
+
+-- the deepest node that can go on does, and what follows it is dropped; or no node can
+abbrev pub Steps : List Node → Bool → List Node → Type 0
+Steps old true new = step (stored old) ≡ Some (stored new)
+Steps old false new = step (stored old) ≡ None
+
+-- the way through a tree that the path takes: what it comes to, and the path after it
+abbrev pub drives : {A : Type 0} → Tree A → Route → Result A FailureKind × Trail
+drives tree route = drive (settings_of route) (marking None) tree (trail route)

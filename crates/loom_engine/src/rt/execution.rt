@@ -1,0 +1,137 @@
+ghost use Rattle.std.specs.Prelude.{◌≡◌, ◌≤◌, ◌+◌, None, IfOk, OnOk};
+ghost use Rattle.loom_objects.specs.World.{opening};
+ghost use Rattle.loom_objects.specs.Shown.{Shows, IsSound};
+ghost use Rattle.loom_engine.specs.Execution.{Along, Submits, over_after as answered_after};
+ghost use Rattle.loom_engine.specs.Machine as machine;
+
+use crate::rt::path::Path;
+use loom_objects::failure::{Failure, Stop, fail};
+use loom_objects::operation::{Op, Turn};
+use loom_objects::rt::run::{Entry, RunState};
+use loom_views::rt::failure::FailureKind;
+use std::alloc::{AllocError, Global};
+use std::marker::Model;
+
+/// How much a run may use.
+#[derive(Clone, Copy, Debug)]
+pub struct Limits {
+    /// How many threads there may be, main included: 1 to 5.
+    pub max_threads: usize,
+    /// How many operations all threads together may hand over.
+    pub max_steps: usize,
+}
+
+/// The execution of one run (loom's `rt/execution.rs`).
+#[derive(Drop)]
+pub struct Execution<D> {
+    run: RunState<D>,
+    // what every further operation is answered
+    over: Option<Stop>,
+}
+
+impl<D> Model for Execution<D> {
+    ghost use Rattle.loom_objects.specs.Shown.{IsSound};
+    ghost use Rattle.loom_engine.specs.Execution.{ExecutionState};
+
+    ghost Value = { ExecutionState D };
+
+    ghost view = { λ e. record { run = e.run; over = e.over } };
+
+    ghost invariant = { λ e. IsSound e.run };
+}
+
+impl<D: Drop> Execution<D> {
+    /// A run in which main is about to hand over its first operation.
+    pub fn new(alloc: Global, limits: Limits) -> Result<Execution<D>, AllocError>
+        requires some { 1 ≤ limits.max_threads }
+        requires few { limits.max_threads ≤ 5 }
+        ensures opens { IfOk result (λ execution. Shows (opening limits.max_threads limits.max_steps) execution.run) }
+        ensures steps { IfOk result (λ execution. execution.run.steps_left ≡ limits.max_steps) }
+        ensures over { IfOk result (λ execution. execution.over ≡ None) }
+    {
+        Ok(Execution {
+            run: RunState::new(alloc, limits.max_threads, limits.max_steps)?,
+            over: None,
+        })
+    }
+
+    /// The active thread hands over an operation, which is done up to the next turn: the path says who goes on at a branch
+    /// point. It is one event of the machine. After a `Stop` each later call answers the same, and after `Turn::Ended`
+    /// `Misuse` without a location; then nothing changes.
+    pub fn submit(&mut self, path: &mut Path, op: Op<D, ()>) -> Result<Turn<D>, Stop>
+        ensures event { Submits self.old op path.old result self.new path.new }
+        ensures steps { OnOk result (self.old.run.steps_left ≡ self.new.run.steps_left + 1) }
+        ensures same { (path.new.max_branches ≡ path.old.max_branches) × (path.new.given ≡ path.old.given) }
+    {
+        if let Some(stop) = self.over {
+            return Err(stop);
+        }
+        let answer = hand_over(&mut self.run, path, op);
+        self.over = over_after(&answer);
+        answer
+    }
+}
+
+/// What every operation after this answer is answered.
+fn over_after<D>(answer: &Result<Turn<D>, Stop>) -> Option<Stop>
+    ensures { result ≡ answered_after answer.now }
+{
+    match answer {
+        Ok(Turn::Ended(_)) => Some(Stop::Failure(Failure {
+            kind: FailureKind::Misuse,
+            location: None,
+        })),
+        Ok(_) => None,
+        Err(stop) => Some(*stop),
+    }
+}
+
+/// An operation up to its branch point, and past it.
+fn hand_over<D: Drop>(
+    run: &mut RunState<D>,
+    path: &mut Path,
+    op: Op<D, ()>,
+) -> Result<Turn<D>, Stop>
+    requires { IsSound run.old }
+    ensures along { Along (machine.submit op) run.old path.old result run.new path.new }
+    ensures sound { IsSound run.new }
+    ensures steps { OnOk result (run.old.steps_left ≡ run.new.steps_left + 1) }
+    ensures same { (path.new.max_branches ≡ path.old.max_branches) × (path.new.given ≡ path.old.given) }
+{
+    match run.begin(op) {
+        Err(stop) => Err(stop),
+        Ok(Entry::Answered(reply)) => Ok(Turn::Reply(run.active, reply)),
+        Ok(Entry::AtBranch) => schedule(run, path),
+    }
+}
+
+/// The path says which thread goes on, and what it has pending takes effect.
+fn schedule<D: Drop>(run: &mut RunState<D>, path: &mut Path) -> Result<Turn<D>, Stop>
+    requires { IsSound run.old }
+    ensures along { Along machine.schedule run.old path.old result run.new path.new }
+    ensures sound { IsSound run.new }
+    ensures steps { run.new.steps_left ≡ run.old.steps_left }
+    ensures same { (path.new.max_branches ≡ path.old.max_branches) × (path.new.given ≡ path.old.given) }
+{
+    match path.branch_thread(run.active, &run.abilities()) {
+        Err(stop) => Err(stop),
+        Ok(Some(thread)) => run.resume(thread),
+        Ok(None) => close(run, path),
+    }
+}
+
+/// No thread can go on: the run is over, if all threads have ended and the path is used up.
+fn close<D: Drop>(run: &mut RunState<D>, path: &Path) -> Result<Turn<D>, Stop>
+    requires { IsSound run.old }
+    ensures along { Along machine.closes run.old path.now result run.new path.now }
+    ensures sound { IsSound run.new }
+    ensures steps { run.new.steps_left ≡ run.old.steps_left }
+{
+    if !run.all_ended() {
+        return fail(FailureKind::Deadlock);
+    }
+    if !path.is_used_up() {
+        return fail(FailureKind::NotDeterministic);
+    }
+    run.end_run()
+}

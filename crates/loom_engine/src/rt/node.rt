@@ -1,0 +1,282 @@
+ghost use Rattle.std.specs.Prelude.{◌≡◌, ◌<◌, ◌↔◌, Some, IfSome, IsTrue, true, slice_get, map};
+ghost use Rattle.std.specs.List.{position_from};
+ghost use Rattle.std.specs.Option.{option_map};
+ghost use Rattle.loom_objects.specs.Question.{made_of};
+ghost use Rattle.loom_objects.specs.Steps.{default_thread as default_of, is_able_one};
+ghost use Rattle.loom_engine.specs.Walk.Path.{advance as advanced, choose as chosen, fresh, IsAtRest};
+ghost use Rattle.loom_engine.specs.Trees.Drive.{new_node};
+ghost use Rattle.loom_engine.specs.Nodes.{ability_of, made_status, is_active, is_pending, with_status as with_statuses, seen, seen_schedule, Advances, IsWell};
+ghost use Rattle.loom_engine.specs.Routes.{which_thread};
+
+use loom_objects::choice::Choice;
+use loom_objects::rt::thread::Ability;
+
+/// What is known of a thread at a schedule (loom's `rt/path.rs`).
+#[derive(Clone, Copy, Debug, PartialEq, Eq)]
+pub enum Status {
+    /// It can't go on, or isn't there.
+    Disabled,
+    /// It can go on, and is not to be tried.
+    Skip,
+    /// It is in the yield state.
+    Yield,
+    /// It is to be tried.
+    Pending,
+    /// It is the present choice.
+    Active,
+    /// It was tried.
+    Visited,
+}
+
+/// A node at which a thread is chosen.
+#[derive(Clone, Copy, Debug)]
+pub struct Schedule {
+    /// The thread that goes on by itself, or none, where none can.
+    pub first: Option<u8>,
+    /// Whether the run explores here, or takes the default and no other.
+    pub exploring: bool,
+    /// One status for each of five threads.
+    pub statuses: [Status; 5],
+}
+
+/// A node of the path.
+#[derive(Clone, Copy, Debug)]
+pub enum Node {
+    /// Which thread goes on.
+    Schedule(Schedule),
+}
+
+/// Whether a thread that offers this may be chosen.
+fn is_able(ability: Ability) -> bool
+    ensures { result ≡ is_able_one ability }
+{
+    matches!(ability, Ability::Able)
+}
+
+/// The active thread if it can go on, or else the lowest that can.
+fn default_thread(active: u8, abilities: &[Ability; 5]) -> Option<u8>
+    ensures default { result ≡ default_of active abilities.now }
+    ensures within { IfSome result (λ thread. thread < 5) }
+{
+    if active < 5 && is_able(abilities[active as usize]) {
+        return Some(active);
+    }
+    match lowest_able(abilities) {
+        Some(thread) => Some(thread as u8),
+        None => None,
+    }
+}
+
+/// The lowest thread that can go on.
+fn lowest_able(abilities: &[Ability; 5]) -> Option<usize>
+    ensures lowest { result ≡ position_from is_able_one 0 abilities.now }
+    ensures within { IfSome result (λ thread. thread < 5) }
+{
+    abilities.iter().position(|ability| is_able(*ability))
+}
+
+/// Whether the two are the same thread, or both none.
+fn is_same_thread(one: Option<u8>, other: Option<u8>) -> bool
+    ensures { IsTrue result ↔ (one ≡ other) }
+{
+    one == other
+}
+
+/// Whether the threads offer the same in both.
+fn are_same_abilities(one: &[Ability; 5], other: &[Ability; 5]) -> bool
+    ensures { IsTrue result ↔ (one.now ≡ other.now) }
+{
+    for place in 0..5 {
+        if one[place] != other[place] {
+            return false;
+        }
+    }
+    true
+}
+
+impl Status {
+    /// What the thread offered when the node was made.
+    fn ability(self) -> Ability
+        ensures { result ≡ ability_of self }
+    {
+        match self {
+            Status::Disabled => Ability::Unable,
+            Status::Yield => Ability::Yielding,
+            Status::Skip | Status::Pending | Status::Active | Status::Visited => Ability::Able,
+        }
+    }
+
+    /// The status, as the node is made, of a thread that is not the choice: each option is to be tried.
+    fn made(ability: Ability) -> Status
+        ensures { result ≡ made_status ability }
+    {
+        match ability {
+            Ability::Able => Status::Pending,
+            Ability::Yielding => Status::Yield,
+            Ability::Unable => Status::Disabled,
+        }
+    }
+
+    /// Whether the thread is the choice.
+    fn is_active(self) -> bool
+        ensures { result ≡ is_active self }
+    {
+        matches!(self, Status::Active)
+    }
+
+    /// Whether the thread is to be tried.
+    fn is_pending(self) -> bool
+        ensures { result ≡ is_pending self }
+    {
+        matches!(self, Status::Pending)
+    }
+}
+
+/// The statuses, as the node is made, while no thread is the choice.
+fn made_statuses(abilities: &[Ability; 5]) -> [Status; 5]
+    ensures { result ≡ map made_status abilities.now }
+{
+    abilities.map(Status::made)
+}
+
+/// The thread, if there is one, gets the status.
+fn with_status(mut statuses: [Status; 5], thread: Option<u8>, status: Status) -> [Status; 5]
+    requires { IfSome thread (λ thread. thread < 5) }
+    ensures { result ≡ with_statuses thread status statuses }
+{
+    if let Some(thread) = thread {
+        statuses[thread as usize] = status;
+    }
+    statuses
+}
+
+impl Schedule {
+    /// A new schedule: the default thread is the choice, and each other thread that can go on is to be tried.
+    pub(crate) fn new(active: u8, abilities: &[Ability; 5]) -> Schedule
+        ensures made { seen_schedule result ≡ fresh true (made_of (which_thread active abilities.now)) }
+        ensures rests { IsAtRest (seen_schedule result) }
+    {
+        let first = default_thread(active, abilities);
+        Schedule {
+            first,
+            exploring: true,
+            statuses: with_status(made_statuses(abilities), first, Status::Active),
+        }
+    }
+
+    /// A new schedule at a choice that was given, or None where that is no option. The default, if it is passed over,
+    /// counts as tried.
+    pub(crate) fn at(active: u8, abilities: &[Ability; 5], choice: Choice) -> Option<Schedule>
+        ensures made { option_map seen_schedule result ≡ new_node true (made_of (which_thread active abilities.now)) (Some choice) }
+        ensures rests { IfSome result (λ schedule. IsAtRest (seen_schedule schedule)) }
+    {
+        let mut schedule = Schedule::new(active, abilities);
+        let Choice::Thread(thread) = choice else {
+            return None;
+        };
+        if is_same_thread(thread, schedule.first) {
+            return Some(schedule);
+        }
+        let thread = thread?;
+        if !schedule.is_pending(thread as usize) {
+            return None;
+        }
+        schedule.choose(thread as usize);
+        Some(schedule)
+    }
+
+    /// Whether the thread is there, and to be tried.
+    fn is_pending(&self, thread: usize) -> bool
+        ensures { IsTrue result ↔ (slice_get self.now.statuses thread ≡ Some Status.Pending) }
+    {
+        matches!(self.statuses.get(thread), Some(Status::Pending))
+    }
+
+    /// The thread that is the choice.
+    pub(crate) fn active(&self) -> Option<u8>
+        ensures present { Choice.Thread result ≡ (seen_schedule self.now).present }
+        ensures within { IfSome result (λ thread. thread < 5) }
+    {
+        match self.active_place() {
+            Some(thread) => Some(thread as u8),
+            None => None,
+        }
+    }
+
+    /// The place of the thread that is the choice.
+    fn active_place(&self) -> Option<usize>
+        ensures lowest { result ≡ position_from is_active 0 self.now.statuses }
+        ensures within { IfSome result (λ thread. thread < 5) }
+    {
+        self.statuses.iter().position(|status| status.is_active())
+    }
+
+    /// The place of the lowest thread that is to be tried.
+    fn pending_place(&self) -> Option<usize>
+        ensures lowest { result ≡ position_from is_pending 0 self.now.statuses }
+        ensures within { IfSome result (λ thread. thread < 5) }
+    {
+        self.statuses.iter().position(|status| status.is_pending())
+    }
+
+    /// Whether it is the schedule that would be made now, whatever was tried there.
+    pub(crate) fn meets(&self, active: u8, abilities: &[Ability; 5]) -> bool
+        ensures { IsTrue result ↔ ((seen_schedule self.now).made ≡ made_of (which_thread active abilities.now)) }
+    {
+        self.exploring
+            && is_same_thread(self.first, default_thread(active, abilities))
+            && are_same_abilities(&self.statuses.map(Status::ability), abilities)
+    }
+
+    /// Another thread is the choice, and the one that was is visited.
+    fn choose(&mut self, thread: usize)
+        requires rests { IsAtRest (seen_schedule self.old) }
+        requires explores { self.old.exploring ≡ true }
+        requires pending { slice_get self.old.statuses thread ≡ Some Status.Pending }
+        ensures chosen { seen_schedule self.new ≡ chosen (seen_schedule self.old) (Choice.Thread (Some thread)) }
+        ensures rests { IsAtRest (seen_schedule self.new) }
+    {
+        self.statuses = with_status(self.statuses, self.active(), Status::Visited);
+        self.statuses[thread] = Status::Active;
+    }
+
+    /// Takes the lowest thread that is to be tried, if the run explores here and there is one.
+    fn advance(&mut self) -> bool
+        requires { IsAtRest (seen_schedule self.old) }
+        ensures advances { Advances (seen_schedule self.old) result (seen_schedule self.new) }
+        ensures rests { IsAtRest (seen_schedule self.new) }
+    {
+        if !self.exploring {
+            return false;
+        }
+        match self.pending_place() {
+            Some(thread) => {
+                self.choose(thread);
+                true
+            }
+            None => false,
+        }
+    }
+}
+
+impl Node {
+    /// What was chosen there.
+    pub fn choice(&self) -> Choice
+        ensures { result ≡ (seen self.now).present }
+    {
+        match self {
+            Node::Schedule(schedule) => Choice::Thread(schedule.active()),
+        }
+    }
+
+    /// Takes the next option that is to be tried, if the run explores there and there is one.
+    pub(crate) fn advance(&mut self) -> bool
+        requires { IsWell self.old }
+        ensures advances { Advances (seen self.old) result (seen self.new) }
+        ensures rests { IsWell self.new }
+    {
+        match self {
+            Node::Schedule(schedule) => schedule.advance(),
+        }
+    }
+}

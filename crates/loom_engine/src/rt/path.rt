@@ -1,0 +1,169 @@
+ghost use Rattle.std.specs.Prelude.{◌≡◌, [], IfOk, IfSome, slice_get, map, true, Some};
+ghost use Rattle.std.specs.Option.{option_map};
+ghost use Rattle.loom_objects.specs.Question.{made_of};
+ghost use Rattle.loom_engine.specs.Nodes.{seen, seen_schedule, AreWell, IsWell};
+ghost use Rattle.loom_engine.specs.Routes.{Route, at_rest, chosen, trail, Says, Steps, which_thread};
+ghost use Rattle.loom_engine.specs.Trees.Drive.{is_used_up, new_node};
+
+use crate::rt::node::{Node, Schedule};
+use loom_objects::choice::Choice;
+use loom_objects::failure::{Stop, fail};
+use loom_objects::rt::thread::Ability;
+use loom_views::rt::failure::FailureKind;
+use std::alloc::{AllocError, Global};
+use std::marker::Model;
+
+/// The nodes at which the run has chosen, in order, with what is left to try at each (loom's `rt/path.rs`).
+#[derive(Drop)]
+pub struct Path {
+    max_branches: usize,
+    nodes: Vec<Node>,
+    // how many nodes the run has passed
+    position: usize,
+    // what the new nodes take in turn
+    given: Vec<Choice>,
+}
+
+impl Model for Path {
+    ghost use Rattle.std.specs.Prelude.{◌≤◌, length};
+    ghost use Rattle.loom_engine.specs.Nodes.{AreWell};
+    ghost use Rattle.loom_engine.specs.Routes.{Route};
+
+    ghost Value = { Route };
+
+    ghost view = { λ p. record {
+      max_branches = p.max_branches;
+      nodes = p.nodes.items;
+      position = p.position;
+      given = p.given.items;
+    } };
+
+    ghost invariant = { λ p. (p.position ≤ length p.nodes.items) × AreWell p.nodes.items };
+}
+
+impl Path {
+    /// A path without nodes, which may have this many.
+    pub fn new(alloc: Global, max_branches: usize) -> Path
+        ensures { result ≡ at_rest max_branches [] }
+    {
+        Path {
+            max_branches,
+            nodes: Vec::new(alloc),
+            position: 0,
+            given: Vec::new(alloc),
+        }
+    }
+
+    /// A path without nodes whose new nodes take these choices in turn, then defaults.
+    pub fn following(
+        alloc: Global,
+        max_branches: usize,
+        choices: &[Choice],
+    ) -> Result<Path, AllocError>
+        ensures { IfOk result (λ path. path ≡ record (at_rest max_branches []) { given = choices.now }) }
+    {
+        let mut path = Path::new(alloc, max_branches);
+        path.given.extend_from_slice(choices)?;
+        Ok(path)
+    }
+
+    /// The choice that was given for the node that is made next.
+    fn given_here(&self) -> Option<Choice>
+        ensures { result ≡ slice_get self.now.given self.now.position }
+    {
+        self.given.get(self.position).copied()
+    }
+
+    /// Passes a schedule: follows the stored node, or makes one. Where it fails the path stays as it was.
+    pub fn branch_thread(
+        &mut self,
+        active: u8,
+        abilities: &[Ability; 5],
+    ) -> Result<Option<u8>, Stop>
+        ensures says { Says self.old (which_thread active abilities.now) result self.new }
+        ensures same { (self.new.max_branches ≡ self.old.max_branches) × (self.new.given ≡ self.old.given) }
+    {
+        if self.position < self.nodes.len() {
+            return match self.nodes[self.position] {
+                Node::Schedule(schedule) => {
+                    if !schedule.meets(active, abilities) {
+                        return fail(FailureKind::NotDeterministic);
+                    }
+                    self.position += 1;
+                    Ok(schedule.active())
+                }
+            };
+        }
+        if self.position >= self.max_branches {
+            return fail(FailureKind::TooManyBranches);
+        }
+        let Some(schedule) = new_schedule(active, abilities, self.given_here()) else {
+            return fail(FailureKind::NotDeterministic);
+        };
+        match self.nodes.push(Node::Schedule(schedule)) {
+            Ok(()) => {}
+            Err(_) => return Err(Stop::Memory),
+        }
+        self.position += 1;
+        Ok(schedule.active())
+    }
+
+    /// Whether the run has met all that the path holds.
+    pub fn is_used_up(&self) -> bool
+        ensures { result ≡ is_used_up (trail self.now) }
+    {
+        self.nodes.len() <= self.position && self.given.len() <= self.position
+    }
+
+    /// The choices at the nodes that the run has passed.
+    pub fn choices(&self, alloc: Global) -> Result<Vec<Choice>, AllocError>
+        ensures { IfOk result (λ list. list.items ≡ chosen self.now) }
+    {
+        choices_at(alloc, &self.nodes[..self.position])
+    }
+
+    /// After a run, goes on to the next one: the deepest node that has an option left takes it, and what follows it is
+    /// dropped. False where no node has one.
+    pub fn step(&mut self) -> bool
+        ensures steps { Steps self.old.nodes result self.new.nodes }
+        ensures rest { self.new ≡ at_rest self.old.max_branches self.new.nodes }
+    {
+        self.position = 0;
+        self.given.clear();
+        step_nodes(&mut self.nodes)
+    }
+}
+
+/// What was chosen at each of these nodes.
+fn choices_at(alloc: Global, nodes: &[Node]) -> Result<Vec<Choice>, AllocError>
+    ensures { IfOk result (λ list. list.items ≡ map (λ node. (seen node).present) nodes.now) }
+{
+    nodes.iter().map(|node| node.choice()).collect(alloc)
+}
+
+/// A new schedule: at the choice that was given for its place, if any, or else at its default.
+fn new_schedule(active: u8, abilities: &[Ability; 5], given: Option<Choice>) -> Option<Schedule>
+    ensures made { option_map seen_schedule result ≡ new_node true (made_of (which_thread active abilities.now)) given }
+    ensures rests { IfSome result (λ schedule. IsWell (Node.Schedule schedule)) }
+{
+    match given {
+        Some(choice) => Schedule::at(active, abilities, choice),
+        None => Some(Schedule::new(active, abilities)),
+    }
+}
+
+/// The deepest node that can go on does, and what follows it is dropped. False if none can.
+fn step_nodes(nodes: &mut Vec<Node>) -> bool
+    requires { AreWell nodes.old.items }
+    ensures steps { Steps nodes.old.items result nodes.new.items }
+    ensures well { AreWell nodes.new.items }
+{
+    while !nodes.is_empty() {
+        let last = nodes.len() - 1;
+        if nodes[last].advance() {
+            return true;
+        }
+        nodes.truncate(last);
+    }
+    false
+}

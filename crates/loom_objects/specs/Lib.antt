@@ -1,0 +1,10 @@
+pub mod Question
+pub mod Tree
+pub mod Failing
+pub mod Operation
+pub mod World
+pub mod Moves
+pub mod Locks
+pub mod Threads
+pub mod Steps
+pub mod Shown

@@ -1,0 +1,73 @@
+-- Threads and objects by number, and how threads wait for objects.
+use Rattle.std.specs.Prelude.{ℕ, ◌==◌, Bool, true, false, [], ◌∷◌, ◌++◌, map, cond, is_none, slice_get, slice_set, Option, Some, None}
+use Rattle.loom_views.specs.declared.rt.failure.FailureKind.TheVariants.{Misuse}
+use Rattle.loom_objects.specs.declared.rt.object.Object.{Object}
+use Rattle.loom_objects.specs.declared.rt.object.Object.TheVariants as object
+use Rattle.loom_objects.specs.declared.rt.sync.Mutex.{Mutex}
+use Rattle.loom_objects.specs.declared.rt.thread.Thread.{Thread}
+use Rattle.loom_objects.specs.declared.rt.thread.State.{State}
+use Rattle.loom_objects.specs.declared.rt.thread.State.TheVariants.{Runnable, Blocked}
+use Rattle.loom_objects.specs.declared.rt.thread.Task.{Task}
+use Rattle.loom_objects.specs.declared.rt.thread.Task.TheVariants as task
+use Rattle.loom_objects.specs.Tree.{Tree, found}
+use Rattle.loom_objects.specs.World.{World}
+
+-- the option is this number
+abbrev pub is_number : Option ℕ → ℕ → Bool
+is_number None n = false
+is_number (Some m) n = m == n
+
+-- the state of a thread that has an operation pending
+abbrev pub blocked_if : Bool → State
+blocked_if true = Blocked
+blocked_if false = Runnable
+
+module _ {D : Type 0} where
+  -- the thread whose turn it is
+  abbrev pub active_thread : World D → Tree (Thread D)
+  active_thread w = found (slice_get w.threads w.active) Misuse
+
+  -- that thread is now so
+  abbrev pub with_active : Thread D → World D → World D
+  with_active thread w = record w { threads = slice_set w.threads w.active thread }
+
+  abbrev pub as_mutex : Option (Object D) → Option (Mutex D)
+  as_mutex (Some (object.Mutex mutex)) = Some mutex
+  as_mutex _ = None
+
+  -- the mutex of this number; any other number is a misuse
+  abbrev pub a_mutex : ℕ → World D → Tree (Mutex D)
+  a_mutex n w = found (as_mutex (slice_get w.objects n)) Misuse
+
+  -- the data of a mutex that nobody holds
+  abbrev pub free_value : Mutex D → Option D
+  free_value mutex = cond (is_none mutex.holder) mutex.value None
+
+  -- the object of this number is now so
+  abbrev pub with_object : ℕ → Object D → World D → World D
+  with_object n object w = record w { objects = slice_set w.objects n object }
+
+  -- a new object, whose number is how many there were
+  abbrev pub with_new : Object D → World D → World D
+  with_new object w = record w { objects = w.objects ++ object ∷ [] }
+
+  -- the object that the thread's pending operation is on
+  abbrev pub target : Task D → Option ℕ
+  target (task.Lock n) = Some n
+  target (task.Finish n value) = Some n
+  target _ = None
+
+  -- a thread that is pending on object n gets the state
+  abbrev pub pending_with : ℕ → State → Thread D → Thread D
+  pending_with n state thread = cond (is_number (target thread.task) n) (record thread { state = state }) thread
+
+  -- Wake the pending, block the pending. The active thread has nothing pending when this happens, so it stays as it is.
+  abbrev pub wakes_pending : ℕ → World D → World D
+  wakes_pending n w = record w { threads = map (pending_with n Runnable) w.threads }
+
+  abbrev pub blocks_pending : ℕ → World D → World D
+  blocks_pending n w = record w { threads = map (pending_with n Blocked) w.threads }
+
+  -- the active thread has this pending, and can't go on while it is blocked
+  abbrev pub pends : Thread D → Task D → Bool → World D → World D
+  pends thread todo is_blocked w = with_active (record thread { state = blocked_if is_blocked; task = todo }) w

@@ -1,0 +1,77 @@
+-- What threads do at their beginning and their end.
+use Rattle.std.specs.Prelude.{ℕ, ◌++◌, ◌∷◌, [], Bool, true, false, length, nat_lt, Option, Some, None, ⊤}
+use Rattle.loom_views.specs.declared.rt.failure.FailureKind.TheVariants.{TooManyThreads, Misuse}
+use Rattle.loom_objects.specs.declared.operation.ThreadOp.{ThreadOp}
+use Rattle.loom_objects.specs.declared.operation.ThreadOp.TheVariants.{Spawn, Finish, Exit, End}
+use Rattle.loom_objects.specs.declared.operation.Reply.{Reply}
+use Rattle.loom_objects.specs.declared.operation.Reply.TheVariants as reply
+use Rattle.loom_objects.specs.declared.rt.object.Object.TheVariants as object
+use Rattle.loom_objects.specs.declared.rt.run.Entry.{Entry}
+use Rattle.loom_objects.specs.declared.rt.run.Entry.TheVariants.{Answered, AtBranch}
+use Rattle.loom_objects.specs.declared.rt.thread.Thread.{Thread}
+use Rattle.loom_objects.specs.declared.rt.thread.Task.TheVariants as task
+use Rattle.loom_objects.specs.declared.rt.thread.State.TheVariants as state
+use Rattle.loom_objects.specs.declared.rt.thread.Phase.{Phase}
+use Rattle.loom_objects.specs.declared.rt.thread.Phase.TheVariants.{Working, Finished, Exited, Over}
+use Rattle.loom_objects.specs.Tree.{Tree, Gives, ◌>>=◌, check}
+use Rattle.loom_objects.specs.World.{World, child_thread}
+use Rattle.loom_objects.specs.Moves.{active_thread, with_active, with_new, pends}
+use Rattle.loom_objects.specs.Locks.{notify}
+
+abbrev pub is_working : Phase → Bool
+is_working Working = true
+is_working _ = false
+
+abbrev pub is_finished : Phase → Bool
+is_finished Finished = true
+is_finished _ = false
+
+abbrev pub is_exited : Phase → Bool
+is_exited Exited = true
+is_exited _ = false
+
+module _ {D : Type 0} where
+  -- a thread more, with a notifier of its own; threads that have ended count
+  abbrev pub spawn : World D → Tree (Entry D × World D)
+  spawn w = do
+    _ ← check (nat_lt (length w.threads) w.max_threads) TooManyThreads
+    let child = child_thread (length w.objects)
+    let notifier = object.Notify (record { notified = false })
+    Gives (Answered (reply.Spawned (length w.threads) (length w.objects)), with_new notifier (record w { threads = w.threads ++ child ∷ [] }))
+
+  -- main has its result at once; another thread comes to a branch point, at which it is to notify
+  abbrev pub finish_as : Option ℕ → Thread D → D → World D → Tree (Entry D × World D)
+  finish_as None thread value w = Gives (Answered reply.Done, with_active (record thread { phase = Finished; result = Some value }) w)
+  finish_as (Some n) thread value w = Gives (AtBranch, pends (record thread { phase = Finished }) (task.Finish n value) false w)
+
+  abbrev pub finish : D → World D → Tree (Entry D × World D)
+  finish value w = do
+    thread ← active_thread w
+    _ ← check (is_working thread.phase) Misuse
+    finish_as thread.notifier thread value w
+
+  -- the active thread notifies who joins it, and has its result
+  abbrev pub child_finish : ℕ → D → World D → Tree (Reply D × World D)
+  child_finish n value w = do
+    after ← notify n w
+    thread ← active_thread after
+    Gives (reply.Done, with_active (record thread { result = Some value }) after)
+
+  abbrev pub exit : World D → Tree (Entry D × World D)
+  exit w = do
+    thread ← active_thread w
+    _ ← check (is_finished thread.phase) Misuse
+    Gives (Answered reply.Done, with_active (record thread { phase = Exited }) w)
+
+  -- the thread has ended before the branch point that it comes to
+  abbrev pub end : World D → Tree (Entry D × World D)
+  end w = do
+    thread ← active_thread w
+    _ ← check (is_exited thread.phase) Misuse
+    Gives (AtBranch, with_active (record thread { phase = Over; state = state.Ended }) w)
+
+  abbrev pub thread_begins : ThreadOp D ⊤ → World D → Tree (Entry D × World D)
+  thread_begins (Spawn body) w = spawn w
+  thread_begins (Finish value) w = finish value w
+  thread_begins Exit w = exit w
+  thread_begins End w = end w

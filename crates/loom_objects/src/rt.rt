@@ -1,0 +1,9 @@
+//! The state of a run.
+pub mod location;
+mod locks;
+pub mod object;
+pub mod run;
+pub mod steps;
+pub mod sync;
+pub mod thread;
+mod threads;

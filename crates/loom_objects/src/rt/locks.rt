@@ -1,0 +1,110 @@
+ghost use Rattle.std.specs.Prelude.{◌≡◌, ◌≢◌, Err, ◌+◌};
+ghost use Rattle.loom_objects.specs.Locks as rules;
+ghost use Rattle.loom_objects.specs.Shown.{Does, IsSound};
+
+use crate::failure::{Stop, fail};
+use crate::operation::{MutexOp, Reply};
+use crate::rt::object::Object;
+use crate::rt::run::{Entry, RunState};
+use crate::rt::sync::Mutex;
+use crate::rt::thread::Task;
+use loom_views::rt::failure::FailureKind;
+
+impl<D: Drop> RunState<D> {
+    pub(crate) fn mutex_begins(&mut self, op: MutexOp<D>) -> Result<Entry<D>, Stop>
+        requires { IsSound self.old }
+        ensures does { Does (rules.mutex_begins op) self.old result self.new }
+        ensures sound { IsSound self.new }
+        ensures steps { self.new.steps_left ≡ self.old.steps_left }
+    {
+        match op {
+            MutexOp::New(value) => self.mutex_new(value),
+            MutexOp::Lock(number) => self.lock_begins(number),
+            MutexOp::Release(number, value) => self.release(number, value),
+        }
+    }
+
+    fn mutex_new(&mut self, value: D) -> Result<Entry<D>, Stop>
+        requires { IsSound self.old }
+        ensures does { Does (rules.mutex_new value) self.old result self.new }
+        ensures sound { IsSound self.new }
+        ensures steps { self.new.steps_left ≡ self.old.steps_left }
+    {
+        let number = self.objects.len();
+        let mutex = Mutex {
+            holder: None,
+            value: Some(value),
+        };
+        match self.objects.push(Object::Mutex(mutex)) {
+            Ok(()) => Ok(Entry::Answered(Reply::Mutex(number))),
+            Err(_) => Err(Stop::Memory),
+        }
+    }
+
+    /// The thread comes to a branch point, and is blocked there while the mutex is held.
+    fn lock_begins(&mut self, number: usize) -> Result<Entry<D>, Stop>
+        requires { IsSound self.old }
+        ensures does { Does (rules.lock_begins number) self.old result self.new }
+        ensures sound { IsSound self.new }
+        ensures steps { self.new.steps_left ≡ self.old.steps_left }
+    {
+        if number >= self.objects.len() {
+            return fail(FailureKind::Misuse);
+        }
+        let Object::Mutex(mutex) = self.objects.at(number) else {
+            return fail(FailureKind::Misuse);
+        };
+        let is_held = mutex.holder.is_some();
+        let thread = self.threads.at_mut(self.active as usize);
+        thread.pend(Task::Lock(number), is_held);
+        Ok(Entry::AtBranch)
+    }
+
+    /// The active thread holds the mutex from now on, and who is pending on it is blocked.
+    pub(crate) fn lock(&mut self, number: usize) -> Result<Reply<D>, Stop>
+        requires { IsSound self.old }
+        ensures does { Does (rules.lock number) self.old result self.new }
+        ensures sound { IsSound self.new }
+        ensures steps { self.new.steps_left ≡ self.old.steps_left }
+        ensures no_growth { result ≢ Err Stop.Memory }
+    {
+        if number >= self.objects.len() {
+            return fail(FailureKind::Misuse);
+        }
+        let active = self.active;
+        let Object::Mutex(mutex) = self.objects.at_mut(number) else {
+            return fail(FailureKind::Misuse);
+        };
+        match mutex.hold(active) {
+            None => fail(FailureKind::Misuse),
+            Some(value) => {
+                self.block_pending(number);
+                Ok(Reply::Locked(number, value))
+            }
+        }
+    }
+
+    /// The mutex is free and has its data back, and who is pending on it is woken.
+    fn release(&mut self, number: usize, value: D) -> Result<Entry<D>, Stop>
+        requires { IsSound self.old }
+        ensures does { Does (rules.release number value) self.old result self.new }
+        ensures sound { IsSound self.new }
+        ensures steps { self.new.steps_left ≡ self.old.steps_left }
+    {
+        if number >= self.objects.len() {
+            return fail(FailureKind::Misuse);
+        }
+        let active = self.active;
+        let Object::Mutex(mutex) = self.objects.at_mut(number) else {
+            return fail(FailureKind::Misuse);
+        };
+        match mutex.holder {
+            Some(holder) if holder == active => {}
+            _ => return fail(FailureKind::Misuse),
+        }
+        mutex.holder = None;
+        mutex.value = Some(value);
+        self.wake_pending(number);
+        Ok(Entry::Answered(Reply::Done))
+    }
+}

@@ -1,0 +1,138 @@
+ghost use Rattle.std.specs.Prelude.{◌≡◌, ◌≢◌, Err, ◌+◌, ◌≤◌, ◌<◌, length, IfOk, OnOk};
+ghost use Rattle.std.specs.List.{list_all};
+ghost use Rattle.loom_objects.specs.Steps as rules;
+ghost use Rattle.loom_objects.specs.World.{opening};
+ghost use Rattle.loom_objects.specs.Shown.{Does, IsSound, world_of};
+
+use crate::failure::{Stop, fail};
+use crate::operation::{Op, Reply, Turn};
+use crate::rt::run::{Entry, RunState};
+use crate::rt::thread::{Ability, Phase, State, Task, Thread};
+use loom_views::rt::failure::FailureKind;
+use loom_views::sequence::Sequence;
+use std::alloc::{AllocError, Global};
+use std::mem;
+
+fn ability_at<D>(threads: &Sequence<Thread<D>>, place: usize) -> Ability
+    ensures { result ≡ rules.ability_at threads.now place }
+{
+    if place < threads.len() && matches!(threads.at(place).state, State::Runnable) {
+        Ability::Able
+    } else {
+        Ability::Unable
+    }
+}
+
+impl<D: Drop> RunState<D> {
+    /// A run in which main is about to hand over its first operation.
+    pub fn new(
+        alloc: Global,
+        max_threads: usize,
+        max_steps: usize,
+    ) -> Result<RunState<D>, AllocError>
+        requires some { 1 ≤ max_threads }
+        requires few { max_threads ≤ 5 }
+        ensures opens { IfOk result (λ run. world_of run ≡ opening max_threads max_steps) }
+        ensures sound { IfOk result (λ run. IsSound run) }
+    {
+        let mut threads = Sequence::new(alloc);
+        threads.push(Thread {
+            state: State::Runnable,
+            phase: Phase::Working,
+            task: Task::Body,
+            notifier: None,
+            result: None,
+        })?;
+        Ok(RunState {
+            threads,
+            objects: Sequence::new(alloc),
+            active: 0,
+            steps_left: max_steps,
+            max_threads,
+        })
+    }
+
+    /// What the active thread's operation does up to its branch point, or all of it, where it has none. It is counted
+    /// before anything else: `TooManySteps` where none is left.
+    pub fn begin(&mut self, op: Op<D, ()>) -> Result<Entry<D>, Stop>
+        requires { IsSound self.old }
+        ensures does { Does (rules.begins op) self.old result self.new }
+        ensures sound { IsSound self.new }
+        ensures steps { OnOk result (self.old.steps_left ≡ self.new.steps_left + 1) }
+    {
+        if self.steps_left == 0 {
+            return fail(FailureKind::TooManySteps);
+        }
+        self.steps_left -= 1;
+        match op {
+            Op::Mutex(op, _) => self.mutex_begins(op),
+            Op::Thread(op, _) => self.thread_begins(op),
+            Op::Fail(_) => fail(FailureKind::Assertion),
+        }
+    }
+
+    /// What the five threads offer to a schedule.
+    pub fn abilities(&self) -> [Ability; 5]
+        ensures { result ≡ rules.abilities (world_of self.now) }
+    {
+        [
+            ability_at(&self.threads, 0),
+            ability_at(&self.threads, 1),
+            ability_at(&self.threads, 2),
+            ability_at(&self.threads, 3),
+            ability_at(&self.threads, 4),
+        ]
+    }
+
+    /// The thread is chosen, and what it has pending takes effect.
+    pub fn resume(&mut self, thread: u8) -> Result<Turn<D>, Stop>
+        requires { IsSound self.old }
+        ensures does { Does (rules.resumes thread) self.old result self.new }
+        ensures sound { IsSound self.new }
+        ensures steps { self.new.steps_left ≡ self.old.steps_left }
+        ensures no_growth { result ≢ Err Stop.Memory }
+    {
+        if thread as usize >= self.threads.len() {
+            return fail(FailureKind::Misuse);
+        }
+        self.active = thread;
+        let thread = self.threads.at_mut(self.active as usize);
+        match mem::replace(&mut thread.task, Task::Body) {
+            Task::Start => Ok(Turn::Start(self.active)),
+            Task::Body => fail(FailureKind::Misuse),
+            Task::Lock(mutex) => {
+                let reply = self.lock(mutex)?;
+                Ok(Turn::Reply(self.active, reply))
+            }
+            Task::Finish(notifier, value) => {
+                let reply = self.child_finish(notifier, value)?;
+                Ok(Turn::Reply(self.active, reply))
+            }
+        }
+    }
+
+    /// Whether every thread has ended.
+    pub fn all_ended(&self) -> bool
+        ensures { result ≡ rules.all_ended (world_of self.now) }
+    {
+        self.threads
+            .as_slice()
+            .iter()
+            .all(|thread| matches!(thread.state, State::Ended))
+    }
+
+    /// The run ends with main's result.
+    pub fn end_run(&mut self) -> Result<Turn<D>, Stop>
+        requires { IsSound self.old }
+        ensures does { Does rules.ends self.old result self.new }
+        ensures sound { IsSound self.new }
+        ensures steps { self.new.steps_left ≡ self.old.steps_left }
+        ensures no_growth { result ≢ Err Stop.Memory }
+    {
+        let main = self.threads.at_mut(0);
+        match main.result.take() {
+            None => fail(FailureKind::Misuse),
+            Some(value) => Ok(Turn::Ended(value)),
+        }
+    }
+}

@@ -1,0 +1,53 @@
+/// Whether a thread may be chosen (loom's `rt/thread.rs`).
+#[derive(Clone, Copy, Debug, PartialEq, Eq)]
+pub enum State {
+    Runnable,
+    /// Its pending operation waits for an object.
+    Blocked,
+    Ended,
+}
+
+/// How far a thread's end has come: `finish`, `exit` and `end` come once each, in this order.
+#[derive(Clone, Copy, Debug, PartialEq, Eq)]
+pub enum Phase {
+    Working,
+    Finished,
+    Exited,
+    Over,
+}
+
+/// What a thread does when it is chosen.
+#[derive(Drop)]
+pub enum Task<D> {
+    /// It begins.
+    Start,
+    /// Its body goes on: it has no operation pending.
+    Body,
+    /// It takes the mutex of this number.
+    Lock(usize),
+    /// It notifies its notifier, and keeps its result.
+    Finish(usize, D),
+}
+
+/// What a thread offers to a schedule.
+#[derive(Clone, Copy, Debug, PartialEq, Eq)]
+pub enum Ability {
+    /// It can go on.
+    Able,
+    /// It is in the yield state.
+    Yielding,
+    /// It can't go on, or isn't there.
+    Unable,
+}
+
+/// A thread of a run.
+#[derive(Drop)]
+pub struct Thread<D> {
+    pub state: State,
+    pub phase: Phase,
+    pub task: Task<D>,
+    /// The number of its notifier, for a thread that was spawned; main has none.
+    pub notifier: Option<usize>,
+    /// What it finished with.
+    pub result: Option<D>,
+}

@@ -1,0 +1,4 @@
+pub mod Number
+pub mod Script
+pub mod Guide
+pub mod Line

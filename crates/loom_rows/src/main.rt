@@ -1,0 +1,26 @@
+//! Prints what a check of a named row finds.
+#![tactic(auto)]
+
+mod guide;
+mod line;
+mod number;
+mod rows;
+mod script;
+#[cfg(test)]
+mod tests;
+
+use std::process::ExitCode;
+use std::{env, io};
+
+fn main(rt: HostRuntime) -> ExitCode {
+    ExitCode::from(run(&rt).unwrap_or(2))
+}
+
+fn run(rt: &HostRuntime) -> io::Result<u8> {
+    let words = env::args(rt)?.skip(1).collect::<Vec<_>>(rt.alloc())?;
+    let words = words
+        .iter()
+        .map(|word| word.as_str())
+        .collect::<Vec<_>>(rt.alloc())?;
+    Ok(rows::run_row(rt, words.as_slice(), &mut rt.stdout(), &mut rt.stderr()))
+}

@@ -1,0 +1,117 @@
+use super::FIVE_SPAWNS;
+use crate::rows::{self, LOCK_BESIDE, Row};
+use loom::model::Builder;
+use std::io::{self, ErrorKind, Write};
+use std::process::Abort;
+use std::test::Fail;
+
+// A writer that takes nothing.
+#[derive(Drop)]
+struct Broken;
+
+impl Write for Broken {
+    fn write(&mut self, _buf: &[u8]) -> io::Result<usize> {
+        Err(io::Error::from(ErrorKind::BrokenPipe))
+    }
+
+    fn flush(&mut self) -> io::Result<()> {
+        Ok(())
+    }
+}
+
+#[test]
+fn each_row_prints_its_line(rt: HostRuntime) {
+    for (name, line, status) in [
+        ("finish_only", "complete 1\n", 0),
+        ("spawn_only", "complete 1\n", 0),
+        ("lock_beside", "complete 3\n", 0),
+        ("mutex_forever", "failed 12 0\n", 1),
+        ("fail_at_once", "failed 1 0\n", 1),
+    ] {
+        let mut out = Vec::new(rt.alloc());
+        let mut err = Vec::new(rt.alloc());
+        let answer = rows::run_row(&rt, &[name], &mut out, &mut err);
+        assert_eq!(rt; answer, status, "{name}");
+        assert_eq!(rt; out.as_slice(), line.as_bytes(), "{name}");
+        assert!(rt; err.is_empty(), "{name}");
+    }
+}
+
+#[test]
+fn other_words_print_the_usage(rt: HostRuntime) {
+    let usage = b"usage: loom_rows NAME [FILE]\n".as_slice();
+    let words = ["no_such_row", "lock_beside", "lock_beside"];
+    for (from, to) in [(0usize, 0usize), (0, 1), (1, 3), (0, 3)] {
+        let mut out = Vec::new(rt.alloc());
+        let mut err = Vec::new(rt.alloc());
+        let answer = rows::run_row(&rt, &words[from..to], &mut out, &mut err);
+        assert_eq!(rt; answer, 2, "{from} to {to}");
+        assert!(rt; out.is_empty(), "{from} to {to}");
+        assert_eq!(rt; err.as_slice(), usage, "{from} to {to}");
+    }
+}
+
+#[test]
+fn a_writer_that_fails_gives_status_2(rt: HostRuntime) {
+    let mut taken = Vec::new(rt.alloc());
+    let answer = rows::run_row(&rt, &["lock_beside"], &mut Broken, &mut taken);
+    assert_eq!(rt; answer, 2);
+    let answer = rows::run_row(&rt, &["no_such_row"], &mut taken, &mut Broken);
+    assert_eq!(rt; answer, 2);
+    assert!(rt; taken.is_empty());
+}
+
+// Checks lock_beside with these settings, and compares what is printed on standard error.
+fn refuses(rt: &(impl Abort + AllocGlobal), builder: Builder, line: &str) -> Result<(), Fail> {
+    let mut row = Row::new(&LOCK_BESIDE);
+    row.builder = builder;
+    let mut out = Vec::new(rt.alloc());
+    let mut err = Vec::new(rt.alloc());
+    let status = rows::check_row(rt, row, &mut out, &mut err)?;
+    assert_eq!(rt; status, 2, "{line}");
+    assert!(rt; out.is_empty(), "{line}");
+    assert_eq!(rt; err.as_slice(), line.as_bytes());
+    Ok(())
+}
+
+#[test]
+fn settings_out_of_range_are_refused(rt: HostRuntime) -> Result<(), Fail> {
+    let defaults = Builder::new();
+    for (max_threads, max_branches, max_steps, line) in [
+        (0, defaults.max_branches, defaults.max_steps, "error 1\n"),
+        (6, defaults.max_branches, defaults.max_steps, "error 1\n"),
+        (defaults.max_threads, 0, defaults.max_steps, "error 2\n"),
+        (
+            defaults.max_threads,
+            1_000_001,
+            defaults.max_steps,
+            "error 2\n",
+        ),
+        (defaults.max_threads, defaults.max_branches, 0, "error 5\n"),
+    ] {
+        let mut builder = Builder::new();
+        builder.max_threads = max_threads;
+        builder.max_branches = max_branches;
+        builder.max_steps = max_steps;
+        refuses(&rt, builder, line)?;
+    }
+    Ok(())
+}
+
+// Checks the row, and compares the line that is printed of a failure.
+fn fails(rt: &(impl Abort + AllocGlobal), row: Row, line: &str) -> Result<(), Fail> {
+    let mut out = Vec::new(rt.alloc());
+    let mut err = Vec::new(rt.alloc());
+    let status = rows::check_row(rt, row, &mut out, &mut err)?;
+    assert_eq!(rt; status, 1, "{line}");
+    assert_eq!(rt; out.as_slice(), line.as_bytes());
+    Ok(())
+}
+
+#[test]
+fn limits_fail_a_run(rt: HostRuntime) -> Result<(), Fail> {
+    let mut short = Row::new(&LOCK_BESIDE);
+    short.builder.max_branches = 3;
+    fails(&rt, short, "failed 9 0 t0 t1 t1\n")?;
+    fails(&rt, Row::new(&FIVE_SPAWNS), "failed 8 0\n")
+}

@@ -1,0 +1,69 @@
+use super::{CROSSWISE, NONE, ONE, TWO, ZERO};
+use crate::rows::LOCK_BESIDE;
+use crate::script::{Script, Step};
+use loom::model::{Builder, Replay, Report};
+use loom::{Choice, FailureKind};
+use std::process::Abort;
+use std::test::Fail;
+
+static FAIL_AFTER_A_LOCK: [Step; 3] = [Step::NewMutex(0), Step::Lock(0), Step::Fail];
+
+// Replays the list, and compares the failure's kind and the choices that the run made.
+fn fails(
+    rt: &(impl Abort + AllocGlobal),
+    steps: &'static [Step],
+    list: &[Choice],
+    kind: FailureKind,
+    made: &[Choice],
+) -> Result<(), Fail> {
+    match Builder::new().replay(rt.alloc(), &Script::new(steps), list)? {
+        Replay::Ended { .. } => return Err(Fail::from("the run ended")),
+        Replay::Failed { failure, choices } => {
+            assert_eq!(rt; failure.kind, kind);
+            assert_eq!(rt; choices.as_slice(), made);
+        }
+    }
+    Ok(())
+}
+
+#[test]
+fn a_list_that_no_run_follows(rt: HostRuntime) -> Result<(), Fail> {
+    let foreign = FailureKind::NotDeterministic;
+    let no_option = [ONE, ONE, ONE];
+    fails(&rt, &LOCK_BESIDE, &no_option, foreign, &[ONE, ONE])?;
+    let no_thread = [ONE, TWO];
+    fails(&rt, &LOCK_BESIDE, &no_thread, foreign, &[ONE])?;
+    let no_load = [Choice::Load(0)];
+    fails(&rt, &LOCK_BESIDE, &no_load, foreign, &[])?;
+    let too_long = [ZERO, ONE, ONE, NONE, NONE];
+    fails(
+        &rt,
+        &LOCK_BESIDE,
+        &too_long,
+        foreign,
+        &[ZERO, ONE, ONE, NONE],
+    )
+}
+
+#[test]
+fn a_failure_keeps_its_kind(rt: HostRuntime) -> Result<(), Fail> {
+    let assertion = FailureKind::Assertion;
+    fails(&rt, &FAIL_AFTER_A_LOCK, &[ZERO], assertion, &[ZERO])?;
+    fails(&rt, &FAIL_AFTER_A_LOCK, &[], assertion, &[ZERO])
+}
+
+#[test]
+fn locks_taken_crosswise_deadlock(rt: HostRuntime) -> Result<(), Fail> {
+    match Builder::new().check(rt.alloc(), &Script::new(&CROSSWISE))? {
+        Report::Failed {
+            failure,
+            choices,
+            ..
+        } => {
+            assert_eq!(rt; failure.kind, FailureKind::Deadlock);
+            let made = choices.as_slice();
+            fails(&rt, &CROSSWISE, made, FailureKind::Deadlock, made)
+        }
+        _ => Err(Fail::from("no run failed")),
+    }
+}

@@ -1,0 +1,2 @@
+//! What a run is made of, as far as it needs no threads.
+pub mod failure;
