@@ -11,3 +11,6 @@ tested b =
     (cond (nat_lt b.max_branches 1 || nat_lt 1000000 b.max_branches) (Err MaxBranches)
     (cond (nat_lt b.max_steps 1) (Err MaxSteps)
     (Ok tt)))
+
+abbrev pub defaults : Builder
+defaults = record { max_threads = 5; max_branches = 1000; max_steps = 1000000 }

@@ -13,10 +13,8 @@ pub use loom_objects::failure::Failure;
 pub use loom_objects::operation::{Op, Reply};
 pub use loom_objects::rt::location::Location;
 pub use loom_ops::{fail, sync, thread};
+pub use loom_views::rt::MAX_THREADS;
 pub use loom_views::rt::failure::FailureKind;
-
-/// How many threads a run may have at most, main included (loom's `MAX_THREADS`).
-pub const MAX_THREADS: usize = 5;
 
 /// The parts of a run, public for their contracts' sake.
 pub mod rt {

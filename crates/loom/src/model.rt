@@ -3,7 +3,7 @@ ghost use Rattle.loom_engine.specs.Execution.{over_after};
 ghost use Rattle.loom_engine.specs.Runs.{runs as runs_of, with_child};
 ghost use Rattle.loom.specs.Check.{Reports, ReportsAlone, Replays};
 ghost use Rattle.loom.specs.Ending.{Outcome, RunsAlong, IsUnderWay, ComesToTurn};
-ghost use Rattle.loom.specs.Settings.{tested};
+ghost use Rattle.loom.specs.Settings.{defaults, tested};
 
 use crate::error::CheckError;
 use crate::visitor::Visitor;
@@ -86,6 +86,8 @@ enum Ending<D> {
 }
 
 impl Default for Builder {
+    ghost is_default = { λ b. b ≡ defaults };
+
     fn default() -> Builder {
         Builder::new()
     }
@@ -94,7 +96,7 @@ impl Default for Builder {
 impl Builder {
     /// The defaults: 5 threads, 1,000 branch points and 1,000,000 operations.
     pub fn new() -> Builder
-        ensures { result ≡ record { max_threads = 5; max_branches = 1000; max_steps = 1000000 } }
+        ensures { result ≡ defaults }
     {
         Builder {
             max_threads: 5,

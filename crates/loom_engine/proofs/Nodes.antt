@@ -4,5 +4,7 @@ pub mod Statuses
 pub mod Choosing
 pub mod Making
 pub mod Given
+pub mod Turns
+pub mod Slots
 pub mod Paths
 pub mod Fronts

@@ -1,17 +1,21 @@
 -- A node of the path as a walk sees it.
-use Rattle.std.specs.Prelude.{ℕ, zero, suc, ◌≡◌, Bool, true, false, List, [], ◌∷◌, map, Option, Some, None, slice_set}
+use Rattle.std.specs.Prelude.{ℕ, zero, suc, ◌≡◌, ◌<◌, Bool, true, false, List, [], ◌∷◌, map, length, Option, Some, None, slice_set, slice_index}
 use Rattle.std.specs.List.{position_from}
 use Rattle.loom_objects.specs.declared.choice.Choice.{Choice}
-use Rattle.loom_objects.specs.declared.choice.Choice.TheVariants.{Thread, Load, Spurious}
+use Rattle.loom_objects.specs.declared.choice.Choice.TheVariants as choice
+use Rattle.loom_objects.specs.declared.choice.Choice.TheVariants.{Thread}
 use Rattle.loom_objects.specs.declared.rt.thread.Ability.{Ability}
 use Rattle.loom_objects.specs.declared.rt.thread.Ability.TheVariants.{Able, Yielding, Unable}
-use Rattle.loom_objects.specs.Question.{WhichThread, Question, made_of}
+use Rattle.loom_objects.specs.Question.{WhichThread, WhichStore, WhetherSpurious, Question, made_of}
 use Rattle.loom_engine.specs.Walk.Path.{Status as State, Closed, Skip as Skipped, Pending as ToTry, Active as Chosen, Visited as Tried, Stored, IsAtRest, advance}
+use Rattle.loom_engine.specs.Trees.Drive.{value_status}
 use Rattle.loom_engine.specs.declared.rt.node.Status.{Status}
 use Rattle.loom_engine.specs.declared.rt.node.Status.TheVariants.{Disabled, Skip, Yield, Pending, Active, Visited}
 use Rattle.loom_engine.specs.declared.rt.node.Node.{Node}
 use Rattle.loom_engine.specs.declared.rt.node.Node.TheVariants as node
 use Rattle.loom_engine.specs.declared.rt.node.Schedule.{Schedule}
+use Rattle.loom_engine.specs.declared.rt.node.Load.{Load}
+use Rattle.loom_engine.specs.declared.rt.node.Spurious.{Spurious}
 
 -- what a thread with this status offered when the node was made
 abbrev pub ability_of : Status → Ability
@@ -42,8 +46,8 @@ abbrev pub thread_state : Option ℕ → List Status → Choice → State
 thread_state first statuses (Thread (Some k)) = state_at statuses k
 thread_state None statuses (Thread None) = Chosen
 thread_state (Some k) statuses (Thread None) = Closed
-thread_state first statuses (Load slot) = Closed
-thread_state first statuses (Spurious answer) = Closed
+thread_state first statuses (choice.Load slot) = Closed
+thread_state first statuses (choice.Spurious answer) = Closed
 
 -- the thread is the choice
 abbrev pub is_active : Status → Bool
@@ -75,13 +79,48 @@ seen_threads first exploring statuses = record {
 abbrev pub seen_schedule : Schedule → Stored
 seen_schedule n = seen_threads n.first n.exploring n.statuses
 
+-- the slots from number k on that may be read
+abbrev pub slots_from : ℕ → List Bool → List ℕ
+slots_from k [] = []
+slots_from k (true ∷ readable) = k ∷ slots_from (suc k) readable
+slots_from k (false ∷ readable) = slots_from (suc k) readable
+
+-- the slots that may be read, in rising order
+abbrev pub slots : List Bool → List ℕ
+slots readable = slots_from 0 readable
+
+-- which of these stores is read, the lowest one by itself; a load has one at least
+abbrev pub asked_store : Bool → List ℕ → Question
+asked_store exploring [] = WhichStore exploring 0 []
+asked_store exploring (lowest ∷ others) = WhichStore exploring lowest others
+
+-- a node whose options are tried in turn: those before the choice were tried, those after it are to be tried
+abbrev pub in_turn : Question → Choice → Stored
+in_turn question present = record { made = made_of question; present = present; status = value_status (made_of question).options present }
+
+-- the load as a walk sees it
+abbrev pub seen_load : Load → Stored
+seen_load n = in_turn (asked_store n.exploring (slots n.readable)) (choice.Load (slice_index (slots n.readable) n.position))
+
+-- the spurious wake-up as a walk sees it
+abbrev pub seen_spurious : Spurious → Stored
+seen_spurious n = in_turn (WhetherSpurious n.exploring) (choice.Spurious n.answer)
+
 -- the node as a walk sees it
 abbrev pub seen : Node → Stored
 seen (node.Schedule n) = seen_schedule n
+seen (node.Load n) = seen_load n
+seen (node.Spurious n) = seen_spurious n
+
+-- a load whose position is the place of one of its slots
+abbrev pub IsWellLoad : Load → Type 0
+IsWellLoad n = n.position < length (slots n.readable)
 
 -- a node that a run has made, with one choice, which is one of its options
 abbrev pub IsWell : Node → Type 0
-IsWell n = IsAtRest (seen n)
+IsWell (node.Schedule n) = IsAtRest (seen_schedule n)
+IsWell (node.Load n) = IsWellLoad n
+IsWell (node.Spurious n) = Unit {0}
 
 -- each of the nodes is so
 abbrev pub AreWell : List Node → Type 0

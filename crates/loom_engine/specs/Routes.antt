@@ -1,12 +1,11 @@
 -- A path as its callers see it, and what it says to a run.
-use Rattle.std.specs.Prelude.{ℕ, ◌≡◌, Bool, true, false, List, [], map, take, Option, Some, None, Result, Ok, Err}
+use Rattle.std.specs.Prelude.{ℕ, ◌≡◌, Bool, true, false, List, [], map, take, Some, None, Result, Ok, Err}
 use Rattle.loom_views.specs.declared.rt.failure.FailureKind.{FailureKind}
 use Rattle.loom_objects.specs.declared.choice.Choice.{Choice}
-use Rattle.loom_objects.specs.declared.choice.Choice.TheVariants.{Thread}
 use Rattle.loom_objects.specs.declared.failure.Stop.{Stop}
 use Rattle.loom_objects.specs.declared.failure.Stop.TheVariants.{Failure, Memory}
 use Rattle.loom_objects.specs.declared.rt.thread.Ability.{Ability}
-use Rattle.loom_objects.specs.Question.{Question, WhichThread}
+use Rattle.loom_objects.specs.Question.{Question, WhichThread, WhetherSpurious}
 use Rattle.loom_objects.specs.Steps.{default_thread}
 use Rattle.loom_objects.specs.Tree.{Tree}
 use Rattle.loom_engine.specs.declared.rt.node.Node.{Node}
@@ -14,7 +13,7 @@ use Rattle.loom_engine.specs.Walk.Path.{Stored, choices, step}
 use Rattle.loom_engine.specs.Trees.Meeting.{Settings}
 use Rattle.loom_engine.specs.Trees.Drive.{Trail, branch, drive}
 use Rattle.loom_engine.specs.Trees.Marks.{marking}
-use Rattle.loom_engine.specs.Nodes.{seen}
+use Rattle.loom_engine.specs.Nodes.{seen, slots, asked_store}
 
 -- the largest number of nodes, the nodes, how many of them the run has passed, and the choices that new nodes take in turn
 pub record Route : Type 0 where
@@ -49,11 +48,20 @@ chosen route = choices (take route.position (stored route.nodes))
 abbrev pub which_thread : ℕ → List Ability → Question
 which_thread active abilities = WhichThread true (record { default = default_thread active abilities; abilities = abilities; unordered = [] })
 
--- The path answers the question by a thread, and passes the node; or it refuses, and stays as it was.
-abbrev pub Says : Route → Question → Result (Option ℕ) Stop → Route → Type 0
-Says old question (Ok thread) new = branch (settings_of old) (trail old) question ≡ (Ok (Thread thread), trail new)
-Says old question (Err (Failure failure)) new = (branch (settings_of old) (trail old) question ≡ (Err failure.kind, trail old)) × (new ≡ old)
-Says old question (Err Memory) new = new ≡ old
+-- a load, while these of the slots may be read
+abbrev pub which_store : List Bool → Question
+which_store readable = asked_store true (slots readable)
+
+-- whether a thread wakes without a notification
+abbrev pub whether_spurious : Question
+whether_spurious = WhetherSpurious true
+
+module _ {A : Type 0} (choice : A → Choice) where
+  -- The path answers the question by what stands for a choice, and passes the node; or it refuses, and stays as it was.
+  abbrev pub Says : Route → Question → Result A Stop → Route → Type 0
+  Says old question (Ok answer) new = branch (settings_of old) (trail old) question ≡ (Ok (choice answer), trail new)
+  Says old question (Err (Failure failure)) new = (branch (settings_of old) (trail old) question ≡ (Err failure.kind, trail old)) × (new ≡ old)
+  Says old question (Err Memory) new = new ≡ old
 
 -- the deepest node that can go on does, and what follows it is dropped; or no node can
 abbrev pub Steps : List Node → Bool → List Node → Type 0

@@ -3,6 +3,7 @@ use Rattle.std.specs.Prelude.{ℕ}
 use Rattle.loom_views.specs.declared.rt.failure.FailureKind.{FailureKind}
 use Rattle.loom_views.specs.declared.rt.failure.FailureKind.TheVariants.{Assertion, Deadlock, Race, OpenAccess, LeakArc, LeakTrack, LeakMessages, TooManyThreads, TooManyBranches, TooManyVersions, TooManyStores, TooManySteps, OrdersEqual, Misuse, Unreachable, RelaxedFence, LazyShutdown, LocalGone, ExploreSwitch, NotDeterministic, SecondWaiter, KeyTaken}
 
+-- the number of each kind
 abbrev pub number_of : FailureKind → ℕ
 number_of Assertion = 1
 number_of Deadlock = 2

@@ -1,2 +1,16 @@
 pub mod Failures
 pub mod Lends
+pub mod Graph
+pub mod Versions
+pub mod VersionOrder
+pub mod Orderings
+pub mod Threads
+pub mod Slots
+pub mod Atomic
+pub mod Ring
+pub mod Untouched
+pub mod Shown
+pub mod Table
+pub mod Numbers
+pub mod Laws
+pub mod Examples

@@ -1,2 +1,14 @@
 //! What a run is made of, as far as it needs no threads.
+pub mod atomic;
 pub mod failure;
+pub mod laws;
+pub mod num;
+pub mod synchronize;
+pub mod table;
+pub mod vv;
+
+/// The most threads that a run may have, main included.
+pub const MAX_THREADS: usize = 5;
+
+/// The most stores of an atomic that are kept.
+pub const MAX_ATOMIC_HISTORY: usize = 7;

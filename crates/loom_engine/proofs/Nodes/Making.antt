@@ -204,11 +204,11 @@ default_offered active abilities = offered (default_thread active abilities) (de
 
 -- ---- a new node at a choice that was given
 
-pick_yes : {B C : Type 0} (d : Dec B) (x y : C) → B → pick d x y ≡ x
+pub pick_yes : {B C : Type 0} (d : Dec B) (x y : C) → B → pick d x y ≡ x
 pick_yes (yes a) x y b = refl
 pick_yes (no f) x y b = absurd (f b)
 
-pick_no : {B C : Type 0} (d : Dec B) (x y : C) → (B → ⊥) → pick d x y ≡ y
+pub pick_no : {B C : Type 0} (d : Dec B) (x y : C) → (B → ⊥) → pick d x y ≡ y
 pick_no (yes a) x y f = absurd (f a)
 pick_no (no g) x y f = refl
 

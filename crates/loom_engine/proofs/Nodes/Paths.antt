@@ -1,16 +1,17 @@
 -- What a path says of its nodes, as a walk sees it.
-use Rattle.std.proofs.Common.{◌≡◌, ◌≤◌, ◌<◌, ◌+◌, ℕ, zero, suc, true, List, [], ◌∷◌, ◌++◌, length, map, take, Option, Some, None, refl, ap, ap₂, sym, ◌∙◌, arith}
+use Rattle.std.proofs.Common.{◌≡◌, ◌≤◌, ◌<◌, ◌+◌, ℕ, zero, suc, true, false, List, [], ◌∷◌, ◌++◌, length, map, take, get_or, Option, Some, None, refl, ap, ap₂, sym, ◌∙◌, subst, arith}
 use Rattle.std.specs.Prelude.{slice_get, nat_lt, cond, Ok, Err}
-use Rattle.loom_views.specs.declared.rt.failure.FailureKind.TheVariants.{TooManyBranches}
+use Rattle.loom_views.specs.declared.rt.failure.FailureKind.TheVariants.{NotDeterministic, TooManyBranches}
 use Rattle.loom_objects.specs.declared.choice.Choice.{Choice}
-use Rattle.loom_objects.specs.declared.choice.Choice.TheVariants.{Thread}
-use Rattle.loom_objects.specs.declared.rt.thread.Ability.{Ability}
-use Rattle.loom_objects.specs.Question.{made_of}
+use Rattle.loom_objects.specs.Question.{Question, made_of}
 use Rattle.loom_engine.specs.Walk.Path.{Stored, choices}
-use Rattle.loom_engine.specs.Trees.Drive.{branch, branch_at, lengthen, new_node}
+use Rattle.loom_engine.specs.Trees.Comparing.{same_made}
+use Rattle.loom_engine.specs.Trees.Meeting.{every_at}
+use Rattle.loom_engine.specs.Trees.Drive.{Answer, passes_of, branch, branch_at, lengthen, new_node}
 use Rattle.loom_engine.specs.declared.rt.node.Node.{Node}
 use Rattle.loom_engine.specs.Nodes.{seen, IsWell, AreWell}
-use Rattle.loom_engine.specs.Routes.{Route, stored, trail, settings_of, which_thread}
+use Rattle.loom_engine.specs.Routes.{Route, stored, trail, settings_of}
+use Rattle.loom_engine.proofs.Nodes.Making.{pick_yes, pick_no}
 
 -- the choices at the first nodes
 pub taken : (n : ℕ) (nodes : List Node) → choices (take n (stored nodes)) ≡ map (λ (x : Node). (seen x).present) (take n nodes)
@@ -33,13 +34,65 @@ none_there [] k h = refl
 none_there (x ∷ nodes) zero h = absurd (omega arith)
 none_there (x ∷ nodes) (suc k) h = none_there nodes k (omega arith)
 
--- past its end, where there is room, the path makes a node
-pub makes : (path : Route) (active : ℕ) (abilities : List Ability) (n : Node) (nodes : List Node) (thread : Option ℕ) → length path.nodes ≤ path.position → path.position < path.max_branches
-    → Some (seen n) ≡ new_node true (made_of (which_thread active abilities)) (slice_get path.given path.position) → nodes ≡ path.nodes ++ n ∷ [] → Thread thread ≡ (seen n).present
-    → branch (settings_of path) (trail path) (which_thread active abilities) ≡ (Ok (Thread thread), trail (record path { nodes = nodes; position = path.position + 1 }))
-makes path active abilities n nodes thread past room made more at =
-    let below : nat_lt path.position path.max_branches ≡ true = grind arith in
-    ap (branch_at (settings_of path) (trail path) (which_thread active abilities)) (none_there path.nodes path.position past)
-    ∙ ap (λ b. cond b (lengthen (trail path) (new_node true (made_of (which_thread active abilities)) (slice_get path.given path.position))) (Err TooManyBranches, trail path)) below
-    ∙ ap (lengthen (trail path)) (sym made)
-    ∙ ap₂ (λ (c : Choice) (l : List Stored). (Ok c, record (trail path) { nodes = l; position = path.position + 1 })) (sym at) (sym (ap stored more ∙ stored_more path.nodes n))
+-- ---- what the path says
+
+-- the length of the nodes, as the path that is held says it
+pub past_end : (held path : Route) → held ≡ path → length held.nodes ≤ held.position → length path.nodes ≤ path.position
+past_end held path e h = subst (λ (r : Route). length r.nodes ≤ r.position) e h
+
+pub well_at : (nodes : List Node) (i : ℕ) (n : Node) → i < length nodes → n ≡ get_or nodes i n → AreWell nodes → IsWell n
+well_at [] i n h e w = absurd (omega arith)
+well_at (x ∷ nodes) zero n h e w = subst IsWell (sym e) w.0
+well_at (x ∷ nodes) (suc i) n h e w = well_at nodes i n (omega arith) e w.1
+
+stored_at : (nodes : List Node) (i : ℕ) (n : Node) → i < length nodes → n ≡ get_or nodes i n → slice_get (stored nodes) i ≡ Some (seen n)
+stored_at [] i n h e = absurd (omega arith)
+stored_at (x ∷ nodes) zero n h e = ap (λ (m : Node). Some (seen m)) (sym e)
+stored_at (x ∷ nodes) (suc i) n h e = stored_at nodes i n (omega arith) e
+
+module _ (path : Route) (question : Question) where
+  abbrev pub Branches : Answer → Type 0
+  Branches answer = branch (settings_of path) (trail path) question ≡ answer
+
+  -- the stored node is passed, if it is the one that the question would make
+  pub follows : (n : Node) (o : Choice) → path.position < length path.nodes → n ≡ get_or path.nodes path.position n → (seen n).made ≡ made_of question → o ≡ (seen n).present
+      → Branches (Ok o, trail (record path { position = path.position + 1 }))
+  follows n o h e f g =
+      ap (branch_at (settings_of path) (trail path) question) (stored_at path.nodes path.position n h e)
+      ∙ pick_yes (same_made (seen n).made (made_of question)) (Ok (seen n).present, trail (record path { position = path.position + 1 })) (Err NotDeterministic, trail path) f
+      ∙ ap (λ (c : Choice). (Ok c, trail (record path { position = path.position + 1 }))) (sym g)
+
+  pub differs : (n : Node) → path.position < length path.nodes → n ≡ get_or path.nodes path.position n → ((seen n).made ≡ made_of question → ⊥)
+      → Branches (Err NotDeterministic, trail path)
+  differs n h e f =
+      ap (branch_at (settings_of path) (trail path) question) (stored_at path.nodes path.position n h e)
+      ∙ pick_no (same_made (seen n).made (made_of question)) (Ok (seen n).present, trail (record path { position = path.position + 1 })) (Err NotDeterministic, trail path) f
+
+  -- past its end the path has room, or not
+  pub full : length path.nodes ≤ path.position → path.max_branches ≤ path.position → Branches (Err TooManyBranches, trail path)
+  full past h =
+      let not_below : nat_lt path.position path.max_branches ≡ false = grind arith in
+      ap (branch_at (settings_of path) (trail path) question) (none_there path.nodes path.position past)
+      ∙ ap (λ b. cond b (lengthen (trail path) (new_node (every_at (settings_of path) (passes_of (trail path)) (made_of question)) (made_of question) (slice_get path.given path.position))) (Err TooManyBranches, trail path)) not_below
+
+  module _ (past : length path.nodes ≤ path.position) (room : path.position < path.max_branches)
+      (every : every_at (settings_of path) (passes_of (trail path)) (made_of question) ≡ true) where
+    at_end : (new : Option Stored) → new ≡ new_node true (made_of question) (slice_get path.given path.position) → Branches (lengthen (trail path) new)
+    at_end new made =
+        let below : nat_lt path.position path.max_branches ≡ true = grind arith in
+        ap (branch_at (settings_of path) (trail path) question) (none_there path.nodes path.position past)
+        ∙ ap (λ b. cond b (lengthen (trail path) (new_node (every_at (settings_of path) (passes_of (trail path)) (made_of question)) (made_of question) (slice_get path.given path.position))) (Err TooManyBranches, trail path)) below
+        ∙ ap (λ b. lengthen (trail path) (new_node b (made_of question) (slice_get path.given path.position))) every
+        ∙ ap (lengthen (trail path)) (sym made)
+
+    -- the choice that was given is no option
+    pub refuses : None ≡ new_node true (made_of question) (slice_get path.given path.position) → Branches (Err NotDeterministic, trail path)
+    refuses made = at_end None made
+
+    -- the path makes a node
+    pub makes : (n : Node) (o : Choice) (after : Route) → Some (seen n) ≡ new_node true (made_of question) (slice_get path.given path.position) → o ≡ (seen n).present
+        → after ≡ record path { nodes = path.nodes ++ n ∷ []; position = path.position + 1 } → Branches (Ok o, trail after)
+    makes n o after made present is =
+        at_end (Some (seen n)) made
+        ∙ ap₂ (λ (c : Choice) (l : List Stored). (Ok c, record (trail path) { nodes = l; position = path.position + 1 })) (sym present) (sym (stored_more path.nodes n))
+        ∙ ap (λ (r : Route). (Ok o, trail r)) (sym is)

@@ -1,12 +1,12 @@
-ghost use Rattle.std.specs.Prelude.{◌≡◌, ◌<◌, ◌↔◌, Some, IfSome, IsTrue, true, slice_get, map};
-ghost use Rattle.std.specs.List.{position_from};
+ghost use Rattle.std.specs.Prelude.{◌≡◌, ◌<◌, ◌≤◌, ◌↔◌, Some, IfSome, IsTrue, true, slice_get, slice_index, map, length};
+ghost use Rattle.std.specs.List.{position_from, Contains};
 ghost use Rattle.std.specs.Option.{option_map};
 ghost use Rattle.loom_objects.specs.Question.{made_of};
 ghost use Rattle.loom_objects.specs.Steps.{default_thread as default_of, is_able_one};
 ghost use Rattle.loom_engine.specs.Walk.Path.{advance as advanced, choose as chosen, fresh, IsAtRest};
 ghost use Rattle.loom_engine.specs.Trees.Drive.{new_node};
-ghost use Rattle.loom_engine.specs.Nodes.{ability_of, made_status, is_active, is_pending, with_status as with_statuses, seen, seen_schedule, Advances, IsWell};
-ghost use Rattle.loom_engine.specs.Routes.{which_thread};
+ghost use Rattle.loom_engine.specs.Nodes.{ability_of, made_status, is_active, is_pending, with_status as with_statuses, slots, seen, seen_schedule, seen_load, seen_spurious, Advances, IsWell, IsWellLoad};
+ghost use Rattle.loom_engine.specs.Routes.{which_thread, which_store, whether_spurious};
 
 use loom_objects::choice::Choice;
 use loom_objects::rt::thread::Ability;
@@ -39,11 +39,35 @@ pub struct Schedule {
     pub statuses: [Status; 5],
 }
 
+/// A node at which the store is chosen that a load reads.
+#[derive(Clone, Copy, Debug)]
+pub struct Load {
+    /// Whether the run explores here, or takes the lowest slot and no other.
+    pub exploring: bool,
+    /// Which of the seven slots may be read.
+    pub readable: [bool; 7],
+    /// The place of the choice among the slots that may be read.
+    pub position: u8,
+}
+
+/// A node at which it is chosen whether a thread wakes without a notification.
+#[derive(Clone, Copy, Debug)]
+pub struct Spurious {
+    /// Whether the run explores here, or takes false.
+    pub exploring: bool,
+    /// The choice.
+    pub answer: bool,
+}
+
 /// A node of the path.
 #[derive(Clone, Copy, Debug)]
 pub enum Node {
     /// Which thread goes on.
     Schedule(Schedule),
+    /// Which store a load reads.
+    Load(Load),
+    /// Whether a thread wakes without a notification.
+    Spurious(Spurious),
 }
 
 /// Whether a thread that offers this may be chosen.
@@ -259,6 +283,151 @@ impl Schedule {
     }
 }
 
+/// How many of the slots may be read.
+fn count_slots(readable: &[bool]) -> usize
+    ensures count { result ≡ length (slots readable.now) }
+    ensures within { result ≤ length readable.now }
+{
+    readable.iter().filter(|is_readable| **is_readable).count()
+}
+
+/// The slot at a place among those that may be read, or 0 past the last of them.
+fn slot_at(readable: &[bool; 7], place: u8) -> u8
+    ensures { result ≡ slice_index (slots readable.now) place }
+{
+    let mut left = place;
+    for (slot, is_readable) in readable.iter().enumerate() {
+        if *is_readable {
+            if left == 0 {
+                return slot as u8;
+            }
+            left -= 1;
+        }
+    }
+    0
+}
+
+/// Whether the slot is there, and may be read.
+fn is_readable(readable: &[bool; 7], slot: usize) -> bool
+    ensures readable { IsTrue result ↔ (slice_get readable.now slot ≡ Some true) }
+    ensures within { IsTrue result → slot < 7 }
+{
+    matches!(readable.get(slot), Some(true))
+}
+
+/// Whether the same slots may be read in both.
+fn are_same_slots(one: &[bool; 7], other: &[bool; 7]) -> bool
+    ensures { IsTrue result ↔ (one.now ≡ other.now) }
+{
+    one == other
+}
+
+impl Load {
+    /// A new load: the lowest slot is the choice, and each other one that may be read is to be tried.
+    pub(crate) fn new(readable: &[bool; 7]) -> Load
+        requires some { Contains readable.now true }
+        ensures made { seen_load result ≡ fresh true (made_of (which_store readable.now)) }
+        ensures well { IsWellLoad result }
+    {
+        Load {
+            exploring: true,
+            readable: *readable,
+            position: 0,
+        }
+    }
+
+    /// A new load at a choice that was given, or None where that is no option. The slots below it count as tried.
+    pub(crate) fn at(readable: &[bool; 7], choice: Choice) -> Option<Load>
+        requires some { Contains readable.now true }
+        ensures made { option_map seen_load result ≡ new_node true (made_of (which_store readable.now)) (Some choice) }
+        ensures well { IfSome result IsWellLoad }
+    {
+        let Choice::Load(slot) = choice else {
+            return None;
+        };
+        if !is_readable(readable, slot as usize) {
+            return None;
+        }
+        Some(Load {
+            exploring: true,
+            readable: *readable,
+            position: count_slots(&readable[..slot as usize]) as u8,
+        })
+    }
+
+    /// The slot that is the choice.
+    pub(crate) fn slot(&self) -> u8
+        ensures { Choice.Load result ≡ (seen_load self.now).present }
+    {
+        slot_at(&self.readable, self.position)
+    }
+
+    /// Whether it is the load that would be made now, whatever was tried there.
+    pub(crate) fn meets(&self, readable: &[bool; 7]) -> bool
+        requires well { IsWellLoad self.now }
+        requires some { Contains readable.now true }
+        ensures { IsTrue result ↔ ((seen_load self.now).made ≡ made_of (which_store readable.now)) }
+    {
+        self.exploring && are_same_slots(&self.readable, readable)
+    }
+
+    /// Takes the next slot that may be read, if the run explores here and there is one.
+    fn advance(&mut self) -> bool
+        requires { IsWellLoad self.old }
+        ensures advances { Advances (seen_load self.old) result (seen_load self.new) }
+        ensures well { IsWellLoad self.new }
+    {
+        if !self.exploring || self.position as usize + 1 >= count_slots(&self.readable) {
+            return false;
+        }
+        self.position += 1;
+        true
+    }
+}
+
+impl Spurious {
+    /// A new node at which false is the choice, and true is to be tried.
+    pub(crate) fn new() -> Spurious
+        ensures { seen_spurious result ≡ fresh true (made_of whether_spurious) }
+    {
+        Spurious {
+            exploring: true,
+            answer: false,
+        }
+    }
+
+    /// A new node at a choice that was given, or None where that is no option. False counts as tried where true was given.
+    pub(crate) fn at(choice: Choice) -> Option<Spurious>
+        ensures { option_map seen_spurious result ≡ new_node true (made_of whether_spurious) (Some choice) }
+    {
+        match choice {
+            Choice::Spurious(answer) => Some(Spurious {
+                exploring: true,
+                answer,
+            }),
+            _ => None,
+        }
+    }
+
+    /// Whether it is the node that would be made now, whatever was tried there.
+    pub(crate) fn meets(&self) -> bool
+        ensures { IsTrue result ↔ ((seen_spurious self.now).made ≡ made_of whether_spurious) }
+    {
+        self.exploring
+    }
+
+    /// Takes true, if the run explores here and false is the choice.
+    fn advance(&mut self) -> bool
+        ensures { Advances (seen_spurious self.old) result (seen_spurious self.new) }
+    {
+        if !self.exploring || self.answer {
+            return false;
+        }
+        self.answer = true;
+        true
+    }
+}
+
 impl Node {
     /// What was chosen there.
     pub fn choice(&self) -> Choice
@@ -266,6 +435,8 @@ impl Node {
     {
         match self {
             Node::Schedule(schedule) => Choice::Thread(schedule.active()),
+            Node::Load(load) => Choice::Load(load.slot()),
+            Node::Spurious(spurious) => Choice::Spurious(spurious.answer),
         }
     }
 
@@ -277,6 +448,8 @@ impl Node {
     {
         match self {
             Node::Schedule(schedule) => schedule.advance(),
+            Node::Load(load) => load.advance(),
+            Node::Spurious(spurious) => spurious.advance(),
         }
     }
 }

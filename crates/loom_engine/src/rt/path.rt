@@ -1,11 +1,12 @@
-ghost use Rattle.std.specs.Prelude.{◌≡◌, [], IfOk, IfSome, slice_get, map, true, Some};
+ghost use Rattle.std.specs.Prelude.{◌≡◌, ◌≤◌, ◌<◌, ◌+◌, ◌↔◌, [], ◌∷◌, ◌++◌, IfOk, IfErr, IfSome, IsTrue, slice_get, map, length, true, Some};
+ghost use Rattle.std.specs.List.{Contains};
 ghost use Rattle.std.specs.Option.{option_map};
 ghost use Rattle.loom_objects.specs.Question.{made_of};
-ghost use Rattle.loom_engine.specs.Nodes.{seen, seen_schedule, AreWell, IsWell};
-ghost use Rattle.loom_engine.specs.Routes.{Route, at_rest, chosen, trail, Says, Steps, which_thread};
+ghost use Rattle.loom_engine.specs.Nodes.{seen, seen_schedule, seen_load, seen_spurious, AreWell, IsWell, IsWellLoad};
+ghost use Rattle.loom_engine.specs.Routes.{Route, at_rest, chosen, trail, Says, Steps, which_thread, which_store, whether_spurious};
 ghost use Rattle.loom_engine.specs.Trees.Drive.{is_used_up, new_node};
 
-use crate::rt::node::{Node, Schedule};
+use crate::rt::node::{Load, Node, Schedule, Spurious};
 use loom_objects::choice::Choice;
 use loom_objects::failure::{Stop, fail};
 use loom_objects::rt::thread::Ability;
@@ -74,38 +75,113 @@ impl Path {
         self.given.get(self.position).copied()
     }
 
+    /// Whether the run has passed as many nodes as the path may have.
+    fn is_full(&self) -> bool
+        ensures { IsTrue result ↔ (self.now.max_branches ≤ self.now.position) }
+    {
+        self.position >= self.max_branches
+    }
+
+    /// Makes a node at the end, and passes it. Without memory for it the path stays as it was.
+    fn lengthen(&mut self, node: Node) -> Result<(), AllocError>
+        requires past { length self.old.nodes ≤ self.old.position }
+        requires room { self.old.position < self.old.max_branches }
+        requires well { IsWell node }
+        ensures made { IfOk result (λ _. self.new ≡ record self.old { nodes = self.old.nodes ++ node ∷ []; position = self.old.position + 1 }) }
+        ensures same { IfErr result (λ _. self.new ≡ self.old) }
+    {
+        self.nodes.push(node)?;
+        self.position += 1;
+        Ok(())
+    }
+
     /// Passes a schedule: follows the stored node, or makes one. Where it fails the path stays as it was.
     pub fn branch_thread(
         &mut self,
         active: u8,
         abilities: &[Ability; 5],
     ) -> Result<Option<u8>, Stop>
-        ensures says { Says self.old (which_thread active abilities.now) result self.new }
+        ensures says { Says Choice.Thread self.old (which_thread active abilities.now) result self.new }
         ensures same { (self.new.max_branches ≡ self.old.max_branches) × (self.new.given ≡ self.old.given) }
     {
         if self.position < self.nodes.len() {
-            return match self.nodes[self.position] {
-                Node::Schedule(schedule) => {
-                    if !schedule.meets(active, abilities) {
-                        return fail(FailureKind::NotDeterministic);
-                    }
-                    self.position += 1;
-                    Ok(schedule.active())
-                }
+            let Node::Schedule(schedule) = self.nodes[self.position] else {
+                return fail(FailureKind::NotDeterministic);
             };
+            if !schedule.meets(active, abilities) {
+                return fail(FailureKind::NotDeterministic);
+            }
+            self.position += 1;
+            return Ok(schedule.active());
         }
-        if self.position >= self.max_branches {
+        if self.is_full() {
             return fail(FailureKind::TooManyBranches);
         }
         let Some(schedule) = new_schedule(active, abilities, self.given_here()) else {
             return fail(FailureKind::NotDeterministic);
         };
-        match self.nodes.push(Node::Schedule(schedule)) {
-            Ok(()) => {}
-            Err(_) => return Err(Stop::Memory),
+        match self.lengthen(Node::Schedule(schedule)) {
+            Ok(()) => Ok(schedule.active()),
+            Err(_) => Err(Stop::Memory),
         }
-        self.position += 1;
-        Ok(schedule.active())
+    }
+
+    /// Passes a load: follows the stored node, or makes one. It answers the slot of the store that is read. Where it fails
+    /// the path stays as it was.
+    pub fn branch_load(&mut self, readable: &[bool; 7]) -> Result<u8, Stop>
+        requires some { Contains readable.now true }
+        ensures says { Says Choice.Load self.old (which_store readable.now) result self.new }
+        ensures readable { IfOk result (λ slot. slice_get readable.now slot ≡ Some true) }
+        ensures same { (self.new.max_branches ≡ self.old.max_branches) × (self.new.given ≡ self.old.given) }
+    {
+        if self.position < self.nodes.len() {
+            let Node::Load(load) = self.nodes[self.position] else {
+                return fail(FailureKind::NotDeterministic);
+            };
+            if !load.meets(readable) {
+                return fail(FailureKind::NotDeterministic);
+            }
+            self.position += 1;
+            return Ok(load.slot());
+        }
+        if self.is_full() {
+            return fail(FailureKind::TooManyBranches);
+        }
+        let Some(load) = new_load(readable, self.given_here()) else {
+            return fail(FailureKind::NotDeterministic);
+        };
+        match self.lengthen(Node::Load(load)) {
+            Ok(()) => Ok(load.slot()),
+            Err(_) => Err(Stop::Memory),
+        }
+    }
+
+    /// Passes a spurious wake-up: follows the stored node, or makes one. It answers whether the thread wakes without a
+    /// notification. Where it fails the path stays as it was.
+    pub fn branch_spurious(&mut self) -> Result<bool, Stop>
+        ensures says { Says Choice.Spurious self.old whether_spurious result self.new }
+        ensures same { (self.new.max_branches ≡ self.old.max_branches) × (self.new.given ≡ self.old.given) }
+    {
+        if self.position < self.nodes.len() {
+            let Node::Spurious(spurious) = self.nodes[self.position] else {
+                return fail(FailureKind::NotDeterministic);
+            };
+            if !spurious.meets() {
+                return fail(FailureKind::NotDeterministic);
+            }
+            self.position += 1;
+            return Ok(spurious.answer);
+        }
+        if self.is_full() {
+            return fail(FailureKind::TooManyBranches);
+        }
+        let Some(spurious) = new_spurious(self.given_here()) else {
+            return fail(FailureKind::NotDeterministic);
+        };
+        match self.lengthen(Node::Spurious(spurious)) {
+            Ok(()) => Ok(spurious.answer),
+            Err(_) => Err(Stop::Memory),
+        }
     }
 
     /// Whether the run has met all that the path holds.
@@ -149,6 +225,28 @@ fn new_schedule(active: u8, abilities: &[Ability; 5], given: Option<Choice>) -> 
     match given {
         Some(choice) => Schedule::at(active, abilities, choice),
         None => Some(Schedule::new(active, abilities)),
+    }
+}
+
+/// A new load: at the choice that was given for its place, if any, or else at its default.
+fn new_load(readable: &[bool; 7], given: Option<Choice>) -> Option<Load>
+    requires some { Contains readable.now true }
+    ensures made { option_map seen_load result ≡ new_node true (made_of (which_store readable.now)) given }
+    ensures well { IfSome result IsWellLoad }
+{
+    match given {
+        Some(choice) => Load::at(readable, choice),
+        None => Some(Load::new(readable)),
+    }
+}
+
+/// A new spurious wake-up: at the choice that was given for its place, if any, or else at its default.
+fn new_spurious(given: Option<Choice>) -> Option<Spurious>
+    ensures { option_map seen_spurious result ≡ new_node true (made_of whether_spurious) given }
+{
+    match given {
+        Some(choice) => Spurious::at(choice),
+        None => Some(Spurious::new()),
     }
 }
 

@@ -1,0 +1,16 @@
+pub mod Reaching
+pub mod Counting
+pub mod Views
+pub mod Sweeping
+pub mod Counted
+pub mod VersionLists
+pub mod Loops
+pub mod SlotNumbers
+pub mod Shown
+pub mod Accesses
+pub mod Choices
+pub mod Rows
+pub mod ThreadMoves
+pub mod SomeReadable
+pub mod Growth
+pub mod Table

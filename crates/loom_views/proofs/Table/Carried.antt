@@ -1,0 +1,165 @@
+-- What is kept of a run keeps showing its points, where a thread or an object takes a step.
+use Rattle.std.proofs.Common.{zero, suc, subst, ◌≡◌, ◌≢◌, ℕ, ◌<◌, List, [], ◌∷◌, ◌++◌, length, get_or, set, refl, sym, ◌∙◌, arith, ⊎_elim, Option, Some, None, Result, Ok, Err}
+use Rattle.std.specs.Prelude.{OnOk}
+use Rattle.std.specs.List.{slice_get}
+use Rattle.std.proofs.lemmas.Bool.{cases_eq, ne_eqb}
+use Rattle.std.proofs.lemmas.List.{length-set}
+use Rattle.std.proofs.lemmas.Option.{slice_get-get_or}
+use Rattle.loom_views.specs.declared.rt.atomic.State.{State}
+use Rattle.loom_views.specs.declared.rt.synchronize.ThreadViews.{ThreadViews}
+use Rattle.loom_views.specs.declared.rt.table.Kept.{Kept}
+use Rattle.loom_views.specs.declared.rt.table.Kept.TheVariants.{Meeting, Keeping}
+use Rattle.loom_views.specs.declared.rt.table.Views.{Views}
+use Rattle.loom_views.specs.Graph.{Graph, raised, Shows, IsChained, IsPresent}
+use Rattle.loom_views.specs.Threads.{ThreadPoints, ShowsThread, child_points}
+use Rattle.loom_views.specs.Atomic.{History}
+use Rattle.loom_views.specs.Shown.{ShowsState}
+use Rattle.loom_views.specs.Table.{Place, Meets, Keeps, Points, with_thread, with_place, with_new_place, ShowsThreadAt, ShowsThreads, ShowsPlace, ShowsPlaceAt, ShowsPlaces, ShowsViews}
+use Rattle.loom_views.proofs.Views.{raised-no}
+use Rattle.loom_views.proofs.Growth.{GrownBy, same, quiet, raising, shows-grown, thread-grown, state-grown, present-grown}
+use Rattle.loom_views.proofs.Table.Lists.{get-set_same, get-set_other}
+
+-- another thread that has raised nothing has still raised nothing
+pub none-grown : {t : ℕ} {g g' : Graph} → GrownBy t g g' → (u : ℕ) → t ≢ u → raised g u ≡ [] → raised g' u ≡ []
+none-grown same u n h = h
+none-grown (quiet {g' = g'} js r) u n h = raised-no (record { after = js; raises = None }) g' u refl ∙ none-grown r u n h
+none-grown {t} (raising {g' = g'} js r) u n h = raised-no (record { after = js; raises = Some t }) g' u (ne_eqb t u n) ∙ none-grown r u n h
+
+pub thread_at-grown : {t : ℕ} {g g' : Graph} → GrownBy t g g' → (u : ℕ) → t ≢ u → (o : Option ThreadPoints) (v : Option ThreadViews) → ShowsThreadAt g u o v → ShowsThreadAt g' u o v
+thread_at-grown r u n None v h = none-grown r u n h
+thread_at-grown r u n (Some own) None h = absurd h
+thread_at-grown r u n (Some own) (Some views) h = (present-grown r u own.present n h.0, thread-grown r u own views h.1)
+
+pub place-grown : {t : ℕ} {g g' : Graph} → GrownBy t g g' → (place : Place) (kept : Kept) → ShowsPlace g place kept → ShowsPlace g' place kept
+place-grown r (Meets k) (Meeting view) h = shows-grown r k view h
+place-grown r (Meets k) (Keeping state) h = absurd h
+place-grown r (Keeps history) (Meeting view) h = absurd h
+place-grown r (Keeps history) (Keeping state) h = state-grown r history state h
+
+place_at-grown : {t : ℕ} {g g' : Graph} → GrownBy t g g' → (place : Option Place) (kept : Option Kept) → ShowsPlaceAt g place kept → ShowsPlaceAt g' place kept
+place_at-grown r None None h = tt
+place_at-grown r None (Some kept) h = absurd h
+place_at-grown r (Some place) None h = absurd h
+place_at-grown r (Some place) (Some kept) h = place-grown r place kept h
+
+pub places-grown : {t : ℕ} {g g' : Graph} → GrownBy t g g' → (places : List Place) (kept : List Kept) → ShowsPlaces g places kept → ShowsPlaces g' places kept
+places-grown r places kept h = λ n. place_at-grown r (slice_get places n) (slice_get kept n) (h n)
+
+-- points that raise no thread leave all threads as they were
+pub threads-grown : {g g' : Graph} → GrownBy 5 g g' → (threads : List ThreadPoints) (kept : List ThreadViews) → ShowsThreads g threads kept → ShowsThreads g' threads kept
+threads-grown r threads kept h = λ u m. thread_at-grown r u (omega arith) (slice_get threads u) (slice_get kept u) (h u m)
+
+-- one thread takes a step
+pub threads-set : {t : ℕ} {g g' : Graph} → GrownBy t g g' → (threads : List ThreadPoints) (kept : List ThreadViews) (own : ThreadPoints) (views : ThreadViews) → t < length threads → t < length kept → ShowsThreads g threads kept → IsPresent g' t own.present → ShowsThread g' t own views → ShowsThreads g' (set threads t own) (set kept t views)
+threads-set {t} {g' = g'} r threads kept own views l m h i s = λ u b. ⊎_elim
+    (λ e. subst (λ w. ShowsThreadAt g' w (slice_get (set threads t own) w) (slice_get (set kept t views) w)) (sym e) at)
+    (λ n. rw (get-set_other threads t u own n, get-set_other kept t u views n) (thread_at-grown r u (λ e. n (sym e)) (slice_get threads u) (slice_get kept u) (h u b)))
+    (cases_eq u t)
+  where
+    at : ShowsThreadAt g' t (slice_get (set threads t own) t) (slice_get (set kept t views) t)
+    at = rw (get-set_same threads t own l, get-set_same kept t views m) (i, s)
+
+-- one object takes a step
+pub places-set : (g : Graph) (places : List Place) (kept : List Kept) (n : ℕ) (place : Place) (new : Kept) → n < length places → n < length kept → ShowsPlaces g places kept → ShowsPlace g place new → ShowsPlaces g (set places n place) (set kept n new)
+places-set g places kept n place new l m h s = λ i. ⊎_elim
+    (λ e. subst (λ w. ShowsPlaceAt g (slice_get (set places n place) w) (slice_get (set kept n new) w)) (sym e) at)
+    (λ d. rw (get-set_other places n i place d, get-set_other kept n i new d) (h i))
+    (cases_eq i n)
+  where
+    at : ShowsPlaceAt g (slice_get (set places n place) n) (slice_get (set kept n new) n)
+    at = rw (get-set_same places n place l, get-set_same kept n new m) s
+
+pub places-more : (g : Graph) (places : List Place) (kept : List Kept) (place : Place) (new : Kept) → ShowsPlaces g places kept → ShowsPlace g place new → ShowsPlaces g (places ++ place ∷ []) (kept ++ new ∷ [])
+places-more g [] [] place new h s zero = s
+places-more g [] [] place new h s (suc n) = tt
+places-more g [] (k ∷ kept) place new h s n = absurd (h 0)
+places-more g (p ∷ places) [] place new h s n = absurd (h 0)
+places-more g (p ∷ places) (k ∷ kept) place new h s zero = h 0
+places-more g (p ∷ places) (k ∷ kept) place new h s (suc n) = places-more g places kept place new (λ i. h (suc i)) s n
+
+-- a thread that is there, with the views that are kept of it
+pub record Found (p : Points) (t : ℕ) (views : ThreadViews) : Type 0 where
+  pub own : ThreadPoints
+  pub is : slice_get p.threads t ≡ Some own
+  pub there : t < length p.threads
+  pub present : IsPresent p.graph t own.present
+  pub shown : ShowsThread p.graph t own views
+
+pub found : (p : Points) (v : Views) (t : ℕ) (d : ThreadViews) → t < v.count → t < 5 → ShowsViews p v → Found p t (get_or v.threads t d)
+found p v t d l m z =
+    let five = z.five in
+    let count = z.count in
+    let e = slice_get-get_or p.threads t (child_points []) (omega arith) in
+    let f = slice_get-get_or v.threads t d (omega arith) in
+    let h = z.threads t m in
+    let s = rw (e, f) at h in
+    record { own = get_or p.threads t (child_points []); is = e; there = omega arith; present = s.0; shown = s.1 }
+
+-- an object that threads synchronize at
+pub record FoundPoint (p : Points) (n : ℕ) (view : List ℕ) : Type 0 where
+  pub point : ℕ
+  pub is : slice_get p.places n ≡ Some (Meets point)
+  pub shown : Shows p.graph point view
+
+pub found_point : (p : Points) (v : Views) (n : ℕ) (view : List ℕ) → slice_get v.places n ≡ Some (Meeting view) → ShowsViews p v → FoundPoint p n view
+found_point p v n view e z = let h = z.places n in go (slice_get p.places n) refl (rw e at h)
+  where
+    go : (o : Option Place) → slice_get p.places n ≡ o → ShowsPlaceAt p.graph o (Some (Meeting view)) → FoundPoint p n view
+    go None q h = absurd h
+    go (Some (Meets k)) q h = record { point = k; is = q; shown = h }
+    go (Some (Keeps history)) q h = absurd h
+
+-- an atomic
+pub record FoundAtomic (p : Points) (n : ℕ) (state : State) : Type 0 where
+  pub history : History
+  pub is : slice_get p.places n ≡ Some (Keeps history)
+  pub shown : ShowsState p.graph history state
+
+pub found_atomic : (p : Points) (v : Views) (n : ℕ) (state : State) → slice_get v.places n ≡ Some (Keeping state) → ShowsViews p v → FoundAtomic p n state
+found_atomic p v n state e z = let h = z.places n in go (slice_get p.places n) refl (rw e at h)
+  where
+    go : (o : Option Place) → slice_get p.places n ≡ o → ShowsPlaceAt p.graph o (Some (Keeping state)) → FoundAtomic p n state
+    go None q h = absurd h
+    go (Some (Meets k)) q h = absurd h
+    go (Some (Keeps history)) q h = record { history = history; is = q; shown = h }
+
+-- a step of thread t in a graph that it alone has grown
+pub thread-stepped : (p : Points) (v : Views) (t : ℕ) (g : Graph) (own : ThreadPoints) (views : ThreadViews) → t < length p.threads → GrownBy t p.graph g → IsChained g → IsPresent g t own.present → ShowsThread g t own views → ShowsViews p v → ShowsViews (with_thread p t g own) (record v { threads = set v.threads t views })
+thread-stepped p v t g own views l r c i s z =
+    let five = z.five in
+    let most = z.most in
+    record {
+      chained = c;
+      count = length-set p.threads t own ∙ z.count;
+      most = omega (arith, length-set p.threads t own);
+      five = length-set v.threads t views ∙ z.five;
+      threads = threads-set r p.threads v.threads own views l (omega arith) z.threads i s;
+      places = places-grown r p.places v.places z.places;
+    }
+
+-- a step on object n in a graph that has grown by points that raise no thread
+pub place-stepped : (p : Points) (v : Views) (n : ℕ) (g : Graph) (place : Place) (kept : Kept) → n < length p.places → n < length v.places → GrownBy 5 p.graph g → IsChained g → ShowsPlace g place kept → ShowsViews p v → ShowsViews (with_place p n g place) (record v { places = set v.places n kept })
+place-stepped p v n g place kept l m r c s z = record {
+  chained = c;
+  count = z.count;
+  most = z.most;
+  five = z.five;
+  threads = threads-grown r p.threads v.threads z.threads;
+  places = places-set g p.places v.places n place kept l m (places-grown r p.places v.places z.places) s;
+}
+
+-- another object, in such a graph
+pub place-added : (p : Points) (v : Views) (g : Graph) (place : Place) (kept : Kept) → GrownBy 5 p.graph g → IsChained g → ShowsPlace g place kept → ShowsViews p v → ShowsViews (with_new_place p g place) (record v { places = v.places ++ kept ∷ [] })
+place-added p v g place kept r c s z = record {
+  chained = c;
+  count = z.count;
+  most = z.most;
+  five = z.five;
+  threads = threads-grown r p.threads v.threads z.threads;
+  places = places-more g p.places v.places place kept (places-grown r p.places v.places z.places) s;
+}
+
+-- what holds of a value holds once it has been made
+pub ok_as : {T E : Type 0} (r : Result T E) (P : Views → Type 0) (new made : Views) → OnOk r (new ≡ made) → P made → OnOk r (P new)
+ok_as (Ok x) P new made e h = subst P (sym e) h
+ok_as (Err x) P new made e h = tt

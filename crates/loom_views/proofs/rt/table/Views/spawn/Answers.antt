@@ -1,0 +1,13 @@
+use Rattle.std.proofs.Common.{◌≤◌, subst, sym, refl, arith}
+use Rattle.loom_views.proofs.Table.Spawned.{spawn-refused, spawn-unmade, spawn-moved}
+use Rattle.loom_views.proofs.rt.table.Views.spawn.Goals as goal
+
+pub returns-then-version-ge-MAX_VERSION-clause-shown : goal.returns-then-version-ge-MAX_VERSION-clause-shown
+returns-then-version-ge-MAX_VERSION-clause-shown c = λ p z. spawn-refused p c.args.self.now c.args.parent c.index-self-parent.result c.if-parent-self.false c.if-parent-ge-MAX_THREADS.false z c.if-child-ge-MAX_THREADS.false (rw c.version.ensures.value at c.if-version-ge-MAX_VERSION.true)
+
+pub returns-in-Some-clause-shown : goal.returns-in-Some-clause-shown
+returns-in-Some-clause-shown c = λ p z. spawn-moved p c.args.self.now c.args.parent c.index-self-parent.result c.if-parent-self.false c.if-parent-ge-MAX_THREADS.false z c.in-Some.child_views c.spawn.new.self c.if-child-ge-MAX_THREADS.false (rw c.version.ensures.value at c.if-version-ge-MAX_VERSION.false) (λ g own h r i s. c.in-Some.ensures.shown g own h r s)
+
+pub returns-in-None-clause-shown : goal.returns-in-None-clause-shown
+returns-in-None-clause-shown c = λ p z. spawn-unmade p c.args.self.now c.args.parent c.index-self-parent.result c.if-parent-self.false c.if-parent-ge-MAX_THREADS.false z c.if-child-ge-MAX_THREADS.false
+    (λ g own h r i s. subst (λ k. 65534 ≤ k) (sym ((c.in-None.ensures.room g own r i s).0 refl)) (omega arith))

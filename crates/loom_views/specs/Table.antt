@@ -1,0 +1,230 @@
+-- The points of a whole run: of its threads, and of the objects that threads synchronize at or access.
+use Rattle.std.specs.Prelude.{ℕ, ◌≤◌, ◌<◌, ◌≡◌, ◌==◌, nat_le, nat_lt, Bool, if◌then◌else◌, List, [], ◌∷◌, ◌++◌, length, map, slice_get, slice_set, Option, Some, None, Result, Ok, Err}
+use Rattle.std.specs.List.{list_any}
+use Rattle.std.specs.declared.sync.atomic.Ordering.{Ordering}
+use Rattle.loom_views.specs.declared.rt.atomic.Reader.{Reader}
+use Rattle.loom_views.specs.declared.rt.synchronize.ThreadViews.{ThreadViews}
+use Rattle.loom_views.specs.declared.rt.failure.FailureKind.{FailureKind}
+use Rattle.loom_views.specs.declared.rt.failure.FailureKind.TheVariants.{TooManyThreads, TooManyVersions, OrdersEqual, Misuse}
+use Rattle.loom_views.specs.declared.rt.table.Kept.{Kept}
+use Rattle.loom_views.specs.declared.rt.table.Kept.TheVariants.{Meeting, Keeping}
+use Rattle.loom_views.specs.declared.rt.table.Views.{Views}
+use Rattle.loom_views.specs.Graph.{Graph, moved, raised, Shows, IsChained, IsPresent}
+use Rattle.loom_views.specs.Threads.{ThreadPoints, ShowsThread, with_present, graph_after_raise, graph_after_acquire, graph_after_release_fence, graph_after_store, graph_after_spawn, child_points, parent_points}
+use Rattle.loom_views.specs.Atomic.{History, Scene, Answer, readable, fails_by_orders, load_step, store_step, new_step}
+use Rattle.loom_views.specs.Shown.{ShowsState}
+
+-- what an object has: the number of the point at which threads synchronize, or the history of an atomic
+pub data Place : Type 0 where
+  Meets : ℕ → Place
+  Keeps : History → Place
+
+-- the points of a run: its graph, those of each thread, and those of each object in the order made
+pub record Points : Type 0 where
+  pub graph : Graph
+  pub threads : List ThreadPoints
+  pub places : List Place
+
+-- main alone, with a present point and a released point that come after nothing
+abbrev pub opening : Points
+opening = record { graph = moved (moved [] []) []; threads = child_points [] ∷ []; places = [] }
+
+-- the graph and the points of thread t after a step of it
+abbrev pub with_thread : Points → ℕ → Graph → ThreadPoints → Points
+with_thread p t g own = record p { graph = g; threads = slice_set p.threads t own }
+
+-- the graph and object n after a step on it
+abbrev pub with_place : Points → ℕ → Graph → Place → Points
+with_place p n g place = record p { graph = g; places = slice_set p.places n place }
+
+-- another object
+abbrev pub with_new_place : Points → Graph → Place → Points
+with_new_place p g place = record p { graph = g; places = p.places ++ place ∷ [] }
+
+-- thread t raises its version, at most 65,534 times
+abbrev pub raise_by : Points → ℕ → Option ThreadPoints → Result Points FailureKind
+raise_by p t None = Err Misuse
+raise_by p t (Some own) = if nat_lt (length (raised p.graph t)) 65534 then Ok (with_thread p t (graph_after_raise p.graph own t) (with_present p.graph own)) else Err TooManyVersions
+
+abbrev pub points_after_raise : Points → ℕ → Result Points FailureKind
+points_after_raise p t = raise_by p t (slice_get p.threads t)
+
+-- thread t acquires from the point of object n. Nothing happens where there is no such thread or point
+abbrev pub acquire_by : Points → ℕ → Option ThreadPoints → Option Place → Points
+acquire_by p t None place = p
+acquire_by p t (Some own) None = p
+acquire_by p t (Some own) (Some (Keeps history)) = p
+acquire_by p t (Some own) (Some (Meets k)) = with_thread p t (graph_after_acquire p.graph own k) (with_present p.graph own)
+
+abbrev pub points_after_acquire : Points → ℕ → ℕ → Points
+points_after_acquire p t n = acquire_by p t (slice_get p.threads t) (slice_get p.places n)
+
+-- thread t releases to the point of object n by an ordering. Nothing happens where there is no such thread or point
+abbrev pub release_by : Points → ℕ → Ordering → Option ThreadPoints → Option Place → Points
+release_by p n order None place = p
+release_by p n order (Some own) None = p
+release_by p n order (Some own) (Some (Keeps history)) = p
+release_by p n order (Some own) (Some (Meets k)) = with_place p n (graph_after_store p.graph own k order) (Meets (length p.graph))
+
+abbrev pub points_after_release : Points → ℕ → ℕ → Ordering → Points
+points_after_release p t n order = release_by p n order (slice_get p.threads t) (slice_get p.places n)
+
+-- thread t's release fence
+abbrev pub fence_by : Points → ℕ → Option ThreadPoints → Points
+fence_by p t None = p
+fence_by p t (Some own) = with_thread p t (graph_after_release_fence p.graph own) (record own { released = length p.graph })
+
+abbrev pub points_after_release_fence : Points → ℕ → Points
+points_after_release_fence p t = fence_by p t (slice_get p.threads t)
+
+-- thread t yields, at its present point
+abbrev pub yield_by : Points → ℕ → Option ThreadPoints → Points
+yield_by p t None = p
+yield_by p t (Some own) = with_thread p t p.graph (record own { yielded = Some own.present })
+
+abbrev pub points_after_yield : Points → ℕ → Points
+points_after_yield p t = yield_by p t (slice_get p.threads t)
+
+-- an object with a point of its own, at which no thread has synchronized
+abbrev pub points_with_point : Points → Points
+points_with_point p = with_new_place p (moved p.graph []) (Meets (length p.graph))
+
+-- thread t spawns the next thread, of five at most, where t may raise once more
+abbrev pub spawn_by : Points → ℕ → Option ThreadPoints → Result Points FailureKind
+spawn_by p t None = Err Misuse
+spawn_by p t (Some own) =
+    if nat_le 5 (length p.threads) then Err TooManyThreads
+    else (if nat_lt (length (raised p.graph t)) 65534
+    then Ok (record p { graph = graph_after_spawn p.graph own t (length p.threads); threads = slice_set p.threads t (parent_points p.graph own) ++ child_points p.graph ∷ [] })
+    else Err TooManyVersions)
+
+abbrev pub points_after_spawn : Points → ℕ → Result Points FailureKind
+points_after_spawn p t = spawn_by p t (slice_get p.threads t)
+
+-- thread t takes in the present view of thread u. Nothing happens where one of them isn't there
+abbrev pub join_by : Points → ℕ → Option ThreadPoints → Option ThreadPoints → Points
+join_by p t None other = p
+join_by p t (Some own) None = p
+join_by p t (Some own) (Some other) = with_thread p t (graph_after_acquire p.graph own other.present) (with_present p.graph own)
+
+abbrev pub points_after_join : Points → ℕ → ℕ → Points
+points_after_join p t u = join_by p t (slice_get p.threads t) (slice_get p.threads u)
+
+-- thread t and an atomic that it accesses
+abbrev pub scene_of : Points → ThreadPoints → History → Scene
+scene_of p own history = record { graph = p.graph; thread = own; history = history }
+
+-- the points of the run where thread t and the atomic n have come to a scene
+abbrev pub points_of : Points → ℕ → ℕ → Scene → Points
+points_of p t n s = record { graph = s.graph; threads = slice_set p.threads t s.thread; places = slice_set p.places n (Keeps s.history) }
+
+-- points, and the value that an access answers
+pub record Accessed : Type 0 where
+  pub points : Points
+  pub value : ℕ
+
+-- the same of an access that may fail
+abbrev pub accessed : Points → ℕ → ℕ → Result Answer FailureKind → Result Accessed FailureKind
+accessed p t n (Ok answer) = Ok (record { points = points_of p t n answer.scene; value = answer.value })
+accessed p t n (Err kind) = Err kind
+
+-- thread t makes an atomic with a value. Nothing happens where there is no such thread
+abbrev pub add_atomic_by : Points → ℕ → ℕ → Option ThreadPoints → Points
+add_atomic_by p t value None = p
+add_atomic_by p t value (Some own) = let made = new_step t p.graph own value in with_new_place p made.graph (Keeps made.history)
+
+abbrev pub points_with_atomic : Points → ℕ → ℕ → Points
+points_with_atomic p t value = add_atomic_by p t value (slice_get p.threads t)
+
+-- an access of atomic n by thread t, which is a misuse where one of them isn't there
+abbrev pub access_by : Points → ℕ → ℕ → (Scene → Result Answer FailureKind) → Option ThreadPoints → Option Place → Result Accessed FailureKind
+access_by p t n step None place = Err Misuse
+access_by p t n step (Some own) None = Err Misuse
+access_by p t n step (Some own) (Some (Meets k)) = Err Misuse
+access_by p t n step (Some own) (Some (Keeps history)) = accessed p t n (step (scene_of p own history))
+
+abbrev pub access : Points → ℕ → ℕ → (Scene → Result Answer FailureKind) → Result Accessed FailureKind
+access p t n step = access_by p t n step (slice_get p.threads t) (slice_get p.places n)
+
+-- thread t, which has raised its version, loads from a slot of atomic n, or stores to it
+abbrev pub points_after_load : Points → ℕ → ℕ → ℕ → Ordering → Result Accessed FailureKind
+points_after_load p t n slot order = access p t n (λ s. load_step t s slot order)
+
+abbrev pub points_after_store : Points → ℕ → ℕ → ℕ → Ordering → Result Accessed FailureKind
+points_after_store p t n value order = access p t n (λ s. store_step t s value order)
+
+-- the slots of atomic n that a reader of thread t may choose
+abbrev pub readable_by : Points → ℕ → Reader → Option ThreadPoints → Option Place → Result (List ℕ) FailureKind
+readable_by p t reader None place = Err Misuse
+readable_by p t reader (Some own) None = Err Misuse
+readable_by p t reader (Some own) (Some (Meets k)) = Err Misuse
+readable_by p t reader (Some own) (Some (Keeps history)) = if fails_by_orders p.graph t own reader history.stores then Err OrdersEqual else Ok (readable p.graph t own reader history.stores)
+
+abbrev pub readable_slots_of : Points → ℕ → ℕ → Reader → Result (List ℕ) FailureKind
+readable_slots_of p t n reader = readable_by p t reader (slice_get p.threads t) (slice_get p.places n)
+
+-- which of the seven slots a list has
+abbrev pub has_slot : List ℕ → ℕ → Bool
+has_slot slots i = list_any (λ j. j == i) slots
+
+abbrev pub slot_set : List ℕ → List Bool
+slot_set slots = map (has_slot slots) (0 ∷ 1 ∷ 2 ∷ 3 ∷ 4 ∷ 5 ∷ 6 ∷ [])
+
+-- a store is kept in the slot, if the object is an atomic
+abbrev pub IsSlotKept : Option Place → ℕ → Type 0
+IsSlotKept None slot = Unit {0}
+IsSlotKept (Some (Meets k)) slot = Unit {0}
+IsSlotKept (Some (Keeps history)) slot = (slot < 7) × (slot < length history.stores)
+
+-- a thread's views show its points, and its present point is one; a thread that isn't there has raised nothing
+abbrev pub ShowsThreadAt : Graph → ℕ → Option ThreadPoints → Option ThreadViews → Type 0
+ShowsThreadAt g t None views = raised g t ≡ []
+ShowsThreadAt g t (Some own) None = ⊥
+ShowsThreadAt g t (Some own) (Some views) = IsPresent g t own.present × ShowsThread g t own views
+
+abbrev pub ShowsThreads : Graph → List ThreadPoints → List ThreadViews → Type 0
+ShowsThreads g threads kept = (t : ℕ) → t < 5 → ShowsThreadAt g t (slice_get threads t) (slice_get kept t)
+
+-- what is kept of an object shows its points
+abbrev pub ShowsPlace : Graph → Place → Kept → Type 0
+ShowsPlace g (Meets k) (Meeting view) = Shows g k view
+ShowsPlace g (Meets k) (Keeping state) = ⊥
+ShowsPlace g (Keeps history) (Meeting view) = ⊥
+ShowsPlace g (Keeps history) (Keeping state) = ShowsState g history state
+
+abbrev pub ShowsPlaceAt : Graph → Option Place → Option Kept → Type 0
+ShowsPlaceAt g None None = Unit {0}
+ShowsPlaceAt g None (Some kept) = ⊥
+ShowsPlaceAt g (Some place) None = ⊥
+ShowsPlaceAt g (Some place) (Some kept) = ShowsPlace g place kept
+
+abbrev pub ShowsPlaces : Graph → List Place → List Kept → Type 0
+ShowsPlaces g places kept = (n : ℕ) → ShowsPlaceAt g (slice_get places n) (slice_get kept n)
+
+-- what is kept of a run shows its points, in a graph that moves made
+pub record ShowsViews (p : Points) (v : Views) : Type 0 where
+  pub chained : IsChained p.graph
+  pub count : length p.threads ≡ v.count
+  pub most : length p.threads ≤ 5
+  pub five : length v.threads ≡ 5
+  pub threads : ShowsThreads p.graph p.threads v.threads
+  pub places : ShowsPlaces p.graph p.places v.places
+
+-- a move answers as its rule does, and shows the points that it leads to
+abbrev pub MovesAs : Result Points FailureKind → Result (Unit {0}) FailureKind → Views → Type 0
+MovesAs (Ok after) result v = (result ≡ Ok tt) × ShowsViews after v
+MovesAs (Err kind) result v = result ≡ Err kind
+
+-- the same of an access that answers a value, and of one that answers none
+abbrev pub LoadsAs : Result Accessed FailureKind → Result ℕ FailureKind → Views → Type 0
+LoadsAs (Ok after) result v = (result ≡ Ok after.value) × ShowsViews after.points v
+LoadsAs (Err kind) result v = result ≡ Err kind
+
+abbrev pub StoresAs : Result Accessed FailureKind → Result (Unit {0}) FailureKind → Views → Type 0
+StoresAs (Ok after) result v = (result ≡ Ok tt) × ShowsViews after.points v
+StoresAs (Err kind) result v = result ≡ Err kind
+
+-- a choice of slots answers as its rule does
+abbrev pub OffersAs : Result (List ℕ) FailureKind → Result (List Bool) FailureKind → Type 0
+OffersAs (Ok slots) result = result ≡ Ok (slot_set slots)
+OffersAs (Err kind) result = result ≡ Err kind

@@ -1,0 +1,655 @@
+//! The stores of an atomic that are kept, and its accesses. They are plain values; no call here takes memory.
+//!
+//! A public call speaks of every scene that the vectors show: a graph, the thread's points in it, and the atomic's whole
+//! history by points. Slots are numbered from 0: the store with number `n` stands in slot `n` modulo `MAX_ATOMIC_HISTORY`.
+//! The thread has raised its version before the call. Where a call fails the run is over, and nothing is said of the atomic.
+
+ghost use Rattle.std.specs.Prelude.{◌≡◌, ℕ, ◌+◌, ◌<◌, ◌≤◌, ◌==◌, min, IsTrue, None, slice_index_or, false, MatchResult, Ok, Err, length};
+ghost use Rattle.std.specs.List.{list_any};
+ghost use Rattle.loom_views.specs.Versions.{join, join_all};
+ghost use Rattle.loom_views.specs.Untouched.{untouched};
+ghost use Rattle.loom_views.specs.declared.rt.failure.FailureKind.TheVariants.{OrdersEqual, TooManyStores};
+ghost use Rattle.loom_views.specs.Slots.{upto, has_order_of, has_equal_order_at};
+ghost use Rattle.loom_views.specs.Ring.{is_touch_in, is_version_before, touch_version, store_at, drops_slot, is_same_slot, readable_now, fails_now, is_order_seen, orders_seen, state_read, state_made, load_tracked, store_tracked, unsync_load_tracked, unsync_mut_tracked, load_now, store_now, update_read_now, update_write_now, newest_slot, unsync_load_now, mutate_now, mutate_end_now, state_blank};
+ghost use Rattle.loom_views.specs.Graph.{Graph, IsChained, IsPresent};
+ghost use Rattle.loom_views.specs.Threads.{ThreadPoints, ShowsThread};
+ghost use Rattle.loom_views.specs.Atomic.{Scene, readable, fails_by_orders, load_step, store_step, update_read_step, update_write_step, update_fail_step, unsync_load_step, mutate_step, mutate_end_step, new_step};
+ghost use Rattle.loom_views.specs.declared.rt.atomic.Reader.{Reader};
+ghost use Rattle.loom_views.specs.Shown.{ShowsScene, AnswersAs, FinishesAs};
+
+use crate::rt::failure::FailureKind;
+use crate::rt::synchronize::{Synchronize, ThreadViews};
+use crate::rt::vv::VersionVec;
+use crate::rt::{MAX_ATOMIC_HISTORY, MAX_THREADS};
+use arrayvec::ArrayVec;
+use std::sync::atomic::Ordering;
+
+/// Who reads (own; loom has two functions, in `rt/atomic.rs`).
+#[derive(Clone, Copy, PartialEq, Eq)]
+pub enum Reader {
+    /// A load of an ordering.
+    Load(Ordering),
+    /// A read-modify-write.
+    Update,
+}
+
+/// For each thread, its own version when it first touched a store (loom's `rt/atomic.rs`).
+#[derive(Clone, Copy, Debug)]
+pub struct FirstSeen {
+    versions: [Option<u16>; MAX_THREADS],
+}
+
+/// A store that is kept (loom's `rt/atomic.rs`).
+#[derive(Clone, Copy, Debug)]
+pub struct Store {
+    value: u64,
+    order: VersionVec,
+    sync: Synchronize,
+    first_seen: FirstSeen,
+    seq_cst: bool,
+}
+
+/// What is kept of an atomic: the last `MAX_ATOMIC_HISTORY` stores, the joined views of the accesses of each kind, and how many
+/// stores there were, at most 65,535 (loom's `rt/atomic.rs`).
+#[derive(Clone, Copy, Debug)]
+pub struct State {
+    loaded_at: VersionVec,
+    stored_at: VersionVec,
+    unsync_loaded_at: VersionVec,
+    unsync_mut_at: VersionVec,
+    is_mutating: bool,
+    stores: [Store; MAX_ATOMIC_HISTORY],
+    count: u16,
+}
+
+impl FirstSeen {
+    /// No thread has touched the store.
+    fn new() -> FirstSeen
+        ensures { result.versions ≡ untouched }
+    {
+        FirstSeen {
+            versions: [None; MAX_THREADS],
+        }
+    }
+
+    /// Records the version where the thread hasn't touched the store before.
+    fn touch(&mut self, thread: usize, version: u16)
+        requires { thread < 5 }
+        ensures { self.new.versions ≡ touch_version self.old.versions thread version }
+    {
+        if self.versions[thread].is_none() {
+            self.versions[thread] = Some(version);
+        }
+    }
+
+    /// Whether a touch has come to this view.
+    fn is_seen_from(&self, view: &VersionVec) -> bool
+        ensures { result ≡ is_touch_in self.now.versions view.now }
+    {
+        let versions = view.versions();
+        for t in 0..MAX_THREADS {
+            if let Some(version) = self.versions[t] {
+                if version <= versions[t] {
+                    return true;
+                }
+            }
+        }
+        false
+    }
+
+    /// Whether the thread touched the store at or before its last yield.
+    fn is_before_yield(&self, thread: usize, last_yield: Option<u16>) -> bool
+        requires { thread < 5 }
+        ensures { result ≡ is_version_before (slice_index_or self.now.versions thread None) last_yield }
+    {
+        match (self.versions[thread], last_yield) {
+            (Some(version), Some(at)) => version <= at,
+            _ => false,
+        }
+    }
+}
+
+impl State {
+    /// How many stores are kept.
+    fn kept(&self) -> usize
+        ensures { result ≡ min self.now.count 7 }
+    {
+        usize::from(self.count).min(MAX_ATOMIC_HISTORY)
+    }
+
+    /// Whether the store in slot `j` keeps a reader from choosing slot `i`.
+    fn drops(&self, thread: usize, views: &ThreadViews, reader: Reader, i: usize, j: usize) -> bool
+        requires thread_in { thread < 5 }
+        requires i_in { i < 7 }
+        requires j_in { j < 7 }
+        ensures { result ≡ drops_slot self.now thread views.now reader i j }
+    {
+        let store = &self.stores[i];
+        let other = &self.stores[j];
+        let is_below = store.order < other.order;
+        match reader {
+            Reader::Update => is_below,
+            Reader::Load(order) => {
+                let is_seen = other.first_seen.is_seen_from(&views.present);
+                let is_before = store.first_seen.is_before_yield(thread, views.last_yield);
+                let is_seq_cst = matches!(order, Ordering::SeqCst);
+                is_below && (is_seen || is_before || is_seq_cst && store.seq_cst && other.seq_cst)
+            }
+        }
+    }
+
+    /// Whether a store in a slot below `end` keeps the reader from choosing slot `i`.
+    fn is_dropped(
+        &self,
+        thread: usize,
+        views: &ThreadViews,
+        reader: Reader,
+        i: usize,
+        end: usize,
+    ) -> bool
+        requires thread_in { thread < 5 }
+        requires i_in { i < 7 }
+        requires end_in { end ≤ 7 }
+        ensures { result ≡ list_any (drops_slot self.now thread views.now reader i) (upto end) }
+    {
+        for j in 0..end {
+            if self.drops(thread, views, reader, i, j) {
+                return true;
+            }
+        }
+        false
+    }
+
+    /// Whether slot `i` has the order of another slot `j`, and no slot before `j` drops it.
+    fn has_order_of(
+        &self,
+        thread: usize,
+        views: &ThreadViews,
+        reader: Reader,
+        i: usize,
+        j: usize,
+    ) -> bool
+        requires thread_in { thread < 5 }
+        requires i_in { i < 7 }
+        requires j_in { j < 7 }
+        ensures { result ≡ has_order_of (is_same_slot self.now) (drops_slot self.now thread views.now reader) i j }
+    {
+        let is_same = self.stores[i].order == self.stores[j].order;
+        let is_dropped = self.is_dropped(thread, views, reader, i, j);
+        i != j && is_same && !is_dropped
+    }
+
+    /// Whether slot `i` has the order of another slot in that way.
+    fn has_equal_order(&self, thread: usize, views: &ThreadViews, reader: Reader, i: usize) -> bool
+        requires thread_in { thread < 5 }
+        requires i_in { i < 7 }
+        ensures { result ≡ has_equal_order_at (is_same_slot self.now) (drops_slot self.now thread views.now reader) self.now.count i }
+    {
+        for j in 0..self.kept() {
+            if self.has_order_of(thread, views, reader, i, j) {
+                return true;
+            }
+        }
+        false
+    }
+
+    /// Whether the reader's choice fails since two orders are equal.
+    fn has_equal_orders(&self, thread: usize, views: &ThreadViews, reader: Reader) -> bool
+        requires { thread < 5 }
+        ensures { result ≡ fails_now self.now thread views.now reader }
+    {
+        for i in 0..self.kept() {
+            if self.has_equal_order(thread, views, reader, i) {
+                return true;
+            }
+        }
+        false
+    }
+
+    /// The slots that the reader may choose, in rising order.
+    fn readable_in_vectors(
+        &self,
+        thread: usize,
+        views: &ThreadViews,
+        reader: Reader,
+    ) -> Result<ArrayVec<u8, 7>, FailureKind>
+        requires { thread < 5 }
+        ensures { MatchResult result (λ slots. (slots.items ≡ readable_now self.now thread views.now reader) × (fails_now self.now thread views.now reader ≡ false))
+            (λ kind. (kind ≡ OrdersEqual) × IsTrue (fails_now self.now thread views.now reader)) }
+    {
+        if self.has_equal_orders(thread, views, reader) {
+            return Err(FailureKind::OrdersEqual);
+        }
+        let kept = self.kept();
+        let mut slots = ArrayVec::new();
+        for i in 0..kept {
+            if !self.is_dropped(thread, views, reader, i, kept) {
+                slots.push(i as u8);
+            }
+        }
+        Ok(slots)
+    }
+
+    /// The slots that the reader may choose, in rising order: those of the stores that no kept store keeps it from. Where two
+    /// orders are equal on the way it is `OrdersEqual`. By law `laws::some_slot_is_readable` there is always a slot (loom's
+    /// `rt/atomic.rs`).
+    pub fn readable(
+        &self,
+        thread: usize,
+        views: &ThreadViews,
+        reader: Reader,
+    ) -> Result<ArrayVec<u8, 7>, FailureKind>
+        requires { thread < 5 }
+        ensures { (s : Scene) → ShowsScene thread s views.now self.now →
+            MatchResult result (λ slots. (slots.items ≡ readable s.graph thread s.thread reader s.history.stores) × (fails_by_orders s.graph thread s.thread reader s.history.stores ≡ false))
+            (λ kind. (kind ≡ OrdersEqual) × IsTrue (fails_by_orders s.graph thread s.thread reader s.history.stores)) }
+    {
+        self.readable_in_vectors(thread, views, reader)
+    }
+
+    /// Whether the store in a slot is seen in a view, and the slot isn't left out.
+    fn is_order_seen(&self, view: &VersionVec, left_out: Option<usize>, i: usize) -> bool
+        requires { i < 7 }
+        ensures { result ≡ is_order_seen self.now.stores view.now left_out i }
+    {
+        let is_left_out = match left_out {
+            Some(slot) => i == slot,
+            None => false,
+        };
+        !is_left_out && self.stores[i].first_seen.is_seen_from(view)
+    }
+
+    /// An order with those of the kept stores that are seen in a view, but for a slot that is left out.
+    fn with_orders_seen(
+        &self,
+        order: VersionVec,
+        view: &VersionVec,
+        left_out: Option<usize>,
+    ) -> VersionVec
+        ensures { result ≡ join_all order (orders_seen self.now.stores self.now.count view.now left_out) }
+    {
+        let mut joined = order;
+        for i in 0..self.kept() {
+            if self.is_order_seen(view, left_out, i) {
+                joined.join(&self.stores[i].order);
+            }
+        }
+        joined
+    }
+
+    /// Reads the store in a slot. Its order takes in those of the other kept stores that are seen, and the thread touches it.
+    fn read(&mut self, thread: usize, views: &ThreadViews, slot: usize) -> u64
+        requires thread_in { thread < 5 }
+        requires slot_in { slot < 7 }
+        ensures state { self.new ≡ state_read self.old thread views.now slot }
+        ensures value { result ≡ (store_at self.old.stores slot).value }
+    {
+        let own_order = self.stores[slot].order;
+        let order = self.with_orders_seen(own_order, &views.present, Some(slot));
+        let version = views.present.version(thread);
+        let store = &mut self.stores[slot];
+        store.order = order;
+        store.first_seen.touch(thread, version);
+        store.value
+    }
+
+    /// Makes a store, whose synchronization starts with the given one.
+    fn push(
+        &mut self,
+        thread: usize,
+        views: &ThreadViews,
+        sync: Synchronize,
+        value: u64,
+        order: Ordering,
+    )
+        requires thread_in { thread < 5 }
+        requires room { self.old.count < 65535 }
+        ensures { self.new ≡ state_made self.old thread views.now sync value order }
+    {
+        let mut sync = sync;
+        sync.sync_store(views, order);
+        let mut first_seen = FirstSeen::new();
+        first_seen.touch(thread, views.present.version(thread));
+        let store = Store {
+            value,
+            order: self.with_orders_seen(views.present, &views.present, None),
+            sync,
+            first_seen,
+            seq_cst: matches!(order, Ordering::SeqCst),
+        };
+        self.stores[usize::from(self.count) % MAX_ATOMIC_HISTORY] = store;
+        self.count += 1;
+    }
+
+    /// Makes a store where there is room for another one.
+    fn make(
+        &mut self,
+        thread: usize,
+        views: &ThreadViews,
+        sync: Synchronize,
+        value: u64,
+        order: Ordering,
+    ) -> Result<(), FailureKind>
+        requires { thread < 5 }
+        ensures { MatchResult result (λ _. (self.old.count < 65535) × (self.new ≡ state_made self.old thread views.now sync value order))
+            (λ kind. (self.old.count ≡ 65535) × (kind ≡ TooManyStores)) }
+    {
+        if self.count == u16::MAX {
+            return Err(FailureKind::TooManyStores);
+        }
+        self.push(thread, views, sync, value, order);
+        Ok(())
+    }
+
+    /// Tests a load, and records it.
+    fn track_load(&mut self, views: &ThreadViews) -> Result<(), FailureKind>
+        ensures { MatchResult result (λ _. load_tracked self.old views.now ≡ Ok self.new) (λ kind. load_tracked self.old views.now ≡ Err kind) }
+    {
+        if self.is_mutating {
+            return Err(FailureKind::OpenAccess);
+        }
+        if !self.unsync_mut_at.is_within(&views.present) {
+            return Err(FailureKind::Race);
+        }
+        self.loaded_at.join(&views.present);
+        Ok(())
+    }
+
+    /// Tests a store, and records it.
+    fn track_store(&mut self, views: &ThreadViews) -> Result<(), FailureKind>
+        ensures { MatchResult result (λ _. store_tracked self.old views.now ≡ Ok self.new) (λ kind. store_tracked self.old views.now ≡ Err kind) }
+    {
+        if self.is_mutating {
+            return Err(FailureKind::OpenAccess);
+        }
+        if !self.unsync_mut_at.is_within(&views.present)
+            || !self.unsync_loaded_at.is_within(&views.present)
+        {
+            return Err(FailureKind::Race);
+        }
+        self.stored_at.join(&views.present);
+        Ok(())
+    }
+
+    /// Tests a load that doesn't synchronize, and records it.
+    fn track_unsync_load(&mut self, views: &ThreadViews) -> Result<(), FailureKind>
+        ensures { MatchResult result (λ _. unsync_load_tracked self.old views.now ≡ Ok self.new) (λ kind. unsync_load_tracked self.old views.now ≡ Err kind) }
+    {
+        if self.is_mutating {
+            return Err(FailureKind::OpenAccess);
+        }
+        if !self.unsync_mut_at.is_within(&views.present)
+            || !self.stored_at.is_within(&views.present)
+        {
+            return Err(FailureKind::Race);
+        }
+        self.unsync_loaded_at.join(&views.present);
+        Ok(())
+    }
+
+    /// Tests a mutation, and records it.
+    fn track_unsync_mut(&mut self, views: &ThreadViews) -> Result<(), FailureKind>
+        ensures { MatchResult result (λ _. unsync_mut_tracked self.old views.now ≡ Ok self.new) (λ kind. unsync_mut_tracked self.old views.now ≡ Err kind) }
+    {
+        if self.is_mutating {
+            return Err(FailureKind::OpenAccess);
+        }
+        let loads_inside = self.loaded_at.is_within(&views.present)
+            && self.unsync_loaded_at.is_within(&views.present);
+        let writes_inside = self.stored_at.is_within(&views.present)
+            && self.unsync_mut_at.is_within(&views.present);
+        if !(loads_inside && writes_inside) {
+            return Err(FailureKind::Race);
+        }
+        self.unsync_mut_at.join(&views.present);
+        Ok(())
+    }
+
+    /// A load, in vectors.
+    fn load_in_vectors(
+        &mut self,
+        thread: usize,
+        views: &mut ThreadViews,
+        slot: usize,
+        order: Ordering,
+    ) -> Result<u64, FailureKind>
+        requires thread_in { thread < 5 }
+        requires slot_in { slot < 7 }
+        ensures { MatchResult result (λ value. load_now self.old thread views.old slot order ≡ Ok (record { state = self.new; views = views.new; value = value }))
+            (λ kind. load_now self.old thread views.old slot order ≡ Err kind) }
+    {
+        self.track_load(views)?;
+        let value = self.read(thread, views, slot);
+        self.stores[slot].sync.sync_load(views, order);
+        Ok(value)
+    }
+
+    /// A store, in vectors.
+    fn store_in_vectors(
+        &mut self,
+        thread: usize,
+        views: &ThreadViews,
+        value: u64,
+        order: Ordering,
+    ) -> Result<(), FailureKind>
+        requires { thread < 5 }
+        ensures { MatchResult result (λ _. store_now self.old thread views.now value order ≡ Ok (record { state = self.new; views = views.now; value = value }))
+            (λ kind. store_now self.old thread views.now value order ≡ Err kind) }
+    {
+        self.track_store(views)?;
+        self.make(thread, views, Synchronize::new(), value, order)?;
+        Ok(())
+    }
+
+    /// What a read-modify-write reads, in vectors.
+    fn update_read_in_vectors(
+        &mut self,
+        thread: usize,
+        views: &ThreadViews,
+        slot: usize,
+    ) -> Result<u64, FailureKind>
+        requires thread_in { thread < 5 }
+        requires slot_in { slot < 7 }
+        ensures { MatchResult result (λ value. update_read_now self.old thread views.now slot ≡ Ok (record { state = self.new; views = views.now; value = value }))
+            (λ kind. update_read_now self.old thread views.now slot ≡ Err kind) }
+    {
+        self.track_load(views)?;
+        Ok(self.read(thread, views, slot))
+    }
+
+    /// What a read-modify-write writes, in vectors.
+    fn update_write_in_vectors(
+        &mut self,
+        thread: usize,
+        views: &mut ThreadViews,
+        slot: usize,
+        value: u64,
+        success: Ordering,
+    ) -> Result<(), FailureKind>
+        requires thread_in { thread < 5 }
+        requires slot_in { slot < 7 }
+        ensures { MatchResult result (λ _. update_write_now self.old thread views.old slot value success ≡ Ok (record { state = self.new; views = views.new; value = value }))
+            (λ kind. update_write_now self.old thread views.old slot value success ≡ Err kind) }
+    {
+        self.track_store(views)?;
+        let sync = self.stores[slot].sync;
+        sync.sync_load(views, success);
+        self.make(thread, views, sync, value, success)?;
+        Ok(())
+    }
+
+    /// The slot of the newest store.
+    fn newest(&self) -> usize
+        ensures slot { result ≡ newest_slot self.now }
+        ensures slot_in { result < 7 }
+    {
+        (usize::from(self.count) + MAX_ATOMIC_HISTORY - 1) % MAX_ATOMIC_HISTORY
+    }
+
+    /// A load that doesn't synchronize, in vectors.
+    fn unsync_load_in_vectors(&mut self, views: &ThreadViews) -> Result<u64, FailureKind>
+        ensures { MatchResult result (λ value. unsync_load_now self.old views.now ≡ Ok (record { state = self.new; views = views.now; value = value }))
+            (λ kind. unsync_load_now self.old views.now ≡ Err kind) }
+    {
+        self.track_unsync_load(views)?;
+        Ok(self.stores[self.newest()].value)
+    }
+
+    /// A mutation opens, in vectors.
+    fn mutate_in_vectors(&mut self, views: &ThreadViews) -> Result<u64, FailureKind>
+        ensures { MatchResult result (λ value. mutate_now self.old views.now ≡ Ok (record { state = self.new; views = views.now; value = value }))
+            (λ kind. mutate_now self.old views.now ≡ Err kind) }
+    {
+        self.track_unsync_mut(views)?;
+        self.is_mutating = true;
+        Ok(self.stores[self.newest()].value)
+    }
+
+    /// A mutation closes, in vectors.
+    fn mutate_end_in_vectors(&mut self, views: &ThreadViews, value: u64) -> Result<(), FailureKind>
+        ensures { MatchResult result (λ _. mutate_end_now self.old views.now value ≡ Ok (record { state = self.new; views = views.now; value = value }))
+            (λ kind. mutate_end_now self.old views.now value ≡ Err kind) }
+    {
+        self.is_mutating = false;
+        let newest = self.newest();
+        self.stores[newest].value = value;
+        self.track_unsync_mut(views)?;
+        Ok(())
+    }
+
+    /// Loads from the store in a slot: its value, and its view where the ordering acquires. It is `OpenAccess` while a mutation
+    /// is open, and `Race` with a mutation that hasn't come to the thread (loom's `rt/atomic.rs`).
+    pub fn load(
+        &mut self,
+        thread: usize,
+        views: &mut ThreadViews,
+        slot: usize,
+        order: Ordering,
+    ) -> Result<u64, FailureKind>
+        requires thread_in { thread < 5 }
+        requires slot_in { slot < 7 }
+        ensures { (s : Scene) → ShowsScene thread s views.old self.old → slot < length s.history.stores →
+            AnswersAs thread (load_step thread s slot order) result views.new self.new }
+    {
+        self.load_in_vectors(thread, views, slot, order)
+    }
+
+    /// Stores a value. It is `OpenAccess` while a mutation is open, `Race` with a mutation or a load that doesn't synchronize
+    /// which hasn't come to the thread, and `TooManyStores` after 65,535 stores (loom's `rt/atomic.rs`; the limit is own).
+    pub fn store(
+        &mut self,
+        thread: usize,
+        views: &ThreadViews,
+        value: u64,
+        order: Ordering,
+    ) -> Result<(), FailureKind>
+        requires { thread < 5 }
+        ensures { (s : Scene) → ShowsScene thread s views.now self.old → FinishesAs thread (store_step thread s value order) result views.now self.new }
+    {
+        self.store_in_vectors(thread, views, value, order)
+    }
+
+    /// Reads for a read-modify-write from the store in a slot. It fails as a load does (loom's `rt/atomic.rs`).
+    pub fn update_read(
+        &mut self,
+        thread: usize,
+        views: &ThreadViews,
+        slot: usize,
+    ) -> Result<u64, FailureKind>
+        requires thread_in { thread < 5 }
+        requires slot_in { slot < 7 }
+        ensures { (s : Scene) → ShowsScene thread s views.now self.old → slot < length s.history.stores →
+            AnswersAs thread (update_read_step thread s slot) result views.now self.new }
+    {
+        self.update_read_in_vectors(thread, views, slot)
+    }
+
+    /// Writes for a read-modify-write that has read the store in a slot and succeeds: the new store goes on releasing what that
+    /// store released. It fails as a store does (loom's `rt/atomic.rs`).
+    pub fn update_write(
+        &mut self,
+        thread: usize,
+        views: &mut ThreadViews,
+        slot: usize,
+        value: u64,
+        success: Ordering,
+    ) -> Result<(), FailureKind>
+        requires thread_in { thread < 5 }
+        requires slot_in { slot < 7 }
+        ensures { (s : Scene) → ShowsScene thread s views.old self.old → slot < length s.history.stores →
+            FinishesAs thread (update_write_step thread s slot value success) result views.new self.new }
+    {
+        self.update_write_in_vectors(thread, views, slot, value, success)
+    }
+
+    /// Ends a read-modify-write that has read the store in a slot and fails: a load by the failure ordering (loom's
+    /// `rt/atomic.rs`).
+    pub fn update_fail(&self, views: &mut ThreadViews, slot: usize, failure: Ordering)
+        requires { slot < 7 }
+        ensures { (t : ℕ) (s : Scene) → ShowsScene t s views.old self.now → slot < length s.history.stores →
+            ShowsScene t (update_fail_step s slot failure) views.new self.now }
+    {
+        self.stores[slot].sync.sync_load(views, failure);
+    }
+
+    /// Loads the newest value without synchronizing. It is `OpenAccess` while a mutation is open, and `Race` with a store or a
+    /// mutation that hasn't come to the thread (loom's `rt/atomic.rs`).
+    pub fn unsync_load(&mut self, views: &ThreadViews) -> Result<u64, FailureKind>
+        ensures { (t : ℕ) (s : Scene) → ShowsScene t s views.now self.old → 0 < length s.history.stores →
+            AnswersAs t (unsync_load_step s) result views.now self.new }
+    {
+        self.unsync_load_in_vectors(views)
+    }
+
+    /// Opens a mutation, and gives the newest value. It is `OpenAccess` while another is open, and `Race` with any access that
+    /// hasn't come to the thread (loom's `rt/atomic.rs`).
+    pub fn with_mut(&mut self, views: &ThreadViews) -> Result<u64, FailureKind>
+        ensures { (t : ℕ) (s : Scene) → ShowsScene t s views.now self.old → 0 < length s.history.stores →
+            AnswersAs t (mutate_step s) result views.now self.new }
+    {
+        self.mutate_in_vectors(views)
+    }
+
+    /// Closes a mutation, with the value that it leaves. It is `Race` with any access that hasn't come to the thread (loom's
+    /// `rt/atomic.rs`).
+    pub fn with_mut_end(&mut self, views: &ThreadViews, value: u64) -> Result<(), FailureKind>
+        ensures { (t : ℕ) (s : Scene) → ShowsScene t s views.now self.old → 0 < length s.history.stores →
+            FinishesAs t (mutate_end_step s value) result views.now self.new }
+    {
+        self.mutate_end_in_vectors(views, value)
+    }
+
+    /// No store yet, and a mutation in this view.
+    fn blank(view: VersionVec) -> State
+        ensures blank { result ≡ state_blank view result.stores }
+        ensures ring { length result.stores ≡ 7 }
+    {
+        let store = Store {
+            value: 0,
+            order: VersionVec::new(),
+            sync: Synchronize::new(),
+            first_seen: FirstSeen::new(),
+            seq_cst: false,
+        };
+        State {
+            loaded_at: VersionVec::new(),
+            stored_at: VersionVec::new(),
+            unsync_loaded_at: VersionVec::new(),
+            unsync_mut_at: view,
+            is_mutating: false,
+            stores: [store; MAX_ATOMIC_HISTORY],
+            count: 0,
+        }
+    }
+
+    /// An atomic that a thread makes with a value, which is its first store (loom's `rt/atomic.rs`).
+    pub fn new(thread: usize, views: &ThreadViews, value: u64) -> State
+        requires { thread < 5 }
+        ensures { (g : Graph) (p : ThreadPoints) → IsChained g → IsPresent g thread p.present → ShowsThread g thread p views.now →
+            ShowsScene thread (new_step thread g p value) views.now result }
+    {
+        let mut state = State::blank(views.present);
+        state.push(thread, views, Synchronize::new(), value, Ordering::Release);
+        state
+    }
+}

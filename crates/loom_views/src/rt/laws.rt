@@ -1,0 +1,47 @@
+//! Laws of views, of the vectors that show them, and of the choice of a store. A law is the contract of a function that does
+//! nothing; it is stated in `specs/Laws`.
+ghost use Rattle.loom_views.specs.Examples.{ExampleLaw};
+ghost use Rattle.loom_views.specs.Laws.{PastLaw, ReachingLaw, CountLaw, ComparingLaw, EqualLaw, StandingLaw, ReadableLaw};
+
+/// That a chain of edges leads from one point to another can be found by one sweep from the newest point down (own).
+pub fn past_is_reaching()
+    ensures { PastLaw }
+{}
+
+/// A point that raises a version has its view inside another point's just where it reaches that point. So a view is known by
+/// its raising points (own).
+pub fn view_is_reaching()
+    ensures { ReachingLaw }
+{}
+
+/// A vector that shows a point counts, for each thread, the raising points of that thread that reach the point (own).
+pub fn versions_count_raising_points()
+    ensures { CountLaw }
+{}
+
+/// Two vectors that show points of one graph are compared as the views of these points are, where the raising points of each
+/// thread form a chain (own).
+pub fn vectors_compare_as_views()
+    ensures { ComparingLaw }
+{}
+
+/// Vectors that are equal by `==` have the same counts (own).
+pub fn equal_vectors_are_same()
+    ensures { EqualLaw }
+{}
+
+/// A vector that shows a point goes on showing it when points are added (own).
+pub fn points_stay_shown()
+    ensures { StandingLaw }
+{}
+
+/// Where an atomic has a store, a reader has a slot to choose; `readable` answers slots, or `OrdersEqual` (own).
+pub fn some_slot_is_readable()
+    ensures { ReadableLaw }
+{}
+
+/// In small histories of one atomic: a thread that stored alone may load its last value only, also once slots are used again,
+/// and beside another thread's store it may load either value (own).
+pub fn example_histories()
+    ensures { ExampleLaw }
+{}

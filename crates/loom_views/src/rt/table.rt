@@ -1,0 +1,301 @@
+//! The views of a run: of its threads, and of its objects by number.
+//!
+//! A thread or an object that isn't there is no error of these calls' own making: a move that only carries views then does
+//! nothing, and one that answers something answers `Misuse`. Source: loom's `rt/execution.rs` and `rt/object.rs`, where each
+//! thread and each object keeps its own.
+
+ghost use Rattle.std.specs.Prelude.{◌≡◌, ◌++◌, ◌∷◌, ◌<◌, [], OnErr, OnOk, slice_get};
+ghost use Rattle.loom_views.specs.declared.rt.table.Kept.TheVariants.{Meeting};
+ghost use Rattle.loom_views.specs.Versions.{zeros};
+ghost use Rattle.loom_views.specs.Table.{Points, ShowsViews, MovesAs, LoadsAs, StoresAs, OffersAs, IsSlotKept, opening, points_after_raise, points_after_acquire, points_after_release, points_after_release_fence, points_after_yield, points_with_point, points_after_spawn, points_after_join, points_with_atomic, points_after_load, points_after_store, readable_slots_of, slot_set, has_slot};
+
+use crate::rt::atomic::{Reader, State};
+use crate::rt::failure::FailureKind;
+use crate::rt::synchronize::{Synchronize, ThreadViews};
+use crate::rt::vv::MAX_VERSION;
+use crate::rt::{MAX_ATOMIC_HISTORY, MAX_THREADS};
+use crate::sequence::Sequence;
+use arrayvec::ArrayVec;
+use std::alloc::{AllocError, Global};
+use std::sync::atomic::Ordering;
+
+/// What is kept of an object (own; loom's objects keep it each for itself).
+#[derive(Clone, Copy)]
+pub enum Kept {
+    /// Threads synchronize at it.
+    Meeting(Synchronize),
+    /// An atomic.
+    Keeping(State),
+}
+
+impl Kept {
+    /// A point at which no thread has synchronized.
+    fn new_point() -> Kept
+        ensures { result ≡ Meeting zeros }
+    {
+        Kept::Meeting(Synchronize::new())
+    }
+}
+
+/// The views of the threads of a run, and what each object keeps of views, in the order made.
+#[derive(Drop)]
+pub struct Views {
+    threads: [ThreadViews; MAX_THREADS],
+    count: usize,
+    places: Sequence<Kept>,
+}
+
+impl Views {
+    /// Main alone, and no object. It takes no memory yet (loom's `rt/execution.rs`).
+    pub fn new(alloc: Global) -> Views
+        ensures { ShowsViews opening result }
+    {
+        Views {
+            threads: [ThreadViews::new(); MAX_THREADS],
+            count: 1,
+            places: Sequence::new(alloc),
+        }
+    }
+
+    /// A thread raises its version. `TooManyVersions` where it has raised 65,534 times, `Misuse` where there is no such
+    /// thread; then nothing changes (loom's `rt/vv.rs`; the limit is own).
+    pub fn raise(&mut self, thread: usize) -> Result<(), FailureKind>
+        ensures shown { (p : Points) → ShowsViews p self.old → MovesAs (points_after_raise p thread) result self.new }
+        ensures err { OnErr result (self.new ≡ self.old) }
+    {
+        if thread >= self.count || thread >= MAX_THREADS {
+            return Err(FailureKind::Misuse);
+        }
+        let mut views = self.threads[thread];
+        if !views.raise(thread) {
+            return Err(FailureKind::TooManyVersions);
+        }
+        self.threads[thread] = views;
+        Ok(())
+    }
+
+    /// A thread acquires from an object that threads synchronize at (loom's `rt/synchronize.rs`).
+    pub fn acquire(&mut self, thread: usize, place: usize)
+        ensures { (p : Points) → ShowsViews p self.old → ShowsViews (points_after_acquire p thread place) self.new }
+    {
+        if thread >= self.count || thread >= MAX_THREADS || place >= self.places.len() {
+            return;
+        }
+        let mut views = self.threads[thread];
+        if let Kept::Meeting(sync) = self.places.at(place) {
+            sync.sync_load(&mut views, Ordering::Acquire);
+            self.threads[thread] = views;
+        }
+    }
+
+    /// A thread releases to an object that threads synchronize at, by an ordering (loom's `rt/synchronize.rs`).
+    pub fn release(&mut self, thread: usize, place: usize, order: Ordering)
+        ensures { (p : Points) → ShowsViews p self.old → ShowsViews (points_after_release p thread place order) self.new }
+    {
+        if thread >= self.count || thread >= MAX_THREADS || place >= self.places.len() {
+            return;
+        }
+        let views = self.threads[thread];
+        if let Kept::Meeting(sync) = self.places.at_mut(place) {
+            sync.sync_store(&views, order);
+        }
+    }
+
+    /// A thread's release fence: its later stores release what has come to it so far (loom's `rt/atomic.rs`).
+    pub fn release_fence(&mut self, thread: usize)
+        ensures { (p : Points) → ShowsViews p self.old → ShowsViews (points_after_release_fence p thread) self.new }
+    {
+        if thread >= self.count || thread >= MAX_THREADS {
+            return;
+        }
+        let mut views = self.threads[thread];
+        views.release_fence();
+        self.threads[thread] = views;
+    }
+
+    /// A thread yields: its own version is kept as that of its last yield (loom's `rt/thread.rs`).
+    pub fn mark_yield(&mut self, thread: usize)
+        ensures { (p : Points) → ShowsViews p self.old → ShowsViews (points_after_yield p thread) self.new }
+    {
+        if thread >= self.count || thread >= MAX_THREADS {
+            return;
+        }
+        let mut views = self.threads[thread];
+        views.last_yield = Some(views.present.version(thread));
+        self.threads[thread] = views;
+    }
+
+    /// Another object.
+    fn add(&mut self, kept: Kept) -> Result<(), AllocError>
+        ensures ok { OnOk result (self.new ≡ record self.old { places = self.old.places ++ kept ∷ [] }) }
+        ensures err { OnErr result (self.new ≡ self.old) }
+    {
+        match kept {
+            Kept::Meeting(sync) => self.places.push(Kept::Meeting(sync)),
+            Kept::Keeping(state) => self.places.push(Kept::Keeping(state)),
+        }
+    }
+
+    /// Another object that threads synchronize at. An error where a growth was refused; then nothing changes (loom's
+    /// `rt/synchronize.rs`).
+    pub fn add_point(&mut self) -> Result<(), AllocError>
+        ensures shown { (p : Points) → ShowsViews p self.old → OnOk result (ShowsViews (points_with_point p) self.new) }
+        ensures err { OnErr result (self.new ≡ self.old) }
+    {
+        self.add(Kept::new_point())
+    }
+
+    /// A thread spawns the next one. Refused in this order, with nothing changed: `Misuse` where there is no such thread,
+    /// `TooManyThreads` where there are five, `TooManyVersions` where the thread has raised 65,534 times (loom's
+    /// `rt/execution.rs`; the last limit is own).
+    pub fn spawn(&mut self, parent: usize) -> Result<(), FailureKind>
+        ensures shown { (p : Points) → ShowsViews p self.old → MovesAs (points_after_spawn p parent) result self.new }
+        ensures err { OnErr result (self.new ≡ self.old) }
+    {
+        if parent >= self.count || parent >= MAX_THREADS {
+            return Err(FailureKind::Misuse);
+        }
+        let child = self.count;
+        if child >= MAX_THREADS {
+            return Err(FailureKind::TooManyThreads);
+        }
+        let mut views = self.threads[parent];
+        if views.present.version(parent) >= MAX_VERSION {
+            return Err(FailureKind::TooManyVersions);
+        }
+        match views.spawn(parent, child) {
+            Some(child_views) => {
+                self.threads[parent] = views;
+                self.threads[child] = child_views;
+                self.count = child + 1;
+                Ok(())
+            }
+            None => Err(FailureKind::TooManyVersions),
+        }
+    }
+
+    /// A thread takes in another one's present view, as at a join (loom's `rt/execution.rs`).
+    pub fn join_thread(&mut self, thread: usize, other: usize)
+        ensures { (p : Points) → ShowsViews p self.old → ShowsViews (points_after_join p thread other) self.new }
+    {
+        if thread >= self.count || thread >= MAX_THREADS {
+            return;
+        }
+        if other >= self.count || other >= MAX_THREADS {
+            return;
+        }
+        let mut views = self.threads[thread];
+        views.acquire(&self.threads[other].present);
+        self.threads[thread] = views;
+    }
+
+    /// A thread makes an atomic. An error where a growth was refused; then nothing changes (loom's `rt/atomic.rs`).
+    pub fn add_atomic(&mut self, thread: usize, value: u64) -> Result<(), AllocError>
+        ensures shown { (p : Points) → ShowsViews p self.old → OnOk result (ShowsViews (points_with_atomic p thread value) self.new) }
+        ensures err { OnErr result (self.new ≡ self.old) }
+    {
+        if thread >= self.count || thread >= MAX_THREADS {
+            return Ok(());
+        }
+        let views = self.threads[thread];
+        self.add(Kept::Keeping(State::new(thread, &views, value)))
+    }
+
+    /// The slots of an atomic that a reader may choose, once the thread has raised its version. `OrdersEqual` where two stores
+    /// have equal places in the modification order, `Misuse` where there is no such thread or atomic (loom's
+    /// `rt/atomic.rs`).
+    pub fn readable(
+        &self,
+        thread: usize,
+        place: usize,
+        reader: Reader,
+    ) -> Result<[bool; MAX_ATOMIC_HISTORY], FailureKind>
+        ensures { (p : Points) → ShowsViews p self.now → OffersAs (readable_slots_of p thread place reader) result }
+    {
+        if thread >= self.count || thread >= MAX_THREADS || place >= self.places.len() {
+            return Err(FailureKind::Misuse);
+        }
+        let views = self.threads[thread];
+        match self.places.at(place) {
+            Kept::Keeping(state) => match state.readable(thread, &views, reader) {
+                Ok(slots) => Ok(set_of(&slots)),
+                Err(kind) => Err(kind),
+            },
+            Kept::Meeting(_) => Err(FailureKind::Misuse),
+        }
+    }
+
+    /// A thread, which has raised its version, loads from the store in a slot of an atomic, and answers its value.
+    /// `OpenAccess` while a mutation is open, `Race` with one that hasn't come to the thread, `Misuse` where there is no such
+    /// thread, atomic or slot (loom's `rt/atomic.rs`).
+    pub fn load(
+        &mut self,
+        thread: usize,
+        place: usize,
+        slot: usize,
+        order: Ordering,
+    ) -> Result<u64, FailureKind>
+        ensures { (p : Points) → ShowsViews p self.old → IsSlotKept (slice_get p.places place) slot →
+            LoadsAs (points_after_load p thread place slot order) result self.new }
+    {
+        if thread >= self.count || thread >= MAX_THREADS || place >= self.places.len() {
+            return Err(FailureKind::Misuse);
+        }
+        if slot >= MAX_ATOMIC_HISTORY {
+            return Err(FailureKind::Misuse);
+        }
+        let mut views = self.threads[thread];
+        match self.places.at_mut(place) {
+            Kept::Keeping(state) => {
+                let answer = state.load(thread, &mut views, slot, order);
+                self.threads[thread] = views;
+                answer
+            }
+            Kept::Meeting(_) => Err(FailureKind::Misuse),
+        }
+    }
+
+    /// A thread, which has raised its version, stores to an atomic. `OpenAccess` while a mutation is open, `Race` with
+    /// one or with a load beside atomics that hasn't come to the thread, `TooManyStores` at the 65,536th, `Misuse` where there
+    /// is no such thread or atomic (loom's `rt/atomic.rs`).
+    pub fn store(
+        &mut self,
+        thread: usize,
+        place: usize,
+        value: u64,
+        order: Ordering,
+    ) -> Result<(), FailureKind>
+        ensures { (p : Points) → ShowsViews p self.old → StoresAs (points_after_store p thread place value order) result self.new }
+    {
+        if thread >= self.count || thread >= MAX_THREADS || place >= self.places.len() {
+            return Err(FailureKind::Misuse);
+        }
+        let views = self.threads[thread];
+        match self.places.at_mut(place) {
+            Kept::Keeping(state) => state.store(thread, &views, value, order),
+            Kept::Meeting(_) => Err(FailureKind::Misuse),
+        }
+    }
+}
+
+/// The set of the slots in a list.
+fn set_of(slots: &ArrayVec<u8, MAX_ATOMIC_HISTORY>) -> [bool; MAX_ATOMIC_HISTORY]
+    ensures { result ≡ slot_set slots.now.items }
+{
+    [
+        has_slot(slots, 0),
+        has_slot(slots, 1),
+        has_slot(slots, 2),
+        has_slot(slots, 3),
+        has_slot(slots, 4),
+        has_slot(slots, 5),
+        has_slot(slots, 6),
+    ]
+}
+
+/// Whether a list has the slot.
+fn has_slot(slots: &ArrayVec<u8, MAX_ATOMIC_HISTORY>, slot: u8) -> bool
+    ensures { result ≡ has_slot slots.now.items slot }
+{
+    slots.iter().any(|other| *other == slot)
+}
