@@ -4,3 +4,5 @@
 
 pub mod rt;
 pub mod sequence;
+#[cfg(test)]
+mod tests;

@@ -1,0 +1,119 @@
+use crate::rt::atomic::Reader;
+use crate::rt::failure::FailureKind;
+use crate::rt::num::Numeric;
+use crate::rt::table::Views;
+use crate::rt::vv::VersionVec;
+use std::process::Abort;
+use std::sync::atomic::Ordering;
+use std::test::Fail;
+
+const ANY: Reader = Reader::Load(Ordering::Relaxed);
+
+// The slots that may be read.
+const FIRST_TWO: [bool; 7] = [true, true, false, false, false, false, false];
+
+const SECOND: [bool; 7] = [false, true, false, false, false, false, false];
+
+// Main has a notifier, 0, and an atomic, 1, which begins with 5; it spawns a child, and stores 7.
+fn stored(rt: &(impl Abort + AllocGlobal)) -> Result<Views, Fail> {
+    let mut views = Views::new(rt.alloc());
+    views.add_point()?;
+    views.add_atomic(0, 5)?;
+    assert_eq!(rt; views.spawn(0), Ok(()));
+    assert_eq!(rt; views.raise(0), Ok(()));
+    assert_eq!(rt; views.store(0, 1, 7, Ordering::Relaxed), Ok(()));
+    assert_eq!(rt; views.raise(1), Ok(()));
+    Ok(views)
+}
+
+#[test]
+fn a_store_may_be_missed(rt: HostRuntime) -> Result<(), Fail> {
+    let mut views = stored(&rt)?;
+    views.release(0, 0, Ordering::Relaxed);
+    views.acquire(1, 0);
+    assert_eq!(rt; views.readable(1, 1, ANY), Ok(FIRST_TWO));
+    assert_eq!(rt; views.load(1, 1, 0, Ordering::Relaxed), Ok(5));
+    Ok(())
+}
+
+#[test]
+fn a_store_is_seen_once_it_was_released(rt: HostRuntime) -> Result<(), Fail> {
+    let mut views = stored(&rt)?;
+    views.release(0, 0, Ordering::Release);
+    views.acquire(1, 0);
+    assert_eq!(rt; views.readable(1, 1, ANY), Ok(SECOND));
+    assert_eq!(rt; views.load(1, 1, 1, Ordering::Relaxed), Ok(7));
+    Ok(())
+}
+
+#[test]
+fn a_fence_releases_what_came_before_it(rt: HostRuntime) -> Result<(), Fail> {
+    let mut views = stored(&rt)?;
+    views.release_fence(0);
+    views.release(0, 0, Ordering::Relaxed);
+    views.acquire(1, 0);
+    assert_eq!(rt; views.readable(1, 1, ANY), Ok(SECOND));
+    Ok(())
+}
+
+#[test]
+fn a_join_brings_what_the_other_did(rt: HostRuntime) -> Result<(), Fail> {
+    let mut views = stored(&rt)?;
+    views.join_thread(1, 0);
+    assert_eq!(rt; views.readable(1, 1, ANY), Ok(SECOND));
+    Ok(())
+}
+
+#[test]
+fn a_yield_leaves_what_was_read(rt: HostRuntime) -> Result<(), Fail> {
+    let mut views = stored(&rt)?;
+    assert_eq!(rt; views.load(1, 1, 0, Ordering::Relaxed), Ok(5));
+    assert_eq!(rt; views.readable(1, 1, ANY), Ok(FIRST_TWO));
+    views.mark_yield(1);
+    assert_eq!(rt; views.readable(1, 1, ANY), Ok(SECOND));
+    Ok(())
+}
+
+#[test]
+fn a_notifier_holds_no_value(rt: HostRuntime) -> Result<(), Fail> {
+    let mut views = stored(&rt)?;
+    assert_eq!(rt; views.readable(1, 0, ANY), Err(FailureKind::Misuse));
+    assert_eq!(rt;
+        views.store(1, 0, 7, Ordering::Relaxed),
+        Err(FailureKind::Misuse)
+    );
+    assert_eq!(rt; views.raise(2), Err(FailureKind::Misuse));
+    Ok(())
+}
+
+#[test]
+fn five_threads_are_the_most(rt: HostRuntime) -> Result<(), Fail> {
+    let mut views = Views::new(rt.alloc());
+    for _ in 0..4 {
+        assert_eq!(rt; views.spawn(0), Ok(()));
+    }
+    assert_eq!(rt; views.spawn(0), Err(FailureKind::TooManyThreads));
+    Ok(())
+}
+
+#[test]
+fn vectors_are_joined_and_compared(rt: HostRuntime) -> Result<(), Fail> {
+    let mut one = VersionVec::new();
+    let mut other = VersionVec::new();
+    assert!(rt; one.inc(0));
+    assert!(rt; other.inc(3));
+    assert_eq!(rt; one.partial_cmp(&other), None);
+    assert_eq!(rt; one.ahead(&other), Some(3));
+    one.join(&other);
+    assert_eq!(rt; one.versions(), [1, 0, 0, 1, 0]);
+    assert!(rt; other < one);
+    Ok(())
+}
+
+#[test]
+fn numbers_keep_their_value(rt: HostRuntime) -> Result<(), Fail> {
+    assert_eq!(rt; i8::from_u64((-3i8).into_u64()), -3i8);
+    assert_eq!(rt; u64::from_u64(u64::MAX.into_u64()), u64::MAX);
+    assert!(rt; bool::from_u64(true.into_u64()));
+    Ok(())
+}
