@@ -12,5 +12,6 @@ tested b =
     (cond (nat_lt b.max_steps 1) (Err MaxSteps)
     (Ok tt)))
 
+-- the settings that a builder begins with
 abbrev pub defaults : Builder
 defaults = record { max_threads = 5; max_branches = 1000; max_steps = 1000000 }

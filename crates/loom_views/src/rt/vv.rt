@@ -10,7 +10,7 @@ use crate::rt::MAX_THREADS;
 use std::cmp::Ordering;
 use std::marker::Model;
 
-/// The most raises of one thread that a vector counts: 65,534 (own; loom's count wraps).
+/// The most raises of one thread that a vector counts: 65,534 (own; loom's count overflows).
 pub const MAX_VERSION: u16 = 65_534;
 
 /// How often each thread has raised its version, as far as a view reaches: a count for each thread, none of them above
