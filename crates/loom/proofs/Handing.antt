@@ -11,7 +11,7 @@ use Rattle.loom_objects.specs.declared.operation.Turn.{Turn}
 use Rattle.loom_objects.specs.declared.operation.Turn.TheVariants as turn
 use Rattle.loom_objects.specs.declared.rt.run.RunState.{RunState}
 use Rattle.loom_objects.specs.Operation.{plain, started}
-use Rattle.loom_objects.specs.Shown.{Shows, world_of}
+use Rattle.loom_objects.specs.Shown.{Shows}
 use Rattle.loom_objects.specs.Tree.{Gives, ◌>>=◌, found}
 use Rattle.loom_objects.specs.World.{World}
 use Rattle.loom_engine.specs.Execution.{Comes}
@@ -105,9 +105,8 @@ module _ {D S : Type 0} (next : Meaning D S) where
         → ComesToTurn next outcome (Ok turned) bodies' run' path'
     turns bodies run run' path path' thread answer body after op todo child turned h same_op same_child event steps same z bodies' more =
         let come = event z.world z.shown in
-        let counted : z.world.steps_left ≡ run.steps_left = ap (λ (w : World D). w.steps_left) z.shown in
-        let shown : come.0 ≡ world_of run' = come.1 in
-        let counts : come.0.steps_left ≡ run'.steps_left = ap (λ (w : World D). w.steps_left) shown in
+        let counted : z.world.steps_left ≡ run.steps_left = ap (λ (w : World D). w.steps_left) z.shown.rest in
+        let counts : come.0.steps_left ≡ run'.steps_left = ap (λ (w : World D). w.steps_left) come.1.rest in
         after_turn turned bodies' run' path' come.0 z.world.steps_left come.1 (omega arith)
         (ap (λ k. drive (whole_search k) (marking None) (at_turn (play next z.world.steps_left bodies' come.0) (λ value. Gives value) turned) (trail path')) same
         ∙ ap (λ (b : List S). drive (settings_of path) (marking None) (at_turn (play next z.world.steps_left b come.0) (λ value. Gives value) turned) (trail path')) (more ∙ ap (with_child (slice_set bodies thread after)) same_child)

@@ -1,5 +1,6 @@
 pub mod Walk
 pub mod Trees
 pub mod Binding
+pub mod Executing
 pub mod Runs
 pub mod Nodes

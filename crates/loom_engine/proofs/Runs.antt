@@ -1,6 +1,7 @@
 -- Proofs of the laws of runs.
 pub mod Defaults
 pub mod Events
+pub mod Fairness
 pub mod Steps
 pub mod Bodies
 pub mod Rows

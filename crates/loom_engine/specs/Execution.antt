@@ -9,7 +9,7 @@ use Rattle.loom_objects.specs.declared.operation.Turn.TheVariants.{Reply, Start,
 use Rattle.loom_objects.specs.declared.rt.run.RunState.{RunState}
 use Rattle.loom_objects.specs.Tree.{Tree}
 use Rattle.loom_objects.specs.World.{World}
-use Rattle.loom_objects.specs.Shown.{Shows, world_of}
+use Rattle.loom_objects.specs.Shown.{Shows}
 use Rattle.loom_engine.specs.Machine.{submit}
 use Rattle.loom_engine.specs.Routes.{Route, trail, drives}
 
@@ -25,11 +25,9 @@ module _ {D : Type 0} where
   Comes tree old (Err (Failure failure)) run new = drives tree old ≡ (Err failure.kind, trail new)
   Comes tree old (Err Memory) run new = Unit {0}
 
-  -- what the code came to along the path is what the tree comes to that the rule says of the state before it
+  -- what the code came to along the path is what the tree comes to that the rule says of each state that was shown before it
   abbrev pub Along : (World D → Tree (Turn D × World D)) → RunState D → Route → Result (Turn D) Stop → RunState D → Route → Type 0
-  Along rule old path (Ok turn) new after = drives (rule (world_of old)) path ≡ (Ok (turn, world_of new), trail after)
-  Along rule old path (Err (Failure failure)) new after = drives (rule (world_of old)) path ≡ (Err failure.kind, trail after)
-  Along rule old path (Err Memory) new after = Unit {0}
+  Along rule old path result new after = (w : World D) → Shows w old → Comes (rule w) path result new after
 
   -- what every further operation is answered: after the end Misuse, after a stop the same stop
   abbrev pub over_after : Result (Turn D) Stop → Option Stop
@@ -40,7 +38,7 @@ module _ {D : Type 0} where
 
   abbrev pub SubmitsAt : Option Stop → ExecutionState D → Op D ⊤ → Route → Result (Turn D) Stop → ExecutionState D → Route → Type 0
   SubmitsAt None old op path answer new after =
-      ((w : World D) → Shows w old.run → Comes (submit op w) path answer new.run after) × (new.over ≡ over_after answer)
+      Along (submit op) old.run path answer new.run after × (new.over ≡ over_after answer)
   SubmitsAt (Some stop) old op path answer new after = (answer ≡ Err stop) × (new ≡ old) × (after ≡ path)
 
   -- One event of the machine along the path, from each of its states that the execution shows. Once the run is over it is

@@ -6,7 +6,7 @@ use Rattle.loom_objects.specs.declared.choice.Choice.TheVariants as choice
 use Rattle.loom_objects.specs.declared.choice.Choice.TheVariants.{Thread}
 use Rattle.loom_objects.specs.declared.rt.thread.Ability.{Ability}
 use Rattle.loom_objects.specs.declared.rt.thread.Ability.TheVariants.{Able, Yielding, Unable}
-use Rattle.loom_objects.specs.Question.{WhichThread, WhichStore, WhetherSpurious, Question, made_of}
+use Rattle.loom_objects.specs.Question.{WhichThread, WhetherSpurious, Question, slots, asked_store, made_of}
 use Rattle.loom_engine.specs.Walk.Path.{Status as State, Closed, Skip as Skipped, Pending as ToTry, Active as Chosen, Visited as Tried, Stored, IsAtRest, advance}
 use Rattle.loom_engine.specs.Trees.Drive.{value_status}
 use Rattle.loom_engine.specs.declared.rt.node.Status.{Status}
@@ -78,21 +78,6 @@ seen_threads first exploring statuses = record {
 -- the schedule as a walk sees it
 abbrev pub seen_schedule : Schedule → Stored
 seen_schedule n = seen_threads n.first n.exploring n.statuses
-
--- the slots from number k on that may be read
-abbrev pub slots_from : ℕ → List Bool → List ℕ
-slots_from k [] = []
-slots_from k (true ∷ readable) = k ∷ slots_from (suc k) readable
-slots_from k (false ∷ readable) = slots_from (suc k) readable
-
--- the slots that may be read, in rising order
-abbrev pub slots : List Bool → List ℕ
-slots readable = slots_from 0 readable
-
--- which of these stores is read, the lowest one by itself; a load has one at least
-abbrev pub asked_store : Bool → List ℕ → Question
-asked_store exploring [] = WhichStore exploring 0 []
-asked_store exploring (lowest ∷ others) = WhichStore exploring lowest others
 
 -- a node whose options are tried in turn: those before the choice were tried, those after it are to be tried
 abbrev pub in_turn : Question → Choice → Stored

@@ -1,7 +1,10 @@
 -- A path as its callers see it, and what it says to a run.
-use Rattle.std.specs.Prelude.{ℕ, ◌≡◌, Bool, true, false, List, [], map, take, Some, None, Result, Ok, Err}
+use Rattle.std.specs.Prelude.{ℕ, ◌≡◌, ◌≢◌, ◌+◌, Bool, true, false, List, [], map, take, Option, Some, None, slice_get, Result, Ok, Err, ⊤}
+use Rattle.std.specs.Option.{option_map}
 use Rattle.loom_views.specs.declared.rt.failure.FailureKind.{FailureKind}
+use Rattle.loom_views.specs.declared.rt.failure.FailureKind.TheVariants.{NotDeterministic}
 use Rattle.loom_objects.specs.declared.choice.Choice.{Choice}
+use Rattle.loom_objects.specs.declared.choice.Choice.TheVariants.{Load}
 use Rattle.loom_objects.specs.declared.failure.Stop.{Stop}
 use Rattle.loom_objects.specs.declared.failure.Stop.TheVariants.{Failure, Memory}
 use Rattle.loom_objects.specs.declared.rt.thread.Ability.{Ability}
@@ -13,7 +16,8 @@ use Rattle.loom_engine.specs.Walk.Path.{Stored, choices, step}
 use Rattle.loom_engine.specs.Trees.Meeting.{Settings}
 use Rattle.loom_engine.specs.Trees.Drive.{Trail, branch, drive}
 use Rattle.loom_engine.specs.Trees.Marks.{marking}
-use Rattle.loom_engine.specs.Nodes.{seen, slots, asked_store}
+use Rattle.loom_engine.specs.Nodes.{seen}
+use Rattle.loom_objects.specs.Question.{slots, asked_store}
 
 -- the largest number of nodes, the nodes, how many of them the run has passed, and the choices that new nodes take in turn
 pub record Route : Type 0 where
@@ -62,6 +66,31 @@ module _ {A : Type 0} (choice : A → Choice) where
   Says old question (Ok answer) new = branch (settings_of old) (trail old) question ≡ (Ok (choice answer), trail new)
   Says old question (Err (Failure failure)) new = (branch (settings_of old) (trail old) question ≡ (Err failure.kind, trail old)) × (new ≡ old)
   Says old question (Err Memory) new = new ≡ old
+
+-- the choice at the position, if a node stands there
+abbrev pub choice_here : Route → Option Choice
+choice_here route = option_map (λ n. n.present) (slice_get (stored route.nodes) route.position)
+
+-- the path when one node more is passed
+abbrev pub passed : Trail → Trail
+passed path = record path { position = path.position + 1 }
+
+-- The node that answers the question stands at the position, and isn't passed; or the path refuses, and stays as it was.
+abbrev pub Pushes : Route → Question → Result ⊤ Stop → Route → Type 0
+Pushes old question (Ok done) new =
+    (choice : Choice) × (choice_here new ≡ Some choice) × (branch (settings_of old) (trail old) question ≡ (Ok choice, passed (trail new)))
+Pushes old question (Err (Failure failure)) new = (branch (settings_of old) (trail old) question ≡ (Err failure.kind, trail old)) × (new ≡ old)
+Pushes old question (Err Memory) new = new ≡ old
+
+-- a load stands at the position, and its choice is one of the slots that may be read
+abbrev pub IsAtLoad : List Bool → Route → Type 0
+IsAtLoad readable route = (slot : ℕ) × (choice_here route ≡ Some (Load slot)) × (slice_get readable slot ≡ Some true)
+
+-- the load at the position is passed, and this slot is its choice; or no load stands there, and the path stays as it was
+abbrev pub PassesLoad : Route → Result ℕ Stop → Route → Type 0
+PassesLoad old (Ok slot) new = (choice_here old ≡ Some (Load slot)) × (new ≡ record old { position = old.position + 1 })
+PassesLoad old (Err stop) new =
+    ((slot : ℕ) → choice_here old ≢ Some (Load slot)) × (stop ≡ Failure (record { kind = NotDeterministic; location = None })) × (new ≡ old)
 
 -- the deepest node that can go on does, and what follows it is dropped; or no node can
 abbrev pub Steps : List Node → Bool → List Node → Type 0

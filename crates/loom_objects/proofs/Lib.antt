@@ -1,1 +1,5 @@
 pub mod Lists
+pub mod Showing
+pub mod Moving
+pub mod Telling
+pub mod Resuming

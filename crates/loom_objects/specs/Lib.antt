@@ -5,6 +5,7 @@ pub mod Operation
 pub mod World
 pub mod Moves
 pub mod Locks
+pub mod Atomics
 pub mod Threads
 pub mod Steps
 pub mod Shown

@@ -13,7 +13,7 @@ use Rattle.loom_objects.specs.declared.rt.run.Entry.TheVariants.{Answered, AtBra
 use Rattle.loom_objects.specs.declared.rt.thread.Task.TheVariants as task
 use Rattle.loom_objects.specs.Tree.{Tree, Gives, ◌>>=◌, check, found}
 use Rattle.loom_objects.specs.World.{World}
-use Rattle.loom_objects.specs.Moves.{active_thread, a_mutex, free_value, with_object, with_new, is_number, wakes_pending, blocks_pending, pends}
+use Rattle.loom_objects.specs.Moves.{active_thread, a_mutex, free_value, acquires, releases, tells, with_object, with_new, is_number, wakes_pending, blocks_pending, pends}
 
 module _ {D : Type 0} where
   -- a mutex that nobody holds
@@ -27,19 +27,19 @@ module _ {D : Type 0} where
     thread ← active_thread w
     Gives (AtBranch, pends thread (task.Lock n) (is_some mutex.holder) w)
 
-  -- the active thread holds the mutex and has its data, and who is pending on it is blocked
+  -- the active thread holds the mutex, acquires and has the data, and who is pending on it is blocked
   abbrev pub lock : ℕ → World D → Tree (Reply D × World D)
   lock n w = do
     mutex ← a_mutex n w
     value ← found (free_value mutex) Misuse
-    Gives (reply.Locked n value, blocks_pending n (with_object n (object.Mutex (record { holder = Some w.active; value = None })) w))
+    Gives (reply.Locked n value, blocks_pending n (acquires n (with_object n (object.Mutex (record { holder = Some w.active; value = None })) w)))
 
-  -- only its holder gives it back, with its data, and who is pending on it is woken
+  -- only its holder gives it back, with its data, and releases; who is pending on it is woken
   abbrev pub release : ℕ → D → World D → Tree (Entry D × World D)
   release n value w = do
     mutex ← a_mutex n w
     _ ← check (is_number mutex.holder w.active) Misuse
-    Gives (Answered reply.Done, wakes_pending n (with_object n (object.Mutex (record { holder = None; value = Some value })) w))
+    Gives (Answered reply.Done, wakes_pending n (releases n (with_object n (object.Mutex (record { holder = None; value = Some value })) w)))
 
   abbrev pub mutex_begins : MutexOp D → World D → Tree (Entry D × World D)
   mutex_begins (New value) w = mutex_new value w
@@ -50,8 +50,12 @@ module _ {D : Type 0} where
   as_notifier (Some (object.Notify notifier)) = Some notifier
   as_notifier _ = None
 
-  -- the notifier is notified
+  -- the notifier of this number; any other number is a misuse
+  abbrev pub a_notifier : ℕ → World D → Tree Notify
+  a_notifier n w = found (as_notifier (slice_get w.objects n)) Misuse
+
+  -- the active thread releases and notifies; who waits takes in its view, and is woken
   abbrev pub notify : ℕ → World D → Tree (World D)
   notify n w = do
-    _ ← found (as_notifier (slice_get w.objects n)) Misuse
-    Gives (with_object n (object.Notify (record { notified = true })) w)
+    notifier ← a_notifier n w
+    Gives (wakes_pending n (tells notifier.waiter (releases n (with_object n (object.Notify (record notifier { notified = true })) w))))

@@ -1,6 +1,9 @@
 -- Threads and objects by number, and how threads wait for objects.
-use Rattle.std.specs.Prelude.{ℕ, ◌==◌, Bool, true, false, [], ◌∷◌, ◌++◌, map, cond, is_none, slice_get, slice_set, Option, Some, None}
+use Rattle.std.specs.Prelude.{ℕ, ◌==◌, Bool, true, false, [], ◌∷◌, ◌++◌, map, cond, is_none, slice_get, slice_set, Option, Some, None, Result, Ok, Err}
+use Rattle.std.specs.declared.sync.atomic.Ordering.TheVariants.{Release}
+use Rattle.loom_views.specs.declared.rt.failure.FailureKind.{FailureKind}
 use Rattle.loom_views.specs.declared.rt.failure.FailureKind.TheVariants.{Misuse}
+use Rattle.loom_views.specs.Table.{Points, points_after_raise, points_after_acquire, points_after_release, points_after_join, points_with_point}
 use Rattle.loom_objects.specs.declared.rt.object.Object.{Object}
 use Rattle.loom_objects.specs.declared.rt.object.Object.TheVariants as object
 use Rattle.loom_objects.specs.declared.rt.sync.Mutex.{Mutex}
@@ -9,7 +12,7 @@ use Rattle.loom_objects.specs.declared.rt.thread.State.{State}
 use Rattle.loom_objects.specs.declared.rt.thread.State.TheVariants.{Runnable, Blocked}
 use Rattle.loom_objects.specs.declared.rt.thread.Task.{Task}
 use Rattle.loom_objects.specs.declared.rt.thread.Task.TheVariants as task
-use Rattle.loom_objects.specs.Tree.{Tree, found}
+use Rattle.loom_objects.specs.Tree.{Tree, Gives, Fails, ◌>>=◌, found}
 use Rattle.loom_objects.specs.World.{World}
 
 -- the option is this number
@@ -22,7 +25,35 @@ abbrev pub blocked_if : Bool → State
 blocked_if true = Blocked
 blocked_if false = Runnable
 
+-- it comes to what a rule of views answers, or fails as that does
+abbrev pub came : {A : Type 0} → Result A FailureKind → Tree A
+came (Ok a) = Gives a
+came (Err kind) = Fails kind
+
 module _ {D : Type 0} where
+  -- the points are now these
+  abbrev pub with_points : Points → World D → World D
+  with_points points w = record w { points = points }
+
+  -- the active thread raises its version
+  abbrev pub raises : World D → Tree (World D)
+  raises w = do
+    points ← came (points_after_raise w.points w.active)
+    Gives (with_points points w)
+
+  -- it acquires what object n has
+  abbrev pub acquires : ℕ → World D → World D
+  acquires n w = with_points (points_after_acquire w.points w.active n) w
+
+  -- it releases to object n
+  abbrev pub releases : ℕ → World D → World D
+  releases n w = with_points (points_after_release w.points w.active n Release) w
+
+  -- the thread of this number, if there is one, takes in the active thread's view
+  abbrev pub tells : Option ℕ → World D → World D
+  tells None w = w
+  tells (Some t) w = with_points (points_after_join w.points t w.active) w
+
   -- the thread whose turn it is
   abbrev pub active_thread : World D → Tree (Thread D)
   active_thread w = found (slice_get w.threads w.active) Misuse
@@ -47,13 +78,16 @@ module _ {D : Type 0} where
   abbrev pub with_object : ℕ → Object D → World D → World D
   with_object n object w = record w { objects = slice_set w.objects n object }
 
-  -- a new object, whose number is how many there were
+  -- a new object, whose number is how many there were, and at which no thread has synchronized
   abbrev pub with_new : Object D → World D → World D
-  with_new object w = record w { objects = w.objects ++ object ∷ [] }
+  with_new object w = record w { objects = w.objects ++ object ∷ []; points = points_with_point w.points }
 
   -- the object that the thread's pending operation is on
   abbrev pub target : Task D → Option ℕ
+  target (task.Load n order) = Some n
+  target (task.Store n value order) = Some n
   target (task.Lock n) = Some n
+  target (task.Join t n) = Some n
   target (task.Finish n value) = Some n
   target _ = None
 

@@ -2,37 +2,42 @@
 use Rattle.std.specs.Prelude.{Option, Some, None, ⊤}
 use Rattle.loom_objects.specs.declared.rt.location.Location.{Location}
 use Rattle.loom_objects.specs.declared.operation.Op.{Op}
-use Rattle.loom_objects.specs.declared.operation.Op.TheVariants.{Mutex, Thread, Fail}
+use Rattle.loom_objects.specs.declared.operation.Op.TheVariants.{Atomic, Mutex, Thread, Fail}
 use Rattle.loom_objects.specs.declared.operation.ThreadOp.{ThreadOp}
-use Rattle.loom_objects.specs.declared.operation.ThreadOp.TheVariants.{Spawn, Finish, Exit, End}
+use Rattle.loom_objects.specs.declared.operation.ThreadOp.TheVariants.{Spawn, Join, Finish, Exit, End}
 
 module _ {D S : Type 0} where
   -- the operation at this place
   abbrev pub placed : Location → Op D S → Op D S
+  placed location (Atomic op place) = Atomic op (Some location)
   placed location (Mutex op place) = Mutex op (Some location)
   placed location (Thread op place) = Thread op (Some location)
   placed location (Fail place) = Fail (Some location)
 
   abbrev pub plain_thread : ThreadOp D S → ThreadOp D ⊤
   plain_thread (Spawn body) = Spawn tt
+  plain_thread (Join thread notifier) = Join thread notifier
   plain_thread (Finish value) = Finish value
   plain_thread Exit = Exit
   plain_thread End = End
 
   -- the operation without what it starts
   abbrev pub plain : Op D S → Op D ⊤
+  plain (Atomic op place) = Atomic op place
   plain (Mutex op place) = Mutex op place
   plain (Thread op place) = Thread (plain_thread op) place
   plain (Fail place) = Fail place
 
   abbrev pub started_thread : ThreadOp D S → Option S
   started_thread (Spawn body) = Some body
+  started_thread (Join thread notifier) = None
   started_thread (Finish value) = None
   started_thread Exit = None
   started_thread End = None
 
   -- what a spawn starts
   abbrev pub started : Op D S → Option S
+  started (Atomic op place) = None
   started (Mutex op place) = None
   started (Thread op place) = started_thread op
   started (Fail place) = None

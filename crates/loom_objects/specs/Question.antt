@@ -18,6 +18,21 @@ pub data Question : Type 0 where
   WhichStore : Bool → ℕ → List ℕ → Question
   WhetherSpurious : Bool → Question
 
+-- the slots from number k on that are in the set
+abbrev pub slots_from : ℕ → List Bool → List ℕ
+slots_from k [] = []
+slots_from k (true ∷ readable) = k ∷ slots_from (suc k) readable
+slots_from k (false ∷ readable) = slots_from (suc k) readable
+
+-- the slots in the set, in rising order
+abbrev pub slots : List Bool → List ℕ
+slots readable = slots_from 0 readable
+
+-- which of these stores is read, the lowest one by itself; a load has one at least
+abbrev pub asked_store : Bool → List ℕ → Question
+asked_store exploring [] = WhichStore exploring 0 []
+asked_store exploring (lowest ∷ others) = WhichStore exploring lowest others
+
 -- A node as it is made: whether the run explores there, the choice that is taken by itself, the options, in the order of
 -- threads or slots, or false before true, and at a schedule what each thread offers
 pub record Made : Type 0 where

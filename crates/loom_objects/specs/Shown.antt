@@ -1,18 +1,32 @@
 -- Which state of the machine the code's state shows, and when the code does what a rule says.
-use Rattle.std.specs.Prelude.{◌≡◌, ◌<◌, ◌≤◌, length, Result, Ok, Err}
+use Rattle.std.specs.Prelude.{ℕ, ◌≡◌, ◌<◌, ◌≤◌, true, length, slice_get, Some, Result, Ok, Err}
+use Rattle.std.specs.List.{Contains}
+use Rattle.loom_views.specs.Table.{Points, ShowsViews, IsSlotKept}
+use Rattle.loom_objects.specs.declared.choice.Choice.{Choice}
 use Rattle.loom_objects.specs.declared.failure.Stop.{Stop}
 use Rattle.loom_objects.specs.declared.failure.Stop.TheVariants.{Failure, Memory}
+use Rattle.loom_objects.specs.declared.operation.Reply.{Reply}
+use Rattle.loom_objects.specs.declared.operation.Turn.{Turn}
+use Rattle.loom_objects.specs.declared.operation.Turn.TheVariants as turn
+use Rattle.loom_objects.specs.declared.rt.run.Loading.{Loading}
+use Rattle.loom_objects.specs.declared.rt.run.Resumed.{Resumed}
+use Rattle.loom_objects.specs.declared.rt.run.Resumed.TheVariants as resumed
 use Rattle.loom_objects.specs.declared.rt.run.RunState.{RunState}
-use Rattle.loom_objects.specs.Tree.{Tree, Gives, Fails}
+use Rattle.loom_objects.specs.Atomics.{slot_of, reads}
+use Rattle.loom_objects.specs.Question.{asked_store, slots}
+use Rattle.loom_objects.specs.Steps.{told}
+use Rattle.loom_objects.specs.Tree.{Tree, Gives, Fails, Asks, ◌>>=◌}
 use Rattle.loom_objects.specs.World.{World}
 
 module _ {D : Type 0} where
-  abbrev pub world_of : RunState D → World D
-  world_of r = record { threads = r.threads; objects = r.objects; active = r.active; steps_left = r.steps_left; max_threads = r.max_threads }
+  -- the machine's state with these points, and with all else as the code has it
+  abbrev pub world_of : Points → RunState D → World D
+  world_of points r = record { threads = r.threads; objects = r.objects; points = points; active = r.active; steps_left = r.steps_left; max_threads = r.max_threads }
 
-  -- the code's state shows this state of the machine
-  abbrev pub Shows : World D → RunState D → Type 0
-  Shows w r = w ≡ world_of r
+  -- The code's state shows this state of the machine: what it keeps of views shows the points, and all else is the same.
+  pub record Shows (w : World D) (r : RunState D) : Type 0 where
+    pub views : ShowsViews w.points r.views
+    pub rest : w ≡ world_of w.points r
 
   -- The active thread is one of at most five, and there are no more than there may be.
   pub record IsSound (r : RunState D) : Type 0 where
@@ -20,8 +34,38 @@ module _ {D : Type 0} where
     pub few : length r.threads ≤ r.max_threads
     pub bound : r.max_threads ≤ 5
 
-  -- what the code came to, and the state after it, is what the rule says of the state before it, memory aside
+  -- The code came to what the tree gives, and then shows the state that the tree gives; or it failed as the tree does. Memory
+  -- aside.
+  abbrev pub Comes : {A : Type 0} → Tree (A × World D) → Result A Stop → RunState D → Type 0
+  Comes tree (Ok a) new = (w : World D) × Shows w new × (tree ≡ Gives (a, w))
+  Comes tree (Err (Failure failure)) new = tree ≡ Fails failure.kind
+  Comes tree (Err Memory) new = Unit {0}
+
+  -- what the code came to, and the state after it, is what the rule says of each state that was shown before it
   abbrev pub Does : {A : Type 0} → (World D → Tree (A × World D)) → RunState D → Result A Stop → RunState D → Type 0
-  Does rule old (Ok a) new = rule (world_of old) ≡ Gives (a, world_of new)
-  Does rule old (Err (Failure failure)) new = rule (world_of old) ≡ Fails failure.kind
-  Does rule old (Err Memory) new = Unit {0}
+  Does rule old result new = (w : World D) → Shows w old → Comes (rule w) result new
+
+  -- each slot of the set keeps a store
+  abbrev pub AreKept : Loading → World D → Type 0
+  AreKept load w = (slot : ℕ) → slice_get load.readable slot ≡ Some true → IsSlotKept (slice_get w.points.places load.atomic) slot
+
+  -- a load goes on by the slot that is chosen
+  abbrev pub read_by : Loading → World D → Choice → Tree (Turn D × World D)
+  read_by load w choice = (slot_of choice >>= reads load.atomic load.order w) >>= told
+
+  -- The same of a thread that was chosen: it came to a turn, or to the question which store a load reads.
+  abbrev pub Resumes : Tree (Turn D × World D) → Result (Resumed D) Stop → RunState D → Type 0
+  Resumes tree (Ok (resumed.Turn turn)) new = Comes tree (Ok turn) new
+  Resumes tree (Ok (resumed.Load load)) new =
+      (w : World D) × Shows w new × AreKept load w × (tree ≡ Asks (asked_store true (slots load.readable)) (read_by load w))
+  Resumes tree (Err stop) new = Comes {A = Turn D} tree (Err stop) new
+
+  -- the turn in which the thread is told the reply
+  abbrev pub turn_of : ℕ → Result (Reply D) Stop → Result (Resumed D) Stop
+  turn_of thread (Ok reply) = Ok (resumed.Turn (turn.Reply thread reply))
+  turn_of thread (Err stop) = Err stop
+
+  -- a load has a slot to read
+  abbrev pub HasSlot : Resumed D → Type 0
+  HasSlot (resumed.Turn turn) = Unit {0}
+  HasSlot (resumed.Load load) = Contains load.readable true

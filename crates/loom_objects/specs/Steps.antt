@@ -14,12 +14,13 @@ use Rattle.loom_objects.specs.declared.rt.thread.State.{State}
 use Rattle.loom_objects.specs.declared.rt.thread.State.TheVariants.{Runnable, Ended}
 use Rattle.loom_objects.specs.declared.rt.thread.Thread.{Thread}
 use Rattle.loom_objects.specs.declared.rt.thread.Task.{Task}
-use Rattle.loom_objects.specs.declared.rt.thread.Task.TheVariants.{Start, Body, Lock, Finish}
+use Rattle.loom_objects.specs.declared.rt.thread.Task.TheVariants.{Start, Body, Load, Store, Lock, Join, Finish}
 use Rattle.loom_objects.specs.Tree.{Tree, Gives, Fails, ◌>>=◌, check, found}
 use Rattle.loom_objects.specs.World.{World}
 use Rattle.loom_objects.specs.Moves.{with_active}
 use Rattle.loom_objects.specs.Locks.{mutex_begins, lock}
-use Rattle.loom_objects.specs.Threads.{thread_begins, child_finish}
+use Rattle.loom_objects.specs.Atomics.{atomic_begins, load, store}
+use Rattle.loom_objects.specs.Threads.{thread_begins, join, child_finish}
 
 abbrev pub is_able : Option Ability → Bool
 is_able (Some Able) = true
@@ -44,6 +45,7 @@ is_ended _ = false
 module _ {D : Type 0} where
   -- what an operation does up to its branch point, or all of it, where it has none
   abbrev pub op_begins : Op D ⊤ → World D → Tree (Entry D × World D)
+  op_begins (op.Atomic todo place) w = atomic_begins todo w
   op_begins (op.Mutex todo place) w = mutex_begins todo w
   op_begins (op.Thread todo place) w = thread_begins todo w
   op_begins (op.Fail place) w = Fails Assertion
@@ -62,7 +64,10 @@ module _ {D : Type 0} where
   abbrev pub takes_effect : Task D → World D → Tree (Turn D × World D)
   takes_effect Start w = Gives (turn.Start w.active, w)
   takes_effect Body w = Fails Misuse
+  takes_effect (Load n order) w = load n order w >>= told
+  takes_effect (Store n value order) w = store n value order w >>= told
   takes_effect (Lock n) w = lock n w >>= told
+  takes_effect (Join t n) w = join t n w >>= told
   takes_effect (Finish n value) w = child_finish n value w >>= told
 
   -- thread t is chosen

@@ -1,8 +1,9 @@
 -- What threads do at their beginning and their end.
-use Rattle.std.specs.Prelude.{ℕ, ◌++◌, ◌∷◌, [], Bool, true, false, length, nat_lt, Option, Some, None, ⊤}
+use Rattle.std.specs.Prelude.{ℕ, ◌++◌, ◌∷◌, [], Bool, true, false, not, length, is_none, nat_lt, slice_get, slice_set, Option, Some, None, ⊤}
 use Rattle.loom_views.specs.declared.rt.failure.FailureKind.TheVariants.{TooManyThreads, Misuse}
+use Rattle.loom_views.specs.Table.{points_after_spawn}
 use Rattle.loom_objects.specs.declared.operation.ThreadOp.{ThreadOp}
-use Rattle.loom_objects.specs.declared.operation.ThreadOp.TheVariants.{Spawn, Finish, Exit, End}
+use Rattle.loom_objects.specs.declared.operation.ThreadOp.TheVariants.{Spawn, Join, Finish, Exit, End}
 use Rattle.loom_objects.specs.declared.operation.Reply.{Reply}
 use Rattle.loom_objects.specs.declared.operation.Reply.TheVariants as reply
 use Rattle.loom_objects.specs.declared.rt.object.Object.TheVariants as object
@@ -13,10 +14,10 @@ use Rattle.loom_objects.specs.declared.rt.thread.Task.TheVariants as task
 use Rattle.loom_objects.specs.declared.rt.thread.State.TheVariants as state
 use Rattle.loom_objects.specs.declared.rt.thread.Phase.{Phase}
 use Rattle.loom_objects.specs.declared.rt.thread.Phase.TheVariants.{Working, Finished, Exited, Over}
-use Rattle.loom_objects.specs.Tree.{Tree, Gives, ◌>>=◌, check}
+use Rattle.loom_objects.specs.Tree.{Tree, Gives, ◌>>=◌, check, found}
 use Rattle.loom_objects.specs.World.{World, child_thread}
-use Rattle.loom_objects.specs.Moves.{active_thread, with_active, with_new, pends}
-use Rattle.loom_objects.specs.Locks.{notify}
+use Rattle.loom_objects.specs.Moves.{active_thread, with_active, came, with_points, acquires, is_number, with_object, with_new, pends}
+use Rattle.loom_objects.specs.Locks.{a_notifier, notify}
 
 abbrev pub is_working : Phase → Bool
 is_working Working = true
@@ -31,13 +32,39 @@ is_exited Exited = true
 is_exited _ = false
 
 module _ {D : Type 0} where
-  -- a thread more, with a notifier of its own; threads that have ended count
+  -- a thread more, with its parent's view and a notifier of its own; threads that have ended count
   abbrev pub spawn : World D → Tree (Entry D × World D)
   spawn w = do
     _ ← check (nat_lt (length w.threads) w.max_threads) TooManyThreads
+    points ← came (points_after_spawn w.points w.active)
     let child = child_thread (length w.objects)
-    let notifier = object.Notify (record { notified = false })
-    Gives (Answered (reply.Spawned (length w.threads) (length w.objects)), with_new notifier (record w { threads = w.threads ++ child ∷ [] }))
+    let notifier = object.Notify (record { notified = false; waiter = None })
+    Gives (Answered (reply.Spawned (length w.threads) (length w.objects)), with_new notifier (with_points points (record w { threads = w.threads ++ child ∷ [] })))
+
+  -- the notifier is the thread's own
+  abbrev pub has_own : Option (Thread D) → ℕ → Bool
+  has_own None n = false
+  has_own (Some thread) n = is_number thread.notifier n
+
+  -- A thread is joined once, by the notifier that is its own. The active thread comes to a branch point, and is blocked there
+  -- until it is notified
+  abbrev pub join_begins : ℕ → ℕ → World D → Tree (Entry D × World D)
+  join_begins t n w = do
+    _ ← check (has_own (slice_get w.threads t) n) Misuse
+    notifier ← a_notifier n w
+    _ ← check (is_none notifier.waiter) Misuse
+    thread ← active_thread w
+    Gives (AtBranch, pends thread (task.Join t n) (not notifier.notified) (with_object n (object.Notify (record notifier { waiter = Some w.active })) w))
+
+  -- the active thread acquires, and has the joined thread's result
+  abbrev pub join : ℕ → ℕ → World D → Tree (Reply D × World D)
+  join t n w = do
+    notifier ← a_notifier n w
+    _ ← check notifier.notified Misuse
+    joined ← found (slice_get w.threads t) Misuse
+    value ← found joined.result Misuse
+    let taken = record w { threads = slice_set w.threads t (record joined { result = None }) }
+    Gives (reply.Data value, acquires n (with_object n (object.Notify (record notifier { notified = false })) taken))
 
   -- main has its result at once; another thread comes to a branch point, at which it is to notify
   abbrev pub finish_as : Option ℕ → Thread D → D → World D → Tree (Entry D × World D)
@@ -72,6 +99,7 @@ module _ {D : Type 0} where
 
   abbrev pub thread_begins : ThreadOp D ⊤ → World D → Tree (Entry D × World D)
   thread_begins (Spawn body) w = spawn w
+  thread_begins (Join t n) w = join_begins t n w
   thread_begins (Finish value) w = finish value w
   thread_begins Exit w = exit w
   thread_begins End w = end w

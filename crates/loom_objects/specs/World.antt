@@ -1,16 +1,19 @@
 -- The state of the machine.
 use Rattle.std.specs.Prelude.{ℕ, List, [], ◌∷◌, Some, None}
+use Rattle.loom_views.specs.Table.{Points, opening as first_points}
 use Rattle.loom_objects.specs.declared.rt.object.Object.{Object}
 use Rattle.loom_objects.specs.declared.rt.thread.Thread.{Thread}
 use Rattle.loom_objects.specs.declared.rt.thread.State.TheVariants.{Runnable}
 use Rattle.loom_objects.specs.declared.rt.thread.Phase.TheVariants.{Working}
 use Rattle.loom_objects.specs.declared.rt.thread.Task.TheVariants.{Body, Start}
 
--- the threads, main first, and the objects, both in order of creation; the thread whose turn it is; how many operations
--- may still be handed over, and how many threads there may be
+-- the threads, main first, and the objects, both in order of creation; the points of views, of each thread and of each
+-- object by its number; the thread whose turn it is; how many operations may still be handed over, and how many threads there
+-- may be
 pub record World (D : Type 0) : Type 0 where
   pub threads : List (Thread D)
   pub objects : List (Object D)
+  pub points : Points
   pub active : ℕ
   pub steps_left : ℕ
   pub max_threads : ℕ
@@ -26,4 +29,4 @@ module _ {D : Type 0} where
 
   -- main is about to hand over its first operation
   abbrev pub opening : ℕ → ℕ → World D
-  opening max_threads max_steps = record { threads = main_thread ∷ []; objects = []; active = 0; steps_left = max_steps; max_threads = max_threads }
+  opening max_threads max_steps = record { threads = main_thread ∷ []; objects = []; points = first_points; active = 0; steps_left = max_steps; max_threads = max_threads }

@@ -8,7 +8,9 @@ use std::fmt;
 /// Why a run failed, and where, if its operation named a place.
 #[derive(Clone, Copy, Debug)]
 pub struct Failure {
+    /// Why it failed.
     pub kind: FailureKind,
+    /// Where, if its operation named a place.
     pub location: Option<Location>,
 }
 

@@ -1,4 +1,5 @@
 //! The state of a run.
+mod atomics;
 pub mod location;
 mod locks;
 pub mod object;

@@ -2,17 +2,21 @@
 ghost use Rattle.std.specs.Prelude.{◌≡◌, None};
 ghost use Rattle.loom_ops.specs.Handles.{mutex_handle, guard_handle};
 
+pub mod atomic;
+
 use loom_objects::operation::{MutexOp, Op, Reply};
 
-/// A mutex of the run (loom's `sync/mutex.rs`). Its number is its place in the order in which objects were made.
+/// A mutex of the run (loom's `sync/mutex.rs`).
 #[derive(Clone, Copy, Debug)]
 pub struct Mutex {
+    /// Its place in the order in which objects were made.
     pub number: usize,
 }
 
 /// A mutex that this thread holds (loom's `sync/mutex.rs`).
 #[derive(Clone, Copy, Debug)]
 pub struct MutexGuard {
+    /// The mutex's number.
     pub number: usize,
 }
 

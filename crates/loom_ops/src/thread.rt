@@ -7,7 +7,9 @@ use loom_objects::operation::{Op, Reply, ThreadOp};
 /// A thread that was spawned, and the notifier that it notifies when it finishes (loom's `thread.rs`).
 #[derive(Clone, Copy, Debug)]
 pub struct JoinHandle {
+    /// The thread's place in the order in which threads were made; main is 0.
     pub thread: u8,
+    /// The notifier's number.
     pub notifier: usize,
 }
 
@@ -23,6 +25,13 @@ impl JoinHandle {
             }),
             _ => None,
         }
+    }
+
+    /// Waits for the thread to finish, and takes its result. A second join is a misuse (loom's `thread.rs`).
+    pub fn join<D, S>(self) -> Op<D, S>
+        ensures { result ≡ Op.Thread (ThreadOp.Join self.thread self.notifier) None }
+    {
+        Op::Thread(ThreadOp::Join(self.thread, self.notifier), None)
     }
 }
 

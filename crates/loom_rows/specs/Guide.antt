@@ -6,8 +6,8 @@ use Rattle.loom_objects.specs.declared.operation.MutexOp.TheVariants.{New, Lock,
 use Rattle.loom_objects.specs.declared.operation.ThreadOp.TheVariants.{Spawn, Finish, Exit, End}
 use Rattle.loom_objects.specs.declared.operation.Reply.{Reply}
 use Rattle.loom_objects.specs.declared.operation.Reply.TheVariants.{Start, Mutex, Locked}
-use Rattle.loom_rows.specs.declared.number.Number.{Number}
-use Rattle.loom_rows.specs.Number.{number}
+use Rattle.loom_scripts.specs.declared.number.Number.{Number}
+use Rattle.loom_scripts.specs.Number.{number}
 use Rattle.loom_rows.specs.declared.guide.Awaits.{Awaits}
 use Rattle.loom_rows.specs.declared.guide.Awaits.TheVariants.{Main, TheMutex, Counting, TheLock, Released, Finished, Exited, Nothing}
 use Rattle.loom_rows.specs.declared.guide.Counter.{Counter}

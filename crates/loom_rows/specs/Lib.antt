@@ -1,4 +1,2 @@
-pub mod Number
-pub mod Script
 pub mod Guide
 pub mod Line

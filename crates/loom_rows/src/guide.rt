@@ -2,9 +2,9 @@
 ghost use Rattle.std.specs.Prelude.{◌≡◌, IfOk};
 ghost use Rattle.loom_rows.specs.Guide.{next_of, turn, counts, begun};
 
-use crate::number::Number;
 use loom::sync::{Mutex, MutexGuard};
 use loom::{Body, Op, Reply, fail, thread};
+use loom_scripts::number::Number;
 use std::alloc::AllocError;
 
 /// What a thread is about to be told.
@@ -20,7 +20,9 @@ pub enum Awaits {
     TheLock,
     /// That it no longer holds the mutex, in which it left this count.
     Released(u64),
+    /// That it finished.
     Finished,
+    /// That it exited.
     Exited,
     /// Nothing: it has ended.
     Nothing,
@@ -29,7 +31,9 @@ pub enum Awaits {
 /// A thread that counts itself. It asserts that fewer than `fewer_than` were counted before it.
 #[derive(Clone, Copy, Debug)]
 pub struct Counter {
+    /// Before the thread fewer than this many were counted.
     pub fewer_than: u64,
+    /// What it is about to be told.
     pub awaits: Awaits,
 }
 

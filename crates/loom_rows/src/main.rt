@@ -1,11 +1,10 @@
 //! Prints what a check of a named row finds.
 #![tactic(auto)]
 
+mod bodies;
 mod guide;
 mod line;
-mod number;
 mod rows;
-mod script;
 #[cfg(test)]
 mod tests;
 

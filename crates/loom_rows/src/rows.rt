@@ -1,51 +1,22 @@
 //! The rows: bodies with names, and how each is checked.
 ghost use Rattle.std.specs.Prelude.{◌≡◌, ◌⊎◌, IfOk};
 ghost use Rattle.loom_rows.specs.Line.{Printed, PrintedOf};
-ghost use Rattle.loom_rows.specs.Script.{started};
+ghost use Rattle.loom_scripts.specs.Script.{started};
 
+use crate::bodies;
 use crate::line::{self, ShownReport};
-use crate::script::{Script, Step};
 use loom::model::{Builder, Report};
+use loom_scripts::script::{Script, Step};
 use std::io::{self, Write};
 
 /// A script, and how it is checked.
 #[derive(Clone, Copy)]
 pub struct Row {
+    /// Main.
     pub script: Script,
+    /// How it is checked.
     pub builder: Builder,
 }
-
-/// Main finishes, exits and ends.
-pub static FINISH_ONLY: [Step; 3] = [Step::Finish(7), Step::Exit, Step::End];
-
-/// Main spawns a thread, which does nothing but end.
-pub static SPAWN_ONLY: [Step; 7] = [
-    Step::Spawn(4),
-    Step::Finish(7),
-    Step::Exit,
-    Step::End,
-    Step::Finish(3),
-    Step::Exit,
-    Step::End,
-];
-
-/// Main locks a mutex beside a thread that does nothing but end.
-pub static LOCK_BESIDE: [Step; 10] = [
-    Step::NewMutex(0),
-    Step::Spawn(7),
-    Step::Lock(0),
-    Step::Release(0),
-    Step::Finish(7),
-    Step::Exit,
-    Step::End,
-    Step::Finish(3),
-    Step::Exit,
-    Step::End,
-];
-
-static MUTEX_FOREVER: [Step; 2] = [Step::NewMutex(0), Step::Jump(0)];
-
-static FAIL_AT_ONCE: [Step; 1] = [Step::Fail];
 
 impl Row {
     /// The script, checked with the defaults.
@@ -62,15 +33,23 @@ impl Row {
 /// The row of this name.
 pub fn row_of(name: &str) -> Option<Row> {
     match name {
-        "finish_only" => Some(Row::new(&FINISH_ONLY)),
-        "spawn_only" => Some(Row::new(&SPAWN_ONLY)),
-        "lock_beside" => Some(Row::new(&LOCK_BESIDE)),
+        "finish_only" => Some(Row::new(&bodies::FINISH_ONLY)),
+        "spawn_only" => Some(Row::new(&bodies::SPAWN_ONLY)),
+        "lock_beside" => Some(Row::new(&bodies::LOCK_BESIDE)),
         "mutex_forever" => {
-            let mut row = Row::new(&MUTEX_FOREVER);
+            let mut row = Row::new(&bodies::MUTEX_FOREVER);
             row.builder.max_steps = 10;
             Some(row)
         }
-        "fail_at_once" => Some(Row::new(&FAIL_AT_ONCE)),
+        "fail_at_once" => Some(Row::new(&bodies::FAIL_AT_ONCE)),
+        "two_mutexes_deadlock" => Some(Row::new(&bodies::TWO_MUTEXES_DEADLOCK)),
+        "load_beside" => Some(Row::new(&bodies::LOAD_BESIDE)),
+        "store_seven" => Some(Row::new(&bodies::STORE_SEVEN)),
+        "store_buffering" => Some(Row::new(&bodies::STORE_BUFFERING)),
+        "load_buffering" => Some(Row::new(&bodies::LOAD_BUFFERING)),
+        "check_ordering_valid" => Some(Row::new(&bodies::CHECK_ORDERING_VALID)),
+        "check_ordering_invalid_1" => Some(Row::new(&bodies::CHECK_ORDERING_INVALID_1)),
+        "checks_fail" => Some(Row::new(&bodies::CHECKS_FAIL)),
         _ => None,
     }
 }

@@ -1,13 +1,15 @@
+mod handles;
 mod lists;
+mod litmus;
 mod printed;
 mod replays;
 mod slow;
 
-use crate::number::Number;
-use crate::script::Step;
 use loom::model::{Builder, Report};
 use loom::visitor::Visitor;
 use loom::{Body, Choice};
+use loom_scripts::number::Number;
+use loom_scripts::script::{Step, Value};
 use std::alloc::{AllocError, Global};
 use std::test::Fail;
 
@@ -20,63 +22,57 @@ const ONE: Choice = Choice::Thread(Some(1));
 const TWO: Choice = Choice::Thread(Some(2));
 
 static FIVE_SPAWNS: [Step; 5] = [
-    Step::Spawn(5),
-    Step::Spawn(5),
-    Step::Spawn(5),
-    Step::Spawn(5),
-    Step::Spawn(5),
+    Step::Spawn(0, 5),
+    Step::Spawn(0, 5),
+    Step::Spawn(0, 5),
+    Step::Spawn(0, 5),
+    Step::Spawn(0, 5),
 ];
 
-// Main makes two mutexes. One thread locks the first and then the second, the other the second and then the first.
-static CROSSWISE: [Step; 21] = [
-    Step::NewMutex(0),
-    Step::NewMutex(1),
-    Step::Spawn(7),
-    Step::Spawn(14),
-    Step::Finish(7),
+static JOIN_TWICE: [Step; 9] = [
+    Step::Spawn(0, 6),
+    Step::Join(0, 0),
+    Step::Join(0, 0),
+    Step::Finish(Value::Plain(7)),
     Step::Exit,
     Step::End,
-    Step::Lock(0),
-    Step::Lock(1),
-    Step::Release(1),
-    Step::Release(0),
-    Step::Finish(1),
-    Step::Exit,
-    Step::End,
-    Step::Lock(1),
-    Step::Lock(0),
-    Step::Release(0),
-    Step::Release(1),
-    Step::Finish(2),
+    Step::Finish(Value::Plain(3)),
     Step::Exit,
     Step::End,
 ];
 
-// Keeps the choices of each run that it is given.
+// A run that a visitor was given.
+#[derive(Drop)]
+struct Run {
+    choices: Vec<Choice>,
+    value: Number,
+}
+
+// Keeps each run that it is given.
 #[derive(Drop)]
 struct Keeper {
     alloc: Global,
-    lists: Vec<Vec<Choice>>,
+    runs: Vec<Run>,
 }
 
 impl Visitor<Number> for Keeper {
     ghost takes = { λ old choices value new. Unit {0} };
 
-    fn run(&mut self, choices: &[Choice], _value: Number) -> Result<(), AllocError> {
-        let list = choices.to_vec(self.alloc)?;
-        self.lists.push(list)?;
+    fn run(&mut self, choices: &[Choice], value: Number) -> Result<(), AllocError> {
+        let choices = choices.to_vec(self.alloc)?;
+        self.runs.push(Run { choices, value })?;
         Ok(())
     }
 }
 
-// The choices of each run of a check that completes, in the order in which they came.
-fn lists_of<B: Body<Data = Number>>(alloc: Global, body: &B) -> Result<Vec<Vec<Choice>>, Fail> {
+// The runs of a check that completes, in the order in which they came.
+fn runs_of<B: Body<Data = Number>>(alloc: Global, body: &B) -> Result<Vec<Run>, Fail> {
     let mut keeper = Keeper {
         alloc,
-        lists: Vec::new(alloc),
+        runs: Vec::new(alloc),
     };
     match Builder::new().check_with(alloc, body, &mut keeper)? {
-        Report::Complete { .. } => Ok(keeper.lists),
+        Report::Complete { .. } => Ok(keeper.runs),
         _ => Err(Fail::from("the check is not complete")),
     }
 }

@@ -13,4 +13,5 @@ pub mod Rows
 pub mod ThreadMoves
 pub mod SomeReadable
 pub mod Growth
+pub mod Fences
 pub mod Table

@@ -1,5 +1,5 @@
 -- Which store stands in which slot.
-use Rattle.std.proofs.Common.{suc, ◌≡◌, ℕ, ◌%◌, ◌<◌, ◌≢◌, List, [], ◌∷◌, ◌++◌, length, ◌∙◌, arith, set, length-append}
+use Rattle.std.proofs.Common.{suc, ◌≡◌, ℕ, ◌+◌, ◌%◌, ◌<◌, ◌≤◌, ◌≢◌, List, [], ◌∷◌, ◌++◌, length, ◌∙◌, arith, set, length-append}
 use Rattle.std.proofs.lemmas.List.{get_or-set_same, get_or-set_other, get_or_append_left, length-set}
 use Rattle.std.proofs.Math.Seq.{get_or-append_seam}
 use Rattle.loom_views.specs.Slots.{number_in_slot}
@@ -8,6 +8,11 @@ use Rattle.loom_views.specs.Atomic.{StorePoints, in_slot, blank}
 pub number-bound : (n slot : ℕ) → slot < n → number_in_slot n slot < n
 unfolding number_in_slot
 number-bound n slot h = omega arith
+
+-- it is one of the last seven
+pub number-late : (n slot : ℕ) → slot < n → n ≤ number_in_slot n slot + 7
+unfolding number_in_slot
+number-late n slot h = omega arith
 
 pub number-apart : (n i j : ℕ) → i < 7 → j < 7 → i ≢ j → number_in_slot n i ≢ number_in_slot n j
 unfolding number_in_slot

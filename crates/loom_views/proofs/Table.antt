@@ -3,4 +3,8 @@ pub mod Carried
 pub mod Moves
 pub mod Spawned
 pub mod Accesses
+pub mod Updates
+pub mod Fences
+pub mod Meeting
 pub mod Rows
+pub mod Offered

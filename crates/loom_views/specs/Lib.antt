@@ -8,9 +8,11 @@ pub mod Threads
 pub mod Slots
 pub mod Atomic
 pub mod Ring
+pub mod Fences
 pub mod Untouched
 pub mod Shown
 pub mod Table
 pub mod Numbers
+pub mod Changes
 pub mod Laws
 pub mod Examples

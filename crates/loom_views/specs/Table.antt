@@ -1,7 +1,8 @@
 -- The points of a whole run: of its threads, and of the objects that threads synchronize at or access.
 use Rattle.std.specs.Prelude.{ℕ, ◌≤◌, ◌<◌, ◌≡◌, ◌==◌, nat_le, nat_lt, Bool, if◌then◌else◌, List, [], ◌∷◌, ◌++◌, length, map, slice_get, slice_set, Option, Some, None, Result, Ok, Err}
-use Rattle.std.specs.List.{list_any}
+use Rattle.std.specs.List.{list_any, flat_map}
 use Rattle.std.specs.declared.sync.atomic.Ordering.{Ordering}
+use Rattle.std.specs.declared.sync.atomic.Ordering.TheVariants.{Relaxed, Release, Acquire, AcqRel, SeqCst}
 use Rattle.loom_views.specs.declared.rt.atomic.Reader.{Reader}
 use Rattle.loom_views.specs.declared.rt.synchronize.ThreadViews.{ThreadViews}
 use Rattle.loom_views.specs.declared.rt.failure.FailureKind.{FailureKind}
@@ -10,8 +11,9 @@ use Rattle.loom_views.specs.declared.rt.table.Kept.{Kept}
 use Rattle.loom_views.specs.declared.rt.table.Kept.TheVariants.{Meeting, Keeping}
 use Rattle.loom_views.specs.declared.rt.table.Views.{Views}
 use Rattle.loom_views.specs.Graph.{Graph, moved, raised, Shows, IsChained, IsPresent}
-use Rattle.loom_views.specs.Threads.{ThreadPoints, ShowsThread, with_present, graph_after_raise, graph_after_acquire, graph_after_release_fence, graph_after_store, graph_after_spawn, child_points, parent_points}
-use Rattle.loom_views.specs.Atomic.{History, Scene, Answer, readable, fails_by_orders, load_step, store_step, new_step}
+use Rattle.loom_views.specs.Threads.{ThreadPoints, ShowsThread, with_present, graph_after_raise, graph_after_acquire, graph_after_release, graph_after_release_fence, graph_after_store, graph_after_spawn, child_points, parent_points}
+use Rattle.loom_views.specs.Atomic.{History, StorePoints, Scene, Answer, readable, fails_by_orders, load_step, store_step, update_read_step, update_write_step, update_fail_step, unsync_load_step, mutate_step, mutate_end_step, new_step}
+use Rattle.loom_views.specs.Fences.{after_stores, kept_stores}
 use Rattle.loom_views.specs.Shown.{ShowsState}
 
 -- what an object has: the number of the point at which threads synchronize, or the history of an atomic
@@ -19,15 +21,16 @@ pub data Place : Type 0 where
   Meets : ℕ → Place
   Keeps : History → Place
 
--- the points of a run: its graph, those of each thread, and those of each object in the order made
+-- the points of a run: its graph, those of each thread, those of each object in the order made, and the global point
 pub record Points : Type 0 where
   pub graph : Graph
   pub threads : List ThreadPoints
   pub places : List Place
+  pub global : ℕ
 
--- main alone, with a present point and a released point that come after nothing
+-- main alone, with a present point and a released point that come after nothing, as the global point does
 abbrev pub opening : Points
-opening = record { graph = moved (moved [] []) []; threads = child_points [] ∷ []; places = [] }
+opening = record { graph = moved (moved (moved [] []) []) []; threads = child_points [] ∷ []; places = []; global = 2 }
 
 -- the graph and the points of thread t after a step of it
 abbrev pub with_thread : Points → ℕ → Graph → ThreadPoints → Points
@@ -116,7 +119,7 @@ scene_of p own history = record { graph = p.graph; thread = own; history = histo
 
 -- the points of the run where thread t and the atomic n have come to a scene
 abbrev pub points_of : Points → ℕ → ℕ → Scene → Points
-points_of p t n s = record { graph = s.graph; threads = slice_set p.threads t s.thread; places = slice_set p.places n (Keeps s.history) }
+points_of p t n s = record p { graph = s.graph; threads = slice_set p.threads t s.thread; places = slice_set p.places n (Keeps s.history) }
 
 -- points, and the value that an access answers
 pub record Accessed : Type 0 where
@@ -153,6 +156,67 @@ points_after_load p t n slot order = access p t n (λ s. load_step t s slot orde
 abbrev pub points_after_store : Points → ℕ → ℕ → ℕ → Ordering → Result Accessed FailureKind
 points_after_store p t n value order = access p t n (λ s. store_step t s value order)
 
+-- thread t, which has raised its version, reads for a read-modify-write from a slot of atomic n
+abbrev pub points_after_update_read : Points → ℕ → ℕ → ℕ → Result Accessed FailureKind
+points_after_update_read p t n slot = access p t n (λ s. update_read_step t s slot)
+
+-- thread t, which has read a slot of atomic n, writes for a read-modify-write that succeeds
+abbrev pub points_after_update_write : Points → ℕ → ℕ → ℕ → ℕ → Ordering → Result Accessed FailureKind
+points_after_update_write p t n slot value success = access p t n (λ s. update_write_step t s slot value success)
+
+-- thread t, which has read a slot of atomic n, ends a read-modify-write that fails. Nothing happens where there is no such thread or atomic
+abbrev pub update_fail_by : Points → ℕ → ℕ → Ordering → Option ThreadPoints → Option Place → Points
+update_fail_by p t slot failure None place = p
+update_fail_by p t slot failure (Some own) None = p
+update_fail_by p t slot failure (Some own) (Some (Meets k)) = p
+update_fail_by p t slot failure (Some own) (Some (Keeps history)) = let failed = update_fail_step (scene_of p own history) slot failure in with_thread p t failed.graph failed.thread
+
+abbrev pub points_after_update_fail : Points → ℕ → ℕ → ℕ → Ordering → Points
+points_after_update_fail p t n slot failure = update_fail_by p t slot failure (slice_get p.threads t) (slice_get p.places n)
+
+-- thread t loads from atomic n without synchronizing, begins a mutation of it, or ends one with a value
+abbrev pub points_after_unsync_load : Points → ℕ → ℕ → Result Accessed FailureKind
+points_after_unsync_load p t n = access p t n unsync_load_step
+
+abbrev pub points_after_with_mut : Points → ℕ → ℕ → Result Accessed FailureKind
+points_after_with_mut p t n = access p t n mutate_step
+
+abbrev pub points_after_with_mut_end : Points → ℕ → ℕ → ℕ → Result Accessed FailureKind
+points_after_with_mut_end p t n value = access p t n (λ s. mutate_end_step s value)
+
+-- the kept stores of an object, the oldest first: only an atomic has any
+abbrev pub stores_at : Place → List StorePoints
+stores_at (Meets k) = []
+stores_at (Keeps history) = kept_stores history.stores
+
+-- thread t's acquire fence: from each store that it sees by then, through all atomics in the order made and the kept stores of each from the oldest
+abbrev pub acquire_fence_by : Points → ℕ → Option ThreadPoints → Points
+acquire_fence_by p t None = p
+acquire_fence_by p t (Some own) = let fenced = after_stores (record { graph = p.graph; thread = own }) (flat_map stores_at p.places) in with_thread p t fenced.graph fenced.thread
+
+abbrev pub points_after_acquire_fence : Points → ℕ → Points
+points_after_acquire_fence p t = acquire_fence_by p t (slice_get p.threads t)
+
+-- the global point comes after a present point too
+abbrev pub with_global : Points → ThreadPoints → Points
+with_global p own = record p { graph = graph_after_release p.graph own p.global; global = length p.graph }
+
+-- thread t's present point comes after the global point, and then the global point after the present one
+abbrev pub meet_by : Points → ℕ → Option ThreadPoints → Points
+meet_by p t None = p
+meet_by p t (Some own) = with_global (with_thread p t (graph_after_acquire p.graph own p.global) (with_present p.graph own)) (with_present p.graph own)
+
+abbrev pub points_after_meet_global : Points → ℕ → Points
+points_after_meet_global p t = meet_by p t (slice_get p.threads t)
+
+-- thread t's fence by an ordering, once it has raised its version. A relaxed one does nothing
+abbrev pub points_after_fence : Points → ℕ → Ordering → Points
+points_after_fence p t Relaxed = p
+points_after_fence p t Acquire = points_after_acquire_fence p t
+points_after_fence p t Release = points_after_release_fence p t
+points_after_fence p t AcqRel = points_after_release_fence (points_after_acquire_fence p t) t
+points_after_fence p t SeqCst = points_after_meet_global (points_after_release_fence (points_after_acquire_fence p t) t) t
+
 -- the slots of atomic n that a reader of thread t may choose
 abbrev pub readable_by : Points → ℕ → Reader → Option ThreadPoints → Option Place → Result (List ℕ) FailureKind
 readable_by p t reader None place = Err Misuse
@@ -185,12 +249,12 @@ ShowsThreadAt g t (Some own) (Some views) = IsPresent g t own.present × ShowsTh
 abbrev pub ShowsThreads : Graph → List ThreadPoints → List ThreadViews → Type 0
 ShowsThreads g threads kept = (t : ℕ) → t < 5 → ShowsThreadAt g t (slice_get threads t) (slice_get kept t)
 
--- what is kept of an object shows its points
+-- what is kept of an object shows its points, and an atomic has a store
 abbrev pub ShowsPlace : Graph → Place → Kept → Type 0
 ShowsPlace g (Meets k) (Meeting view) = Shows g k view
 ShowsPlace g (Meets k) (Keeping state) = ⊥
 ShowsPlace g (Keeps history) (Meeting view) = ⊥
-ShowsPlace g (Keeps history) (Keeping state) = ShowsState g history state
+ShowsPlace g (Keeps history) (Keeping state) = ShowsState g history state × (0 < length history.stores)
 
 abbrev pub ShowsPlaceAt : Graph → Option Place → Option Kept → Type 0
 ShowsPlaceAt g None None = Unit {0}
@@ -209,6 +273,7 @@ pub record ShowsViews (p : Points) (v : Views) : Type 0 where
   pub five : length v.threads ≡ 5
   pub threads : ShowsThreads p.graph p.threads v.threads
   pub places : ShowsPlaces p.graph p.places v.places
+  pub global : Shows p.graph p.global v.global
 
 -- a move answers as its rule does, and shows the points that it leads to
 abbrev pub MovesAs : Result Points FailureKind → Result (Unit {0}) FailureKind → Views → Type 0

@@ -1,6 +1,7 @@
 -- What a path says of its nodes, as a walk sees it.
 use Rattle.std.proofs.Common.{◌≡◌, ◌≤◌, ◌<◌, ◌+◌, ℕ, zero, suc, true, false, List, [], ◌∷◌, ◌++◌, length, map, take, get_or, Option, Some, None, refl, ap, ap₂, sym, ◌∙◌, subst, arith}
 use Rattle.std.specs.Prelude.{slice_get, nat_lt, cond, Ok, Err}
+use Rattle.std.specs.Option.{option_map}
 use Rattle.loom_views.specs.declared.rt.failure.FailureKind.TheVariants.{NotDeterministic, TooManyBranches}
 use Rattle.loom_objects.specs.declared.choice.Choice.{Choice}
 use Rattle.loom_objects.specs.Question.{Question, made_of}
@@ -10,7 +11,7 @@ use Rattle.loom_engine.specs.Trees.Meeting.{every_at}
 use Rattle.loom_engine.specs.Trees.Drive.{Answer, passes_of, branch, branch_at, lengthen, new_node}
 use Rattle.loom_engine.specs.declared.rt.node.Node.{Node}
 use Rattle.loom_engine.specs.Nodes.{seen, IsWell, AreWell}
-use Rattle.loom_engine.specs.Routes.{Route, stored, trail, settings_of}
+use Rattle.loom_engine.specs.Routes.{Route, stored, trail, settings_of, choice_here, passed}
 use Rattle.loom_engine.proofs.Nodes.Making.{pick_yes, pick_no}
 
 -- the choices at the first nodes
@@ -49,6 +50,24 @@ stored_at : (nodes : List Node) (i : ℕ) (n : Node) → i < length nodes → n 
 stored_at [] i n h e = absurd (omega arith)
 stored_at (x ∷ nodes) zero n h e = ap (λ (m : Node). Some (seen m)) (sym e)
 stored_at (x ∷ nodes) (suc i) n h e = stored_at nodes i n (omega arith) e
+
+-- the choice of the node at the position
+pub choice_stored : (path : Route) (n : Node) → path.position < length path.nodes → n ≡ get_or path.nodes path.position n → choice_here path ≡ Some (seen n).present
+choice_stored path n h e = ap (option_map (λ (s : Stored). s.present)) (stored_at path.nodes path.position n h e)
+
+last_stored : (nodes : List Node) (k : ℕ) (n : Node) → k ≡ length nodes → slice_get (stored (nodes ++ n ∷ [])) k ≡ Some (seen n)
+last_stored [] zero n h = refl
+last_stored [] (suc k) n h = absurd (omega arith)
+last_stored (x ∷ nodes) zero n h = absurd (omega arith)
+last_stored (x ∷ nodes) (suc k) n h = last_stored nodes k n (omega arith)
+
+-- the position is at the end, as the path that is held says it
+pub end_of : (held path : Route) → held ≡ path → held.position ≤ length held.nodes → length held.nodes ≤ held.position → path.position ≡ length path.nodes
+end_of held path e h g = subst (λ (r : Route). r.position ≡ length r.nodes) e (omega arith)
+
+-- the choice of a node that was made at the end
+pub choice_made : (path after : Route) (n : Node) → path.position ≡ length path.nodes → after ≡ record path { nodes = path.nodes ++ n ∷ [] } → choice_here after ≡ Some (seen n).present
+choice_made path after n h is = ap choice_here is ∙ ap (option_map (λ (s : Stored). s.present)) (last_stored path.nodes path.position n h)
 
 module _ (path : Route) (question : Question) where
   abbrev pub Branches : Answer → Type 0
@@ -96,3 +115,10 @@ module _ (path : Route) (question : Question) where
         at_end (Some (seen n)) made
         ∙ ap₂ (λ (c : Choice) (l : List Stored). (Ok c, record (trail path) { nodes = l; position = path.position + 1 })) (sym present) (sym (stored_more path.nodes n))
         ∙ ap (λ (r : Route). (Ok o, trail r)) (sym is)
+
+    -- or it makes the node without passing it
+    pub pushes : (n : Node) (after : Route) → Some (seen n) ≡ new_node true (made_of question) (slice_get path.given path.position)
+        → after ≡ record path { nodes = path.nodes ++ n ∷ [] } → Branches (Ok (seen n).present, passed (trail after))
+    pushes n after made is =
+        makes n (seen n).present (record path { nodes = path.nodes ++ n ∷ []; position = path.position + 1 }) made refl refl
+        ∙ ap (λ (r : Route). (Ok (seen n).present, passed (trail r))) (sym is)

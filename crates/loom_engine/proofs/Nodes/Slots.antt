@@ -11,7 +11,8 @@ use Rattle.loom_objects.specs.Question.{Made, Among, made_of}
 use Rattle.loom_engine.specs.Walk.Path.{fresh, advance}
 use Rattle.loom_engine.specs.Trees.Meeting.{every_at}
 use Rattle.loom_engine.specs.Trees.Drive.{passes_of, new_node}
-use Rattle.loom_engine.specs.Nodes.{slots_from, slots, asked_store, in_turn}
+use Rattle.loom_engine.specs.Nodes.{in_turn}
+use Rattle.loom_objects.specs.Question.{slots_from, slots, asked_store}
 use Rattle.loom_engine.specs.Routes.{Route, trail, settings_of}
 use Rattle.loom_engine.proofs.Nodes.Turns.{Distinct, get_among, turn_fresh, turn_given, not_given, turn_next, turn_last, turn_stays}
 

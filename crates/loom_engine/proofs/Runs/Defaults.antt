@@ -1,12 +1,12 @@
 -- A schedule's question is sound, and the choices that are no threads are no options.
-use Rattle.std.proofs.Common.{◌≡◌, ℕ, zero, suc, ◌+◌, Bool, true, false, List, [], ◌∷◌, Option, Some, None, refl, sym, subst, inl, inr, arith}
+use Rattle.std.proofs.Common.{◌≡◌, ◌≤◌, ℕ, zero, suc, ◌+◌, Bool, true, false, List, [], ◌∷◌, length, map, Option, Some, None, refl, sym, subst, inl, inr, arith}
 use Rattle.std.specs.Prelude.{slice_get, cond}
 use Rattle.std.specs.List.{position_from}
 use Rattle.loom_objects.specs.declared.rt.thread.Ability.{Ability}
 use Rattle.loom_objects.specs.declared.rt.thread.Ability.TheVariants.{Able, Yielding, Unable}
 use Rattle.loom_objects.specs.declared.choice.Choice.{Choice}
 use Rattle.loom_objects.specs.declared.choice.Choice.TheVariants.{Thread, Load, Spurious}
-use Rattle.loom_objects.specs.Question.{Among, made_of, IsSoundDefault, able_threads, thread_options}
+use Rattle.loom_objects.specs.Question.{Among, made_of, IsSoundDefault, able_threads, thread_options, slots_from}
 use Rattle.loom_objects.specs.Steps.{is_able, is_able_one, default_thread}
 use Rattle.loom_engine.specs.Routes.{which_thread}
 
@@ -57,3 +57,21 @@ thread_options_are (Some k) abilities choice h = able_are_threads abilities 0 ch
 
 pub options_are_threads : (active : ℕ) (abilities : List Ability) (choice : Choice) → Among choice (made_of (which_thread active abilities)).options → IsThreadChoice choice
 options_are_threads active abilities choice h = thread_options_are (default_thread active abilities) abilities choice h
+
+-- ---- loads
+
+abbrev pub IsLoadChoice : Choice → Type 0
+IsLoadChoice (Thread k) = ⊥
+IsLoadChoice (Load slot) = Unit {0}
+IsLoadChoice (Spurious answer) = ⊥
+
+pub options_are_loads : (numbers : List ℕ) (choice : Choice) → Among choice (map (λ slot. Load slot) numbers) → IsLoadChoice choice
+options_are_loads [] choice h = absurd h
+options_are_loads (slot ∷ numbers) choice (inl e) = subst IsLoadChoice (sym e) tt
+options_are_loads (slot ∷ numbers) choice (inr h) = options_are_loads numbers choice h
+
+-- no more slots than places
+pub slots_few : (readable : List Bool) (k : ℕ) → length (slots_from k readable) ≤ length readable
+slots_few [] k = omega arith
+slots_few (true ∷ readable) k = let h = slots_few readable (suc k) in omega arith
+slots_few (false ∷ readable) k = let h = slots_few readable (suc k) in omega arith

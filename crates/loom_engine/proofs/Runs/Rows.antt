@@ -1,12 +1,15 @@
 -- What the runs of small bodies come to.
 use Rattle.std.proofs.Common.{refl}
 use native.Mathlib.Decide.{ℕ_discrete}
+use Rattle.loom_views.specs.Atomic.{drops, is_below, is_seen, has_same_order, races}
+use Rattle.loom_views.specs.Graph.{raised, reaches, inside}
+use Rattle.loom_views.specs.Slots.{number_in_slot}
 use Rattle.loom_engine.specs.Runs.{play}
 use Rattle.loom_engine.specs.Walk.Choices.{same, same_thread, same_flag, among}
-use Rattle.loom_engine.specs.Rows.{RowsLaw}
+use Rattle.loom_engine.specs.Rows.{RowsLaw, SharedRowsLaw}
 
 pub rows_law : RowsLaw
-unfolding play same same_thread same_flag among ℕ_discrete
+unfolding play raised same same_thread same_flag among ℕ_discrete
 rows_law = record {
   main_first = refl;
   child_first = refl;
@@ -17,4 +20,18 @@ rows_law = record {
   few_steps = refl;
   deadlock = refl;
   in_turn = refl;
+}
+
+pub shared_rows_law : SharedRowsLaw
+unfolding play raised reaches inside drops is_below is_seen has_same_order races number_in_slot same same_thread same_flag among ℕ_discrete
+shared_rows_law = record {
+  reads_first = refl;
+  reads_first_late = refl;
+  reads_second = refl;
+  none_to_read = refl;
+  joined = refl;
+  not_yet = refl;
+  read_after = refl;
+  not_missed = refl;
+  twice = refl;
 }

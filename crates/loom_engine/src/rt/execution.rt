@@ -1,13 +1,17 @@
-ghost use Rattle.std.specs.Prelude.{◌≡◌, ◌≤◌, ◌+◌, None, IfOk, OnOk};
+ghost use Rattle.std.specs.Prelude.{◌≡◌, ◌≤◌, ◌+◌, Some, None, true, slice_get, IfOk, OnOk};
+ghost use Rattle.std.specs.List.{Contains};
+ghost use Rattle.loom_objects.specs.declared.choice.Choice.{Choice};
 ghost use Rattle.loom_objects.specs.World.{opening};
 ghost use Rattle.loom_objects.specs.Shown.{Shows, IsSound};
 ghost use Rattle.loom_engine.specs.Execution.{Along, Submits, over_after as answered_after};
+ghost use Rattle.loom_objects.specs.Steps.{resumes};
 ghost use Rattle.loom_engine.specs.Machine as machine;
+ghost use Rattle.loom_engine.specs.Routes.{Says, which_store};
 
 use crate::rt::path::Path;
 use loom_objects::failure::{Failure, Stop, fail};
 use loom_objects::operation::{Op, Turn};
-use loom_objects::rt::run::{Entry, RunState};
+use loom_objects::rt::run::{Entry, Resumed, RunState};
 use loom_views::rt::failure::FailureKind;
 use std::alloc::{AllocError, Global};
 use std::marker::Model;
@@ -115,9 +119,38 @@ fn schedule<D: Drop>(run: &mut RunState<D>, path: &mut Path) -> Result<Turn<D>, 
 {
     match path.branch_thread(run.active, &run.abilities()) {
         Err(stop) => Err(stop),
-        Ok(Some(thread)) => run.resume(thread),
+        Ok(Some(thread)) => go_on(run, path, thread),
         Ok(None) => close(run, path),
     }
+}
+
+/// The chosen thread goes on. A load asks the path which store it reads.
+fn go_on<D: Drop>(run: &mut RunState<D>, path: &mut Path, thread: u8) -> Result<Turn<D>, Stop>
+    requires { IsSound run.old }
+    ensures along { Along (resumes thread) run.old path.old result run.new path.new }
+    ensures sound { IsSound run.new }
+    ensures steps { run.new.steps_left ≡ run.old.steps_left }
+    ensures same { (path.new.max_branches ≡ path.old.max_branches) × (path.new.given ≡ path.old.given) }
+{
+    match run.resume(thread) {
+        Err(stop) => Err(stop),
+        Ok(Resumed::Turn(turn)) => Ok(turn),
+        Ok(Resumed::Load(load)) => match choose_slot(path, &load.readable) {
+            Err(stop) => Err(stop),
+            Ok(slot) => run.read(&load, slot),
+        },
+    }
+}
+
+/// The path says which of the slots that may be read is.
+fn choose_slot(path: &mut Path, readable: &[bool; 7]) -> Result<u8, Stop>
+    requires some { Contains readable.now true }
+    ensures says { Says Choice.Load path.old (which_store readable.now) result path.new }
+    ensures readable { IfOk result (λ slot. slice_get readable.now slot ≡ Some true) }
+    ensures same { (path.new.max_branches ≡ path.old.max_branches) × (path.new.given ≡ path.old.given) }
+{
+    path.push_load(readable)?;
+    path.branch_load()
 }
 
 /// No thread can go on: the run is over, if all threads have ended and the path is used up.

@@ -5,7 +5,8 @@ ghost use Rattle.loom_objects.specs.Question.{made_of};
 ghost use Rattle.loom_objects.specs.Steps.{default_thread as default_of, is_able_one};
 ghost use Rattle.loom_engine.specs.Walk.Path.{advance as advanced, choose as chosen, fresh, IsAtRest};
 ghost use Rattle.loom_engine.specs.Trees.Drive.{new_node};
-ghost use Rattle.loom_engine.specs.Nodes.{ability_of, made_status, is_active, is_pending, with_status as with_statuses, slots, seen, seen_schedule, seen_load, seen_spurious, Advances, IsWell, IsWellLoad};
+ghost use Rattle.loom_engine.specs.Nodes.{ability_of, made_status, is_active, is_pending, with_status as with_statuses, seen, seen_schedule, seen_load, seen_spurious, Advances, IsWell, IsWellLoad};
+ghost use Rattle.loom_objects.specs.Question.{slots};
 ghost use Rattle.loom_engine.specs.Routes.{which_thread, which_store, whether_spurious};
 
 use loom_objects::choice::Choice;

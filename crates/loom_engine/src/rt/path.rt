@@ -1,9 +1,9 @@
-ghost use Rattle.std.specs.Prelude.{◌≡◌, ◌≤◌, ◌<◌, ◌+◌, ◌↔◌, [], ◌∷◌, ◌++◌, IfOk, IfErr, IfSome, IsTrue, slice_get, map, length, true, Some};
+ghost use Rattle.std.specs.Prelude.{◌≡◌, ◌≤◌, ◌<◌, ◌+◌, ◌↔◌, [], ◌∷◌, ◌++◌, IfOk, IfErr, IfSome, IsTrue, slice_get, map, length, true};
 ghost use Rattle.std.specs.List.{Contains};
 ghost use Rattle.std.specs.Option.{option_map};
 ghost use Rattle.loom_objects.specs.Question.{made_of};
 ghost use Rattle.loom_engine.specs.Nodes.{seen, seen_schedule, seen_load, seen_spurious, AreWell, IsWell, IsWellLoad};
-ghost use Rattle.loom_engine.specs.Routes.{Route, at_rest, chosen, trail, Says, Steps, which_thread, which_store, whether_spurious};
+ghost use Rattle.loom_engine.specs.Routes.{Route, at_rest, chosen, trail, Says, Pushes, IsAtLoad, PassesLoad, Steps, which_thread, which_store, whether_spurious};
 ghost use Rattle.loom_engine.specs.Trees.Drive.{is_used_up, new_node};
 
 use crate::rt::node::{Load, Node, Schedule, Spurious};
@@ -82,6 +82,16 @@ impl Path {
         self.position >= self.max_branches
     }
 
+    /// Makes a node at the end, without passing it. Without memory for it the path stays as it was.
+    fn push(&mut self, node: Node) -> Result<(), AllocError>
+        requires { IsWell node }
+        ensures made { IfOk result (λ _. self.new ≡ record self.old { nodes = self.old.nodes ++ node ∷ [] }) }
+        ensures same { IfErr result (λ _. self.new ≡ self.old) }
+    {
+        self.nodes.push(node)?;
+        Ok(())
+    }
+
     /// Makes a node at the end, and passes it. Without memory for it the path stays as it was.
     fn lengthen(&mut self, node: Node) -> Result<(), AllocError>
         requires past { length self.old.nodes ≤ self.old.position }
@@ -126,13 +136,15 @@ impl Path {
         }
     }
 
-    /// Passes a load: follows the stored node, or makes one. It answers the slot of the store that is read. Where it fails
-    /// the path stays as it was.
-    pub fn branch_load(&mut self, readable: &[bool; 7]) -> Result<u8, Stop>
+    /// Makes a load's node at the end of the path, at the choice that was given for its place or else at its default, and
+    /// doesn't pass it. Before the end the stored node must be the load that this set makes, else `NotDeterministic`.
+    /// `TooManyBranches` where the path may have no further node, `NotDeterministic` where the given choice is no option.
+    /// Where it fails the path stays as it was.
+    pub fn push_load(&mut self, readable: &[bool; 7]) -> Result<(), Stop>
         requires some { Contains readable.now true }
-        ensures says { Says Choice.Load self.old (which_store readable.now) result self.new }
-        ensures readable { IfOk result (λ slot. slice_get readable.now slot ≡ Some true) }
-        ensures same { (self.new.max_branches ≡ self.old.max_branches) × (self.new.given ≡ self.old.given) }
+        ensures pushes { Pushes self.old (which_store readable.now) result self.new }
+        ensures readable { IfOk result (λ _. IsAtLoad readable.now self.new) }
+        ensures same { (self.new.max_branches ≡ self.old.max_branches) × (self.new.position ≡ self.old.position) × (self.new.given ≡ self.old.given) }
     {
         if self.position < self.nodes.len() {
             let Node::Load(load) = self.nodes[self.position] else {
@@ -141,8 +153,7 @@ impl Path {
             if !load.meets(readable) {
                 return fail(FailureKind::NotDeterministic);
             }
-            self.position += 1;
-            return Ok(load.slot());
+            return Ok(());
         }
         if self.is_full() {
             return fail(FailureKind::TooManyBranches);
@@ -150,10 +161,25 @@ impl Path {
         let Some(load) = new_load(readable, self.given_here()) else {
             return fail(FailureKind::NotDeterministic);
         };
-        match self.lengthen(Node::Load(load)) {
-            Ok(()) => Ok(load.slot()),
+        match self.push(Node::Load(load)) {
+            Ok(()) => Ok(()),
             Err(_) => Err(Stop::Memory),
         }
+    }
+
+    /// Passes the load at the position, and answers the slot of the store that is read. `NotDeterministic`, and nothing
+    /// changes, where no load stands there.
+    pub fn branch_load(&mut self) -> Result<u8, Stop>
+        ensures { PassesLoad self.old result self.new }
+    {
+        if self.position >= self.nodes.len() {
+            return fail(FailureKind::NotDeterministic);
+        }
+        let Node::Load(load) = self.nodes[self.position] else {
+            return fail(FailureKind::NotDeterministic);
+        };
+        self.position += 1;
+        Ok(load.slot())
     }
 
     /// Passes a spurious wake-up: follows the stored node, or makes one. It answers whether the thread wakes without a

@@ -9,6 +9,7 @@ use crate::rt::run::{Entry, RunState};
 use crate::rt::sync::Mutex;
 use crate::rt::thread::Task;
 use loom_views::rt::failure::FailureKind;
+use std::sync::atomic::Ordering;
 
 impl<D: Drop> RunState<D> {
     pub(crate) fn mutex_begins(&mut self, op: MutexOp<D>) -> Result<Entry<D>, Stop>
@@ -35,10 +36,8 @@ impl<D: Drop> RunState<D> {
             holder: None,
             value: Some(value),
         };
-        match self.objects.push(Object::Mutex(mutex)) {
-            Ok(()) => Ok(Entry::Answered(Reply::Mutex(number))),
-            Err(_) => Err(Stop::Memory),
-        }
+        self.add_object(Object::Mutex(mutex))?;
+        Ok(Entry::Answered(Reply::Mutex(number)))
     }
 
     /// The thread comes to a branch point, and is blocked there while the mutex is held.
@@ -60,7 +59,7 @@ impl<D: Drop> RunState<D> {
         Ok(Entry::AtBranch)
     }
 
-    /// The active thread holds the mutex from now on, and who is pending on it is blocked.
+    /// The active thread holds the mutex from now on and acquires, and who is pending on it is blocked.
     pub(crate) fn lock(&mut self, number: usize) -> Result<Reply<D>, Stop>
         requires { IsSound self.old }
         ensures does { Does (rules.lock number) self.old result self.new }
@@ -78,13 +77,14 @@ impl<D: Drop> RunState<D> {
         match mutex.hold(active) {
             None => fail(FailureKind::Misuse),
             Some(value) => {
+                self.views.acquire(active as usize, number);
                 self.block_pending(number);
                 Ok(Reply::Locked(number, value))
             }
         }
     }
 
-    /// The mutex is free and has its data back, and who is pending on it is woken.
+    /// The active thread releases, the mutex is free and has its data back, and who is pending on it is woken.
     fn release(&mut self, number: usize, value: D) -> Result<Entry<D>, Stop>
         requires { IsSound self.old }
         ensures does { Does (rules.release number value) self.old result self.new }
@@ -104,6 +104,8 @@ impl<D: Drop> RunState<D> {
         }
         mutex.holder = None;
         mutex.value = Some(value);
+        self.views
+            .release(active as usize, number, Ordering::Release);
         self.wake_pending(number);
         Ok(Entry::Answered(Reply::Done))
     }

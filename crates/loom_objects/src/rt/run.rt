@@ -1,7 +1,10 @@
-use crate::operation::Reply;
+use crate::operation::{Reply, Turn};
 use crate::rt::object::Object;
 use crate::rt::thread::Thread;
+use loom_views::rt::MAX_ATOMIC_HISTORY;
+use loom_views::rt::table::Views;
 use loom_views::sequence::Sequence;
+use std::sync::atomic::Ordering;
 
 /// What comes of an operation when it is handed over.
 #[derive(Drop)]
@@ -12,12 +15,35 @@ pub enum Entry<D> {
     AtBranch,
 }
 
+/// A load whose thread was chosen and has raised its version.
+#[derive(Clone, Copy, Debug)]
+pub struct Loading {
+    /// The atomic's number.
+    pub atomic: usize,
+    /// The load's ordering.
+    pub order: Ordering,
+    /// Which slots of the atomic's stores may be read.
+    pub readable: [bool; MAX_ATOMIC_HISTORY],
+}
+
+/// What comes of a thread that is chosen.
+#[derive(Drop)]
+pub enum Resumed<D> {
+    /// It has its turn, or the run is over.
+    Turn(Turn<D>),
+    /// It loads, and which store it reads is to be chosen.
+    Load(Loading),
+}
+
 /// The state of a run (loom's `rt/execution.rs`).
 #[derive(Drop)]
 pub struct RunState<D> {
     /// The threads, main first.
     pub threads: Sequence<Thread<D>>,
+    /// The objects, in order of creation.
     pub objects: Sequence<Object<D>>,
+    /// The views of the threads, and of each object by its number.
+    pub views: Views,
     /// The thread whose turn it is.
     pub active: u8,
     /// How many operations may still be handed over.

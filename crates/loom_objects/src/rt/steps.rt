@@ -1,14 +1,16 @@
 ghost use Rattle.std.specs.Prelude.{◌≡◌, ◌≢◌, Err, ◌+◌, ◌≤◌, ◌<◌, length, IfOk, OnOk};
 ghost use Rattle.std.specs.List.{list_all};
 ghost use Rattle.loom_objects.specs.Steps as rules;
-ghost use Rattle.loom_objects.specs.World.{opening};
-ghost use Rattle.loom_objects.specs.Shown.{Does, IsSound, world_of};
+ghost use Rattle.loom_views.specs.Table.{Points};
+ghost use Rattle.loom_objects.specs.World.{World, opening};
+ghost use Rattle.loom_objects.specs.Shown.{Does, Shows, IsSound, Resumes, HasSlot, turn_of, world_of};
 
 use crate::failure::{Stop, fail};
 use crate::operation::{Op, Reply, Turn};
-use crate::rt::run::{Entry, RunState};
+use crate::rt::run::{Entry, Resumed, RunState};
 use crate::rt::thread::{Ability, Phase, State, Task, Thread};
 use loom_views::rt::failure::FailureKind;
+use loom_views::rt::table::Views;
 use loom_views::sequence::Sequence;
 use std::alloc::{AllocError, Global};
 use std::mem;
@@ -32,7 +34,8 @@ impl<D: Drop> RunState<D> {
     ) -> Result<RunState<D>, AllocError>
         requires some { 1 ≤ max_threads }
         requires few { max_threads ≤ 5 }
-        ensures opens { IfOk result (λ run. world_of run ≡ opening max_threads max_steps) }
+        ensures opens { IfOk result (Shows (opening max_threads max_steps)) }
+        ensures limit { IfOk result (λ run. run.steps_left ≡ max_steps) }
         ensures sound { IfOk result (λ run. IsSound run) }
     {
         let mut threads = Sequence::new(alloc);
@@ -46,6 +49,7 @@ impl<D: Drop> RunState<D> {
         Ok(RunState {
             threads,
             objects: Sequence::new(alloc),
+            views: Views::new(alloc),
             active: 0,
             steps_left: max_steps,
             max_threads,
@@ -65,6 +69,7 @@ impl<D: Drop> RunState<D> {
         }
         self.steps_left -= 1;
         match op {
+            Op::Atomic(op, _) => self.atomic_begins(op),
             Op::Mutex(op, _) => self.mutex_begins(op),
             Op::Thread(op, _) => self.thread_begins(op),
             Op::Fail(_) => fail(FailureKind::Assertion),
@@ -73,7 +78,7 @@ impl<D: Drop> RunState<D> {
 
     /// What the five threads offer to a schedule.
     pub fn abilities(&self) -> [Ability; 5]
-        ensures { result ≡ rules.abilities (world_of self.now) }
+        ensures { (points : Points) → result ≡ rules.abilities (world_of points self.now) }
     {
         [
             ability_at(&self.threads, 0),
@@ -84,10 +89,21 @@ impl<D: Drop> RunState<D> {
         ]
     }
 
-    /// The thread is chosen, and what it has pending takes effect.
-    pub fn resume(&mut self, thread: u8) -> Result<Turn<D>, Stop>
+    /// The active thread is told the reply.
+    fn told(&self, answer: Result<Reply<D>, Stop>) -> Result<Resumed<D>, Stop>
+        ensures { result ≡ turn_of self.now.active answer }
+    {
+        match answer {
+            Ok(reply) => Ok(Resumed::Turn(Turn::Reply(self.active, reply))),
+            Err(stop) => Err(stop),
+        }
+    }
+
+    /// The thread is chosen, and what it has pending takes effect; a load up to the choice of the store that it reads.
+    pub fn resume(&mut self, thread: u8) -> Result<Resumed<D>, Stop>
         requires { IsSound self.old }
-        ensures does { Does (rules.resumes thread) self.old result self.new }
+        ensures does { (w : World D) → Shows w self.old → Resumes (rules.resumes thread w) result self.new }
+        ensures slot { IfOk result HasSlot }
         ensures sound { IsSound self.new }
         ensures steps { self.new.steps_left ≡ self.old.steps_left }
         ensures no_growth { result ≢ Err Stop.Memory }
@@ -96,24 +112,33 @@ impl<D: Drop> RunState<D> {
             return fail(FailureKind::Misuse);
         }
         self.active = thread;
-        let thread = self.threads.at_mut(self.active as usize);
-        match mem::replace(&mut thread.task, Task::Body) {
-            Task::Start => Ok(Turn::Start(self.active)),
+        let chosen = self.threads.at_mut(thread as usize);
+        match mem::replace(&mut chosen.task, Task::Body) {
+            Task::Start => Ok(Resumed::Turn(Turn::Start(thread))),
             Task::Body => fail(FailureKind::Misuse),
+            Task::Load(atomic, order) => self.load(atomic, order),
+            Task::Store(atomic, value, order) => {
+                let answer = self.store(atomic, value, order);
+                self.told(answer)
+            }
             Task::Lock(mutex) => {
-                let reply = self.lock(mutex)?;
-                Ok(Turn::Reply(self.active, reply))
+                let answer = self.lock(mutex);
+                self.told(answer)
+            }
+            Task::Join(joined, notifier) => {
+                let answer = self.join(joined, notifier);
+                self.told(answer)
             }
             Task::Finish(notifier, value) => {
-                let reply = self.child_finish(notifier, value)?;
-                Ok(Turn::Reply(self.active, reply))
+                let answer = self.child_finish(notifier, value);
+                self.told(answer)
             }
         }
     }
 
     /// Whether every thread has ended.
     pub fn all_ended(&self) -> bool
-        ensures { result ≡ rules.all_ended (world_of self.now) }
+        ensures { result ≡ list_all rules.has_ended self.now.threads }
     {
         self.threads
             .as_slice()

@@ -4,14 +4,19 @@ ghost use Rattle.loom_objects.specs.Moves.{free_value};
 /// A mutex: the thread that holds it, and its data while nobody has it (loom's `rt/mutex.rs`).
 #[derive(Drop)]
 pub struct Mutex<D> {
+    /// The thread that holds it.
     pub holder: Option<u8>,
+    /// Its data, while nobody has it.
     pub value: Option<D>,
 }
 
 /// A notifier, which a `join` waits on (loom's `rt/notify.rs`).
 #[derive(Clone, Copy, Debug)]
 pub struct Notify {
+    /// Whether it was notified since a thread last waited.
     pub notified: bool,
+    /// The thread that waits on it, or has waited: one at most.
+    pub waiter: Option<u8>,
 }
 
 impl<D: Drop> Mutex<D> {

@@ -1,3 +1,5 @@
+use std::sync::atomic::Ordering;
+
 /// Whether a thread may be chosen (loom's `rt/thread.rs`).
 #[derive(Clone, Copy, Debug, PartialEq, Eq)]
 pub enum State {
@@ -23,8 +25,14 @@ pub enum Task<D> {
     Start,
     /// Its body goes on: it has no operation pending.
     Body,
+    /// It loads from the atomic of this number.
+    Load(usize, Ordering),
+    /// It stores the value to the atomic of this number.
+    Store(usize, u64, Ordering),
     /// It takes the mutex of this number.
     Lock(usize),
+    /// It has the result of this thread, whose notifier has this number.
+    Join(u8, usize),
     /// It notifies its notifier, and keeps its result.
     Finish(usize, D),
 }
@@ -43,11 +51,14 @@ pub enum Ability {
 /// A thread of a run.
 #[derive(Drop)]
 pub struct Thread<D> {
+    /// Whether it may be chosen.
     pub state: State,
+    /// How far its end has come.
     pub phase: Phase,
+    /// What it does when it is chosen.
     pub task: Task<D>,
     /// The number of its notifier, for a thread that was spawned; main has none.
     pub notifier: Option<usize>,
-    /// What it finished with.
+    /// What it finished with, until that is taken out.
     pub result: Option<D>,
 }

@@ -1,8 +1,9 @@
-ghost use Rattle.std.specs.Prelude.{◌≡◌, ◌≢◌, Err, ◌+◌, ◌<◌, length, map};
+ghost use Rattle.std.specs.Prelude.{◌≡◌, ◌≢◌, Err, ◌+◌, ◌++◌, ◌∷◌, [], ◌<◌, OnOk, IfErr, length, map, slice_get};
 ghost use Rattle.std.specs.List.{list_all};
 ghost use Rattle.loom_objects.specs.Threads as rules;
-ghost use Rattle.loom_objects.specs.Moves.{pending_with, target as target_of, is_number, blocked_if};
-ghost use Rattle.loom_objects.specs.Shown.{Does, IsSound};
+ghost use Rattle.loom_objects.specs.Moves.{with_new, tells, pending_with, target as target_of, is_number, blocked_if};
+ghost use Rattle.loom_objects.specs.World.{World};
+ghost use Rattle.loom_objects.specs.Shown.{Does, Shows, IsSound};
 
 use crate::failure::{Stop, fail};
 use crate::operation::{Reply, ThreadOp};
@@ -12,6 +13,7 @@ use crate::rt::sync::Notify;
 use crate::rt::thread::{Phase, State, Task, Thread};
 use loom_views::rt::failure::FailureKind;
 use loom_views::sequence::Sequence;
+use std::sync::atomic::Ordering;
 
 impl<D: Drop> Thread<D> {
     /// The thread has this pending, and can't go on while it is blocked.
@@ -32,7 +34,10 @@ fn is_pending_on<D>(task: &Task<D>, number: usize) -> bool
     ensures { result ≡ is_number (target_of task.now) number }
 {
     match task {
+        Task::Load(target, _) => *target == number,
+        Task::Store(target, _, _) => *target == number,
         Task::Lock(target) => *target == number,
+        Task::Join(_, target) => *target == number,
         Task::Finish(target, _) => *target == number,
         Task::Start | Task::Body => false,
     }
@@ -71,6 +76,23 @@ impl<D: Drop> RunState<D> {
         give_pending(&mut self.threads, number, State::Runnable);
     }
 
+    /// A new object, at which no thread has synchronized.
+    pub(crate) fn add_object(&mut self, object: Object<D>) -> Result<(), Stop>
+        ensures shown { (w : World D) → Shows w self.old → OnOk result (Shows (with_new object w) self.new) }
+        ensures object { OnOk result (self.new.objects ≡ self.old.objects ++ object ∷ []) }
+        ensures rest { self.new ≡ record self.old { objects = self.new.objects; views = self.new.views } }
+        ensures memory { IfErr result (λ stop. stop ≡ Stop.Memory) }
+    {
+        match self.views.add_point() {
+            Ok(()) => {}
+            Err(_) => return Err(Stop::Memory),
+        }
+        match self.objects.push(object) {
+            Ok(()) => Ok(()),
+            Err(_) => Err(Stop::Memory),
+        }
+    }
+
     pub(crate) fn thread_begins(&mut self, op: ThreadOp<D, ()>) -> Result<Entry<D>, Stop>
         requires { IsSound self.old }
         ensures does { Does (rules.thread_begins op) self.old result self.new }
@@ -79,13 +101,14 @@ impl<D: Drop> RunState<D> {
     {
         match op {
             ThreadOp::Spawn(()) => self.spawn(),
+            ThreadOp::Join(thread, notifier) => self.join_begins(thread, notifier),
             ThreadOp::Finish(value) => self.finish(value),
             ThreadOp::Exit => self.exit(),
             ThreadOp::End => self.end(),
         }
     }
 
-    /// A thread more, with a notifier of its own.
+    /// A thread more, with its parent's view and a notifier of its own.
     fn spawn(&mut self) -> Result<Entry<D>, Stop>
         requires { IsSound self.old }
         ensures does { Does rules.spawn self.old result self.new }
@@ -96,14 +119,16 @@ impl<D: Drop> RunState<D> {
         if count >= self.max_threads {
             return fail(FailureKind::TooManyThreads);
         }
-        let notifier = self.objects.len();
-        match self
-            .objects
-            .push(Object::Notify(Notify { notified: false }))
-        {
+        match self.views.spawn(self.active as usize) {
             Ok(()) => {}
-            Err(_) => return Err(Stop::Memory),
+            Err(kind) => return fail(kind),
         }
+        let notifier = self.objects.len();
+        let notify = Notify {
+            notified: false,
+            waiter: None,
+        };
+        self.add_object(Object::Notify(notify))?;
         let child = Thread {
             state: State::Runnable,
             phase: Phase::Working,
@@ -114,6 +139,69 @@ impl<D: Drop> RunState<D> {
         match self.threads.push(child) {
             Ok(()) => Ok(Entry::Answered(Reply::Spawned(count as u8, notifier))),
             Err(_) => Err(Stop::Memory),
+        }
+    }
+
+    /// The active thread is to wait for a thread's end, and comes to a branch point, blocked until it is notified.
+    fn join_begins(&mut self, thread: u8, notifier: usize) -> Result<Entry<D>, Stop>
+        requires { IsSound self.old }
+        ensures does { Does (rules.join_begins thread notifier) self.old result self.new }
+        ensures sound { IsSound self.new }
+        ensures steps { self.new.steps_left ≡ self.old.steps_left }
+    {
+        if !self.has_notifier(thread, notifier) || notifier >= self.objects.len() {
+            return fail(FailureKind::Misuse);
+        }
+        let Object::Notify(notify) = self.objects.at_mut(notifier) else {
+            return fail(FailureKind::Misuse);
+        };
+        if notify.waiter.is_some() {
+            return fail(FailureKind::Misuse);
+        }
+        notify.waiter = Some(self.active);
+        let is_notified = notify.notified;
+        let waiting = self.threads.at_mut(self.active as usize);
+        waiting.pend(Task::Join(thread, notifier), !is_notified);
+        Ok(Entry::AtBranch)
+    }
+
+    /// Whether the notifier is the thread's own.
+    fn has_notifier(&self, thread: u8, notifier: usize) -> bool
+        ensures { result ≡ rules.has_own (slice_get self.now.threads thread) notifier }
+    {
+        if thread as usize >= self.threads.len() {
+            return false;
+        }
+        match self.threads.at(thread as usize).notifier {
+            Some(own) => own == notifier,
+            None => false,
+        }
+    }
+
+    /// The active thread acquires from the notifier, and has the result of the thread that it joins.
+    pub(crate) fn join(&mut self, thread: u8, notifier: usize) -> Result<Reply<D>, Stop>
+        requires { IsSound self.old }
+        ensures does { Does (rules.join thread notifier) self.old result self.new }
+        ensures sound { IsSound self.new }
+        ensures steps { self.new.steps_left ≡ self.old.steps_left }
+        ensures no_growth { result ≢ Err Stop.Memory }
+    {
+        if notifier >= self.objects.len() || thread as usize >= self.threads.len() {
+            return fail(FailureKind::Misuse);
+        }
+        let Object::Notify(notify) = self.objects.at_mut(notifier) else {
+            return fail(FailureKind::Misuse);
+        };
+        if !notify.notified {
+            return fail(FailureKind::Misuse);
+        }
+        notify.notified = false;
+        match self.threads.at_mut(thread as usize).result.take() {
+            None => fail(FailureKind::Misuse),
+            Some(value) => {
+                self.views.acquire(self.active as usize, notifier);
+                Ok(Reply::Data(value))
+            }
         }
     }
 
@@ -141,7 +229,18 @@ impl<D: Drop> RunState<D> {
         }
     }
 
-    /// The active thread notifies who joins it, and has its result.
+    /// Who waits, if any thread does, takes in the active thread's view.
+    fn tell(&mut self, waiter: Option<u8>)
+        ensures shown { (w : World D) → Shows w self.old → Shows (tells waiter w) self.new }
+        ensures rest { self.new ≡ record self.old { views = self.new.views } }
+    {
+        if let Some(waiter) = waiter {
+            self.views
+                .join_thread(waiter as usize, self.active as usize);
+        }
+    }
+
+    /// The active thread releases and notifies who joins it, and has its result.
     pub(crate) fn child_finish(&mut self, notifier: usize, value: D) -> Result<Reply<D>, Stop>
         requires { IsSound self.old }
         ensures does { Does (rules.child_finish notifier value) self.old result self.new }
@@ -156,6 +255,11 @@ impl<D: Drop> RunState<D> {
             return fail(FailureKind::Misuse);
         };
         notify.notified = true;
+        let waiter = notify.waiter;
+        self.views
+            .release(self.active as usize, notifier, Ordering::Release);
+        self.tell(waiter);
+        self.wake_pending(notifier);
         let thread = self.threads.at_mut(self.active as usize);
         thread.result = Some(value);
         Ok(Reply::Done)

@@ -1,5 +1,6 @@
-use super::FIVE_SPAWNS;
-use crate::rows::{self, LOCK_BESIDE, Row};
+use super::{FIVE_SPAWNS, JOIN_TWICE};
+use crate::bodies::LOCK_BESIDE;
+use crate::rows::{self, Row};
 use loom::model::Builder;
 use std::io::{self, ErrorKind, Write};
 use std::process::Abort;
@@ -27,12 +28,33 @@ fn each_row_prints_its_line(rt: HostRuntime) {
         ("lock_beside", "complete 3\n", 0),
         ("mutex_forever", "failed 12 0\n", 1),
         ("fail_at_once", "failed 1 0\n", 1),
+        ("load_beside", "complete 6\n", 0),
+        ("store_seven", "complete 1\n", 0),
+        ("store_buffering", "complete 48\n", 0),
     ] {
         let mut out = Vec::new(rt.alloc());
         let mut err = Vec::new(rt.alloc());
         let answer = rows::run_row(&rt, &[name], &mut out, &mut err);
         assert_eq!(rt; answer, status, "{name}");
         assert_eq!(rt; out.as_slice(), line.as_bytes(), "{name}");
+        assert!(rt; err.is_empty(), "{name}");
+    }
+}
+
+#[test]
+fn each_name_is_its_row(rt: HostRuntime) {
+    for (name, beginning, status) in [
+        ("load_buffering", "complete ", 0),
+        ("check_ordering_valid", "complete ", 0),
+        ("check_ordering_invalid_1", "failed 1 ", 1),
+        ("checks_fail", "failed 1 ", 1),
+        ("two_mutexes_deadlock", "failed 2 ", 1),
+    ] {
+        let mut out = Vec::new(rt.alloc());
+        let mut err = Vec::new(rt.alloc());
+        let answer = rows::run_row(&rt, &[name], &mut out, &mut err);
+        assert_eq!(rt; answer, status, "{name}");
+        assert!(rt; out.as_slice().starts_with(beginning.as_bytes()), "{name}");
         assert!(rt; err.is_empty(), "{name}");
     }
 }
@@ -114,4 +136,9 @@ fn limits_fail_a_run(rt: HostRuntime) -> Result<(), Fail> {
     short.builder.max_branches = 3;
     fails(&rt, short, "failed 9 0 t0 t1 t1\n")?;
     fails(&rt, Row::new(&FIVE_SPAWNS), "failed 8 0\n")
+}
+
+#[test]
+fn a_thread_is_joined_once(rt: HostRuntime) -> Result<(), Fail> {
+    fails(&rt, Row::new(&JOIN_TWICE), "failed 14 0 t1 t1 t0\n")
 }

@@ -1,8 +1,8 @@
-use super::{CROSSWISE, NONE, ONE, TWO, ZERO};
-use crate::rows::LOCK_BESIDE;
-use crate::script::{Script, Step};
+use super::{NONE, ONE, TWO, ZERO};
+use crate::bodies::{CHECK_ORDERING_INVALID_1, CHECKS_FAIL, LOCK_BESIDE, TWO_MUTEXES_DEADLOCK};
 use loom::model::{Builder, Replay, Report};
 use loom::{Choice, FailureKind};
+use loom_scripts::script::{Script, Step};
 use std::process::Abort;
 use std::test::Fail;
 
@@ -52,18 +52,29 @@ fn a_failure_keeps_its_kind(rt: HostRuntime) -> Result<(), Fail> {
     fails(&rt, &FAIL_AFTER_A_LOCK, &[], assertion, &[ZERO])
 }
 
-#[test]
-fn locks_taken_crosswise_deadlock(rt: HostRuntime) -> Result<(), Fail> {
-    match Builder::new().check(rt.alloc(), &Script::new(&CROSSWISE))? {
+// A check finds a failure of this kind, whose choices lead to it again.
+fn finds(
+    rt: &(impl Abort + AllocGlobal),
+    steps: &'static [Step],
+    kind: FailureKind,
+) -> Result<(), Fail> {
+    match Builder::new().check(rt.alloc(), &Script::new(steps))? {
         Report::Failed {
             failure,
             choices,
             ..
         } => {
-            assert_eq!(rt; failure.kind, FailureKind::Deadlock);
+            assert_eq!(rt; failure.kind, kind);
             let made = choices.as_slice();
-            fails(&rt, &CROSSWISE, made, FailureKind::Deadlock, made)
+            fails(rt, steps, made, kind, made)
         }
         _ => Err(Fail::from("no run failed")),
     }
+}
+
+#[test]
+fn what_a_check_finds_replays(rt: HostRuntime) -> Result<(), Fail> {
+    finds(&rt, &TWO_MUTEXES_DEADLOCK, FailureKind::Deadlock)?;
+    finds(&rt, &CHECK_ORDERING_INVALID_1, FailureKind::Assertion)?;
+    finds(&rt, &CHECKS_FAIL, FailureKind::Assertion)
 }

@@ -1,23 +1,30 @@
 //! The runs of a body by trying every list of choices, compared with those of a check.
-use super::{NONE, ONE, TWO, ZERO, lists_of};
+use super::{NONE, ONE, Run, TWO, ZERO, runs_of};
+use crate::bodies::{LOAD_BESIDE, LOCK_BESIDE, STORE_BUFFERING};
 use crate::guide::Counter;
-use crate::number::Number;
-use crate::rows::LOCK_BESIDE;
-use crate::script::Script;
 use loom::model::{Builder, Replay};
 use loom::{Body, Choice};
+use loom_scripts::number::Number;
+use loom_scripts::script::Script;
 use std::alloc::Global;
 use std::process::Abort;
 use std::test::Fail;
 
 // The choices that are tried after each list.
-static CHOICES: [Choice; 6] = [
+static CHOICES: [Choice; 13] = [
     NONE,
     ZERO,
     ONE,
     TWO,
     Choice::Thread(Some(3)),
     Choice::Thread(Some(4)),
+    Choice::Load(0),
+    Choice::Load(1),
+    Choice::Load(2),
+    Choice::Load(3),
+    Choice::Load(4),
+    Choice::Load(5),
+    Choice::Load(6),
 ];
 
 // How far a run follows a list.
@@ -96,13 +103,18 @@ fn whole_runs<B: Body<Data = Number>>(alloc: Global, body: &B) -> Result<Vec<Vec
     }
 }
 
-fn has(lists: &[Vec<Choice>], list: &[Choice]) -> bool {
-    lists.iter().any(|other| other.as_slice() == list)
+// Each list is that of a run.
+fn are_among_runs(lists: &[Vec<Choice>], runs: &[Run]) -> bool {
+    lists.iter().all(|list| runs
+        .iter()
+        .any(|run| run.choices.as_slice() == list.as_slice()))
 }
 
-// Each list of the one stands among the other.
-fn are_among(some: &[Vec<Choice>], others: &[Vec<Choice>]) -> bool {
-    some.iter().all(|list| has(others, list.as_slice()))
+// Each run's list stands among the lists.
+fn are_among_lists(runs: &[Run], lists: &[Vec<Choice>]) -> bool {
+    runs.iter().all(|run| lists
+        .iter()
+        .any(|list| list.as_slice() == run.choices.as_slice()))
 }
 
 // The lists that trying gives are distinct, so with the same number the check has each once.
@@ -111,17 +123,19 @@ fn makes_every_run<R: Abort + AllocGlobal, B: Body<Data = Number>>(
     body: &B,
     count: usize,
 ) -> Result<(), Fail> {
-    let runs = whole_runs(rt.alloc(), body)?;
-    let lists = lists_of(rt.alloc(), body)?;
-    assert_eq!(rt; runs.len(), count);
+    let lists = whole_runs(rt.alloc(), body)?;
+    let runs = runs_of(rt.alloc(), body)?;
     assert_eq!(rt; lists.len(), count);
-    assert!(rt; are_among(runs.as_slice(), lists.as_slice()));
-    assert!(rt; are_among(lists.as_slice(), runs.as_slice()));
+    assert_eq!(rt; runs.len(), count);
+    assert!(rt; are_among_runs(lists.as_slice(), runs.as_slice()));
+    assert!(rt; are_among_lists(runs.as_slice(), lists.as_slice()));
     Ok(())
 }
 
 #[test]
 fn a_check_makes_every_run_once(rt: HostRuntime) -> Result<(), Fail> {
     makes_every_run(&rt, &Script::new(&LOCK_BESIDE), 3)?;
+    makes_every_run(&rt, &Script::new(&LOAD_BESIDE), 6)?;
+    makes_every_run(&rt, &Script::new(&STORE_BUFFERING), 48)?;
     makes_every_run(&rt, &Counter::main(2), 4)
 }

@@ -1,5 +1,5 @@
 -- The accesses of an atomic of a run.
-use Rattle.std.proofs.Common.{◌≡◌, ℕ, ◌<◌, Bool, true, false, List, [], ◌∷◌, ◌++◌, length, get_or, set, subst, ap, ◌∙◌, arith, ⊎_elim, Option, Some, None, Result, Ok, Err}
+use Rattle.std.proofs.Common.{◌≡◌, ℕ, ◌<◌, Bool, true, false, List, [], ◌∷◌, ◌++◌, length, get_or, set, subst, ap, sym, ◌∙◌, arith, ⊎_elim, Option, Some, None, Result, Ok, Err}
 use Rattle.std.specs.Prelude.{IsTrue, nat_lt, ◌==◌, if◌then◌else◌}
 use Rattle.std.specs.List.{slice_get, list_any, AllByRecursion}
 use Rattle.std.specs.declared.sync.atomic.Ordering.{Ordering}
@@ -16,37 +16,69 @@ use Rattle.loom_views.specs.declared.rt.table.Kept.TheVariants.{Keeping}
 use Rattle.loom_views.specs.declared.rt.table.Views.{Views}
 use Rattle.loom_views.specs.Graph.{Graph, IsChained, IsPresent}
 use Rattle.loom_views.specs.Threads.{ThreadPoints, ShowsThread}
-use Rattle.loom_views.specs.Atomic.{History, Scene, Answer, in_slot, races, new_history, new_step, conflicts, load_step, store_step, readable, fails_by_orders, drops_in_slot, scene_read, scene_made, scene_recorded_load, scene_recorded_store}
+use Rattle.loom_views.specs.Atomic.{History, Scene, Answer, in_slot, races, new_history, new_step, conflicts, load_step, store_step, readable, fails_by_orders, drops_in_slot, scene_read, scene_loaded, scene_made, scene_recorded_load, scene_recorded_store, StorePoints, touch}
 use Rattle.loom_views.specs.Shown.{ShowsScene, AnswersAs, FinishesAs}
 use Rattle.loom_views.specs.Table.{Place, Meets, Keeps, has_slot, readable_by, Points, ShowsViews, LoadsAs, StoresAs, OffersAs, IsSlotKept, scene_of, points_of, accessed, slot_set, points_with_atomic, points_after_load, points_after_store, readable_slots_of}
+use Rattle.loom_views.specs.Slots.{number_in_slot}
 use Rattle.loom_views.proofs.Choices.{readable-bounds}
-use Rattle.loom_views.proofs.Growth.{GrownBy, grown-joined, scene_read-grown, scene_loaded-grown, scene_made-grown}
+use Rattle.loom_views.proofs.Growth.{GrownBy, shows-grown, grown-joined, scene_read-grown, scene_loaded-grown, scene_made-grown}
 use Rattle.loom_views.proofs.Table.Carried.{Found, found, FoundAtomic, found_atomic, threads-set, places-set, places-grown, place-added}
 
--- the graph of the scene that an access leads to has grown by thread t alone
-abbrev pub Grows : ℕ → Graph → Result Answer FailureKind → Type 0
-Grows t g (Ok answer) = GrownBy t g answer.scene.graph
-Grows t g (Err kind) = Unit {0}
+-- what holds of the scene that an access leads to, if it leads to one
+abbrev pub LeadsTo : (Scene → Type 0) → Result Answer FailureKind → Type 0
+LeadsTo P (Ok answer) = P answer.scene
+LeadsTo P (Err kind) = Unit {0}
 
-conflicts-grows : (t : ℕ) (s : Scene) (kinds : List (List ℕ)) (passed : Result Answer FailureKind) → Grows t s.graph passed → Grows t s.graph (conflicts s kinds passed)
-conflicts-grows t s kinds passed h = tested s.history.mutating (list_any (λ points. races s.graph points s.thread.present) kinds)
+-- its graph has grown by thread t alone
+abbrev pub Grows : ℕ → Graph → Scene → Type 0
+Grows t g s = GrownBy t g s.graph
+
+-- its atomic has a store
+abbrev pub HasStore : Scene → Type 0
+HasStore s = 0 < length s.history.stores
+
+pub conflicts-leads : (P : Scene → Type 0) (s : Scene) (kinds : List (List ℕ)) (passed : Result Answer FailureKind) → LeadsTo P passed → LeadsTo P (conflicts s kinds passed)
+conflicts-leads P s kinds passed h = tested s.history.mutating (list_any (λ points. races s.graph points s.thread.present) kinds)
   where
-    tested : (a b : Bool) → Grows t s.graph (if a then Err OpenAccess else (if b then Err Race else passed))
+    tested : (a b : Bool) → LeadsTo P (if a then Err OpenAccess else (if b then Err Race else passed))
     tested true b = tt
     tested false true = tt
     tested false false = h
 
-pub load-grows : (t : ℕ) (s : Scene) (slot : ℕ) (order : Ordering) → Grows t s.graph (load_step t s slot order)
+-- what holds of the scene that a load leads to where its tests pass
+load-leads : (P : Scene → Type 0) (t : ℕ) (s : Scene) (slot : ℕ) (order : Ordering) → P (scene_loaded (scene_read t (scene_recorded_load s) slot) (in_slot s.history.stores slot).sync order) → LeadsTo P (load_step t s slot order)
+load-leads P t s slot order h = conflicts-leads P s (s.history.mutations ∷ []) _ h
+
+-- what holds of the scene that a store leads to where its tests pass
+store-leads : (P : Scene → Type 0) (t : ℕ) (s : Scene) (value : ℕ) (order : Ordering) → P (scene_made t (scene_recorded_store s) value None order) → LeadsTo P (store_step t s value order)
+store-leads P t s value order h = conflicts-leads P s (s.history.mutations ∷ s.history.unsync_loads ∷ []) _ (roomy (nat_lt (length s.history.stores) 65535) (Ok (record { scene = scene_made t (scene_recorded_store s) value None order; value = value })) h)
+  where
+    roomy : (a : Bool) (made : Result Answer FailureKind) → LeadsTo P made → LeadsTo P (if a then made else Err TooManyStores)
+    roomy true made m = m
+    roomy false made m = tt
+
+pub load-grows : (t : ℕ) (s : Scene) (slot : ℕ) (order : Ordering) → LeadsTo (Grows t s.graph) (load_step t s slot order)
 load-grows t s slot order =
     let k = (in_slot s.history.stores slot).sync in
-    conflicts-grows t s (s.history.mutations ∷ []) _ (grown-joined (scene_read-grown t (scene_recorded_load s) slot) (scene_loaded-grown t (scene_read t (scene_recorded_load s) slot) k order))
+    load-leads (Grows t s.graph) t s slot order (grown-joined (scene_read-grown t (scene_recorded_load s) slot) (scene_loaded-grown t (scene_read t (scene_recorded_load s) slot) k order))
 
-pub store-grows : (t : ℕ) (s : Scene) (value : ℕ) (order : Ordering) → Grows t s.graph (store_step t s value order)
-store-grows t s value order = conflicts-grows t s (s.history.mutations ∷ s.history.unsync_loads ∷ []) _ (roomy (nat_lt (length s.history.stores) 65535) (Ok (record { scene = scene_made t (scene_recorded_store s) value None order; value = value })) (scene_made-grown t (scene_recorded_store s) value None order))
-  where
-    roomy : (a : Bool) (made : Result Answer FailureKind) → Grows t s.graph made → Grows t s.graph (if a then made else Err TooManyStores)
-    roomy true made h = h
-    roomy false made h = tt
+pub load-stores : (t : ℕ) (s : Scene) (slot : ℕ) (order : Ordering) → HasStore s → LeadsTo HasStore (load_step t s slot order)
+load-stores t s slot order h =
+    let read = in_slot s.history.stores slot in
+    load-leads HasStore t s slot order (subst (λ n. 0 < n) (sym (length-set s.history.stores (number_in_slot (length s.history.stores) slot) (record read { order = length s.graph; touched = touch read.touched t s.thread.present }))) h)
+
+pub store-grows : (t : ℕ) (s : Scene) (value : ℕ) (order : Ordering) → LeadsTo (Grows t s.graph) (store_step t s value order)
+store-grows t s value order = store-leads (Grows t s.graph) t s value order (scene_made-grown t (scene_recorded_store s) value None order)
+
+pub some-pushed : (stores : List StorePoints) (store : StorePoints) → 0 < length (stores ++ store ∷ [])
+some-pushed [] store = omega arith
+some-pushed (other ∷ stores) store = omega arith
+
+some-made : (t : ℕ) (s : Scene) (value : ℕ) (order : Ordering) → HasStore (scene_made t s value None order)
+some-made t s value order = some-pushed s.history.stores _
+
+pub store-stores : (t : ℕ) (s : Scene) (value : ℕ) (order : Ordering) → LeadsTo HasStore (store_step t s value order)
+store-stores t s value order = store-leads HasStore t s value order (some-made t (scene_recorded_store s) value order)
 
 module _ (p : Points) (v : Views) (t n : ℕ) (d : ThreadViews) (state : State) (l : t < v.count) (m : t < 5) (kept : slice_get v.places n ≡ Some (Keeping state)) (z : ShowsViews p v) where
   -- the scene that thread t and atomic n make
@@ -54,8 +86,8 @@ module _ (p : Points) (v : Views) (t n : ℕ) (d : ThreadViews) (state : State) 
   scene-shown f o = record { chained = z.chained; present = f.present; thread = f.shown; history = o.shown }
 
   -- the scene that an access leads to is shown within the run
-  pub scene-stepped : (s : Scene) (views : ThreadViews) (new : State) → GrownBy t p.graph s.graph → ShowsScene t s views new → ShowsViews (points_of p t n s) (record v { threads = set v.threads t views; places = set v.places n (Keeping new) })
-  scene-stepped s views new r y =
+  pub scene-stepped : (s : Scene) (views : ThreadViews) (new : State) → Grows t p.graph s → HasStore s → ShowsScene t s views new → ShowsViews (points_of p t n s) (record v { threads = set v.threads t views; places = set v.places n (Keeping new) })
+  scene-stepped s views new r h y =
       let f = found p v t d l m z in
       let o = found_atomic p v n state kept z in
       let five = z.five in
@@ -66,16 +98,17 @@ module _ (p : Points) (v : Views) (t n : ℕ) (d : ThreadViews) (state : State) 
         most = omega (arith, length-set p.threads t s.thread);
         five = length-set v.threads t views ∙ z.five;
         threads = threads-set r p.threads v.threads s.thread views f.there (omega arith) z.threads y.present y.thread;
-        places = places-set s.graph p.places v.places n (Keeps s.history) (Keeping new) (slice_get_within p.places n (Keeps o.history) o.is) (slice_get_within v.places n (Keeping state) kept) (places-grown r p.places v.places z.places) y.history;
+        places = places-set s.graph p.places v.places n (Keeps s.history) (Keeping new) (slice_get_within p.places n (Keeps o.history) o.is) (slice_get_within v.places n (Keeping state) kept) (places-grown r p.places v.places z.places) (y.history, h);
+        global = shows-grown r p.global v.global z.global;
       }
 
-  answers-stepped : (step : Result Answer FailureKind) (result : Result ℕ FailureKind) (views : ThreadViews) (new : State) → Grows t p.graph step → AnswersAs t step result views new → LoadsAs (accessed p t n step) result (record v { threads = set v.threads t views; places = set v.places n (Keeping new) })
-  answers-stepped (Ok answer) result views new r a = (a.0, scene-stepped answer.scene views new r a.1)
-  answers-stepped (Err kind) result views new r a = a
+  pub answers-stepped : (step : Result Answer FailureKind) (result : Result ℕ FailureKind) (views : ThreadViews) (new : State) → LeadsTo (Grows t p.graph) step → LeadsTo HasStore step → AnswersAs t step result views new → LoadsAs (accessed p t n step) result (record v { threads = set v.threads t views; places = set v.places n (Keeping new) })
+  answers-stepped (Ok answer) result views new r h a = (a.0, scene-stepped answer.scene views new r h a.1)
+  answers-stepped (Err kind) result views new r h a = a
 
-  finishes-stepped : (step : Result Answer FailureKind) (result : Result (Unit {0}) FailureKind) (views : ThreadViews) (new : State) → Grows t p.graph step → FinishesAs t step result views new → StoresAs (accessed p t n step) result (record v { threads = set v.threads t views; places = set v.places n (Keeping new) })
-  finishes-stepped (Ok answer) result views new r a = (a.0, scene-stepped answer.scene views new r a.1)
-  finishes-stepped (Err kind) result views new r a = a
+  pub finishes-stepped : (step : Result Answer FailureKind) (result : Result (Unit {0}) FailureKind) (views : ThreadViews) (new : State) → LeadsTo (Grows t p.graph) step → LeadsTo HasStore step → FinishesAs t step result views new → StoresAs (accessed p t n step) result (record v { threads = set v.threads t views; places = set v.places n (Keeping new) })
+  finishes-stepped (Ok answer) result views new r h a = (a.0, scene-stepped answer.scene views new r h a.1)
+  finishes-stepped (Err kind) result views new r h a = a
 
   pub load-moved : (slot : ℕ) (order : Ordering) (result : Result ℕ FailureKind) (views : ThreadViews) (new : State) → ((s : Scene) → ShowsScene t s (get_or v.threads t d) state → slot < length s.history.stores → AnswersAs t (load_step t s slot order) result views new) → IsSlotKept (slice_get p.places n) slot → LoadsAs (points_after_load p t n slot order) result (record v { threads = set v.threads t views; places = set v.places n (Keeping new) })
   load-moved slot order result views new answers b =
@@ -83,7 +116,7 @@ module _ (p : Points) (v : Views) (t n : ℕ) (d : ThreadViews) (state : State) 
       let o = found_atomic p v n state kept z in
       let s = scene_of p f.own o.history in
       let within = rw o.is at b in
-      rw (f.is, o.is) (answers-stepped (load_step t s slot order) result views new (load-grows t s slot order) (answers s (scene-shown f o) within.1))
+      rw (f.is, o.is) (answers-stepped (load_step t s slot order) result views new (load-grows t s slot order) (load-stores t s slot order o.some) (answers s (scene-shown f o) within.1))
 
   pub store-moved : (value : ℕ) (order : Ordering) (result : Result (Unit {0}) FailureKind) (new : State) → ((s : Scene) → ShowsScene t s (get_or v.threads t d) state → FinishesAs t (store_step t s value order) result (get_or v.threads t d) new) → StoresAs (points_after_store p t n value order) result (record v { places = set v.places n (Keeping new) })
   store-moved value order result new finishes =
@@ -91,7 +124,7 @@ module _ (p : Points) (v : Views) (t n : ℕ) (d : ThreadViews) (state : State) 
       let o = found_atomic p v n state kept z in
       let s = scene_of p f.own o.history in
       rw (f.is, o.is) (subst (λ (kepts : List ThreadViews). StoresAs (accessed p t n (store_step t s value order)) result (record v { threads = kepts; places = set v.places n (Keeping new) })) (set-get_or v.threads t d)
-      (finishes-stepped (store_step t s value order) result (get_or v.threads t d) new (store-grows t s value order) (finishes s (scene-shown f o))))
+      (finishes-stepped (store_step t s value order) result (get_or v.threads t d) new (store-grows t s value order) (store-stores t s value order) (finishes s (scene-shown f o))))
 
   pub readable-offered : (reader : Reader) (slots : List ℕ) → ((s : Scene) → ShowsScene t s (get_or v.threads t d) state → (slots ≡ readable s.graph t s.thread reader s.history.stores) × (fails_by_orders s.graph t s.thread reader s.history.stores ≡ false)) → OffersAs (readable_slots_of p t n reader) (Ok (slot_set slots))
   readable-offered reader slots offers =
@@ -112,7 +145,7 @@ atomic-added p v t value d state l m z made =
     let f = found p v t d l m z in
     let s : Scene = record { graph = p.graph; thread = f.own; history = new_history f.own.present } in
     let y = made p.graph f.own z.chained f.present f.shown in
-    rw f.is (place-added p v (scene_made 5 s value None Release).graph (Keeps (new_step t p.graph f.own value).history) (Keeping state) (scene_made-grown 5 s value None Release) y.chained y.history z)
+    rw f.is (place-added p v (scene_made 5 s value None Release).graph (Keeps (new_step t p.graph f.own value).history) (Keeping state) (scene_made-grown 5 s value None Release) y.chained (y.history, some-made t s value Release) z)
 
 member-at : (P : ℕ → Type 0) (xs : List ℕ) (i : ℕ) → AllByRecursion P xs → list_any (λ j. j == i) xs ≡ true → P i
 member-at P [] i h e = absurd (false≢true e)

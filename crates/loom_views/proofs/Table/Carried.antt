@@ -34,7 +34,7 @@ pub place-grown : {t : ℕ} {g g' : Graph} → GrownBy t g g' → (place : Place
 place-grown r (Meets k) (Meeting view) h = shows-grown r k view h
 place-grown r (Meets k) (Keeping state) h = absurd h
 place-grown r (Keeps history) (Meeting view) h = absurd h
-place-grown r (Keeps history) (Keeping state) h = state-grown r history state h
+place-grown r (Keeps history) (Keeping state) h = (state-grown r history state h.0, h.1)
 
 place_at-grown : {t : ℕ} {g g' : Graph} → GrownBy t g g' → (place : Option Place) (kept : Option Kept) → ShowsPlaceAt g place kept → ShowsPlaceAt g' place kept
 place_at-grown r None None h = tt
@@ -114,6 +114,7 @@ pub record FoundAtomic (p : Points) (n : ℕ) (state : State) : Type 0 where
   pub history : History
   pub is : slice_get p.places n ≡ Some (Keeps history)
   pub shown : ShowsState p.graph history state
+  pub some : 0 < length history.stores
 
 pub found_atomic : (p : Points) (v : Views) (n : ℕ) (state : State) → slice_get v.places n ≡ Some (Keeping state) → ShowsViews p v → FoundAtomic p n state
 found_atomic p v n state e z = let h = z.places n in go (slice_get p.places n) refl (rw e at h)
@@ -121,7 +122,7 @@ found_atomic p v n state e z = let h = z.places n in go (slice_get p.places n) r
     go : (o : Option Place) → slice_get p.places n ≡ o → ShowsPlaceAt p.graph o (Some (Keeping state)) → FoundAtomic p n state
     go None q h = absurd h
     go (Some (Meets k)) q h = absurd h
-    go (Some (Keeps history)) q h = record { history = history; is = q; shown = h }
+    go (Some (Keeps history)) q h = record { history = history; is = q; shown = h.0; some = h.1 }
 
 -- a step of thread t in a graph that it alone has grown
 pub thread-stepped : (p : Points) (v : Views) (t : ℕ) (g : Graph) (own : ThreadPoints) (views : ThreadViews) → t < length p.threads → GrownBy t p.graph g → IsChained g → IsPresent g t own.present → ShowsThread g t own views → ShowsViews p v → ShowsViews (with_thread p t g own) (record v { threads = set v.threads t views })
@@ -135,6 +136,7 @@ thread-stepped p v t g own views l r c i s z =
       five = length-set v.threads t views ∙ z.five;
       threads = threads-set r p.threads v.threads own views l (omega arith) z.threads i s;
       places = places-grown r p.places v.places z.places;
+      global = shows-grown r p.global v.global z.global;
     }
 
 -- a step on object n in a graph that has grown by points that raise no thread
@@ -146,6 +148,7 @@ place-stepped p v n g place kept l m r c s z = record {
   five = z.five;
   threads = threads-grown r p.threads v.threads z.threads;
   places = places-set g p.places v.places n place kept l m (places-grown r p.places v.places z.places) s;
+  global = shows-grown r p.global v.global z.global;
 }
 
 -- another object, in such a graph
@@ -157,6 +160,19 @@ place-added p v g place kept r c s z = record {
   five = z.five;
   threads = threads-grown r p.threads v.threads z.threads;
   places = places-more g p.places v.places place kept (places-grown r p.places v.places z.places) s;
+  global = shows-grown r p.global v.global z.global;
+}
+
+-- the global point moves on, in such a graph
+pub global-stepped : (p : Points) (v : Views) (g : Graph) (k : ℕ) (view : List ℕ) → GrownBy 5 p.graph g → IsChained g → Shows g k view → ShowsViews p v → ShowsViews (record p { graph = g; global = k }) (record v { global = view })
+global-stepped p v g k view r c s z = record {
+  chained = c;
+  count = z.count;
+  most = z.most;
+  five = z.five;
+  threads = threads-grown r p.threads v.threads z.threads;
+  places = places-grown r p.places v.places z.places;
+  global = s;
 }
 
 -- what holds of a value holds once it has been made

@@ -1,13 +1,14 @@
--- Two threads pass a message, by computation over the definitions.
+-- Two threads pass a message, or store and look at what the other stored, by computation over the definitions.
 use Rattle.std.proofs.Common.{◌≡◌, ℕ, List, [], ◌∷◌, refl, Result, Ok, Err}
-use Rattle.std.specs.declared.sync.atomic.Ordering.TheVariants.{Relaxed, Release}
+use Rattle.std.specs.declared.sync.atomic.Ordering.{Ordering}
+use Rattle.std.specs.declared.sync.atomic.Ordering.TheVariants.{Relaxed, Release, AcqRel, SeqCst}
 use Rattle.loom_views.specs.declared.rt.atomic.Reader.TheVariants.{Load}
 use Rattle.loom_views.specs.declared.rt.failure.FailureKind.{FailureKind}
 use Rattle.loom_views.specs.declared.rt.failure.FailureKind.TheVariants.{Misuse}
 use Rattle.loom_views.specs.Graph.{reaches, raised, inside}
 use Rattle.loom_views.specs.Slots.{number_in_slot}
 use Rattle.loom_views.specs.Atomic.{races, has_same_order, drops, is_below, is_seen}
-use Rattle.loom_views.specs.Table.{Points, opening, points_after_raise, points_after_acquire, points_after_release, points_with_point, points_after_spawn, points_with_atomic, points_after_load, points_after_store, readable_slots_of}
+use Rattle.loom_views.specs.Table.{Points, opening, points_after_raise, points_after_acquire, points_after_release, points_with_point, points_after_spawn, points_with_atomic, points_after_load, points_after_store, points_after_fence, readable_slots_of}
 
 abbrev then : {A B : Type 0} → Result A FailureKind → (A → Result B FailureKind) → Result B FailureKind
 then (Ok x) next = next x
@@ -42,3 +43,28 @@ loads_7 = refl
 no_atomic : then sent (λ p. readable_slots_of p 1 0 (Load Relaxed)) ≡ Err Misuse
 unfolding raised races inside reaches
 no_atomic = refl
+
+-- two atomics, of which a thread stores 1 to the one of its number, passes a fence, and is about to load
+abbrev passed : Ordering → ℕ → Points → Result Points FailureKind
+passed order t p =
+    then (points_after_raise p t) (λ q.
+    then (points_after_store q t t 1 Relaxed) (λ stored.
+    then (points_after_raise stored.points t) (λ r. points_after_raise (points_after_fence r t order) t)))
+
+-- main has made them and spawned a child, and both have passed their fences, main first
+abbrev both : Ordering → Result Points FailureKind
+both order = then (points_after_spawn (points_with_atomic (points_with_atomic opening 0 0) 0 0) 0) (λ p. then (passed order 0 p) (passed order 1))
+
+-- past sequentially consistent fences the child sees what main stored, and main may miss what the child stored
+seq_cst_child : then (both SeqCst) (λ p. readable_slots_of p 1 0 (Load Relaxed)) ≡ Ok (1 ∷ [])
+unfolding raised races inside reaches has_same_order number_in_slot drops is_below is_seen
+seq_cst_child = refl
+
+seq_cst_main : then (both SeqCst) (λ p. readable_slots_of p 0 1 (Load Relaxed)) ≡ Ok (0 ∷ 1 ∷ [])
+unfolding raised races inside reaches has_same_order number_in_slot drops is_below is_seen
+seq_cst_main = refl
+
+-- past weaker ones the child may miss it too
+acq_rel_child : then (both AcqRel) (λ p. readable_slots_of p 1 0 (Load Relaxed)) ≡ Ok (0 ∷ 1 ∷ [])
+unfolding raised races inside reaches has_same_order number_in_slot drops is_below is_seen
+acq_rel_child = refl

@@ -13,8 +13,8 @@ use Rattle.loom_views.specs.Threads.{ThreadPoints, ShowsThread, graph_with_child
 use Rattle.loom_views.specs.Versions.{zeros}
 use Rattle.loom_views.specs.Table.{Points, ShowsThreadAt, ShowsThreads, ShowsViews, MovesAs, opening, points_after_spawn}
 use Rattle.loom_views.proofs.Views.{chained-moved, chained-raising, present-old, present-new, shows-old, shows-start, raised-no}
-use Rattle.loom_views.proofs.ThreadMoves.{child-chained, own-version}
-use Rattle.loom_views.proofs.Growth.{GrownBy, same, quiet, raising, present-grown}
+use Rattle.loom_views.proofs.ThreadMoves.{child-chained}
+use Rattle.loom_views.proofs.Growth.{GrownBy, same, quiet, raising, shows-grown, present-grown}
 use Rattle.loom_views.proofs.Table.Lists.{get-set_same, get-set_other, get-append_same, get-append_other}
 use Rattle.loom_views.proofs.Table.Carried.{found, thread_at-grown, places-grown}
 
@@ -34,38 +34,49 @@ none-raised t = refl
 start : Point
 start = record { after = []; raises = None }
 
-opening-raised : (t : ℕ) → raised (moved (moved [] []) []) t ≡ []
+-- main's points, and then all
+abbrev mains : Graph
+mains = moved (moved [] []) []
+
+abbrev first : Graph
+first = moved mains []
+
+first-raised : (t : ℕ) → raised first t ≡ []
 unfolding start
-opening-raised t = raised-no start (moved [] []) t refl ∙ raised-no start [] t refl ∙ none-raised t
+first-raised t = raised-no start mains t refl ∙ raised-no start (moved [] []) t refl ∙ raised-no start [] t refl ∙ none-raised t
 
 -- main alone
-pub opening-shown : ShowsViews opening (let views : ThreadViews = record { present = zeros; released = zeros; last_yield = None } in record { threads = views ∷ views ∷ views ∷ views ∷ views ∷ []; count = 1; places = [] })
+pub opening-shown : ShowsViews opening (let views : ThreadViews = record { present = zeros; released = zeros; last_yield = None } in record { threads = views ∷ views ∷ views ∷ views ∷ views ∷ []; count = 1; places = []; global = zeros })
 unfolding start
 opening-shown = record {
-  chained = chained;
+  chained = chained-moved mains [] chained;
   count = refl;
   most = omega arith;
   five = refl;
   threads = threads;
   places = λ n. tt;
+  global = shows-start mains chained;
 }
   where
-    chained : IsChained (moved (moved [] []) [])
-    chained = chained-moved (moved [] []) [] (chained-moved [] [] none-chained)
+    one : IsChained (moved [] [])
+    one = chained-moved [] [] none-chained
+
+    chained : IsChained mains
+    chained = chained-moved (moved [] []) [] one
 
     views : ThreadViews
     views = record { present = zeros; released = zeros; last_yield = None }
 
-    threads : ShowsThreads (moved (moved [] []) []) (child_points [] ∷ []) (views ∷ views ∷ views ∷ views ∷ views ∷ [])
+    threads : ShowsThreads first (child_points [] ∷ []) (views ∷ views ∷ views ∷ views ∷ views ∷ [])
     threads zero l = (
-      none-present (moved (moved [] []) []) 0 1 (opening-raised 0),
+      none-present first 0 1 (first-raised 0),
       record {
-        present = shows-start (moved [] []) (chained-moved [] [] none-chained);
-        released = shows-old start (moved [] []) 0 zeros (shows-start [] none-chained);
+        present = shows-old start mains 1 zeros (shows-start (moved [] []) one);
+        released = shows-old start mains 0 zeros (shows-old start (moved [] []) 0 zeros (shows-start [] none-chained));
         yielded = tt;
       },
     )
-    threads (suc t) l = opening-raised (suc t)
+    threads (suc t) l = first-raised (suc t)
 
 -- the points and views of a run in which thread t has spawned the next one
 module _ (p : Points) (v : Views) (t : ℕ) (own : ThreadPoints) (views child : ThreadViews) (few : v.count < 5) (there : t < v.count) (z : ShowsViews p v) (none : raised p.graph v.count ≡ []) (present : IsPresent p.graph t own.present) (new : ShowsThread (graph_after_spawn p.graph own t v.count) v.count (child_points p.graph) child) (parent : ShowsThread (graph_after_spawn p.graph own t v.count) t (parent_points p.graph own) views) where
@@ -132,6 +143,7 @@ module _ (p : Points) (v : Views) (t : ℕ) (own : ThreadPoints) (views child : 
         five = length-set parents_views v.count child ∙ length-set v.threads t views ∙ z.five;
         threads = λ u h. ⊎_elim (λ e. subst IsShownAt (sym e) shown_at-child) (λ a. ⊎_elim (λ e. subst IsShownAt (sym e) shown_at-parent) (shown_at-other u h a) (cases_eq u t)) (cases_eq u v.count);
         places = places-grown two p.places v.places (places-grown one p.places v.places z.places);
+        global = shows-grown two p.global v.global (shows-grown one p.global v.global z.global);
       }
 
 module _ (p : Points) (v : Views) (t : ℕ) (d : ThreadViews) (l : t < v.count) (m : t < 5) (z : ShowsViews p v) where
@@ -151,21 +163,15 @@ module _ (p : Points) (v : Views) (t : ℕ) (d : ThreadViews) (l : t < v.count) 
       let full : nat_lt (length (raised p.graph t)) 65534 ≡ false = le-ltb (length (raised p.graph t)) 65534 b in
       rw (f.is, z.count, room, full) refl
 
-  own-count : get_or (get_or v.threads t d).present t 0 ≡ length (raised p.graph t)
-  own-count = let f = found p v t d l m z in own-version p.graph t f.own.present (get_or v.threads t d).present m f.present f.shown.present
-
-  pub spawn-refused : v.count < 5 → 65534 ≤ get_or (get_or v.threads t d).present t 0 → MovesAs (points_after_spawn p t) (Err TooManyVersions) v
-  spawn-refused few b = full-refused few (subst (λ k. 65534 ≤ k) own-count b)
-
   pub spawn-unmade : v.count < 5 → ((g : Graph) (own : ThreadPoints) → IsChained g → raised g v.count ≡ [] → IsPresent g t own.present → ShowsThread g t own (get_or v.threads t d) → 65534 ≤ length (raised g t)) → MovesAs (points_after_spawn p t) (Err TooManyVersions) v
   spawn-unmade few full = let f = found p v t d l m z in full-refused few (full p.graph f.own z.chained (child-none few) f.present f.shown)
 
-  pub spawn-moved : (child views : ThreadViews) → v.count < 5 → get_or (get_or v.threads t d).present t 0 < 65534 → ((g : Graph) (own : ThreadPoints) → IsChained g → raised g v.count ≡ [] → IsPresent g t own.present → ShowsThread g t own (get_or v.threads t d) → ShowsThread (graph_after_spawn g own t v.count) v.count (child_points g) child × ShowsThread (graph_after_spawn g own t v.count) t (parent_points g own) views)
+  pub spawn-moved : (child views : ThreadViews) → v.count < 5 → ((g : Graph) (own : ThreadPoints) → IsChained g → raised g v.count ≡ [] → IsPresent g t own.present → ShowsThread g t own (get_or v.threads t d) → length (raised g t) < 65534) → ((g : Graph) (own : ThreadPoints) → IsChained g → raised g v.count ≡ [] → IsPresent g t own.present → ShowsThread g t own (get_or v.threads t d) → ShowsThread (graph_after_spawn g own t v.count) v.count (child_points g) child × ShowsThread (graph_after_spawn g own t v.count) t (parent_points g own) views)
       → MovesAs (points_after_spawn p t) (Ok tt) (record v { threads = set (set v.threads t views) v.count child; count = v.count + 1 })
-  spawn-moved child views few b shown =
+  spawn-moved child views few room shown =
       let f = found p v t d l m z in
       let none = child-none few in
       let s = shown p.graph f.own z.chained none f.present f.shown in
-      let room : nat_le 5 v.count ≡ false = lt-leb 5 v.count few in
-      let free : nat_lt (length (raised p.graph t)) 65534 ≡ true = lt-ltb (length (raised p.graph t)) 65534 (subst (λ k. k < 65534) own-count b) in
-      rw (f.is, z.count, room, free) (refl, spawned-shown p v t f.own views child few l z none f.present s.0 s.1)
+      let fewer : nat_le 5 v.count ≡ false = lt-leb 5 v.count few in
+      let free : nat_lt (length (raised p.graph t)) 65534 ≡ true = lt-ltb (length (raised p.graph t)) 65534 (room p.graph f.own z.chained none f.present f.shown) in
+      rw (f.is, z.count, fewer, free) (refl, spawned-shown p v t f.own views child few l z none f.present s.0 s.1)

@@ -2,9 +2,9 @@
 //!
 //! A public call speaks of every scene that the vectors show: a graph, the thread's points in it, and the atomic's whole
 //! history by points. Slots are numbered from 0: the store with number `n` stands in slot `n` modulo `MAX_ATOMIC_HISTORY`.
-//! The thread has raised its version before the call. Where a call fails the run is over, and nothing is said of the atomic.
+//! The thread has raised its version before the call. Where a call fails, the atomic and the thread's views are as before.
 
-ghost use Rattle.std.specs.Prelude.{◌≡◌, ℕ, ◌+◌, ◌<◌, ◌≤◌, ◌==◌, min, IsTrue, None, slice_index_or, false, MatchResult, Ok, Err, length};
+ghost use Rattle.std.specs.Prelude.{◌≡◌, ℕ, ◌+◌, ◌<◌, ◌≤◌, ◌==◌, min, IsTrue, None, slice_index_or, false, MatchResult, OnErr, Ok, Err, length};
 ghost use Rattle.std.specs.List.{list_any};
 ghost use Rattle.loom_views.specs.Versions.{join, join_all};
 ghost use Rattle.loom_views.specs.Untouched.{untouched};
@@ -13,7 +13,8 @@ ghost use Rattle.loom_views.specs.Slots.{upto, has_order_of, has_equal_order_at}
 ghost use Rattle.loom_views.specs.Ring.{is_touch_in, is_version_before, touch_version, store_at, drops_slot, is_same_slot, readable_now, fails_now, is_order_seen, orders_seen, state_read, state_made, load_tracked, store_tracked, unsync_load_tracked, unsync_mut_tracked, load_now, store_now, update_read_now, update_write_now, newest_slot, unsync_load_now, mutate_now, mutate_end_now, state_blank};
 ghost use Rattle.loom_views.specs.Graph.{Graph, IsChained, IsPresent};
 ghost use Rattle.loom_views.specs.Threads.{ThreadPoints, ShowsThread};
-ghost use Rattle.loom_views.specs.Atomic.{Scene, readable, fails_by_orders, load_step, store_step, update_read_step, update_write_step, update_fail_step, unsync_load_step, mutate_step, mutate_end_step, new_step};
+ghost use Rattle.loom_views.specs.Fences.{standing_in, scene_at, after_store, acquire_fence_step};
+ghost use Rattle.loom_views.specs.Atomic.{in_slot, Scene, readable, fails_by_orders, load_step, store_step, update_read_step, update_write_step, update_fail_step, unsync_load_step, mutate_step, mutate_end_step, new_step};
 ghost use Rattle.loom_views.specs.declared.rt.atomic.Reader.{Reader};
 ghost use Rattle.loom_views.specs.Shown.{ShowsScene, AnswersAs, FinishesAs};
 
@@ -331,8 +332,9 @@ impl State {
         order: Ordering,
     ) -> Result<(), FailureKind>
         requires { thread < 5 }
-        ensures { MatchResult result (λ _. (self.old.count < 65535) × (self.new ≡ state_made self.old thread views.now sync value order))
+        ensures made { MatchResult result (λ _. (self.old.count < 65535) × (self.new ≡ state_made self.old thread views.now sync value order))
             (λ kind. (self.old.count ≡ 65535) × (kind ≡ TooManyStores)) }
+        ensures err { OnErr result (self.new ≡ self.old) }
     {
         if self.count == u16::MAX {
             return Err(FailureKind::TooManyStores);
@@ -343,7 +345,8 @@ impl State {
 
     /// Tests a load, and records it.
     fn track_load(&mut self, views: &ThreadViews) -> Result<(), FailureKind>
-        ensures { MatchResult result (λ _. load_tracked self.old views.now ≡ Ok self.new) (λ kind. load_tracked self.old views.now ≡ Err kind) }
+        ensures tested { MatchResult result (λ _. load_tracked self.old views.now ≡ Ok self.new) (λ kind. load_tracked self.old views.now ≡ Err kind) }
+        ensures err { OnErr result (self.new ≡ self.old) }
     {
         if self.is_mutating {
             return Err(FailureKind::OpenAccess);
@@ -355,9 +358,10 @@ impl State {
         Ok(())
     }
 
-    /// Tests a store, and records it.
-    fn track_store(&mut self, views: &ThreadViews) -> Result<(), FailureKind>
-        ensures { MatchResult result (λ _. store_tracked self.old views.now ≡ Ok self.new) (λ kind. store_tracked self.old views.now ≡ Err kind) }
+    /// Tests a store, which is still to be recorded.
+    fn test_store(&self, views: &ThreadViews) -> Result<(), FailureKind>
+        ensures { MatchResult result (λ _. store_tracked self.now views.now ≡ Ok (record self.now { stored_at = join self.now.stored_at views.now.present }))
+            (λ kind. store_tracked self.now views.now ≡ Err kind) }
     {
         if self.is_mutating {
             return Err(FailureKind::OpenAccess);
@@ -367,13 +371,13 @@ impl State {
         {
             return Err(FailureKind::Race);
         }
-        self.stored_at.join(&views.present);
         Ok(())
     }
 
     /// Tests a load that doesn't synchronize, and records it.
     fn track_unsync_load(&mut self, views: &ThreadViews) -> Result<(), FailureKind>
-        ensures { MatchResult result (λ _. unsync_load_tracked self.old views.now ≡ Ok self.new) (λ kind. unsync_load_tracked self.old views.now ≡ Err kind) }
+        ensures tested { MatchResult result (λ _. unsync_load_tracked self.old views.now ≡ Ok self.new) (λ kind. unsync_load_tracked self.old views.now ≡ Err kind) }
+        ensures err { OnErr result (self.new ≡ self.old) }
     {
         if self.is_mutating {
             return Err(FailureKind::OpenAccess);
@@ -389,7 +393,8 @@ impl State {
 
     /// Tests a mutation, and records it.
     fn track_unsync_mut(&mut self, views: &ThreadViews) -> Result<(), FailureKind>
-        ensures { MatchResult result (λ _. unsync_mut_tracked self.old views.now ≡ Ok self.new) (λ kind. unsync_mut_tracked self.old views.now ≡ Err kind) }
+        ensures tested { MatchResult result (λ _. unsync_mut_tracked self.old views.now ≡ Ok self.new) (λ kind. unsync_mut_tracked self.old views.now ≡ Err kind) }
+        ensures err { OnErr result (self.new ≡ self.old) }
     {
         if self.is_mutating {
             return Err(FailureKind::OpenAccess);
@@ -415,8 +420,10 @@ impl State {
     ) -> Result<u64, FailureKind>
         requires thread_in { thread < 5 }
         requires slot_in { slot < 7 }
-        ensures { MatchResult result (λ value. load_now self.old thread views.old slot order ≡ Ok (record { state = self.new; views = views.new; value = value }))
+        ensures answer { MatchResult result (λ value. load_now self.old thread views.old slot order ≡ Ok (record { state = self.new; views = views.new; value = value }))
             (λ kind. load_now self.old thread views.old slot order ≡ Err kind) }
+        ensures err { OnErr result (self.new ≡ self.old) }
+        ensures err_views { OnErr result (views.new ≡ views.old) }
     {
         self.track_load(views)?;
         let value = self.read(thread, views, slot);
@@ -433,11 +440,13 @@ impl State {
         order: Ordering,
     ) -> Result<(), FailureKind>
         requires { thread < 5 }
-        ensures { MatchResult result (λ _. store_now self.old thread views.now value order ≡ Ok (record { state = self.new; views = views.now; value = value }))
+        ensures answer { MatchResult result (λ _. store_now self.old thread views.now value order ≡ Ok (record { state = self.new; views = views.now; value = value }))
             (λ kind. store_now self.old thread views.now value order ≡ Err kind) }
+        ensures err { OnErr result (self.new ≡ self.old) }
     {
-        self.track_store(views)?;
+        self.test_store(views)?;
         self.make(thread, views, Synchronize::new(), value, order)?;
+        self.stored_at.join(&views.present);
         Ok(())
     }
 
@@ -450,8 +459,9 @@ impl State {
     ) -> Result<u64, FailureKind>
         requires thread_in { thread < 5 }
         requires slot_in { slot < 7 }
-        ensures { MatchResult result (λ value. update_read_now self.old thread views.now slot ≡ Ok (record { state = self.new; views = views.now; value = value }))
+        ensures answer { MatchResult result (λ value. update_read_now self.old thread views.now slot ≡ Ok (record { state = self.new; views = views.now; value = value }))
             (λ kind. update_read_now self.old thread views.now slot ≡ Err kind) }
+        ensures err { OnErr result (self.new ≡ self.old) }
     {
         self.track_load(views)?;
         Ok(self.read(thread, views, slot))
@@ -468,13 +478,18 @@ impl State {
     ) -> Result<(), FailureKind>
         requires thread_in { thread < 5 }
         requires slot_in { slot < 7 }
-        ensures { MatchResult result (λ _. update_write_now self.old thread views.old slot value success ≡ Ok (record { state = self.new; views = views.new; value = value }))
+        ensures answer { MatchResult result (λ _. update_write_now self.old thread views.old slot value success ≡ Ok (record { state = self.new; views = views.new; value = value }))
             (λ kind. update_write_now self.old thread views.old slot value success ≡ Err kind) }
+        ensures err { OnErr result (self.new ≡ self.old) }
+        ensures err_views { OnErr result (views.new ≡ views.old) }
     {
-        self.track_store(views)?;
+        self.test_store(views)?;
         let sync = self.stores[slot].sync;
-        sync.sync_load(views, success);
-        self.make(thread, views, sync, value, success)?;
+        let mut loaded = *views;
+        sync.sync_load(&mut loaded, success);
+        self.make(thread, &loaded, sync, value, success)?;
+        self.stored_at.join(&views.present);
+        *views = loaded;
         Ok(())
     }
 
@@ -488,8 +503,9 @@ impl State {
 
     /// A load that doesn't synchronize, in vectors.
     fn unsync_load_in_vectors(&mut self, views: &ThreadViews) -> Result<u64, FailureKind>
-        ensures { MatchResult result (λ value. unsync_load_now self.old views.now ≡ Ok (record { state = self.new; views = views.now; value = value }))
+        ensures answer { MatchResult result (λ value. unsync_load_now self.old views.now ≡ Ok (record { state = self.new; views = views.now; value = value }))
             (λ kind. unsync_load_now self.old views.now ≡ Err kind) }
+        ensures err { OnErr result (self.new ≡ self.old) }
     {
         self.track_unsync_load(views)?;
         Ok(self.stores[self.newest()].value)
@@ -497,8 +513,9 @@ impl State {
 
     /// A mutation opens, in vectors.
     fn mutate_in_vectors(&mut self, views: &ThreadViews) -> Result<u64, FailureKind>
-        ensures { MatchResult result (λ value. mutate_now self.old views.now ≡ Ok (record { state = self.new; views = views.now; value = value }))
+        ensures answer { MatchResult result (λ value. mutate_now self.old views.now ≡ Ok (record { state = self.new; views = views.now; value = value }))
             (λ kind. mutate_now self.old views.now ≡ Err kind) }
+        ensures err { OnErr result (self.new ≡ self.old) }
     {
         self.track_unsync_mut(views)?;
         self.is_mutating = true;
@@ -507,13 +524,16 @@ impl State {
 
     /// A mutation closes, in vectors.
     fn mutate_end_in_vectors(&mut self, views: &ThreadViews, value: u64) -> Result<(), FailureKind>
-        ensures { MatchResult result (λ _. mutate_end_now self.old views.now value ≡ Ok (record { state = self.new; views = views.now; value = value }))
+        ensures answer { MatchResult result (λ _. mutate_end_now self.old views.now value ≡ Ok (record { state = self.new; views = views.now; value = value }))
             (λ kind. mutate_end_now self.old views.now value ≡ Err kind) }
+        ensures err { OnErr result (self.new ≡ self.old) }
     {
-        self.is_mutating = false;
         let newest = self.newest();
-        self.stores[newest].value = value;
-        self.track_unsync_mut(views)?;
+        let mut closed = *self;
+        closed.is_mutating = false;
+        closed.stores[newest].value = value;
+        closed.track_unsync_mut(views)?;
+        *self = closed;
         Ok(())
     }
 
@@ -528,8 +548,10 @@ impl State {
     ) -> Result<u64, FailureKind>
         requires thread_in { thread < 5 }
         requires slot_in { slot < 7 }
-        ensures { (s : Scene) → ShowsScene thread s views.old self.old → slot < length s.history.stores →
+        ensures shown { (s : Scene) → ShowsScene thread s views.old self.old → slot < length s.history.stores →
             AnswersAs thread (load_step thread s slot order) result views.new self.new }
+        ensures err { OnErr result (self.new ≡ self.old) }
+        ensures err_views { OnErr result (views.new ≡ views.old) }
     {
         self.load_in_vectors(thread, views, slot, order)
     }
@@ -544,7 +566,8 @@ impl State {
         order: Ordering,
     ) -> Result<(), FailureKind>
         requires { thread < 5 }
-        ensures { (s : Scene) → ShowsScene thread s views.now self.old → FinishesAs thread (store_step thread s value order) result views.now self.new }
+        ensures shown { (s : Scene) → ShowsScene thread s views.now self.old → FinishesAs thread (store_step thread s value order) result views.now self.new }
+        ensures err { OnErr result (self.new ≡ self.old) }
     {
         self.store_in_vectors(thread, views, value, order)
     }
@@ -558,8 +581,9 @@ impl State {
     ) -> Result<u64, FailureKind>
         requires thread_in { thread < 5 }
         requires slot_in { slot < 7 }
-        ensures { (s : Scene) → ShowsScene thread s views.now self.old → slot < length s.history.stores →
+        ensures shown { (s : Scene) → ShowsScene thread s views.now self.old → slot < length s.history.stores →
             AnswersAs thread (update_read_step thread s slot) result views.now self.new }
+        ensures err { OnErr result (self.new ≡ self.old) }
     {
         self.update_read_in_vectors(thread, views, slot)
     }
@@ -576,8 +600,10 @@ impl State {
     ) -> Result<(), FailureKind>
         requires thread_in { thread < 5 }
         requires slot_in { slot < 7 }
-        ensures { (s : Scene) → ShowsScene thread s views.old self.old → slot < length s.history.stores →
+        ensures shown { (s : Scene) → ShowsScene thread s views.old self.old → slot < length s.history.stores →
             FinishesAs thread (update_write_step thread s slot value success) result views.new self.new }
+        ensures err { OnErr result (self.new ≡ self.old) }
+        ensures err_views { OnErr result (views.new ≡ views.old) }
     {
         self.update_write_in_vectors(thread, views, slot, value, success)
     }
@@ -595,8 +621,9 @@ impl State {
     /// Loads the newest value without synchronizing. It is `OpenAccess` while a mutation is open, and `Race` with a store or a
     /// mutation that hasn't come to the thread (loom's `rt/atomic.rs`).
     pub fn unsync_load(&mut self, views: &ThreadViews) -> Result<u64, FailureKind>
-        ensures { (t : ℕ) (s : Scene) → ShowsScene t s views.now self.old → 0 < length s.history.stores →
+        ensures shown { (t : ℕ) (s : Scene) → ShowsScene t s views.now self.old → 0 < length s.history.stores →
             AnswersAs t (unsync_load_step s) result views.now self.new }
+        ensures err { OnErr result (self.new ≡ self.old) }
     {
         self.unsync_load_in_vectors(views)
     }
@@ -604,8 +631,9 @@ impl State {
     /// Opens a mutation, and gives the newest value. It is `OpenAccess` while another is open, and `Race` with any access that
     /// hasn't come to the thread (loom's `rt/atomic.rs`).
     pub fn with_mut(&mut self, views: &ThreadViews) -> Result<u64, FailureKind>
-        ensures { (t : ℕ) (s : Scene) → ShowsScene t s views.now self.old → 0 < length s.history.stores →
+        ensures shown { (t : ℕ) (s : Scene) → ShowsScene t s views.now self.old → 0 < length s.history.stores →
             AnswersAs t (mutate_step s) result views.now self.new }
+        ensures err { OnErr result (self.new ≡ self.old) }
     {
         self.mutate_in_vectors(views)
     }
@@ -613,10 +641,35 @@ impl State {
     /// Closes a mutation, with the value that it leaves. It is `Race` with any access that hasn't come to the thread (loom's
     /// `rt/atomic.rs`).
     pub fn with_mut_end(&mut self, views: &ThreadViews, value: u64) -> Result<(), FailureKind>
-        ensures { (t : ℕ) (s : Scene) → ShowsScene t s views.now self.old → 0 < length s.history.stores →
+        ensures shown { (t : ℕ) (s : Scene) → ShowsScene t s views.now self.old → 0 < length s.history.stores →
             FinishesAs t (mutate_end_step s value) result views.now self.new }
+        ensures err { OnErr result (self.new ≡ self.old) }
     {
         self.mutate_end_in_vectors(views, value)
+    }
+
+    /// A thread acquires from the store in a slot, where it has seen the store.
+    fn acquire_seen(&self, views: &mut ThreadViews, slot: usize)
+        requires { slot < 7 }
+        ensures { (t : ℕ) (s : Scene) → ShowsScene t s views.old self.now → slot < length s.history.stores →
+            ShowsScene t (scene_at s (after_store (standing_in s) (in_slot s.history.stores slot))) views.new self.now }
+    {
+        let store = &self.stores[slot];
+        if store.first_seen.is_seen_from(&views.present) {
+            store.sync.sync_load(views, Ordering::Acquire);
+        }
+    }
+
+    /// A thread's acquire fence, as far as this atomic goes: through the kept stores from the oldest, it acquires from each that
+    /// it has seen by then (loom's `rt/atomic.rs`).
+    pub fn acquire_fence(&self, views: &mut ThreadViews)
+        ensures { (t : ℕ) (s : Scene) → ShowsScene t s views.old self.now → ShowsScene t (acquire_fence_step s) views.new self.now }
+    {
+        let kept = self.kept();
+        let oldest = usize::from(self.count) - kept;
+        for i in 0..kept {
+            self.acquire_seen(views, (oldest + i) % MAX_ATOMIC_HISTORY);
+        }
     }
 
     /// No store yet, and a mutation in this view.

@@ -1,7 +1,7 @@
 //! Laws of views, of the vectors that show them, and of the choice of a store. A law is the contract of a function that does
 //! nothing; it is stated in `specs/Laws`.
 ghost use Rattle.loom_views.specs.Examples.{ExampleLaw};
-ghost use Rattle.loom_views.specs.Laws.{PastLaw, ReachingLaw, CountLaw, ComparingLaw, EqualLaw, StandingLaw, ReadableLaw};
+ghost use Rattle.loom_views.specs.Laws.{PastLaw, ReachingLaw, CountLaw, ComparingLaw, EqualLaw, StandingLaw, ReadableLaw, OfferingLaw, KeepingLaw, LoadingLaw, UpdatingLaw, FencingLaw};
 
 /// That a chain of edges leads from one point to another can be found by one sweep from the newest point down (own).
 pub fn past_is_reaching()
@@ -38,6 +38,33 @@ pub fn points_stay_shown()
 /// Where an atomic has a store, a reader has a slot to choose; `readable` answers slots, or `OrdersEqual` (own).
 pub fn some_slot_is_readable()
     ensures { ReadableLaw }
+{}
+
+/// Of what is kept of a run, a choice of slots always offers one, unless it fails: each atomic has a store (own).
+pub fn some_slot_is_offered()
+    ensures { OfferingLaw }
+{}
+
+/// In each slot that a choice offers a store is kept, so it may be loaded from (own).
+pub fn offered_slots_are_kept()
+    ensures { KeepingLaw }
+{}
+
+/// A load from a slot in which a store is kept answers the value of one of the last seven stores of its atomic (own).
+pub fn loads_read_kept_stores()
+    ensures { LoadingLaw }
+{}
+
+/// A read-modify-write that reads a slot in which a store is kept answers the value of one of the last seven stores of its
+/// atomic (own).
+pub fn updates_read_kept_stores()
+    ensures { UpdatingLaw }
+{}
+
+/// A sequentially consistent fence brings its thread what the earlier ones left at the global point, and leaves there what has
+/// come to the thread (own).
+pub fn fences_meet_at_the_global_point()
+    ensures { FencingLaw }
 {}
 
 /// In small histories of one atomic: a thread that stored alone may load its last value only, also once slots are used again,

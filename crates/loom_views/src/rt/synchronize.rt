@@ -80,6 +80,8 @@ impl ThreadViews {
         ensures unchanged { IsNone result → self.new ≡ self.old }
         ensures room { (g : Graph) (p : ThreadPoints) → raised g child ≡ [] → IsPresent g thread p.present → ShowsThread g thread p self.old →
             (IsNone result ↔ (length (raised g thread) ≡ 65534)) }
+        ensures counted { (g : Graph) (p : ThreadPoints) → raised g child ≡ [] → IsPresent g thread p.present → ShowsThread g thread p self.old →
+            length (raised g thread) ≤ 65534 }
         ensures shown { (g : Graph) (p : ThreadPoints) → IsChained g → raised g child ≡ [] → ShowsThread g thread p self.old →
             IfSome result (λ views. ShowsThread (graph_after_spawn g p thread child) child (child_points g) views × ShowsThread (graph_after_spawn g p thread child) thread (parent_points g p) self.new) }
     {

@@ -7,12 +7,12 @@
 ghost use Rattle.std.specs.Prelude.{◌≡◌, ◌++◌, ◌∷◌, ◌<◌, [], OnErr, OnOk, slice_get};
 ghost use Rattle.loom_views.specs.declared.rt.table.Kept.TheVariants.{Meeting};
 ghost use Rattle.loom_views.specs.Versions.{zeros};
-ghost use Rattle.loom_views.specs.Table.{Points, ShowsViews, MovesAs, LoadsAs, StoresAs, OffersAs, IsSlotKept, opening, points_after_raise, points_after_acquire, points_after_release, points_after_release_fence, points_after_yield, points_with_point, points_after_spawn, points_after_join, points_with_atomic, points_after_load, points_after_store, readable_slots_of, slot_set, has_slot};
+ghost use Rattle.loom_views.specs.Table.{Points, ShowsViews, MovesAs, LoadsAs, StoresAs, OffersAs, IsSlotKept, opening, points_after_raise, points_after_acquire, points_after_release, points_after_release_fence, points_after_yield, points_with_point, points_after_spawn, points_after_join, points_with_atomic, points_after_load, points_after_store, points_after_update_read, points_after_update_write, points_after_update_fail, points_after_unsync_load, points_after_with_mut, points_after_with_mut_end, points_after_acquire_fence, points_after_meet_global, points_after_fence, readable_slots_of, slot_set, has_slot};
 
 use crate::rt::atomic::{Reader, State};
 use crate::rt::failure::FailureKind;
 use crate::rt::synchronize::{Synchronize, ThreadViews};
-use crate::rt::vv::MAX_VERSION;
+use crate::rt::vv::VersionVec;
 use crate::rt::{MAX_ATOMIC_HISTORY, MAX_THREADS};
 use crate::sequence::Sequence;
 use arrayvec::ArrayVec;
@@ -37,12 +37,14 @@ impl Kept {
     }
 }
 
-/// The views of the threads of a run, and what each object keeps of views, in the order made.
+/// The views of the threads of a run, what each object keeps of views, in the order made, and the global view, at which
+/// sequentially consistent fences meet.
 #[derive(Drop)]
 pub struct Views {
     threads: [ThreadViews; MAX_THREADS],
     count: usize,
     places: Sequence<Kept>,
+    global: VersionVec,
 }
 
 impl Views {
@@ -54,6 +56,7 @@ impl Views {
             threads: [ThreadViews::new(); MAX_THREADS],
             count: 1,
             places: Sequence::new(alloc),
+            global: VersionVec::new(),
         }
     }
 
@@ -113,6 +116,57 @@ impl Views {
         self.threads[thread] = views;
     }
 
+    /// A thread's acquire fence: through all atomics in the order made, and the kept stores of each from the oldest, it
+    /// acquires from each store that it has seen by then (loom's `rt/atomic.rs`).
+    pub fn acquire_fence(&mut self, thread: usize)
+        ensures { (p : Points) → ShowsViews p self.old → ShowsViews (points_after_acquire_fence p thread) self.new }
+    {
+        if thread >= self.count || thread >= MAX_THREADS {
+            return;
+        }
+        let mut views = self.threads[thread];
+        for place in 0..self.places.len() {
+            if let Kept::Keeping(state) = self.places.at(place) {
+                state.acquire_fence(&mut views);
+            }
+        }
+        self.threads[thread] = views;
+    }
+
+    /// A thread takes in the global view, and then the global view takes in the thread's (loom's `rt/thread.rs`).
+    pub fn meet_global(&mut self, thread: usize)
+        ensures { (p : Points) → ShowsViews p self.old → ShowsViews (points_after_meet_global p thread) self.new }
+    {
+        if thread >= self.count || thread >= MAX_THREADS {
+            return;
+        }
+        let mut views = self.threads[thread];
+        views.acquire(&self.global);
+        self.global.join(&views.present);
+        self.threads[thread] = views;
+    }
+
+    /// A fence of a thread that has raised its version, by an ordering. A relaxed one does nothing: that there is none such is
+    /// for the caller to say (loom's `rt/atomic.rs`).
+    pub fn fence(&mut self, thread: usize, order: Ordering)
+        ensures { (p : Points) → ShowsViews p self.old → ShowsViews (points_after_fence p thread order) self.new }
+    {
+        match order {
+            Ordering::Relaxed => {}
+            Ordering::Acquire => self.acquire_fence(thread),
+            Ordering::Release => self.release_fence(thread),
+            Ordering::AcqRel => {
+                self.acquire_fence(thread);
+                self.release_fence(thread);
+            }
+            Ordering::SeqCst => {
+                self.acquire_fence(thread);
+                self.release_fence(thread);
+                self.meet_global(thread);
+            }
+        }
+    }
+
     /// A thread yields: its own version is kept as that of its last yield (loom's `rt/thread.rs`).
     pub fn mark_yield(&mut self, thread: usize)
         ensures { (p : Points) → ShowsViews p self.old → ShowsViews (points_after_yield p thread) self.new }
@@ -160,9 +214,6 @@ impl Views {
             return Err(FailureKind::TooManyThreads);
         }
         let mut views = self.threads[parent];
-        if views.present.version(parent) >= MAX_VERSION {
-            return Err(FailureKind::TooManyVersions);
-        }
         match views.spawn(parent, child) {
             Some(child_views) => {
                 self.threads[parent] = views;
@@ -273,6 +324,137 @@ impl Views {
         let views = self.threads[thread];
         match self.places.at_mut(place) {
             Kept::Keeping(state) => state.store(thread, &views, value, order),
+            Kept::Meeting(_) => Err(FailureKind::Misuse),
+        }
+    }
+
+    /// A thread, which has raised its version, reads for a read-modify-write from the store in a slot of an atomic, and answers
+    /// its value. It fails as a load does (loom's `rt/atomic.rs`).
+    pub fn update_read(
+        &mut self,
+        thread: usize,
+        place: usize,
+        slot: usize,
+    ) -> Result<u64, FailureKind>
+        ensures shown { (p : Points) → ShowsViews p self.old → IsSlotKept (slice_get p.places place) slot →
+            LoadsAs (points_after_update_read p thread place slot) result self.new }
+        ensures err { OnErr result (self.new ≡ self.old) }
+    {
+        if thread >= self.count || thread >= MAX_THREADS || place >= self.places.len() {
+            return Err(FailureKind::Misuse);
+        }
+        if slot >= MAX_ATOMIC_HISTORY {
+            return Err(FailureKind::Misuse);
+        }
+        let views = self.threads[thread];
+        match self.places.at_mut(place) {
+            Kept::Keeping(state) => state.update_read(thread, &views, slot),
+            Kept::Meeting(_) => Err(FailureKind::Misuse),
+        }
+    }
+
+    /// A thread that has read the store in a slot writes for a read-modify-write that succeeds: the new store goes on
+    /// releasing what that store released. It fails as a store does, and with `Misuse` where there is no such slot (loom's
+    /// `rt/atomic.rs`).
+    pub fn update_write(
+        &mut self,
+        thread: usize,
+        place: usize,
+        slot: usize,
+        value: u64,
+        success: Ordering,
+    ) -> Result<(), FailureKind>
+        ensures shown { (p : Points) → ShowsViews p self.old → IsSlotKept (slice_get p.places place) slot →
+            StoresAs (points_after_update_write p thread place slot value success) result self.new }
+        ensures err { OnErr result (self.new ≡ self.old) }
+    {
+        if thread >= self.count || thread >= MAX_THREADS || place >= self.places.len() {
+            return Err(FailureKind::Misuse);
+        }
+        if slot >= MAX_ATOMIC_HISTORY {
+            return Err(FailureKind::Misuse);
+        }
+        let mut views = self.threads[thread];
+        match self.places.at_mut(place) {
+            Kept::Keeping(state) => {
+                let answer = state.update_write(thread, &mut views, slot, value, success);
+                self.threads[thread] = views;
+                answer
+            }
+            Kept::Meeting(_) => Err(FailureKind::Misuse),
+        }
+    }
+
+    /// A thread that has read the store in a slot ends a read-modify-write that fails: a load by the failure ordering (loom's
+    /// `rt/atomic.rs`).
+    pub fn update_fail(&mut self, thread: usize, place: usize, slot: usize, failure: Ordering)
+        ensures { (p : Points) → ShowsViews p self.old → IsSlotKept (slice_get p.places place) slot →
+            ShowsViews (points_after_update_fail p thread place slot failure) self.new }
+    {
+        if thread >= self.count || thread >= MAX_THREADS || place >= self.places.len() {
+            return;
+        }
+        if slot >= MAX_ATOMIC_HISTORY {
+            return;
+        }
+        let mut views = self.threads[thread];
+        if let Kept::Keeping(state) = self.places.at(place) {
+            state.update_fail(&mut views, slot, failure);
+            self.threads[thread] = views;
+        }
+    }
+
+    /// A thread loads the newest value of an atomic without synchronizing. `OpenAccess` while a mutation is open, `Race` with
+    /// a store or a mutation that hasn't come to the thread, `Misuse` where there is no such thread or atomic (loom's
+    /// `rt/atomic.rs`).
+    pub fn unsync_load(&mut self, thread: usize, place: usize) -> Result<u64, FailureKind>
+        ensures shown { (p : Points) → ShowsViews p self.old → LoadsAs (points_after_unsync_load p thread place) result self.new }
+        ensures err { OnErr result (self.new ≡ self.old) }
+    {
+        if thread >= self.count || thread >= MAX_THREADS || place >= self.places.len() {
+            return Err(FailureKind::Misuse);
+        }
+        let views = self.threads[thread];
+        match self.places.at_mut(place) {
+            Kept::Keeping(state) => state.unsync_load(&views),
+            Kept::Meeting(_) => Err(FailureKind::Misuse),
+        }
+    }
+
+    /// A thread opens a mutation of an atomic, and is answered the newest value. `OpenAccess` while another is open, `Race`
+    /// with any access that hasn't come to the thread, `Misuse` where there is no such thread or atomic (loom's
+    /// `rt/atomic.rs`).
+    pub fn with_mut(&mut self, thread: usize, place: usize) -> Result<u64, FailureKind>
+        ensures shown { (p : Points) → ShowsViews p self.old → LoadsAs (points_after_with_mut p thread place) result self.new }
+        ensures err { OnErr result (self.new ≡ self.old) }
+    {
+        if thread >= self.count || thread >= MAX_THREADS || place >= self.places.len() {
+            return Err(FailureKind::Misuse);
+        }
+        let views = self.threads[thread];
+        match self.places.at_mut(place) {
+            Kept::Keeping(state) => state.with_mut(&views),
+            Kept::Meeting(_) => Err(FailureKind::Misuse),
+        }
+    }
+
+    /// A thread closes a mutation of an atomic, with the value that it leaves. `Race` with any access that hasn't come to the
+    /// thread, `Misuse` where there is no such thread or atomic (loom's `rt/atomic.rs`).
+    pub fn with_mut_end(
+        &mut self,
+        thread: usize,
+        place: usize,
+        value: u64,
+    ) -> Result<(), FailureKind>
+        ensures shown { (p : Points) → ShowsViews p self.old → StoresAs (points_after_with_mut_end p thread place value) result self.new }
+        ensures err { OnErr result (self.new ≡ self.old) }
+    {
+        if thread >= self.count || thread >= MAX_THREADS || place >= self.places.len() {
+            return Err(FailureKind::Misuse);
+        }
+        let views = self.threads[thread];
+        match self.places.at_mut(place) {
+            Kept::Keeping(state) => state.with_mut_end(&views, value),
             Kept::Meeting(_) => Err(FailureKind::Misuse),
         }
     }

@@ -1,5 +1,5 @@
 use Rattle.std.proofs.Common.{true}
-use Rattle.loom_engine.specs.Nodes.{slots}
+use Rattle.loom_objects.specs.Question.{slots}
 use Rattle.loom_engine.proofs.Nodes.Slots.{some_slot, load_fresh}
 use Rattle.loom_engine.proofs.rt.node.Load.new.Goals as goal
 

@@ -1,4 +1,4 @@
-use Rattle.std.proofs.Common.{◌≡◌, length, arith, sym, ◌∙◌, ap, refl}
+use Rattle.std.proofs.Common.{◌≡◌, ◌≤◌, subst, length, arith, sym, ◌∙◌, ap, refl}
 use Rattle.std.proofs.lemmas.Bool.{OnTrue_at, true≢false}
 use Rattle.loom_views.specs.declared.rt.synchronize.ThreadViews.{ThreadViews}
 use Rattle.loom_views.specs.Graph.{raised}
@@ -20,6 +20,14 @@ pub returns-clause-room : goal.returns-clause-room
 returns-clause-room c = λ g p e i h.
     let own = own-version g c.args.thread p.present c.args.self.now.present c.requires.thread_in i h.present in
     (λ b. absurd (true≢false b), λ f. absurd (true≢false (sym c.if-not-inc-2.false ∙ c.inc-else-not-inc.ensures.full.1 (own ∙ f))))
+
+pub returns-then-not-inc-clause-counted : goal.returns-then-not-inc-clause-counted
+returns-then-not-inc-clause-counted c = λ g p e i h.
+    let full : length (raised g c.args.thread) ≡ 65534 = (returns-then-not-inc-clause-room c g p e i h).0 refl in
+    omega arith
+
+pub returns-clause-counted : goal.returns-clause-counted
+returns-clause-counted c = λ g p e i h. subst (λ n. n ≤ 65534) (own-version g c.args.thread p.present c.args.self.now.present c.requires.thread_in i h.present) c.inc-else-not-inc.ensures.counted
 
 pub returns-clause-shown : goal.returns-clause-shown
 returns-clause-shown c = λ g p ch e h.

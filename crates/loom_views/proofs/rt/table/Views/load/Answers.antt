@@ -3,4 +3,4 @@ use Rattle.loom_views.proofs.Table.Accesses.{load-moved}
 use Rattle.loom_views.proofs.rt.table.Views.load.Goals as goal
 
 pub returns-in-Keeping : goal.returns-in-Keeping
-returns-in-Keeping c = λ p z b. load-moved p c.args.self.now c.args.thread c.args.place c.index-self-thread.result c.in-Keeping.state c.if-thread-self.false c.if-thread-ge-MAX_THREADS.false (c.at_mut.ensures.value ∙ ap Some c.in-Keeping.is) z c.args.slot c.args.order c.load-answer.result c.load-answer.new.views c.load-answer.new.self c.load-answer.ensures b
+returns-in-Keeping c = λ p z b. load-moved p c.args.self.now c.args.thread c.args.place c.index-self-thread.result c.in-Keeping.state c.if-thread-self.false c.if-thread-ge-MAX_THREADS.false (c.at_mut.ensures.value ∙ ap Some c.in-Keeping.is) z c.args.slot c.args.order c.load-answer.result c.load-answer.new.views c.load-answer.new.self c.load-answer.ensures.shown b

@@ -1,0 +1,89 @@
+//! The bodies that are checked.
+
+use loom_ops::sync::atomic::Ordering;
+use loom_scripts::script::{Step, Value};
+
+const FINISH: Step = Step::Finish(Value::Plain(0));
+
+/// Two threads store to an atomic each, and load from the other's.
+static STORE_BUFFERING: [Step; 13] = [
+    Step::NewAtomic(0, 0),
+    Step::NewAtomic(1, 0),
+    Step::Spawn(0, 8),
+    Step::Store(1, Value::Plain(1), Ordering::Relaxed),
+    Step::Load(0, 1, Ordering::Relaxed),
+    Step::Join(0, 0),
+    Step::Finish(Value::Both(0, 1)),
+    Step::Jump(11),
+    Step::Store(0, Value::Plain(1), Ordering::Relaxed),
+    Step::Load(1, 0, Ordering::Relaxed),
+    Step::Finish(Value::Held(0)),
+    Step::Exit,
+    Step::End,
+];
+
+/// Three threads, of which each stores twice and loads twice, from an atomic of its own and from the next one's.
+static THREE_THREADS: [Step; 22] = [
+    Step::NewAtomic(0, 0),
+    Step::NewAtomic(1, 0),
+    Step::NewAtomic(2, 0),
+    Step::Spawn(0, 10),
+    Step::Spawn(1, 15),
+    Step::Store(0, Value::Plain(1), Ordering::Relaxed),
+    Step::Load(1, 0, Ordering::Relaxed),
+    Step::Store(0, Value::Plain(2), Ordering::Relaxed),
+    Step::Load(1, 1, Ordering::Relaxed),
+    Step::Jump(19),
+    Step::Store(1, Value::Plain(1), Ordering::Relaxed),
+    Step::Load(2, 0, Ordering::Relaxed),
+    Step::Store(1, Value::Plain(2), Ordering::Relaxed),
+    Step::Load(2, 1, Ordering::Relaxed),
+    Step::Jump(19),
+    Step::Store(2, Value::Plain(1), Ordering::Relaxed),
+    Step::Load(0, 0, Ordering::Relaxed),
+    Step::Store(2, Value::Plain(2), Ordering::Relaxed),
+    Step::Load(0, 1, Ordering::Relaxed),
+    FINISH,
+    Step::Exit,
+    Step::End,
+];
+
+/// Two threads lock two mutexes in the same order, beside a main that joins them.
+static LOCKS_IN_TURN: [Step; 16] = [
+    Step::NewMutex(0),
+    Step::NewMutex(1),
+    Step::Spawn(0, 9),
+    Step::Spawn(1, 9),
+    Step::Join(0, 0),
+    Step::Join(1, 0),
+    FINISH,
+    Step::Exit,
+    Step::End,
+    Step::Lock(0),
+    Step::Lock(1),
+    Step::Release(1),
+    Step::Release(0),
+    FINISH,
+    Step::Exit,
+    Step::End,
+];
+
+/// A body, and how often it is checked.
+#[derive(Clone, Copy)]
+pub struct Measured {
+    /// The steps of its threads.
+    pub steps: &'static [Step],
+    /// How many checks are made, one after another.
+    pub checks: u64,
+}
+
+/// The body of this name. Those whose check is short are checked many times.
+pub fn body_of(name: &str) -> Option<Measured> {
+    let (steps, checks) = match name {
+        "store_buffering" => (STORE_BUFFERING.as_slice(), 1000),
+        "locks_in_turn" => (LOCKS_IN_TURN.as_slice(), 1000),
+        "three_threads" => (THREE_THREADS.as_slice(), 1),
+        _ => return None,
+    };
+    Some(Measured { steps, checks })
+}

@@ -1,0 +1,29 @@
+-- From the state that the code shows to the one that it shows then.
+use Rattle.std.proofs.Common.{◌≡◌, refl, ap, sym, ◌∙◌, subst}
+use Rattle.std.specs.Prelude.{Ok}
+use Rattle.loom_views.specs.Table.{Points, ShowsViews}
+use Rattle.loom_views.specs.declared.rt.failure.FailureKind.{FailureKind}
+use Rattle.loom_views.specs.declared.rt.table.Views.{Views}
+use Rattle.loom_objects.specs.declared.rt.run.RunState.{RunState}
+use Rattle.loom_objects.specs.Failing.{fails}
+use Rattle.loom_objects.specs.Shown.{world_of, Does}
+use Rattle.loom_objects.specs.Tree.{Tree, Gives, Fails}
+use Rattle.loom_objects.specs.World.{World}
+
+module _ {A D : Type 0} (rule : World D → Tree (A × World D)) (old new : RunState D) where
+  -- the points move as the views do, and all else as the rule says
+  pub gives : (a : A) (views : Views) (after : Points → Points) → new.views ≡ views → ((p : Points) → ShowsViews p old.views → ShowsViews (after p) views)
+      → ((p : Points) → rule (world_of p old) ≡ Gives (a, world_of (after p) new)) → Does rule old (Ok a) new
+  gives a views after same moves e = λ w shown. (
+    world_of (after w.points) new,
+    record { views = subst (ShowsViews (after w.points)) (sym same) (moves w.points shown.views); rest = refl },
+    ap rule shown.rest ∙ e w.points,
+  )
+
+  -- the views stay as they are
+  pub keeps : (a : A) → new.views ≡ old.views → ((p : Points) → rule (world_of p old) ≡ Gives (a, world_of p new)) → Does rule old (Ok a) new
+  keeps a same e = gives a old.views (λ p. p) same (λ p shown. shown) e
+
+  -- whatever the points are, the rule fails
+  pub refuses : (kind : FailureKind) → ((p : Points) → ShowsViews p old.views → rule (world_of p old) ≡ Fails kind) → Does rule old (fails kind) new
+  refuses kind e = λ w shown. ap rule shown.rest ∙ e w.points shown.views

@@ -1,0 +1,40 @@
+use Rattle.std.proofs.Common.{refl, sym, ◌∙◌, subst}
+use Rattle.loom_objects.specs.declared.operation.Turn.{Turn}
+use Rattle.loom_objects.specs.declared.rt.thread.Task.TheVariants as task
+use Rattle.loom_objects.specs.Atomics.{store}
+use Rattle.loom_objects.specs.Locks.{lock}
+use Rattle.loom_objects.specs.Shown.{Resumes}
+use Rattle.loom_objects.specs.Threads.{join, child_finish}
+use Rattle.loom_objects.specs.Tree.{Tree}
+use Rattle.loom_objects.specs.World.{World}
+use Rattle.loom_objects.proofs.Resuming.{resumed_by, starts, turns}
+use Rattle.loom_objects.proofs.rt.run.RunState.resume.Goals as goal
+
+pub returns-in-Start-clause-does : goal.returns-in-Start-clause-does
+returns-in-Start-clause-does g c =
+    starts c.args.self.now c.args.thread c.at_mut-chosen.result.now c.at_mut-chosen.result.now.task c.replace.new.dest c.at_mut-chosen.ensures.value refl c.replace.ensures.after (sym c.replace.ensures.value ∙ c.in-Start.is)
+
+pub returns-in-Load-clause-does : goal.returns-in-Load-clause-does
+returns-in-Load-clause-does g c = λ w shown.
+    let z = resumed_by c.args.self.now c.args.thread c.at_mut-chosen.result.now (task.Load c.in-Load.atomic c.in-Load.order) c.replace.new.dest c.at_mut-chosen.ensures.value (sym c.in-Load.is ∙ c.replace.ensures.value) c.replace.ensures.after w shown in
+    subst (λ (tree : Tree (Turn g.row.D.Denot × World g.row.D.Denot)). Resumes tree c.load.result c.load.new.self) (sym z.2) (c.load.ensures.does z.0 z.1)
+
+pub returns-in-Store-clause-does : goal.returns-in-Store-clause-does
+returns-in-Store-clause-does g c =
+    rw c.told.ensures
+    (turns c.args.self.now c.args.thread c.at_mut-chosen.result.now (task.Store c.in-Store.atomic c.in-Store.value c.in-Store.order) c.replace.new.dest c.at_mut-chosen.ensures.value (sym c.in-Store.is ∙ c.replace.ensures.value) c.replace.ensures.after (store c.in-Store.atomic c.in-Store.value c.in-Store.order) c.store-answer.result c.store-answer.new.self (λ v. refl) c.store-answer.ensures.does)
+
+pub returns-in-Lock-clause-does : goal.returns-in-Lock-clause-does
+returns-in-Lock-clause-does g c =
+    rw c.told-in-Lock.ensures
+    (turns c.args.self.now c.args.thread c.at_mut-chosen.result.now (task.Lock c.in-Lock.mutex) c.replace.new.dest c.at_mut-chosen.ensures.value (sym c.in-Lock.is ∙ c.replace.ensures.value) c.replace.ensures.after (lock c.in-Lock.mutex) c.lock-answer.result c.lock-answer.new.self (λ v. refl) c.lock-answer.ensures.does)
+
+pub returns-in-Join-clause-does : goal.returns-in-Join-clause-does
+returns-in-Join-clause-does g c =
+    rw c.told-in-Join.ensures
+    (turns c.args.self.now c.args.thread c.at_mut-chosen.result.now (task.Join c.in-Join.joined c.in-Join.notifier) c.replace.new.dest c.at_mut-chosen.ensures.value (sym c.in-Join.is ∙ c.replace.ensures.value) c.replace.ensures.after (join c.in-Join.joined c.in-Join.notifier) c.join-answer.result c.join-answer.new.self (λ v. refl) c.join-answer.ensures.does)
+
+pub returns-in-Finish-clause-does : goal.returns-in-Finish-clause-does
+returns-in-Finish-clause-does g c =
+    rw c.told-in-Finish.ensures
+    (turns c.args.self.now c.args.thread c.at_mut-chosen.result.now (task.Finish c.in-Finish.notifier c.in-Finish.value) c.replace.new.dest c.at_mut-chosen.ensures.value (sym c.in-Finish.is ∙ c.replace.ensures.value) c.replace.ensures.after (child_finish c.in-Finish.notifier c.in-Finish.value) c.child_finish-answer.result c.child_finish-answer.new.self (λ v. refl) c.child_finish-answer.ensures.does)

@@ -1,0 +1,5 @@
+//! Scripts: bodies that are written as lists of steps.
+#![tactic(auto)]
+
+pub mod number;
+pub mod script;

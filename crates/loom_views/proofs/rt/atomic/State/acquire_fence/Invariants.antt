@@ -1,0 +1,9 @@
+use Rattle.std.proofs.Common.{ℕ, take}
+use Rattle.loom_views.specs.Atomic.{Scene}
+use Rattle.loom_views.specs.Fences.{after_stores, kept_stores, standing_in, scene_at}
+use Rattle.loom_views.specs.Shown.{ShowsScene}
+use Rattle.loom_views.proofs.rt.atomic.State.acquire_fence.Given as goal
+
+-- the thread stands where it has come to by the stores so far
+abbrev pub invariant-loop-i : goal.invariant-loop-i
+invariant-loop-i l = (t : ℕ) (s : Scene) → ShowsScene t s l.fn.views l.self → ShowsScene t (scene_at s (after_stores (standing_in s) (take l.i (kept_stores s.history.stores)))) l.views l.self
