@@ -1,9 +1,14 @@
 //! The bodies that are checked.
+ghost use Rattle.std.specs.Prelude.{◌<◌, ◌↔◌, IsSome, IfSome};
+ghost use Rattle.loom_bench.specs.Names.{IsName};
 
 use loom_ops::sync::atomic::Ordering;
-use loom_scripts::script::{Step, Value};
+use loom_scripts::script::{Access, Step, Value};
+use loom_views::rt::change::Change;
 
 const FINISH: Step = Step::Finish(Value::Plain(0));
+
+const ADD: Access = Access::Update(Change::Add(1), Ordering::Relaxed);
 
 /// Two threads store to an atomic each, and load from the other's.
 static STORE_BUFFERING: [Step; 13] = [
@@ -22,27 +27,44 @@ static STORE_BUFFERING: [Step; 13] = [
     Step::End,
 ];
 
-/// Three threads, of which each stores twice and loads twice, from an atomic of its own and from the next one's.
+/// Three threads, of which each loads twice from the next one's atomic, and then stores twice to its own.
 static THREE_THREADS: [Step; 22] = [
     Step::NewAtomic(0, 0),
     Step::NewAtomic(1, 0),
     Step::NewAtomic(2, 0),
     Step::Spawn(0, 10),
     Step::Spawn(1, 15),
-    Step::Store(0, Value::Plain(1), Ordering::Relaxed),
     Step::Load(1, 0, Ordering::Relaxed),
-    Step::Store(0, Value::Plain(2), Ordering::Relaxed),
     Step::Load(1, 1, Ordering::Relaxed),
+    Step::Store(0, Value::Plain(1), Ordering::Relaxed),
+    Step::Store(0, Value::Plain(2), Ordering::Relaxed),
     Step::Jump(19),
-    Step::Store(1, Value::Plain(1), Ordering::Relaxed),
     Step::Load(2, 0, Ordering::Relaxed),
-    Step::Store(1, Value::Plain(2), Ordering::Relaxed),
     Step::Load(2, 1, Ordering::Relaxed),
+    Step::Store(1, Value::Plain(1), Ordering::Relaxed),
+    Step::Store(1, Value::Plain(2), Ordering::Relaxed),
     Step::Jump(19),
-    Step::Store(2, Value::Plain(1), Ordering::Relaxed),
     Step::Load(0, 0, Ordering::Relaxed),
-    Step::Store(2, Value::Plain(2), Ordering::Relaxed),
     Step::Load(0, 1, Ordering::Relaxed),
+    Step::Store(2, Value::Plain(1), Ordering::Relaxed),
+    Step::Store(2, Value::Plain(2), Ordering::Relaxed),
+    FINISH,
+    Step::Exit,
+    Step::End,
+];
+
+/// Three threads, of which each adds to one atomic twice. Main is one of them, and joins the others.
+static THREE_ADDS: [Step; 13] = [
+    Step::NewAtomic(0, 0),
+    Step::Spawn(0, 8),
+    Step::Spawn(1, 8),
+    Step::Access(0, 0, ADD),
+    Step::Access(0, 0, ADD),
+    Step::Join(0, 0),
+    Step::Join(1, 0),
+    Step::Jump(10),
+    Step::Access(0, 0, ADD),
+    Step::Access(0, 0, ADD),
     FINISH,
     Step::Exit,
     Step::End,
@@ -78,11 +100,15 @@ pub struct Measured {
 }
 
 /// The body of this name. Those whose check is short are checked many times.
-pub fn body_of(name: &str) -> Option<Measured> {
+pub fn body_of(name: &str) -> Option<Measured>
+    ensures named { IsSome result ↔ IsName name.now }
+    ensures checked { IfSome result (λ body. 0 < body.checks) }
+{
     let (steps, checks) = match name {
         "store_buffering" => (STORE_BUFFERING.as_slice(), 1000),
         "locks_in_turn" => (LOCKS_IN_TURN.as_slice(), 1000),
         "three_threads" => (THREE_THREADS.as_slice(), 1),
+        "three_adds" => (THREE_ADDS.as_slice(), 1),
         _ => return None,
     };
     Some(Measured { steps, checks })

@@ -1,6 +1,13 @@
 //! Measures checks: prints how many runs each makes, and on standard error how long it took.
 #![tactic(auto)]
 
+ghost use Rattle.std.specs.Prelude.{◌≡◌, ◌-◌, ◌*◌, ◌/◌, ◌^◌, IfSome, min, max};
+ghost use Rattle.std.specs.Duration.{as_nanos};
+ghost use Rattle.loom_engine.specs.Runs.{runs as runs_of};
+ghost use Rattle.loom.specs.Check.{ReportsAlone};
+ghost use Rattle.loom.specs.declared.model.Report.TheVariants.{Complete};
+ghost use Rattle.loom_scripts.specs.Script.{started, next_of};
+
 mod bodies;
 
 use crate::bodies::{Measured, body_of};
@@ -72,8 +79,10 @@ fn measure(rt: &HostRuntime, name: &str, body: Measured) -> io::Result<u8> {
     }
 }
 
-/// The number of runs of a check, once all checks were made; None where one isn't complete.
-fn check_often(alloc: Global, body: Measured) -> Option<u64> {
+/// The number of runs of a check, once all checks were made; None where one isn't complete, or none is to be made.
+fn check_often(alloc: Global, body: Measured) -> Option<u64>
+    ensures { IfSome result (λ runs. ReportsAlone 1000 (runs_of next_of 5 1000000 (started body.steps)) (Complete runs)) }
+{
     let script = Script::new(body.steps);
     let mut made = None;
     for _ in 0..body.checks {
@@ -86,6 +95,8 @@ fn check_often(alloc: Global, body: Measured) -> Option<u64> {
 }
 
 /// How many runs a second holds, if these took so long; of less than a millisecond, as if it were one.
-fn per_second(runs: u128, taken: Duration) -> u128 {
+fn per_second(runs: u128, taken: Duration) -> u128
+    ensures { let millis = as_nanos taken / 1_000_000 in result ≡ min (runs * 1000) (2 ^ 128 - 1) / max millis 1 }
+{
     runs.saturating_mul(1000) / taken.as_millis().max(1)
 }

@@ -1,25 +1,29 @@
--- A schedule along a path, from what its chosen thread comes to.
-use Rattle.std.proofs.Common.{◌≡◌, ℕ, ap, sym, ◌∙◌}
+-- Schedules along a path, from what the chosen threads come to.
+use Rattle.std.proofs.Common.{◌≡◌, ℕ, zero, suc, ap, refl, sym, ◌∙◌}
 use Rattle.std.specs.Prelude.{Some, None, Result, Ok, Err, List}
 use Rattle.loom_views.specs.Table.{Points}
 use Rattle.loom_views.specs.declared.rt.failure.FailureKind.{FailureKind}
+use Rattle.loom_views.specs.declared.rt.failure.FailureKind.TheVariants.{Misuse}
 use Rattle.loom_objects.specs.declared.choice.Choice.{Choice}
 use Rattle.loom_objects.specs.declared.choice.Choice.TheVariants.{Thread}
 use Rattle.loom_objects.specs.declared.failure.Stop.{Stop}
 use Rattle.loom_objects.specs.declared.failure.Stop.TheVariants.{Failure, Memory}
 use Rattle.loom_objects.specs.declared.operation.Turn.{Turn}
+use Rattle.loom_objects.specs.declared.rt.run.Passed.{Passed}
+use Rattle.loom_objects.specs.declared.rt.run.Passed.TheVariants as passed
 use Rattle.loom_objects.specs.declared.rt.run.RunState.{RunState}
 use Rattle.loom_objects.specs.declared.rt.thread.Ability.{Ability}
 use Rattle.loom_objects.specs.Question.{Question}
 use Rattle.loom_objects.specs.Shown.{world_of, Shows}
-use Rattle.loom_objects.specs.Steps.{resumes, abilities}
-use Rattle.loom_objects.specs.Tree.{Tree, Asks}
+use Rattle.loom_objects.specs.Steps.{turned, resumes, abilities}
+use Rattle.loom_objects.specs.Tree.{Tree, Fails, Asks, ◌>>=◌}
 use Rattle.loom_objects.specs.World.{World}
 use Rattle.loom_engine.specs.Execution.{Comes, Along}
-use Rattle.loom_engine.specs.Machine.{closes, chooses, schedule}
+use Rattle.loom_engine.specs.Machine.{closes, chooses, passes, further, schedule}
 use Rattle.loom_engine.specs.Routes.{Route, trail, settings_of, whole_search, which_thread, Says, drives}
 use Rattle.loom_engine.specs.Trees.Drive.{branch, drive, drive_on}
 use Rattle.loom_engine.specs.Trees.Marks.{marking}
+use Rattle.loom_engine.proofs.Binding.{drive_then, drive_fails}
 
 module _ {A : Type 0} (question : Question) (branches : Choice → Tree A) (path : Route) where
   -- the path answers a question, and the tree goes on
@@ -36,34 +40,90 @@ module _ {A : Type 0} (question : Question) (branches : Choice → Tree A) (path
 
 module _ {D : Type 0} where
   -- a tree that goes the same way
-  same_way : (tree other : Tree (Turn D × World D)) (path via : Route) (result : Result (Turn D) Stop) (new : RunState D) (after : Route) → drives tree path ≡ drives other via
+  same_way : {A : Type 0} (tree other : Tree (A × World D)) (path via : Route) (result : Result A Stop) (new : RunState D) (after : Route) → drives tree path ≡ drives other via
       → Comes other via result new after → Comes tree path result new after
-  same_way tree other path via (Ok turned) new after e come = (come.0, come.1, e ∙ come.2)
+  same_way tree other path via (Ok a) new after e come = (come.0, come.1, e ∙ come.2)
   same_way tree other path via (Err (Failure failure)) new after e come = e ∙ come
   same_way tree other path via (Err Memory) new after e come = tt
 
-  -- ---- a schedule
+  -- an operation has passed with its turn
+  abbrev pub passed_with : Result (Turn D) Stop → Result (Passed D) Stop
+  passed_with (Ok turn) = Ok (passed.Turn turn)
+  passed_with (Err stop) = Err stop
+
+  pub turned_comes : (tree : Tree (Turn D × World D)) (path : Route) (result : Result (Turn D) Stop) (new : RunState D) (after : Route)
+      → Comes tree path result new after → Comes (tree >>= turned) path (passed_with result) new after
+  turned_comes tree path (Ok turn) new after come = (come.0, come.1, drive_then (settings_of path) (marking None) tree turned (trail path) (trail after) (turn, come.0) come.2)
+  turned_comes tree path (Err (Failure failure)) new after come = drive_fails (settings_of path) (marking None) tree turned (trail path) (trail after) failure.kind come
+  turned_comes tree path (Err Memory) new after come = tt
+
+  -- ---- one schedule
 
   module _ (old : RunState D) (offers : List Ability) (is : (points : Points) → offers ≡ abilities (world_of points old)) (path mid : Route) (same : mid.max_branches ≡ path.max_branches) where
     -- the schedule as the code asks it
-    scheduled : (w : World D) → Shows w old → drives (schedule w) path ≡ drives (Asks (which_thread old.active offers) (chooses w)) path
+    scheduled : (w : World D) → Shows w old → drives (passes w) path ≡ drives (Asks (which_thread old.active offers) (chooses w)) path
     scheduled w shown =
         ap (λ (a : ℕ). drives (Asks (which_thread a (abilities w)) (chooses w)) path) (ap (λ (v : World D). v.active) shown.rest)
         ∙ ap (λ (list : List Ability). drives (Asks (which_thread old.active list) (chooses w)) path) (ap abilities shown.rest ∙ sym (is w.points))
 
-    pub schedule_refused : (stop : Stop) → Says Thread path (which_thread old.active offers) (Err stop) mid → Along schedule old path (Err stop) old mid
+    pub schedule_refused : (stop : Stop) → Says Thread path (which_thread old.active offers) (Err stop) mid → Along passes old path (Err stop) old mid
     schedule_refused (Failure failure) says w shown =
         scheduled w shown ∙ refused (which_thread old.active offers) (chooses w) path failure.kind says.0 ∙ ap (λ (p : Route). (Err failure.kind, trail p)) (sym says.1)
     schedule_refused Memory says w shown = tt
 
-    pub thread_chosen : (thread : ℕ) → Says Thread path (which_thread old.active offers) (Ok (Some thread)) mid → (result : Result (Turn D) Stop) (new : RunState D) (after : Route)
-        → Along (resumes thread) old mid result new after → Along schedule old path result new after
+    pub thread_chosen : (thread : ℕ) → Says Thread path (which_thread old.active offers) (Ok (Some thread)) mid → (result : Result (Passed D) Stop) (new : RunState D) (after : Route)
+        → Along (resumes thread) old mid result new after → Along passes old path result new after
     thread_chosen thread says result new after along w shown =
-        same_way (schedule w) (resumes thread w) path mid result new after
+        same_way (passes w) (resumes thread w) path mid result new after
         (scheduled w shown ∙ asked (which_thread old.active offers) (chooses w) path mid (Thread (Some thread)) same says) (along w shown)
 
     pub nobody_chosen : Says Thread path (which_thread old.active offers) (Ok None) mid → (result : Result (Turn D) Stop) (new : RunState D) (after : Route)
-        → Along closes old mid result new after → Along schedule old path result new after
+        → Along closes old mid result new after → Along passes old path (passed_with result) new after
     nobody_chosen says result new after along w shown =
-        same_way (schedule w) (closes w) path mid result new after
-        (scheduled w shown ∙ asked (which_thread old.active offers) (chooses w) path mid (Thread None) same says) (along w shown)
+        same_way (passes w) (closes w >>= turned) path mid (passed_with result) new after
+        (scheduled w shown ∙ asked (which_thread old.active offers) (chooses w) path mid (Thread None) same says) (turned_comes (closes w) mid result new after (along w shown))
+
+  -- ---- schedules up to a turn
+
+  -- the first of them, and how it goes on
+  first_of : (more : ℕ) (w : World D) → (again : World D → Tree (Turn D × World D)) × (schedule more w ≡ (passes w >>= further again))
+  unfolding schedule
+  first_of zero w = (λ v. Fails Misuse, refl)
+  first_of (suc more) w = (schedule more, refl)
+
+  module _ (old mid : RunState D) (path via : Route) where
+    pub pass_stops : (more : ℕ) (stop : Stop) → Along passes old path (Err stop) mid via → Along (schedule more) old path (Err stop) mid via
+    pass_stops more (Failure failure) along w shown =
+        let first = first_of more w in
+        ap (λ (t : Tree (Turn D × World D)). drives t path) first.1
+        ∙ drive_fails (settings_of path) (marking None) (passes w) (further first.0) (trail path) (trail via) failure.kind (along w shown)
+    pass_stops more Memory along w shown = tt
+
+    pub turn_passed : (more : ℕ) (turn : Turn D) → Along passes old path (Ok (passed.Turn turn)) mid via → Along (schedule more) old path (Ok turn) mid via
+    turn_passed more turn along w shown =
+        let first = first_of more w in
+        let come = along w shown in (
+          come.0,
+          come.1,
+          ap (λ (t : Tree (Turn D × World D)). drives t path) first.1
+              ∙ drive_then (settings_of path) (marking None) (passes w) (further first.0) (trail path) (trail via) (passed.Turn turn, come.0) come.2,
+        )
+
+    -- one branch point more than there may be
+    pub too_many : (more : ℕ) → more ≡ 0 → Along passes old path (Ok passed.AtBranch) mid via
+        → Along (schedule more) old path (Err (Failure (record { kind = Misuse; location = None }))) mid via
+    unfolding schedule
+    too_many more none along w shown =
+        let come = along w shown in
+        ap (λ (k : ℕ). drives (schedule k w) path) none
+        ∙ drive_then (settings_of path) (marking None) (passes w) (further (λ v. Fails Misuse)) (trail path) (trail via) (passed.AtBranch, come.0) come.2
+
+    pub goes_further : (more left : ℕ) → more ≡ suc left → Along passes old path (Ok passed.AtBranch) mid via → via.max_branches ≡ path.max_branches
+        → (result : Result (Turn D) Stop) (new : RunState D) (after : Route) → Along (schedule left) mid via result new after → Along (schedule more) old path result new after
+    unfolding schedule
+    goes_further more left e along same result new after onward w shown =
+        let come = along w shown in
+        same_way (schedule more w) (schedule left come.0) path via result new after
+        (ap (λ (k : ℕ). drives (schedule k w) path) e
+        ∙ drive_then (settings_of path) (marking None) (passes w) (further (schedule left)) (trail path) (trail via) (passed.AtBranch, come.0) come.2
+        ∙ ap (λ (k : ℕ). drive (whole_search k) (marking None) (schedule left come.0) (trail via)) (sym same)) (onward come.0 come.1)

@@ -19,14 +19,14 @@ pub record ExecutionState (D : Type 0) : Type 0 where
   pub over : Option Stop
 
 module _ {D : Type 0} where
-  -- The tree comes to this along the path, memory aside. After a turn the state shows where the tree leads.
-  abbrev pub Comes : Tree (Turn D × World D) → Route → Result (Turn D) Stop → RunState D → Route → Type 0
-  Comes tree old (Ok turn) run new = (w : World D) × Shows w run × (drives tree old ≡ (Ok (turn, w), trail new))
+  -- The tree comes to this along the path, memory aside. If it doesn't fail, the state shows where the tree leads.
+  abbrev pub Comes : {A : Type 0} → Tree (A × World D) → Route → Result A Stop → RunState D → Route → Type 0
+  Comes tree old (Ok a) run new = (w : World D) × Shows w run × (drives tree old ≡ (Ok (a, w), trail new))
   Comes tree old (Err (Failure failure)) run new = drives tree old ≡ (Err failure.kind, trail new)
   Comes tree old (Err Memory) run new = Unit {0}
 
   -- what the code came to along the path is what the tree comes to that the rule says of each state that was shown before it
-  abbrev pub Along : (World D → Tree (Turn D × World D)) → RunState D → Route → Result (Turn D) Stop → RunState D → Route → Type 0
+  abbrev pub Along : {A : Type 0} → (World D → Tree (A × World D)) → RunState D → Route → Result A Stop → RunState D → Route → Type 0
   Along rule old path result new after = (w : World D) → Shows w old → Comes (rule w) path result new after
 
   -- what every further operation is answered: after the end Misuse, after a stop the same stop

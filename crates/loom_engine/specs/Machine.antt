@@ -1,16 +1,22 @@
 -- The machine: one operation that is handed over is one event, up to the next turn.
-use Rattle.std.specs.Prelude.{Some, None, ⊤}
-use Rattle.loom_views.specs.declared.rt.failure.FailureKind.TheVariants.{Deadlock, NotDeterministic}
+use Rattle.std.specs.Prelude.{ℕ, zero, suc, Some, None, ⊤}
+use Rattle.loom_views.specs.declared.rt.failure.FailureKind.TheVariants.{Deadlock, Misuse, NotDeterministic}
 use Rattle.loom_objects.specs.declared.choice.Choice.{Choice}
 use Rattle.loom_objects.specs.declared.choice.Choice.TheVariants.{Thread, Load, Spurious}
 use Rattle.loom_objects.specs.declared.operation.Op.{Op}
 use Rattle.loom_objects.specs.declared.operation.Turn.{Turn}
 use Rattle.loom_objects.specs.declared.rt.run.Entry.{Entry}
 use Rattle.loom_objects.specs.declared.rt.run.Entry.TheVariants.{Answered, AtBranch}
-use Rattle.loom_objects.specs.Tree.{Tree, Fails, Closes, Asks, ◌>>=◌, check}
+use Rattle.loom_objects.specs.declared.rt.run.Passed.{Passed}
+use Rattle.loom_objects.specs.declared.rt.run.Passed.TheVariants as passed
+use Rattle.loom_objects.specs.Tree.{Tree, Gives, Fails, Closes, Asks, ◌>>=◌, check}
 use Rattle.loom_objects.specs.World.{World}
-use Rattle.loom_objects.specs.Steps.{begins, told, resumes, ends, all_ended, abilities}
+use Rattle.loom_objects.specs.Steps.{begins, told, turned, resumes, ends, all_ended, abilities}
 use Rattle.loom_engine.specs.Routes.{which_thread}
+
+-- A thread comes to three further branch points at most before it is told something, and there are five threads.
+abbrev pub further_branches : ℕ
+further_branches = 15
 
 module _ {D : Type 0} where
   -- where no thread can go on the run is over if all have ended; then nothing of a path may be left
@@ -19,19 +25,29 @@ module _ {D : Type 0} where
     _ ← check (all_ended w) Deadlock
     Closes (ends w)
 
-  abbrev pub chooses : World D → Choice → Tree (Turn D × World D)
+  abbrev pub chooses : World D → Choice → Tree (Passed D × World D)
   chooses w (Thread (Some t)) = resumes t w
-  chooses w (Thread None) = closes w
+  chooses w (Thread None) = closes w >>= turned
   chooses w (Load slot) = Fails NotDeterministic
   chooses w (Spurious answer) = Fails NotDeterministic
 
-  -- a schedule chooses the thread that goes on
-  abbrev pub schedule : World D → Tree (Turn D × World D)
-  schedule w = Asks (which_thread w.active (abilities w)) (chooses w)
+  -- at a branch point a schedule chooses the thread that goes on
+  abbrev pub passes : World D → Tree (Passed D × World D)
+  passes w = Asks (which_thread w.active (abilities w)) (chooses w)
+
+  -- up to a turn; at another branch point it goes on again
+  abbrev pub further : (World D → Tree (Turn D × World D)) → Passed D × World D → Tree (Turn D × World D)
+  further again (passed.Turn turn, w) = Gives (turn, w)
+  further again (passed.AtBranch, w) = again w
+
+  -- a schedule, and those after it, up to a turn; so many branch points more may come
+  unfoldable pub schedule : ℕ → World D → Tree (Turn D × World D)
+  schedule zero w = passes w >>= further (λ v. Fails Misuse)
+  schedule (suc more) w = passes w >>= further (schedule more)
 
   abbrev pub goes_on : Entry D × World D → Tree (Turn D × World D)
   goes_on (Answered reply, w) = told (reply, w)
-  goes_on (AtBranch, w) = schedule w
+  goes_on (AtBranch, w) = schedule further_branches w
 
   -- the active thread hands over an operation
   abbrev pub submit : Op D ⊤ → World D → Tree (Turn D × World D)

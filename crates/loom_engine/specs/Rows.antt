@@ -5,6 +5,7 @@ use Rattle.loom_views.specs.declared.rt.failure.FailureKind.{FailureKind}
 use Rattle.loom_views.specs.declared.rt.failure.FailureKind.TheVariants.{Deadlock, Misuse, TooManyBranches, TooManySteps}
 use Rattle.loom_objects.specs.declared.choice.Choice.{Choice}
 use Rattle.loom_objects.specs.declared.choice.Choice.TheVariants as choice
+use Rattle.loom_views.specs.declared.rt.num.Numbers.TheVariants.{U64}
 use Rattle.loom_objects.specs.declared.operation.AtomicOp.TheVariants as atomic
 use Rattle.loom_objects.specs.declared.operation.MutexOp.TheVariants as mutex
 use Rattle.loom_objects.specs.declared.operation.Op.{Op}
@@ -41,7 +42,7 @@ held _ = 1000
 
 abbrev pub op_of : List Script → Step → Reply ℕ → Op ℕ Script
 op_of scripts Makes last = op.Mutex (mutex.New 0) None
-op_of scripts MakesAtomic last = op.Atomic (atomic.New 0) None
+op_of scripts MakesAtomic last = op.Atomic (atomic.New U64 0) None
 op_of scripts (Loads n) last = op.Atomic (atomic.Load n Relaxed) None
 op_of scripts (Stores n value) last = op.Atomic (atomic.Store n value Relaxed) None
 op_of scripts (Spawns n) last = op.Thread (thread.Spawn (slice_index_or scripts n [])) None

@@ -1,5 +1,9 @@
 pub mod Lists
 pub mod Showing
 pub mod Moving
+pub mod Leading
+pub mod Changing
+pub mod Entering
 pub mod Telling
 pub mod Resuming
+pub mod Leaking

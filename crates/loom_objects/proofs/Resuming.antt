@@ -6,6 +6,8 @@ use Rattle.loom_objects.specs.declared.failure.Stop.{Stop}
 use Rattle.loom_objects.specs.declared.failure.Stop.TheVariants.{Failure, Memory}
 use Rattle.loom_objects.specs.declared.operation.Reply.{Reply}
 use Rattle.loom_objects.specs.declared.operation.Turn.TheVariants as turn
+use Rattle.loom_objects.specs.declared.rt.run.Passed.TheVariants as passed
+use Rattle.loom_objects.specs.declared.rt.run.Passed.{Passed}
 use Rattle.loom_objects.specs.declared.rt.run.Resumed.TheVariants as resumed
 use Rattle.loom_objects.specs.declared.rt.run.RunState.{RunState}
 use Rattle.loom_objects.specs.declared.rt.thread.Task.{Task}
@@ -13,7 +15,7 @@ use Rattle.loom_objects.specs.declared.rt.thread.Task.TheVariants.{Start, Body}
 use Rattle.loom_objects.specs.declared.rt.thread.Thread.{Thread}
 use Rattle.loom_objects.specs.Moves.{with_active}
 use Rattle.loom_objects.specs.Shown.{world_of, Shows, Does, Resumes, turn_of}
-use Rattle.loom_objects.specs.Steps.{told, takes_effect, resumes}
+use Rattle.loom_objects.specs.Steps.{told, turned, takes_effect, resumes}
 use Rattle.loom_objects.specs.Tree.{Tree, Gives, ◌>>=◌, found}
 use Rattle.loom_objects.specs.World.{World}
 
@@ -34,22 +36,36 @@ module _ {D : Type 0} (old : RunState D) (t : ℕ) (chosen : Thread D) (todo lef
   )
 
   -- it starts
-  pub starts : todo ≡ Start → (w : World D) → Shows w old → Resumes (resumes t w) (Ok (resumed.Turn (turn.Start t))) (with_left left)
+  pub starts : todo ≡ Start → (w : World D) → Shows w old → Resumes (resumes t w) (Ok (resumed.Passed (passed.Turn (turn.Start t)))) (with_left left)
   starts e w shown =
       let z = resumed_by w shown in
-      (z.0, z.1, z.2 ∙ ap (λ (k : Task D). takes_effect k z.0) e ∙ ap (λ (a : ℕ). Gives (turn.Start a, z.0)) (ap (λ (v : World D). v.active) z.1.rest))
+      (z.0, z.1, z.2 ∙ ap (λ (k : Task D). takes_effect k z.0) e ∙ ap (λ (a : ℕ). Gives (passed.Turn (turn.Start a), z.0)) (ap (λ (v : World D). v.active) z.1.rest))
 
   -- what an effect answers, the thread is told
-  pub turns : (rule : World D → Tree (Reply D × World D)) (answer : Result (Reply D) Stop) (new : RunState D) → ((v : World D) → takes_effect todo v ≡ rule v >>= told)
+  pub turns : (rule : World D → Tree (Reply D × World D)) (answer : Result (Reply D) Stop) (new : RunState D) → ((v : World D) → takes_effect todo v ≡ (rule v >>= told) >>= turned)
       → Does rule (with_left left) answer new → (w : World D) → Shows w old → Resumes (resumes t w) (turn_of new.active answer) new
   turns rule (Ok reply) new effect does w shown =
       let z = resumed_by w shown in
       let d = does z.0 z.1 in (
         d.0,
         d.1,
-        z.2 ∙ effect z.0 ∙ ap (λ (tree : Tree (Reply D × World D)). tree >>= told) d.2 ∙ ap (λ (a : ℕ). Gives (turn.Reply a reply, d.0)) (ap (λ (v : World D). v.active) d.1.rest),
+        z.2 ∙ effect z.0 ∙ ap (λ (tree : Tree (Reply D × World D)). (tree >>= told) >>= turned) d.2 ∙ ap (λ (a : ℕ). Gives (passed.Turn (turn.Reply a reply), d.0)) (ap (λ (v : World D). v.active) d.1.rest),
       )
   turns rule (Err (Failure failure)) new effect does w shown =
       let z = resumed_by w shown in
-      z.2 ∙ effect z.0 ∙ ap (λ (tree : Tree (Reply D × World D)). tree >>= told) (does z.0 z.1)
+      z.2 ∙ effect z.0 ∙ ap (λ (tree : Tree (Reply D × World D)). (tree >>= told) >>= turned) (does z.0 z.1)
   turns rule (Err Memory) new effect does w shown = tt
+
+  -- what comes of a stage of an operation comes of the thread
+  module _ (rule : World D → Tree (Passed D × World D)) where
+    pub goes_through : (passed : Passed D) (new : RunState D) → ((v : World D) → takes_effect todo v ≡ rule v) → Does rule (with_left left) (Ok passed) new → (w : World D) → Shows w old
+        → Resumes (resumes t w) (Ok (resumed.Passed passed)) new
+    goes_through passed new effect does w shown =
+        let z = resumed_by w shown in
+        let d = does z.0 z.1 in
+        (d.0, d.1, z.2 ∙ effect z.0 ∙ d.2)
+
+    pub goes_on_not : (stop : Stop) (new : RunState D) → ((v : World D) → takes_effect todo v ≡ rule v) → Does rule (with_left left) (Err stop) new → (w : World D) → Shows w old
+        → Resumes (resumes t w) (Err stop) new
+    goes_on_not (Failure failure) new effect does w shown = let z = resumed_by w shown in z.2 ∙ effect z.0 ∙ does z.0 z.1
+    goes_on_not Memory new effect does w shown = tt

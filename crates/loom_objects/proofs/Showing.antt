@@ -1,12 +1,13 @@
 -- From the state that the code shows to the one that it shows then.
 use Rattle.std.proofs.Common.{◌≡◌, refl, ap, sym, ◌∙◌, subst}
-use Rattle.std.specs.Prelude.{Ok}
+use Rattle.std.specs.Prelude.{Ok, Result}
 use Rattle.loom_views.specs.Table.{Points, ShowsViews}
 use Rattle.loom_views.specs.declared.rt.failure.FailureKind.{FailureKind}
 use Rattle.loom_views.specs.declared.rt.table.Views.{Views}
 use Rattle.loom_objects.specs.declared.rt.run.RunState.{RunState}
 use Rattle.loom_objects.specs.Failing.{fails}
-use Rattle.loom_objects.specs.Shown.{world_of, Does}
+use Rattle.loom_objects.specs.declared.failure.Stop.{Stop}
+use Rattle.loom_objects.specs.Shown.{world_of, Comes, Does}
 use Rattle.loom_objects.specs.Tree.{Tree, Gives, Fails}
 use Rattle.loom_objects.specs.World.{World}
 
@@ -27,3 +28,9 @@ module _ {A D : Type 0} (rule : World D → Tree (A × World D)) (old new : RunS
   -- whatever the points are, the rule fails
   pub refuses : (kind : FailureKind) → ((p : Points) → ShowsViews p old.views → rule (world_of p old) ≡ Fails kind) → Does rule old (fails kind) new
   refuses kind e = λ w shown. ap rule shown.rest ∙ e w.points shown.views
+
+-- a rule does what another one does that comes to the same
+pub does_as : {A D : Type 0} (rule other : World D → Tree (A × World D)) (old new : RunState D) (result : Result A Stop) → ((p : Points) → rule (world_of p old) ≡ other (world_of p old))
+    → Does other old result new → Does rule old result new
+does_as {A} {D} rule other old new result same does = λ w shown.
+    subst (λ (tree : Tree (A × World D)). Comes tree result new) (ap other shown.rest ∙ sym (same w.points) ∙ ap rule (sym shown.rest)) (does w shown)

@@ -6,6 +6,10 @@ pub mod World
 pub mod Moves
 pub mod Locks
 pub mod Atomics
+pub mod Cells
+pub mod Counts
+pub mod Tracks
+pub mod Leaks
 pub mod Threads
 pub mod Steps
 pub mod Shown

@@ -12,6 +12,7 @@ use Rattle.loom_objects.specs.declared.rt.thread.State.{State}
 use Rattle.loom_objects.specs.declared.rt.thread.State.TheVariants.{Runnable, Blocked}
 use Rattle.loom_objects.specs.declared.rt.thread.Task.{Task}
 use Rattle.loom_objects.specs.declared.rt.thread.Task.TheVariants as task
+use Rattle.loom_objects.specs.Operation.{accessed}
 use Rattle.loom_objects.specs.Tree.{Tree, Gives, Fails, ◌>>=◌, found}
 use Rattle.loom_objects.specs.World.{World}
 
@@ -84,9 +85,10 @@ module _ {D : Type 0} where
 
   -- the object that the thread's pending operation is on
   abbrev pub target : Task D → Option ℕ
-  target (task.Load n order) = Some n
-  target (task.Store n value order) = Some n
+  target (task.Access access) = accessed access
   target (task.Lock n) = Some n
+  target (task.Count counting n) = Some n
+  target (task.TryUnwrap n) = Some n
   target (task.Join t n) = Some n
   target (task.Finish n value) = Some n
   target _ = None

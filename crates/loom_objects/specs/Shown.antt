@@ -1,20 +1,24 @@
 -- Which state of the machine the code's state shows, and when the code does what a rule says.
-use Rattle.std.specs.Prelude.{ℕ, ◌≡◌, ◌<◌, ◌≤◌, true, length, slice_get, Some, Result, Ok, Err}
+use Rattle.std.specs.Prelude.{ℕ, ◌≡◌, ◌<◌, ◌≤◌, true, length, slice_get, Option, Some, None, Result, Ok, Err}
 use Rattle.std.specs.List.{Contains}
 use Rattle.loom_views.specs.Table.{Points, ShowsViews, IsSlotKept}
 use Rattle.loom_objects.specs.declared.choice.Choice.{Choice}
 use Rattle.loom_objects.specs.declared.failure.Stop.{Stop}
 use Rattle.loom_objects.specs.declared.failure.Stop.TheVariants.{Failure, Memory}
+use Rattle.loom_objects.specs.declared.operation.AtomicOp.{AtomicOp}
 use Rattle.loom_objects.specs.declared.operation.Reply.{Reply}
 use Rattle.loom_objects.specs.declared.operation.Turn.{Turn}
 use Rattle.loom_objects.specs.declared.operation.Turn.TheVariants as turn
 use Rattle.loom_objects.specs.declared.rt.run.Loading.{Loading}
+use Rattle.loom_objects.specs.declared.rt.run.Passed.{Passed}
+use Rattle.loom_objects.specs.declared.rt.run.Passed.TheVariants as passed
 use Rattle.loom_objects.specs.declared.rt.run.Resumed.{Resumed}
 use Rattle.loom_objects.specs.declared.rt.run.Resumed.TheVariants as resumed
 use Rattle.loom_objects.specs.declared.rt.run.RunState.{RunState}
 use Rattle.loom_objects.specs.Atomics.{slot_of, reads}
+use Rattle.loom_objects.specs.Operation.{accessed}
 use Rattle.loom_objects.specs.Question.{asked_store, slots}
-use Rattle.loom_objects.specs.Steps.{told}
+use Rattle.loom_objects.specs.Steps.{told, turned}
 use Rattle.loom_objects.specs.Tree.{Tree, Gives, Fails, Asks, ◌>>=◌}
 use Rattle.loom_objects.specs.World.{World}
 
@@ -45,27 +49,37 @@ module _ {D : Type 0} where
   abbrev pub Does : {A : Type 0} → (World D → Tree (A × World D)) → RunState D → Result A Stop → RunState D → Type 0
   Does rule old result new = (w : World D) → Shows w old → Comes (rule w) result new
 
+  -- the atomic of this number keeps a store in the slot
+  abbrev pub KeepsAt : World D → Option ℕ → ℕ → Type 0
+  KeepsAt w None slot = Unit {0}
+  KeepsAt w (Some n) slot = IsSlotKept (slice_get w.points.places n) slot
+
+  -- the same of an access to a slot in which a store is kept
+  abbrev pub DoesAt : {A : Type 0} → AtomicOp → ℕ → (World D → Tree (A × World D)) → RunState D → Result A Stop → RunState D → Type 0
+  DoesAt access slot rule old result new = (w : World D) → Shows w old → KeepsAt w (accessed access) slot → Comes (rule w) result new
+
   -- each slot of the set keeps a store
   abbrev pub AreKept : Loading → World D → Type 0
-  AreKept load w = (slot : ℕ) → slice_get load.readable slot ≡ Some true → IsSlotKept (slice_get w.points.places load.atomic) slot
+  AreKept load w = (slot : ℕ) → slice_get load.readable slot ≡ Some true → KeepsAt w (accessed load.access) slot
 
-  -- a load goes on by the slot that is chosen
+  -- an access goes on by the slot that is chosen
   abbrev pub read_by : Loading → World D → Choice → Tree (Turn D × World D)
-  read_by load w choice = (slot_of choice >>= reads load.atomic load.order w) >>= told
+  read_by load w choice = (slot_of choice >>= reads load.access w) >>= told
 
-  -- The same of a thread that was chosen: it came to a turn, or to the question which store a load reads.
-  abbrev pub Resumes : Tree (Turn D × World D) → Result (Resumed D) Stop → RunState D → Type 0
-  Resumes tree (Ok (resumed.Turn turn)) new = Comes tree (Ok turn) new
+  -- The same of a thread that was chosen: it came to a turn or to another branch point, or to the question which store an
+  -- access reads.
+  abbrev pub Resumes : Tree (Passed D × World D) → Result (Resumed D) Stop → RunState D → Type 0
+  Resumes tree (Ok (resumed.Passed passed)) new = Comes tree (Ok passed) new
   Resumes tree (Ok (resumed.Load load)) new =
-      (w : World D) × Shows w new × AreKept load w × (tree ≡ Asks (asked_store true (slots load.readable)) (read_by load w))
-  Resumes tree (Err stop) new = Comes {A = Turn D} tree (Err stop) new
+      (w : World D) × Shows w new × AreKept load w × (tree ≡ Asks (asked_store true (slots load.readable)) (λ choice. read_by load w choice >>= turned))
+  Resumes tree (Err stop) new = Comes {A = Passed D} tree (Err stop) new
 
   -- the turn in which the thread is told the reply
   abbrev pub turn_of : ℕ → Result (Reply D) Stop → Result (Resumed D) Stop
-  turn_of thread (Ok reply) = Ok (resumed.Turn (turn.Reply thread reply))
+  turn_of thread (Ok reply) = Ok (resumed.Passed (passed.Turn (turn.Reply thread reply)))
   turn_of thread (Err stop) = Err stop
 
-  -- a load has a slot to read
+  -- an access has a slot to read
   abbrev pub HasSlot : Resumed D → Type 0
-  HasSlot (resumed.Turn turn) = Unit {0}
+  HasSlot (resumed.Passed passed) = Unit {0}
   HasSlot (resumed.Load load) = Contains load.readable true

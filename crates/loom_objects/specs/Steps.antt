@@ -8,18 +8,24 @@ use Rattle.loom_objects.specs.declared.operation.Reply.{Reply}
 use Rattle.loom_objects.specs.declared.operation.Turn.{Turn}
 use Rattle.loom_objects.specs.declared.operation.Turn.TheVariants as turn
 use Rattle.loom_objects.specs.declared.rt.run.Entry.{Entry}
+use Rattle.loom_objects.specs.declared.rt.run.Passed.{Passed}
+use Rattle.loom_objects.specs.declared.rt.run.Passed.TheVariants as passed
 use Rattle.loom_objects.specs.declared.rt.thread.Ability.{Ability}
 use Rattle.loom_objects.specs.declared.rt.thread.Ability.TheVariants.{Able, Unable}
 use Rattle.loom_objects.specs.declared.rt.thread.State.{State}
 use Rattle.loom_objects.specs.declared.rt.thread.State.TheVariants.{Runnable, Ended}
 use Rattle.loom_objects.specs.declared.rt.thread.Thread.{Thread}
 use Rattle.loom_objects.specs.declared.rt.thread.Task.{Task}
-use Rattle.loom_objects.specs.declared.rt.thread.Task.TheVariants.{Start, Body, Load, Store, Lock, Join, Finish}
+use Rattle.loom_objects.specs.declared.rt.thread.Task.TheVariants.{Start, Body, Access, Count, TryUnwrap, Lock, Join, Finish}
 use Rattle.loom_objects.specs.Tree.{Tree, Gives, Fails, ◌>>=◌, check, found}
 use Rattle.loom_objects.specs.World.{World}
 use Rattle.loom_objects.specs.Moves.{with_active}
 use Rattle.loom_objects.specs.Locks.{mutex_begins, lock}
-use Rattle.loom_objects.specs.Atomics.{atomic_begins, load, store}
+use Rattle.loom_objects.specs.Atomics.{atomic_begins, fence, takes_place}
+use Rattle.loom_objects.specs.Cells.{cell_begins}
+use Rattle.loom_objects.specs.Counts.{arc_begins, counts, tries_unwrap}
+use Rattle.loom_objects.specs.Tracks.{track_begins}
+use Rattle.loom_objects.specs.Leaks.{check_leak, first_leak}
 use Rattle.loom_objects.specs.Threads.{thread_begins, join, child_finish}
 
 abbrev pub is_able : Option Ability → Bool
@@ -46,6 +52,10 @@ module _ {D : Type 0} where
   -- what an operation does up to its branch point, or all of it, where it has none
   abbrev pub op_begins : Op D ⊤ → World D → Tree (Entry D × World D)
   op_begins (op.Atomic todo place) w = atomic_begins todo w
+  op_begins (op.Fence order place) w = fence order w
+  op_begins (op.Cell todo place) w = cell_begins todo w
+  op_begins (op.Arc todo place) w = arc_begins todo w
+  op_begins (op.Track todo place) w = track_begins todo w
   op_begins (op.Mutex todo place) w = mutex_begins todo w
   op_begins (op.Thread todo place) w = thread_begins todo w
   op_begins (op.Fail place) w = Fails Assertion
@@ -60,25 +70,35 @@ module _ {D : Type 0} where
   abbrev pub told : Reply D × World D → Tree (Turn D × World D)
   told (reply, w) = Gives (turn.Reply w.active reply, w)
 
-  -- what the chosen thread has pending takes effect
-  abbrev pub takes_effect : Task D → World D → Tree (Turn D × World D)
-  takes_effect Start w = Gives (turn.Start w.active, w)
+  -- with this turn the operation has passed
+  abbrev pub turned : Turn D × World D → Tree (Passed D × World D)
+  turned (turn, w) = Gives (passed.Turn turn, w)
+
+  -- it is told what an effect replies
+  abbrev pub turns_by : (World D → Tree (Reply D × World D)) → World D → Tree (Passed D × World D)
+  turns_by effect w = (effect w >>= told) >>= turned
+
+  -- what the chosen thread has pending takes effect: a thread has its turn, or this one comes to another branch point
+  abbrev pub takes_effect : Task D → World D → Tree (Passed D × World D)
+  takes_effect Start w = turned (turn.Start w.active, w)
   takes_effect Body w = Fails Misuse
-  takes_effect (Load n order) w = load n order w >>= told
-  takes_effect (Store n value order) w = store n value order w >>= told
-  takes_effect (Lock n) w = lock n w >>= told
-  takes_effect (Join t n) w = join t n w >>= told
-  takes_effect (Finish n value) w = child_finish n value w >>= told
+  takes_effect (Access access) w = turns_by (takes_place access) w
+  takes_effect (Lock n) w = turns_by (lock n) w
+  takes_effect (Count todo n) w = turns_by (counts todo n) w
+  takes_effect (TryUnwrap n) w = tries_unwrap n w
+  takes_effect (Join t n) w = turns_by (join t n) w
+  takes_effect (Finish n value) w = turns_by (child_finish n value) w
 
   -- thread t is chosen
-  abbrev pub resumes : ℕ → World D → Tree (Turn D × World D)
+  abbrev pub resumes : ℕ → World D → Tree (Passed D × World D)
   resumes t w = do
     thread ← found (slice_get w.threads t) Misuse
     takes_effect thread.task (with_active (record thread { task = Body }) (record w { active = t }))
 
-  -- main's result is taken out
+  -- nothing is left that must not be, and main's result is taken out
   abbrev pub ends : World D → Tree (Turn D × World D)
   ends w = do
+    _ ← check_leak (first_leak w.objects)
     main ← found (slice_get w.threads 0) Misuse
     value ← found main.result Misuse
     Gives (turn.Ended value, record w { threads = slice_set w.threads 0 (record main { result = None }) })

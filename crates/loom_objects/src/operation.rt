@@ -1,7 +1,9 @@
 ghost use Rattle.std.specs.Prelude.{◌≡◌};
-ghost use Rattle.loom_objects.specs.Operation.{plain, plain_thread, started, started_thread, placed};
+ghost use Rattle.loom_objects.specs.Operation.{plain, plain_thread, started, started_thread, placed, accessed};
 
 use crate::rt::location::Location;
+use loom_views::rt::change::Change;
+use loom_views::rt::num::Numbers;
 use std::sync::atomic::Ordering;
 
 /// One operation, and the place in the source that it is at, if it names one. `D` is the data type, `S` what a
@@ -9,18 +11,109 @@ use std::sync::atomic::Ordering;
 #[derive(Drop)]
 pub enum Op<D, S> {
     Atomic(AtomicOp, Option<Location>),
+    /// A fence.
+    Fence(Ordering, Option<Location>),
+    Cell(CellOp<D>, Option<Location>),
+    Arc(ArcOp<D>, Option<Location>),
+    Track(TrackOp<D>, Option<Location>),
     Mutex(MutexOp<D>, Option<Location>),
     Thread(ThreadOp<D, S>, Option<Location>),
     /// The body's own assertion failed.
     Fail(Option<Location>),
 }
 
-/// The operations of an atomic, whose values are the `u64` that stands for them.
+/// The operations of an atomic, whose values are the `u64` that stands for them. A value is cast to the type of what the
+/// atomic holds before it is stored or compared.
 #[derive(Clone, Copy, Debug)]
 pub enum AtomicOp {
-    New(u64),
+    /// The type of what it holds, and its first value.
+    New(Numbers, u64),
     Load(usize, Ordering),
     Store(usize, u64, Ordering),
+    /// A read-modify-write, with what it makes of the value that it reads.
+    Update(usize, Change, Ordering),
+    CompareExchange(usize, Exchange),
+    /// The value that is expected, and the new one. It answers the value that it reads.
+    CompareAndSwap(usize, u64, u64, Ordering),
+    /// A load that doesn't synchronize.
+    UnsyncLoad(usize),
+    /// A load that doesn't synchronize, after which the atomic is no more.
+    IntoInner(usize),
+    /// Opens a mutation, which other threads' accesses may not meet.
+    WithMut(usize),
+    /// Ends the mutation, with the value that it leaves.
+    WithMutEnd(usize, u64),
+}
+
+/// What a compare-exchange stores, and where.
+#[derive(Clone, Copy, Debug)]
+pub struct Exchange {
+    /// The value that is expected.
+    pub expected: u64,
+    /// The value that takes its place.
+    pub new: u64,
+    /// The ordering where it does.
+    pub success: Ordering,
+    /// The ordering where another value is read.
+    pub failure: Ordering,
+}
+
+/// The operations of a cell.
+#[derive(Drop)]
+pub enum CellOp<D> {
+    New(D),
+    /// Begins to read, and answers a copy of the data.
+    Read(usize),
+    /// Ends a read.
+    ReadEnd(usize),
+    /// Another copy of the data, in a read that is open.
+    Deref(usize),
+    /// Begins to write, and answers the data.
+    Write(usize),
+    /// Ends the write, with the data that goes back.
+    WriteEnd(usize, D),
+    /// Answers the data, after which the cell is no more.
+    IntoInner(usize),
+    /// A read that begins and ends.
+    Get(usize),
+    /// A write that begins and ends, and answers the data that was there.
+    Replace(usize, D),
+}
+
+/// The operations of a counted reference.
+#[derive(Drop)]
+pub enum ArcOp<D> {
+    New(D),
+    /// One reference more.
+    Clone(usize),
+    /// One reference fewer; the last one answers the value.
+    Drop(usize),
+    /// A copy of the value.
+    Get(usize),
+    /// Answers the value, if there is one reference alone.
+    GetMut(usize),
+    /// The value that goes back after that.
+    Put(usize, D),
+    /// Drops the reference and answers the value, if there is one reference alone.
+    TryUnwrap(usize),
+    /// How many references there are.
+    StrongCount(usize),
+}
+
+/// The operations of a tracked value.
+#[derive(Drop)]
+pub enum TrackOp<D> {
+    New(D),
+    /// A copy of the value.
+    GetRef(usize),
+    /// Answers the value.
+    GetMut(usize),
+    /// The value that goes back after that.
+    Put(usize, D),
+    /// Answers the value, which isn't tracked any more.
+    IntoInner(usize),
+    /// The same, for a value that is dropped.
+    Drop(usize),
 }
 
 /// The operations of a mutex.
@@ -56,8 +149,22 @@ pub enum Reply<D> {
     Atomic(usize),
     /// What an atomic holds.
     Value(u64),
-    /// The result of a thread that was joined.
+    /// What a compare-exchange has read: Ok where it has exchanged it, and else Err.
+    Exchanged(Result<u64, u64>),
+    /// The result of a thread that was joined, or what an object holds.
     Data(D),
+    /// A new cell.
+    Cell(usize),
+    /// A cell that the thread reads from now on, and a copy of its data.
+    Reading(usize, D),
+    /// A cell that the thread writes from now on, and its data.
+    Writing(usize, D),
+    /// A new counted reference.
+    Arc(usize),
+    /// Others share the counted reference, so its value stays.
+    Shared,
+    /// A new tracked value.
+    Track(usize),
     /// A new mutex.
     Mutex(usize),
     /// A mutex that the thread holds now, and its data.
@@ -84,6 +191,10 @@ impl<D, S> Op<D, S> {
     {
         match self {
             Op::Atomic(op, _) => Op::Atomic(op, Some(location)),
+            Op::Fence(order, _) => Op::Fence(order, Some(location)),
+            Op::Cell(op, _) => Op::Cell(op, Some(location)),
+            Op::Arc(op, _) => Op::Arc(op, Some(location)),
+            Op::Track(op, _) => Op::Track(op, Some(location)),
             Op::Mutex(op, _) => Op::Mutex(op, Some(location)),
             Op::Thread(op, _) => Op::Thread(op, Some(location)),
             Op::Fail(_) => Op::Fail(Some(location)),
@@ -97,12 +208,36 @@ impl<D, S> Op<D, S> {
     {
         match self {
             Op::Atomic(op, place) => (Op::Atomic(op, place), None),
+            Op::Fence(order, place) => (Op::Fence(order, place), None),
+            Op::Cell(op, place) => (Op::Cell(op, place), None),
+            Op::Arc(op, place) => (Op::Arc(op, place), None),
+            Op::Track(op, place) => (Op::Track(op, place), None),
             Op::Mutex(op, place) => (Op::Mutex(op, place), None),
             Op::Fail(place) => (Op::Fail(place), None),
             Op::Thread(op, place) => {
                 let (op, body) = op.split();
                 (Op::Thread(op, place), body)
             }
+        }
+    }
+}
+
+impl AtomicOp {
+    /// The number of the atomic that it is an operation of; a new one has none yet.
+    pub fn atomic(self) -> Option<usize>
+        ensures { result ≡ accessed self }
+    {
+        match self {
+            AtomicOp::New(..) => None,
+            AtomicOp::Load(number, _)
+            | AtomicOp::Store(number, ..)
+            | AtomicOp::Update(number, ..)
+            | AtomicOp::CompareExchange(number, _)
+            | AtomicOp::CompareAndSwap(number, ..)
+            | AtomicOp::UnsyncLoad(number)
+            | AtomicOp::IntoInner(number)
+            | AtomicOp::WithMut(number)
+            | AtomicOp::WithMutEnd(number, _) => Some(number),
         }
     }
 }

@@ -1,5 +1,7 @@
 //! The state of a run.
 mod atomics;
+mod cells;
+mod counts;
 pub mod location;
 mod locks;
 pub mod object;
@@ -8,3 +10,4 @@ pub mod steps;
 pub mod sync;
 pub mod thread;
 mod threads;
+mod tracks;

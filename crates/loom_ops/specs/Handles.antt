@@ -1,8 +1,21 @@
--- The handles that replies hold.
-use Rattle.std.specs.Prelude.{ℕ, Option, Some, None}
+-- The handles and values that replies hold.
+use Rattle.std.specs.Prelude.{ℕ, Option, Some, None, Result, Ok, Err}
+use Rattle.std.specs.declared.sync.atomic.Ordering.{Ordering}
+use Rattle.loom_objects.specs.declared.operation.AtomicOp.TheVariants.{CompareExchange}
+use Rattle.loom_objects.specs.declared.operation.Op.{Op}
+use Rattle.loom_objects.specs.declared.operation.Op.TheVariants.{Atomic as OnAtomic}
 use Rattle.loom_objects.specs.declared.operation.Reply.{Reply}
-use Rattle.loom_objects.specs.declared.operation.Reply.TheVariants.{Atomic as AtomicMade, Locked, Mutex as MutexMade, Spawned, Value}
+use Rattle.loom_objects.specs.declared.operation.Reply.TheVariants.{Arc as ArcMade, Atomic as AtomicMade, Cell as CellMade, Exchanged, Locked, Mutex as MutexMade, Reading, Spawned, Track as TrackMade, Value, Writing}
+use Rattle.loom_ops.specs.declared.alloc.Track.{Track}
+use Rattle.loom_ops.specs.declared.cell.Cell.{Cell}
+use Rattle.loom_ops.specs.declared.cell.ConstPtr.{ConstPtr}
+use Rattle.loom_ops.specs.declared.cell.MutPtr.{MutPtr}
+use Rattle.loom_ops.specs.declared.cell.UnsafeCell.{UnsafeCell}
 use Rattle.loom_ops.specs.declared.sync.atomic.Atomic.{Atomic}
+use Rattle.loom_ops.specs.declared.sync.atomic.FetchUpdate.{FetchUpdate}
+use Rattle.loom_ops.specs.declared.sync.atomic.Fetched.{Fetched}
+use Rattle.loom_ops.specs.declared.sync.atomic.Fetched.TheVariants.{Read, Replaced}
+use Rattle.loom_ops.specs.declared.sync.Arc.{Arc}
 use Rattle.loom_ops.specs.declared.sync.Mutex.{Mutex}
 use Rattle.loom_ops.specs.declared.sync.MutexGuard.{MutexGuard}
 use Rattle.loom_ops.specs.declared.thread.JoinHandle.{JoinHandle}
@@ -13,10 +26,58 @@ module _ {D : Type 0} where
   atomic_handle (AtomicMade number) = Some (record { number = number; holds = record {} })
   atomic_handle _ = None
 
-  -- the number that was loaded
+  -- the number that was read
   abbrev pub value_in : Reply D → Option ℕ
   value_in (Value number) = Some number
   value_in _ = None
+
+  -- what a compare-exchange has read, as the value that its number stands for: Ok where it was exchanged
+  abbrev pub exchanged_in : {T : Type 0} → (ℕ → T) → Reply D → Option (Result T T)
+  exchanged_in value (Exchanged (Ok number)) = Some (Ok (value number))
+  exchanged_in value (Exchanged (Err number)) = Some (Err (value number))
+  exchanged_in value _ = None
+
+  -- how far an update is: what was loaded, or stood in the exchange's way, is what comes next made of
+  abbrev pub fetched_in : {T : Type 0} → (ℕ → T) → Reply D → Option (Fetched T)
+  fetched_in value (Value number) = Some (Read (value number))
+  fetched_in value (Exchanged (Err number)) = Some (Read (value number))
+  fetched_in value (Exchanged (Ok number)) = Some (Replaced (value number))
+  fetched_in value _ = None
+
+  -- the cell that was made, by the handle of accesses that stay open
+  abbrev pub unsafe_cell_handle : Reply D → Option UnsafeCell
+  unsafe_cell_handle (CellMade number) = Some (record { number = number })
+  unsafe_cell_handle _ = None
+
+  -- the cell that was made, by the handle of accesses that end at once
+  abbrev pub cell_handle : Reply D → Option Cell
+  cell_handle (CellMade number) = Some (record { number = number })
+  cell_handle _ = None
+
+  -- the cell that the thread reads from now on
+  abbrev pub reader_handle : Reply D → Option ConstPtr
+  reader_handle (Reading number value) = Some (record { number = number })
+  reader_handle _ = None
+
+  -- the cell that the thread writes from now on
+  abbrev pub writer_handle : Reply D → Option MutPtr
+  writer_handle (Writing number value) = Some (record { number = number })
+  writer_handle _ = None
+
+  -- the data that it writes
+  abbrev pub written_in : Reply D → Option D
+  written_in (Writing number value) = Some value
+  written_in _ = None
+
+  -- the counted reference that was made
+  abbrev pub arc_handle : Reply D → Option Arc
+  arc_handle (ArcMade number) = Some (record { number = number })
+  arc_handle _ = None
+
+  -- the tracked value that was made
+  abbrev pub track_handle : Reply D → Option Track
+  track_handle (TrackMade number) = Some (record { number = number })
+  track_handle _ = None
 
   -- the mutex that was made
   abbrev pub mutex_handle : Reply D → Option Mutex
@@ -32,3 +93,12 @@ module _ {D : Type 0} where
   abbrev pub join_handle : Reply D → Option JoinHandle
   join_handle (Spawned thread notifier) = Some (record { thread = thread; notifier = notifier })
   join_handle _ = None
+
+-- a compare-exchange of the atomic of this number
+abbrev pub exchange : {D S : Type 0} → ℕ → ℕ → ℕ → Ordering → Ordering → Op D S
+exchange number expected new success failure =
+    OnAtomic (CompareExchange number (record { expected = expected; new = new; success = success; failure = failure })) None
+
+-- an update with these orderings, before its first operation
+abbrev pub update : {T : Type 0} → Atomic T → Ordering → Ordering → FetchUpdate T
+update atomic set_order fetch_order = record { atomic = atomic; set_order = set_order; fetch_order = fetch_order }

@@ -3,6 +3,8 @@
 
 ghost use Rattle.std.specs.Prelude.{◌≡◌, None};
 
+pub mod alloc;
+pub mod cell;
 pub mod sync;
 pub mod thread;
 

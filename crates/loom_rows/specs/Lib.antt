@@ -1,2 +1,3 @@
 pub mod Guide
 pub mod Line
+pub mod Updates

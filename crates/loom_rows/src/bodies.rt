@@ -1,4 +1,8 @@
 //! The scripts of the rows.
+
+pub mod atomics;
+pub mod cells;
+
 use loom::sync::atomic::Ordering::{Acquire, Relaxed, Release};
 use loom_scripts::script::{Step, Value};
 

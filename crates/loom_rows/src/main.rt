@@ -7,6 +7,7 @@ mod line;
 mod rows;
 #[cfg(test)]
 mod tests;
+mod updates;
 
 use std::process::ExitCode;
 use std::{env, io};

@@ -3,9 +3,12 @@ ghost use Rattle.std.specs.Prelude.{◌≡◌, ◌⊎◌, IfOk};
 ghost use Rattle.loom_rows.specs.Line.{Printed, PrintedOf};
 ghost use Rattle.loom_scripts.specs.Script.{started};
 
-use crate::bodies;
+use crate::bodies::{self, atomics, cells};
 use crate::line::{self, ShownReport};
+use crate::updates::Updater;
+use loom::Body;
 use loom::model::{Builder, Report};
+use loom_scripts::number::Number;
 use loom_scripts::script::{Script, Step};
 use std::io::{self, Write};
 
@@ -50,8 +53,57 @@ pub fn row_of(name: &str) -> Option<Row> {
         "check_ordering_valid" => Some(Row::new(&bodies::CHECK_ORDERING_VALID)),
         "check_ordering_invalid_1" => Some(Row::new(&bodies::CHECK_ORDERING_INVALID_1)),
         "checks_fail" => Some(Row::new(&bodies::CHECKS_FAIL)),
-        _ => None,
+        _ => atomic_row_of(name),
     }
+}
+
+// The row of this name, among those about atomics and fences.
+fn atomic_row_of(name: &str) -> Option<Row> {
+    match name {
+        "u8_functions" => Some(Row::new(&atomics::U8_FUNCTIONS)),
+        "i8_functions" => Some(Row::new(&atomics::I8_FUNCTIONS)),
+        "bool_nand" => Some(Row::new(&atomics::BOOL_NAND)),
+        "compare_exchange" => Some(Row::new(&atomics::COMPARE_EXCHANGE)),
+        "unsync_race" => Some(Row::new(&atomics::UNSYNC_RACE)),
+        "load_in_with_mut" => Some(Row::new(&atomics::LOAD_IN_WITH_MUT)),
+        "relaxed_fence" => Some(Row::new(&atomics::RELAXED_FENCE)),
+        "unsync_load_forever" => {
+            let mut row = Row::new(&atomics::UNSYNC_LOAD_FOREVER);
+            row.builder.max_steps = 10;
+            Some(row)
+        }
+        "sb_fences" => Some(Row::new(&atomics::SB_FENCES)),
+        "fetch_add_atomic" => Some(Row::new(&atomics::FETCH_ADD_ATOMIC)),
+        "orders_equal" => Some(Row::new(&atomics::ORDERS_EQUAL)),
+        _ => cell_row_of(name),
+    }
+}
+
+// The row of this name, among those about cells, counted references and tracked values.
+fn cell_row_of(name: &str) -> Option<Row> {
+    let steps: &'static [Step] = match name {
+        "atomic_causality_success" => &cells::ATOMIC_CAUSALITY_SUCCESS,
+        "atomic_causality_fail" => &cells::ATOMIC_CAUSALITY_FAIL,
+        "unsafe_cell_race_mut_mut_1" => &cells::UNSAFE_CELL_RACE_MUT_MUT_1,
+        "unsafe_cell_race_mut_mut_2" => &cells::UNSAFE_CELL_RACE_MUT_MUT_2,
+        "unsafe_cell_race_mut_immut_1" => &cells::UNSAFE_CELL_RACE_MUT_IMMUT_1,
+        "unsafe_cell_race_mut_immut_2" => &cells::UNSAFE_CELL_RACE_MUT_IMMUT_2,
+        "unsafe_cell_race_mut_immut_3" => &cells::UNSAFE_CELL_RACE_MUT_IMMUT_3,
+        "unsafe_cell_race_mut_immut_4" => &cells::UNSAFE_CELL_RACE_MUT_IMMUT_4,
+        "unsafe_cell_race_mut_immut_5" => &cells::UNSAFE_CELL_RACE_MUT_IMMUT_5,
+        "unsafe_cell_ok_1" => &cells::UNSAFE_CELL_OK_1,
+        "unsafe_cell_ok_2" => &cells::UNSAFE_CELL_OK_2,
+        "unsafe_cell_ok_3" => &cells::UNSAFE_CELL_OK_3,
+        "unsafe_cell_access_after_sync" => &cells::UNSAFE_CELL_ACCESS_AFTER_SYNC,
+        "read_in_write" => &cells::READ_IN_WRITE,
+        "detect_mem_leak" => &cells::DETECT_MEM_LEAK,
+        "arc_count" => &cells::ARC_COUNT,
+        "arc_unwrap" => &cells::ARC_UNWRAP,
+        "track_then_arc" => &cells::TRACK_THEN_ARC,
+        "arc_then_track" => &cells::ARC_THEN_TRACK,
+        _ => return None,
+    };
+    Some(Row::new(steps))
 }
 
 /// Runs the row that the words name, prints what the check finds, and answers the exit status.
@@ -64,6 +116,10 @@ pub fn run_row<R: AllocGlobal, O: Write, E: Write>(
     ensures { (result ≡ 2) ⊎ Printed (O.contents out.old) (O.contents out.new) result }
 {
     let answer = match words {
+        ["fetch_update_once"] => {
+            let body = Updater::main(atomics::NUM_A, atomics::NUM_B);
+            check_body(rt, Builder::new(), &body, out, err)
+        }
         [name] => match row_of(name) {
             Some(row) => check_row(rt, row, out, err),
             None => refuse(err),
@@ -89,7 +145,19 @@ pub fn check_row<R: AllocGlobal, O: Write, E: Write>(
 ) -> io::Result<u8>
     ensures { IfOk result (λ status. (status ≡ 2) ⊎ Printed (O.contents out.old) (O.contents out.new) status) }
 {
-    match row.builder.check(rt.alloc(), &row.script) {
+    check_body(rt, row.builder, &row.script, out, err)
+}
+
+fn check_body<R: AllocGlobal, B: Body<Data = Number>, O: Write, E: Write>(
+    rt: &R,
+    builder: Builder,
+    body: &B,
+    out: &mut O,
+    err: &mut E,
+) -> io::Result<u8>
+    ensures { IfOk result (λ status. (status ≡ 2) ⊎ Printed (O.contents out.old) (O.contents out.new) status) }
+{
+    match builder.check(rt.alloc(), body) {
         Ok(report) => print_report(out, &report),
         Err(error) => {
             let number = error.number();

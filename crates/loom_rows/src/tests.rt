@@ -1,3 +1,4 @@
+mod cells;
 mod handles;
 mod lists;
 mod litmus;

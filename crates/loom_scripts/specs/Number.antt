@@ -1,4 +1,4 @@
--- What the mutexes of scripts hold.
+-- What the objects of scripts hold.
 use Rattle.std.specs.Prelude.{ℕ}
 use Rattle.loom_scripts.specs.declared.number.Number.{Number}
 

@@ -1,19 +1,35 @@
 -- What a script does from one operation to the next.
-use Rattle.std.specs.Prelude.{ℕ, ◌+◌, ◌*◌, ◌%◌, ◌^◌, ◌==◌, List, [], ◌∷◌, length, Option, Some, None, slice_get, slice_set, slice_index, cond, nat_lt}
+use Rattle.std.specs.Prelude.{ℕ, ◌+◌, ◌*◌, ◌%◌, ◌^◌, ◌==◌, List, [], ◌∷◌, length, Option, Some, None, Ok, Err, slice_get, slice_set, slice_index, cond, nat_lt}
 use Rattle.std.specs.Borrow.{Bor}
+use Rattle.loom_objects.specs.declared.operation.AtomicOp.{AtomicOp}
 use Rattle.loom_objects.specs.declared.operation.Op.{Op}
-use Rattle.loom_objects.specs.declared.operation.Op.TheVariants.{Atomic as OnAtomic, Mutex as OnMutex, Thread as OnThread, Fail as Fails}
+use Rattle.loom_objects.specs.declared.operation.Op.TheVariants.{Atomic as OnAtomic, Fence as Fences, Cell as OnCell, Arc as OnArc, Track as OnTrack, Mutex as OnMutex, Thread as OnThread, Fail as Fails}
+use Rattle.loom_objects.specs.declared.operation.ArcOp.{ArcOp}
+use Rattle.loom_objects.specs.declared.operation.ArcOp.TheVariants as arc
 use Rattle.loom_objects.specs.declared.operation.AtomicOp.TheVariants as atomic
+use Rattle.loom_objects.specs.declared.operation.CellOp.{CellOp}
+use Rattle.loom_objects.specs.declared.operation.CellOp.TheVariants as cell
 use Rattle.loom_objects.specs.declared.operation.MutexOp.TheVariants as mutex
 use Rattle.loom_objects.specs.declared.operation.ThreadOp.TheVariants as thread
+use Rattle.loom_objects.specs.declared.operation.TrackOp.{TrackOp}
+use Rattle.loom_objects.specs.declared.operation.TrackOp.TheVariants as track
 use Rattle.loom_objects.specs.declared.operation.Reply.{Reply}
 use Rattle.loom_objects.specs.declared.operation.Reply.TheVariants as reply
-use Rattle.loom_ops.specs.Handles.{atomic_handle, mutex_handle, guard_handle, join_handle}
+use Rattle.loom_views.specs.declared.rt.num.Numbers.TheVariants.{U64}
+use Rattle.loom_ops.specs.Handles.{arc_handle, atomic_handle, unsafe_cell_handle, mutex_handle, guard_handle, join_handle, track_handle}
 use Rattle.loom_scripts.specs.declared.number.Number.{Number}
 use Rattle.loom_scripts.specs.Number.{number}
+use Rattle.loom_scripts.specs.declared.script.Access.{Access}
+use Rattle.loom_scripts.specs.declared.script.Access.TheVariants as access
+use Rattle.loom_scripts.specs.declared.script.ArcAccess.{ArcAccess}
+use Rattle.loom_scripts.specs.declared.script.ArcAccess.TheVariants as on_arc
+use Rattle.loom_scripts.specs.declared.script.CellAccess.{CellAccess}
+use Rattle.loom_scripts.specs.declared.script.CellAccess.TheVariants as on_cell
 use Rattle.loom_scripts.specs.declared.script.Script.{Script}
 use Rattle.loom_scripts.specs.declared.script.Step.{Step}
-use Rattle.loom_scripts.specs.declared.script.Step.TheVariants.{NewAtomic, Load, Store, NewMutex, Lock, Release, Spawn, Join, Finish, Exit, End, Fail, Jump, Unless}
+use Rattle.loom_scripts.specs.declared.script.Step.TheVariants.{NewAtomic, NewAtomicOf, Load, Store, Access as Accessing, Fence, NewCell, Cell, NewArc, Arc, NewTrack, Track, NewMutex, Lock, Release, Spawn, Join, Finish, Exit, End, Fail, Jump, Unless}
+use Rattle.loom_scripts.specs.declared.script.TrackAccess.{TrackAccess}
+use Rattle.loom_scripts.specs.declared.script.TrackAccess.TheVariants as on_track
 use Rattle.loom_scripts.specs.declared.script.Value.{Value}
 use Rattle.loom_scripts.specs.declared.script.Value.TheVariants.{Plain, Held, Next, Both}
 
@@ -29,12 +45,15 @@ started steps = record {
   slot = 0;
   registers = 0 ∷ 0 ∷ 0 ∷ 0 ∷ [];
   atomics = no_handles;
+  cells = no_handles;
+  arcs = no_handles;
+  tracks = no_handles;
   mutexes = no_handles;
   guards = no_handles;
   threads = no_handles;
 }
 
--- a thread that it spawns at this step, with its registers, atomics and mutexes
+-- a thread that it spawns at this step, with its registers and objects
 abbrev pub child : Script → ℕ → Script
 child s at = record s { at = at; slot = 0; guards = no_handles; threads = no_handles }
 
@@ -48,17 +67,31 @@ abbrev pub put_number : List ℕ → ℕ → Option ℕ → List ℕ
 put_number registers register None = registers
 put_number registers register (Some n) = slice_set registers register n
 
--- the number that the reply holds, of an atomic or of a thread that was joined
+-- the number that the reply holds, of an object or of a thread that was joined, or 1 where others share what it would hold
 abbrev pub number_in : Reply Number → Option ℕ
 number_in (reply.Value n) = Some n
+number_in (reply.Exchanged (Ok n)) = Some n
+number_in (reply.Exchanged (Err n)) = Some n
 number_in (reply.Data n) = Some n.0
+number_in (reply.Reading number n) = Some n.0
+number_in (reply.Writing number n) = Some n.0
+number_in reply.Shared = Some 1
 number_in _ = None
+
+-- the register for it: the last one, where a compare-exchange hasn't exchanged what it read, or others share the value
+abbrev pub register_for : ℕ → Reply Number → ℕ
+register_for register (reply.Exchanged (Err n)) = 3
+register_for register reply.Shared = 3
+register_for register _ = register
 
 -- what the reply holds is kept in the slot, or the register, that the last step named
 abbrev pub kept : Script → Reply Number → Script
 kept s told = record s {
-  registers = put_number s.registers s.slot (number_in told);
+  registers = put_number s.registers (register_for s.slot told) (number_in told);
   atomics = put s.atomics s.slot (atomic_handle told);
+  cells = put s.cells s.slot (unsafe_cell_handle told);
+  arcs = put s.arcs s.slot (arc_handle told);
+  tracks = put s.tracks s.slot (track_handle told);
   mutexes = put s.mutexes s.slot (mutex_handle told);
   guards = put s.guards s.slot (guard_handle told);
   threads = put s.threads s.slot (join_handle told);
@@ -74,6 +107,10 @@ number_of s (Plain n) = n
 number_of s (Held register) = held s register
 number_of s (Next register) = (held s register + 1) % 2 ^ 64
 number_of s (Both one other) = (held s one * 10 + held s other) % 2 ^ 64
+
+-- the same, as objects hold it
+abbrev pub data_of : Script → Value → Number
+data_of s value = number (number_of s value)
 
 -- beyond the script's end a step fails
 abbrev pub step_in : Option Step → Step
@@ -96,7 +133,15 @@ landing s = landing_at s (step_at s.steps.now s.at)
 -- the slot, or the register, in which the step keeps what it is told
 abbrev pub slot_of : Step → ℕ
 slot_of (NewAtomic slot n) = slot
+slot_of (NewAtomicOf slot numbers n) = slot
 slot_of (Load slot register order) = register
+slot_of (Accessing slot register todo) = register
+slot_of (NewCell slot n) = slot
+slot_of (Cell slot register todo) = register
+slot_of (NewArc slot n) = slot
+slot_of (Arc slot register todo) = register
+slot_of (NewTrack slot n) = slot
+slot_of (Track slot register todo) = register
 slot_of (NewMutex slot) = slot
 slot_of (Lock slot) = slot
 slot_of (Spawn slot at) = slot
@@ -122,17 +167,65 @@ abbrev pub on : {A : Type 0} → Option A → (A → Op Number Script) → Op Nu
 on None makes = Fails None
 on (Some handle) makes = makes handle
 
+-- the access of the atomic of this number
+abbrev pub accesses : Script → Access → ℕ → AtomicOp
+accesses s (access.Update change order) number = atomic.Update number change order
+accesses s (access.CompareExchange exchange) number = atomic.CompareExchange number exchange
+accesses s (access.CompareAndSwap expected new order) number = atomic.CompareAndSwap number expected new order
+accesses s access.UnsyncLoad number = atomic.UnsyncLoad number
+accesses s access.IntoInner number = atomic.IntoInner number
+accesses s access.WithMut number = atomic.WithMut number
+accesses s (access.WithMutEnd value) number = atomic.WithMutEnd number (number_of s value)
+
+-- the access of the cell of this number
+abbrev pub cell_op : Script → CellAccess → ℕ → CellOp Number
+cell_op s on_cell.Read number = cell.Read number
+cell_op s on_cell.ReadEnd number = cell.ReadEnd number
+cell_op s on_cell.Deref number = cell.Deref number
+cell_op s on_cell.Write number = cell.Write number
+cell_op s (on_cell.WriteEnd value) number = cell.WriteEnd number (data_of s value)
+cell_op s on_cell.IntoInner number = cell.IntoInner number
+cell_op s on_cell.Get number = cell.Get number
+cell_op s (on_cell.Replace value) number = cell.Replace number (data_of s value)
+
+-- the access of the counted reference of this number
+abbrev pub arc_op : Script → ArcAccess → ℕ → ArcOp Number
+arc_op s on_arc.Clone number = arc.Clone number
+arc_op s on_arc.Drop number = arc.Drop number
+arc_op s on_arc.Get number = arc.Get number
+arc_op s on_arc.GetMut number = arc.GetMut number
+arc_op s (on_arc.Put value) number = arc.Put number (data_of s value)
+arc_op s on_arc.TryUnwrap number = arc.TryUnwrap number
+arc_op s on_arc.StrongCount number = arc.StrongCount number
+
+-- the access of the tracked value of this number
+abbrev pub track_op : Script → TrackAccess → ℕ → TrackOp Number
+track_op s on_track.GetRef number = track.GetRef number
+track_op s on_track.GetMut number = track.GetMut number
+track_op s (on_track.Put value) number = track.Put number (data_of s value)
+track_op s on_track.IntoInner number = track.IntoInner number
+track_op s on_track.Drop number = track.Drop number
+
 -- the operation that the step makes
 abbrev pub operation : Script → Step → Op Number Script
-operation s (NewAtomic slot n) = OnAtomic (atomic.New n) None
+operation s (NewAtomic slot n) = OnAtomic (atomic.New U64 n) None
+operation s (NewAtomicOf slot numbers n) = OnAtomic (atomic.New numbers n) None
 operation s (Load slot register order) = on (slot_at s.atomics slot) (λ a. OnAtomic (atomic.Load a.number order) None)
 operation s (Store slot value order) = on (slot_at s.atomics slot) (λ a. OnAtomic (atomic.Store a.number (number_of s value) order) None)
+operation s (Accessing slot register todo) = on (slot_at s.atomics slot) (λ a. OnAtomic (accesses s todo a.number) None)
+operation s (Fence order) = Fences order None
+operation s (NewCell slot n) = OnCell (cell.New (number n)) None
+operation s (Cell slot register todo) = on (slot_at s.cells slot) (λ c. OnCell (cell_op s todo c.number) None)
+operation s (NewArc slot n) = OnArc (arc.New (number n)) None
+operation s (Arc slot register todo) = on (slot_at s.arcs slot) (λ a. OnArc (arc_op s todo a.number) None)
+operation s (NewTrack slot n) = OnTrack (track.New (number n)) None
+operation s (Track slot register todo) = on (slot_at s.tracks slot) (λ t. OnTrack (track_op s todo t.number) None)
 operation s (NewMutex slot) = OnMutex (mutex.New (number 0)) None
 operation s (Lock slot) = on (slot_at s.mutexes slot) (λ m. OnMutex (mutex.Lock m.number) None)
 operation s (Release slot) = on (slot_at s.guards slot) (λ g. OnMutex (mutex.Release g.number (number 0)) None)
 operation s (Spawn slot at) = OnThread (thread.Spawn (child s at)) None
 operation s (Join slot register) = on (slot_at s.threads slot) (λ t. OnThread (thread.Join t.thread t.notifier) None)
-operation s (Finish value) = OnThread (thread.Finish (number (number_of s value))) None
+operation s (Finish value) = OnThread (thread.Finish (data_of s value)) None
 operation s Exit = OnThread thread.Exit None
 operation s End = OnThread thread.End None
 operation s _ = Fails None

@@ -3,7 +3,7 @@ ghost use Rattle.std.specs.Prelude.{◌≡◌, IfOk};
 use loom_objects::data::Data;
 use std::alloc::AllocError;
 
-/// What the mutexes of a script hold, and what its threads finish with.
+/// What the objects of a script hold, and what its threads finish with.
 #[derive(Clone, Copy, Debug, PartialEq, Eq)]
 pub struct Number(pub u64);
 

@@ -1,13 +1,17 @@
 ghost use Rattle.std.specs.Prelude.{◌≡◌, IfOk};
-ghost use Rattle.loom_scripts.specs.Script.{started, next_of, number_in, put, put_number, kept, held, number_of, step_at, landing, slot_of, fetched, slot_at, child, operation};
+ghost use Rattle.loom_scripts.specs.Script.{started, next_of, number_in, register_for, put, put_number, kept, held, number_of, step_at, landing, slot_of, fetched, slot_at, child, accesses, data_of, cell_op, arc_op, track_op, on, operation};
 
 use crate::number::Number;
 use loom_objects::body::Body;
-use loom_objects::operation::{Op, Reply};
+use loom_objects::operation::{AtomicOp, CellOp, Exchange, Op, Reply};
+use loom_ops::alloc::Track;
+use loom_ops::cell::{Cell, ConstPtr, MutPtr, UnsafeCell};
 use loom_ops::fail;
-use loom_ops::sync::atomic::{AtomicUsize, Ordering};
-use loom_ops::sync::{Mutex, MutexGuard};
+use loom_ops::sync::atomic::{AtomicU64, Ordering, fence};
+use loom_ops::sync::{Arc, Mutex, MutexGuard};
 use loom_ops::thread::{self, JoinHandle};
+use loom_views::rt::change::Change;
+use loom_views::rt::num::Numbers;
 use std::alloc::AllocError;
 
 /// A number that a step makes. What it names is a register, of four, in which its thread keeps numbers; any other is 0.
@@ -23,22 +27,91 @@ pub enum Value {
     Both(usize, usize),
 }
 
+/// What a step does with an atomic, beside loads and stores.
+#[derive(Clone, Copy, Debug)]
+pub enum Access {
+    /// A read-modify-write.
+    Update(Change, Ordering),
+    CompareExchange(Exchange),
+    /// The number that is expected, and the new one.
+    CompareAndSwap(u64, u64, Ordering),
+    UnsyncLoad,
+    IntoInner,
+    WithMut,
+    WithMutEnd(Value),
+}
+
+/// What a step does with a cell.
+#[derive(Clone, Copy, Debug)]
+pub enum CellAccess {
+    Read,
+    ReadEnd,
+    Deref,
+    Write,
+    /// Ends the write, with this number in the cell.
+    WriteEnd(Value),
+    IntoInner,
+    Get,
+    Replace(Value),
+}
+
+/// What a step does with a counted reference.
+#[derive(Clone, Copy, Debug)]
+pub enum ArcAccess {
+    Clone,
+    Drop,
+    Get,
+    GetMut,
+    Put(Value),
+    TryUnwrap,
+    StrongCount,
+}
+
+/// What a step does with a tracked value.
+#[derive(Clone, Copy, Debug)]
+pub enum TrackAccess {
+    GetRef,
+    GetMut,
+    Put(Value),
+    IntoInner,
+    Drop,
+}
+
 /// One step of a script. It names a slot, of four, in which its thread keeps handles, and a register for a number.
 #[derive(Clone, Copy, Debug)]
 pub enum Step {
-    /// Makes an atomic with this number, and keeps it in the slot.
+    /// Makes an atomic of 64 bits with this number, and keeps it in the slot.
     NewAtomic(usize, u64),
+    /// Makes an atomic of this type with this number, and keeps it in the slot.
+    NewAtomicOf(usize, Numbers, u64),
     /// Loads from the atomic in the slot, and keeps the number in the register.
     Load(usize, usize, Ordering),
     /// Stores into the atomic in the slot.
     Store(usize, Value, Ordering),
+    /// Accesses the atomic in the slot, and keeps the number that it reads in the register; if a compare-exchange doesn't
+    /// exchange it, in the last register instead.
+    Access(usize, usize, Access),
+    Fence(Ordering),
+    /// Makes a cell with this number, and keeps it in the slot.
+    NewCell(usize, u64),
+    /// Accesses the cell in the slot, and keeps the number that it is told in the register.
+    Cell(usize, usize, CellAccess),
+    /// Makes a counted reference to this number, and keeps it in the slot.
+    NewArc(usize, u64),
+    /// Accesses the counted reference in the slot, and keeps the number that it is told in the register; where others share
+    /// it, 1 in the last register instead.
+    Arc(usize, usize, ArcAccess),
+    /// Makes a tracked number, and keeps it in the slot.
+    NewTrack(usize, u64),
+    /// Accesses the tracked number in the slot, and keeps the number that it is told in the register.
+    Track(usize, usize, TrackAccess),
     /// Makes a mutex, and keeps it in the slot.
     NewMutex(usize),
     /// Locks the mutex in the slot, and keeps the guard there.
     Lock(usize),
     /// Releases what the guard in the slot holds.
     Release(usize),
-    /// Keeps in the slot a thread that it starts at this step, with the mutexes, atomics and registers of this one.
+    /// Keeps in the slot a thread that it starts at this step, with the objects and registers of this one.
     Spawn(usize, usize),
     /// Joins the thread in the slot, and keeps the number with which it finished in the register.
     Join(usize, usize),
@@ -67,8 +140,14 @@ pub struct Script {
     pub slot: usize,
     /// The numbers that were loaded, and with which threads finished that were joined.
     pub registers: [u64; 4],
-    /// The atomics that the thread was given.
-    pub atomics: [Option<AtomicUsize>; 4],
+    /// The atomics that the thread was given, each by the 64 bits of what it holds.
+    pub atomics: [Option<AtomicU64>; 4],
+    /// The cells that the thread was given.
+    pub cells: [Option<UnsafeCell>; 4],
+    /// The counted references that the thread was given.
+    pub arcs: [Option<Arc>; 4],
+    /// The tracked numbers that the thread was given.
+    pub tracks: [Option<Track>; 4],
     /// The mutexes that the thread was given.
     pub mutexes: [Option<Mutex>; 4],
     /// The mutexes that it locked.
@@ -88,6 +167,9 @@ impl Script {
             slot: 0,
             registers: [0; 4],
             atomics: [None; 4],
+            cells: [None; 4],
+            arcs: [None; 4],
+            tracks: [None; 4],
             mutexes: [None; 4],
             guards: [None; 4],
             threads: [None; 4],
@@ -99,8 +181,12 @@ impl Script {
         ensures { self.new ≡ kept self.old reply.now }
     {
         let slot = self.slot;
-        put_number(&mut self.registers, slot, number_in(reply));
-        put(&mut self.atomics, slot, AtomicUsize::from_reply(reply));
+        let register = register_for(slot, reply);
+        put_number(&mut self.registers, register, number_in(reply));
+        put(&mut self.atomics, slot, AtomicU64::from_reply(reply));
+        put(&mut self.cells, slot, UnsafeCell::from_reply(reply));
+        put(&mut self.arcs, slot, Arc::from_reply(reply));
+        put(&mut self.tracks, slot, Track::from_reply(reply));
         put(&mut self.mutexes, slot, Mutex::from_reply(reply));
         put(&mut self.guards, slot, MutexGuard::from_reply(reply));
         put(&mut self.threads, slot, JoinHandle::from_reply(reply));
@@ -172,7 +258,7 @@ impl Script {
         step
     }
 
-    /// A thread that begins at this step, with the numbers, atomics and mutexes of this one.
+    /// A thread that begins at this step, with the numbers and objects of this one.
     fn child(&self, at: usize) -> Script
         ensures { result ≡ child self.now at }
     {
@@ -185,20 +271,131 @@ impl Script {
         }
     }
 
+    /// The load from the atomic in the slot.
+    fn load(&self, slot: usize, order: Ordering) -> Op<Number, Script>
+        ensures { result ≡ on (slot_at self.now.atomics slot) (λ a. Op.Atomic (AtomicOp.Load a.number order) None) }
+    {
+        match slot_at(&self.atomics, slot) {
+            Some(atomic) => atomic.load(order),
+            None => fail(),
+        }
+    }
+
+    /// The store into the atomic in the slot.
+    fn store(&self, slot: usize, value: Value, order: Ordering) -> Op<Number, Script>
+        ensures { result ≡ on (slot_at self.now.atomics slot) (λ a. Op.Atomic (AtomicOp.Store a.number (number_of self.now value) order) None) }
+    {
+        match slot_at(&self.atomics, slot) {
+            Some(atomic) => atomic.store(self.number_of(value), order),
+            None => fail(),
+        }
+    }
+
+    /// The access of the atomic in the slot.
+    fn access(&self, slot: usize, access: Access) -> Op<Number, Script>
+        ensures { result ≡ on (slot_at self.now.atomics slot) (λ a. Op.Atomic (accesses self.now access a.number) None) }
+    {
+        let Some(atomic) = slot_at(&self.atomics, slot) else {
+            return fail();
+        };
+        match access {
+            Access::Update(change, order) => update(atomic, change, order),
+            Access::CompareExchange(exchange) => atomic.compare_exchange(
+                exchange.expected,
+                exchange.new,
+                exchange.success,
+                exchange.failure,
+            ),
+            Access::CompareAndSwap(expected, new, order) => {
+                atomic.compare_and_swap(expected, new, order)
+            }
+            Access::UnsyncLoad => atomic.unsync_load(),
+            Access::IntoInner => atomic.into_inner(),
+            Access::WithMut => atomic.with_mut(),
+            Access::WithMutEnd(value) => atomic.with_mut_end(self.number_of(value)),
+        }
+    }
+
+    /// The number that the value stands for, as objects hold it.
+    fn data_of(&self, value: Value) -> Number
+        ensures { result ≡ data_of self.now value }
+    {
+        Number(self.number_of(value))
+    }
+
+    /// The access of the cell in the slot.
+    fn access_cell(&self, slot: usize, access: CellAccess) -> Op<Number, Script>
+        ensures { result ≡ on (slot_at self.now.cells slot) (λ c. Op.Cell (cell_op self.now access c.number) None) }
+    {
+        let Some(cell) = slot_at(&self.cells, slot) else {
+            return fail();
+        };
+        let number = cell.number;
+        match access {
+            CellAccess::Read => cell.get(),
+            CellAccess::ReadEnd => ConstPtr { number }.end(),
+            CellAccess::Deref => ConstPtr { number }.deref(),
+            CellAccess::Write => cell.get_mut(),
+            CellAccess::WriteEnd(value) => MutPtr { number }.end(self.data_of(value)),
+            CellAccess::IntoInner => cell.into_inner(),
+            CellAccess::Get => Cell { number }.get(),
+            CellAccess::Replace(value) => Cell { number }.replace(self.data_of(value)),
+        }
+    }
+
+    /// The access of the counted reference in the slot.
+    fn access_arc(&self, slot: usize, access: ArcAccess) -> Op<Number, Script>
+        ensures { result ≡ on (slot_at self.now.arcs slot) (λ a. Op.Arc (arc_op self.now access a.number) None) }
+    {
+        let Some(arc) = slot_at(&self.arcs, slot) else {
+            return fail();
+        };
+        match access {
+            ArcAccess::Clone => arc.clone(),
+            ArcAccess::Drop => arc.drop(),
+            ArcAccess::Get => arc.get(),
+            ArcAccess::GetMut => arc.get_mut(),
+            ArcAccess::Put(value) => arc.put(self.data_of(value)),
+            ArcAccess::TryUnwrap => arc.try_unwrap(),
+            ArcAccess::StrongCount => arc.strong_count(),
+        }
+    }
+
+    /// The access of the tracked number in the slot.
+    fn access_track(&self, slot: usize, access: TrackAccess) -> Op<Number, Script>
+        ensures { result ≡ on (slot_at self.now.tracks slot) (λ t. Op.Track (track_op self.now access t.number) None) }
+    {
+        let Some(track) = slot_at(&self.tracks, slot) else {
+            return fail();
+        };
+        match access {
+            TrackAccess::GetRef => track.get_ref(),
+            TrackAccess::GetMut => track.get_mut(),
+            TrackAccess::Put(value) => track.put(self.data_of(value)),
+            TrackAccess::IntoInner => track.into_inner(),
+            TrackAccess::Drop => track.drop(),
+        }
+    }
+
     /// The operation that the step makes.
     fn operation(&self, step: Step) -> Op<Number, Script>
         ensures { result ≡ operation self.now step }
     {
         match step {
-            Step::NewAtomic(_, number) => AtomicUsize::new(number as usize),
-            Step::Load(slot, _, order) => match slot_at(&self.atomics, slot) {
-                Some(atomic) => atomic.load(order),
-                None => fail(),
-            },
-            Step::Store(slot, value, order) => match slot_at(&self.atomics, slot) {
-                Some(atomic) => atomic.store(self.number_of(value) as usize, order),
-                None => fail(),
-            },
+            Step::NewAtomic(_, number) => AtomicU64::new(number),
+            Step::NewAtomicOf(_, numbers, number) => {
+                Op::Atomic(AtomicOp::New(numbers, number), None)
+            }
+            Step::Load(slot, _, order) => self.load(slot, order),
+            Step::Store(slot, value, order) => self.store(slot, value, order),
+            Step::Access(slot, _, access) => self.access(slot, access),
+            Step::Fence(order) => fence(order),
+            Step::NewCell(_, number) => UnsafeCell::new(Number(number)),
+            Step::Cell(slot, _, access) => self.access_cell(slot, access),
+            Step::NewArc(_, number) => Arc::new(Number(number)),
+            Step::Arc(slot, _, access) => self.access_arc(slot, access),
+            Step::NewTrack(_, number) => Track::new(Number(number)),
+            Step::Track(slot, _, access) => self.access_track(slot, access),
             Step::NewMutex(_) => Mutex::new(Number(0)),
             Step::Lock(slot) => match slot_at(&self.mutexes, slot) {
                 Some(mutex) => mutex.lock(),
@@ -213,7 +410,7 @@ impl Script {
                 Some(thread) => thread.join(),
                 None => fail(),
             },
-            Step::Finish(value) => thread::finish(Number(self.number_of(value))),
+            Step::Finish(value) => thread::finish(self.data_of(value)),
             Step::Exit => thread::exit(),
             Step::End => thread::end(),
             Step::Fail | Step::Jump(_) | Step::Unless(..) => fail(),
@@ -221,14 +418,46 @@ impl Script {
     }
 }
 
-/// The number that the reply holds, of an atomic or of a thread that was joined.
+/// The read-modify-write that makes this change.
+fn update(atomic: AtomicU64, change: Change, order: Ordering) -> Op<Number, Script>
+    ensures { result ≡ Op.Atomic (AtomicOp.Update atomic.number change order) None }
+{
+    match change {
+        Change::Swap(number) => atomic.swap(number, order),
+        Change::Add(number) => atomic.fetch_add(number, order),
+        Change::Sub(number) => atomic.fetch_sub(number, order),
+        Change::And(number) => atomic.fetch_and(number, order),
+        Change::Nand(number) => atomic.fetch_nand(number, order),
+        Change::Or(number) => atomic.fetch_or(number, order),
+        Change::Xor(number) => atomic.fetch_xor(number, order),
+        Change::Max(number) => atomic.fetch_max(number, order),
+        Change::Min(number) => atomic.fetch_min(number, order),
+    }
+}
+
+/// The number that the reply holds, of an object or of a thread that was joined, or 1 where others share what it would hold.
 fn number_in(reply: &Reply<Number>) -> Option<u64>
     ensures { result ≡ number_in reply.now }
 {
     match reply {
         Reply::Value(number) => Some(*number),
+        Reply::Exchanged(Ok(number)) => Some(*number),
+        Reply::Exchanged(Err(number)) => Some(*number),
         Reply::Data(Number(number)) => Some(*number),
+        Reply::Reading(_, Number(number)) => Some(*number),
+        Reply::Writing(_, Number(number)) => Some(*number),
+        Reply::Shared => Some(1),
         _ => None,
+    }
+}
+
+/// The register for that number.
+fn register_for(register: usize, reply: &Reply<Number>) -> usize
+    ensures { result ≡ register_for register reply.now }
+{
+    match reply {
+        Reply::Exchanged(Err(_)) | Reply::Shared => 3,
+        _ => register,
     }
 }
 
@@ -270,9 +499,20 @@ fn slot_of(step: Step) -> usize
     ensures { result ≡ slot_of step }
 {
     match step {
-        Step::NewAtomic(slot, _) | Step::NewMutex(slot) | Step::Lock(slot) | Step::Spawn(slot, _) =>
-            slot,
-        Step::Load(_, register, _) | Step::Join(_, register) => register,
+        Step::NewAtomic(slot, _)
+        | Step::NewAtomicOf(slot, ..)
+        | Step::NewCell(slot, _)
+        | Step::NewArc(slot, _)
+        | Step::NewTrack(slot, _)
+        | Step::NewMutex(slot)
+        | Step::Lock(slot)
+        | Step::Spawn(slot, _) => slot,
+        Step::Load(_, register, _)
+        | Step::Access(_, register, _)
+        | Step::Cell(_, register, _)
+        | Step::Arc(_, register, _)
+        | Step::Track(_, register, _)
+        | Step::Join(_, register) => register,
         _ => 0,
     }
 }

@@ -454,6 +454,10 @@ mutate_end-agrees t s views state value h z =
     tests-agree t false false _ _ _ (Ok (record (state_closed state value) { unsync_mut_at = join state.unsync_mut_at views.present })) (ended views value) refl (all_inside t closed views (state_closed state value) shown) refl refl
     (refl, recorded_mutation-shown t closed views (state_closed state value) shown)
 
+-- the first access of a kind
+pub record-one : (g : Graph) (k : ℕ) (ws : List ℕ) → Shows g k ws → ShowsRecord g (k ∷ []) ws
+record-one g k ws s = record { made = (s.made, tt); joined = s.counted ∙ sym (zeros-join g k) }
+
 -- a new atomic
 pub new-shown : (t : ℕ) (g : Graph) (p : ThreadPoints) (views : ThreadViews) (stores : List Store) (value : ℕ) → t < 5 → length stores ≡ 7 → IsChained g → IsPresent g t p.present → ShowsThread g t p views → ShowsScene t (new_step t g p value) views (state_made (state_blank views.present stores) t views zeros value Release)
 new-shown t g p views stores value l e c i th =
@@ -470,7 +474,7 @@ new-shown t g p views stores value l e c i th =
         loads = none;
         stored = none;
         unsync_loads = none;
-        mutations = record { made = (th.present.made, tt); joined = th.present.counted ∙ sym (zeros-join g p.present) };
+        mutations = record-one g p.present views.present th.present;
         mutating = refl;
       };
     } in

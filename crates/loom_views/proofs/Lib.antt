@@ -14,4 +14,5 @@ pub mod ThreadMoves
 pub mod SomeReadable
 pub mod Growth
 pub mod Fences
+pub mod Cells
 pub mod Table

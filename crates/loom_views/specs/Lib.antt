@@ -11,6 +11,7 @@ pub mod Ring
 pub mod Fences
 pub mod Untouched
 pub mod Shown
+pub mod Cells
 pub mod Table
 pub mod Numbers
 pub mod Changes

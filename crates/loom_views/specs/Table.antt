@@ -8,18 +8,20 @@ use Rattle.loom_views.specs.declared.rt.synchronize.ThreadViews.{ThreadViews}
 use Rattle.loom_views.specs.declared.rt.failure.FailureKind.{FailureKind}
 use Rattle.loom_views.specs.declared.rt.failure.FailureKind.TheVariants.{TooManyThreads, TooManyVersions, OrdersEqual, Misuse}
 use Rattle.loom_views.specs.declared.rt.table.Kept.{Kept}
-use Rattle.loom_views.specs.declared.rt.table.Kept.TheVariants.{Meeting, Keeping}
+use Rattle.loom_views.specs.declared.rt.table.Kept.TheVariants.{Meeting, Keeping, Recording}
 use Rattle.loom_views.specs.declared.rt.table.Views.{Views}
 use Rattle.loom_views.specs.Graph.{Graph, moved, raised, Shows, IsChained, IsPresent}
 use Rattle.loom_views.specs.Threads.{ThreadPoints, ShowsThread, with_present, graph_after_raise, graph_after_acquire, graph_after_release, graph_after_release_fence, graph_after_store, graph_after_spawn, child_points, parent_points}
 use Rattle.loom_views.specs.Atomic.{History, StorePoints, Scene, Answer, readable, fails_by_orders, load_step, store_step, update_read_step, update_write_step, update_fail_step, unsync_load_step, mutate_step, mutate_end_step, new_step}
 use Rattle.loom_views.specs.Fences.{after_stores, kept_stores}
+use Rattle.loom_views.specs.Cells.{Accesses, new_accesses, read_step, write_step, ShowsAccesses}
 use Rattle.loom_views.specs.Shown.{ShowsState}
 
--- what an object has: the number of the point at which threads synchronize, or the history of an atomic
+-- what an object has: the number of the point at which threads synchronize, the history of an atomic, or the accesses of a cell
 pub data Place : Type 0 where
   Meets : ℕ → Place
   Keeps : History → Place
+  Records : Accesses → Place
 
 -- the points of a run: its graph, those of each thread, those of each object in the order made, and the global point
 pub record Points : Type 0 where
@@ -57,6 +59,7 @@ abbrev pub acquire_by : Points → ℕ → Option ThreadPoints → Option Place 
 acquire_by p t None place = p
 acquire_by p t (Some own) None = p
 acquire_by p t (Some own) (Some (Keeps history)) = p
+acquire_by p t (Some own) (Some (Records cell)) = p
 acquire_by p t (Some own) (Some (Meets k)) = with_thread p t (graph_after_acquire p.graph own k) (with_present p.graph own)
 
 abbrev pub points_after_acquire : Points → ℕ → ℕ → Points
@@ -67,6 +70,7 @@ abbrev pub release_by : Points → ℕ → Ordering → Option ThreadPoints → 
 release_by p n order None place = p
 release_by p n order (Some own) None = p
 release_by p n order (Some own) (Some (Keeps history)) = p
+release_by p n order (Some own) (Some (Records cell)) = p
 release_by p n order (Some own) (Some (Meets k)) = with_place p n (graph_after_store p.graph own k order) (Meets (length p.graph))
 
 abbrev pub points_after_release : Points → ℕ → ℕ → Ordering → Points
@@ -144,6 +148,7 @@ abbrev pub access_by : Points → ℕ → ℕ → (Scene → Result Answer Failu
 access_by p t n step None place = Err Misuse
 access_by p t n step (Some own) None = Err Misuse
 access_by p t n step (Some own) (Some (Meets k)) = Err Misuse
+access_by p t n step (Some own) (Some (Records cell)) = Err Misuse
 access_by p t n step (Some own) (Some (Keeps history)) = accessed p t n (step (scene_of p own history))
 
 abbrev pub access : Points → ℕ → ℕ → (Scene → Result Answer FailureKind) → Result Accessed FailureKind
@@ -169,6 +174,7 @@ abbrev pub update_fail_by : Points → ℕ → ℕ → Ordering → Option Threa
 update_fail_by p t slot failure None place = p
 update_fail_by p t slot failure (Some own) None = p
 update_fail_by p t slot failure (Some own) (Some (Meets k)) = p
+update_fail_by p t slot failure (Some own) (Some (Records cell)) = p
 update_fail_by p t slot failure (Some own) (Some (Keeps history)) = let failed = update_fail_step (scene_of p own history) slot failure in with_thread p t failed.graph failed.thread
 
 abbrev pub points_after_update_fail : Points → ℕ → ℕ → ℕ → Ordering → Points
@@ -184,9 +190,38 @@ points_after_with_mut p t n = access p t n mutate_step
 abbrev pub points_after_with_mut_end : Points → ℕ → ℕ → ℕ → Result Accessed FailureKind
 points_after_with_mut_end p t n value = access p t n (λ s. mutate_end_step s value)
 
+-- thread t makes a cell. Nothing happens where there is no such thread
+abbrev pub add_cell_by : Points → Option ThreadPoints → Points
+add_cell_by p None = p
+add_cell_by p (Some own) = with_new_place p p.graph (Records (new_accesses own.present))
+
+abbrev pub points_with_cell : Points → ℕ → Points
+points_with_cell p t = add_cell_by p (slice_get p.threads t)
+
+-- the points once the accesses of cell n are these, where a step led to them
+abbrev pub recorded : Points → ℕ → Result Accesses FailureKind → Result Points FailureKind
+recorded p n (Ok cell) = Ok (with_place p n p.graph (Records cell))
+recorded p n (Err kind) = Err kind
+
+-- a recorded access of cell n by thread t, which is a misuse where one of them isn't there. No thread's point moves
+abbrev pub record_by : Points → ℕ → (Graph → ℕ → Accesses → Result Accesses FailureKind) → Option ThreadPoints → Option Place → Result Points FailureKind
+record_by p n step None place = Err Misuse
+record_by p n step (Some own) None = Err Misuse
+record_by p n step (Some own) (Some (Meets k)) = Err Misuse
+record_by p n step (Some own) (Some (Keeps history)) = Err Misuse
+record_by p n step (Some own) (Some (Records cell)) = recorded p n (step p.graph own.present cell)
+
+-- thread t reads cell n, or writes it
+abbrev pub points_after_read : Points → ℕ → ℕ → Result Points FailureKind
+points_after_read p t n = record_by p n read_step (slice_get p.threads t) (slice_get p.places n)
+
+abbrev pub points_after_write : Points → ℕ → ℕ → Result Points FailureKind
+points_after_write p t n = record_by p n write_step (slice_get p.threads t) (slice_get p.places n)
+
 -- the kept stores of an object, the oldest first: only an atomic has any
 abbrev pub stores_at : Place → List StorePoints
 stores_at (Meets k) = []
+stores_at (Records cell) = []
 stores_at (Keeps history) = kept_stores history.stores
 
 -- thread t's acquire fence: from each store that it sees by then, through all atomics in the order made and the kept stores of each from the oldest
@@ -222,6 +257,7 @@ abbrev pub readable_by : Points → ℕ → Reader → Option ThreadPoints → O
 readable_by p t reader None place = Err Misuse
 readable_by p t reader (Some own) None = Err Misuse
 readable_by p t reader (Some own) (Some (Meets k)) = Err Misuse
+readable_by p t reader (Some own) (Some (Records cell)) = Err Misuse
 readable_by p t reader (Some own) (Some (Keeps history)) = if fails_by_orders p.graph t own reader history.stores then Err OrdersEqual else Ok (readable p.graph t own reader history.stores)
 
 abbrev pub readable_slots_of : Points → ℕ → ℕ → Reader → Result (List ℕ) FailureKind
@@ -238,6 +274,7 @@ slot_set slots = map (has_slot slots) (0 ∷ 1 ∷ 2 ∷ 3 ∷ 4 ∷ 5 ∷ 6 ∷
 abbrev pub IsSlotKept : Option Place → ℕ → Type 0
 IsSlotKept None slot = Unit {0}
 IsSlotKept (Some (Meets k)) slot = Unit {0}
+IsSlotKept (Some (Records cell)) slot = Unit {0}
 IsSlotKept (Some (Keeps history)) slot = (slot < 7) × (slot < length history.stores)
 
 -- a thread's views show its points, and its present point is one; a thread that isn't there has raised nothing
@@ -253,8 +290,13 @@ ShowsThreads g threads kept = (t : ℕ) → t < 5 → ShowsThreadAt g t (slice_g
 abbrev pub ShowsPlace : Graph → Place → Kept → Type 0
 ShowsPlace g (Meets k) (Meeting view) = Shows g k view
 ShowsPlace g (Meets k) (Keeping state) = ⊥
+ShowsPlace g (Meets k) (Recording records) = ⊥
 ShowsPlace g (Keeps history) (Meeting view) = ⊥
 ShowsPlace g (Keeps history) (Keeping state) = ShowsState g history state × (0 < length history.stores)
+ShowsPlace g (Keeps history) (Recording records) = ⊥
+ShowsPlace g (Records cell) (Meeting view) = ⊥
+ShowsPlace g (Records cell) (Keeping state) = ⊥
+ShowsPlace g (Records cell) (Recording records) = ShowsAccesses g cell records
 
 abbrev pub ShowsPlaceAt : Graph → Option Place → Option Kept → Type 0
 ShowsPlaceAt g None None = Unit {0}

@@ -1,5 +1,6 @@
 //! What a run is made of, as far as it needs no threads.
 pub mod atomic;
+pub mod cell;
 pub mod change;
 pub mod failure;
 pub mod laws;

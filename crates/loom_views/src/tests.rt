@@ -151,6 +151,43 @@ fn a_mutation_leaves_its_value(rt: HostRuntime) -> Result<(), Fail> {
     Ok(())
 }
 
+// Main has a notifier, 0, and a cell, 1; it spawns a child. Each is about to access the cell.
+fn with_cell(rt: &(impl Abort + AllocGlobal)) -> Result<Views, Fail> {
+    let mut views = Views::new(rt.alloc());
+    views.add_point()?;
+    views.add_cell(0)?;
+    assert_eq!(rt; views.spawn(0), Ok(()));
+    assert_eq!(rt; views.raise(0), Ok(()));
+    assert_eq!(rt; views.raise(1), Ok(()));
+    Ok(views)
+}
+
+#[test]
+fn two_may_read_a_cell_and_neither_may_write_then(rt: HostRuntime) -> Result<(), Fail> {
+    let mut views = with_cell(&rt)?;
+    assert_eq!(rt; views.read(0, 1), Ok(()));
+    assert_eq!(rt; views.read(1, 1), Ok(()));
+    assert_eq!(rt; views.write(0, 1), Err(FailureKind::Race));
+    assert_eq!(rt; views.write(1, 1), Err(FailureKind::Race));
+    views.join_thread(0, 1);
+    assert_eq!(rt; views.write(0, 1), Ok(()));
+    assert_eq!(rt; views.read(1, 1), Err(FailureKind::Race));
+    Ok(())
+}
+
+#[test]
+fn a_release_brings_the_write_of_a_cell(rt: HostRuntime) -> Result<(), Fail> {
+    let mut views = with_cell(&rt)?;
+    assert_eq!(rt; views.write(0, 1), Ok(()));
+    views.release(0, 0, Ordering::Release);
+    assert_eq!(rt; views.read(1, 1), Err(FailureKind::Race));
+    views.acquire(1, 0);
+    assert_eq!(rt; views.read(1, 1), Ok(()));
+    assert_eq!(rt; views.write(1, 1), Ok(()));
+    assert_eq!(rt; views.read(1, 0), Err(FailureKind::Misuse));
+    Ok(())
+}
+
 #[test]
 fn a_notifier_holds_no_value(rt: HostRuntime) -> Result<(), Fail> {
     let mut views = stored(&rt)?;

@@ -6,7 +6,10 @@ use Rattle.loom_views.specs.declared.rt.failure.FailureKind.TheVariants.{NotDete
 use Rattle.loom_objects.specs.declared.choice.Choice.{Choice}
 use Rattle.loom_objects.specs.declared.operation.Turn.{Turn}
 use Rattle.loom_objects.specs.declared.operation.Turn.TheVariants.{Reply, Start, Ended}
+use Rattle.loom_objects.specs.declared.rt.run.Passed.{Passed}
+use Rattle.loom_objects.specs.declared.rt.run.Passed.TheVariants as passed
 use Rattle.loom_objects.specs.Question.{Question, Among, made_of, IsSound}
+use Rattle.loom_objects.specs.Steps.{turned}
 use Rattle.loom_objects.specs.Tree.{Tree, Gives, Fails, Closes, Asks, ◌>>=◌, check, found}
 use Rattle.loom_objects.specs.World.{World}
 use Rattle.loom_engine.specs.Trees.Check.{IsClosing}
@@ -35,6 +38,56 @@ pub check_comes : {B : Type 0} {P : B → Type 0} (passes : Bool) (kind : Failur
 check_comes true kind next fair h = h
 check_comes false kind next fair h = comes_not kind fair
 
+-- whatever is chosen, it ends a run only where the run is over
+abbrev pub StaysOpen : {A : Type 0} → (A → Type 0) → Tree A → Type 0
+StaysOpen Goes (Gives value) = Goes value
+StaysOpen Goes (Fails kind) = Unit {0}
+StaysOpen Goes (Closes rest) = Unit {0}
+StaysOpen Goes (Asks question branches) = (choice : Choice) → StaysOpen Goes (branches choice)
+
+-- An event: it ends a run only where the run is over, and then asks nothing. Its questions are sound and explore. By
+-- options it comes to no failure that is a path's.
+pub data EventOf {A : Type 0} (Goes Over : A → Type 0) : Tree A → Type 0 where
+  goes : (value : A) → Goes value → EventOf Goes Over (Gives value)
+  fails : (kind : FailureKind) → kind ≢ NotDeterministic → EventOf Goes Over (Fails kind)
+  closes : (rest : Tree A) → Comes Over rest → EventOf Goes Over (Closes rest)
+  asks : (question : Question) (branches : Choice → Tree A) → IsSound question → (made_of question).exploring ≡ true
+      → ((choice : Choice) → Among choice (made_of question).options → EventOf Goes Over (branches choice)) → ((choice : Choice) → StaysOpen Goes (branches choice)) → EventOf Goes Over (Asks question branches)
+
+module _ {A : Type 0} {Goes Over : A → Type 0} where
+  pub going_event : (tree : Tree A) → Comes Goes tree → EventOf Goes Over tree
+  going_event tree (comes_to value h) = goes value h
+  going_event tree (comes_not kind fair) = fails kind fair
+
+  pub event_open : (tree : Tree A) → EventOf Goes Over tree → StaysOpen Goes tree
+  event_open tree (goes value h) = h
+  event_open tree (fails kind fair) = tt
+  event_open tree (closes rest h) = tt
+  event_open tree (asks question branches sound exploring options opens) = opens
+
+  pub then_event : {B : Type 0} {Q : B → Type 0} (tree : Tree B) (next : B → Tree A) → Comes Q tree → ((b : B) → Q b → EventOf Goes Over (next b)) → EventOf Goes Over (tree >>= next)
+  then_event tree next (comes_to b q) h = h b q
+  then_event tree next (comes_not kind fair) h = fails kind fair
+
+  pub check_event : (passes : Bool) (kind : FailureKind) (next : ⊤ → Tree A) → kind ≢ NotDeterministic → EventOf Goes Over (next tt) → EventOf Goes Over (check passes kind >>= next)
+  check_event true kind next fair h = h
+  check_event false kind next fair h = fails kind fair
+
+-- an event, and from what it comes to another
+module _ {A B : Type 0} {Goes Over : A → Type 0} {Goes' Over' : B → Type 0} (next : A → Tree B) (onward : (a : A) → Goes a → EventOf Goes' Over' (next a)) (rests : (a : A) → Over a → Comes Over' (next a)) where
+  stays_open : (tree : Tree A) → StaysOpen Goes tree → StaysOpen Goes' (tree >>= next)
+  stays_open (Gives a) opens = event_open (next a) (onward a opens)
+  stays_open (Fails kind) opens = tt
+  stays_open (Closes rest) opens = tt
+  stays_open (Asks question branches) opens = λ choice. stays_open (branches choice) (opens choice)
+
+  pub event_after : (tree : Tree A) → EventOf Goes Over tree → EventOf Goes' Over' (tree >>= next)
+  event_after tree (goes a h) = onward a h
+  event_after tree (fails kind fair) = fails kind fair
+  event_after tree (closes rest h) = closes (rest >>= next) (then_comes rest next h rests)
+  event_after tree (asks question branches sound exploring options opens) =
+      asks question _ sound exploring (λ choice a. event_after (branches choice) (options choice a)) (λ choice. stays_open (branches choice) (opens choice))
+
 module _ {D : Type 0} where
   -- a thread goes on
   abbrev pub IsGoing : Turn D × World D → Type 0
@@ -48,39 +101,28 @@ module _ {D : Type 0} where
   IsOver (Start thread, w) = ⊥
   IsOver (Ended value, w) = Unit {0}
 
-  -- whatever is chosen, it ends a run only where the run is over
   abbrev pub IsOpen : Tree (Turn D × World D) → Type 0
-  IsOpen (Gives turned) = IsGoing turned
-  IsOpen (Fails kind) = Unit {0}
-  IsOpen (Closes rest) = Unit {0}
-  IsOpen (Asks question branches) = (choice : Choice) → IsOpen (branches choice)
+  IsOpen tree = StaysOpen IsGoing tree
 
-  -- An event: it ends a run only where the run is over, and then asks nothing. Its questions are sound and explore. By
-  -- options it comes to no failure that is a path's.
-  pub data IsEvent : Tree (Turn D × World D) → Type 0 where
-    goes : (turned : Turn D × World D) → IsGoing turned → IsEvent (Gives turned)
-    fails : (kind : FailureKind) → kind ≢ NotDeterministic → IsEvent (Fails kind)
-    closes : (rest : Tree (Turn D × World D)) → Comes IsOver rest → IsEvent (Closes rest)
-    asks : (question : Question) (branches : Choice → Tree (Turn D × World D)) → IsSound question → (made_of question).exploring ≡ true
-        → ((choice : Choice) → Among choice (made_of question).options → IsEvent (branches choice)) → ((choice : Choice) → IsOpen (branches choice)) → IsEvent (Asks question branches)
+  -- an event up to a turn
+  abbrev pub IsEvent : Tree (Turn D × World D) → Type 0
+  IsEvent tree = EventOf IsGoing IsOver tree
 
-  pub going_event : (tree : Tree (Turn D × World D)) → Comes IsGoing tree → IsEvent tree
-  going_event tree (comes_to turned h) = goes turned h
-  going_event tree (comes_not kind fair) = fails kind fair
+  -- a thread goes on, or one comes to another branch point
+  abbrev pub GoesOn : Passed D × World D → Type 0
+  GoesOn (passed.Turn turn, w) = IsGoing (turn, w)
+  GoesOn (passed.AtBranch, w) = Unit {0}
 
-  pub event_open : (tree : Tree (Turn D × World D)) → IsEvent tree → IsOpen tree
-  event_open tree (goes turned h) = h
-  event_open tree (fails kind fair) = tt
-  event_open tree (closes rest h) = tt
-  event_open tree (asks question branches sound exploring options opens) = opens
+  abbrev pub HasEnded : Passed D × World D → Type 0
+  HasEnded (passed.Turn turn, w) = IsOver (turn, w)
+  HasEnded (passed.AtBranch, w) = ⊥
 
-  pub then_event : {A : Type 0} {Q : A → Type 0} (tree : Tree A) (next : A → Tree (Turn D × World D)) → Comes Q tree → ((a : A) → Q a → IsEvent (next a)) → IsEvent (tree >>= next)
-  then_event tree next (comes_to a q) h = h a q
-  then_event tree next (comes_not kind fair) h = fails kind fair
+  -- an event up to a turn or another branch point
+  abbrev pub IsPass : Tree (Passed D × World D) → Type 0
+  IsPass tree = EventOf GoesOn HasEnded tree
 
-  pub check_event : (passes : Bool) (kind : FailureKind) (next : ⊤ → Tree (Turn D × World D)) → kind ≢ NotDeterministic → IsEvent (next tt) → IsEvent (check passes kind >>= next)
-  check_event true kind next fair h = h
-  check_event false kind next fair h = fails kind fair
+  pub turned_pass : (tree : Tree (Turn D × World D)) → IsEvent tree → IsPass (tree >>= turned)
+  turned_pass tree event = event_after turned (λ (turn, w) h. goes _ h) (λ (turn, w) h. comes_to _ h) tree event
 
 -- ---- what comes after an event
 

@@ -1,11 +1,12 @@
 -- No rule of views fails because a path doesn't meet a tree.
 use Rattle.std.proofs.Common.{◌≢◌, ℕ, Bool, true, false, List, [], ◌∷◌, length, Option, Some, None}
-use Rattle.std.specs.Prelude.{if◌then◌else◌, nat_le, nat_lt, slice_get, Result, Ok, Err}
+use Rattle.std.specs.Prelude.{◌||◌, if◌then◌else◌, nat_le, nat_lt, slice_get, Result, Ok, Err}
 use Rattle.std.specs.List.{list_any}
 use Rattle.std.specs.declared.sync.atomic.Ordering.{Ordering}
-use Rattle.loom_views.specs.Atomic.{Scene, Answer, conflicts, races, load_step, store_step, fails_by_orders, in_slot, scene_read, scene_loaded, scene_made, scene_recorded_load, scene_recorded_store}
-use Rattle.loom_views.specs.Graph.{raised}
-use Rattle.loom_views.specs.Table.{Place, Meets, Keeps, Points, accessed, access, access_by, scene_of, raise_by, spawn_by, readable_by, points_after_raise, points_after_spawn, points_after_load, points_after_store, readable_slots_of}
+use Rattle.loom_views.specs.Atomic.{Scene, Answer, conflicts, races, load_step, store_step, update_read_step, update_write_step, unsync_load_step, mutate_step, mutate_end_step, scene_recorded_mutation, with_newest, fails_by_orders, in_slot, scene_read, scene_loaded, scene_made, scene_recorded_load, scene_recorded_store}
+use Rattle.loom_views.specs.Graph.{raised, Graph}
+use Rattle.loom_views.specs.Table.{Place, Meets, Keeps, Records, Points, accessed, access, access_by, scene_of, raise_by, spawn_by, readable_by, points_after_raise, points_after_spawn, points_after_load, points_after_store, points_after_update_read, points_after_update_write, points_after_unsync_load, points_after_with_mut, points_after_with_mut_end, readable_slots_of, recorded, record_by, points_after_read, points_after_write}
+use Rattle.loom_views.specs.Cells.{Accesses, read_step, write_step}
 use Rattle.loom_views.specs.Threads.{ThreadPoints}
 use Rattle.loom_views.specs.declared.rt.atomic.Reader.{Reader}
 use Rattle.loom_views.specs.declared.rt.failure.FailureKind.{FailureKind}
@@ -15,7 +16,7 @@ abbrev pub IsFairResult : {A : Type 0} → Result A FailureKind → Type 0
 IsFairResult (Ok a) = Unit {0}
 IsFairResult (Err kind) = kind ≢ NotDeterministic
 
-either : {A : Type 0} (b : Bool) (one other : Result A FailureKind) → IsFairResult one → IsFairResult other → IsFairResult (if b then one else other)
+pub either : {A : Type 0} (b : Bool) (one other : Result A FailureKind) → IsFairResult one → IsFairResult other → IsFairResult (if b then one else other)
 either true one other h i = h
 either false one other h i = i
 
@@ -40,6 +41,7 @@ readable_fair p t n reader = by_thread (slice_get p.threads t) (slice_get p.plac
     by_thread None place = λ e. cc
     by_thread (Some own) None = λ e. cc
     by_thread (Some own) (Some (Meets k)) = λ e. cc
+    by_thread (Some own) (Some (Records accesses)) = λ e. cc
     by_thread (Some own) (Some (Keeps history)) = either (fails_by_orders p.graph t own reader history.stores) (Err OrdersEqual) _ (λ e. cc) tt
 
 conflicts_fair : (s : Scene) (kinds : List (List ℕ)) (passed : Result Answer FailureKind) → IsFairResult passed → IsFairResult (conflicts s kinds passed)
@@ -57,6 +59,7 @@ access_fair p t n step h = by_thread (slice_get p.threads t) (slice_get p.places
     by_thread None place = λ e. cc
     by_thread (Some own) None = λ e. cc
     by_thread (Some own) (Some (Meets k)) = λ e. cc
+    by_thread (Some own) (Some (Records accesses)) = λ e. cc
     by_thread (Some own) (Some (Keeps history)) = accessed_fair p t n (step (scene_of p own history)) (h (scene_of p own history))
 
 pub load_fair : (p : Points) (t n slot : ℕ) (order : Ordering) → IsFairResult (points_after_load p t n slot order)
@@ -67,3 +70,43 @@ pub store_fair : (p : Points) (t n value : ℕ) (order : Ordering) → IsFairRes
 store_fair p t n value order = access_fair p t n (λ s. store_step t s value order) (λ s.
     conflicts_fair s (s.history.mutations ∷ s.history.unsync_loads ∷ []) _
     (either (nat_lt (length s.history.stores) 65535) (Ok (record { scene = scene_made t (scene_recorded_store s) value None order; value = value })) (Err TooManyStores) tt (λ e. cc)))
+
+pub update_read_fair : (p : Points) (t n slot : ℕ) → IsFairResult (points_after_update_read p t n slot)
+update_read_fair p t n slot = access_fair p t n (λ s. update_read_step t s slot) (λ s. conflicts_fair s (s.history.mutations ∷ []) (Ok _) tt)
+
+pub update_write_fair : (p : Points) (t n slot value : ℕ) (success : Ordering) → IsFairResult (points_after_update_write p t n slot value success)
+update_write_fair p t n slot value success = access_fair p t n (λ s. update_write_step t s slot value success) (λ s.
+    conflicts_fair s (s.history.mutations ∷ s.history.unsync_loads ∷ []) _
+    (either (nat_lt (length s.history.stores) 65535) (Ok _) (Err TooManyStores) tt (λ e. cc)))
+
+pub unsync_load_fair : (p : Points) (t n : ℕ) → IsFairResult (points_after_unsync_load p t n)
+unsync_load_fair p t n = access_fair p t n unsync_load_step (λ s. conflicts_fair s (s.history.mutations ∷ s.history.stored ∷ []) (Ok _) tt)
+
+pub with_mut_fair : (p : Points) (t n : ℕ) → IsFairResult (points_after_with_mut p t n)
+with_mut_fair p t n = access_fair p t n mutate_step (λ s. conflicts_fair s (s.history.loads ∷ s.history.unsync_loads ∷ s.history.stored ∷ s.history.mutations ∷ []) (Ok _) tt)
+
+pub with_mut_end_fair : (p : Points) (t n value : ℕ) → IsFairResult (points_after_with_mut_end p t n value)
+with_mut_end_fair p t n value = access_fair p t n (λ s. mutate_end_step s value) (λ s.
+    let closed : Scene = record s { history = record s.history { mutating = false; stores = with_newest s.history.stores value } } in
+    conflicts_fair closed (s.history.loads ∷ s.history.unsync_loads ∷ s.history.stored ∷ s.history.mutations ∷ []) (Ok (record { scene = scene_recorded_mutation closed; value = value })) tt)
+
+recorded_fair : (p : Points) (n : ℕ) (r : Result Accesses FailureKind) → IsFairResult r → IsFairResult (recorded p n r)
+recorded_fair p n (Ok cell) h = tt
+recorded_fair p n (Err kind) h = h
+
+record_fair : (p : Points) (t n : ℕ) (step : Graph → ℕ → Accesses → Result Accesses FailureKind) → ((g : Graph) (present : ℕ) (cell : Accesses) → IsFairResult (step g present cell))
+    → IsFairResult (record_by p n step (slice_get p.threads t) (slice_get p.places n))
+record_fair p t n step h = by_thread (slice_get p.threads t) (slice_get p.places n)
+  where
+    by_thread : (o : Option ThreadPoints) (place : Option Place) → IsFairResult (record_by p n step o place)
+    by_thread None place = λ e. cc
+    by_thread (Some own) None = λ e. cc
+    by_thread (Some own) (Some (Meets k)) = λ e. cc
+    by_thread (Some own) (Some (Keeps history)) = λ e. cc
+    by_thread (Some own) (Some (Records cell)) = recorded_fair p n (step p.graph own.present cell) (h p.graph own.present cell)
+
+pub cell_read_fair : (p : Points) (t n : ℕ) → IsFairResult (points_after_read p t n)
+cell_read_fair p t n = record_fair p t n read_step (λ g present cell. either (races g cell.writes present) (Err Race) _ (λ e. cc) tt)
+
+pub cell_write_fair : (p : Points) (t n : ℕ) → IsFairResult (points_after_write p t n)
+cell_write_fair p t n = record_fair p t n write_step (λ g present cell. either (races g cell.writes present || races g cell.reads present) (Err Race) _ (λ e. cc) tt)

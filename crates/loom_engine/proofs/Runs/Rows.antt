@@ -4,12 +4,13 @@ use native.Mathlib.Decide.{ℕ_discrete}
 use Rattle.loom_views.specs.Atomic.{drops, is_below, is_seen, has_same_order, races}
 use Rattle.loom_views.specs.Graph.{raised, reaches, inside}
 use Rattle.loom_views.specs.Slots.{number_in_slot}
+use Rattle.loom_engine.specs.Machine.{schedule}
 use Rattle.loom_engine.specs.Runs.{play}
 use Rattle.loom_engine.specs.Walk.Choices.{same, same_thread, same_flag, among}
 use Rattle.loom_engine.specs.Rows.{RowsLaw, SharedRowsLaw}
 
 pub rows_law : RowsLaw
-unfolding play raised same same_thread same_flag among ℕ_discrete
+unfolding play schedule raised same same_thread same_flag among ℕ_discrete
 rows_law = record {
   main_first = refl;
   child_first = refl;
@@ -23,7 +24,7 @@ rows_law = record {
 }
 
 pub shared_rows_law : SharedRowsLaw
-unfolding play raised reaches inside drops is_below is_seen has_same_order races number_in_slot same same_thread same_flag among ℕ_discrete
+unfolding play schedule raised reaches inside drops is_below is_seen has_same_order races number_in_slot same same_thread same_flag among ℕ_discrete
 shared_rows_law = record {
   reads_first = refl;
   reads_first_late = refl;

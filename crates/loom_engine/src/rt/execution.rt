@@ -9,12 +9,16 @@ ghost use Rattle.loom_engine.specs.Machine as machine;
 ghost use Rattle.loom_engine.specs.Routes.{Says, which_store};
 
 use crate::rt::path::Path;
+use loom_objects::data::Data;
 use loom_objects::failure::{Failure, Stop, fail};
 use loom_objects::operation::{Op, Turn};
-use loom_objects::rt::run::{Entry, Resumed, RunState};
+use loom_objects::rt::run::{Entry, Passed, Resumed, RunState};
 use loom_views::rt::failure::FailureKind;
 use std::alloc::{AllocError, Global};
 use std::marker::Model;
+
+// a thread comes to three further branch points at most before it is told something
+const FURTHER_BRANCHES: u8 = 15;
 
 /// How much a run may use.
 #[derive(Clone, Copy, Debug)]
@@ -44,7 +48,7 @@ impl<D> Model for Execution<D> {
     ghost invariant = { λ e. IsSound e.run };
 }
 
-impl<D: Drop> Execution<D> {
+impl<D: Data> Execution<D> {
     /// A run in which main is about to hand over its first operation.
     pub fn new(alloc: Global, limits: Limits) -> Result<Execution<D>, AllocError>
         requires some { 1 ≤ limits.max_threads }
@@ -91,7 +95,7 @@ fn over_after<D>(answer: &Result<Turn<D>, Stop>) -> Option<Stop>
 }
 
 /// An operation up to its branch point, and past it.
-fn hand_over<D: Drop>(
+fn hand_over<D: Data>(
     run: &mut RunState<D>,
     path: &mut Path,
     op: Op<D, ()>,
@@ -105,14 +109,34 @@ fn hand_over<D: Drop>(
     match run.begin(op) {
         Err(stop) => Err(stop),
         Ok(Entry::Answered(reply)) => Ok(Turn::Reply(run.active, reply)),
-        Ok(Entry::AtBranch) => schedule(run, path),
+        Ok(Entry::AtBranch) => schedule(run, path, FURTHER_BRANCHES),
+    }
+}
+
+/// A schedule, and those after it, up to a turn. `Misuse` at one branch point more than there may be.
+fn schedule<D: Drop>(run: &mut RunState<D>, path: &mut Path, more: u8) -> Result<Turn<D>, Stop>
+    requires { IsSound run.old }
+    ensures along { Along (machine.schedule more) run.old path.old result run.new path.new }
+    ensures sound { IsSound run.new }
+    ensures steps { run.new.steps_left ≡ run.old.steps_left }
+    ensures same { (path.new.max_branches ≡ path.old.max_branches) × (path.new.given ≡ path.old.given) }
+{
+    match pass(run, path) {
+        Err(stop) => Err(stop),
+        Ok(Passed::Turn(turn)) => Ok(turn),
+        Ok(Passed::AtBranch) => {
+            if more == 0 {
+                return fail(FailureKind::Misuse);
+            }
+            schedule(run, path, more - 1)
+        }
     }
 }
 
 /// The path says which thread goes on, and what it has pending takes effect.
-fn schedule<D: Drop>(run: &mut RunState<D>, path: &mut Path) -> Result<Turn<D>, Stop>
+fn pass<D: Drop>(run: &mut RunState<D>, path: &mut Path) -> Result<Passed<D>, Stop>
     requires { IsSound run.old }
-    ensures along { Along machine.schedule run.old path.old result run.new path.new }
+    ensures along { Along machine.passes run.old path.old result run.new path.new }
     ensures sound { IsSound run.new }
     ensures steps { run.new.steps_left ≡ run.old.steps_left }
     ensures same { (path.new.max_branches ≡ path.old.max_branches) × (path.new.given ≡ path.old.given) }
@@ -120,12 +144,15 @@ fn schedule<D: Drop>(run: &mut RunState<D>, path: &mut Path) -> Result<Turn<D>, 
     match path.branch_thread(run.active, &run.abilities()) {
         Err(stop) => Err(stop),
         Ok(Some(thread)) => go_on(run, path, thread),
-        Ok(None) => close(run, path),
+        Ok(None) => match close(run, path) {
+            Err(stop) => Err(stop),
+            Ok(turn) => Ok(Passed::Turn(turn)),
+        },
     }
 }
 
 /// The chosen thread goes on. A load asks the path which store it reads.
-fn go_on<D: Drop>(run: &mut RunState<D>, path: &mut Path, thread: u8) -> Result<Turn<D>, Stop>
+fn go_on<D: Drop>(run: &mut RunState<D>, path: &mut Path, thread: u8) -> Result<Passed<D>, Stop>
     requires { IsSound run.old }
     ensures along { Along (resumes thread) run.old path.old result run.new path.new }
     ensures sound { IsSound run.new }
@@ -134,10 +161,13 @@ fn go_on<D: Drop>(run: &mut RunState<D>, path: &mut Path, thread: u8) -> Result<
 {
     match run.resume(thread) {
         Err(stop) => Err(stop),
-        Ok(Resumed::Turn(turn)) => Ok(turn),
+        Ok(Resumed::Passed(passed)) => Ok(passed),
         Ok(Resumed::Load(load)) => match choose_slot(path, &load.readable) {
             Err(stop) => Err(stop),
-            Ok(slot) => run.read(&load, slot),
+            Ok(slot) => match run.read(&load, slot) {
+                Err(stop) => Err(stop),
+                Ok(turn) => Ok(Passed::Turn(turn)),
+            },
         },
     }
 }

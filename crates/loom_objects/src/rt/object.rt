@@ -1,10 +1,12 @@
-use crate::rt::sync::{Mutex, Notify};
+use crate::rt::sync::{Arc, Atomic, Cell, Mutex, Notify, Track};
 
 /// An object of a run. Its number is its place in the order of creation (loom's `rt/object.rs`).
 #[derive(Drop)]
 pub enum Object<D> {
-    /// An atomic, whose stores are kept with the views.
-    Atomic,
+    Atomic(Atomic),
     Mutex(Mutex<D>),
     Notify(Notify),
+    Cell(Cell<D>),
+    Arc(Arc<D>),
+    Track(Track<D>),
 }

@@ -1,10 +1,9 @@
-use crate::operation::{Reply, Turn};
+use crate::operation::{AtomicOp, Reply, Turn};
 use crate::rt::object::Object;
 use crate::rt::thread::Thread;
 use loom_views::rt::MAX_ATOMIC_HISTORY;
 use loom_views::rt::table::Views;
 use loom_views::sequence::Sequence;
-use std::sync::atomic::Ordering;
 
 /// What comes of an operation when it is handed over.
 #[derive(Drop)]
@@ -15,23 +14,30 @@ pub enum Entry<D> {
     AtBranch,
 }
 
-/// A load whose thread was chosen and has raised its version.
+/// An access that reads, whose thread was chosen and has raised its version.
 #[derive(Clone, Copy, Debug)]
 pub struct Loading {
-    /// The atomic's number.
-    pub atomic: usize,
-    /// The load's ordering.
-    pub order: Ordering,
+    /// The access.
+    pub access: AtomicOp,
     /// Which slots of the atomic's stores may be read.
     pub readable: [bool; MAX_ATOMIC_HISTORY],
+}
+
+/// What comes of an operation once it has taken effect.
+#[derive(Drop)]
+pub enum Passed<D> {
+    /// A thread has its turn, or the run is over.
+    Turn(Turn<D>),
+    /// Its thread has come to another branch point.
+    AtBranch,
 }
 
 /// What comes of a thread that is chosen.
 #[derive(Drop)]
 pub enum Resumed<D> {
-    /// It has its turn, or the run is over.
-    Turn(Turn<D>),
-    /// It loads, and which store it reads is to be chosen.
+    /// What it had pending has taken effect.
+    Passed(Passed<D>),
+    /// It reads from an atomic, and which store it reads is to be chosen.
     Load(Loading),
 }
 

@@ -1,13 +1,16 @@
-ghost use Rattle.std.specs.Prelude.{◌≡◌, ◌≢◌, Err, ◌+◌, ◌≤◌, ◌<◌, length, IfOk, OnOk};
+ghost use Rattle.std.specs.Prelude.{◌≡◌, ◌≢◌, Err, ◌+◌, ◌≤◌, ◌<◌, length, IfOk, IfErr, OnOk};
 ghost use Rattle.std.specs.List.{list_all};
+ghost use Rattle.loom_objects.specs.Leaks as leaks;
 ghost use Rattle.loom_objects.specs.Steps as rules;
 ghost use Rattle.loom_views.specs.Table.{Points};
 ghost use Rattle.loom_objects.specs.World.{World, opening};
 ghost use Rattle.loom_objects.specs.Shown.{Does, Shows, IsSound, Resumes, HasSlot, turn_of, world_of};
 
+use crate::data::Data;
 use crate::failure::{Stop, fail};
 use crate::operation::{Op, Reply, Turn};
-use crate::rt::run::{Entry, Resumed, RunState};
+use crate::rt::object::Object;
+use crate::rt::run::{Entry, Passed, Resumed, RunState};
 use crate::rt::thread::{Ability, Phase, State, Task, Thread};
 use loom_views::rt::failure::FailureKind;
 use loom_views::rt::table::Views;
@@ -22,6 +25,66 @@ fn ability_at<D>(threads: &Sequence<Thread<D>>, place: usize) -> Ability
         Ability::Able
     } else {
         Ability::Unable
+    }
+}
+
+/// Answers a copy of the value.
+pub(crate) fn copied<D: Data>(value: &D) -> Result<Entry<D>, Stop>
+    ensures ok { IfOk result (λ entry. entry ≡ Entry.Answered (Reply.Data value.now)) }
+    ensures memory { IfErr result (λ stop. stop ≡ Stop.Memory) }
+{
+    match value.try_clone() {
+        Ok(copy) => Ok(Entry::Answered(Reply::Data(copy))),
+        Err(_) => Err(Stop::Memory),
+    }
+}
+
+/// What it would be to leave the object at the run's end.
+fn leak_of<D>(object: &Object<D>) -> Option<FailureKind>
+    ensures { result ≡ leaks.leak_of object.now }
+{
+    match object {
+        Object::Arc(arc) if arc.count > 0 => Some(FailureKind::LeakArc),
+        Object::Track(track) if !track.is_taken => Some(FailureKind::LeakTrack),
+        _ => None,
+    }
+}
+
+/// The first leak, in the order in which objects were made.
+fn first_leak<D>(objects: &Sequence<Object<D>>) -> Option<FailureKind>
+    ensures { result ≡ leaks.first_leak objects.now }
+{
+    for i in 0..objects.len() {
+        if let Some(kind) = leak_of(objects.at(i)) {
+            return Some(kind);
+        }
+    }
+    None
+}
+
+impl<D: Data> RunState<D> {
+    /// What the active thread's operation does up to its branch point, or all of it, where it has none. It is counted
+    /// before anything else: `TooManySteps` where none is left.
+    pub fn begin(&mut self, op: Op<D, ()>) -> Result<Entry<D>, Stop>
+        requires { IsSound self.old }
+        ensures does { Does (rules.begins op) self.old result self.new }
+        ensures sound { IsSound self.new }
+        ensures steps { OnOk result (self.old.steps_left ≡ self.new.steps_left + 1) }
+    {
+        if self.steps_left == 0 {
+            return fail(FailureKind::TooManySteps);
+        }
+        self.steps_left -= 1;
+        match op {
+            Op::Atomic(op, _) => self.atomic_begins(op),
+            Op::Fence(order, _) => self.fence(order),
+            Op::Cell(op, _) => self.cell_begins(op),
+            Op::Arc(op, _) => self.arc_begins(op),
+            Op::Track(op, _) => self.track_begins(op),
+            Op::Mutex(op, _) => self.mutex_begins(op),
+            Op::Thread(op, _) => self.thread_begins(op),
+            Op::Fail(_) => fail(FailureKind::Assertion),
+        }
     }
 }
 
@@ -56,26 +119,6 @@ impl<D: Drop> RunState<D> {
         })
     }
 
-    /// What the active thread's operation does up to its branch point, or all of it, where it has none. It is counted
-    /// before anything else: `TooManySteps` where none is left.
-    pub fn begin(&mut self, op: Op<D, ()>) -> Result<Entry<D>, Stop>
-        requires { IsSound self.old }
-        ensures does { Does (rules.begins op) self.old result self.new }
-        ensures sound { IsSound self.new }
-        ensures steps { OnOk result (self.old.steps_left ≡ self.new.steps_left + 1) }
-    {
-        if self.steps_left == 0 {
-            return fail(FailureKind::TooManySteps);
-        }
-        self.steps_left -= 1;
-        match op {
-            Op::Atomic(op, _) => self.atomic_begins(op),
-            Op::Mutex(op, _) => self.mutex_begins(op),
-            Op::Thread(op, _) => self.thread_begins(op),
-            Op::Fail(_) => fail(FailureKind::Assertion),
-        }
-    }
-
     /// What the five threads offer to a schedule.
     pub fn abilities(&self) -> [Ability; 5]
         ensures { (points : Points) → result ≡ rules.abilities (world_of points self.now) }
@@ -90,16 +133,17 @@ impl<D: Drop> RunState<D> {
     }
 
     /// The active thread is told the reply.
-    fn told(&self, answer: Result<Reply<D>, Stop>) -> Result<Resumed<D>, Stop>
+    pub(crate) fn told(&self, answer: Result<Reply<D>, Stop>) -> Result<Resumed<D>, Stop>
         ensures { result ≡ turn_of self.now.active answer }
     {
         match answer {
-            Ok(reply) => Ok(Resumed::Turn(Turn::Reply(self.active, reply))),
+            Ok(reply) => Ok(Resumed::Passed(Passed::Turn(Turn::Reply(self.active, reply)))),
             Err(stop) => Err(stop),
         }
     }
 
-    /// The thread is chosen, and what it has pending takes effect; a load up to the choice of the store that it reads.
+    /// The thread is chosen, and what it has pending takes effect; an access that reads from an atomic up to the choice of
+    /// the store that it reads.
     pub fn resume(&mut self, thread: u8) -> Result<Resumed<D>, Stop>
         requires { IsSound self.old }
         ensures does { (w : World D) → Shows w self.old → Resumes (rules.resumes thread w) result self.new }
@@ -114,17 +158,21 @@ impl<D: Drop> RunState<D> {
         self.active = thread;
         let chosen = self.threads.at_mut(thread as usize);
         match mem::replace(&mut chosen.task, Task::Body) {
-            Task::Start => Ok(Resumed::Turn(Turn::Start(thread))),
+            Task::Start => Ok(Resumed::Passed(Passed::Turn(Turn::Start(thread)))),
             Task::Body => fail(FailureKind::Misuse),
-            Task::Load(atomic, order) => self.load(atomic, order),
-            Task::Store(atomic, value, order) => {
-                let answer = self.store(atomic, value, order);
-                self.told(answer)
-            }
+            Task::Access(access) => self.access(access),
             Task::Lock(mutex) => {
                 let answer = self.lock(mutex);
                 self.told(answer)
             }
+            Task::Count(todo, number) => {
+                let answer = self.count(todo, number);
+                self.told(answer)
+            }
+            Task::TryUnwrap(number) => match self.try_unwrap(number) {
+                Ok(passed) => Ok(Resumed::Passed(passed)),
+                Err(stop) => Err(stop),
+            },
             Task::Join(joined, notifier) => {
                 let answer = self.join(joined, notifier);
                 self.told(answer)
@@ -146,7 +194,7 @@ impl<D: Drop> RunState<D> {
             .all(|thread| matches!(thread.state, State::Ended))
     }
 
-    /// The run ends with main's result.
+    /// The run ends with main's result. The first object that is left, and must not be, is a leak.
     pub fn end_run(&mut self) -> Result<Turn<D>, Stop>
         requires { IsSound self.old }
         ensures does { Does rules.ends self.old result self.new }
@@ -154,6 +202,9 @@ impl<D: Drop> RunState<D> {
         ensures steps { self.new.steps_left ≡ self.old.steps_left }
         ensures no_growth { result ≢ Err Stop.Memory }
     {
+        if let Some(kind) = first_leak(&self.objects) {
+            return fail(kind);
+        }
         let main = self.threads.at_mut(0);
         match main.result.take() {
             None => fail(FailureKind::Misuse),

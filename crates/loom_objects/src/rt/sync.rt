@@ -1,5 +1,24 @@
-ghost use Rattle.std.specs.Prelude.{◌≡◌, OnSome, IfNone};
-ghost use Rattle.loom_objects.specs.Moves.{free_value};
+ghost use Rattle.std.specs.Prelude.{◌≡◌, ◌+◌, OnSome, IfNone, OnOk, OnErr, None, Some, true};
+ghost use Rattle.loom_objects.specs.Cells as cells;
+ghost use Rattle.loom_objects.specs.Counts.{is_free, may_grow, sole_value, with_one_fewer, lent_to};
+ghost use Rattle.loom_objects.specs.Moves.{free_value, is_number};
+ghost use Rattle.loom_objects.specs.Tracks.{tracked_value};
+
+use loom_views::rt::MAX_THREADS;
+use loom_views::rt::failure::FailureKind;
+use loom_views::rt::num::Numbers;
+use std::mem;
+
+/// An atomic, whose stores are kept with the views (loom's `rt/atomic.rs`).
+#[derive(Clone, Copy, Debug)]
+pub struct Atomic {
+    /// The type of what it holds.
+    pub numbers: Numbers,
+    /// Whether it was taken apart.
+    pub is_taken: bool,
+    /// The thread that has a mutation of it open.
+    pub opened: Option<u8>,
+}
 
 /// A mutex: the thread that holds it, and its data while nobody has it (loom's `rt/mutex.rs`).
 #[derive(Drop)]
@@ -8,6 +27,41 @@ pub struct Mutex<D> {
     pub holder: Option<u8>,
     /// Its data, while nobody has it.
     pub value: Option<D>,
+}
+
+/// A counted reference (loom's `rt/arc.rs`).
+#[derive(Drop)]
+pub struct Arc<D> {
+    /// How many references there are.
+    pub count: u64,
+    /// Its value, while it isn't out and a reference is left.
+    pub value: Option<D>,
+    /// The thread that has the value out.
+    pub lent: Option<u8>,
+}
+
+/// A value that is to be given back before the run ends (loom's `rt/alloc.rs`).
+#[derive(Drop)]
+pub struct Track<D> {
+    /// The value, while it isn't out.
+    pub value: Option<D>,
+    /// The thread that has it out.
+    pub lent: Option<u8>,
+    /// Whether it was given back.
+    pub is_taken: bool,
+}
+
+/// A cell (loom's `rt/cell.rs`).
+#[derive(Drop)]
+pub struct Cell<D> {
+    /// Its data, while it isn't out.
+    pub value: Option<D>,
+    /// How many reads each thread has open.
+    pub readers: [u64; MAX_THREADS],
+    /// The thread that has it open for writing.
+    pub writer: Option<u8>,
+    /// Whether it was taken apart.
+    pub is_taken: bool,
 }
 
 /// A notifier, which a `join` waits on (loom's `rt/notify.rs`).
@@ -32,5 +86,190 @@ impl<D: Drop> Mutex<D> {
         let value = self.value.take()?;
         self.holder = Some(thread);
         Some(value)
+    }
+}
+
+impl<D: Drop> Arc<D> {
+    /// A reference is left, and no thread has the value out.
+    pub(crate) fn is_free(&self) -> bool
+        ensures { result ≡ is_free self.now }
+    {
+        self.count > 0 && self.lent.is_none()
+    }
+
+    /// One reference more.
+    pub(crate) fn grow(&mut self) -> Result<(), FailureKind>
+        ensures result { result ≡ may_grow self.old }
+        ensures ok { OnOk result (self.new ≡ record self.old { count = self.old.count + 1 }) }
+        ensures err { OnErr result (self.new ≡ self.old) }
+    {
+        if !self.is_free() {
+            return Err(FailureKind::Misuse);
+        }
+        if self.count == u64::MAX {
+            return Err(FailureKind::TooManySteps);
+        }
+        self.count += 1;
+        Ok(())
+    }
+
+    /// One reference fewer. The last one gives the value.
+    pub(crate) fn shrink(&mut self) -> Result<Option<D>, FailureKind>
+        ensures result { result ≡ sole_value self.old }
+        ensures ok { OnOk result (self.new ≡ with_one_fewer self.old) }
+        ensures err { OnErr result (self.new ≡ self.old) }
+    {
+        if !self.is_free() {
+            return Err(FailureKind::Misuse);
+        }
+        self.count -= 1;
+        if self.count > 0 {
+            return Ok(None);
+        }
+        Ok(self.value.take())
+    }
+
+    /// The thread has the value, if there is one reference alone.
+    pub(crate) fn lend(&mut self, thread: u8) -> Result<Option<D>, FailureKind>
+        ensures result { result ≡ sole_value self.old }
+        ensures ok { OnOk result (self.new ≡ lent_to thread self.old) }
+        ensures err { OnErr result (self.new ≡ self.old) }
+    {
+        if !self.is_free() {
+            return Err(FailureKind::Misuse);
+        }
+        if self.count > 1 {
+            return Ok(None);
+        }
+        self.lent = Some(thread);
+        Ok(self.value.take())
+    }
+
+    /// The thread that has the value out puts one back. False where it hasn't; then nothing changes.
+    pub(crate) fn put(&mut self, thread: u8, value: D) -> bool
+        ensures result { result ≡ is_number self.old.lent thread }
+        ensures put { result ≡ true → self.new ≡ record self.old { value = Some value; lent = None } }
+    {
+        match self.lent {
+            Some(holder) if holder == thread => {}
+            _ => return false,
+        }
+        self.value = Some(value);
+        self.lent = None;
+        true
+    }
+}
+
+impl<D: Drop> Track<D> {
+    /// The thread has the value. None where it is out or was given back; then nothing changes.
+    pub(crate) fn lend(&mut self, thread: u8) -> Option<D>
+        ensures value { result ≡ tracked_value self.old }
+        ensures lent { OnSome result (self.new ≡ record self.old { value = None; lent = Some thread }) }
+        ensures none { IfNone result (self.new ≡ self.old) }
+    {
+        if self.is_taken {
+            return None;
+        }
+        let value = self.value.take()?;
+        self.lent = Some(thread);
+        Some(value)
+    }
+
+    /// The value is given back. None where it is out or was given back before; then nothing changes.
+    pub(crate) fn give_back(&mut self) -> Option<D>
+        ensures value { result ≡ tracked_value self.old }
+        ensures taken { OnSome result (self.new ≡ record self.old { value = None; is_taken = true }) }
+        ensures none { IfNone result (self.new ≡ self.old) }
+    {
+        if self.is_taken {
+            return None;
+        }
+        let value = self.value.take()?;
+        self.is_taken = true;
+        Some(value)
+    }
+
+    /// The thread that has the value out puts one back. False where it hasn't; then nothing changes.
+    pub(crate) fn put(&mut self, thread: u8, value: D) -> bool
+        ensures result { result ≡ is_number self.old.lent thread }
+        ensures put { result ≡ true → self.new ≡ record self.old { value = Some value; lent = None } }
+    {
+        match self.lent {
+            Some(holder) if holder == thread => {}
+            _ => return false,
+        }
+        self.value = Some(value);
+        self.lent = None;
+        true
+    }
+}
+
+impl<D: Drop> Cell<D> {
+    /// How many reads the thread has open.
+    pub(crate) fn reads_open(&self, thread: u8) -> u64
+        ensures { result ≡ cells.reads_open thread self.now }
+    {
+        match self.readers.get(thread as usize) {
+            Some(count) => *count,
+            None => 0,
+        }
+    }
+
+    /// The thread has so many reads open now.
+    pub(crate) fn set_reads(&mut self, thread: u8, count: u64)
+        ensures { self.new ≡ cells.with_reads thread count self.old }
+    {
+        if (thread as usize) < MAX_THREADS {
+            self.readers[thread as usize] = count;
+        }
+    }
+
+    /// No thread has a read open.
+    pub(crate) fn is_unread(&self) -> bool
+        ensures { result ≡ cells.is_unread self.now }
+    {
+        self.readers.iter().all(|count| *count == 0)
+    }
+
+    /// No thread has it open.
+    pub(crate) fn is_free(&self) -> bool
+        ensures { result ≡ cells.is_free self.now }
+    {
+        self.writer.is_none() && self.is_unread()
+    }
+
+    /// The thread has it open for writing.
+    pub(crate) fn is_written_by(&self, thread: u8) -> bool
+        ensures { result ≡ is_number self.now.writer thread }
+    {
+        match self.writer {
+            Some(writer) => writer == thread,
+            None => false,
+        }
+    }
+
+    /// It holds this now, and this thread has it open for writing. Answers what it held.
+    pub(crate) fn exchange(&mut self, value: Option<D>, writer: Option<u8>) -> Option<D>
+        ensures held { result ≡ self.old.value }
+        ensures exchanged { self.new ≡ cells.holding value writer self.old }
+    {
+        self.writer = writer;
+        mem::replace(&mut self.value, value)
+    }
+
+    /// It is taken apart, if no thread has it open. An error where one has; then nothing changes.
+    pub(crate) fn take_apart(&mut self) -> Result<D, FailureKind>
+        ensures result { result ≡ cells.data_left self.old }
+        ensures ok { OnOk result (self.new ≡ cells.taken_apart self.old) }
+        ensures err { OnErr result (self.new ≡ self.old) }
+    {
+        if !self.is_free() {
+            return Err(FailureKind::OpenAccess);
+        }
+        let Some(value) = self.value.take() else {
+            return Err(FailureKind::Misuse);
+        };
+        self.is_taken = true;
+        Ok(value)
     }
 }

@@ -1,4 +1,4 @@
-use std::sync::atomic::Ordering;
+use crate::operation::AtomicOp;
 
 /// Whether a thread may be chosen (loom's `rt/thread.rs`).
 #[derive(Clone, Copy, Debug, PartialEq, Eq)]
@@ -18,6 +18,21 @@ pub enum Phase {
     Over,
 }
 
+/// What a thread does with a counted reference when it is chosen.
+#[derive(Clone, Copy, Debug, PartialEq, Eq)]
+pub enum Counting {
+    /// It makes one reference more.
+    Clone,
+    /// It drops a reference.
+    Drop,
+    /// It takes the value out, if there is one reference alone.
+    GetMut,
+    /// It drops the one reference that there is, and has the value.
+    Unwrap,
+    /// It tells how many references there are.
+    StrongCount,
+}
+
 /// What a thread does when it is chosen.
 #[derive(Drop)]
 pub enum Task<D> {
@@ -25,12 +40,14 @@ pub enum Task<D> {
     Start,
     /// Its body goes on: it has no operation pending.
     Body,
-    /// It loads from the atomic of this number.
-    Load(usize, Ordering),
-    /// It stores the value to the atomic of this number.
-    Store(usize, u64, Ordering),
+    /// It makes this access to an atomic.
+    Access(AtomicOp),
     /// It takes the mutex of this number.
     Lock(usize),
+    /// It does this with the counted reference of this number.
+    Count(Counting, usize),
+    /// It is to find whether it has the one reference alone of this number.
+    TryUnwrap(usize),
     /// It has the result of this thread, whose notifier has this number.
     Join(u8, usize),
     /// It notifies its notifier, and keeps its result.

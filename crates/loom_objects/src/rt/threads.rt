@@ -34,9 +34,9 @@ fn is_pending_on<D>(task: &Task<D>, number: usize) -> bool
     ensures { result ≡ is_number (target_of task.now) number }
 {
     match task {
-        Task::Load(target, _) => *target == number,
-        Task::Store(target, _, _) => *target == number,
+        Task::Access(access) => access.atomic() == Some(number),
         Task::Lock(target) => *target == number,
+        Task::Count(_, target) | Task::TryUnwrap(target) => *target == number,
         Task::Join(_, target) => *target == number,
         Task::Finish(target, _) => *target == number,
         Task::Start | Task::Body => false,

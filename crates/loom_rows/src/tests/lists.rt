@@ -1,7 +1,9 @@
 use super::{NONE, ONE, Run, ZERO, runs_of};
+use crate::bodies::atomics::{COMPARE_EXCHANGE, NUM_A, NUM_B};
 use crate::bodies::{FINISH_ONLY, LOAD_BESIDE, LOCK_BESIDE, SPAWN_ONLY, STORE_SEVEN};
-use loom::Choice;
+use crate::updates::Updater;
 use loom::model::{Builder, Replay};
+use loom::{Body, Choice};
 use loom_scripts::number::Number;
 use loom_scripts::script::{Script, Step};
 use std::process::Abort;
@@ -26,27 +28,36 @@ fn is_run(
 }
 
 // The check has one run, with these choices and this result.
-fn has_one_run(
+fn has_one_run<B: Body<Data = Number>>(
     rt: &(impl Abort + AllocGlobal),
-    steps: &'static [Step],
+    body: &B,
     choices: &[Choice],
     value: u64,
 ) -> Result<(), Fail> {
-    let runs = runs_of(rt.alloc(), &Script::new(steps))?;
+    let runs = runs_of(rt.alloc(), body)?;
     assert_eq!(rt; runs.len(), 1);
     is_run(rt, runs.as_slice(), 0, choices, value)
 }
 
 #[test]
 fn without_a_choice_there_is_one_run(rt: HostRuntime) -> Result<(), Fail> {
-    has_one_run(&rt, &FINISH_ONLY, &[NONE], 7)?;
-    has_one_run(&rt, &SPAWN_ONLY, &[ONE, ONE, NONE], 7)
+    has_one_run(&rt, &Script::new(&FINISH_ONLY), &[NONE], 7)?;
+    has_one_run(&rt, &Script::new(&SPAWN_ONLY), &[ONE, ONE, NONE], 7)
 }
 
 #[test]
 fn one_thread_loads_what_it_stored_last(rt: HostRuntime) -> Result<(), Fail> {
     let choices = [ZERO, ZERO, ZERO, ZERO, ZERO, ZERO, ZERO, ZERO, LOWEST, NONE];
-    has_one_run(&rt, &STORE_SEVEN, &choices, 7)
+    has_one_run(&rt, &Script::new(&STORE_SEVEN), &choices, 7)
+}
+
+#[test]
+fn exchanges_read_the_newest_store(rt: HostRuntime) -> Result<(), Fail> {
+    let choices = [ZERO, LOWEST, ZERO, LOWEST, ZERO, NEXT, NONE];
+    has_one_run(&rt, &Script::new(&COMPARE_EXCHANGE), &choices, NUM_B)?;
+    let body = Updater::main(NUM_A, NUM_B);
+    let choices = [ZERO, LOWEST, ZERO, LOWEST, ZERO, NEXT, ZERO, NEXT, NONE];
+    has_one_run(&rt, &body, &choices, NUM_B)
 }
 
 #[test]

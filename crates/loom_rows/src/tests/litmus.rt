@@ -1,5 +1,6 @@
 //! Which results main may have.
 use super::{Run, runs_of};
+use crate::bodies::atomics::{FETCH_ADD_ATOMIC, SB_FENCES};
 use crate::bodies::{CHECK_ORDERING_VALID, LOAD_BUFFERING, STORE_BUFFERING};
 use loom_scripts::number::Number;
 use loom_scripts::script::Script;
@@ -15,6 +16,26 @@ fn both_threads_may_miss_the_stores(rt: HostRuntime) -> Result<(), Fail> {
     let runs = runs_of(rt.alloc(), &Script::new(&STORE_BUFFERING))?;
     assert!(rt; has(runs.as_slice(), 0));
     assert!(rt; has(runs.as_slice(), 11));
+    Ok(())
+}
+
+#[test]
+fn with_fences_no_two_threads_miss_the_stores(rt: HostRuntime) -> Result<(), Fail> {
+    let runs = runs_of(rt.alloc(), &Script::new(&SB_FENCES))?;
+    assert!(rt; !has(runs.as_slice(), 0));
+    assert!(rt; has(runs.as_slice(), 1));
+    assert!(rt; has(runs.as_slice(), 10));
+    assert!(rt; has(runs.as_slice(), 11));
+    Ok(())
+}
+
+#[test]
+fn no_two_threads_add_to_the_same_number(rt: HostRuntime) -> Result<(), Fail> {
+    let runs = runs_of(rt.alloc(), &Script::new(&FETCH_ADD_ATOMIC))?;
+    assert!(rt; has(runs.as_slice(), 1));
+    assert!(rt; has(runs.as_slice(), 10));
+    assert!(rt; !has(runs.as_slice(), 0));
+    assert!(rt; !has(runs.as_slice(), 11));
     Ok(())
 }
 

@@ -31,6 +31,21 @@ fn each_row_prints_its_line(rt: HostRuntime) {
         ("load_beside", "complete 6\n", 0),
         ("store_seven", "complete 1\n", 0),
         ("store_buffering", "complete 48\n", 0),
+        ("u8_functions", "complete 1\n", 0),
+        ("i8_functions", "complete 1\n", 0),
+        ("bool_nand", "complete 1\n", 0),
+        ("compare_exchange", "complete 1\n", 0),
+        ("fetch_update_once", "complete 1\n", 0),
+        ("fetch_add_atomic", "complete 4\n", 0),
+        ("unsync_race", "failed 3 0 t0 t1\n", 1),
+        ("load_in_with_mut", "failed 4 0 t0 l0\n", 1),
+        ("relaxed_fence", "failed 16 0\n", 1),
+        ("unsync_load_forever", "failed 12 0\n", 1),
+        (
+            "orders_equal",
+            "failed 13 1625 t0 t1 t1 t1 t0 l2 t1 l2 t1 t2 t2 l3 t2\n",
+            1,
+        ),
     ] {
         let mut out = Vec::new(rt.alloc());
         let mut err = Vec::new(rt.alloc());
@@ -45,6 +60,7 @@ fn each_row_prints_its_line(rt: HostRuntime) {
 fn each_name_is_its_row(rt: HostRuntime) {
     for (name, beginning, status) in [
         ("load_buffering", "complete ", 0),
+        ("sb_fences", "complete ", 0),
         ("check_ordering_valid", "complete ", 0),
         ("check_ordering_invalid_1", "failed 1 ", 1),
         ("checks_fail", "failed 1 ", 1),

@@ -1,5 +1,6 @@
 //! The runs of a body by trying every list of choices, compared with those of a check.
 use super::{NONE, ONE, Run, TWO, ZERO, runs_of};
+use crate::bodies::atomics::{FETCH_ADD_ATOMIC, SB_FENCES};
 use crate::bodies::{LOAD_BESIDE, LOCK_BESIDE, STORE_BUFFERING};
 use crate::guide::Counter;
 use loom::model::{Builder, Replay};
@@ -137,5 +138,7 @@ fn a_check_makes_every_run_once(rt: HostRuntime) -> Result<(), Fail> {
     makes_every_run(&rt, &Script::new(&LOCK_BESIDE), 3)?;
     makes_every_run(&rt, &Script::new(&LOAD_BESIDE), 6)?;
     makes_every_run(&rt, &Script::new(&STORE_BUFFERING), 48)?;
+    makes_every_run(&rt, &Script::new(&SB_FENCES), 24)?;
+    makes_every_run(&rt, &Script::new(&FETCH_ADD_ATOMIC), 4)?;
     makes_every_run(&rt, &Counter::main(2), 4)
 }

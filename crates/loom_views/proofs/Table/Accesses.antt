@@ -18,7 +18,7 @@ use Rattle.loom_views.specs.Graph.{Graph, IsChained, IsPresent}
 use Rattle.loom_views.specs.Threads.{ThreadPoints, ShowsThread}
 use Rattle.loom_views.specs.Atomic.{History, Scene, Answer, in_slot, races, new_history, new_step, conflicts, load_step, store_step, readable, fails_by_orders, drops_in_slot, scene_read, scene_loaded, scene_made, scene_recorded_load, scene_recorded_store, StorePoints, touch}
 use Rattle.loom_views.specs.Shown.{ShowsScene, AnswersAs, FinishesAs}
-use Rattle.loom_views.specs.Table.{Place, Meets, Keeps, has_slot, readable_by, Points, ShowsViews, LoadsAs, StoresAs, OffersAs, IsSlotKept, scene_of, points_of, accessed, slot_set, points_with_atomic, points_after_load, points_after_store, readable_slots_of}
+use Rattle.loom_views.specs.Table.{Place, Meets, Keeps, Records, has_slot, readable_by, Points, ShowsViews, LoadsAs, StoresAs, OffersAs, IsSlotKept, scene_of, points_of, accessed, slot_set, points_with_atomic, points_after_load, points_after_store, readable_slots_of}
 use Rattle.loom_views.specs.Slots.{number_in_slot}
 use Rattle.loom_views.proofs.Choices.{readable-bounds}
 use Rattle.loom_views.proofs.Growth.{GrownBy, shows-grown, grown-joined, scene_read-grown, scene_loaded-grown, scene_made-grown}
@@ -164,5 +164,6 @@ readable-kept p t n reader slots i e h = go (slice_get p.threads t) (slice_get p
     go : (o : Option ThreadPoints) (q : Option Place) → readable_by p t reader o q ≡ Ok slots → IsSlotKept q i
     go o None b = tt
     go o (Some (Meets k)) b = tt
+    go o (Some (Records cell)) b = tt
     go None (Some (Keeps history)) b = absurd (cc)
     go (Some own) (Some (Keeps history)) b = chosen p.graph own history (fails_by_orders p.graph t own reader history.stores) b

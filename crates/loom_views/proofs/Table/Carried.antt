@@ -6,16 +6,19 @@ use Rattle.std.proofs.lemmas.Bool.{cases_eq, ne_eqb}
 use Rattle.std.proofs.lemmas.List.{length-set}
 use Rattle.std.proofs.lemmas.Option.{slice_get-get_or}
 use Rattle.loom_views.specs.declared.rt.atomic.State.{State}
+use Rattle.loom_views.specs.declared.rt.cell.AccessRecords.{AccessRecords}
 use Rattle.loom_views.specs.declared.rt.synchronize.ThreadViews.{ThreadViews}
 use Rattle.loom_views.specs.declared.rt.table.Kept.{Kept}
-use Rattle.loom_views.specs.declared.rt.table.Kept.TheVariants.{Meeting, Keeping}
+use Rattle.loom_views.specs.declared.rt.table.Kept.TheVariants.{Meeting, Keeping, Recording}
 use Rattle.loom_views.specs.declared.rt.table.Views.{Views}
 use Rattle.loom_views.specs.Graph.{Graph, raised, Shows, IsChained, IsPresent}
 use Rattle.loom_views.specs.Threads.{ThreadPoints, ShowsThread, child_points}
 use Rattle.loom_views.specs.Atomic.{History}
+use Rattle.loom_views.specs.Cells.{Accesses, ShowsAccesses}
 use Rattle.loom_views.specs.Shown.{ShowsState}
-use Rattle.loom_views.specs.Table.{Place, Meets, Keeps, Points, with_thread, with_place, with_new_place, ShowsThreadAt, ShowsThreads, ShowsPlace, ShowsPlaceAt, ShowsPlaces, ShowsViews}
+use Rattle.loom_views.specs.Table.{Place, Meets, Keeps, Records, Points, with_thread, with_place, with_new_place, ShowsThreadAt, ShowsThreads, ShowsPlace, ShowsPlaceAt, ShowsPlaces, ShowsViews}
 use Rattle.loom_views.proofs.Views.{raised-no}
+use Rattle.loom_views.proofs.Cells.{accesses-grown}
 use Rattle.loom_views.proofs.Growth.{GrownBy, same, quiet, raising, shows-grown, thread-grown, state-grown, present-grown}
 use Rattle.loom_views.proofs.Table.Lists.{get-set_same, get-set_other}
 
@@ -33,8 +36,13 @@ thread_at-grown r u n (Some own) (Some views) h = (present-grown r u own.present
 pub place-grown : {t : ℕ} {g g' : Graph} → GrownBy t g g' → (place : Place) (kept : Kept) → ShowsPlace g place kept → ShowsPlace g' place kept
 place-grown r (Meets k) (Meeting view) h = shows-grown r k view h
 place-grown r (Meets k) (Keeping state) h = absurd h
+place-grown r (Meets k) (Recording records) h = absurd h
 place-grown r (Keeps history) (Meeting view) h = absurd h
 place-grown r (Keeps history) (Keeping state) h = (state-grown r history state h.0, h.1)
+place-grown r (Keeps history) (Recording records) h = absurd h
+place-grown r (Records cell) (Meeting view) h = absurd h
+place-grown r (Records cell) (Keeping state) h = absurd h
+place-grown r (Records cell) (Recording records) h = accesses-grown r cell records h
 
 place_at-grown : {t : ℕ} {g g' : Graph} → GrownBy t g g' → (place : Option Place) (kept : Option Kept) → ShowsPlaceAt g place kept → ShowsPlaceAt g' place kept
 place_at-grown r None None h = tt
@@ -108,6 +116,7 @@ found_point p v n view e z = let h = z.places n in go (slice_get p.places n) ref
     go None q h = absurd h
     go (Some (Meets k)) q h = record { point = k; is = q; shown = h }
     go (Some (Keeps history)) q h = absurd h
+    go (Some (Records cell)) q h = absurd h
 
 -- an atomic
 pub record FoundAtomic (p : Points) (n : ℕ) (state : State) : Type 0 where
@@ -123,6 +132,22 @@ found_atomic p v n state e z = let h = z.places n in go (slice_get p.places n) r
     go None q h = absurd h
     go (Some (Meets k)) q h = absurd h
     go (Some (Keeps history)) q h = record { history = history; is = q; shown = h.0; some = h.1 }
+    go (Some (Records cell)) q h = absurd h
+
+-- a cell
+pub record FoundCell (p : Points) (n : ℕ) (records : AccessRecords) : Type 0 where
+  pub cell : Accesses
+  pub is : slice_get p.places n ≡ Some (Records cell)
+  pub shown : ShowsAccesses p.graph cell records
+
+pub found_cell : (p : Points) (v : Views) (n : ℕ) (records : AccessRecords) → slice_get v.places n ≡ Some (Recording records) → ShowsViews p v → FoundCell p n records
+found_cell p v n records e z = let h = z.places n in go (slice_get p.places n) refl (rw e at h)
+  where
+    go : (o : Option Place) → slice_get p.places n ≡ o → ShowsPlaceAt p.graph o (Some (Recording records)) → FoundCell p n records
+    go None q h = absurd h
+    go (Some (Meets k)) q h = absurd h
+    go (Some (Keeps history)) q h = absurd h
+    go (Some (Records cell)) q h = record { cell = cell; is = q; shown = h }
 
 -- a step of thread t in a graph that it alone has grown
 pub thread-stepped : (p : Points) (v : Views) (t : ℕ) (g : Graph) (own : ThreadPoints) (views : ThreadViews) → t < length p.threads → GrownBy t p.graph g → IsChained g → IsPresent g t own.present → ShowsThread g t own views → ShowsViews p v → ShowsViews (with_thread p t g own) (record v { threads = set v.threads t views })

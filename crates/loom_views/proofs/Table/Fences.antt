@@ -8,7 +8,7 @@ use Rattle.std.proofs.lemmas.Option.{slice_get_within, get_or_from_slice_get}
 use Rattle.loom_views.specs.declared.rt.atomic.State.{State}
 use Rattle.loom_views.specs.declared.rt.synchronize.ThreadViews.{ThreadViews}
 use Rattle.loom_views.specs.declared.rt.table.Kept.{Kept}
-use Rattle.loom_views.specs.declared.rt.table.Kept.TheVariants.{Meeting, Keeping}
+use Rattle.loom_views.specs.declared.rt.table.Kept.TheVariants.{Keeping}
 use Rattle.loom_views.specs.declared.rt.table.Views.{Views}
 use Rattle.loom_views.specs.Graph.{Graph, Shows, IsChained, IsPresent}
 use Rattle.loom_views.specs.Threads.{ThreadPoints, ShowsThread, with_present, graph_after_acquire}
@@ -16,11 +16,12 @@ use Rattle.loom_views.specs.Versions.{join}
 use Rattle.loom_views.specs.Atomic.{StorePoints, Scene, is_seen}
 use Rattle.loom_views.specs.Fences.{Standing, after_store, after_stores, acquire_fence_step}
 use Rattle.loom_views.specs.Shown.{ShowsScene}
-use Rattle.loom_views.specs.Table.{Place, Meets, Keeps, Points, ShowsPlaces, ShowsViews, stores_at, points_after_acquire_fence, points_after_meet_global}
+use Rattle.loom_views.specs.Table.{Place, Keeps, Points, ShowsPlaces, ShowsViews, stores_at, points_after_acquire_fence, points_after_meet_global}
 use Rattle.loom_views.proofs.Views.{chained-moved, present-new, shows-joined}
 use Rattle.loom_views.proofs.Growth.{GrownBy, same, quiet, grown-joined, state-grown}
 use Rattle.loom_views.proofs.Fences.{after_stores-append}
-use Rattle.loom_views.proofs.Table.Carried.{found, found_point, found_atomic, thread-stepped, global-stepped}
+use Rattle.loom_views.proofs.Table.Carried.{found, found_atomic, thread-stepped, global-stepped}
+use Rattle.loom_views.proofs.Table.Others.{other, other-stored}
 
 -- thread t's views show where it stands
 pub record ShowsStanding (t : ℕ) (s : Standing) (views : ThreadViews) : Type 0 where
@@ -76,10 +77,10 @@ fenced-atomic v t before views after n state kept step h = λ p own z i s.
     let y = step t scene shown in
     rw (fenced-more p own n (Keeps o.history) o.is) (record { chained = y.chained; present = y.present; thread = y.thread })
 
-pub fenced-other : (v : Views) (t : ℕ) (before views : ThreadViews) (n : ℕ) (view : List ℕ) → slice_get v.places n ≡ Some (Meeting view) → IsFenced v t before views n → IsFenced v t before views (n + 1)
-fenced-other v t before views n view kept h = λ p own z i s.
-    let o = found_point p v n view kept z in
-    rw (fenced-more p own n (Meets o.point) o.is) (h p own z i s)
+pub fenced-other : (v : Views) (t : ℕ) (before views : ThreadViews) (n : ℕ) (kept : Kept) → slice_get v.places n ≡ Some kept → ((state : State) → kept ≡ Keeping state → ⊥) → IsFenced v t before views n → IsFenced v t before views (n + 1)
+fenced-other v t before views n kept e d h = λ p own z i s.
+    let o = other p v n kept e z in
+    rw (fenced-more p own n o.place o.is, other-stored p v t n kept e z d o.place o.shown) (h p own z i s)
 
 module _ (p : Points) (v : Views) (t : ℕ) (d : ThreadViews) (l : t < v.count) (m : t < 5) (z : ShowsViews p v) where
   pub acquire_fence-moved : (views : ThreadViews) → IsFenced v t (get_or v.threads t d) views (length v.places) → ShowsViews (points_after_acquire_fence p t) (record v { threads = set v.threads t views })

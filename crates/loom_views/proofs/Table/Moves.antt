@@ -5,9 +5,8 @@ use Rattle.std.specs.List.{slice_get}
 use Rattle.std.specs.declared.sync.atomic.Ordering.{Ordering}
 use Rattle.std.proofs.lemmas.Bool.{lt-ltb}
 use Rattle.std.proofs.lemmas.Option.{slice_get_within}
-use Rattle.loom_views.specs.declared.rt.atomic.State.{State}
 use Rattle.loom_views.specs.declared.rt.synchronize.ThreadViews.{ThreadViews}
-use Rattle.loom_views.specs.declared.rt.table.Kept.TheVariants.{Meeting, Keeping}
+use Rattle.loom_views.specs.declared.rt.table.Kept.TheVariants.{Meeting}
 use Rattle.loom_views.specs.declared.rt.table.Views.{Views}
 use Rattle.loom_views.specs.Graph.{Graph, Shows, version, raised, IsChained, IsPresent}
 use Rattle.loom_views.specs.Threads.{ThreadPoints, ShowsThread, with_present, graph_after_raise, graph_after_acquire, graph_after_release_fence, graph_after_store}
@@ -16,8 +15,7 @@ use Rattle.loom_views.specs.Table.{Meets, Points, ShowsViews, MovesAs, points_af
 use Rattle.loom_views.proofs.Views.{chained-moved, chained-raising, present-old, present-new, shows-start}
 use Rattle.loom_views.proofs.Shown.{counts-at}
 use Rattle.loom_views.proofs.Growth.{same, quiet, raising}
-use Rattle.loom_views.proofs.Table.Lists.{set-same}
-use Rattle.loom_views.proofs.Table.Carried.{found, found_point, found_atomic, thread-stepped, place-stepped, place-added}
+use Rattle.loom_views.proofs.Table.Carried.{found, found_point, thread-stepped, place-stepped, place-added}
 
 module _ (p : Points) (v : Views) (t : ℕ) (d : ThreadViews) (l : t < v.count) (m : t < 5) (z : ShowsViews p v) where
   pub raise-moved : (views : ThreadViews) → ((g : Graph) (own : ThreadPoints) → IsChained g → ShowsThread g t own (get_or v.threads t d) → ShowsThread (graph_after_raise g own t) t (with_present g own) views) → ((g : Graph) (own : ThreadPoints) → IsPresent g t own.present → ShowsThread g t own (get_or v.threads t d) → length (raised g t) < 65534) → MovesAs (points_after_raise p t) (Ok tt) (record v { threads = set v.threads t views })
@@ -54,13 +52,6 @@ module _ (p : Points) (v : Views) (t : ℕ) (d : ThreadViews) (l : t < v.count) 
       let f = found p v t d l m z in
       let o = found p v u b h i z in
       rw (f.is, o.is) (thread-stepped p v t (graph_after_acquire p.graph f.own o.own.present) (with_present p.graph f.own) views f.there (quiet (f.own.present ∷ o.own.present ∷ []) same) (chained-moved p.graph (f.own.present ∷ o.own.present ∷ []) z.chained) (present-new (o.own.present ∷ []) None p.graph t f.own.present f.present) (shown p.graph f.own o.own.present z.chained f.shown o.shown.present) z)
-
--- an atomic is no point to release to
-pub release-none : (p : Points) (v : Views) (t n : ℕ) (order : Ordering) (d : ThreadViews) (state : State) → t < v.count → t < 5 → slice_get v.places n ≡ Some (Keeping state) → ShowsViews p v → ShowsViews (points_after_release p t n order) (record v { places = set v.places n (Keeping state) })
-release-none p v t n order d state l m e z =
-    let f = found p v t d l m z in
-    let o = found_atomic p v n state e z in
-    rw (set-same v.places n (Keeping state) e, f.is, o.is) z
 
 pub point-added : (p : Points) (v : Views) → ShowsViews p v → ShowsViews (points_with_point p) (record v { places = v.places ++ Meeting zeros ∷ [] })
 point-added p v z = place-added p v _ (Meets (length p.graph)) (Meeting zeros) (quiet [] same) (chained-moved p.graph [] z.chained) (shows-start p.graph z.chained) z

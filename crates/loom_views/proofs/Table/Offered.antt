@@ -5,12 +5,12 @@ use Rattle.std.specs.List.{slice_get, list_any}
 use Rattle.loom_views.specs.declared.rt.failure.FailureKind.{FailureKind}
 use Rattle.loom_views.specs.declared.rt.failure.FailureKind.TheVariants.{OrdersEqual, Race, OpenAccess}
 use Rattle.loom_views.specs.declared.rt.table.Kept.{Kept}
-use Rattle.loom_views.specs.declared.rt.table.Kept.TheVariants.{Meeting, Keeping}
+use Rattle.loom_views.specs.declared.rt.table.Kept.TheVariants.{Meeting, Keeping, Recording}
 use Rattle.loom_views.specs.declared.rt.table.Views.{Views}
 use Rattle.loom_views.specs.Slots.{number_in_slot}
 use Rattle.loom_views.specs.Threads.{ThreadPoints}
 use Rattle.loom_views.specs.Atomic.{History, Answer, Scene, conflicts, load_step, update_read_step, readable, fails_by_orders, races}
-use Rattle.loom_views.specs.Table.{Place, Meets, Keeps, Points, Accessed, ShowsPlaceAt, ShowsViews, IsSlotKept, has_slot, slot_set, scene_of, accessed, access_by, readable_by}
+use Rattle.loom_views.specs.Table.{Place, Meets, Keeps, Records, Points, Accessed, ShowsPlaceAt, ShowsViews, IsSlotKept, has_slot, slot_set, scene_of, accessed, access_by, readable_by}
 use Rattle.loom_views.specs.Laws.{OfferingLaw, KeepingLaw, LoadingLaw, UpdatingLaw, ReadsOneOfTheLast}
 use Rattle.loom_views.proofs.SlotNumbers.{number-bound, number-late}
 use Rattle.loom_views.proofs.SomeReadable.{some-readable}
@@ -24,6 +24,7 @@ atomic-stored p v n history z e = let h = z.places n in go (slice_get v.places n
     go None h = absurd h
     go (Some (Meeting view)) h = absurd h
     go (Some (Keeping state)) h = h.1
+    go (Some (Recording records)) h = absurd h
 
 pub some_slot_is_offered_law : OfferingLaw
 some_slot_is_offered_law p v t n reader z = go (slice_get p.threads t) (slice_get p.places n) refl
@@ -36,6 +37,7 @@ some_slot_is_offered_law p v t n reader z = go (slice_get p.threads t) (slice_ge
     go None q a e = cc
     go (Some own) None a e = cc
     go (Some own) (Some (Meets k)) a e = cc
+    go (Some own) (Some (Records cell)) a e = cc
     go (Some own) (Some (Keeps history)) a e = chosen (fails_by_orders p.graph t own reader history.stores) (readable p.graph t own reader history.stores) (some-readable p.graph t own reader history.stores z.chained (atomic-stored p v n history z a)) e
 
 pub offered_slots_are_kept_law : KeepingLaw
@@ -67,6 +69,7 @@ loads_read_kept_stores_law p t n slot order after = go (slice_get p.threads t) (
     go None q e b = absurd (cc)
     go (Some own) None e b = absurd (cc)
     go (Some own) (Some (Meets k)) e b = absurd (cc)
+    go (Some own) (Some (Records cell)) e b = absurd (cc)
     go (Some own) (Some (Keeps history)) e b = record {
       history = history;
       number = number_in_slot (length history.stores) slot;
@@ -83,6 +86,7 @@ updates_read_kept_stores_law p t n slot after = go (slice_get p.threads t) (slic
     go None q e b = absurd (cc)
     go (Some own) None e b = absurd (cc)
     go (Some own) (Some (Meets k)) e b = absurd (cc)
+    go (Some own) (Some (Records cell)) e b = absurd (cc)
     go (Some own) (Some (Keeps history)) e b = record {
       history = history;
       number = number_in_slot (length history.stores) slot;

@@ -1,7 +1,7 @@
 //! Laws of views, of the vectors that show them, and of the choice of a store. A law is the contract of a function that does
 //! nothing; it is stated in `specs/Laws`.
 ghost use Rattle.loom_views.specs.Examples.{ExampleLaw};
-ghost use Rattle.loom_views.specs.Laws.{PastLaw, ReachingLaw, CountLaw, ComparingLaw, EqualLaw, StandingLaw, ReadableLaw, OfferingLaw, KeepingLaw, LoadingLaw, UpdatingLaw, FencingLaw};
+ghost use Rattle.loom_views.specs.Laws.{PastLaw, ReachingLaw, CountLaw, ComparingLaw, EqualLaw, StandingLaw, ReadableLaw, OfferingLaw, KeepingLaw, LoadingLaw, UpdatingLaw, SlotsStayLaw, RacingLaw, FencingLaw, MovesAsAcqRel, GlobalLaw};
 
 /// That a chain of edges leads from one point to another can be found by one sweep from the newest point down (own).
 pub fn past_is_reaching()
@@ -61,10 +61,35 @@ pub fn updates_read_kept_stores()
     ensures { UpdatingLaw }
 {}
 
+/// A slot in which a store is kept has one still once a read-modify-write has read it, so the same read-modify-write may write
+/// to it or end at it (own).
+pub fn reading_keeps_slots()
+    ensures { SlotsStayLaw }
+{}
+
+/// A read of a cell is a data race just where some write of it hasn't come to the thread, and a write just where some write or
+/// read hasn't (own).
+pub fn accesses_out_of_view_race()
+    ensures { RacingLaw }
+{}
+
 /// A sequentially consistent fence brings its thread what the earlier ones left at the global point, and leaves there what has
 /// come to the thread (own).
 pub fn fences_meet_at_the_global_point()
     ensures { FencingLaw }
+{}
+
+/// Once its slot is chosen, a sequentially consistent load, and the failing end of a read-modify-write, leads to the very points
+/// that the same by `AcqRel` leads to. A store, and the write of a read-modify-write, does so but for the mark of the store that
+/// it makes. Which slots a load may choose does depend on it (own).
+pub fn sequentially_consistent_accesses_move_as_acq_rel()
+    ensures { MovesAsAcqRel }
+{}
+
+/// Each move of a run leaves the global point where it was, but for a sequentially consistent fence, whose last step meets there
+/// (own).
+pub fn only_sequentially_consistent_fences_move_the_global_point()
+    ensures { GlobalLaw }
 {}
 
 /// In small histories of one atomic: a thread that stored alone may load its last value only, also once slots are used again,

@@ -4,12 +4,14 @@
 //! nothing, and one that answers something answers `Misuse`. Source: loom's `rt/execution.rs` and `rt/object.rs`, where each
 //! thread and each object keeps its own.
 
-ghost use Rattle.std.specs.Prelude.{◌≡◌, ◌++◌, ◌∷◌, ◌<◌, [], OnErr, OnOk, slice_get};
+ghost use Rattle.std.specs.Prelude.{◌≡◌, ◌++◌, ◌∷◌, ◌<◌, ◌≤◌, [], Err, OnErr, OnOk, slice_get};
+ghost use Rattle.loom_views.specs.declared.rt.failure.FailureKind.TheVariants.{Misuse};
 ghost use Rattle.loom_views.specs.declared.rt.table.Kept.TheVariants.{Meeting};
 ghost use Rattle.loom_views.specs.Versions.{zeros};
-ghost use Rattle.loom_views.specs.Table.{Points, ShowsViews, MovesAs, LoadsAs, StoresAs, OffersAs, IsSlotKept, opening, points_after_raise, points_after_acquire, points_after_release, points_after_release_fence, points_after_yield, points_with_point, points_after_spawn, points_after_join, points_with_atomic, points_after_load, points_after_store, points_after_update_read, points_after_update_write, points_after_update_fail, points_after_unsync_load, points_after_with_mut, points_after_with_mut_end, points_after_acquire_fence, points_after_meet_global, points_after_fence, readable_slots_of, slot_set, has_slot};
+ghost use Rattle.loom_views.specs.Table.{Points, ShowsViews, MovesAs, LoadsAs, StoresAs, OffersAs, IsSlotKept, opening, points_after_raise, points_after_acquire, points_after_release, points_after_release_fence, points_after_yield, points_with_point, points_after_spawn, points_after_join, points_with_atomic, points_after_load, points_after_store, points_after_update_read, points_after_update_write, points_after_update_fail, points_after_unsync_load, points_after_with_mut, points_after_with_mut_end, points_after_acquire_fence, points_after_meet_global, points_after_fence, points_with_cell, points_after_read, points_after_write, readable_slots_of, slot_set, has_slot};
 
 use crate::rt::atomic::{Reader, State};
+use crate::rt::cell::AccessRecords;
 use crate::rt::failure::FailureKind;
 use crate::rt::synchronize::{Synchronize, ThreadViews};
 use crate::rt::vv::VersionVec;
@@ -26,6 +28,8 @@ pub enum Kept {
     Meeting(Synchronize),
     /// An atomic.
     Keeping(State),
+    /// A cell.
+    Recording(AccessRecords),
 }
 
 impl Kept {
@@ -187,6 +191,7 @@ impl Views {
         match kept {
             Kept::Meeting(sync) => self.places.push(Kept::Meeting(sync)),
             Kept::Keeping(state) => self.places.push(Kept::Keeping(state)),
+            Kept::Recording(records) => self.places.push(Kept::Recording(records)),
         }
     }
 
@@ -272,13 +277,13 @@ impl Views {
                 Ok(slots) => Ok(set_of(&slots)),
                 Err(kind) => Err(kind),
             },
-            Kept::Meeting(_) => Err(FailureKind::Misuse),
+            _ => Err(FailureKind::Misuse),
         }
     }
 
     /// A thread, which has raised its version, loads from the store in a slot of an atomic, and answers its value.
     /// `OpenAccess` while a mutation is open, `Race` with one that hasn't come to the thread, `Misuse` where there is no such
-    /// thread, atomic or slot (loom's `rt/atomic.rs`).
+    /// thread, atomic or slot; then nothing changes (loom's `rt/atomic.rs`).
     pub fn load(
         &mut self,
         thread: usize,
@@ -286,8 +291,10 @@ impl Views {
         slot: usize,
         order: Ordering,
     ) -> Result<u64, FailureKind>
-        ensures { (p : Points) → ShowsViews p self.old → IsSlotKept (slice_get p.places place) slot →
+        ensures shown { (p : Points) → ShowsViews p self.old → IsSlotKept (slice_get p.places place) slot →
             LoadsAs (points_after_load p thread place slot order) result self.new }
+        ensures no_slot { 7 ≤ slot → result ≡ Err Misuse }
+        ensures err { OnErr result (self.new ≡ self.old) }
     {
         if thread >= self.count || thread >= MAX_THREADS || place >= self.places.len() {
             return Err(FailureKind::Misuse);
@@ -302,13 +309,13 @@ impl Views {
                 self.threads[thread] = views;
                 answer
             }
-            Kept::Meeting(_) => Err(FailureKind::Misuse),
+            _ => Err(FailureKind::Misuse),
         }
     }
 
     /// A thread, which has raised its version, stores to an atomic. `OpenAccess` while a mutation is open, `Race` with
     /// one or with a load beside atomics that hasn't come to the thread, `TooManyStores` at the 65,536th, `Misuse` where there
-    /// is no such thread or atomic (loom's `rt/atomic.rs`).
+    /// is no such thread or atomic; then nothing changes (loom's `rt/atomic.rs`).
     pub fn store(
         &mut self,
         thread: usize,
@@ -316,7 +323,8 @@ impl Views {
         value: u64,
         order: Ordering,
     ) -> Result<(), FailureKind>
-        ensures { (p : Points) → ShowsViews p self.old → StoresAs (points_after_store p thread place value order) result self.new }
+        ensures shown { (p : Points) → ShowsViews p self.old → StoresAs (points_after_store p thread place value order) result self.new }
+        ensures err { OnErr result (self.new ≡ self.old) }
     {
         if thread >= self.count || thread >= MAX_THREADS || place >= self.places.len() {
             return Err(FailureKind::Misuse);
@@ -324,7 +332,7 @@ impl Views {
         let views = self.threads[thread];
         match self.places.at_mut(place) {
             Kept::Keeping(state) => state.store(thread, &views, value, order),
-            Kept::Meeting(_) => Err(FailureKind::Misuse),
+            _ => Err(FailureKind::Misuse),
         }
     }
 
@@ -338,6 +346,7 @@ impl Views {
     ) -> Result<u64, FailureKind>
         ensures shown { (p : Points) → ShowsViews p self.old → IsSlotKept (slice_get p.places place) slot →
             LoadsAs (points_after_update_read p thread place slot) result self.new }
+        ensures no_slot { 7 ≤ slot → result ≡ Err Misuse }
         ensures err { OnErr result (self.new ≡ self.old) }
     {
         if thread >= self.count || thread >= MAX_THREADS || place >= self.places.len() {
@@ -349,7 +358,7 @@ impl Views {
         let views = self.threads[thread];
         match self.places.at_mut(place) {
             Kept::Keeping(state) => state.update_read(thread, &views, slot),
-            Kept::Meeting(_) => Err(FailureKind::Misuse),
+            _ => Err(FailureKind::Misuse),
         }
     }
 
@@ -366,6 +375,7 @@ impl Views {
     ) -> Result<(), FailureKind>
         ensures shown { (p : Points) → ShowsViews p self.old → IsSlotKept (slice_get p.places place) slot →
             StoresAs (points_after_update_write p thread place slot value success) result self.new }
+        ensures no_slot { 7 ≤ slot → result ≡ Err Misuse }
         ensures err { OnErr result (self.new ≡ self.old) }
     {
         if thread >= self.count || thread >= MAX_THREADS || place >= self.places.len() {
@@ -381,7 +391,7 @@ impl Views {
                 self.threads[thread] = views;
                 answer
             }
-            Kept::Meeting(_) => Err(FailureKind::Misuse),
+            _ => Err(FailureKind::Misuse),
         }
     }
 
@@ -417,7 +427,7 @@ impl Views {
         let views = self.threads[thread];
         match self.places.at_mut(place) {
             Kept::Keeping(state) => state.unsync_load(&views),
-            Kept::Meeting(_) => Err(FailureKind::Misuse),
+            _ => Err(FailureKind::Misuse),
         }
     }
 
@@ -434,7 +444,7 @@ impl Views {
         let views = self.threads[thread];
         match self.places.at_mut(place) {
             Kept::Keeping(state) => state.with_mut(&views),
-            Kept::Meeting(_) => Err(FailureKind::Misuse),
+            _ => Err(FailureKind::Misuse),
         }
     }
 
@@ -455,7 +465,51 @@ impl Views {
         let views = self.threads[thread];
         match self.places.at_mut(place) {
             Kept::Keeping(state) => state.with_mut_end(&views, value),
-            Kept::Meeting(_) => Err(FailureKind::Misuse),
+            _ => Err(FailureKind::Misuse),
+        }
+    }
+
+    /// A thread makes a cell. An error where a growth was refused; then nothing changes (loom's `rt/cell.rs`).
+    pub fn add_cell(&mut self, thread: usize) -> Result<(), AllocError>
+        ensures shown { (p : Points) → ShowsViews p self.old → OnOk result (ShowsViews (points_with_cell p thread) self.new) }
+        ensures err { OnErr result (self.new ≡ self.old) }
+    {
+        if thread >= self.count || thread >= MAX_THREADS {
+            return Ok(());
+        }
+        let views = self.threads[thread];
+        self.add(Kept::Recording(AccessRecords::new(&views)))
+    }
+
+    /// A thread reads a cell, which is recorded. `Race` with a write that hasn't come to the thread, `Misuse` where there is no
+    /// such thread or cell; then nothing changes (loom's `rt/cell.rs`).
+    pub fn read(&mut self, thread: usize, place: usize) -> Result<(), FailureKind>
+        ensures shown { (p : Points) → ShowsViews p self.old → MovesAs (points_after_read p thread place) result self.new }
+        ensures err { OnErr result (self.new ≡ self.old) }
+    {
+        if thread >= self.count || thread >= MAX_THREADS || place >= self.places.len() {
+            return Err(FailureKind::Misuse);
+        }
+        let views = self.threads[thread];
+        match self.places.at_mut(place) {
+            Kept::Recording(records) => records.read(&views),
+            _ => Err(FailureKind::Misuse),
+        }
+    }
+
+    /// A thread writes a cell, which is recorded. `Race` with a write or a read that hasn't come to the thread, `Misuse` where
+    /// there is no such thread or cell; then nothing changes (loom's `rt/cell.rs`).
+    pub fn write(&mut self, thread: usize, place: usize) -> Result<(), FailureKind>
+        ensures shown { (p : Points) → ShowsViews p self.old → MovesAs (points_after_write p thread place) result self.new }
+        ensures err { OnErr result (self.new ≡ self.old) }
+    {
+        if thread >= self.count || thread >= MAX_THREADS || place >= self.places.len() {
+            return Err(FailureKind::Misuse);
+        }
+        let views = self.threads[thread];
+        match self.places.at_mut(place) {
+            Kept::Recording(records) => records.write(&views),
+            _ => Err(FailureKind::Misuse),
         }
     }
 }

@@ -1,4 +1,15 @@
+use Rattle.std.proofs.Common.{◌∙◌}
 use Rattle.loom.proofs.model.Builder.run.Goals as goal
+
+pub loop-bodies-preserved : goal.loop-bodies-preserved
+loop-bodies-preserved g c =
+    let e = rw c.in-Ok-Start.field-0-is at c.in-Ok-Start.ensures.turn in
+    let o = rw c.in-Ok-Start.field-0-is at c.in-Ok-Start.ensures.over in
+    record {
+      under_way = e _ c.loop-bodies.invariant.under_way;
+      going = o;
+      same = c.in-Ok-Start.ensures.same ∙ c.loop-bodies.invariant.same;
+    }
 
 pub returns-in-Err-Failure-clause-along : goal.returns-in-Err-Failure-clause-along
 returns-in-Err-Failure-clause-along g c =

@@ -1,7 +1,7 @@
-use Rattle.std.proofs.Common.{rules}
-use Rattle.loom_objects.proofs.Moving.{loads}
+use Rattle.std.proofs.Common.{refl}
+use Rattle.loom_objects.proofs.Moving.{loads_slot}
 use Rattle.loom_objects.proofs.rt.run.RunState.load.Goals as goal
 
-pub returns-else-not-contains-clause-does : goal.returns-else-not-contains-clause-does
-returns-else-not-contains-clause-does g c =
-    loads c.args.self.now c.raise.new.self c.in-Ok.ensures.shown c.args.number c.args.order c.in-Ok-readable.readable c.in-Ok-readable.ensures (search rules)
+pub returns-in-Ok-clause-does : goal.returns-in-Ok-clause-does
+returns-in-Ok-clause-does g c =
+    loads_slot c.args.self.now _ c.args.number c.args.order c.args.slot c.in-Ok.value refl c.in-Ok.ensures.shown

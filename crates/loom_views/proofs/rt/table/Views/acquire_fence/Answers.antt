@@ -10,7 +10,7 @@ loop-place-preserved c =
     let before = get_or v.threads t c.index-self-thread.result in
     elim c.match-at.branch [
       | in-Keeping w ↦ rw w.views-is (fenced-atomic v t before c.loop-place.views w.acquire_fence.new.views c.loop-place.place w.in-Keeping.state (c.at.ensures ∙ ap Some w.in-Keeping.is) w.acquire_fence.ensures c.loop-place.invariant)
-      | in_default w ↦ rw w.views-is (fenced-other v t before c.loop-place.views c.loop-place.place w.in_default.field-0 (c.at.ensures ∙ ap Some w.in_default.is) c.loop-place.invariant)
+      | in_default w ↦ rw w.views-is (fenced-other v t before c.loop-place.views c.loop-place.place c.at.result.now c.at.ensures w.in_default.not-Keeping c.loop-place.invariant)
     ]
 
 pub returns : goal.returns

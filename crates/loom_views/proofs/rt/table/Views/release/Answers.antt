@@ -1,9 +1,10 @@
 use Rattle.std.proofs.Common.{ap, ◌∙◌, Some}
-use Rattle.loom_views.proofs.Table.Moves.{release-moved, release-none}
+use Rattle.loom_views.proofs.Table.Moves.{release-moved}
+use Rattle.loom_views.proofs.Table.Others.{other-released}
 use Rattle.loom_views.proofs.rt.table.Views.release.Goals as goal
 
 pub returns-in-Meeting : goal.returns-in-Meeting
 returns-in-Meeting c = λ p z. release-moved p c.args.self.now c.args.thread c.index-self-thread.result c.if-thread-self.false c.if-thread-ge-MAX_THREADS.false z c.args.place c.args.order c.in-Meeting.sync c.sync_store.new.self (c.at_mut.ensures.value ∙ ap Some c.in-Meeting.is) (λ g own k. c.sync_store.ensures.shown g c.args.thread own k)
 
 pub returns-in_default : goal.returns-in_default
-returns-in_default c = λ p z. rw c.in_default.is (release-none p c.args.self.now c.args.thread c.args.place c.args.order c.index-self-thread.result c.in_default.field-0 c.if-thread-self.false c.if-thread-ge-MAX_THREADS.false (c.at_mut.ensures.value ∙ ap Some c.in_default.is) z)
+returns-in_default c = λ p z. other-released p c.args.self.now c.args.thread c.args.place c.at_mut.result.now c.at_mut.ensures.value z c.in_default.not-Meeting c.args.order

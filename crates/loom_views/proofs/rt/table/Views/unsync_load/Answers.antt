@@ -1,4 +1,6 @@
 use Rattle.std.proofs.Common.{ap, ◌∙◌, Some}
+use Rattle.loom_views.specs.Atomic.{unsync_load_step}
+use Rattle.loom_views.proofs.Table.Others.{other-loads}
 use Rattle.loom_views.proofs.Table.Updates.{unsync_load-moved, kept-unchanged, place-unchanged}
 use Rattle.loom_views.proofs.rt.table.Views.unsync_load.Goals as goal
 
@@ -8,5 +10,8 @@ returns-in-Keeping-clause-shown c = λ p z. unsync_load-moved p c.args.self.now 
 pub returns-in-Keeping-clause-err : goal.returns-in-Keeping-clause-err
 returns-in-Keeping-clause-err c = kept-unchanged c.args.self.now c.args.place c.in-Keeping.state c.unsync_load.new.self c.unsync_load.result (c.at_mut.ensures.value ∙ ap Some c.in-Keeping.is) c.unsync_load.ensures.err
 
-pub returns-in-Meeting-clause-err : goal.returns-in-Meeting-clause-err
-returns-in-Meeting-clause-err c = place-unchanged c.args.self.now c.args.place c.at_mut.result.now c.at_mut.ensures.value
+pub returns-in_default : goal.returns-in_default
+returns-in_default c = record {
+  shown = λ p z. other-loads p c.args.self.now c.args.thread c.args.place c.at_mut.result.now c.at_mut.ensures.value z c.in_default.not-Keeping unsync_load_step _;
+  err = place-unchanged c.args.self.now c.args.place c.at_mut.result.now c.at_mut.ensures.value;
+}

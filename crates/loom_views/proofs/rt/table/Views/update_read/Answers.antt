@@ -1,4 +1,6 @@
-use Rattle.std.proofs.Common.{ap, ◌∙◌, Some}
+use Rattle.std.proofs.Common.{refl, ap, ◌∙◌, Some}
+use Rattle.loom_views.specs.Atomic.{update_read_step}
+use Rattle.loom_views.proofs.Table.Others.{other-loads}
 use Rattle.loom_views.proofs.Table.Updates.{update_read-moved, kept-unchanged, place-unchanged}
 use Rattle.loom_views.proofs.rt.table.Views.update_read.Goals as goal
 
@@ -8,5 +10,9 @@ returns-in-Keeping-clause-shown c = λ p z b. update_read-moved p c.args.self.no
 pub returns-in-Keeping-clause-err : goal.returns-in-Keeping-clause-err
 returns-in-Keeping-clause-err c = kept-unchanged c.args.self.now c.args.place c.in-Keeping.state c.update_read.new.self c.update_read.result (c.at_mut.ensures.value ∙ ap Some c.in-Keeping.is) c.update_read.ensures.err
 
-pub returns-in-Meeting-clause-err : goal.returns-in-Meeting-clause-err
-returns-in-Meeting-clause-err c = place-unchanged c.args.self.now c.args.place c.at_mut.result.now c.at_mut.ensures.value
+pub returns-in_default : goal.returns-in_default
+returns-in_default c = record {
+  shown = λ p z b. other-loads p c.args.self.now c.args.thread c.args.place c.at_mut.result.now c.at_mut.ensures.value z c.in_default.not-Keeping (λ s. update_read_step c.args.thread s c.args.slot) _;
+  no_slot = λ l. refl;
+  err = place-unchanged c.args.self.now c.args.place c.at_mut.result.now c.at_mut.ensures.value;
+}

@@ -1,4 +1,6 @@
-use Rattle.std.proofs.Common.{ap, ◌∙◌, Some}
+use Rattle.std.proofs.Common.{refl, ap, ◌∙◌, Some}
+use Rattle.loom_views.specs.Atomic.{update_write_step}
+use Rattle.loom_views.proofs.Table.Others.{other-stores}
 use Rattle.loom_views.proofs.Table.Updates.{update_write-moved, all-unchanged, place-unchanged}
 use Rattle.loom_views.proofs.rt.table.Views.update_write.Goals as goal
 
@@ -8,5 +10,9 @@ returns-in-Keeping-clause-shown c = λ p z b. update_write-moved p c.args.self.n
 pub returns-in-Keeping-clause-err : goal.returns-in-Keeping-clause-err
 returns-in-Keeping-clause-err c = all-unchanged c.args.self.now c.args.thread c.args.place c.index-self-thread.result c.update_write-answer.new.views c.in-Keeping.state c.update_write-answer.new.self c.update_write-answer.result (c.at_mut.ensures.value ∙ ap Some c.in-Keeping.is) c.update_write-answer.ensures.err c.update_write-answer.ensures.err_views
 
-pub returns-in-Meeting-clause-err : goal.returns-in-Meeting-clause-err
-returns-in-Meeting-clause-err c = place-unchanged c.args.self.now c.args.place c.at_mut.result.now c.at_mut.ensures.value
+pub returns-in_default : goal.returns-in_default
+returns-in_default c = record {
+  shown = λ p z b. other-stores p c.args.self.now c.args.thread c.args.place c.at_mut.result.now c.at_mut.ensures.value z c.in_default.not-Keeping (λ s. update_write_step c.args.thread s c.args.slot c.args.value c.args.success) _;
+  no_slot = λ l. refl;
+  err = place-unchanged c.args.self.now c.args.place c.at_mut.result.now c.at_mut.ensures.value;
+}

@@ -1,4 +1,6 @@
 use Rattle.std.proofs.Common.{ap, ◌∙◌, Some}
+use Rattle.loom_views.specs.Atomic.{mutate_end_step}
+use Rattle.loom_views.proofs.Table.Others.{other-stores}
 use Rattle.loom_views.proofs.Table.Updates.{with_mut_end-moved, kept-unchanged, place-unchanged}
 use Rattle.loom_views.proofs.rt.table.Views.with_mut_end.Goals as goal
 
@@ -8,5 +10,8 @@ returns-in-Keeping-clause-shown c = λ p z. with_mut_end-moved p c.args.self.now
 pub returns-in-Keeping-clause-err : goal.returns-in-Keeping-clause-err
 returns-in-Keeping-clause-err c = kept-unchanged c.args.self.now c.args.place c.in-Keeping.state c.with_mut_end.new.self c.with_mut_end.result (c.at_mut.ensures.value ∙ ap Some c.in-Keeping.is) c.with_mut_end.ensures.err
 
-pub returns-in-Meeting-clause-err : goal.returns-in-Meeting-clause-err
-returns-in-Meeting-clause-err c = place-unchanged c.args.self.now c.args.place c.at_mut.result.now c.at_mut.ensures.value
+pub returns-in_default : goal.returns-in_default
+returns-in_default c = record {
+  shown = λ p z. other-stores p c.args.self.now c.args.thread c.args.place c.at_mut.result.now c.at_mut.ensures.value z c.in_default.not-Keeping (λ s. mutate_end_step s c.args.value) _;
+  err = place-unchanged c.args.self.now c.args.place c.at_mut.result.now c.at_mut.ensures.value;
+}
