@@ -6,7 +6,7 @@ use Rattle.loom_objects.specs.declared.choice.Choice.TheVariants.{Thread, Load, 
 use Rattle.loom_objects.specs.declared.operation.Op.{Op}
 use Rattle.loom_objects.specs.declared.operation.Turn.{Turn}
 use Rattle.loom_objects.specs.declared.rt.run.Entry.{Entry}
-use Rattle.loom_objects.specs.declared.rt.run.Entry.TheVariants.{Answered, AtBranch}
+use Rattle.loom_objects.specs.declared.rt.run.Entry.TheVariants.{Answered, AtBranch, Spurious as AtSpurious}
 use Rattle.loom_objects.specs.declared.rt.run.Passed.{Passed}
 use Rattle.loom_objects.specs.declared.rt.run.Passed.TheVariants as passed
 use Rattle.loom_objects.specs.Tree.{Tree, Gives, Fails, Closes, Asks, ◌>>=◌, check}
@@ -48,6 +48,7 @@ module _ {D : Type 0} where
   abbrev pub goes_on : Entry D × World D → Tree (Turn D × World D)
   goes_on (Answered reply, w) = told (reply, w)
   goes_on (AtBranch, w) = schedule further_branches w
+  goes_on (AtSpurious n, w) = Fails Misuse
 
   -- the active thread hands over an operation
   abbrev pub submit : Op D ⊤ → World D → Tree (Turn D × World D)

@@ -11,6 +11,8 @@ module _ {D : Type 0} where
   stays change (object.Cell cell) h = absurd (h cell refl)
   stays change (object.Atomic atomic) h = refl
   stays change (object.Mutex mutex) h = refl
+  stays change (object.RwLock lock) h = refl
+  stays change (object.Condvar condvar) h = refl
   stays change (object.Notify notify) h = refl
   stays change (object.Arc arc) h = refl
   stays change (object.Track track) h = refl
@@ -19,6 +21,8 @@ module _ {D : Type 0} where
   holds_none (object.Cell cell) h = absurd (h cell refl)
   holds_none (object.Atomic atomic) h = refl
   holds_none (object.Mutex mutex) h = refl
+  holds_none (object.RwLock lock) h = refl
+  holds_none (object.Condvar condvar) h = refl
   holds_none (object.Notify notify) h = refl
   holds_none (object.Arc arc) h = refl
   holds_none (object.Track track) h = refl

@@ -16,7 +16,9 @@ use Rattle.loom_objects.specs.declared.rt.run.RunState.{RunState}
 use Rattle.loom_objects.specs.declared.rt.sync.Notify.{Notify}
 use Rattle.loom_objects.specs.declared.rt.thread.State.TheVariants.{Runnable}
 use Rattle.loom_objects.specs.declared.rt.thread.Thread.{Thread}
-use Rattle.loom_objects.specs.Locks.{as_notifier, notify}
+use Rattle.loom_objects.specs.Notifiers.{as_notifier, notify}
+use Rattle.loom_objects.specs.declared.rt.sync.Spurious.TheVariants.{Never}
+use Rattle.loom_objects.specs.declared.rt.thread.Name.{Name}
 use Rattle.loom_objects.specs.Moves.{came, with_points, with_active, with_object, with_new, pending_with, releases, tells, wakes_pending}
 use Rattle.loom_objects.specs.Shown.{world_of, Shows, Does}
 use Rattle.loom_objects.specs.Threads.{spawn, child_finish}
@@ -60,41 +62,41 @@ module _ {D : Type 0} (old : RunState D) (n : ℕ) (notifier : Notify) (at : sli
 module _ {D : Type 0} where
   -- a notifier that nobody has notified or waits on
   abbrev pub new_notifier : Object D
-  new_notifier = object.Notify (record { notified = false; waiter = None })
+  new_notifier = object.Notify (record { notified = false; waiter = None; spurious = Never })
 
   -- what is left of a spawn, once there is room, and once it is known how the views move
-  abbrev left_of_spawn : World D → Result Points FailureKind → Tree (Entry D × World D)
-  left_of_spawn w r = do
+  abbrev left_of_spawn : Option Name → World D → Result Points FailureKind → Tree (Entry D × World D)
+  left_of_spawn name w r = do
     points ← came r
-    let child = child_thread (length w.objects)
-    let notifier = object.Notify (record { notified = false; waiter = None })
-    Gives (Answered (reply.Spawned (length w.threads) (length w.objects)), with_new notifier (with_points points (record w { threads = w.threads ++ child ∷ [] })))
+    let child = child_thread name (length w.objects)
+    let notifier = object.Notify (record { notified = false; waiter = None; spurious = Never })
+    Gives (Answered (reply.Spawned (length w.threads) name (length w.objects)), with_new notifier (with_points points (record w { threads = w.threads ++ child ∷ [] })))
 
-  abbrev room_of_spawn : World D → Bool → Tree (Entry D × World D)
-  room_of_spawn w b = do
+  abbrev room_of_spawn : Option Name → World D → Bool → Tree (Entry D × World D)
+  room_of_spawn name w b = do
     _ ← check b TooManyThreads
-    left_of_spawn w (points_after_spawn w.points w.active)
+    left_of_spawn name w (points_after_spawn w.points w.active)
 
-module _ {D : Type 0} (old : RunState D) (mid : Views) (spawned : (p : Points) → ShowsViews p old.views → MovesAs (points_after_spawn p old.active) (Ok tt) mid)
+module _ {D : Type 0} (name : Option Name) (old : RunState D) (mid : Views) (spawned : (p : Points) → ShowsViews p old.views → MovesAs (points_after_spawn p old.active) (Ok tt) mid)
     (room : nat_lt (length old.threads) old.max_threads ≡ true) where
   -- the code's state with the child
   abbrev pub with_child : RunState D → RunState D
-  with_child r = record r { threads = old.threads ++ child_thread (length old.objects) ∷ [] }
+  with_child r = record r { threads = old.threads ++ child_thread name (length old.objects) ∷ [] }
 
   pub spawns : (made : RunState D) → ((w : World D) → Shows w (record old { views = mid }) → Shows (with_new new_notifier w) made)
-      → (new : RunState D) → new ≡ with_child made → (answer : Entry D) → answer ≡ Answered (reply.Spawned (length old.threads) (length old.objects))
-      → Does spawn old (Ok answer) new
+      → (new : RunState D) → new ≡ with_child made → (answer : Entry D) → answer ≡ Answered (reply.Spawned (length old.threads) name (length old.objects))
+      → Does (spawn name) old (Ok answer) new
   spawns made adds new is answer answer_is w shown =
       let q = moved (points_after_spawn w.points old.active) mid (spawned w.points shown.views) in
       let m = adds (world_of q.0 (record old { views = mid })) (record { views = q.2; rest = refl }) in
       let points : Points = (with_new new_notifier (world_of q.0 old)).points in
-      let told : Entry D = Answered (reply.Spawned (length old.threads) (length old.objects)) in (
+      let told : Entry D = Answered (reply.Spawned (length old.threads) name (length old.objects)) in (
         world_of points new,
         record { views = subst (λ (r : RunState D). ShowsViews points r.views) (sym is) m.views; rest = refl },
-        ap spawn shown.rest
-            ∙ ap (room_of_spawn (world_of w.points old)) room
-            ∙ ap (left_of_spawn (world_of w.points old)) q.1
-            ∙ ap (λ (v : World D). Gives (told, record v { threads = old.threads ++ child_thread (length old.objects) ∷ [] })) m.rest
+        ap (spawn name) shown.rest
+            ∙ ap (room_of_spawn name (world_of w.points old)) room
+            ∙ ap (left_of_spawn name (world_of w.points old)) q.1
+            ∙ ap (λ (v : World D). Gives (told, record v { threads = old.threads ++ child_thread name (length old.objects) ∷ [] })) m.rest
             ∙ ap (λ (r : RunState D). Gives (told, world_of points r)) (sym is)
             ∙ ap (λ (e : Entry D). Gives (e, world_of points new)) (sym answer_is),
       )

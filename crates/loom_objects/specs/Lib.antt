@@ -5,6 +5,9 @@ pub mod Operation
 pub mod World
 pub mod Moves
 pub mod Locks
+pub mod RwLocks
+pub mod Condvars
+pub mod Notifiers
 pub mod Atomics
 pub mod Cells
 pub mod Counts

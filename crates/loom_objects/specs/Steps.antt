@@ -1,7 +1,7 @@
 -- The tables of the machine: what an operation does up to its branch point, and what it does once its thread is chosen.
 use Rattle.std.specs.Prelude.{ℕ, ◌-◌, Bool, true, false, nat_lt, List, [], ◌∷◌, map, cond, Option, Some, None, slice_get, slice_set, ⊤}
 use Rattle.std.specs.List.{list_all, position_from}
-use Rattle.loom_views.specs.declared.rt.failure.FailureKind.TheVariants.{Assertion, TooManySteps, Misuse}
+use Rattle.loom_views.specs.declared.rt.failure.FailureKind.TheVariants.{Assertion, TooManySteps, Misuse, Unreachable}
 use Rattle.loom_objects.specs.declared.operation.Op.{Op}
 use Rattle.loom_objects.specs.declared.operation.Op.TheVariants as op
 use Rattle.loom_objects.specs.declared.operation.Reply.{Reply}
@@ -16,7 +16,7 @@ use Rattle.loom_objects.specs.declared.rt.thread.State.{State}
 use Rattle.loom_objects.specs.declared.rt.thread.State.TheVariants.{Runnable, Ended}
 use Rattle.loom_objects.specs.declared.rt.thread.Thread.{Thread}
 use Rattle.loom_objects.specs.declared.rt.thread.Task.{Task}
-use Rattle.loom_objects.specs.declared.rt.thread.Task.TheVariants.{Start, Body, Access, Count, TryUnwrap, Lock, Join, Finish}
+use Rattle.loom_objects.specs.declared.rt.thread.Task.TheVariants.{Start, Body, Continue, Access, Count, TryUnwrap, Lock, TryLock, Claim, Wait, Relock, Wake, Notify, Await, Rouse, Join, Finish}
 use Rattle.loom_objects.specs.Tree.{Tree, Gives, Fails, ◌>>=◌, check, found}
 use Rattle.loom_objects.specs.World.{World}
 use Rattle.loom_objects.specs.Moves.{with_active}
@@ -57,8 +57,12 @@ module _ {D : Type 0} where
   op_begins (op.Arc todo place) w = arc_begins todo w
   op_begins (op.Track todo place) w = track_begins todo w
   op_begins (op.Mutex todo place) w = mutex_begins todo w
+  op_begins (op.RwLock todo place) w = Fails Misuse
+  op_begins (op.Condvar todo place) w = Fails Misuse
+  op_begins (op.Notify todo place) w = Fails Misuse
   op_begins (op.Thread todo place) w = thread_begins todo w
   op_begins (op.Fail place) w = Fails Assertion
+  op_begins (op.Unreachable place) w = Fails Unreachable
 
   -- an operation that is handed over is counted before anything else
   abbrev pub begins : Op D ⊤ → World D → Tree (Entry D × World D)
@@ -82,8 +86,17 @@ module _ {D : Type 0} where
   abbrev pub takes_effect : Task D → World D → Tree (Passed D × World D)
   takes_effect Start w = turned (turn.Start w.active, w)
   takes_effect Body w = Fails Misuse
+  takes_effect Continue w = Fails Misuse
   takes_effect (Access access) w = turns_by (takes_place access) w
-  takes_effect (Lock n) w = turns_by (lock n) w
+  takes_effect (Lock locking n) w = turns_by (lock locking n) w
+  takes_effect (TryLock n) w = Fails Misuse
+  takes_effect (Claim claim n) w = Fails Misuse
+  takes_effect (Wait locking n m value) w = Fails Misuse
+  takes_effect (Relock locking m) w = Fails Misuse
+  takes_effect (Wake waking n) w = Fails Misuse
+  takes_effect (Notify n) w = Fails Misuse
+  takes_effect (Await n) w = Fails Misuse
+  takes_effect (Rouse n) w = Fails Misuse
   takes_effect (Count todo n) w = turns_by (counts todo n) w
   takes_effect (TryUnwrap n) w = tries_unwrap n w
   takes_effect (Join t n) w = turns_by (join t n) w

@@ -1,5 +1,6 @@
 -- The state of the machine.
-use Rattle.std.specs.Prelude.{ℕ, List, [], ◌∷◌, Some, None}
+use Rattle.std.specs.Prelude.{ℕ, false, List, [], ◌∷◌, Option, Some, None}
+use Rattle.loom_objects.specs.declared.rt.thread.Name.{Name}
 use Rattle.loom_views.specs.Table.{Points, opening as first_points}
 use Rattle.loom_objects.specs.declared.rt.object.Object.{Object}
 use Rattle.loom_objects.specs.declared.rt.thread.Thread.{Thread}
@@ -21,11 +22,11 @@ pub record World (D : Type 0) : Type 0 where
 module _ {D : Type 0} where
   -- main, before its first operation
   abbrev pub main_thread : Thread D
-  main_thread = record { state = Runnable; phase = Working; task = Body; notifier = None; result = None }
+  main_thread = record { state = Runnable; phase = Working; task = Body; notifier = None; result = None; yields = 0; has_token = false; name = None }
 
-  -- a thread that was spawned, with a notifier of its own
-  abbrev pub child_thread : ℕ → Thread D
-  child_thread notifier = record { state = Runnable; phase = Working; task = Start; notifier = Some notifier; result = None }
+  -- a thread that was spawned, with this name or none, and with a notifier of its own
+  abbrev pub child_thread : Option Name → ℕ → Thread D
+  child_thread name notifier = record { state = Runnable; phase = Working; task = Start; notifier = Some notifier; result = None; yields = 0; has_token = false; name = name }
 
   -- main is about to hand over its first operation
   abbrev pub opening : ℕ → ℕ → World D

@@ -1,5 +1,5 @@
 ghost use Rattle.std.specs.Prelude.{◌≡◌};
-ghost use Rattle.loom_objects.specs.Failing.{fails};
+ghost use Rattle.loom_objects.specs.Failing.{failure_of};
 
 use crate::rt::location::Location;
 use loom_views::rt::failure::FailureKind;
@@ -32,11 +32,11 @@ impl fmt::Display for Failure {
 }
 
 /// The run fails by this kind.
-pub fn fail<T>(kind: FailureKind) -> Result<T, Stop>
-    ensures { result ≡ fails kind }
+pub fn failed(kind: FailureKind) -> Stop
+    ensures { result ≡ failure_of kind }
 {
-    Err(Stop::Failure(Failure {
+    Stop::Failure(Failure {
         kind,
         location: None,
-    }))
+    })
 }

@@ -2,6 +2,7 @@ ghost use Rattle.std.specs.Prelude.{◌≡◌};
 ghost use Rattle.loom_objects.specs.Operation.{plain, plain_thread, started, started_thread, placed, accessed};
 
 use crate::rt::location::Location;
+use crate::rt::thread::Name;
 use loom_views::rt::change::Change;
 use loom_views::rt::num::Numbers;
 use std::sync::atomic::Ordering;
@@ -17,9 +18,14 @@ pub enum Op<D, S> {
     Arc(ArcOp<D>, Option<Location>),
     Track(TrackOp<D>, Option<Location>),
     Mutex(MutexOp<D>, Option<Location>),
+    RwLock(RwLockOp<D>, Option<Location>),
+    Condvar(CondvarOp<D>, Option<Location>),
+    Notify(NotifyOp, Option<Location>),
     Thread(ThreadOp<D, S>, Option<Location>),
     /// The body's own assertion failed.
     Fail(Option<Location>),
+    /// Code was reached that never is.
+    Unreachable(Option<Location>),
 }
 
 /// The operations of an atomic, whose values are the `u64` that stands for them. A value is cast to the type of what the
@@ -121,16 +127,77 @@ pub enum TrackOp<D> {
 pub enum MutexOp<D> {
     New(D),
     Lock(usize),
+    /// A lock that doesn't wait.
+    TryLock(usize),
     /// The mutex, and the data that goes back into it.
     Release(usize, D),
+    /// Answers the data, while nobody holds the mutex.
+    GetMut(usize),
+    /// The data that goes back after that.
+    Put(usize, D),
+    /// Answers the data, after which the mutex is no more.
+    IntoInner(usize),
+}
+
+/// The operations of a read-write lock.
+#[derive(Drop)]
+pub enum RwLockOp<D> {
+    New(D),
+    /// A thread more reads.
+    Read(usize),
+    /// The same, without waiting.
+    TryRead(usize),
+    /// A guard of the thread for reading ends.
+    ReadRelease(usize),
+    /// The thread alone writes.
+    Write(usize),
+    /// The same, without waiting.
+    TryWrite(usize),
+    /// The thread writes no more: the lock, and the data that goes back into it.
+    WriteRelease(usize, D),
+    /// Answers the data, while nobody holds the lock.
+    GetMut(usize),
+    /// The data that goes back after that.
+    Put(usize, D),
+    /// Answers the data, after which the lock is no more.
+    IntoInner(usize),
+}
+
+/// The operations of a condition variable.
+#[derive(Drop)]
+pub enum CondvarOp<D> {
+    New,
+    /// The condition variable, the mutex that the thread holds, and the data that goes back into it.
+    Wait(usize, usize, D),
+    /// The same, by the call that has a time; no time runs out.
+    WaitTimeout(usize, usize, D),
+    NotifyOne(usize),
+    NotifyAll(usize),
+}
+
+/// The operations of a notifier.
+#[derive(Clone, Copy, Debug)]
+pub enum NotifyOp {
+    New,
+    Notify(usize),
+    Wait(usize),
 }
 
 /// The operations of threads.
 #[derive(Drop)]
 pub enum ThreadOp<D, S> {
-    Spawn(S),
+    /// What it runs, and its name.
+    Spawn(S, Option<Name>),
     /// A thread, and its notifier.
     Join(u8, usize),
+    /// Answers which thread it is.
+    Current,
+    /// Waits for a token.
+    Park,
+    /// Gives a thread a token.
+    Unpark(u8),
+    /// Lets other threads go on first.
+    Yield,
     /// The thread's result.
     Finish(D),
     /// The thread gives its locals back.
@@ -169,8 +236,24 @@ pub enum Reply<D> {
     Mutex(usize),
     /// A mutex that the thread holds now, and its data.
     Locked(usize, D),
-    /// A new thread, and the notifier that it notifies when it finishes.
-    Spawned(u8, usize),
+    /// The same after a wait with a time, and whether the time ran out.
+    Waited(usize, D, bool),
+    /// The lock is held, and wasn't waited for.
+    WouldBlock,
+    /// A new read-write lock.
+    RwLock(usize),
+    /// A lock that the thread reads now, and a copy of its data.
+    ReadLocked(usize, D),
+    /// A lock that the thread writes now, and its data.
+    WriteLocked(usize, D),
+    /// A new condition variable.
+    Condvar(usize),
+    /// A new notifier.
+    Notify(usize),
+    /// The thread itself, and its name.
+    Thread(u8, Option<Name>),
+    /// A new thread, its name, and the notifier that it notifies when it finishes.
+    Spawned(u8, Option<Name>, usize),
 }
 
 /// Whose turn it is now, or how the run ended.
@@ -196,8 +279,12 @@ impl<D, S> Op<D, S> {
             Op::Arc(op, _) => Op::Arc(op, Some(location)),
             Op::Track(op, _) => Op::Track(op, Some(location)),
             Op::Mutex(op, _) => Op::Mutex(op, Some(location)),
+            Op::RwLock(op, _) => Op::RwLock(op, Some(location)),
+            Op::Condvar(op, _) => Op::Condvar(op, Some(location)),
+            Op::Notify(op, _) => Op::Notify(op, Some(location)),
             Op::Thread(op, _) => Op::Thread(op, Some(location)),
             Op::Fail(_) => Op::Fail(Some(location)),
+            Op::Unreachable(_) => Op::Unreachable(Some(location)),
         }
     }
 
@@ -213,7 +300,11 @@ impl<D, S> Op<D, S> {
             Op::Arc(op, place) => (Op::Arc(op, place), None),
             Op::Track(op, place) => (Op::Track(op, place), None),
             Op::Mutex(op, place) => (Op::Mutex(op, place), None),
+            Op::RwLock(op, place) => (Op::RwLock(op, place), None),
+            Op::Condvar(op, place) => (Op::Condvar(op, place), None),
+            Op::Notify(op, place) => (Op::Notify(op, place), None),
             Op::Fail(place) => (Op::Fail(place), None),
+            Op::Unreachable(place) => (Op::Unreachable(place), None),
             Op::Thread(op, place) => {
                 let (op, body) = op.split();
                 (Op::Thread(op, place), body)
@@ -248,8 +339,12 @@ impl<D, S> ThreadOp<D, S> {
         ensures started { result.1 ≡ started_thread self }
     {
         match self {
-            ThreadOp::Spawn(body) => (ThreadOp::Spawn(()), Some(body)),
+            ThreadOp::Spawn(body, name) => (ThreadOp::Spawn((), name), Some(body)),
             ThreadOp::Join(thread, notifier) => (ThreadOp::Join(thread, notifier), None),
+            ThreadOp::Current => (ThreadOp::Current, None),
+            ThreadOp::Park => (ThreadOp::Park, None),
+            ThreadOp::Unpark(thread) => (ThreadOp::Unpark(thread), None),
+            ThreadOp::Yield => (ThreadOp::Yield, None),
             ThreadOp::Finish(value) => (ThreadOp::Finish(value), None),
             ThreadOp::Exit => (ThreadOp::Exit, None),
             ThreadOp::End => (ThreadOp::End, None),

@@ -91,7 +91,7 @@ module _ {D : Type 0} where
 
   -- the thread that was spawned, and its notifier
   abbrev pub join_handle : Reply D → Option JoinHandle
-  join_handle (Spawned thread notifier) = Some (record { thread = thread; notifier = notifier })
+  join_handle (Spawned thread name notifier) = Some (record { thread = thread; notifier = notifier })
   join_handle _ = None
 
 -- a compare-exchange of the atomic of this number

@@ -19,7 +19,7 @@ impl JoinHandle {
         ensures { result ≡ join_handle reply.now }
     {
         match reply {
-            Reply::Spawned(thread, notifier) => Some(JoinHandle {
+            Reply::Spawned(thread, _, notifier) => Some(JoinHandle {
                 thread: *thread,
                 notifier: *notifier,
             }),
@@ -37,9 +37,9 @@ impl JoinHandle {
 
 /// A new thread, whose code is this body (loom's `thread.rs`).
 pub fn spawn<D, S>(body: S) -> Op<D, S>
-    ensures { result ≡ Op.Thread (ThreadOp.Spawn body) None }
+    ensures { result ≡ Op.Thread (ThreadOp.Spawn body None) None }
 {
-    Op::Thread(ThreadOp::Spawn(body), None)
+    Op::Thread(ThreadOp::Spawn(body, None), None)
 }
 
 /// The thread's work is over, with this result: the first of the three operations at a thread's end (own).

@@ -7,7 +7,7 @@ use Rattle.loom_views.specs.Table.{Accessed, points_after_raise, points_after_sp
 use Rattle.loom_views.specs.declared.rt.atomic.Reader.{Reader}
 use Rattle.loom_views.specs.declared.rt.atomic.Reader.TheVariants as reader
 use Rattle.loom_views.specs.declared.rt.failure.FailureKind.{FailureKind}
-use Rattle.loom_views.specs.declared.rt.failure.FailureKind.TheVariants.{Assertion, Deadlock, LeakArc, LeakTrack, Misuse, NotDeterministic, RelaxedFence, TooManySteps, TooManyThreads, OpenAccess}
+use Rattle.loom_views.specs.declared.rt.failure.FailureKind.TheVariants.{Unreachable, Assertion, Deadlock, LeakArc, LeakTrack, Misuse, NotDeterministic, RelaxedFence, TooManySteps, TooManyThreads, OpenAccess}
 use Rattle.loom_objects.specs.declared.choice.Choice.{Choice}
 use Rattle.loom_objects.specs.declared.choice.Choice.TheVariants as choice
 use Rattle.loom_objects.specs.declared.operation.AtomicOp.{AtomicOp}
@@ -38,7 +38,7 @@ use Rattle.loom_objects.specs.declared.rt.sync.Track.{Track}
 use Rattle.loom_objects.specs.declared.rt.thread.Counting.{Counting}
 use Rattle.loom_objects.specs.declared.rt.thread.Counting.TheVariants as counting
 use Rattle.loom_objects.specs.declared.rt.sync.Cell.{Cell}
-use Rattle.loom_objects.specs.declared.rt.run.Entry.TheVariants.{Answered, AtBranch}
+use Rattle.loom_objects.specs.declared.rt.run.Entry.TheVariants.{Answered, AtBranch, Spurious as AtSpurious}
 use Rattle.loom_objects.specs.declared.rt.thread.Task.{Task}
 use Rattle.loom_objects.specs.declared.rt.thread.Task.TheVariants as task
 use Rattle.loom_objects.specs.declared.rt.thread.Thread.{Thread}
@@ -47,7 +47,9 @@ use Rattle.loom_objects.specs.Counts.{an_arc, arc_begins, as_arc, comes_to as co
 use Rattle.loom_objects.specs.Leaks.{check_leak, first_leak, first_of, leak_of}
 use Rattle.loom_objects.specs.Tracks.{a_track, as_track, track_begins, track_take, tracked_value}
 use Rattle.loom_objects.specs.Cells.{a_cell, as_cell, cell_begins, data_left, is_free as is_free_cell, is_unread, reads_open, records_read, records_write, result_of}
-use Rattle.loom_objects.specs.Locks.{mutex_begins, as_notifier, lock}
+use Rattle.loom_objects.specs.Locks.{mutex_begins, lock, sets_free}
+use Rattle.loom_objects.specs.Notifiers.{as_notifier}
+use Rattle.loom_objects.specs.declared.rt.thread.Locking.{Locking}
 use Rattle.loom_objects.specs.Moves.{as_mutex, came, free_value, is_number, raises, with_active, with_points}
 use Rattle.loom_objects.specs.Operation.{accessed}
 use Rattle.loom_objects.specs.Question.{Among, made_of, slots}
@@ -85,12 +87,18 @@ checked_comes None next fair h = h
 checked_comes (Some kind) next fair h = comes_not kind fair
 
 module _ {D : Type 0} where
+  free_comes : (n : ℕ) (value : D) (w : World D) → Comes Anything (sets_free n value w)
+  free_comes n value w = found_comes (as_mutex (slice_get w.objects n)) _ _ misuse (λ mutex. check_comes (is_number mutex.holder w.active) _ _ misuse (comes_to _ tt))
+
   mutex_comes : (todo : MutexOp D) (w : World D) → Comes Anything (mutex_begins todo w)
   mutex_comes (mutex_op.New value) w = comes_to _ tt
   mutex_comes (mutex_op.Lock n) w =
       found_comes (as_mutex (slice_get w.objects n)) _ _ misuse (λ mutex. found_comes (slice_get w.threads w.active) _ _ misuse (λ thread. comes_to _ tt))
-  mutex_comes (mutex_op.Release n value) w =
-      found_comes (as_mutex (slice_get w.objects n)) _ _ misuse (λ mutex. check_comes (is_number mutex.holder w.active) _ _ misuse (comes_to _ tt))
+  mutex_comes (mutex_op.Release n value) w = then_comes {Q = Anything} _ _ (free_comes n value w) (λ freed q. comes_to _ tt)
+  mutex_comes (mutex_op.TryLock n) w = comes_not Misuse misuse
+  mutex_comes (mutex_op.GetMut n) w = comes_not Misuse misuse
+  mutex_comes (mutex_op.Put n value) w = comes_not Misuse misuse
+  mutex_comes (mutex_op.IntoInner n) w = comes_not Misuse misuse
 
   atomic_found : {B : Type 0} {P : B → Type 0} (n : ℕ) (w : World D) (next : Atomic → Tree B) → ((atomic : Atomic) → Comes P (next atomic)) → Comes P (an_atomic n w >>= next)
   atomic_found n w next h = found_comes (as_atomic (slice_get w.objects n)) _ _ misuse h
@@ -168,13 +176,17 @@ module _ {D : Type 0} where
   finish_comes (Some n) thread value w = comes_to _ tt
 
   thread_comes : (todo : ThreadOp D ⊤) (w : World D) → Comes Anything (thread_begins todo w)
-  thread_comes (thread_op.Spawn body) w =
+  thread_comes (thread_op.Spawn body name) w =
       check_comes (nat_lt (length w.threads) w.max_threads) TooManyThreads _ (λ e. cc)
       (came_comes (points_after_spawn w.points w.active) _ (spawn_fair w.points w.active) (λ points. comes_to _ tt))
   thread_comes (thread_op.Join t n) w =
       check_comes (has_own (slice_get w.threads t) n) _ _ misuse
       (found_comes (as_notifier (slice_get w.objects n)) _ _ misuse
       (λ notifier. check_comes (is_none notifier.waiter) _ _ misuse (found_comes (slice_get w.threads w.active) _ _ misuse (λ thread. comes_to _ tt))))
+  thread_comes thread_op.Current w = comes_not Misuse misuse
+  thread_comes thread_op.Park w = comes_not Misuse misuse
+  thread_comes (thread_op.Unpark t) w = comes_not Misuse misuse
+  thread_comes thread_op.Yield w = comes_not Misuse misuse
   thread_comes (thread_op.Finish value) w =
       found_comes (slice_get w.threads w.active) _ _ misuse (λ thread. check_comes (is_working thread.phase) _ _ misuse (finish_comes thread.notifier thread value w))
   thread_comes thread_op.Exit w = found_comes (slice_get w.threads w.active) _ _ misuse (λ thread. check_comes (is_finished thread.phase) _ _ misuse (comes_to _ tt))
@@ -219,8 +231,12 @@ module _ {D : Type 0} where
   op_comes (op.Arc todo place) w = arc_comes todo w
   op_comes (op.Track todo place) w = track_comes todo w
   op_comes (op.Mutex todo place) w = mutex_comes todo w
+  op_comes (op.RwLock todo place) w = comes_not Misuse misuse
+  op_comes (op.Condvar todo place) w = comes_not Misuse misuse
+  op_comes (op.Notify todo place) w = comes_not Misuse misuse
   op_comes (op.Thread todo place) w = thread_comes todo w
   op_comes (op.Fail place) w = comes_not Assertion (λ e. cc)
+  op_comes (op.Unreachable place) w = comes_not Unreachable (λ e. cc)
 
   begins_comes : (todo : Op D ⊤) (w : World D) → Comes Anything (begins todo w)
   begins_comes todo w = check_comes (nat_lt 0 w.steps_left) TooManySteps _ (λ e. cc) (op_comes todo _)
@@ -230,8 +246,8 @@ module _ {D : Type 0} where
   told_comes : (answered : Reply D × World D) → Comes IsGoing (told answered)
   told_comes (reply, w) = comes_to _ tt
 
-  lock_comes : (n : ℕ) (w : World D) → Comes Anything (lock n w)
-  lock_comes n w = found_comes (as_mutex (slice_get w.objects n)) _ _ misuse (λ mutex. found_comes (free_value mutex) _ _ misuse (λ value. comes_to _ tt))
+  lock_comes : (locking : Locking) (n : ℕ) (w : World D) → Comes Anything (lock locking n w)
+  lock_comes locking n w = found_comes (as_mutex (slice_get w.objects n)) _ _ misuse (λ mutex. found_comes (free_value mutex) _ _ misuse (λ value. comes_to _ tt))
 
   child_finish_comes : (n : ℕ) (value : D) (w : World D) → Comes Anything (child_finish n value w)
   child_finish_comes n value w =
@@ -363,8 +379,17 @@ module _ {D : Type 0} where
   effect_event : (todo : Task D) (w : World D) → IsPass (takes_effect todo w)
   effect_event task.Start w = goes _ tt
   effect_event task.Body w = fails Misuse misuse
+  effect_event task.Continue w = fails Misuse misuse
   effect_event (task.Access access) w = turned_pass _ (access_event access w)
-  effect_event (task.Lock n) w = replies_pass (lock n w) (lock_comes n w)
+  effect_event (task.Lock locking n) w = replies_pass (lock locking n w) (lock_comes locking n w)
+  effect_event (task.TryLock n) w = fails Misuse misuse
+  effect_event (task.Claim claim n) w = fails Misuse misuse
+  effect_event (task.Wait locking n m value) w = fails Misuse misuse
+  effect_event (task.Relock locking m) w = fails Misuse misuse
+  effect_event (task.Wake waking n) w = fails Misuse misuse
+  effect_event (task.Notify n) w = fails Misuse misuse
+  effect_event (task.Await n) w = fails Misuse misuse
+  effect_event (task.Rouse n) w = fails Misuse misuse
   effect_event (task.Count todo n) w = replies_pass (counts todo n w) (counts_comes todo n w)
   effect_event (task.TryUnwrap n) w = going_event _ (unwrap_comes n w)
   effect_event (task.Join t n) w = replies_pass (join t n w) (join_comes t n w)
@@ -384,6 +409,8 @@ module _ {D : Type 0} where
   leak_fair (object.Atomic atomic) = tt
   leak_fair (object.Cell cell) = tt
   leak_fair (object.Mutex mutex) = tt
+  leak_fair (object.RwLock lock) = tt
+  leak_fair (object.Condvar condvar) = tt
   leak_fair (object.Notify notifier) = tt
 
   first_fair : (objects : List (Object D)) → IsFairLeak (first_leak objects)
@@ -438,6 +465,7 @@ module _ {D : Type 0} where
   goes_on_event : (entered : Entry D × World D) → IsEvent (goes_on entered)
   goes_on_event (Answered reply, w) = going_event _ (told_comes (reply, w))
   goes_on_event (AtBranch, w) = schedule_event further_branches w
+  goes_on_event (AtSpurious n, w) = fails Misuse misuse
 
   pub submit_event : (todo : Op D ⊤) (w : World D) → IsEvent (submit todo w)
   submit_event todo w = then_event (begins todo w) goes_on (begins_comes todo w) (λ entered q. goes_on_event entered)

@@ -10,7 +10,7 @@ ghost use Rattle.loom_engine.specs.Routes.{Says, which_store};
 
 use crate::rt::path::Path;
 use loom_objects::data::Data;
-use loom_objects::failure::{Failure, Stop, fail};
+use loom_objects::failure::{Failure, Stop, failed};
 use loom_objects::operation::{Op, Turn};
 use loom_objects::rt::run::{Entry, Passed, Resumed, RunState};
 use loom_views::rt::failure::FailureKind;
@@ -110,6 +110,7 @@ fn hand_over<D: Data>(
         Err(stop) => Err(stop),
         Ok(Entry::Answered(reply)) => Ok(Turn::Reply(run.active, reply)),
         Ok(Entry::AtBranch) => schedule(run, path, FURTHER_BRANCHES),
+        Ok(Entry::Spurious(_)) => Err(failed(FailureKind::Misuse)),
     }
 }
 
@@ -126,7 +127,7 @@ fn schedule<D: Drop>(run: &mut RunState<D>, path: &mut Path, more: u8) -> Result
         Ok(Passed::Turn(turn)) => Ok(turn),
         Ok(Passed::AtBranch) => {
             if more == 0 {
-                return fail(FailureKind::Misuse);
+                return Err(failed(FailureKind::Misuse));
             }
             schedule(run, path, more - 1)
         }
@@ -191,10 +192,10 @@ fn close<D: Drop>(run: &mut RunState<D>, path: &Path) -> Result<Turn<D>, Stop>
     ensures steps { run.new.steps_left ≡ run.old.steps_left }
 {
     if !run.all_ended() {
-        return fail(FailureKind::Deadlock);
+        return Err(failed(FailureKind::Deadlock));
     }
     if !path.is_used_up() {
-        return fail(FailureKind::NotDeterministic);
+        return Err(failed(FailureKind::NotDeterministic));
     }
     run.end_run()
 }

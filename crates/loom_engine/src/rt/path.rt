@@ -8,7 +8,7 @@ ghost use Rattle.loom_engine.specs.Trees.Drive.{is_used_up, new_node};
 
 use crate::rt::node::{Load, Node, Schedule, Spurious};
 use loom_objects::choice::Choice;
-use loom_objects::failure::{Stop, fail};
+use loom_objects::failure::{Stop, failed};
 use loom_objects::rt::thread::Ability;
 use loom_views::rt::failure::FailureKind;
 use std::alloc::{AllocError, Global};
@@ -116,19 +116,19 @@ impl Path {
     {
         if self.position < self.nodes.len() {
             let Node::Schedule(schedule) = self.nodes[self.position] else {
-                return fail(FailureKind::NotDeterministic);
+                return Err(failed(FailureKind::NotDeterministic));
             };
             if !schedule.meets(active, abilities) {
-                return fail(FailureKind::NotDeterministic);
+                return Err(failed(FailureKind::NotDeterministic));
             }
             self.position += 1;
             return Ok(schedule.active());
         }
         if self.is_full() {
-            return fail(FailureKind::TooManyBranches);
+            return Err(failed(FailureKind::TooManyBranches));
         }
         let Some(schedule) = new_schedule(active, abilities, self.given_here()) else {
-            return fail(FailureKind::NotDeterministic);
+            return Err(failed(FailureKind::NotDeterministic));
         };
         match self.lengthen(Node::Schedule(schedule)) {
             Ok(()) => Ok(schedule.active()),
@@ -148,18 +148,18 @@ impl Path {
     {
         if self.position < self.nodes.len() {
             let Node::Load(load) = self.nodes[self.position] else {
-                return fail(FailureKind::NotDeterministic);
+                return Err(failed(FailureKind::NotDeterministic));
             };
             if !load.meets(readable) {
-                return fail(FailureKind::NotDeterministic);
+                return Err(failed(FailureKind::NotDeterministic));
             }
             return Ok(());
         }
         if self.is_full() {
-            return fail(FailureKind::TooManyBranches);
+            return Err(failed(FailureKind::TooManyBranches));
         }
         let Some(load) = new_load(readable, self.given_here()) else {
-            return fail(FailureKind::NotDeterministic);
+            return Err(failed(FailureKind::NotDeterministic));
         };
         match self.push(Node::Load(load)) {
             Ok(()) => Ok(()),
@@ -173,10 +173,10 @@ impl Path {
         ensures { PassesLoad self.old result self.new }
     {
         if self.position >= self.nodes.len() {
-            return fail(FailureKind::NotDeterministic);
+            return Err(failed(FailureKind::NotDeterministic));
         }
         let Node::Load(load) = self.nodes[self.position] else {
-            return fail(FailureKind::NotDeterministic);
+            return Err(failed(FailureKind::NotDeterministic));
         };
         self.position += 1;
         Ok(load.slot())
@@ -190,19 +190,19 @@ impl Path {
     {
         if self.position < self.nodes.len() {
             let Node::Spurious(spurious) = self.nodes[self.position] else {
-                return fail(FailureKind::NotDeterministic);
+                return Err(failed(FailureKind::NotDeterministic));
             };
             if !spurious.meets() {
-                return fail(FailureKind::NotDeterministic);
+                return Err(failed(FailureKind::NotDeterministic));
             }
             self.position += 1;
             return Ok(spurious.answer);
         }
         if self.is_full() {
-            return fail(FailureKind::TooManyBranches);
+            return Err(failed(FailureKind::TooManyBranches));
         }
         let Some(spurious) = new_spurious(self.given_here()) else {
-            return fail(FailureKind::NotDeterministic);
+            return Err(failed(FailureKind::NotDeterministic));
         };
         match self.lengthen(Node::Spurious(spurious)) {
             Ok(()) => Ok(spurious.answer),

@@ -6,7 +6,7 @@ ghost use Rattle.loom_objects.specs.Shown.{Does, DoesAt, Comes, Shows, IsSound, 
 ghost use Rattle.loom_objects.specs.Steps.{turns_by};
 ghost use Rattle.loom_objects.specs.declared.choice.Choice.{Choice};
 
-use crate::failure::{Stop, fail};
+use crate::failure::{Stop, failed};
 use crate::operation::{AtomicOp, Exchange, Reply, Turn};
 use crate::rt::object::Object;
 use crate::rt::run::{Entry, Loading, Resumed, RunState};
@@ -110,11 +110,11 @@ impl<D: Drop> RunState<D> {
         ensures steps { self.new.steps_left ≡ self.old.steps_left }
     {
         let Some(_) = self.atomic_at(number) else {
-            return fail(FailureKind::Misuse);
+            return Err(failed(FailureKind::Misuse));
         };
         match self.views.unsync_load(self.active as usize, number) {
             Ok(value) => Ok(Entry::Answered(Reply::Value(value))),
-            Err(kind) => fail(kind),
+            Err(kind) => Err(failed(kind)),
         }
     }
 
@@ -126,7 +126,7 @@ impl<D: Drop> RunState<D> {
         ensures steps { self.new.steps_left ≡ self.old.steps_left }
     {
         let Some(atomic) = self.atomic_at(number) else {
-            return fail(FailureKind::Misuse);
+            return Err(failed(FailureKind::Misuse));
         };
         match self.views.unsync_load(self.active as usize, number) {
             Ok(value) => {
@@ -139,7 +139,7 @@ impl<D: Drop> RunState<D> {
                 );
                 Ok(Entry::Answered(Reply::Value(value)))
             }
-            Err(kind) => fail(kind),
+            Err(kind) => Err(failed(kind)),
         }
     }
 
@@ -151,7 +151,7 @@ impl<D: Drop> RunState<D> {
         ensures steps { self.new.steps_left ≡ self.old.steps_left }
     {
         let Some(atomic) = self.atomic_at(number) else {
-            return fail(FailureKind::Misuse);
+            return Err(failed(FailureKind::Misuse));
         };
         let active = self.active;
         match self.views.with_mut(active as usize, number) {
@@ -165,7 +165,7 @@ impl<D: Drop> RunState<D> {
                 );
                 Ok(Entry::Answered(Reply::Value(value)))
             }
-            Err(kind) => fail(kind),
+            Err(kind) => Err(failed(kind)),
         }
     }
 
@@ -177,11 +177,11 @@ impl<D: Drop> RunState<D> {
         ensures steps { self.new.steps_left ≡ self.old.steps_left }
     {
         let Some(atomic) = self.atomic_at(number) else {
-            return fail(FailureKind::Misuse);
+            return Err(failed(FailureKind::Misuse));
         };
         let active = self.active;
         if atomic.opened != Some(active) {
-            return fail(FailureKind::Misuse);
+            return Err(failed(FailureKind::Misuse));
         }
         let value = atomic.numbers.fit(value);
         match self.views.with_mut_end(active as usize, number, value) {
@@ -195,7 +195,7 @@ impl<D: Drop> RunState<D> {
                 );
                 Ok(Entry::Answered(Reply::Done))
             }
-            Err(kind) => fail(kind),
+            Err(kind) => Err(failed(kind)),
         }
     }
 
@@ -207,7 +207,7 @@ impl<D: Drop> RunState<D> {
         ensures steps { self.new.steps_left ≡ self.old.steps_left }
     {
         if is_relaxed(order) {
-            return fail(FailureKind::RelaxedFence);
+            return Err(failed(FailureKind::RelaxedFence));
         }
         let active = self.active as usize;
         match self.views.raise(active) {
@@ -215,7 +215,7 @@ impl<D: Drop> RunState<D> {
                 self.views.fence(active, order);
                 Ok(Entry::Answered(Reply::Done))
             }
-            Err(kind) => fail(kind),
+            Err(kind) => Err(failed(kind)),
         }
     }
 
@@ -227,10 +227,10 @@ impl<D: Drop> RunState<D> {
         ensures steps { self.new.steps_left ≡ self.old.steps_left }
     {
         let Some(number) = access.atomic() else {
-            return fail(FailureKind::Misuse);
+            return Err(failed(FailureKind::Misuse));
         };
         let Some(_) = self.atomic_at(number) else {
-            return fail(FailureKind::Misuse);
+            return Err(failed(FailureKind::Misuse));
         };
         let thread = self.threads.at_mut(self.active as usize);
         thread.pend(Task::Access(access), false);
@@ -259,7 +259,7 @@ impl<D: Drop> RunState<D> {
             | AtomicOp::UnsyncLoad(_)
             | AtomicOp::IntoInner(_)
             | AtomicOp::WithMut(_)
-            | AtomicOp::WithMutEnd(..) => fail(FailureKind::Misuse),
+            | AtomicOp::WithMutEnd(..) => Err(failed(FailureKind::Misuse)),
         }
     }
 
@@ -274,15 +274,15 @@ impl<D: Drop> RunState<D> {
         let active = self.active as usize;
         match self.views.raise(active) {
             Ok(()) => {}
-            Err(kind) => return fail(kind),
+            Err(kind) => return Err(failed(kind)),
         }
         let Some(atomic) = self.atomic_at(number) else {
-            return fail(FailureKind::Misuse);
+            return Err(failed(FailureKind::Misuse));
         };
         let value = atomic.numbers.fit(value);
         match self.views.store(active, number, value, order) {
             Ok(()) => Ok(Reply::Done),
-            Err(kind) => fail(kind),
+            Err(kind) => Err(failed(kind)),
         }
     }
 
@@ -299,16 +299,16 @@ impl<D: Drop> RunState<D> {
         let active = self.active as usize;
         match self.views.raise(active) {
             Ok(()) => {}
-            Err(kind) => return fail(kind),
+            Err(kind) => return Err(failed(kind)),
         }
         let Some(_) = self.atomic_at(number) else {
-            return fail(FailureKind::Misuse);
+            return Err(failed(FailureKind::Misuse));
         };
         match self.views.readable(active, number, reader) {
-            Err(kind) => fail(kind),
+            Err(kind) => Err(failed(kind)),
             Ok(readable) => {
                 if !readable.contains(&true) {
-                    return fail(FailureKind::Misuse);
+                    return Err(failed(FailureKind::Misuse));
                 }
                 Ok(Resumed::Load(Loading { access, readable }))
             }
@@ -366,7 +366,7 @@ impl<D: Drop> RunState<D> {
             | AtomicOp::UnsyncLoad(_)
             | AtomicOp::IntoInner(_)
             | AtomicOp::WithMut(_)
-            | AtomicOp::WithMutEnd(..) => fail(FailureKind::Misuse),
+            | AtomicOp::WithMutEnd(..) => Err(failed(FailureKind::Misuse)),
         }
     }
 
@@ -382,7 +382,7 @@ impl<D: Drop> RunState<D> {
         let active = self.active as usize;
         match self.views.load(active, number, slot as usize, order) {
             Ok(value) => Ok(Reply::Value(value)),
-            Err(kind) => fail(kind),
+            Err(kind) => Err(failed(kind)),
         }
     }
 
@@ -402,18 +402,18 @@ impl<D: Drop> RunState<D> {
         ensures no_growth { result ≢ Err Stop.Memory }
     {
         let Some(atomic) = self.atomic_at(number) else {
-            return fail(FailureKind::Misuse);
+            return Err(failed(FailureKind::Misuse));
         };
         let active = self.active as usize;
         let slot = slot as usize;
         let read = match self.views.update_read(active, number, slot) {
             Ok(read) => read,
-            Err(kind) => return fail(kind),
+            Err(kind) => return Err(failed(kind)),
         };
         let value = atomic.numbers.fit(change.apply(atomic.numbers, read));
         match self.views.update_write(active, number, slot, value, order) {
             Ok(()) => Ok(Reply::Value(read)),
-            Err(kind) => fail(kind),
+            Err(kind) => Err(failed(kind)),
         }
     }
 
@@ -433,13 +433,13 @@ impl<D: Drop> RunState<D> {
         ensures no_growth { result ≢ Err Stop.Memory }
     {
         let Some(atomic) = self.atomic_at(number) else {
-            return fail(FailureKind::Misuse);
+            return Err(failed(FailureKind::Misuse));
         };
         let active = self.active as usize;
         let slot = slot as usize;
         let read = match self.views.update_read(active, number, slot) {
             Ok(read) => read,
-            Err(kind) => return fail(kind),
+            Err(kind) => return Err(failed(kind)),
         };
         if read != atomic.numbers.fit(exchange.expected) {
             self.views
@@ -452,7 +452,7 @@ impl<D: Drop> RunState<D> {
             .update_write(active, number, slot, new, exchange.success)
         {
             Ok(()) => Ok(Ok(read)),
-            Err(kind) => fail(kind),
+            Err(kind) => Err(failed(kind)),
         }
     }
 }

@@ -3,7 +3,7 @@ ghost use Rattle.loom_objects.specs.Cells as rules;
 ghost use Rattle.loom_objects.specs.Shown.{Does, IsSound};
 
 use crate::data::Data;
-use crate::failure::{Stop, fail};
+use crate::failure::{Stop, failed};
 use crate::operation::{CellOp, Reply};
 use crate::rt::object::Object;
 use crate::rt::run::{Entry, RunState};
@@ -52,31 +52,31 @@ impl<D: Data> RunState<D> {
     {
         let reader = self.active;
         if number >= self.objects.len() {
-            return fail(FailureKind::Misuse);
+            return Err(failed(FailureKind::Misuse));
         }
         let Object::Cell(cell) = self.objects.at(number) else {
-            return fail(FailureKind::Misuse);
+            return Err(failed(FailureKind::Misuse));
         };
         if cell.is_taken {
-            return fail(FailureKind::Misuse);
+            return Err(failed(FailureKind::Misuse));
         }
         match self.views.raise(reader as usize) {
             Ok(()) => {}
-            Err(kind) => return fail(kind),
+            Err(kind) => return Err(failed(kind)),
         }
         if cell.writer.is_some() {
-            return fail(FailureKind::OpenAccess);
+            return Err(failed(FailureKind::OpenAccess));
         }
         match self.views.read(reader as usize, number) {
             Ok(()) => {}
-            Err(kind) => return fail(kind),
+            Err(kind) => return Err(failed(kind)),
         }
         let Some(value) = &cell.value else {
-            return fail(FailureKind::Misuse);
+            return Err(failed(FailureKind::Misuse));
         };
         let count = cell.reads_open(reader);
         if count == u64::MAX {
-            return fail(FailureKind::TooManySteps);
+            return Err(failed(FailureKind::TooManySteps));
         }
         let entry = reading(number, value)?;
         self.set_reads(number, reader, count + 1);
@@ -88,17 +88,17 @@ impl<D: Data> RunState<D> {
         ensures { Does (rules.cell_deref number) self.now result self.now }
     {
         if number >= self.objects.len() {
-            return fail(FailureKind::Misuse);
+            return Err(failed(FailureKind::Misuse));
         }
         let Object::Cell(cell) = self.objects.at(number) else {
-            return fail(FailureKind::Misuse);
+            return Err(failed(FailureKind::Misuse));
         };
         if cell.is_taken || cell.reads_open(self.active) == 0 {
-            return fail(FailureKind::Misuse);
+            return Err(failed(FailureKind::Misuse));
         }
         match &cell.value {
             Some(value) => copied(value),
-            None => fail(FailureKind::Misuse),
+            None => Err(failed(FailureKind::Misuse)),
         }
     }
 
@@ -111,32 +111,32 @@ impl<D: Data> RunState<D> {
     {
         let active = self.active as usize;
         if number >= self.objects.len() {
-            return fail(FailureKind::Misuse);
+            return Err(failed(FailureKind::Misuse));
         }
         let Object::Cell(cell) = self.objects.at(number) else {
-            return fail(FailureKind::Misuse);
+            return Err(failed(FailureKind::Misuse));
         };
         if cell.is_taken {
-            return fail(FailureKind::Misuse);
+            return Err(failed(FailureKind::Misuse));
         }
         match self.views.raise(active) {
             Ok(()) => {}
-            Err(kind) => return fail(kind),
+            Err(kind) => return Err(failed(kind)),
         }
         if cell.writer.is_some() {
-            return fail(FailureKind::OpenAccess);
+            return Err(failed(FailureKind::OpenAccess));
         }
         match self.views.read(active, number) {
             Ok(()) => {}
-            Err(kind) => return fail(kind),
+            Err(kind) => return Err(failed(kind)),
         }
         let Some(value) = &cell.value else {
-            return fail(FailureKind::Misuse);
+            return Err(failed(FailureKind::Misuse));
         };
         let entry = copied(value)?;
         match self.views.read(active, number) {
             Ok(()) => Ok(entry),
-            Err(kind) => fail(kind),
+            Err(kind) => Err(failed(kind)),
         }
     }
 }
@@ -196,21 +196,21 @@ impl<D: Drop> RunState<D> {
     {
         let active = self.active;
         if number >= self.objects.len() {
-            return fail(FailureKind::Misuse);
+            return Err(failed(FailureKind::Misuse));
         }
         let Object::Cell(cell) = self.objects.at(number) else {
-            return fail(FailureKind::Misuse);
+            return Err(failed(FailureKind::Misuse));
         };
         let count = cell.reads_open(active);
         if cell.is_taken || count == 0 {
-            return fail(FailureKind::Misuse);
+            return Err(failed(FailureKind::Misuse));
         }
         if cell.writer.is_some() {
-            return fail(FailureKind::OpenAccess);
+            return Err(failed(FailureKind::OpenAccess));
         }
         match self.views.read(active as usize, number) {
             Ok(()) => {}
-            Err(kind) => return fail(kind),
+            Err(kind) => return Err(failed(kind)),
         }
         self.set_reads(number, active, count - 1);
         Ok(Entry::Answered(Reply::Done))
@@ -225,28 +225,28 @@ impl<D: Drop> RunState<D> {
     {
         let writer = self.active;
         if number >= self.objects.len() {
-            return fail(FailureKind::Misuse);
+            return Err(failed(FailureKind::Misuse));
         }
         let Object::Cell(cell) = self.objects.at(number) else {
-            return fail(FailureKind::Misuse);
+            return Err(failed(FailureKind::Misuse));
         };
         if cell.is_taken {
-            return fail(FailureKind::Misuse);
+            return Err(failed(FailureKind::Misuse));
         }
         match self.views.raise(writer as usize) {
             Ok(()) => {}
-            Err(kind) => return fail(kind),
+            Err(kind) => return Err(failed(kind)),
         }
         if !cell.is_free() {
-            return fail(FailureKind::OpenAccess);
+            return Err(failed(FailureKind::OpenAccess));
         }
         match self.views.write(writer as usize, number) {
             Ok(()) => {}
-            Err(kind) => return fail(kind),
+            Err(kind) => return Err(failed(kind)),
         }
         match self.exchange_data(number, None, Some(writer)) {
             Some(value) => Ok(Entry::Answered(Reply::Writing(number, value))),
-            None => fail(FailureKind::Misuse),
+            None => Err(failed(FailureKind::Misuse)),
         }
     }
 
@@ -259,20 +259,20 @@ impl<D: Drop> RunState<D> {
     {
         let active = self.active;
         if number >= self.objects.len() {
-            return fail(FailureKind::Misuse);
+            return Err(failed(FailureKind::Misuse));
         }
         let Object::Cell(cell) = self.objects.at(number) else {
-            return fail(FailureKind::Misuse);
+            return Err(failed(FailureKind::Misuse));
         };
         if cell.is_taken || !cell.is_written_by(active) {
-            return fail(FailureKind::Misuse);
+            return Err(failed(FailureKind::Misuse));
         }
         if !cell.is_unread() {
-            return fail(FailureKind::OpenAccess);
+            return Err(failed(FailureKind::OpenAccess));
         }
         match self.views.write(active as usize, number) {
             Ok(()) => {}
-            Err(kind) => return fail(kind),
+            Err(kind) => return Err(failed(kind)),
         }
         self.exchange_data(number, Some(value), None);
         Ok(Entry::Answered(Reply::Done))
@@ -286,17 +286,17 @@ impl<D: Drop> RunState<D> {
         ensures steps { self.new.steps_left ≡ self.old.steps_left }
     {
         if number >= self.objects.len() {
-            return fail(FailureKind::Misuse);
+            return Err(failed(FailureKind::Misuse));
         }
         let Object::Cell(cell) = self.objects.at_mut(number) else {
-            return fail(FailureKind::Misuse);
+            return Err(failed(FailureKind::Misuse));
         };
         if cell.is_taken {
-            return fail(FailureKind::Misuse);
+            return Err(failed(FailureKind::Misuse));
         }
         match cell.take_apart() {
             Ok(value) => Ok(Entry::Answered(Reply::Data(value))),
-            Err(kind) => fail(kind),
+            Err(kind) => Err(failed(kind)),
         }
     }
 
@@ -309,31 +309,31 @@ impl<D: Drop> RunState<D> {
     {
         let active = self.active as usize;
         if number >= self.objects.len() {
-            return fail(FailureKind::Misuse);
+            return Err(failed(FailureKind::Misuse));
         }
         let Object::Cell(cell) = self.objects.at(number) else {
-            return fail(FailureKind::Misuse);
+            return Err(failed(FailureKind::Misuse));
         };
         if cell.is_taken {
-            return fail(FailureKind::Misuse);
+            return Err(failed(FailureKind::Misuse));
         }
         match self.views.raise(active) {
             Ok(()) => {}
-            Err(kind) => return fail(kind),
+            Err(kind) => return Err(failed(kind)),
         }
         if !cell.is_free() {
-            return fail(FailureKind::OpenAccess);
+            return Err(failed(FailureKind::OpenAccess));
         }
         match self.views.write(active, number) {
             Ok(()) => {}
-            Err(kind) => return fail(kind),
+            Err(kind) => return Err(failed(kind)),
         }
         let Some(value) = self.exchange_data(number, Some(new), None) else {
-            return fail(FailureKind::Misuse);
+            return Err(failed(FailureKind::Misuse));
         };
         match self.views.write(active, number) {
             Ok(()) => Ok(Entry::Answered(Reply::Data(value))),
-            Err(kind) => fail(kind),
+            Err(kind) => Err(failed(kind)),
         }
     }
 }

@@ -3,7 +3,7 @@ ghost use Rattle.loom_objects.specs.Counts as rules;
 ghost use Rattle.loom_objects.specs.Shown.{Does, IsSound};
 
 use crate::data::Data;
-use crate::failure::{Stop, fail};
+use crate::failure::{Stop, failed};
 use crate::operation::{ArcOp, Reply, Turn};
 use crate::rt::object::Object;
 use crate::rt::run::{Entry, Passed, RunState};
@@ -47,17 +47,17 @@ impl<D: Data> RunState<D> {
         ensures { Does (rules.arc_get number) self.now result self.now }
     {
         if number >= self.objects.len() {
-            return fail(FailureKind::Misuse);
+            return Err(failed(FailureKind::Misuse));
         }
         let Object::Arc(arc) = self.objects.at(number) else {
-            return fail(FailureKind::Misuse);
+            return Err(failed(FailureKind::Misuse));
         };
         if !arc.is_free() {
-            return fail(FailureKind::Misuse);
+            return Err(failed(FailureKind::Misuse));
         }
         match &arc.value {
             Some(value) => copied(value),
-            None => fail(FailureKind::Misuse),
+            None => Err(failed(FailureKind::Misuse)),
         }
     }
 }
@@ -87,14 +87,14 @@ impl<D: Drop> RunState<D> {
         ensures steps { self.new.steps_left ≡ self.old.steps_left }
     {
         if number >= self.objects.len() {
-            return fail(FailureKind::Misuse);
+            return Err(failed(FailureKind::Misuse));
         }
         let active = self.active;
         let Object::Arc(arc) = self.objects.at_mut(number) else {
-            return fail(FailureKind::Misuse);
+            return Err(failed(FailureKind::Misuse));
         };
         if !arc.put(active, value) {
-            return fail(FailureKind::Misuse);
+            return Err(failed(FailureKind::Misuse));
         }
         Ok(Entry::Answered(Reply::Done))
     }
@@ -125,13 +125,13 @@ impl<D: Drop> RunState<D> {
         ensures steps { self.new.steps_left ≡ self.old.steps_left }
     {
         if number >= self.objects.len() {
-            return fail(FailureKind::Misuse);
+            return Err(failed(FailureKind::Misuse));
         }
         let Object::Arc(arc) = self.objects.at(number) else {
-            return fail(FailureKind::Misuse);
+            return Err(failed(FailureKind::Misuse));
         };
         if arc.count == 0 {
-            return fail(FailureKind::Misuse);
+            return Err(failed(FailureKind::Misuse));
         }
         let thread = self.threads.at_mut(self.active as usize);
         thread.pend(todo, false);
@@ -164,14 +164,14 @@ impl<D: Drop> RunState<D> {
         ensures no_growth { result ≢ Err Stop.Memory }
     {
         if number >= self.objects.len() {
-            return fail(FailureKind::Misuse);
+            return Err(failed(FailureKind::Misuse));
         }
         let Object::Arc(arc) = self.objects.at_mut(number) else {
-            return fail(FailureKind::Misuse);
+            return Err(failed(FailureKind::Misuse));
         };
         match arc.grow() {
             Ok(()) => Ok(Reply::Done),
-            Err(kind) => fail(kind),
+            Err(kind) => Err(failed(kind)),
         }
     }
 
@@ -184,14 +184,14 @@ impl<D: Drop> RunState<D> {
         ensures no_growth { result ≢ Err Stop.Memory }
     {
         if number >= self.objects.len() {
-            return fail(FailureKind::Misuse);
+            return Err(failed(FailureKind::Misuse));
         }
         let active = self.active as usize;
         let Object::Arc(arc) = self.objects.at_mut(number) else {
-            return fail(FailureKind::Misuse);
+            return Err(failed(FailureKind::Misuse));
         };
         match arc.shrink() {
-            Err(kind) => fail(kind),
+            Err(kind) => Err(failed(kind)),
             Ok(None) => {
                 self.views.release(active, number, Ordering::Release);
                 Ok(Reply::Done)
@@ -213,14 +213,14 @@ impl<D: Drop> RunState<D> {
         ensures no_growth { result ≢ Err Stop.Memory }
     {
         if number >= self.objects.len() {
-            return fail(FailureKind::Misuse);
+            return Err(failed(FailureKind::Misuse));
         }
         let active = self.active;
         let Object::Arc(arc) = self.objects.at_mut(number) else {
-            return fail(FailureKind::Misuse);
+            return Err(failed(FailureKind::Misuse));
         };
         match arc.lend(active) {
-            Err(kind) => fail(kind),
+            Err(kind) => Err(failed(kind)),
             Ok(value) => {
                 self.views.acquire(active as usize, number);
                 Ok(shared_unless(value))
@@ -237,13 +237,13 @@ impl<D: Drop> RunState<D> {
         ensures no_growth { result ≢ Err Stop.Memory }
     {
         if number >= self.objects.len() {
-            return fail(FailureKind::Misuse);
+            return Err(failed(FailureKind::Misuse));
         }
         let Object::Arc(arc) = self.objects.at(number) else {
-            return fail(FailureKind::Misuse);
+            return Err(failed(FailureKind::Misuse));
         };
         if !arc.is_free() {
-            return fail(FailureKind::Misuse);
+            return Err(failed(FailureKind::Misuse));
         }
         let is_shared = arc.count != 1;
         let active = self.active;
@@ -265,13 +265,13 @@ impl<D: Drop> RunState<D> {
         ensures no_growth { result ≢ Err Stop.Memory }
     {
         if number >= self.objects.len() {
-            return fail(FailureKind::Misuse);
+            return Err(failed(FailureKind::Misuse));
         }
         let Object::Arc(arc) = self.objects.at(number) else {
-            return fail(FailureKind::Misuse);
+            return Err(failed(FailureKind::Misuse));
         };
         if arc.count != 1 {
-            return fail(FailureKind::Misuse);
+            return Err(failed(FailureKind::Misuse));
         }
         self.decrement(number)
     }
@@ -285,13 +285,13 @@ impl<D: Drop> RunState<D> {
         ensures no_growth { result ≢ Err Stop.Memory }
     {
         if number >= self.objects.len() {
-            return fail(FailureKind::Misuse);
+            return Err(failed(FailureKind::Misuse));
         }
         let Object::Arc(arc) = self.objects.at(number) else {
-            return fail(FailureKind::Misuse);
+            return Err(failed(FailureKind::Misuse));
         };
         if !arc.is_free() {
-            return fail(FailureKind::Misuse);
+            return Err(failed(FailureKind::Misuse));
         }
         let count = arc.count;
         self.views.acquire(self.active as usize, number);

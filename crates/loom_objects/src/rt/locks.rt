@@ -2,14 +2,24 @@ ghost use Rattle.std.specs.Prelude.{◌≡◌, ◌≢◌, Err, ◌+◌};
 ghost use Rattle.loom_objects.specs.Locks as rules;
 ghost use Rattle.loom_objects.specs.Shown.{Does, IsSound};
 
-use crate::failure::{Stop, fail};
+use crate::failure::{Stop, failed};
 use crate::operation::{MutexOp, Reply};
 use crate::rt::object::Object;
 use crate::rt::run::{Entry, RunState};
 use crate::rt::sync::Mutex;
-use crate::rt::thread::Task;
+use crate::rt::thread::{Locking, Task};
 use loom_views::rt::failure::FailureKind;
 use std::sync::atomic::Ordering;
+
+/// What a thread that holds the mutex now is told: no time of a wait runs out.
+fn locked_reply<D>(locking: Locking, number: usize, value: D) -> Reply<D>
+    ensures { result ≡ rules.locked_reply locking number value }
+{
+    match locking {
+        Locking::Untimed => Reply::Locked(number, value),
+        Locking::Timed => Reply::Waited(number, value, false),
+    }
+}
 
 impl<D: Drop> RunState<D> {
     pub(crate) fn mutex_begins(&mut self, op: MutexOp<D>) -> Result<Entry<D>, Stop>
@@ -22,6 +32,10 @@ impl<D: Drop> RunState<D> {
             MutexOp::New(value) => self.mutex_new(value),
             MutexOp::Lock(number) => self.lock_begins(number),
             MutexOp::Release(number, value) => self.release(number, value),
+            MutexOp::TryLock(_) | MutexOp::GetMut(_) | MutexOp::IntoInner(_) => {
+                Err(failed(FailureKind::Misuse))
+            }
+            MutexOp::Put(_, _) => Err(failed(FailureKind::Misuse)),
         }
     }
 
@@ -35,6 +49,8 @@ impl<D: Drop> RunState<D> {
         let mutex = Mutex {
             holder: None,
             value: Some(value),
+            lent: None,
+            is_taken: false,
         };
         self.add_object(Object::Mutex(mutex))?;
         Ok(Entry::Answered(Reply::Mutex(number)))
@@ -48,38 +64,41 @@ impl<D: Drop> RunState<D> {
         ensures steps { self.new.steps_left ≡ self.old.steps_left }
     {
         if number >= self.objects.len() {
-            return fail(FailureKind::Misuse);
+            return Err(failed(FailureKind::Misuse));
         }
         let Object::Mutex(mutex) = self.objects.at(number) else {
-            return fail(FailureKind::Misuse);
+            return Err(failed(FailureKind::Misuse));
         };
+        if mutex.is_taken {
+            return Err(failed(FailureKind::Misuse));
+        }
         let is_held = mutex.holder.is_some();
         let thread = self.threads.at_mut(self.active as usize);
-        thread.pend(Task::Lock(number), is_held);
+        thread.pend(Task::Lock(Locking::Untimed, number), is_held);
         Ok(Entry::AtBranch)
     }
 
     /// The active thread holds the mutex from now on and acquires, and who is pending on it is blocked.
-    pub(crate) fn lock(&mut self, number: usize) -> Result<Reply<D>, Stop>
+    pub(crate) fn lock(&mut self, locking: Locking, number: usize) -> Result<Reply<D>, Stop>
         requires { IsSound self.old }
-        ensures does { Does (rules.lock number) self.old result self.new }
+        ensures does { Does (rules.lock locking number) self.old result self.new }
         ensures sound { IsSound self.new }
         ensures steps { self.new.steps_left ≡ self.old.steps_left }
         ensures no_growth { result ≢ Err Stop.Memory }
     {
         if number >= self.objects.len() {
-            return fail(FailureKind::Misuse);
+            return Err(failed(FailureKind::Misuse));
         }
         let active = self.active;
         let Object::Mutex(mutex) = self.objects.at_mut(number) else {
-            return fail(FailureKind::Misuse);
+            return Err(failed(FailureKind::Misuse));
         };
         match mutex.hold(active) {
-            None => fail(FailureKind::Misuse),
+            None => Err(failed(FailureKind::Misuse)),
             Some(value) => {
                 self.views.acquire(active as usize, number);
                 self.block_pending(number);
-                Ok(Reply::Locked(number, value))
+                Ok(locked_reply(locking, number, value))
             }
         }
     }
@@ -92,15 +111,18 @@ impl<D: Drop> RunState<D> {
         ensures steps { self.new.steps_left ≡ self.old.steps_left }
     {
         if number >= self.objects.len() {
-            return fail(FailureKind::Misuse);
+            return Err(failed(FailureKind::Misuse));
         }
         let active = self.active;
         let Object::Mutex(mutex) = self.objects.at_mut(number) else {
-            return fail(FailureKind::Misuse);
+            return Err(failed(FailureKind::Misuse));
         };
+        if mutex.is_taken {
+            return Err(failed(FailureKind::Misuse));
+        }
         match mutex.holder {
             Some(holder) if holder == active => {}
-            _ => return fail(FailureKind::Misuse),
+            _ => return Err(failed(FailureKind::Misuse)),
         }
         mutex.holder = None;
         mutex.value = Some(value);

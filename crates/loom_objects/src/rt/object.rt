@@ -1,10 +1,12 @@
-use crate::rt::sync::{Arc, Atomic, Cell, Mutex, Notify, Track};
+use crate::rt::sync::{Arc, Atomic, Cell, Condvar, Mutex, Notify, RwLock, Track};
 
 /// An object of a run. Its number is its place in the order of creation (loom's `rt/object.rs`).
 #[derive(Drop)]
 pub enum Object<D> {
     Atomic(Atomic),
     Mutex(Mutex<D>),
+    RwLock(RwLock<D>),
+    Condvar(Condvar),
     Notify(Notify),
     Cell(Cell<D>),
     Arc(Arc<D>),

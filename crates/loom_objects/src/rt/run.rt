@@ -12,6 +12,8 @@ pub enum Entry<D> {
     Answered(Reply<D>),
     /// Its thread has come to a branch point, where a schedule says who goes on.
     AtBranch,
+    /// Its thread is to wait on the notifier of this number, and whether it wakes without a notification is to be chosen.
+    Spurious(usize),
 }
 
 /// An access that reads, whose thread was chosen and has raised its version.

@@ -7,7 +7,7 @@ ghost use Rattle.loom_objects.specs.World.{World, opening};
 ghost use Rattle.loom_objects.specs.Shown.{Does, Shows, IsSound, Resumes, HasSlot, turn_of, world_of};
 
 use crate::data::Data;
-use crate::failure::{Stop, fail};
+use crate::failure::{Stop, failed};
 use crate::operation::{Op, Reply, Turn};
 use crate::rt::object::Object;
 use crate::rt::run::{Entry, Passed, Resumed, RunState};
@@ -26,6 +26,12 @@ fn ability_at<D>(threads: &Sequence<Thread<D>>, place: usize) -> Ability
     } else {
         Ability::Unable
     }
+}
+
+fn has_ended<D>(thread: &Thread<D>) -> bool
+    ensures { result ≡ rules.has_ended thread.now }
+{
+    matches!(thread.state, State::Ended)
 }
 
 /// Answers a copy of the value.
@@ -72,7 +78,7 @@ impl<D: Data> RunState<D> {
         ensures steps { OnOk result (self.old.steps_left ≡ self.new.steps_left + 1) }
     {
         if self.steps_left == 0 {
-            return fail(FailureKind::TooManySteps);
+            return Err(failed(FailureKind::TooManySteps));
         }
         self.steps_left -= 1;
         match op {
@@ -82,8 +88,12 @@ impl<D: Data> RunState<D> {
             Op::Arc(op, _) => self.arc_begins(op),
             Op::Track(op, _) => self.track_begins(op),
             Op::Mutex(op, _) => self.mutex_begins(op),
+            Op::RwLock(_, _) | Op::Condvar(_, _) | Op::Notify(_, _) => Err(failed(
+                FailureKind::Misuse,
+            )),
             Op::Thread(op, _) => self.thread_begins(op),
-            Op::Fail(_) => fail(FailureKind::Assertion),
+            Op::Fail(_) => Err(failed(FailureKind::Assertion)),
+            Op::Unreachable(_) => Err(failed(FailureKind::Unreachable)),
         }
     }
 }
@@ -108,6 +118,9 @@ impl<D: Drop> RunState<D> {
             task: Task::Body,
             notifier: None,
             result: None,
+            yields: 0,
+            has_token: false,
+            name: None,
         })?;
         Ok(RunState {
             threads,
@@ -153,16 +166,25 @@ impl<D: Drop> RunState<D> {
         ensures no_growth { result ≢ Err Stop.Memory }
     {
         if thread as usize >= self.threads.len() {
-            return fail(FailureKind::Misuse);
+            return Err(failed(FailureKind::Misuse));
         }
         self.active = thread;
         let chosen = self.threads.at_mut(thread as usize);
         match mem::replace(&mut chosen.task, Task::Body) {
             Task::Start => Ok(Resumed::Passed(Passed::Turn(Turn::Start(thread)))),
-            Task::Body => fail(FailureKind::Misuse),
+            Task::Body
+            | Task::Continue
+            | Task::TryLock(_)
+            | Task::Claim(_, _)
+            | Task::Wait(_, _, _, _)
+            | Task::Relock(_, _)
+            | Task::Wake(_, _)
+            | Task::Notify(_)
+            | Task::Await(_)
+            | Task::Rouse(_) => Err(failed(FailureKind::Misuse)),
             Task::Access(access) => self.access(access),
-            Task::Lock(mutex) => {
-                let answer = self.lock(mutex);
+            Task::Lock(locking, mutex) => {
+                let answer = self.lock(locking, mutex);
                 self.told(answer)
             }
             Task::Count(todo, number) => {
@@ -188,10 +210,7 @@ impl<D: Drop> RunState<D> {
     pub fn all_ended(&self) -> bool
         ensures { result ≡ list_all rules.has_ended self.now.threads }
     {
-        self.threads
-            .as_slice()
-            .iter()
-            .all(|thread| matches!(thread.state, State::Ended))
+        self.threads.as_slice().iter().all(has_ended)
     }
 
     /// The run ends with main's result. The first object that is left, and must not be, is a leak.
@@ -203,11 +222,11 @@ impl<D: Drop> RunState<D> {
         ensures no_growth { result ≢ Err Stop.Memory }
     {
         if let Some(kind) = first_leak(&self.objects) {
-            return fail(kind);
+            return Err(failed(kind));
         }
         let main = self.threads.at_mut(0);
         match main.result.take() {
-            None => fail(FailureKind::Misuse),
+            None => Err(failed(FailureKind::Misuse)),
             Some(value) => Ok(Turn::Ended(value)),
         }
     }

@@ -4,6 +4,7 @@ ghost use Rattle.loom_objects.specs.Counts.{is_free, may_grow, sole_value, with_
 ghost use Rattle.loom_objects.specs.Moves.{free_value, is_number};
 ghost use Rattle.loom_objects.specs.Tracks.{tracked_value};
 
+use arrayvec::ArrayVec;
 use loom_views::rt::MAX_THREADS;
 use loom_views::rt::failure::FailureKind;
 use loom_views::rt::num::Numbers;
@@ -20,13 +21,39 @@ pub struct Atomic {
     pub opened: Option<u8>,
 }
 
-/// A mutex: the thread that holds it, and its data while nobody has it (loom's `rt/mutex.rs`).
+/// A mutex (loom's `rt/mutex.rs`).
 #[derive(Drop)]
 pub struct Mutex<D> {
     /// The thread that holds it.
     pub holder: Option<u8>,
     /// Its data, while nobody has it.
     pub value: Option<D>,
+    /// The thread that has the data out without holding it.
+    pub lent: Option<u8>,
+    /// Whether it was taken apart.
+    pub is_taken: bool,
+}
+
+/// A read-write lock (loom's `rt/rwlock.rs`).
+#[derive(Drop)]
+pub struct RwLock<D> {
+    /// Its data, while nobody has it.
+    pub value: Option<D>,
+    /// How many guards for reading each thread has.
+    pub readers: [u64; MAX_THREADS],
+    /// The thread that has it for writing.
+    pub writer: Option<u8>,
+    /// The thread that has the data out without holding it.
+    pub lent: Option<u8>,
+    /// Whether it was taken apart.
+    pub is_taken: bool,
+}
+
+/// A condition variable (loom's `rt/condvar.rs`).
+#[derive(Drop)]
+pub struct Condvar {
+    /// The threads that wait on it, the one that came first first.
+    pub waiters: ArrayVec<u8, MAX_THREADS>,
 }
 
 /// A counted reference (loom's `rt/arc.rs`).
@@ -64,23 +91,39 @@ pub struct Cell<D> {
     pub is_taken: bool,
 }
 
-/// A notifier, which a `join` waits on (loom's `rt/notify.rs`).
+/// Whether a thread has woken from a notifier without a notification (loom's `rt/notify.rs`).
+#[derive(Clone, Copy, Debug, PartialEq, Eq)]
+pub enum Spurious {
+    /// None does: it is a notifier that a `join` waits on.
+    Never,
+    /// None has, and one may.
+    NotYet,
+    /// This one is about to be told so.
+    Waking(u8),
+    /// One has, and no other does in this run.
+    Over,
+}
+
+/// A notifier, on which one thread waits at a time (loom's `rt/notify.rs`).
 #[derive(Clone, Copy, Debug)]
 pub struct Notify {
     /// Whether it was notified since a thread last waited.
     pub notified: bool,
-    /// The thread that waits on it, or has waited: one at most.
+    /// The thread that waits on it for a notification, or has joined by it.
     pub waiter: Option<u8>,
+    /// Whether a thread has woken without one.
+    pub spurious: Spurious,
 }
 
 impl<D: Drop> Mutex<D> {
-    /// The thread holds it from now on, and is given the data. None where it is held or the data is out: then nothing changes.
+    /// The thread holds it from now on, and is given the data. None where it was taken apart, is held or the data is out: then
+    /// nothing changes.
     pub(crate) fn hold(&mut self, thread: u8) -> Option<D>
         ensures value { result ≡ free_value self.old }
-        ensures held { OnSome result (self.new ≡ record { holder = Some thread; value = None }) }
+        ensures held { OnSome result (self.new ≡ record self.old { holder = Some thread; value = None }) }
         ensures none { IfNone result (self.new ≡ self.old) }
     {
-        if self.holder.is_some() {
+        if self.is_taken || self.holder.is_some() {
             return None;
         }
         let value = self.value.take()?;

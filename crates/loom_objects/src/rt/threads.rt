@@ -5,12 +5,12 @@ ghost use Rattle.loom_objects.specs.Moves.{with_new, tells, pending_with, target
 ghost use Rattle.loom_objects.specs.World.{World};
 ghost use Rattle.loom_objects.specs.Shown.{Does, Shows, IsSound};
 
-use crate::failure::{Stop, fail};
+use crate::failure::{Stop, failed};
 use crate::operation::{Reply, ThreadOp};
 use crate::rt::object::Object;
 use crate::rt::run::{Entry, RunState};
-use crate::rt::sync::Notify;
-use crate::rt::thread::{Phase, State, Task, Thread};
+use crate::rt::sync::{Notify, Spurious};
+use crate::rt::thread::{Name, Phase, State, Task, Thread};
 use loom_views::rt::failure::FailureKind;
 use loom_views::sequence::Sequence;
 use std::sync::atomic::Ordering;
@@ -18,13 +18,11 @@ use std::sync::atomic::Ordering;
 impl<D: Drop> Thread<D> {
     /// The thread has this pending, and can't go on while it is blocked.
     pub(crate) fn pend(&mut self, task: Task<D>, is_blocked: bool)
-        ensures { self.new ≡ record self.old { state = blocked_if is_blocked; task = task } }
+        ensures { self.new ≡ record self.old { state = blocked_if is_blocked self.old.state; task = task } }
     {
-        self.state = if is_blocked {
-            State::Blocked
-        } else {
-            State::Runnable
-        };
+        if is_blocked {
+            self.state = State::Blocked;
+        }
         self.task = task;
     }
 }
@@ -35,11 +33,15 @@ fn is_pending_on<D>(task: &Task<D>, number: usize) -> bool
 {
     match task {
         Task::Access(access) => access.atomic() == Some(number),
-        Task::Lock(target) => *target == number,
+        Task::Lock(_, target) | Task::TryLock(target) | Task::Claim(_, target) => {
+            *target == number
+        }
+        Task::Wait(_, target, _, _) | Task::Wake(_, target) => *target == number,
+        Task::Notify(target) | Task::Await(target) => *target == number,
         Task::Count(_, target) | Task::TryUnwrap(target) => *target == number,
-        Task::Join(_, target) => *target == number,
-        Task::Finish(target, _) => *target == number,
-        Task::Start | Task::Body => false,
+        Task::Join(_, target) | Task::Finish(target, _) => *target == number,
+        Task::Start | Task::Body | Task::Continue => false,
+        Task::Relock(_, _) | Task::Rouse(_) => false,
     }
 }
 
@@ -100,33 +102,37 @@ impl<D: Drop> RunState<D> {
         ensures steps { self.new.steps_left ≡ self.old.steps_left }
     {
         match op {
-            ThreadOp::Spawn(()) => self.spawn(),
+            ThreadOp::Spawn((), name) => self.spawn(name),
             ThreadOp::Join(thread, notifier) => self.join_begins(thread, notifier),
             ThreadOp::Finish(value) => self.finish(value),
             ThreadOp::Exit => self.exit(),
             ThreadOp::End => self.end(),
+            ThreadOp::Current | ThreadOp::Park | ThreadOp::Unpark(_) | ThreadOp::Yield => {
+                Err(failed(FailureKind::Misuse))
+            }
         }
     }
 
     /// A thread more, with its parent's view and a notifier of its own.
-    fn spawn(&mut self) -> Result<Entry<D>, Stop>
+    fn spawn(&mut self, name: Option<Name>) -> Result<Entry<D>, Stop>
         requires { IsSound self.old }
-        ensures does { Does rules.spawn self.old result self.new }
+        ensures does { Does (rules.spawn name) self.old result self.new }
         ensures sound { IsSound self.new }
         ensures steps { self.new.steps_left ≡ self.old.steps_left }
     {
         let count = self.threads.len();
         if count >= self.max_threads {
-            return fail(FailureKind::TooManyThreads);
+            return Err(failed(FailureKind::TooManyThreads));
         }
         match self.views.spawn(self.active as usize) {
             Ok(()) => {}
-            Err(kind) => return fail(kind),
+            Err(kind) => return Err(failed(kind)),
         }
         let notifier = self.objects.len();
         let notify = Notify {
             notified: false,
             waiter: None,
+            spurious: Spurious::Never,
         };
         self.add_object(Object::Notify(notify))?;
         let child = Thread {
@@ -135,9 +141,12 @@ impl<D: Drop> RunState<D> {
             task: Task::Start,
             notifier: Some(notifier),
             result: None,
+            yields: 0,
+            has_token: false,
+            name,
         };
         match self.threads.push(child) {
-            Ok(()) => Ok(Entry::Answered(Reply::Spawned(count as u8, notifier))),
+            Ok(()) => Ok(Entry::Answered(Reply::Spawned(count as u8, name, notifier))),
             Err(_) => Err(Stop::Memory),
         }
     }
@@ -150,13 +159,13 @@ impl<D: Drop> RunState<D> {
         ensures steps { self.new.steps_left ≡ self.old.steps_left }
     {
         if !self.has_notifier(thread, notifier) || notifier >= self.objects.len() {
-            return fail(FailureKind::Misuse);
+            return Err(failed(FailureKind::Misuse));
         }
         let Object::Notify(notify) = self.objects.at_mut(notifier) else {
-            return fail(FailureKind::Misuse);
+            return Err(failed(FailureKind::Misuse));
         };
         if notify.waiter.is_some() {
-            return fail(FailureKind::Misuse);
+            return Err(failed(FailureKind::Misuse));
         }
         notify.waiter = Some(self.active);
         let is_notified = notify.notified;
@@ -187,17 +196,17 @@ impl<D: Drop> RunState<D> {
         ensures no_growth { result ≢ Err Stop.Memory }
     {
         if notifier >= self.objects.len() || thread as usize >= self.threads.len() {
-            return fail(FailureKind::Misuse);
+            return Err(failed(FailureKind::Misuse));
         }
         let Object::Notify(notify) = self.objects.at_mut(notifier) else {
-            return fail(FailureKind::Misuse);
+            return Err(failed(FailureKind::Misuse));
         };
         if !notify.notified {
-            return fail(FailureKind::Misuse);
+            return Err(failed(FailureKind::Misuse));
         }
         notify.notified = false;
         match self.threads.at_mut(thread as usize).result.take() {
-            None => fail(FailureKind::Misuse),
+            None => Err(failed(FailureKind::Misuse)),
             Some(value) => {
                 self.views.acquire(self.active as usize, notifier);
                 Ok(Reply::Data(value))
@@ -214,7 +223,7 @@ impl<D: Drop> RunState<D> {
     {
         let thread = self.threads.at_mut(self.active as usize);
         if !matches!(thread.phase, Phase::Working) {
-            return fail(FailureKind::Misuse);
+            return Err(failed(FailureKind::Misuse));
         }
         thread.phase = Phase::Finished;
         match thread.notifier {
@@ -249,10 +258,10 @@ impl<D: Drop> RunState<D> {
         ensures no_growth { result ≢ Err Stop.Memory }
     {
         if notifier >= self.objects.len() {
-            return fail(FailureKind::Misuse);
+            return Err(failed(FailureKind::Misuse));
         }
         let Object::Notify(notify) = self.objects.at_mut(notifier) else {
-            return fail(FailureKind::Misuse);
+            return Err(failed(FailureKind::Misuse));
         };
         notify.notified = true;
         let waiter = notify.waiter;
@@ -273,7 +282,7 @@ impl<D: Drop> RunState<D> {
     {
         let thread = self.threads.at_mut(self.active as usize);
         if !matches!(thread.phase, Phase::Finished) {
-            return fail(FailureKind::Misuse);
+            return Err(failed(FailureKind::Misuse));
         }
         thread.phase = Phase::Exited;
         Ok(Entry::Answered(Reply::Done))
@@ -288,7 +297,7 @@ impl<D: Drop> RunState<D> {
     {
         let thread = self.threads.at_mut(self.active as usize);
         if !matches!(thread.phase, Phase::Exited) {
-            return fail(FailureKind::Misuse);
+            return Err(failed(FailureKind::Misuse));
         }
         thread.phase = Phase::Over;
         thread.state = State::Ended;

@@ -3,7 +3,7 @@ ghost use Rattle.loom_objects.specs.Tracks as rules;
 ghost use Rattle.loom_objects.specs.Shown.{Does, IsSound};
 
 use crate::data::Data;
-use crate::failure::{Stop, fail};
+use crate::failure::{Stop, failed};
 use crate::operation::{Reply, TrackOp};
 use crate::rt::object::Object;
 use crate::rt::run::{Entry, RunState};
@@ -48,17 +48,17 @@ impl<D: Data> RunState<D> {
         ensures { Does (rules.track_get_ref number) self.now result self.now }
     {
         if number >= self.objects.len() {
-            return fail(FailureKind::Misuse);
+            return Err(failed(FailureKind::Misuse));
         }
         let Object::Track(track) = self.objects.at(number) else {
-            return fail(FailureKind::Misuse);
+            return Err(failed(FailureKind::Misuse));
         };
         if track.is_taken {
-            return fail(FailureKind::Misuse);
+            return Err(failed(FailureKind::Misuse));
         }
         match &track.value {
             Some(value) => copied(value),
-            None => fail(FailureKind::Misuse),
+            None => Err(failed(FailureKind::Misuse)),
         }
     }
 
@@ -70,15 +70,15 @@ impl<D: Data> RunState<D> {
         ensures steps { self.new.steps_left ≡ self.old.steps_left }
     {
         if number >= self.objects.len() {
-            return fail(FailureKind::Misuse);
+            return Err(failed(FailureKind::Misuse));
         }
         let active = self.active;
         let Object::Track(track) = self.objects.at_mut(number) else {
-            return fail(FailureKind::Misuse);
+            return Err(failed(FailureKind::Misuse));
         };
         match track.lend(active) {
             Some(value) => Ok(Entry::Answered(Reply::Data(value))),
-            None => fail(FailureKind::Misuse),
+            None => Err(failed(FailureKind::Misuse)),
         }
     }
 
@@ -90,14 +90,14 @@ impl<D: Data> RunState<D> {
         ensures steps { self.new.steps_left ≡ self.old.steps_left }
     {
         if number >= self.objects.len() {
-            return fail(FailureKind::Misuse);
+            return Err(failed(FailureKind::Misuse));
         }
         let active = self.active;
         let Object::Track(track) = self.objects.at_mut(number) else {
-            return fail(FailureKind::Misuse);
+            return Err(failed(FailureKind::Misuse));
         };
         if !track.put(active, value) {
-            return fail(FailureKind::Misuse);
+            return Err(failed(FailureKind::Misuse));
         }
         Ok(Entry::Answered(Reply::Done))
     }
@@ -110,14 +110,14 @@ impl<D: Data> RunState<D> {
         ensures steps { self.new.steps_left ≡ self.old.steps_left }
     {
         if number >= self.objects.len() {
-            return fail(FailureKind::Misuse);
+            return Err(failed(FailureKind::Misuse));
         }
         let Object::Track(track) = self.objects.at_mut(number) else {
-            return fail(FailureKind::Misuse);
+            return Err(failed(FailureKind::Misuse));
         };
         match track.give_back() {
             Some(value) => Ok(Entry::Answered(Reply::Data(value))),
-            None => fail(FailureKind::Misuse),
+            None => Err(failed(FailureKind::Misuse)),
         }
     }
 }

@@ -12,7 +12,7 @@ returns-in-Ok-Turn-clause-along g t c =
 
 pub returns-then-more-eq0-clause-along : goal.returns-then-more-eq0-clause-along
 returns-then-more-eq0-clause-along g t c =
-    rw c.fail.ensures
+    rw c.failed.ensures
     (too_many c.args.run.now c.pass.new.run c.args.path.now c.pass.new.path c.args.more (omega (arith, c.if-more-eq0.true)) (rw c.in-Ok-AtBranch.field-0-is at c.in-Ok-AtBranch.ensures.along))
 
 pub returns-else-more-eq0-clause-along : goal.returns-else-more-eq0-clause-along

@@ -22,7 +22,7 @@ pub returns-then-not-meets-clause-pushes : goal.returns-then-not-meets-clause-pu
 returns-then-not-meets-clause-pushes c =
     let p : Route = the_view c.self.inside in
     let n : Node = node.Load c.in-Load.load in
-    rw (c.fail-then-not-meets.ensures, ← c.self.view_is) (
+    rw (c.failed-then-not-meets.ensures, ← c.self.view_is) (
       differs p (which_store c.args.readable.now) n (omega (arith, c.self.inside.nodes.ok.0)) (rw c.in-Load.is at c.index.ensures)
           (λ e. let met = c.if-not-meets.ensures.1 e in cc met),
       refl,
@@ -58,7 +58,7 @@ returns-then-is_full-clause-pushes c =
     let p : Route = c.args.self.now in
     let held : length (the_view c.self.inside).nodes ≤ (the_view c.self.inside).position = omega (arith, c.self.inside.nodes.ok.0) in
     let past : length p.nodes ≤ p.position = past_end (the_view c.self.inside) p c.self.view_is held in
-    rw c.fail-then-is_full.ensures (full p (which_store c.args.readable.now) past (c.if-is_full.ensures.0 refl), refl)
+    rw c.failed-then-is_full.ensures (full p (which_store c.args.readable.now) past (c.if-is_full.ensures.0 refl), refl)
 
 pub returns-in_default-new_load-clause-pushes : goal.returns-in_default-new_load-clause-pushes
 returns-in_default-new_load-clause-pushes c =
@@ -67,7 +67,7 @@ returns-in_default-new_load-clause-pushes c =
     let held : length (the_view c.self.inside).nodes ≤ (the_view c.self.inside).position = omega (arith, c.self.inside.nodes.ok.0) in
     let past : length p.nodes ≤ p.position = past_end (the_view c.self.inside) p c.self.view_is held in
     let room : p.position < p.max_branches = search rules in
-    rw c.fail-in_default-new_load.ensures
+    rw c.failed-in_default-new_load.ensures
     (refuses p question past room (every_load (slots c.args.readable.now) p) (c.in_default-new_load.ensures.made ∙ ap (new_node true (made_of question)) c.given_here.ensures), refl)
 
 pub returns-in-Ok-clause-pushes : goal.returns-in-Ok-clause-pushes

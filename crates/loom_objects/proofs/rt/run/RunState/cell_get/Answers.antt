@@ -12,7 +12,7 @@ returns-in-Ok-read-2-clause-does g c =
 
 pub returns-in-Err-read-2-clause-does : goal.returns-in-Err-read-2-clause-does
 returns-in-Err-read-2-clause-does g c =
-    rw c.fail-in-Err-read-2.ensures
+    rw c.failed-in-Err-read-2.ensures
     (stops_by (cell_get c.args.number) c.args.self.now c.args.self.now c.read.new.self _
     (leads_on (λ p. points_after_read p c.args.self.now.active c.args.number) _ c.raise.new.self _ (leads_by (λ p. points_after_raise p c.args.self.now.active) _ _ c.in-Ok.ensures.shown) c.in-Ok-read.ensures.shown)
     (λ p. points_after_read p c.args.self.now.active c.args.number) c.read-2.new.self c.in-Err-read-2.kind c.in-Err-read-2.ensures.shown

@@ -16,7 +16,7 @@ returns-in-Ok-write-2-clause-does g c =
 
 pub returns-in-Err-write-2-clause-does : goal.returns-in-Err-write-2-clause-does
 returns-in-Err-write-2-clause-does g c =
-    rw c.fail-in-Err-write-2.ensures
+    rw c.failed-in-Err-write-2.ensures
     (stops_by (cell_replace c.args.number c.args.new) c.args.self.now c.args.self.now c.exchange_data.new.self.views _
     (leads_same _ c.write.new.self _ (ap (λ (r : RunState g.row.D.Denot). r.views) c.exchange_data.ensures.exchanged)
     (leads_on (λ p. points_after_write p c.args.self.now.active c.args.number) _ c.raise.new.self _ (leads_by (λ p. points_after_raise p c.args.self.now.active) _ _ c.in-Ok.ensures.shown) c.in-Ok-write.ensures.shown))

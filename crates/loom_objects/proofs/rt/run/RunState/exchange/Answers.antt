@@ -12,5 +12,5 @@ returns-in-Ok-update_write-clause-does g c =
 
 pub returns-in-Err-update_write-clause-does : goal.returns-in-Err-update_write-clause-does
 returns-in-Err-update_write-clause-does g c =
-    rw c.fail-in-Err-update_write.ensures
+    rw c.failed-in-Err-update_write.ensures
     (exchange_fails c.args.self.now c.update_read.new.self c.args.number c.in-Some.atomic (search rules) c.args.slot c.in-Ok.read c.in-Ok.ensures.shown c.args.exchange (record c.args.self.now { views = c.update_write.new.self }) c.fit-new.result c.fit-new.ensures (search rules) c.in-Err-update_write.kind c.in-Err-update_write.ensures.shown)

@@ -7,4 +7,4 @@ use Rattle.loom_objects.proofs.rt.run.RunState.lock.Goals as goal
 
 pub returns-in-Some-clause-does : goal.returns-in-Some-clause-does
 returns-in-Some-clause-does g c =
-    gives (lock c.args.number) _ _ _ c.acquire.new.self (λ p. points_after_acquire p c.args.self.now.active c.args.number) (ap (λ (r : RunState g.row.D.Denot). r.views) c.block_pending.ensures) c.acquire.ensures (λ p. search rules)
+    gives (lock c.args.locking c.args.number) _ _ _ c.acquire.new.self (λ p. points_after_acquire p c.args.self.now.active c.args.number) (ap (λ (r : RunState g.row.D.Denot). r.views) c.block_pending.ensures) c.acquire.ensures (λ p. search rules)

@@ -22,7 +22,7 @@ returns-in-Access-clause-does g c = λ w shown.
 pub returns-in-Lock-clause-does : goal.returns-in-Lock-clause-does
 returns-in-Lock-clause-does g c =
     rw c.told.ensures
-    (turns c.args.self.now c.args.thread c.at_mut-chosen.result.now (task.Lock c.in-Lock.mutex) c.replace.new.dest c.at_mut-chosen.ensures.value (sym c.in-Lock.is ∙ c.replace.ensures.value) c.replace.ensures.after (lock c.in-Lock.mutex) c.lock-answer.result c.lock-answer.new.self (λ v. refl) c.lock-answer.ensures.does)
+    (turns c.args.self.now c.args.thread c.at_mut-chosen.result.now (task.Lock c.in-Lock.locking c.in-Lock.mutex) c.replace.new.dest c.at_mut-chosen.ensures.value (sym c.in-Lock.is ∙ c.replace.ensures.value) c.replace.ensures.after (lock c.in-Lock.locking c.in-Lock.mutex) c.lock-answer.result c.lock-answer.new.self (λ v. refl) c.lock-answer.ensures.does)
 
 pub returns-in-Count-clause-does : goal.returns-in-Count-clause-does
 returns-in-Count-clause-does g c =
@@ -33,8 +33,8 @@ pub returns-in-Ok-clause-does : goal.returns-in-Ok-clause-does
 returns-in-Ok-clause-does g c =
     goes_through c.args.self.now c.args.thread c.at_mut-chosen.result.now (task.TryUnwrap c.in-TryUnwrap.number) c.replace.new.dest c.at_mut-chosen.ensures.value (sym c.in-TryUnwrap.is ∙ c.replace.ensures.value) c.replace.ensures.after (tries_unwrap c.in-TryUnwrap.number) c.in-Ok.passed c.try_unwrap.new.self (λ v. refl) c.in-Ok.ensures.does
 
-pub returns-in-Err-clause-does : goal.returns-in-Err-clause-does
-returns-in-Err-clause-does g c =
+pub returns-in-TryUnwrap-clause-does : goal.returns-in-TryUnwrap-clause-does
+returns-in-TryUnwrap-clause-does g c =
     goes_on_not c.args.self.now c.args.thread c.at_mut-chosen.result.now (task.TryUnwrap c.in-TryUnwrap.number) c.replace.new.dest c.at_mut-chosen.ensures.value (sym c.in-TryUnwrap.is ∙ c.replace.ensures.value) c.replace.ensures.after (tries_unwrap c.in-TryUnwrap.number) c.in-Err.stop c.try_unwrap.new.self (λ v. refl) c.in-Err.ensures.does
 
 pub returns-in-Join-clause-does : goal.returns-in-Join-clause-does
@@ -42,7 +42,7 @@ returns-in-Join-clause-does g c =
     rw c.told-in-Join.ensures
     (turns c.args.self.now c.args.thread c.at_mut-chosen.result.now (task.Join c.in-Join.joined c.in-Join.notifier) c.replace.new.dest c.at_mut-chosen.ensures.value (sym c.in-Join.is ∙ c.replace.ensures.value) c.replace.ensures.after (join c.in-Join.joined c.in-Join.notifier) c.join-answer.result c.join-answer.new.self (λ v. refl) c.join-answer.ensures.does)
 
-pub returns-in-Finish-clause-does : goal.returns-in-Finish-clause-does
-returns-in-Finish-clause-does g c =
+pub returns-clause-does : goal.returns-clause-does
+returns-clause-does g c =
     rw c.told-in-Finish.ensures
     (turns c.args.self.now c.args.thread c.at_mut-chosen.result.now (task.Finish c.in-Finish.notifier c.in-Finish.value) c.replace.new.dest c.at_mut-chosen.ensures.value (sym c.in-Finish.is ∙ c.replace.ensures.value) c.replace.ensures.after (child_finish c.in-Finish.notifier c.in-Finish.value) c.child_finish-answer.result c.child_finish-answer.new.self (λ v. refl) c.child_finish-answer.ensures.does)

@@ -8,5 +8,5 @@ returns-in-Ok-store-clause-does g c =
 
 pub returns-in-Err-store-clause-does : goal.returns-in-Err-store-clause-does
 returns-in-Err-store-clause-does g c =
-    rw c.fail-in-Err-store.ensures
+    rw c.failed-in-Err-store.ensures
     (store_fails c.args.self.now c.raise.new.self c.in-Ok.ensures.shown c.args.number c.in-Some.atomic (search rules) c.args.value c.args.order c.fit-value.result c.fit-value.ensures (record c.args.self.now { views = c.store.new.self }) c.in-Err-store.kind c.in-Err-store.ensures.shown)

@@ -1,0 +1,165 @@
+-- What read-write locks do.
+use Rattle.std.specs.Prelude.{ℕ, ◌+◌, ◌-◌, ◌^◌, ◌&&◌, ◌||◌, Bool, true, false, not, nat_lt, cond, [], ◌∷◌, length, is_none, is_some, slice_get, slice_set, Option, Some, None}
+use Rattle.std.specs.List.{list_all}
+use Rattle.loom_views.specs.declared.rt.failure.FailureKind.TheVariants.{Misuse, TooManySteps}
+use Rattle.loom_objects.specs.declared.operation.RwLockOp.{RwLockOp}
+use Rattle.loom_objects.specs.declared.operation.RwLockOp.TheVariants as lock_op
+use Rattle.loom_objects.specs.declared.operation.Reply.{Reply}
+use Rattle.loom_objects.specs.declared.operation.Reply.TheVariants as reply
+use Rattle.loom_objects.specs.declared.rt.object.Object.{Object}
+use Rattle.loom_objects.specs.declared.rt.object.Object.TheVariants as object
+use Rattle.loom_objects.specs.declared.rt.sync.RwLock.{RwLock}
+use Rattle.loom_objects.specs.declared.rt.run.Entry.{Entry}
+use Rattle.loom_objects.specs.declared.rt.run.Entry.TheVariants.{Answered, AtBranch}
+use Rattle.loom_objects.specs.declared.rt.thread.Claim.{Claim}
+use Rattle.loom_objects.specs.declared.rt.thread.Claim.TheVariants.{Read, TryRead, Write, TryWrite}
+use Rattle.loom_objects.specs.declared.rt.thread.Task.TheVariants as task
+use Rattle.loom_objects.specs.Cells.{count_of, is_zero}
+use Rattle.loom_objects.specs.Tree.{Tree, Gives, Fails, ◌>>=◌, check, found}
+use Rattle.loom_objects.specs.World.{World}
+use Rattle.loom_objects.specs.Moves.{active_thread, acquires, releases, with_object, with_new, is_number, wakes_pending, blocks_pending, blocks_writers, pends}
+
+-- a thread that takes a lock so waits for it
+abbrev pub waits : Claim → Bool
+waits Read = true
+waits TryRead = false
+waits Write = true
+waits TryWrite = false
+
+module _ {D : Type 0} where
+  abbrev pub new_lock : D → RwLock D
+  new_lock value = record { value = Some value; readers = 0 ∷ 0 ∷ 0 ∷ 0 ∷ 0 ∷ []; writer = None; lent = None; is_taken = false }
+
+  -- how many guards for reading the thread has
+  abbrev pub guards_of : ℕ → RwLock D → ℕ
+  guards_of t lock = count_of (slice_get lock.readers t)
+
+  abbrev pub with_guards : ℕ → ℕ → RwLock D → RwLock D
+  with_guards t count lock = record lock { readers = slice_set lock.readers t count }
+
+  abbrev pub is_unread : RwLock D → Bool
+  is_unread lock = list_all is_zero lock.readers
+
+  -- a thread writes or some read
+  abbrev pub is_held : RwLock D → Bool
+  is_held lock = is_some lock.writer || not (is_unread lock)
+
+  -- the data of a lock that nobody holds, unless it is out
+  abbrev pub unlocked_value : RwLock D → Option D
+  unlocked_value lock = cond (is_held lock) None lock.value
+
+  -- a thread that takes the lock so can't have it now
+  abbrev pub is_refused : Claim → RwLock D → Bool
+  is_refused Read lock = is_some lock.writer
+  is_refused TryRead lock = is_some lock.writer
+  is_refused Write lock = is_held lock
+  is_refused TryWrite lock = is_held lock
+
+  abbrev pub as_rwlock : Option (Object D) → Option (RwLock D)
+  as_rwlock (Some (object.RwLock lock)) = cond lock.is_taken None (Some lock)
+  as_rwlock _ = None
+
+  -- the read-write lock of this number, while it wasn't taken apart; any other number is a misuse
+  abbrev pub a_rwlock : ℕ → World D → Tree (RwLock D)
+  a_rwlock n w = found (as_rwlock (slice_get w.objects n)) Misuse
+
+  -- a lock that nobody holds
+  abbrev pub rwlock_new : D → World D → Tree (Entry D × World D)
+  rwlock_new value w = Gives (Answered (reply.RwLock (length w.objects)), with_new (object.RwLock (new_lock value)) w)
+
+  -- the thread comes to a branch point, and is blocked there while it waits for the lock
+  abbrev pub claim_begins : Claim → ℕ → World D → Tree (Entry D × World D)
+  claim_begins claim n w = do
+    lock ← a_rwlock n w
+    thread ← active_thread w
+    Gives (AtBranch, pends thread (task.Claim claim n) (waits claim && is_refused claim lock) w)
+
+  -- The thread has one guard more, acquires and has a copy; who is pending to write is blocked. A run ends before it has
+  -- 2^64 guards, since each is an operation
+  abbrev pub reads_lock : ℕ → RwLock D → World D → Tree (Reply D × World D)
+  reads_lock n lock w = do
+    value ← found lock.value Misuse
+    _ ← check (nat_lt (guards_of w.active lock) (2 ^ 64 - 1)) TooManySteps
+    Gives (reply.ReadLocked n value, blocks_writers n (acquires n (with_object n (object.RwLock (with_guards w.active (guards_of w.active lock + 1) lock)) w)))
+
+  -- the thread acquires and has the data; who is pending on the lock is blocked
+  abbrev pub writes_lock : ℕ → RwLock D → World D → Tree (Reply D × World D)
+  writes_lock n lock w = do
+    value ← found lock.value Misuse
+    Gives (reply.WriteLocked n value, blocks_pending n (acquires n (with_object n (object.RwLock (record lock { writer = Some w.active; value = None })) w)))
+
+  abbrev pub takes : Claim → ℕ → RwLock D → World D → Tree (Reply D × World D)
+  takes Read n lock w = reads_lock n lock w
+  takes TryRead n lock w = reads_lock n lock w
+  takes Write n lock w = writes_lock n lock w
+  takes TryWrite n lock w = writes_lock n lock w
+
+  -- who waits isn't chosen while the lock is refused
+  abbrev pub refused : Claim → World D → Tree (Reply D × World D)
+  refused Read w = Fails Misuse
+  refused TryRead w = Gives (reply.WouldBlock, w)
+  refused Write w = Fails Misuse
+  refused TryWrite w = Gives (reply.WouldBlock, w)
+
+  abbrev pub takes_unless : Bool → Claim → ℕ → RwLock D → World D → Tree (Reply D × World D)
+  takes_unless true claim n lock w = refused claim w
+  takes_unless false claim n lock w = takes claim n lock w
+
+  -- the thread takes the lock so
+  abbrev pub claims : Claim → ℕ → World D → Tree (Reply D × World D)
+  claims claim n w = do
+    lock ← a_rwlock n w
+    _ ← check (is_none lock.lent) Misuse
+    takes_unless (is_refused claim lock) claim n lock w
+
+  abbrev pub wakes_if : Bool → ℕ → World D → World D
+  wakes_if true n w = wakes_pending n w
+  wakes_if false n w = w
+
+  -- a guard of the thread ends, and it releases; where none is left, who is pending on the lock is woken
+  abbrev pub read_release : ℕ → World D → Tree (Entry D × World D)
+  read_release n w = do
+    lock ← a_rwlock n w
+    _ ← check (nat_lt 0 (guards_of w.active lock)) Misuse
+    let left = with_guards w.active (guards_of w.active lock - 1) lock
+    Gives (Answered reply.Done, wakes_if (is_unread left) n (releases n (with_object n (object.RwLock left) w)))
+
+  -- only its writer gives it free, with its data, and releases; who is pending on it is woken
+  abbrev pub write_release : ℕ → D → World D → Tree (Entry D × World D)
+  write_release n value w = do
+    lock ← a_rwlock n w
+    _ ← check (is_number lock.writer w.active) Misuse
+    Gives (Answered reply.Done, wakes_pending n (releases n (with_object n (object.RwLock (record lock { writer = None; value = Some value })) w)))
+
+  -- the data of a lock that nobody holds goes out
+  abbrev pub rwlock_get_mut : ℕ → World D → Tree (Entry D × World D)
+  rwlock_get_mut n w = do
+    lock ← a_rwlock n w
+    value ← found (unlocked_value lock) Misuse
+    Gives (Answered (reply.Data value), with_object n (object.RwLock (record lock { value = None; lent = Some w.active })) w)
+
+  -- the thread that has it out puts some back
+  abbrev pub rwlock_put : ℕ → D → World D → Tree (Entry D × World D)
+  rwlock_put n value w = do
+    lock ← a_rwlock n w
+    _ ← check (is_number lock.lent w.active) Misuse
+    Gives (Answered reply.Done, with_object n (object.RwLock (record lock { value = Some value; lent = None })) w)
+
+  -- the data of a lock that nobody holds, after which it is taken apart
+  abbrev pub rwlock_into_inner : ℕ → World D → Tree (Entry D × World D)
+  rwlock_into_inner n w = do
+    lock ← a_rwlock n w
+    value ← found (unlocked_value lock) Misuse
+    Gives (Answered (reply.Data value), with_object n (object.RwLock (record lock { value = None; is_taken = true })) w)
+
+  abbrev pub rwlock_begins : RwLockOp D → World D → Tree (Entry D × World D)
+  rwlock_begins (lock_op.New value) w = rwlock_new value w
+  rwlock_begins (lock_op.Read n) w = claim_begins Read n w
+  rwlock_begins (lock_op.TryRead n) w = claim_begins TryRead n w
+  rwlock_begins (lock_op.ReadRelease n) w = read_release n w
+  rwlock_begins (lock_op.Write n) w = claim_begins Write n w
+  rwlock_begins (lock_op.TryWrite n) w = claim_begins TryWrite n w
+  rwlock_begins (lock_op.WriteRelease n value) w = write_release n value w
+  rwlock_begins (lock_op.GetMut n) w = rwlock_get_mut n w
+  rwlock_begins (lock_op.Put n value) w = rwlock_put n value w
+  rwlock_begins (lock_op.IntoInner n) w = rwlock_into_inner n w
