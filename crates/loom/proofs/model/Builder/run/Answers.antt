@@ -1,5 +1,27 @@
-use Rattle.std.proofs.Common.{◌∙◌}
+use Rattle.std.proofs.Common.{◌∙◌, refl, rules}
+use Rattle.loom_objects.specs.World.{opening}
 use Rattle.loom.proofs.model.Builder.run.Goals as goal
+
+pub loop-bodies-init : goal.loop-bodies-init
+loop-bodies-init g c = record {
+  under_way = record {
+    world = opening c.args.self.now.max_threads c.args.self.now.max_steps;
+    shown = c.in_ok-execution.ensures.opens;
+    left = search rules;
+  };
+  going = c.in_ok-execution.ensures.over;
+  same = refl;
+}
+
+pub loop-bodies-preserved-in-Ok-Reply : goal.loop-bodies-preserved-in-Ok-Reply
+loop-bodies-preserved-in-Ok-Reply g c =
+    let e = rw c.in-Ok-Reply.field-0-is at c.in-Ok-Reply.ensures.turn in
+    let o = rw c.in-Ok-Reply.field-0-is at c.in-Ok-Reply.ensures.over in
+    record {
+      under_way = e _ c.loop-bodies.invariant.under_way;
+      going = o;
+      same = c.in-Ok-Reply.ensures.same ∙ c.loop-bodies.invariant.same;
+    }
 
 pub loop-bodies-preserved : goal.loop-bodies-preserved
 loop-bodies-preserved g c =
