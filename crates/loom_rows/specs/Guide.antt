@@ -25,7 +25,7 @@ abbrev pub turn : ℕ → Awaits → Reply Number → Awaits × Op Number Counte
 turn fewer_than Main Start = (TheMutex, OnMutex (New (number 0)) None)
 turn fewer_than TheMutex (Mutex mutex) =
     let counting = Counting (record { number = mutex }) in
-    (counting, OnThread (Spawn (record { fewer_than = 2; awaits = counting })) None)
+    (counting, OnThread (Spawn (record { fewer_than = 2; awaits = counting }) None) None)
 turn fewer_than (Counting mutex) reply = (TheLock, OnMutex (Lock mutex.number) None)
 turn fewer_than TheLock (Locked mutex count) = counts fewer_than mutex count.0
 turn fewer_than (Released count) reply = (Finished, OnThread (Finish (number count)) None)
