@@ -1,18 +1,18 @@
 -- What cells do.
-use Rattle.std.specs.Prelude.{ℕ, ◌+◌, ◌-◌, ◌^◌, ◌==◌, ◌&&◌, Bool, true, false, nat_lt, cond, List, [], ◌∷◌, ◌++◌, length, is_none, slice_get, slice_set, if◌then◌else◌, Option, Some, None, Result, Ok, Err}
+use Rattle.std.specs.Prelude.{ℕ, ◌+◌, ◌-◌, ◌^◌, ◌==◌, ◌&&◌, Bool, true, false, nat_lt, cond, List, [], ◌∷◌, ◌++◌, length, is_none, slice_get, slice_set, if◌then◌else◌, Option, Some, None, Result, Ok, Err, ⊤}
 use Rattle.std.specs.List.{list_all}
 use Rattle.loom_views.specs.Table.{points_with_cell, points_after_read, points_after_write}
 use Rattle.loom_views.specs.declared.rt.failure.FailureKind.{FailureKind}
 use Rattle.loom_views.specs.declared.rt.failure.FailureKind.TheVariants.{Misuse, OpenAccess, TooManySteps}
 use Rattle.loom_objects.specs.declared.operation.CellOp.{CellOp}
-use Rattle.loom_objects.specs.declared.operation.CellOp.TheVariants.{New, Read, ReadEnd, Deref, Write, WriteEnd, IntoInner, Get, Replace}
+use Rattle.loom_objects.specs.declared.operation.CellOp.TheVariants.{New, Read, ReadEnd, Deref, Write, WriteEnd, IntoInner, Get, Replace, Swap}
 use Rattle.loom_objects.specs.declared.operation.Reply.TheVariants as reply
 use Rattle.loom_objects.specs.declared.rt.object.Object.{Object}
 use Rattle.loom_objects.specs.declared.rt.object.Object.TheVariants as object
 use Rattle.loom_objects.specs.declared.rt.run.Entry.{Entry}
 use Rattle.loom_objects.specs.declared.rt.run.Entry.TheVariants.{Answered}
 use Rattle.loom_objects.specs.declared.rt.sync.Cell.{Cell}
-use Rattle.loom_objects.specs.Tree.{Tree, Gives, Fails, ◌>>=◌, check, found}
+use Rattle.loom_objects.specs.Tree.{Tree, Gives, ◌>>=◌, check, found}
 use Rattle.loom_objects.specs.World.{World}
 use Rattle.loom_objects.specs.Moves.{came, is_number, raises, with_object, with_points}
 
@@ -162,6 +162,41 @@ module _ {D : Type 0} where
     ended ← records_write n written
     Gives (Answered (reply.Data value), with_cell n (holding (Some new) None cell) ended)
 
+  -- a write begins: the thread raises, and no thread has the cell open
+  abbrev pub opens_write : ℕ → World D → Tree (⊤ × World D)
+  opens_write n w = do
+    cell ← a_cell n w
+    raised ← raises w
+    _ ← check (is_free cell) OpenAccess
+    written ← records_write n raised
+    Gives (tt, written)
+
+  -- the writes of both cells end, the later one first, and each holds what the other one held
+  abbrev pub exchanges_cells : ℕ → ℕ → World D → Tree (Entry D × World D)
+  exchanges_cells n m w = do
+    one ← a_cell n w
+    other ← a_cell m w
+    of_one ← found one.value Misuse
+    of_other ← found other.value Misuse
+    written ← records_write m w
+    ended ← records_write n written
+    Gives (Answered reply.Done, with_cell n (holding (Some of_other) None one) (with_cell m (holding (Some of_one) None other) ended))
+
+  -- a cell keeps its data, where it is both
+  abbrev pub swap_if : Bool → ℕ → ℕ → World D → Tree (Entry D × World D)
+  swap_if true n m w = Gives (Answered reply.Done, w)
+  swap_if false n m w = do
+    opened ← opens_write n w
+    both ← opens_write m opened.1
+    exchanges_cells n m both.1
+
+  -- two cells exchange their data, by a write of each
+  abbrev pub cell_swap : ℕ → ℕ → World D → Tree (Entry D × World D)
+  cell_swap n m w = do
+    _ ← a_cell n w
+    _ ← a_cell m w
+    swap_if (n == m) n m w
+
   abbrev pub cell_begins : CellOp D → World D → Tree (Entry D × World D)
   cell_begins (New value) w = cell_new value w
   cell_begins (Read n) w = cell_read n w
@@ -172,6 +207,7 @@ module _ {D : Type 0} where
   cell_begins (IntoInner n) w = cell_into_inner n w
   cell_begins (Get n) w = cell_get n w
   cell_begins (Replace n new) w = cell_replace n new w
+  cell_begins (Swap n m) w = cell_swap n m w
 
   -- ---- what the code calls to change a cell
 

@@ -84,6 +84,8 @@ pub enum CellOp<D> {
     Get(usize),
     /// A write that begins and ends, and answers the data that was there.
     Replace(usize, D),
+    /// Exchanges the data of two cells.
+    Swap(usize, usize),
 }
 
 /// The operations of a counted reference.

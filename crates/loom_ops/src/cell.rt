@@ -194,6 +194,14 @@ impl Cell {
         Op::Cell(CellOp::Replace(self.number, value), None)
     }
 
+    /// Exchanges the data of the two cells, by a write of each. Where the thread doesn't know of an access to one of them, that
+    /// is the failure `Race`. A cell and itself keep their data, and nothing is written (loom's `cell/cell.rs`).
+    pub fn swap<D, S>(self, other: Cell) -> Op<D, S>
+        ensures { result ≡ Op.Cell (CellOp.Swap self.number other.number) None }
+    {
+        Op::Cell(CellOp::Swap(self.number, other.number), None)
+    }
+
     /// Replies a copy of the data. Where the thread doesn't know of a write, that is the failure `Race` (loom's
     /// `cell/cell.rs`).
     pub fn get<D, S>(self) -> Op<D, S>

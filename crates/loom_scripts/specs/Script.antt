@@ -27,7 +27,7 @@ use Rattle.loom_scripts.specs.declared.script.CellAccess.{CellAccess}
 use Rattle.loom_scripts.specs.declared.script.CellAccess.TheVariants as on_cell
 use Rattle.loom_scripts.specs.declared.script.Script.{Script}
 use Rattle.loom_scripts.specs.declared.script.Step.{Step}
-use Rattle.loom_scripts.specs.declared.script.Step.TheVariants.{NewAtomic, NewAtomicOf, Load, Store, Access as Accessing, Fence, NewCell, Cell, NewArc, Arc, NewTrack, Track, NewMutex, Lock, Release, Spawn, Join, Finish, Exit, End, Fail, Jump, Unless}
+use Rattle.loom_scripts.specs.declared.script.Step.TheVariants.{NewAtomic, NewAtomicOf, Load, Store, Access as Accessing, Fence, NewCell, Cell, SwapCells, NewArc, Arc, NewTrack, Track, NewMutex, Lock, Release, Spawn, Join, Finish, Exit, End, Fail, Jump, Unless}
 use Rattle.loom_scripts.specs.declared.script.TrackAccess.{TrackAccess}
 use Rattle.loom_scripts.specs.declared.script.TrackAccess.TheVariants as on_track
 use Rattle.loom_scripts.specs.declared.script.Value.{Value}
@@ -216,6 +216,7 @@ operation s (Accessing slot register todo) = on (slot_at s.atomics slot) (λ a. 
 operation s (Fence order) = Fences order None
 operation s (NewCell slot n) = OnCell (cell.New (number n)) None
 operation s (Cell slot register todo) = on (slot_at s.cells slot) (λ c. OnCell (cell_op s todo c.number) None)
+operation s (SwapCells one other) = on (slot_at s.cells one) (λ c. on (slot_at s.cells other) (λ d. OnCell (cell.Swap c.number d.number) None))
 operation s (NewArc slot n) = OnArc (arc.New (number n)) None
 operation s (Arc slot register todo) = on (slot_at s.arcs slot) (λ a. OnArc (arc_op s todo a.number) None)
 operation s (NewTrack slot n) = OnTrack (track.New (number n)) None

@@ -96,6 +96,8 @@ pub enum Step {
     NewCell(usize, u64),
     /// Accesses the cell in the slot, and keeps the number that it is told in the register.
     Cell(usize, usize, CellAccess),
+    /// Exchanges the numbers of the cells in the two slots.
+    SwapCells(usize, usize),
     /// Makes a counted reference to this number, and keeps it in the slot.
     NewArc(usize, u64),
     /// Accesses the counted reference in the slot, and keeps the number that it is told in the register; where others share
@@ -343,6 +345,21 @@ impl Script {
         }
     }
 
+    /// The exchange of what the cells in the two slots hold.
+    fn swap_cells(&self, one: usize, other: usize) -> Op<Number, Script>
+        ensures { result ≡ on (slot_at self.now.cells one) (λ c. on (slot_at self.now.cells other) (λ d. Op.Cell (CellOp.Swap c.number d.number) None)) }
+    {
+        let Some(one) = slot_at(&self.cells, one) else {
+            return fail();
+        };
+        let Some(other) = slot_at(&self.cells, other) else {
+            return fail();
+        };
+        Cell { number: one.number }.swap(Cell {
+            number: other.number,
+        })
+    }
+
     /// The access of the counted reference in the slot.
     fn access_arc(&self, slot: usize, access: ArcAccess) -> Op<Number, Script>
         ensures { result ≡ on (slot_at self.now.arcs slot) (λ a. Op.Arc (arc_op self.now access a.number) None) }
@@ -392,6 +409,7 @@ impl Script {
             Step::Fence(order) => fence(order),
             Step::NewCell(_, number) => UnsafeCell::new(Number(number)),
             Step::Cell(slot, _, access) => self.access_cell(slot, access),
+            Step::SwapCells(one, other) => self.swap_cells(one, other),
             Step::NewArc(_, number) => Arc::new(Number(number)),
             Step::Arc(slot, _, access) => self.access_arc(slot, access),
             Step::NewTrack(_, number) => Track::new(Number(number)),

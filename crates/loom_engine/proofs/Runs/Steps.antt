@@ -46,7 +46,7 @@ use Rattle.loom_objects.specs.Atomics.{access_begins, an_atomic, as_atomic, asks
 use Rattle.loom_objects.specs.Counts.{an_arc, arc_begins, as_arc, comes_to as counted_comes_to, counts, decrements, drops_last, is_free, may_grow, sole_value, tries_unwrap, unwraps_if}
 use Rattle.loom_objects.specs.Leaks.{check_leak, first_leak, first_of, leak_of}
 use Rattle.loom_objects.specs.Tracks.{a_track, as_track, track_begins, track_take, tracked_value}
-use Rattle.loom_objects.specs.Cells.{a_cell, as_cell, cell_begins, data_left, is_free as is_free_cell, is_unread, reads_open, records_read, records_write, result_of}
+use Rattle.loom_objects.specs.Cells.{a_cell, as_cell, cell_begins, data_left, exchanges_cells, is_free as is_free_cell, is_unread, opens_write, reads_open, records_read, records_write, result_of, swap_if}
 use Rattle.loom_objects.specs.Locks.{mutex_begins, lock, sets_free}
 use Rattle.loom_objects.specs.Notifiers.{as_notifier}
 use Rattle.loom_objects.specs.declared.rt.thread.Locking.{Locking}
@@ -147,6 +147,20 @@ module _ {D : Type 0} where
   left_fair : (cell : Cell D) → IsFairResult (data_left cell)
   left_fair cell = either (is_free_cell cell) (result_of cell.value) (Err OpenAccess) (result_fair cell.value) (λ e. cc)
 
+  opens_write_comes : (n : ℕ) (w : World D) → Comes Anything (opens_write n w)
+  opens_write_comes n w =
+      cell_found n w _ (λ cell. raises_comes w _ (λ raised. check_comes (is_free_cell cell) OpenAccess _ (λ e. cc) (cell_writes n raised _ (λ written. comes_to _ tt))))
+
+  exchanges_cells_comes : (n m : ℕ) (w : World D) → Comes Anything (exchanges_cells n m w)
+  exchanges_cells_comes n m w =
+      cell_found n w _ (λ one. cell_found m w _ (λ other. found_comes one.value _ _ misuse (λ of_one. found_comes other.value _ _ misuse (λ of_other.
+      cell_writes m w _ (λ written. cell_writes n written _ (λ ended. comes_to _ tt))))))
+
+  swap_comes : (is_same : Bool) (n m : ℕ) (w : World D) → Comes Anything (swap_if is_same n m w)
+  swap_comes true n m w = comes_to _ tt
+  swap_comes false n m w =
+      then_comes {Q = Anything} _ _ (opens_write_comes n w) (λ opened q. then_comes {Q = Anything} _ _ (opens_write_comes m opened.1) (λ both r. exchanges_cells_comes n m both.1))
+
   cell_comes : (todo : CellOp D) (w : World D) → Comes Anything (cell_begins todo w)
   cell_comes (cell_op.New value) w = comes_to _ tt
   cell_comes (cell_op.Read n) w =
@@ -170,6 +184,7 @@ module _ {D : Type 0} where
   cell_comes (cell_op.Replace n value) w =
       cell_found n w _ (λ cell. raises_comes w _ (λ raised. check_comes (is_free_cell cell) OpenAccess _ (λ e. cc)
       (cell_writes n raised _ (λ written. found_comes cell.value _ _ misuse (λ old. cell_writes n written _ (λ ended. comes_to _ tt))))))
+  cell_comes (cell_op.Swap n m) w = cell_found n w _ (λ one. cell_found m w _ (λ other. swap_comes (n == m) n m w))
 
   finish_comes : (notifier : Option ℕ) (thread : Thread D) (value : D) (w : World D) → Comes Anything (finish_as notifier thread value w)
   finish_comes None thread value w = comes_to _ tt

@@ -1,4 +1,4 @@
-ghost use Rattle.std.specs.Prelude.{◌≡◌, ◌<◌, IfOk, IfErr, length, slice_get};
+ghost use Rattle.std.specs.Prelude.{◌≡◌, ◌≢◌, ◌<◌, IfOk, IfErr, length, slice_get};
 ghost use Rattle.loom_objects.specs.Cells as rules;
 ghost use Rattle.loom_objects.specs.Shown.{Does, IsSound};
 
@@ -40,6 +40,7 @@ impl<D: Data> RunState<D> {
             CellOp::IntoInner(number) => self.cell_into_inner(number),
             CellOp::Get(number) => self.cell_get(number),
             CellOp::Replace(number, value) => self.cell_replace(number, value),
+            CellOp::Swap(number, other) => self.cell_swap(number, other),
         }
     }
 
@@ -335,5 +336,97 @@ impl<D: Drop> RunState<D> {
             Ok(()) => Ok(Entry::Answered(Reply::Data(value))),
             Err(kind) => Err(failed(kind)),
         }
+    }
+
+    /// A write begins: the thread raises its version and writes.
+    fn open_write(&mut self, number: usize) -> Result<(), Stop>
+        requires { IsSound self.old }
+        ensures does { Does (rules.opens_write number) self.old result self.new }
+        ensures sound { IsSound self.new }
+        ensures steps { self.new.steps_left ≡ self.old.steps_left }
+    {
+        let active = self.active as usize;
+        if number >= self.objects.len() {
+            return Err(failed(FailureKind::Misuse));
+        }
+        let Object::Cell(cell) = self.objects.at(number) else {
+            return Err(failed(FailureKind::Misuse));
+        };
+        if cell.is_taken {
+            return Err(failed(FailureKind::Misuse));
+        }
+        match self.views.raise(active) {
+            Ok(()) => {}
+            Err(kind) => return Err(failed(kind)),
+        }
+        if !cell.is_free() {
+            return Err(failed(FailureKind::OpenAccess));
+        }
+        match self.views.write(active, number) {
+            Ok(()) => Ok(()),
+            Err(kind) => Err(failed(kind)),
+        }
+    }
+
+    /// The writes of both cells end, and each holds what the other one held.
+    fn exchange_cells(&mut self, number: usize, other: usize) -> Result<Entry<D>, Stop>
+        requires sound { IsSound self.old }
+        requires two { number ≢ other }
+        ensures does { Does (rules.exchanges_cells number other) self.old result self.new }
+        ensures sound { IsSound self.new }
+        ensures steps { self.new.steps_left ≡ self.old.steps_left }
+    {
+        let active = self.active as usize;
+        if number >= self.objects.len() || other >= self.objects.len() {
+            return Err(failed(FailureKind::Misuse));
+        }
+        let Object::Cell(one) = self.objects.at(number) else {
+            return Err(failed(FailureKind::Misuse));
+        };
+        let Object::Cell(two) = self.objects.at(other) else {
+            return Err(failed(FailureKind::Misuse));
+        };
+        if one.is_taken || two.is_taken || one.value.is_none() || two.value.is_none() {
+            return Err(failed(FailureKind::Misuse));
+        }
+        match self.views.write(active, other) {
+            Ok(()) => {}
+            Err(kind) => return Err(failed(kind)),
+        }
+        match self.views.write(active, number) {
+            Ok(()) => {}
+            Err(kind) => return Err(failed(kind)),
+        }
+        let value = self.exchange_data(number, None, None);
+        let value = self.exchange_data(other, value, None);
+        self.exchange_data(number, value, None);
+        Ok(Entry::Answered(Reply::Done))
+    }
+
+    /// Two cells exchange their data, by a write of each that begins and ends.
+    fn cell_swap(&mut self, number: usize, other: usize) -> Result<Entry<D>, Stop>
+        requires { IsSound self.old }
+        ensures does { Does (rules.cell_swap number other) self.old result self.new }
+        ensures sound { IsSound self.new }
+        ensures steps { self.new.steps_left ≡ self.old.steps_left }
+    {
+        if number >= self.objects.len() || other >= self.objects.len() {
+            return Err(failed(FailureKind::Misuse));
+        }
+        let Object::Cell(one) = self.objects.at(number) else {
+            return Err(failed(FailureKind::Misuse));
+        };
+        let Object::Cell(two) = self.objects.at(other) else {
+            return Err(failed(FailureKind::Misuse));
+        };
+        if one.is_taken || two.is_taken {
+            return Err(failed(FailureKind::Misuse));
+        }
+        if number == other {
+            return Ok(Entry::Answered(Reply::Done));
+        }
+        self.open_write(number)?;
+        self.open_write(other)?;
+        self.exchange_cells(number, other)
     }
 }
