@@ -5,5 +5,6 @@ pub mod Leading
 pub mod Changing
 pub mod Entering
 pub mod Telling
-pub mod Resuming
 pub mod Leaking
+pub mod Offering
+pub mod Parking

@@ -1,5 +1,5 @@
 -- What a run asks for: a thread, a store, or whether a thread wakes without a notification.
-use Rattle.std.specs.Prelude.{ℕ, suc, ◌≡◌, ◌≤◌, Bool, true, false, List, [], ◌∷◌, map, ◌⊎◌, length, Option, Some, None, slice_get}
+use Rattle.std.specs.Prelude.{ℕ, suc, ◌≡◌, ◌≢◌, ◌≤◌, Bool, true, false, List, [], ◌∷◌, map, ◌⊎◌, length, Option, Some, None, slice_get}
 use Rattle.loom_objects.specs.declared.choice.Choice.{Choice}
 use Rattle.loom_objects.specs.declared.choice.Choice.TheVariants.{Thread, Load, Spurious}
 use Rattle.loom_objects.specs.declared.rt.thread.Ability.{Ability}
@@ -82,6 +82,11 @@ made_of (WhetherSpurious exploring) = record {
 abbrev pub IsSoundDefault : Option ℕ → List Ability → Type 0
 IsSoundDefault None abilities = Unit {0}
 IsSoundDefault (Some k) abilities = slice_get abilities k ≡ Some Able
+
+-- the default thread is able, and without one no thread is
+abbrev pub AreSoundOffers : Option ℕ → List Ability → Type 0
+AreSoundOffers None abilities = (k : ℕ) → slice_get abilities k ≢ Some Able
+AreSoundOffers (Some k) abilities = slice_get abilities k ≡ Some Able
 
 -- the default thread is able, there are at most five threads, and at most seven slots
 abbrev pub IsSound : Question → Type 0

@@ -1,19 +1,23 @@
 -- The tables of the machine: what an operation does up to its branch point, and what it does once its thread is chosen.
-use Rattle.std.specs.Prelude.{ℕ, ◌-◌, Bool, true, false, nat_lt, List, [], ◌∷◌, map, cond, Option, Some, None, slice_get, slice_set, ⊤}
+use Rattle.std.specs.Prelude.{ℕ, suc, ◌-◌, Bool, true, false, nat_lt, List, [], ◌∷◌, map, cond, Option, Some, None, slice_get, slice_set, ⊤}
 use Rattle.std.specs.List.{list_all, position_from}
+use Rattle.std.specs.Option.{option_map}
 use Rattle.loom_views.specs.declared.rt.failure.FailureKind.TheVariants.{Assertion, TooManySteps, Misuse, Unreachable}
 use Rattle.loom_objects.specs.declared.operation.Op.{Op}
 use Rattle.loom_objects.specs.declared.operation.Op.TheVariants as op
 use Rattle.loom_objects.specs.declared.operation.Reply.{Reply}
+use Rattle.loom_objects.specs.declared.operation.Reply.TheVariants as reply
 use Rattle.loom_objects.specs.declared.operation.Turn.{Turn}
 use Rattle.loom_objects.specs.declared.operation.Turn.TheVariants as turn
 use Rattle.loom_objects.specs.declared.rt.run.Entry.{Entry}
 use Rattle.loom_objects.specs.declared.rt.run.Passed.{Passed}
 use Rattle.loom_objects.specs.declared.rt.run.Passed.TheVariants as passed
 use Rattle.loom_objects.specs.declared.rt.thread.Ability.{Ability}
+use Rattle.loom_objects.specs.declared.rt.thread.Ability.TheVariants as ability
 use Rattle.loom_objects.specs.declared.rt.thread.Ability.TheVariants.{Able, Unable}
+use Rattle.loom_objects.specs.declared.rt.thread.Offers.{Offers}
 use Rattle.loom_objects.specs.declared.rt.thread.State.{State}
-use Rattle.loom_objects.specs.declared.rt.thread.State.TheVariants.{Runnable, Ended}
+use Rattle.loom_objects.specs.declared.rt.thread.State.TheVariants.{Runnable, Yielding, Ended}
 use Rattle.loom_objects.specs.declared.rt.thread.Thread.{Thread}
 use Rattle.loom_objects.specs.declared.rt.thread.Task.{Task}
 use Rattle.loom_objects.specs.declared.rt.thread.Task.TheVariants.{Start, Body, Continue, Access, Count, TryUnwrap, Lock, TryLock, Claim, Wait, Relock, Wake, Notify, Await, Rouse, Join, Finish}
@@ -28,21 +32,62 @@ use Rattle.loom_objects.specs.Tracks.{track_begins}
 use Rattle.loom_objects.specs.Leaks.{check_leak, first_leak}
 use Rattle.loom_objects.specs.Threads.{thread_begins, join, child_finish}
 
-abbrev pub is_able : Option Ability → Bool
-is_able (Some Able) = true
-is_able _ = false
-
-abbrev pub is_able_one : Ability → Bool
-is_able_one Able = true
-is_able_one _ = false
-
--- the active thread if it can go on, or else the lowest that can
-abbrev pub default_thread : ℕ → List Ability → Option ℕ
-default_thread active abilities = cond (is_able (slice_get abilities active)) (Some active) (position_from is_able_one 0 abilities)
-
 abbrev pub ability_of : State → Ability
 ability_of Runnable = Able
+ability_of Yielding = ability.Yielding
 ability_of _ = Unable
+
+-- Standings: what each thread's state lets it do, and how often it has yielded.
+
+abbrev pub is_able : Option (Ability × ℕ) → Bool
+is_able (Some (Able, yields)) = true
+is_able _ = false
+
+abbrev pub is_yielding : Ability × ℕ → Bool
+is_yielding (ability.Yielding, yields) = true
+is_yielding _ = false
+
+-- of the best thread so far, with its yields, and one with so many, the one that has yielded less, the first on a tie
+abbrev pub fewer : Option (ℕ × ℕ) → ℕ → ℕ → ℕ × ℕ
+fewer None t yields = (t, yields)
+fewer (Some (best, least)) t yields = cond (nat_lt yields least) (t, yields) (best, least)
+
+abbrev pub better : Option (ℕ × ℕ) → ℕ → Ability × ℕ → Option (ℕ × ℕ)
+better best t (Able, yields) = Some (fewer best t yields)
+better best t _ = best
+
+-- of those that can go on, from thread t on, the one with the fewest yields, the first on ties
+abbrev pub fewest : Option (ℕ × ℕ) → ℕ → List (Ability × ℕ) → Option ℕ
+fewest best t [] = option_map (λ found. found.0) best
+fewest best t (standing ∷ rest) = fewest (better best t standing) (suc t) rest
+
+abbrev pub or_else : Option ℕ → Option ℕ → Option ℕ
+or_else None other = other
+or_else (Some t) other = Some t
+
+-- the active thread if it can go on, or else the one with the fewest yields that can, or else the first that has yielded
+abbrev pub default_thread : ℕ → List (Ability × ℕ) → Option ℕ
+default_thread active standings = cond (is_able (slice_get standings active)) (Some active) (or_else (fewest None 0 standings) (position_from is_yielding 0 standings))
+
+abbrev pub ability_in : Ability × ℕ → Ability
+ability_in standing = standing.0
+
+-- the default thread can go on
+abbrev pub with_able : Option ℕ → List Ability → List Ability
+with_able None abilities = abilities
+with_able (Some t) abilities = slice_set abilities t Able
+
+-- what threads with these standings offer to a schedule, while this one is active
+abbrev pub offers_of : ℕ → List (Ability × ℕ) → Offers
+offers_of active standings = record {
+  default = default_thread active standings;
+  abilities = with_able (default_thread active standings) (map ability_in standings);
+}
+
+-- a thread that has yielded can go on again
+abbrev pub again : State → State
+again Yielding = Runnable
+again state = state
 
 abbrev pub is_ended : State → Bool
 is_ended Ended = true
@@ -82,31 +127,42 @@ module _ {D : Type 0} where
   abbrev pub turns_by : (World D → Tree (Reply D × World D)) → World D → Tree (Passed D × World D)
   turns_by effect w = (effect w >>= told) >>= turned
 
+  -- what the thread is told of what it had pending, where that is its whole effect
+  abbrev pub effect : Task D → World D → Tree (Reply D × World D)
+  effect Continue w = Gives (reply.Done, w)
+  effect (Lock locking n) w = lock locking n w
+  effect (TryLock n) w = Fails Misuse
+  effect (Claim claim n) w = Fails Misuse
+  effect (Wake waking n) w = Fails Misuse
+  effect (Notify n) w = Fails Misuse
+  effect (Await n) w = Fails Misuse
+  effect (Rouse n) w = Fails Misuse
+  effect (Count todo n) w = counts todo n w
+  effect (Join t n) w = join t n w
+  effect (Finish n value) w = child_finish n value w
+  effect _ w = Fails Misuse
+
   -- what the chosen thread has pending takes effect: a thread has its turn, or this one comes to another branch point
   abbrev pub takes_effect : Task D → World D → Tree (Passed D × World D)
   takes_effect Start w = turned (turn.Start w.active, w)
-  takes_effect Body w = Fails Misuse
-  takes_effect Continue w = Fails Misuse
   takes_effect (Access access) w = turns_by (takes_place access) w
-  takes_effect (Lock locking n) w = turns_by (lock locking n) w
-  takes_effect (TryLock n) w = Fails Misuse
-  takes_effect (Claim claim n) w = Fails Misuse
   takes_effect (Wait locking n m value) w = Fails Misuse
   takes_effect (Relock locking m) w = Fails Misuse
-  takes_effect (Wake waking n) w = Fails Misuse
-  takes_effect (Notify n) w = Fails Misuse
-  takes_effect (Await n) w = Fails Misuse
-  takes_effect (Rouse n) w = Fails Misuse
-  takes_effect (Count todo n) w = turns_by (counts todo n) w
   takes_effect (TryUnwrap n) w = tries_unwrap n w
-  takes_effect (Join t n) w = turns_by (join t n) w
-  takes_effect (Finish n value) w = turns_by (child_finish n value) w
+  takes_effect todo w = turns_by (effect todo) w
 
-  -- thread t is chosen
+  abbrev pub runs_again : Thread D → Thread D
+  runs_again thread = record thread { state = again thread.state }
+
+  -- each thread that has yielded can go on again
+  abbrev pub all_run : World D → World D
+  all_run w = record w { threads = map runs_again w.threads }
+
+  -- thread t is chosen: it stays in its state, and each other one that has yielded can go on again
   abbrev pub resumes : ℕ → World D → Tree (Passed D × World D)
   resumes t w = do
     thread ← found (slice_get w.threads t) Misuse
-    takes_effect thread.task (with_active (record thread { task = Body }) (record w { active = t }))
+    takes_effect thread.task (with_active (record thread { task = Body }) (all_run (record w { active = t })))
 
   -- nothing is left that must not be, and main's result is taken out
   abbrev pub ends : World D → Tree (Turn D × World D)
@@ -122,13 +178,18 @@ module _ {D : Type 0} where
   abbrev pub all_ended : World D → Bool
   all_ended w = list_all has_ended w.threads
 
-  abbrev pub offered : Option (Thread D) → Ability
-  offered None = Unable
-  offered (Some thread) = ability_of thread.state
+  -- a thread as a schedule sees it: what its state lets it do, and how often it has yielded
+  abbrev pub standing_of : Option (Thread D) → Ability × ℕ
+  standing_of None = (Unable, 0)
+  standing_of (Some thread) = (ability_of thread.state, thread.yields)
 
-  abbrev pub ability_at : List (Thread D) → ℕ → Ability
-  ability_at threads t = offered (slice_get threads t)
+  abbrev pub standing_at : List (Thread D) → ℕ → Ability × ℕ
+  standing_at threads t = standing_of (slice_get threads t)
 
-  -- what the five threads offer
-  abbrev pub abilities : World D → List Ability
-  abilities w = map (ability_at w.threads) (0 ∷ 1 ∷ 2 ∷ 3 ∷ 4 ∷ [])
+  -- the five threads
+  abbrev pub standings : World D → List (Ability × ℕ)
+  standings w = map (standing_at w.threads) (0 ∷ 1 ∷ 2 ∷ 3 ∷ 4 ∷ [])
+
+  -- what they offer to a schedule
+  abbrev pub offers : World D → Offers
+  offers w = offers_of w.active (standings w)

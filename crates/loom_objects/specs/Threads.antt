@@ -15,7 +15,7 @@ use Rattle.loom_objects.specs.declared.rt.thread.State.{State}
 use Rattle.loom_objects.specs.declared.rt.thread.State.TheVariants as state
 use Rattle.loom_objects.specs.declared.rt.thread.Phase.{Phase}
 use Rattle.loom_objects.specs.declared.rt.thread.Phase.TheVariants.{Working, Finished, Exited, Over}
-use Rattle.loom_objects.specs.Tree.{Tree, Gives, Fails, ◌>>=◌, check, found}
+use Rattle.loom_objects.specs.Tree.{Tree, Gives, ◌>>=◌, check, found}
 use Rattle.loom_objects.specs.World.{World, child_thread}
 use Rattle.loom_objects.specs.declared.rt.thread.Name.{Name}
 use Rattle.loom_objects.specs.Moves.{active_thread, with_active, came, with_points, acquires, is_number, tells, with_object, with_new, pends, yields}
@@ -143,10 +143,10 @@ module _ {D : Type 0} where
   abbrev pub thread_begins : ThreadOp D ⊤ → World D → Tree (Entry D × World D)
   thread_begins (Spawn body name) w = spawn name w
   thread_begins (Join t n) w = join_begins t n w
-  thread_begins Current w = Fails Misuse
-  thread_begins Park w = Fails Misuse
-  thread_begins (Unpark t) w = Fails Misuse
-  thread_begins Yield w = Fails Misuse
+  thread_begins Current w = current w
+  thread_begins Park w = park w
+  thread_begins (Unpark t) w = unpark t w
+  thread_begins Yield w = yield_now w
   thread_begins (Finish value) w = finish value w
   thread_begins Exit w = exit w
   thread_begins End w = end w

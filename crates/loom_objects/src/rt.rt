@@ -5,6 +5,7 @@ mod counts;
 pub mod location;
 mod locks;
 pub mod object;
+mod parking;
 pub mod run;
 pub mod steps;
 pub mod sync;

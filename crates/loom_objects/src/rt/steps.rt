@@ -1,5 +1,6 @@
-ghost use Rattle.std.specs.Prelude.{◌≡◌, ◌≢◌, Err, ◌+◌, ◌≤◌, ◌<◌, length, IfOk, IfErr, OnOk};
-ghost use Rattle.std.specs.List.{list_all};
+ghost use Rattle.std.specs.Prelude.{◌≡◌, ◌≢◌, Err, None, Some, ◌+◌, ◌≤◌, ◌<◌, length, map, IfSome, IfOk, IfErr, OnOk};
+ghost use Rattle.std.specs.List.{list_all, position_from};
+ghost use Rattle.loom_objects.specs.Question.{AreSoundOffers};
 ghost use Rattle.loom_objects.specs.Leaks as leaks;
 ghost use Rattle.loom_objects.specs.Steps as rules;
 ghost use Rattle.loom_views.specs.Table.{Points};
@@ -11,20 +12,136 @@ use crate::failure::{Stop, failed};
 use crate::operation::{Op, Reply, Turn};
 use crate::rt::object::Object;
 use crate::rt::run::{Entry, Passed, Resumed, RunState};
-use crate::rt::thread::{Ability, Phase, State, Task, Thread};
+use crate::rt::thread::{Ability, Offers, Phase, State, Task, Thread};
 use loom_views::rt::failure::FailureKind;
 use loom_views::rt::table::Views;
 use loom_views::sequence::Sequence;
 use std::alloc::{AllocError, Global};
 use std::mem;
 
-fn ability_at<D>(threads: &Sequence<Thread<D>>, place: usize) -> Ability
-    ensures { result ≡ rules.ability_at threads.now place }
+fn ability_of(state: State) -> Ability
+    ensures { result ≡ rules.ability_of state }
 {
-    if place < threads.len() && matches!(threads.at(place).state, State::Runnable) {
-        Ability::Able
-    } else {
-        Ability::Unable
+    match state {
+        State::Runnable => Ability::Able,
+        State::Yielding => Ability::Yielding,
+        State::Blocked | State::Parked | State::Sleeping | State::Ended => Ability::Unable,
+    }
+}
+
+/// What the thread's state lets it do, and how often it has yielded.
+fn standing_at<D>(threads: &Sequence<Thread<D>>, place: usize) -> (Ability, u64)
+    ensures { result ≡ rules.standing_at threads.now place }
+{
+    if place >= threads.len() {
+        return (Ability::Unable, 0);
+    }
+    let thread = threads.at(place);
+    (ability_of(thread.state), thread.yields)
+}
+
+fn is_able(standing: (Ability, u64)) -> bool
+    ensures { result ≡ rules.is_able (Some standing) }
+{
+    matches!(standing.0, Ability::Able)
+}
+
+fn is_yielding(standing: (Ability, u64)) -> bool
+    ensures { result ≡ rules.is_yielding standing }
+{
+    matches!(standing.0, Ability::Yielding)
+}
+
+/// The better one of the best thread so far, with its yields, and this one: a thread that can go on and has yielded less.
+fn better(best: Option<(u8, u64)>, thread: u8, standing: (Ability, u64)) -> Option<(u8, u64)>
+    ensures { result ≡ rules.better best thread standing }
+{
+    if !is_able(standing) {
+        return best;
+    }
+    match best {
+        Some((_, least)) if least <= standing.1 => best,
+        _ => Some((thread, standing.1)),
+    }
+}
+
+/// Of the threads that can go on, the one with the fewest yields, the first on ties.
+fn fewest(standings: &[(Ability, u64); 5]) -> Option<u8>
+    ensures { result ≡ rules.fewest None 0 standings.now }
+{
+    let mut best = None;
+    for place in 0..5 {
+        best = better(best, place as u8, standings[place]);
+    }
+    match best {
+        Some((thread, _)) => Some(thread),
+        None => None,
+    }
+}
+
+/// The place of the first thread that has yielded.
+fn yielding_place(standings: &[(Ability, u64); 5]) -> Option<usize>
+    ensures first { result ≡ position_from rules.is_yielding 0 standings.now }
+    ensures within { IfSome result (λ thread. thread < 5) }
+{
+    standings.iter().position(|standing| is_yielding(*standing))
+}
+
+/// The active thread if it can go on, or else the one with the fewest yields that can, or else the first that has yielded.
+fn default_thread(active: u8, standings: &[(Ability, u64); 5]) -> Option<u8>
+    ensures { result ≡ rules.default_thread active standings.now }
+{
+    if active < 5 && is_able(standings[active as usize]) {
+        return Some(active);
+    }
+    if let Some(thread) = fewest(standings) {
+        return Some(thread);
+    }
+    match yielding_place(standings) {
+        Some(thread) => Some(thread as u8),
+        None => None,
+    }
+}
+
+fn ability_in(standing: (Ability, u64)) -> Ability
+    ensures { result ≡ rules.ability_in standing }
+{
+    standing.0
+}
+
+fn abilities(standings: &[(Ability, u64); 5]) -> [Ability; 5]
+    ensures { result ≡ map rules.ability_in standings.now }
+{
+    standings.map(ability_in)
+}
+
+/// The thread, if there is one, can go on.
+fn with_able(mut abilities: [Ability; 5], thread: Option<u8>) -> [Ability; 5]
+    ensures { result ≡ rules.with_able thread abilities }
+{
+    if let Some(thread) = thread {
+        if thread < 5 {
+            abilities[thread as usize] = Ability::Able;
+        }
+    }
+    abilities
+}
+
+/// A thread that has yielded can go on again.
+fn run_again<D>(thread: &mut Thread<D>)
+    ensures { thread.new ≡ rules.runs_again thread.old }
+{
+    if matches!(thread.state, State::Yielding) {
+        thread.state = State::Runnable;
+    }
+}
+
+/// Each thread that has yielded can go on again.
+fn run_all_again<D>(threads: &mut Sequence<Thread<D>>)
+    ensures { threads.new ≡ map rules.runs_again threads.old }
+{
+    for i in 0..threads.len() {
+        run_again(threads.at_mut(i));
     }
 }
 
@@ -132,17 +249,30 @@ impl<D: Drop> RunState<D> {
         })
     }
 
-    /// What the five threads offer to a schedule.
-    pub fn abilities(&self) -> [Ability; 5]
-        ensures { (points : Points) → result ≡ rules.abilities (world_of points self.now) }
+    /// The five threads, as a schedule sees them.
+    fn standings(&self) -> [(Ability, u64); 5]
+        ensures { (points : Points) → result ≡ rules.standings (world_of points self.now) }
     {
         [
-            ability_at(&self.threads, 0),
-            ability_at(&self.threads, 1),
-            ability_at(&self.threads, 2),
-            ability_at(&self.threads, 3),
-            ability_at(&self.threads, 4),
+            standing_at(&self.threads, 0),
+            standing_at(&self.threads, 1),
+            standing_at(&self.threads, 2),
+            standing_at(&self.threads, 3),
+            standing_at(&self.threads, 4),
         ]
+    }
+
+    /// What the threads offer to a schedule, and which one goes on by itself.
+    pub fn offers(&self) -> Offers
+        ensures offers { (points : Points) → result ≡ rules.offers (world_of points self.now) }
+        ensures sound { AreSoundOffers result.default result.abilities }
+    {
+        let standings = self.standings();
+        let default = default_thread(self.active, &standings);
+        Offers {
+            default,
+            abilities: with_able(abilities(&standings), default),
+        }
     }
 
     /// The active thread is told the reply.
@@ -169,40 +299,52 @@ impl<D: Drop> RunState<D> {
             return Err(failed(FailureKind::Misuse));
         }
         self.active = thread;
+        let state = self.threads.at(thread as usize).state;
+        run_all_again(&mut self.threads);
         let chosen = self.threads.at_mut(thread as usize);
-        match mem::replace(&mut chosen.task, Task::Body) {
-            Task::Start => Ok(Resumed::Passed(Passed::Turn(Turn::Start(thread)))),
-            Task::Body
-            | Task::Continue
-            | Task::TryLock(_)
-            | Task::Claim(_, _)
-            | Task::Wait(_, _, _, _)
-            | Task::Relock(_, _)
-            | Task::Wake(_, _)
-            | Task::Notify(_)
-            | Task::Await(_)
-            | Task::Rouse(_) => Err(failed(FailureKind::Misuse)),
+        chosen.state = state;
+        let task = mem::replace(&mut chosen.task, Task::Body);
+        self.take_effect(task)
+    }
+
+    /// What the active thread had pending takes effect.
+    fn take_effect(&mut self, task: Task<D>) -> Result<Resumed<D>, Stop>
+        requires { IsSound self.old }
+        ensures does { (w : World D) → Shows w self.old → Resumes (rules.takes_effect task w) result self.new }
+        ensures slot { IfOk result HasSlot }
+        ensures sound { IsSound self.new }
+        ensures steps { self.new.steps_left ≡ self.old.steps_left }
+        ensures no_growth { result ≢ Err Stop.Memory }
+    {
+        match task {
+            Task::Start => Ok(Resumed::Passed(Passed::Turn(Turn::Start(self.active)))),
             Task::Access(access) => self.access(access),
-            Task::Lock(locking, mutex) => {
-                let answer = self.lock(locking, mutex);
-                self.told(answer)
-            }
-            Task::Count(todo, number) => {
-                let answer = self.count(todo, number);
-                self.told(answer)
-            }
             Task::TryUnwrap(number) => match self.try_unwrap(number) {
                 Ok(passed) => Ok(Resumed::Passed(passed)),
                 Err(stop) => Err(stop),
             },
-            Task::Join(joined, notifier) => {
-                let answer = self.join(joined, notifier);
+            other => {
+                let answer = self.effect(other);
                 self.told(answer)
             }
-            Task::Finish(notifier, value) => {
-                let answer = self.child_finish(notifier, value);
-                self.told(answer)
-            }
+        }
+    }
+
+    /// What the active thread is told of what it had pending, where that is its whole effect.
+    fn effect(&mut self, task: Task<D>) -> Result<Reply<D>, Stop>
+        requires { IsSound self.old }
+        ensures does { Does (rules.effect task) self.old result self.new }
+        ensures sound { IsSound self.new }
+        ensures steps { self.new.steps_left ≡ self.old.steps_left }
+        ensures no_growth { result ≢ Err Stop.Memory }
+    {
+        match task {
+            Task::Continue => Ok(Reply::Done),
+            Task::Lock(locking, mutex) => self.lock(locking, mutex),
+            Task::Count(todo, number) => self.count(todo, number),
+            Task::Join(joined, notifier) => self.join(joined, notifier),
+            Task::Finish(notifier, value) => self.child_finish(notifier, value),
+            _ => Err(failed(FailureKind::Misuse)),
         }
     }
 

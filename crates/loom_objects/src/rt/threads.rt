@@ -1,7 +1,7 @@
 ghost use Rattle.std.specs.Prelude.{◌≡◌, ◌≢◌, Err, ◌+◌, ◌++◌, ◌∷◌, [], ◌<◌, OnOk, IfErr, length, map, slice_get};
 ghost use Rattle.std.specs.List.{list_all};
 ghost use Rattle.loom_objects.specs.Threads as rules;
-ghost use Rattle.loom_objects.specs.Moves.{with_new, tells, pending_with, target as target_of, is_number, blocked_if};
+ghost use Rattle.loom_objects.specs.Moves.{with_new, tells, yields_so, pending_with, target as target_of, is_number, blocked_if};
 ghost use Rattle.loom_objects.specs.World.{World};
 ghost use Rattle.loom_objects.specs.Shown.{Does, Shows, IsSound};
 
@@ -95,6 +95,25 @@ impl<D: Drop> RunState<D> {
         }
     }
 
+    /// The active thread is in the yield state and has this pending.
+    pub(crate) fn yield_by(&mut self, task: Task<D>) -> Result<(), Stop>
+        requires { IsSound self.old }
+        ensures does { Does (yields_so task) self.old result self.new }
+        ensures sound { IsSound self.new }
+        ensures steps { self.new.steps_left ≡ self.old.steps_left }
+        ensures no_growth { result ≢ Err Stop.Memory }
+    {
+        let thread = self.threads.at_mut(self.active as usize);
+        if thread.yields == u64::MAX {
+            return Err(failed(FailureKind::TooManySteps));
+        }
+        thread.yields += 1;
+        thread.state = State::Yielding;
+        thread.task = task;
+        self.views.mark_yield(self.active as usize);
+        Ok(())
+    }
+
     pub(crate) fn thread_begins(&mut self, op: ThreadOp<D, ()>) -> Result<Entry<D>, Stop>
         requires { IsSound self.old }
         ensures does { Does (rules.thread_begins op) self.old result self.new }
@@ -107,9 +126,10 @@ impl<D: Drop> RunState<D> {
             ThreadOp::Finish(value) => self.finish(value),
             ThreadOp::Exit => self.exit(),
             ThreadOp::End => self.end(),
-            ThreadOp::Current | ThreadOp::Park | ThreadOp::Unpark(_) | ThreadOp::Yield => {
-                Err(failed(FailureKind::Misuse))
-            }
+            ThreadOp::Current => self.current(),
+            ThreadOp::Park => self.park(),
+            ThreadOp::Unpark(thread) => self.unpark(thread),
+            ThreadOp::Yield => self.yield_now(),
         }
     }
 
@@ -239,7 +259,7 @@ impl<D: Drop> RunState<D> {
     }
 
     /// Who waits, if any thread does, takes in the active thread's view.
-    fn tell(&mut self, waiter: Option<u8>)
+    pub(crate) fn tell(&mut self, waiter: Option<u8>)
         ensures shown { (w : World D) → Shows w self.old → Shows (tells waiter w) self.new }
         ensures rest { self.new ≡ record self.old { views = self.new.views } }
     {
