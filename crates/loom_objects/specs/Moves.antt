@@ -1,5 +1,5 @@
 -- Threads and objects by number, and how threads wait for objects.
-use Rattle.std.specs.Prelude.{ℕ, ◌+◌, ◌-◌, ◌^◌, ◌==◌, Bool, true, false, [], ◌∷◌, List, ◌++◌, map, cond, is_none, nat_lt, slice_get, slice_set, Option, Some, None, Result, Ok, Err}
+use Rattle.std.specs.Prelude.{ℕ, ◌+◌, ◌-◌, ◌^◌, ◌==◌, Bool, true, false, [], ◌∷◌, List, ◌++◌, map, cond, is_none, nat_lt, slice_get, slice_set, Option, Some, None, Result, Ok, Err, ⊤}
 use Rattle.std.specs.declared.sync.atomic.Ordering.TheVariants.{Release}
 use Rattle.loom_views.specs.declared.rt.failure.FailureKind.{FailureKind}
 use Rattle.loom_views.specs.declared.rt.failure.FailureKind.TheVariants.{Misuse, TooManySteps}
@@ -148,3 +148,9 @@ module _ {D : Type 0} where
     thread ← active_thread w
     _ ← check (nat_lt thread.yields (2 ^ 64 - 1)) TooManySteps
     Gives (with_points (points_after_yield w.points w.active) (with_active (record thread { state = Yielding; yields = thread.yields + 1; task = todo }) w))
+
+  -- the same, with no answer
+  abbrev pub yields_so : Task D → World D → Tree (⊤ × World D)
+  yields_so todo w = do
+    yielded ← yields todo w
+    Gives (tt, yielded)

@@ -4,6 +4,7 @@ mod cells;
 mod counts;
 pub mod location;
 mod locks;
+mod notifiers;
 pub mod object;
 pub mod run;
 pub mod steps;

@@ -88,9 +88,8 @@ impl<D: Data> RunState<D> {
             Op::Arc(op, _) => self.arc_begins(op),
             Op::Track(op, _) => self.track_begins(op),
             Op::Mutex(op, _) => self.mutex_begins(op),
-            Op::RwLock(_, _) | Op::Condvar(_, _) | Op::Notify(_, _) => Err(failed(
-                FailureKind::Misuse,
-            )),
+            Op::RwLock(_, _) | Op::Condvar(_, _) => Err(failed(FailureKind::Misuse)),
+            Op::Notify(op, _) => self.notifier_begins(op),
             Op::Thread(op, _) => self.thread_begins(op),
             Op::Fail(_) => Err(failed(FailureKind::Assertion)),
             Op::Unreachable(_) => Err(failed(FailureKind::Unreachable)),
@@ -178,13 +177,22 @@ impl<D: Drop> RunState<D> {
             | Task::Claim(_, _)
             | Task::Wait(_, _, _, _)
             | Task::Relock(_, _)
-            | Task::Wake(_, _)
-            | Task::Notify(_)
-            | Task::Await(_)
-            | Task::Rouse(_) => Err(failed(FailureKind::Misuse)),
+            | Task::Wake(_, _) => Err(failed(FailureKind::Misuse)),
             Task::Access(access) => self.access(access),
             Task::Lock(locking, mutex) => {
                 let answer = self.lock(locking, mutex);
+                self.told(answer)
+            }
+            Task::Notify(number) => {
+                let answer = self.notify(number);
+                self.told(answer)
+            }
+            Task::Await(number) => {
+                let answer = self.await_notified(number);
+                self.told(answer)
+            }
+            Task::Rouse(number) => {
+                let answer = self.wake_early(number);
                 self.told(answer)
             }
             Task::Count(todo, number) => {

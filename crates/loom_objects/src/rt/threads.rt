@@ -1,7 +1,7 @@
 ghost use Rattle.std.specs.Prelude.{◌≡◌, ◌≢◌, Err, ◌+◌, ◌++◌, ◌∷◌, [], ◌<◌, OnOk, IfErr, length, map, slice_get};
 ghost use Rattle.std.specs.List.{list_all};
 ghost use Rattle.loom_objects.specs.Threads as rules;
-ghost use Rattle.loom_objects.specs.Moves.{with_new, tells, pending_with, target as target_of, is_number, blocked_if};
+ghost use Rattle.loom_objects.specs.Moves.{with_new, tells, yields_so, pending_with, target as target_of, is_number, blocked_if};
 ghost use Rattle.loom_objects.specs.World.{World};
 ghost use Rattle.loom_objects.specs.Shown.{Does, Shows, IsSound};
 
@@ -13,7 +13,6 @@ use crate::rt::sync::{Notify, Spurious};
 use crate::rt::thread::{Name, Phase, State, Task, Thread};
 use loom_views::rt::failure::FailureKind;
 use loom_views::sequence::Sequence;
-use std::sync::atomic::Ordering;
 
 impl<D: Drop> Thread<D> {
     /// The thread has this pending, and can't go on while it is blocked.
@@ -93,6 +92,25 @@ impl<D: Drop> RunState<D> {
             Ok(()) => Ok(()),
             Err(_) => Err(Stop::Memory),
         }
+    }
+
+    /// The active thread is in the yield state and has this pending.
+    pub(crate) fn yield_by(&mut self, task: Task<D>) -> Result<(), Stop>
+        requires { IsSound self.old }
+        ensures does { Does (yields_so task) self.old result self.new }
+        ensures sound { IsSound self.new }
+        ensures steps { self.new.steps_left ≡ self.old.steps_left }
+        ensures no_growth { result ≢ Err Stop.Memory }
+    {
+        let thread = self.threads.at_mut(self.active as usize);
+        if thread.yields == u64::MAX {
+            return Err(failed(FailureKind::TooManySteps));
+        }
+        thread.pend(task, false);
+        thread.state = State::Yielding;
+        thread.yields += 1;
+        self.views.mark_yield(self.active as usize);
+        Ok(())
     }
 
     pub(crate) fn thread_begins(&mut self, op: ThreadOp<D, ()>) -> Result<Entry<D>, Stop>
@@ -239,7 +257,7 @@ impl<D: Drop> RunState<D> {
     }
 
     /// Who waits, if any thread does, takes in the active thread's view.
-    fn tell(&mut self, waiter: Option<u8>)
+    pub(crate) fn tell(&mut self, waiter: Option<u8>)
         ensures shown { (w : World D) → Shows w self.old → Shows (tells waiter w) self.new }
         ensures rest { self.new ≡ record self.old { views = self.new.views } }
     {
@@ -257,18 +275,7 @@ impl<D: Drop> RunState<D> {
         ensures steps { self.new.steps_left ≡ self.old.steps_left }
         ensures no_growth { result ≢ Err Stop.Memory }
     {
-        if notifier >= self.objects.len() {
-            return Err(failed(FailureKind::Misuse));
-        }
-        let Object::Notify(notify) = self.objects.at_mut(notifier) else {
-            return Err(failed(FailureKind::Misuse));
-        };
-        notify.notified = true;
-        let waiter = notify.waiter;
-        self.views
-            .release(self.active as usize, notifier, Ordering::Release);
-        self.tell(waiter);
-        self.wake_pending(notifier);
+        self.notify_waiter(notifier)?;
         let thread = self.threads.at_mut(self.active as usize);
         thread.result = Some(value);
         Ok(Reply::Done)

@@ -3,6 +3,7 @@ use Rattle.loom_objects.specs.declared.rt.run.Passed.{Passed}
 use Rattle.loom_objects.specs.declared.rt.thread.Task.TheVariants as task
 use Rattle.loom_objects.specs.Counts.{counts, tries_unwrap}
 use Rattle.loom_objects.specs.Locks.{lock}
+use Rattle.loom_objects.specs.Notifiers.{notifies, awaits, wakes_early}
 use Rattle.loom_objects.specs.Shown.{Resumes}
 use Rattle.loom_objects.specs.Threads.{join, child_finish}
 use Rattle.loom_objects.specs.Tree.{Tree}
@@ -23,6 +24,21 @@ pub returns-in-Lock-clause-does : goal.returns-in-Lock-clause-does
 returns-in-Lock-clause-does g c =
     rw c.told.ensures
     (turns c.args.self.now c.args.thread c.at_mut-chosen.result.now (task.Lock c.in-Lock.locking c.in-Lock.mutex) c.replace.new.dest c.at_mut-chosen.ensures.value (sym c.in-Lock.is ∙ c.replace.ensures.value) c.replace.ensures.after (lock c.in-Lock.locking c.in-Lock.mutex) c.lock-answer.result c.lock-answer.new.self (λ v. refl) c.lock-answer.ensures.does)
+
+pub returns-in-Notify-clause-does : goal.returns-in-Notify-clause-does
+returns-in-Notify-clause-does g c =
+    rw c.told-in-Notify.ensures
+    (turns c.args.self.now c.args.thread c.at_mut-chosen.result.now (task.Notify c.in-Notify.number) c.replace.new.dest c.at_mut-chosen.ensures.value (sym c.in-Notify.is ∙ c.replace.ensures.value) c.replace.ensures.after (notifies c.in-Notify.number) c.notify-answer.result c.notify-answer.new.self (λ v. refl) c.notify-answer.ensures.does)
+
+pub returns-in-Await-clause-does : goal.returns-in-Await-clause-does
+returns-in-Await-clause-does g c =
+    rw c.told-in-Await.ensures
+    (turns c.args.self.now c.args.thread c.at_mut-chosen.result.now (task.Await c.in-Await.number) c.replace.new.dest c.at_mut-chosen.ensures.value (sym c.in-Await.is ∙ c.replace.ensures.value) c.replace.ensures.after (awaits c.in-Await.number) c.await_notified-answer.result c.await_notified-answer.new.self (λ v. refl) c.await_notified-answer.ensures.does)
+
+pub returns-in-Rouse-clause-does : goal.returns-in-Rouse-clause-does
+returns-in-Rouse-clause-does g c =
+    rw c.told-in-Rouse.ensures
+    (turns c.args.self.now c.args.thread c.at_mut-chosen.result.now (task.Rouse c.in-Rouse.number) c.replace.new.dest c.at_mut-chosen.ensures.value (sym c.in-Rouse.is ∙ c.replace.ensures.value) c.replace.ensures.after (wakes_early c.in-Rouse.number) c.wake_early-answer.result c.wake_early-answer.new.self (λ v. refl) c.wake_early-answer.ensures.does)
 
 pub returns-in-Count-clause-does : goal.returns-in-Count-clause-does
 returns-in-Count-clause-does g c =
