@@ -20,7 +20,7 @@ use Rattle.loom_objects.specs.declared.rt.thread.Task.TheVariants.{Start, Body, 
 use Rattle.loom_objects.specs.Tree.{Tree, Gives, Fails, ◌>>=◌, check, found}
 use Rattle.loom_objects.specs.World.{World}
 use Rattle.loom_objects.specs.Moves.{with_active}
-use Rattle.loom_objects.specs.Locks.{mutex_begins, lock}
+use Rattle.loom_objects.specs.Locks.{mutex_begins, lock, try_lock}
 use Rattle.loom_objects.specs.Atomics.{atomic_begins, fence, takes_place}
 use Rattle.loom_objects.specs.Cells.{cell_begins}
 use Rattle.loom_objects.specs.Counts.{arc_begins, counts, tries_unwrap}
@@ -89,7 +89,7 @@ module _ {D : Type 0} where
   takes_effect Continue w = Fails Misuse
   takes_effect (Access access) w = turns_by (takes_place access) w
   takes_effect (Lock locking n) w = turns_by (lock locking n) w
-  takes_effect (TryLock n) w = Fails Misuse
+  takes_effect (TryLock n) w = turns_by (try_lock n) w
   takes_effect (Claim claim n) w = Fails Misuse
   takes_effect (Wait locking n m value) w = Fails Misuse
   takes_effect (Relock locking m) w = Fails Misuse

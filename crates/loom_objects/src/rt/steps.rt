@@ -174,7 +174,6 @@ impl<D: Drop> RunState<D> {
             Task::Start => Ok(Resumed::Passed(Passed::Turn(Turn::Start(thread)))),
             Task::Body
             | Task::Continue
-            | Task::TryLock(_)
             | Task::Claim(_, _)
             | Task::Wait(_, _, _, _)
             | Task::Relock(_, _)
@@ -185,6 +184,10 @@ impl<D: Drop> RunState<D> {
             Task::Access(access) => self.access(access),
             Task::Lock(locking, mutex) => {
                 let answer = self.lock(locking, mutex);
+                self.told(answer)
+            }
+            Task::TryLock(mutex) => {
+                let answer = self.try_lock(mutex);
                 self.told(answer)
             }
             Task::Count(todo, number) => {

@@ -2,7 +2,7 @@ use Rattle.std.proofs.Common.{refl, sym, ◌∙◌, subst}
 use Rattle.loom_objects.specs.declared.rt.run.Passed.{Passed}
 use Rattle.loom_objects.specs.declared.rt.thread.Task.TheVariants as task
 use Rattle.loom_objects.specs.Counts.{counts, tries_unwrap}
-use Rattle.loom_objects.specs.Locks.{lock}
+use Rattle.loom_objects.specs.Locks.{lock, try_lock}
 use Rattle.loom_objects.specs.Shown.{Resumes}
 use Rattle.loom_objects.specs.Threads.{join, child_finish}
 use Rattle.loom_objects.specs.Tree.{Tree}
@@ -23,6 +23,11 @@ pub returns-in-Lock-clause-does : goal.returns-in-Lock-clause-does
 returns-in-Lock-clause-does g c =
     rw c.told.ensures
     (turns c.args.self.now c.args.thread c.at_mut-chosen.result.now (task.Lock c.in-Lock.locking c.in-Lock.mutex) c.replace.new.dest c.at_mut-chosen.ensures.value (sym c.in-Lock.is ∙ c.replace.ensures.value) c.replace.ensures.after (lock c.in-Lock.locking c.in-Lock.mutex) c.lock-answer.result c.lock-answer.new.self (λ v. refl) c.lock-answer.ensures.does)
+
+pub returns-in-TryLock-clause-does : goal.returns-in-TryLock-clause-does
+returns-in-TryLock-clause-does g c =
+    rw c.told-in-TryLock.ensures
+    (turns c.args.self.now c.args.thread c.at_mut-chosen.result.now (task.TryLock c.in-TryLock.mutex) c.replace.new.dest c.at_mut-chosen.ensures.value (sym c.in-TryLock.is ∙ c.replace.ensures.value) c.replace.ensures.after (try_lock c.in-TryLock.mutex) c.try_lock-answer.result c.try_lock-answer.new.self (λ v. refl) c.try_lock-answer.ensures.does)
 
 pub returns-in-Count-clause-does : goal.returns-in-Count-clause-does
 returns-in-Count-clause-does g c =
