@@ -21,6 +21,7 @@ use Rattle.loom_objects.specs.Tree.{Tree, Gives, Fails, ◌>>=◌, check, found}
 use Rattle.loom_objects.specs.World.{World}
 use Rattle.loom_objects.specs.Moves.{with_active}
 use Rattle.loom_objects.specs.Locks.{mutex_begins, lock, try_lock}
+use Rattle.loom_objects.specs.RwLocks.{rwlock_begins, claims}
 use Rattle.loom_objects.specs.Atomics.{atomic_begins, fence, takes_place}
 use Rattle.loom_objects.specs.Cells.{cell_begins}
 use Rattle.loom_objects.specs.Counts.{arc_begins, counts, tries_unwrap}
@@ -57,7 +58,7 @@ module _ {D : Type 0} where
   op_begins (op.Arc todo place) w = arc_begins todo w
   op_begins (op.Track todo place) w = track_begins todo w
   op_begins (op.Mutex todo place) w = mutex_begins todo w
-  op_begins (op.RwLock todo place) w = Fails Misuse
+  op_begins (op.RwLock todo place) w = rwlock_begins todo w
   op_begins (op.Condvar todo place) w = Fails Misuse
   op_begins (op.Notify todo place) w = Fails Misuse
   op_begins (op.Thread todo place) w = thread_begins todo w
@@ -90,7 +91,7 @@ module _ {D : Type 0} where
   takes_effect (Access access) w = turns_by (takes_place access) w
   takes_effect (Lock locking n) w = turns_by (lock locking n) w
   takes_effect (TryLock n) w = turns_by (try_lock n) w
-  takes_effect (Claim claim n) w = Fails Misuse
+  takes_effect (Claim claim n) w = turns_by (claims claim n) w
   takes_effect (Wait locking n m value) w = Fails Misuse
   takes_effect (Relock locking m) w = Fails Misuse
   takes_effect (Wake waking n) w = Fails Misuse

@@ -6,6 +6,7 @@ pub mod location;
 mod locks;
 pub mod object;
 pub mod run;
+mod rwlocks;
 pub mod steps;
 pub mod sync;
 pub mod thread;

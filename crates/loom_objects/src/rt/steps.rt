@@ -1,10 +1,10 @@
-ghost use Rattle.std.specs.Prelude.{◌≡◌, ◌≢◌, Err, ◌+◌, ◌≤◌, ◌<◌, length, IfOk, IfErr, OnOk};
+ghost use Rattle.std.specs.Prelude.{◌≡◌, ◌≢◌, Err, ◌+◌, ◌≤◌, ◌<◌, length, slice_get, true, IfOk, IfErr, OnOk};
 ghost use Rattle.std.specs.List.{list_all};
 ghost use Rattle.loom_objects.specs.Leaks as leaks;
 ghost use Rattle.loom_objects.specs.Steps as rules;
 ghost use Rattle.loom_views.specs.Table.{Points};
 ghost use Rattle.loom_objects.specs.World.{World, opening};
-ghost use Rattle.loom_objects.specs.Shown.{Does, Shows, IsSound, Resumes, HasSlot, turn_of, world_of};
+ghost use Rattle.loom_objects.specs.Shown.{Does, Shows, IsSound, Resumes, HasSlot, needs_copy_at, turn_of, world_of};
 
 use crate::data::Data;
 use crate::failure::{Stop, failed};
@@ -88,9 +88,8 @@ impl<D: Data> RunState<D> {
             Op::Arc(op, _) => self.arc_begins(op),
             Op::Track(op, _) => self.track_begins(op),
             Op::Mutex(op, _) => self.mutex_begins(op),
-            Op::RwLock(_, _) | Op::Condvar(_, _) | Op::Notify(_, _) => Err(failed(
-                FailureKind::Misuse,
-            )),
+            Op::RwLock(op, _) => self.rwlock_begins(op),
+            Op::Condvar(_, _) | Op::Notify(_, _) => Err(failed(FailureKind::Misuse)),
             Op::Thread(op, _) => self.thread_begins(op),
             Op::Fail(_) => Err(failed(FailureKind::Assertion)),
             Op::Unreachable(_) => Err(failed(FailureKind::Unreachable)),
@@ -154,7 +153,9 @@ impl<D: Drop> RunState<D> {
             Err(stop) => Err(stop),
         }
     }
+}
 
+impl<D: Data> RunState<D> {
     /// The thread is chosen, and what it has pending takes effect; an access that reads from an atomic up to the choice of
     /// the store that it reads.
     pub fn resume(&mut self, thread: u8) -> Result<Resumed<D>, Stop>
@@ -163,7 +164,7 @@ impl<D: Drop> RunState<D> {
         ensures slot { IfOk result HasSlot }
         ensures sound { IsSound self.new }
         ensures steps { self.new.steps_left ≡ self.old.steps_left }
-        ensures no_growth { result ≢ Err Stop.Memory }
+        ensures growth { result ≡ Err Stop.Memory → needs_copy_at (slice_get self.old.threads thread) ≡ true }
     {
         if thread as usize >= self.threads.len() {
             return Err(failed(FailureKind::Misuse));
@@ -174,7 +175,6 @@ impl<D: Drop> RunState<D> {
             Task::Start => Ok(Resumed::Passed(Passed::Turn(Turn::Start(thread)))),
             Task::Body
             | Task::Continue
-            | Task::Claim(_, _)
             | Task::Wait(_, _, _, _)
             | Task::Relock(_, _)
             | Task::Wake(_, _)
@@ -188,6 +188,10 @@ impl<D: Drop> RunState<D> {
             }
             Task::TryLock(mutex) => {
                 let answer = self.try_lock(mutex);
+                self.told(answer)
+            }
+            Task::Claim(claim, number) => {
+                let answer = self.claim(claim, number);
                 self.told(answer)
             }
             Task::Count(todo, number) => {
@@ -208,7 +212,9 @@ impl<D: Drop> RunState<D> {
             }
         }
     }
+}
 
+impl<D: Drop> RunState<D> {
     /// Whether every thread has ended.
     pub fn all_ended(&self) -> bool
         ensures { result ≡ list_all rules.has_ended self.now.threads }

@@ -3,6 +3,7 @@ use Rattle.loom_objects.specs.declared.rt.run.Passed.{Passed}
 use Rattle.loom_objects.specs.declared.rt.thread.Task.TheVariants as task
 use Rattle.loom_objects.specs.Counts.{counts, tries_unwrap}
 use Rattle.loom_objects.specs.Locks.{lock, try_lock}
+use Rattle.loom_objects.specs.RwLocks.{claims}
 use Rattle.loom_objects.specs.Shown.{Resumes}
 use Rattle.loom_objects.specs.Threads.{join, child_finish}
 use Rattle.loom_objects.specs.Tree.{Tree}
@@ -28,6 +29,11 @@ pub returns-in-TryLock-clause-does : goal.returns-in-TryLock-clause-does
 returns-in-TryLock-clause-does g c =
     rw c.told-in-TryLock.ensures
     (turns c.args.self.now c.args.thread c.at_mut-chosen.result.now (task.TryLock c.in-TryLock.mutex) c.replace.new.dest c.at_mut-chosen.ensures.value (sym c.in-TryLock.is ∙ c.replace.ensures.value) c.replace.ensures.after (try_lock c.in-TryLock.mutex) c.try_lock-answer.result c.try_lock-answer.new.self (λ v. refl) c.try_lock-answer.ensures.does)
+
+pub returns-in-Claim-clause-does : goal.returns-in-Claim-clause-does
+returns-in-Claim-clause-does g c =
+    rw c.told-in-Claim.ensures
+    (turns c.args.self.now c.args.thread c.at_mut-chosen.result.now (task.Claim c.in-Claim.claim c.in-Claim.number) c.replace.new.dest c.at_mut-chosen.ensures.value (sym c.in-Claim.is ∙ c.replace.ensures.value) c.replace.ensures.after (claims c.in-Claim.claim c.in-Claim.number) c.claim-answer.result c.claim-answer.new.self (λ v. refl) c.claim-answer.ensures.does)
 
 pub returns-in-Count-clause-does : goal.returns-in-Count-clause-does
 returns-in-Count-clause-does g c =
