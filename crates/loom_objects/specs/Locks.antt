@@ -1,5 +1,5 @@
 -- What mutexes do.
-use Rattle.std.specs.Prelude.{ℕ, Bool, true, false, length, is_none, is_some, Some, None}
+use Rattle.std.specs.Prelude.{ℕ, Bool, true, false, length, is_none, is_some, Some, None, ⊤}
 use Rattle.loom_views.specs.declared.rt.failure.FailureKind.TheVariants.{Misuse}
 use Rattle.loom_objects.specs.declared.operation.MutexOp.{MutexOp}
 use Rattle.loom_objects.specs.declared.operation.MutexOp.TheVariants.{New, Lock, TryLock, Release, GetMut, Put, IntoInner}
@@ -11,7 +11,7 @@ use Rattle.loom_objects.specs.declared.rt.run.Entry.TheVariants.{Answered, AtBra
 use Rattle.loom_objects.specs.declared.rt.thread.Locking.{Locking}
 use Rattle.loom_objects.specs.declared.rt.thread.Locking.TheVariants.{Untimed, Timed}
 use Rattle.loom_objects.specs.declared.rt.thread.Task.TheVariants as task
-use Rattle.loom_objects.specs.Tree.{Tree, Gives, Fails, ◌>>=◌, check, found}
+use Rattle.loom_objects.specs.Tree.{Tree, Gives, ◌>>=◌, check, found}
 use Rattle.loom_objects.specs.World.{World}
 use Rattle.loom_objects.specs.Moves.{active_thread, a_mutex, free_value, acquires, releases, with_object, with_new, is_number, wakes_pending, blocks_pending, pends}
 
@@ -63,6 +63,12 @@ module _ {D : Type 0} where
     _ ← check (is_number mutex.holder w.active) Misuse
     Gives (wakes_pending n (releases n (with_object n (object.Mutex (record mutex { holder = None; value = Some value })) w)))
 
+  -- the same, with no answer
+  abbrev pub frees : ℕ → D → World D → Tree (⊤ × World D)
+  frees n value w = do
+    freed ← sets_free n value w
+    Gives (tt, freed)
+
   abbrev pub release : ℕ → D → World D → Tree (Entry D × World D)
   release n value w = do
     freed ← sets_free n value w
@@ -92,8 +98,8 @@ module _ {D : Type 0} where
   abbrev pub mutex_begins : MutexOp D → World D → Tree (Entry D × World D)
   mutex_begins (New value) w = mutex_new value w
   mutex_begins (Lock n) w = lock_begins n w
-  mutex_begins (TryLock n) w = Fails Misuse
+  mutex_begins (TryLock n) w = try_lock_begins n w
   mutex_begins (Release n value) w = release n value w
-  mutex_begins (GetMut n) w = Fails Misuse
-  mutex_begins (Put n value) w = Fails Misuse
-  mutex_begins (IntoInner n) w = Fails Misuse
+  mutex_begins (GetMut n) w = mutex_get_mut n w
+  mutex_begins (Put n value) w = mutex_put n value w
+  mutex_begins (IntoInner n) w = mutex_into_inner n w

@@ -26,6 +26,13 @@ waits TryRead = false
 waits Write = true
 waits TryWrite = false
 
+-- a thread that takes a lock so reads
+abbrev pub is_reading : Claim → Bool
+is_reading Read = true
+is_reading TryRead = true
+is_reading Write = false
+is_reading TryWrite = false
+
 module _ {D : Type 0} where
   abbrev pub new_lock : D → RwLock D
   new_lock value = record { value = Some value; readers = 0 ∷ 0 ∷ 0 ∷ 0 ∷ 0 ∷ []; writer = None; lent = None; is_taken = false }
@@ -163,3 +170,25 @@ module _ {D : Type 0} where
   rwlock_begins (lock_op.GetMut n) w = rwlock_get_mut n w
   rwlock_begins (lock_op.Put n value) w = rwlock_put n value w
   rwlock_begins (lock_op.IntoInner n) w = rwlock_into_inner n w
+
+  -- ---- what the code calls
+
+  -- a guard of the thread for reading has ended
+  abbrev pub with_one_fewer : ℕ → RwLock D → RwLock D
+  with_one_fewer t lock = with_guards t (guards_of t lock - 1) lock
+
+  -- whether no guard is left then; none where the thread has none to end
+  abbrev pub unread_after : ℕ → RwLock D → Option Bool
+  unread_after t lock = cond (nat_lt 0 (guards_of t lock)) (Some (is_unread (with_one_fewer t lock))) None
+
+  -- a lock that isn't refused is taken to read
+  abbrev pub reads_at : ℕ → World D → Tree (Reply D × World D)
+  reads_at n w = do
+    lock ← a_rwlock n w
+    reads_lock n lock w
+
+  -- the same, to write
+  abbrev pub writes_at : ℕ → World D → Tree (Reply D × World D)
+  writes_at n w = do
+    lock ← a_rwlock n w
+    writes_lock n lock w

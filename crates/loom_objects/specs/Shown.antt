@@ -1,5 +1,5 @@
 -- Which state of the machine the code's state shows, and when the code does what a rule says.
-use Rattle.std.specs.Prelude.{ℕ, ◌≡◌, ◌<◌, ◌≤◌, true, length, slice_get, Option, Some, None, Result, Ok, Err}
+use Rattle.std.specs.Prelude.{ℕ, ◌≡◌, ◌<◌, ◌≤◌, Bool, true, false, length, slice_get, Option, Some, None, Result, Ok, Err}
 use Rattle.std.specs.List.{Contains}
 use Rattle.loom_views.specs.Table.{Points, ShowsViews, IsSlotKept}
 use Rattle.loom_objects.specs.declared.choice.Choice.{Choice}
@@ -15,9 +15,13 @@ use Rattle.loom_objects.specs.declared.rt.run.Passed.TheVariants as passed
 use Rattle.loom_objects.specs.declared.rt.run.Resumed.{Resumed}
 use Rattle.loom_objects.specs.declared.rt.run.Resumed.TheVariants as resumed
 use Rattle.loom_objects.specs.declared.rt.run.RunState.{RunState}
+use Rattle.loom_objects.specs.declared.rt.thread.Task.{Task}
+use Rattle.loom_objects.specs.declared.rt.thread.Task.TheVariants as task
+use Rattle.loom_objects.specs.declared.rt.thread.Thread.{Thread}
 use Rattle.loom_objects.specs.Atomics.{slot_of, reads}
 use Rattle.loom_objects.specs.Operation.{accessed}
 use Rattle.loom_objects.specs.Question.{asked_store, slots}
+use Rattle.loom_objects.specs.RwLocks.{is_reading}
 use Rattle.loom_objects.specs.Steps.{told, turned}
 use Rattle.loom_objects.specs.Tree.{Tree, Gives, Fails, Asks, ◌>>=◌}
 use Rattle.loom_objects.specs.World.{World}
@@ -83,3 +87,12 @@ module _ {D : Type 0} where
   abbrev pub HasSlot : Resumed D → Type 0
   HasSlot (resumed.Passed passed) = Unit {0}
   HasSlot (resumed.Load load) = Contains load.readable true
+
+  -- what is pending needs a copy of data, for which memory may be refused: a lock that is taken to read
+  abbrev pub needs_copy : Task D → Bool
+  needs_copy (task.Claim claim n) = is_reading claim
+  needs_copy _ = false
+
+  abbrev pub needs_copy_at : Option (Thread D) → Bool
+  needs_copy_at None = false
+  needs_copy_at (Some thread) = needs_copy thread.task

@@ -24,7 +24,8 @@ use Rattle.loom_objects.specs.declared.rt.thread.Task.TheVariants.{Start, Body, 
 use Rattle.loom_objects.specs.Tree.{Tree, Gives, Fails, ◌>>=◌, check, found}
 use Rattle.loom_objects.specs.World.{World}
 use Rattle.loom_objects.specs.Moves.{with_active}
-use Rattle.loom_objects.specs.Locks.{mutex_begins, lock}
+use Rattle.loom_objects.specs.Locks.{mutex_begins, lock, try_lock}
+use Rattle.loom_objects.specs.RwLocks.{rwlock_begins, claims}
 use Rattle.loom_objects.specs.Notifiers.{notifier_begins, notifies, awaits, wakes_early}
 use Rattle.loom_objects.specs.Atomics.{atomic_begins, fence, takes_place}
 use Rattle.loom_objects.specs.Cells.{cell_begins}
@@ -103,7 +104,7 @@ module _ {D : Type 0} where
   op_begins (op.Arc todo place) w = arc_begins todo w
   op_begins (op.Track todo place) w = track_begins todo w
   op_begins (op.Mutex todo place) w = mutex_begins todo w
-  op_begins (op.RwLock todo place) w = Fails Misuse
+  op_begins (op.RwLock todo place) w = rwlock_begins todo w
   op_begins (op.Condvar todo place) w = Fails Misuse
   op_begins (op.Notify todo place) w = notifier_begins todo w
   op_begins (op.Thread todo place) w = thread_begins todo w
@@ -132,8 +133,8 @@ module _ {D : Type 0} where
   abbrev pub effect : Task D → World D → Tree (Reply D × World D)
   effect Continue w = Gives (reply.Done, w)
   effect (Lock locking n) w = lock locking n w
-  effect (TryLock n) w = Fails Misuse
-  effect (Claim claim n) w = Fails Misuse
+  effect (TryLock n) w = try_lock n w
+  effect (Claim claim n) w = claims claim n w
   effect (Wake waking n) w = Fails Misuse
   effect (Notify n) w = notifies n w
   effect (Await n) w = awaits n w

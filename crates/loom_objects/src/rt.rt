@@ -8,6 +8,7 @@ mod notifiers;
 pub mod object;
 mod parking;
 pub mod run;
+mod rwlocks;
 pub mod steps;
 pub mod sync;
 pub mod thread;

@@ -1,6 +1,6 @@
 -- Each operation that is handed over is an event, in each state of the machine.
 use Rattle.std.proofs.Common.{◌≡◌, ◌≢◌, ◌≤◌, ℕ, zero, suc, Bool, List, [], ◌∷◌, length, Option, Some, None, arith, refl}
-use Rattle.std.specs.Prelude.{◌==◌, ◌-◌, ◌^◌, true, false, not, if◌then◌else◌, slice_get, nat_lt, is_none, Result, Ok, Err, ⊤}
+use Rattle.std.specs.Prelude.{◌==◌, ◌-◌, ◌^◌, true, false, not, if◌then◌else◌, slice_get, nat_lt, is_none, is_some, Result, Ok, Err, ⊤}
 use Rattle.std.specs.declared.sync.atomic.Ordering.{Ordering}
 use Rattle.loom_views.specs.Changes.{fit, changed}
 use Rattle.loom_views.specs.Table.{Accessed, points_after_raise, points_after_spawn, points_after_read, points_after_write, points_after_load, points_after_store, points_after_update_read, points_after_update_write, points_after_unsync_load, points_after_with_mut, points_after_with_mut_end, readable_slots_of}
@@ -21,6 +21,8 @@ use Rattle.loom_objects.specs.declared.operation.CellOp.TheVariants as cell_op
 use Rattle.loom_objects.specs.declared.operation.Exchange.{Exchange}
 use Rattle.loom_objects.specs.declared.operation.MutexOp.{MutexOp}
 use Rattle.loom_objects.specs.declared.operation.MutexOp.TheVariants as mutex_op
+use Rattle.loom_objects.specs.declared.operation.RwLockOp.{RwLockOp}
+use Rattle.loom_objects.specs.declared.operation.RwLockOp.TheVariants as rwlock_op
 use Rattle.loom_objects.specs.declared.operation.Op.{Op}
 use Rattle.loom_objects.specs.declared.operation.Op.TheVariants as op
 use Rattle.loom_objects.specs.declared.operation.Reply.{Reply}
@@ -38,6 +40,7 @@ use Rattle.loom_objects.specs.declared.rt.sync.Track.{Track}
 use Rattle.loom_objects.specs.declared.rt.thread.Counting.{Counting}
 use Rattle.loom_objects.specs.declared.rt.thread.Counting.TheVariants as counting
 use Rattle.loom_objects.specs.declared.rt.sync.Cell.{Cell}
+use Rattle.loom_objects.specs.declared.rt.sync.RwLock.{RwLock}
 use Rattle.loom_objects.specs.declared.rt.run.Entry.TheVariants.{Answered, AtBranch, Spurious as AtSpurious}
 use Rattle.loom_objects.specs.declared.rt.thread.Task.{Task}
 use Rattle.loom_objects.specs.declared.rt.thread.Task.TheVariants as task
@@ -47,9 +50,13 @@ use Rattle.loom_objects.specs.Counts.{an_arc, arc_begins, as_arc, comes_to as co
 use Rattle.loom_objects.specs.Leaks.{check_leak, first_leak, first_of, leak_of}
 use Rattle.loom_objects.specs.Tracks.{a_track, as_track, track_begins, track_take, tracked_value}
 use Rattle.loom_objects.specs.Cells.{a_cell, as_cell, cell_begins, data_left, exchanges_cells, is_free as is_free_cell, is_unread, opens_write, reads_open, records_read, records_write, result_of, swap_if}
-use Rattle.loom_objects.specs.Locks.{mutex_begins, lock, sets_free}
+use Rattle.loom_objects.specs.Locks.{mutex_begins, lock, locks_unless, sets_free, try_lock}
+use Rattle.loom_objects.specs.RwLocks.{a_rwlock, as_rwlock, claim_begins, claims, guards_of, is_refused, reads_lock, rwlock_begins, takes_unless, unlocked_value, writes_lock}
 use Rattle.loom_objects.specs.Notifiers.{as_notifier}
+use Rattle.loom_objects.specs.declared.rt.thread.Claim.{Claim}
+use Rattle.loom_objects.specs.declared.rt.thread.Claim.TheVariants.{Read, TryRead, Write, TryWrite}
 use Rattle.loom_objects.specs.declared.rt.thread.Locking.{Locking}
+use Rattle.loom_objects.specs.declared.rt.thread.Locking.TheVariants.{Untimed}
 use Rattle.loom_objects.specs.Moves.{as_mutex, came, free_value, is_number, raises, with_active, with_points}
 use Rattle.loom_objects.specs.Operation.{accessed}
 use Rattle.loom_objects.specs.Question.{Among, made_of, slots}
@@ -95,10 +102,33 @@ module _ {D : Type 0} where
   mutex_comes (mutex_op.Lock n) w =
       found_comes (as_mutex (slice_get w.objects n)) _ _ misuse (λ mutex. found_comes (slice_get w.threads w.active) _ _ misuse (λ thread. comes_to _ tt))
   mutex_comes (mutex_op.Release n value) w = then_comes {Q = Anything} _ _ (free_comes n value w) (λ freed q. comes_to _ tt)
-  mutex_comes (mutex_op.TryLock n) w = comes_not Misuse misuse
-  mutex_comes (mutex_op.GetMut n) w = comes_not Misuse misuse
-  mutex_comes (mutex_op.Put n value) w = comes_not Misuse misuse
-  mutex_comes (mutex_op.IntoInner n) w = comes_not Misuse misuse
+  mutex_comes (mutex_op.TryLock n) w =
+      found_comes (as_mutex (slice_get w.objects n)) _ _ misuse (λ mutex. found_comes (slice_get w.threads w.active) _ _ misuse (λ thread. comes_to _ tt))
+  mutex_comes (mutex_op.GetMut n) w = found_comes (as_mutex (slice_get w.objects n)) _ _ misuse (λ mutex. found_comes (free_value mutex) _ _ misuse (λ value. comes_to _ tt))
+  mutex_comes (mutex_op.Put n value) w = found_comes (as_mutex (slice_get w.objects n)) _ _ misuse (λ mutex. check_comes (is_number mutex.lent w.active) _ _ misuse (comes_to _ tt))
+  mutex_comes (mutex_op.IntoInner n) w = found_comes (as_mutex (slice_get w.objects n)) _ _ misuse (λ mutex. found_comes (free_value mutex) _ _ misuse (λ value. comes_to _ tt))
+
+  -- ---- read-write locks
+
+  rwlock_found : {B : Type 0} {P : B → Type 0} (n : ℕ) (w : World D) (next : RwLock D → Tree B) → ((lock : RwLock D) → Comes P (next lock)) → Comes P (a_rwlock n w >>= next)
+  rwlock_found n w next h = found_comes (as_rwlock (slice_get w.objects n)) _ _ misuse h
+
+  claim_begins_comes : (claim : Claim) (n : ℕ) (w : World D) → Comes Anything (claim_begins claim n w)
+  claim_begins_comes claim n w = rwlock_found n w _ (λ lock. found_comes (slice_get w.threads w.active) _ _ misuse (λ thread. comes_to _ tt))
+
+  rwlock_comes : (todo : RwLockOp D) (w : World D) → Comes Anything (rwlock_begins todo w)
+  rwlock_comes (rwlock_op.New value) w = comes_to _ tt
+  rwlock_comes (rwlock_op.Read n) w = claim_begins_comes Read n w
+  rwlock_comes (rwlock_op.TryRead n) w = claim_begins_comes TryRead n w
+  rwlock_comes (rwlock_op.ReadRelease n) w = rwlock_found n w _ (λ lock. check_comes (nat_lt 0 (guards_of w.active lock)) _ _ misuse (comes_to _ tt))
+  rwlock_comes (rwlock_op.Write n) w = claim_begins_comes Write n w
+  rwlock_comes (rwlock_op.TryWrite n) w = claim_begins_comes TryWrite n w
+  rwlock_comes (rwlock_op.WriteRelease n value) w = rwlock_found n w _ (λ lock. check_comes (is_number lock.writer w.active) _ _ misuse (comes_to _ tt))
+  rwlock_comes (rwlock_op.GetMut n) w = rwlock_found n w _ (λ lock. found_comes (unlocked_value lock) _ _ misuse (λ value. comes_to _ tt))
+  rwlock_comes (rwlock_op.Put n value) w = rwlock_found n w _ (λ lock. check_comes (is_number lock.lent w.active) _ _ misuse (comes_to _ tt))
+  rwlock_comes (rwlock_op.IntoInner n) w = rwlock_found n w _ (λ lock. found_comes (unlocked_value lock) _ _ misuse (λ value. comes_to _ tt))
+
+  -- ---- atomics
 
   atomic_found : {B : Type 0} {P : B → Type 0} (n : ℕ) (w : World D) (next : Atomic → Tree B) → ((atomic : Atomic) → Comes P (next atomic)) → Comes P (an_atomic n w >>= next)
   atomic_found n w next h = found_comes (as_atomic (slice_get w.objects n)) _ _ misuse h
@@ -246,7 +276,7 @@ module _ {D : Type 0} where
   op_comes (op.Arc todo place) w = arc_comes todo w
   op_comes (op.Track todo place) w = track_comes todo w
   op_comes (op.Mutex todo place) w = mutex_comes todo w
-  op_comes (op.RwLock todo place) w = comes_not Misuse misuse
+  op_comes (op.RwLock todo place) w = rwlock_comes todo w
   op_comes (op.Condvar todo place) w = comes_not Misuse misuse
   op_comes (op.Notify todo place) w = comes_not Misuse misuse
   op_comes (op.Thread todo place) w = thread_comes todo w
@@ -263,6 +293,32 @@ module _ {D : Type 0} where
 
   lock_comes : (locking : Locking) (n : ℕ) (w : World D) → Comes Anything (lock locking n w)
   lock_comes locking n w = found_comes (as_mutex (slice_get w.objects n)) _ _ misuse (λ mutex. found_comes (free_value mutex) _ _ misuse (λ value. comes_to _ tt))
+
+  locks_comes : (is_held : Bool) (n : ℕ) (w : World D) → Comes Anything (locks_unless is_held n w)
+  locks_comes true n w = comes_to _ tt
+  locks_comes false n w = lock_comes Untimed n w
+
+  try_lock_comes : (n : ℕ) (w : World D) → Comes Anything (try_lock n w)
+  try_lock_comes n w = found_comes (as_mutex (slice_get w.objects n)) _ _ misuse (λ mutex. check_comes (is_none mutex.lent) _ _ misuse (locks_comes (is_some mutex.holder) n w))
+
+  reads_lock_comes : (n : ℕ) (lock : RwLock D) (w : World D) → Comes Anything (reads_lock n lock w)
+  reads_lock_comes n lock w = found_comes lock.value _ _ misuse (λ value. check_comes (nat_lt (guards_of w.active lock) (2 ^ 64 - 1)) TooManySteps _ (λ e. cc) (comes_to _ tt))
+
+  writes_lock_comes : (n : ℕ) (lock : RwLock D) (w : World D) → Comes Anything (writes_lock n lock w)
+  writes_lock_comes n lock w = found_comes lock.value _ _ misuse (λ value. comes_to _ tt)
+
+  takes_comes : (is_refused : Bool) (claim : Claim) (n : ℕ) (lock : RwLock D) (w : World D) → Comes Anything (takes_unless is_refused claim n lock w)
+  takes_comes true Read n lock w = comes_not Misuse misuse
+  takes_comes true TryRead n lock w = comes_to _ tt
+  takes_comes true Write n lock w = comes_not Misuse misuse
+  takes_comes true TryWrite n lock w = comes_to _ tt
+  takes_comes false Read n lock w = reads_lock_comes n lock w
+  takes_comes false TryRead n lock w = reads_lock_comes n lock w
+  takes_comes false Write n lock w = writes_lock_comes n lock w
+  takes_comes false TryWrite n lock w = writes_lock_comes n lock w
+
+  claims_comes : (claim : Claim) (n : ℕ) (w : World D) → Comes Anything (claims claim n w)
+  claims_comes claim n w = rwlock_found n w _ (λ lock. check_comes (is_none lock.lent) _ _ misuse (takes_comes (is_refused claim lock) claim n lock w))
 
   child_finish_comes : (n : ℕ) (value : D) (w : World D) → Comes Anything (child_finish n value w)
   child_finish_comes n value w =
@@ -397,8 +453,8 @@ module _ {D : Type 0} where
   effect_event task.Continue w = fails Misuse misuse
   effect_event (task.Access access) w = turned_pass _ (access_event access w)
   effect_event (task.Lock locking n) w = replies_pass (lock locking n w) (lock_comes locking n w)
-  effect_event (task.TryLock n) w = fails Misuse misuse
-  effect_event (task.Claim claim n) w = fails Misuse misuse
+  effect_event (task.TryLock n) w = replies_pass (try_lock n w) (try_lock_comes n w)
+  effect_event (task.Claim claim n) w = replies_pass (claims claim n w) (claims_comes claim n w)
   effect_event (task.Wait locking n m value) w = fails Misuse misuse
   effect_event (task.Relock locking m) w = fails Misuse misuse
   effect_event (task.Wake waking n) w = fails Misuse misuse

@@ -115,7 +115,7 @@ fn hand_over<D: Data>(
 }
 
 /// A schedule, and those after it, up to a turn. `Misuse` at one branch point more than there may be.
-fn schedule<D: Drop>(run: &mut RunState<D>, path: &mut Path, more: u8) -> Result<Turn<D>, Stop>
+fn schedule<D: Data>(run: &mut RunState<D>, path: &mut Path, more: u8) -> Result<Turn<D>, Stop>
     requires { IsSound run.old }
     ensures along { Along (machine.schedule more) run.old path.old result run.new path.new }
     ensures sound { IsSound run.new }
@@ -135,7 +135,7 @@ fn schedule<D: Drop>(run: &mut RunState<D>, path: &mut Path, more: u8) -> Result
 }
 
 /// The path says which thread goes on, and what it has pending takes effect.
-fn pass<D: Drop>(run: &mut RunState<D>, path: &mut Path) -> Result<Passed<D>, Stop>
+fn pass<D: Data>(run: &mut RunState<D>, path: &mut Path) -> Result<Passed<D>, Stop>
     requires { IsSound run.old }
     ensures along { Along machine.passes run.old path.old result run.new path.new }
     ensures sound { IsSound run.new }
@@ -153,7 +153,7 @@ fn pass<D: Drop>(run: &mut RunState<D>, path: &mut Path) -> Result<Passed<D>, St
 }
 
 /// The chosen thread goes on. A load asks the path which store it reads.
-fn go_on<D: Drop>(run: &mut RunState<D>, path: &mut Path, thread: u8) -> Result<Passed<D>, Stop>
+fn go_on<D: Data>(run: &mut RunState<D>, path: &mut Path, thread: u8) -> Result<Passed<D>, Stop>
     requires { IsSound run.old }
     ensures along { Along (resumes thread) run.old path.old result run.new path.new }
     ensures sound { IsSound run.new }

@@ -31,11 +31,11 @@ impl<D: Drop> RunState<D> {
         match op {
             MutexOp::New(value) => self.mutex_new(value),
             MutexOp::Lock(number) => self.lock_begins(number),
+            MutexOp::TryLock(number) => self.try_lock_begins(number),
             MutexOp::Release(number, value) => self.release(number, value),
-            MutexOp::TryLock(_) | MutexOp::GetMut(_) | MutexOp::IntoInner(_) => {
-                Err(failed(FailureKind::Misuse))
-            }
-            MutexOp::Put(_, _) => Err(failed(FailureKind::Misuse)),
+            MutexOp::GetMut(number) => self.mutex_get_mut(number),
+            MutexOp::Put(number, value) => self.mutex_put(number, value),
+            MutexOp::IntoInner(number) => self.mutex_into_inner(number),
         }
     }
 
@@ -78,6 +78,27 @@ impl<D: Drop> RunState<D> {
         Ok(Entry::AtBranch)
     }
 
+    /// The thread comes to a branch point, at which it is blocked only where another thread comes first.
+    fn try_lock_begins(&mut self, number: usize) -> Result<Entry<D>, Stop>
+        requires { IsSound self.old }
+        ensures does { Does (rules.try_lock_begins number) self.old result self.new }
+        ensures sound { IsSound self.new }
+        ensures steps { self.new.steps_left ≡ self.old.steps_left }
+    {
+        if number >= self.objects.len() {
+            return Err(failed(FailureKind::Misuse));
+        }
+        let Object::Mutex(mutex) = self.objects.at(number) else {
+            return Err(failed(FailureKind::Misuse));
+        };
+        if mutex.is_taken {
+            return Err(failed(FailureKind::Misuse));
+        }
+        let thread = self.threads.at_mut(self.active as usize);
+        thread.pend(Task::TryLock(number), false);
+        Ok(Entry::AtBranch)
+    }
+
     /// The active thread holds the mutex from now on and acquires, and who is pending on it is blocked.
     pub(crate) fn lock(&mut self, locking: Locking, number: usize) -> Result<Reply<D>, Stop>
         requires { IsSound self.old }
@@ -103,12 +124,36 @@ impl<D: Drop> RunState<D> {
         }
     }
 
-    /// The active thread releases, the mutex is free and has its data back, and who is pending on it is woken.
-    fn release(&mut self, number: usize, value: D) -> Result<Entry<D>, Stop>
+    /// The active thread holds the mutex from now on, unless one does already.
+    pub(crate) fn try_lock(&mut self, number: usize) -> Result<Reply<D>, Stop>
         requires { IsSound self.old }
-        ensures does { Does (rules.release number value) self.old result self.new }
+        ensures does { Does (rules.try_lock number) self.old result self.new }
         ensures sound { IsSound self.new }
         ensures steps { self.new.steps_left ≡ self.old.steps_left }
+        ensures no_growth { result ≢ Err Stop.Memory }
+    {
+        if number >= self.objects.len() {
+            return Err(failed(FailureKind::Misuse));
+        }
+        let Object::Mutex(mutex) = self.objects.at(number) else {
+            return Err(failed(FailureKind::Misuse));
+        };
+        if mutex.is_taken || mutex.lent.is_some() {
+            return Err(failed(FailureKind::Misuse));
+        }
+        if mutex.holder.is_some() {
+            return Ok(Reply::WouldBlock);
+        }
+        self.lock(Locking::Untimed, number)
+    }
+
+    /// The active thread releases, the mutex is free and has its data back, and who is pending on it is woken.
+    pub(crate) fn set_free(&mut self, number: usize, value: D) -> Result<(), Stop>
+        requires { IsSound self.old }
+        ensures does { Does (rules.frees number value) self.old result self.new }
+        ensures sound { IsSound self.new }
+        ensures steps { self.new.steps_left ≡ self.old.steps_left }
+        ensures no_growth { result ≢ Err Stop.Memory }
     {
         if number >= self.objects.len() {
             return Err(failed(FailureKind::Misuse));
@@ -129,6 +174,77 @@ impl<D: Drop> RunState<D> {
         self.views
             .release(active as usize, number, Ordering::Release);
         self.wake_pending(number);
+        Ok(())
+    }
+
+    fn release(&mut self, number: usize, value: D) -> Result<Entry<D>, Stop>
+        requires { IsSound self.old }
+        ensures does { Does (rules.release number value) self.old result self.new }
+        ensures sound { IsSound self.new }
+        ensures steps { self.new.steps_left ≡ self.old.steps_left }
+    {
+        match self.set_free(number, value) {
+            Ok(()) => Ok(Entry::Answered(Reply::Done)),
+            Err(stop) => Err(stop),
+        }
+    }
+
+    /// The data of a mutex that nobody holds goes out.
+    fn mutex_get_mut(&mut self, number: usize) -> Result<Entry<D>, Stop>
+        requires { IsSound self.old }
+        ensures does { Does (rules.mutex_get_mut number) self.old result self.new }
+        ensures sound { IsSound self.new }
+        ensures steps { self.new.steps_left ≡ self.old.steps_left }
+    {
+        if number >= self.objects.len() {
+            return Err(failed(FailureKind::Misuse));
+        }
+        let active = self.active;
+        let Object::Mutex(mutex) = self.objects.at_mut(number) else {
+            return Err(failed(FailureKind::Misuse));
+        };
+        match mutex.lend(active) {
+            Some(value) => Ok(Entry::Answered(Reply::Data(value))),
+            None => Err(failed(FailureKind::Misuse)),
+        }
+    }
+
+    /// The thread that has the data out puts some back.
+    fn mutex_put(&mut self, number: usize, value: D) -> Result<Entry<D>, Stop>
+        requires { IsSound self.old }
+        ensures does { Does (rules.mutex_put number value) self.old result self.new }
+        ensures sound { IsSound self.new }
+        ensures steps { self.new.steps_left ≡ self.old.steps_left }
+    {
+        if number >= self.objects.len() {
+            return Err(failed(FailureKind::Misuse));
+        }
+        let active = self.active;
+        let Object::Mutex(mutex) = self.objects.at_mut(number) else {
+            return Err(failed(FailureKind::Misuse));
+        };
+        if mutex.is_taken || !mutex.put(active, value) {
+            return Err(failed(FailureKind::Misuse));
+        }
         Ok(Entry::Answered(Reply::Done))
+    }
+
+    /// The data of a mutex that nobody holds, after which it is taken apart.
+    fn mutex_into_inner(&mut self, number: usize) -> Result<Entry<D>, Stop>
+        requires { IsSound self.old }
+        ensures does { Does (rules.mutex_into_inner number) self.old result self.new }
+        ensures sound { IsSound self.new }
+        ensures steps { self.new.steps_left ≡ self.old.steps_left }
+    {
+        if number >= self.objects.len() {
+            return Err(failed(FailureKind::Misuse));
+        }
+        let Object::Mutex(mutex) = self.objects.at_mut(number) else {
+            return Err(failed(FailureKind::Misuse));
+        };
+        match mutex.take_apart() {
+            Some(value) => Ok(Entry::Answered(Reply::Data(value))),
+            None => Err(failed(FailureKind::Misuse)),
+        }
     }
 }

@@ -1,11 +1,11 @@
-ghost use Rattle.std.specs.Prelude.{◌≡◌, ◌≢◌, Err, None, Some, ◌+◌, ◌≤◌, ◌<◌, length, map, IfSome, IfOk, IfErr, OnOk};
+ghost use Rattle.std.specs.Prelude.{◌≡◌, ◌≢◌, Err, None, Some, ◌+◌, ◌≤◌, ◌<◌, length, map, slice_get, true, IfSome, IfOk, IfErr, OnOk};
 ghost use Rattle.std.specs.List.{list_all, position_from};
 ghost use Rattle.loom_objects.specs.Question.{AreSoundOffers};
 ghost use Rattle.loom_objects.specs.Leaks as leaks;
 ghost use Rattle.loom_objects.specs.Steps as rules;
 ghost use Rattle.loom_views.specs.Table.{Points};
 ghost use Rattle.loom_objects.specs.World.{World, opening};
-ghost use Rattle.loom_objects.specs.Shown.{Does, Shows, IsSound, Resumes, HasSlot, turn_of, world_of};
+ghost use Rattle.loom_objects.specs.Shown.{Does, Shows, IsSound, Resumes, HasSlot, needs_copy_at, turn_of, world_of};
 
 use crate::data::Data;
 use crate::failure::{Stop, failed};
@@ -205,7 +205,8 @@ impl<D: Data> RunState<D> {
             Op::Arc(op, _) => self.arc_begins(op),
             Op::Track(op, _) => self.track_begins(op),
             Op::Mutex(op, _) => self.mutex_begins(op),
-            Op::RwLock(_, _) | Op::Condvar(_, _) => Err(failed(FailureKind::Misuse)),
+            Op::RwLock(op, _) => self.rwlock_begins(op),
+            Op::Condvar(_, _) => Err(failed(FailureKind::Misuse)),
             Op::Notify(op, _) => self.notifier_begins(op),
             Op::Thread(op, _) => self.thread_begins(op),
             Op::Fail(_) => Err(failed(FailureKind::Assertion)),
@@ -283,7 +284,9 @@ impl<D: Drop> RunState<D> {
             Err(stop) => Err(stop),
         }
     }
+}
 
+impl<D: Data> RunState<D> {
     /// The thread is chosen, and what it has pending takes effect; an access that reads from an atomic up to the choice of
     /// the store that it reads.
     pub fn resume(&mut self, thread: u8) -> Result<Resumed<D>, Stop>
@@ -292,7 +295,7 @@ impl<D: Drop> RunState<D> {
         ensures slot { IfOk result HasSlot }
         ensures sound { IsSound self.new }
         ensures steps { self.new.steps_left ≡ self.old.steps_left }
-        ensures no_growth { result ≢ Err Stop.Memory }
+        ensures growth { result ≡ Err Stop.Memory → needs_copy_at (slice_get self.old.threads thread) ≡ true }
     {
         if thread as usize >= self.threads.len() {
             return Err(failed(FailureKind::Misuse));
@@ -313,7 +316,7 @@ impl<D: Drop> RunState<D> {
         ensures slot { IfOk result HasSlot }
         ensures sound { IsSound self.new }
         ensures steps { self.new.steps_left ≡ self.old.steps_left }
-        ensures no_growth { result ≢ Err Stop.Memory }
+        ensures growth { result ≡ Err Stop.Memory → needs_copy task ≡ true }
     {
         match task {
             Task::Start => Ok(Resumed::Passed(Passed::Turn(Turn::Start(self.active)))),
@@ -328,6 +331,7 @@ impl<D: Drop> RunState<D> {
             }
         }
     }
+}
 
     /// What the active thread is told of what it had pending, where that is its whole effect.
     fn effect(&mut self, task: Task<D>) -> Result<Reply<D>, Stop>
@@ -335,11 +339,13 @@ impl<D: Drop> RunState<D> {
         ensures does { Does (rules.effect task) self.old result self.new }
         ensures sound { IsSound self.new }
         ensures steps { self.new.steps_left ≡ self.old.steps_left }
-        ensures no_growth { result ≢ Err Stop.Memory }
+        ensures growth { result ≡ Err Stop.Memory → needs_copy task ≡ true }
     {
         match task {
             Task::Continue => Ok(Reply::Done),
             Task::Lock(locking, mutex) => self.lock(locking, mutex),
+            Task::TryLock(mutex) => self.try_lock(mutex),
+            Task::Claim(claim, number) => self.claim(claim, number),
             Task::Notify(number) => self.notify(number),
             Task::Await(number) => self.await_notified(number),
             Task::Rouse(number) => self.wake_early(number),
@@ -349,7 +355,9 @@ impl<D: Drop> RunState<D> {
             _ => Err(failed(FailureKind::Misuse)),
         }
     }
+}
 
+impl<D: Drop> RunState<D> {
     /// Whether every thread has ended.
     pub fn all_ended(&self) -> bool
         ensures { result ≡ list_all rules.has_ended self.now.threads }

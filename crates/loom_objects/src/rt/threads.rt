@@ -1,7 +1,7 @@
 ghost use Rattle.std.specs.Prelude.{◌≡◌, ◌≢◌, Err, ◌+◌, ◌++◌, ◌∷◌, [], ◌<◌, OnOk, IfErr, length, map, slice_get};
 ghost use Rattle.std.specs.List.{list_all};
 ghost use Rattle.loom_objects.specs.Threads as rules;
-ghost use Rattle.loom_objects.specs.Moves.{with_new, tells, yields_so, pending_with, target as target_of, is_number, blocked_if};
+ghost use Rattle.loom_objects.specs.Moves.{with_new, tells, yields_so, pending_with, target as target_of, is_number, blocked_if, written, writing_with};
 ghost use Rattle.loom_objects.specs.World.{World};
 ghost use Rattle.loom_objects.specs.Shown.{Does, Shows, IsSound};
 
@@ -10,7 +10,7 @@ use crate::operation::{Reply, ThreadOp};
 use crate::rt::object::Object;
 use crate::rt::run::{Entry, RunState};
 use crate::rt::sync::{Notify, Spurious};
-use crate::rt::thread::{Name, Phase, State, Task, Thread};
+use crate::rt::thread::{Claim, Name, Phase, State, Task, Thread};
 use loom_views::rt::failure::FailureKind;
 use loom_views::sequence::Sequence;
 
@@ -62,7 +62,43 @@ fn give_pending<D>(threads: &mut Sequence<Thread<D>>, number: usize, state: Stat
     }
 }
 
+/// Whether the thread is about to take the read-write lock of this number for writing.
+fn is_writing<D>(task: &Task<D>, number: usize) -> bool
+    ensures { result ≡ is_number (written task.now) number }
+{
+    match task {
+        Task::Claim(Claim::Write, target) => *target == number,
+        Task::Claim(Claim::TryWrite, target) => *target == number,
+        _ => false,
+    }
+}
+
+/// The thread can't go on if it is about to write the lock.
+fn block_writer<D>(thread: &mut Thread<D>, number: usize)
+    ensures { thread.new ≡ writing_with number State.Blocked thread.old }
+{
+    if is_writing(&thread.task, number) {
+        thread.state = State::Blocked;
+    }
+}
+
+/// Each thread that is about to write the lock can't go on.
+fn block_writing<D>(threads: &mut Sequence<Thread<D>>, number: usize)
+    ensures { threads.new ≡ map (writing_with number State.Blocked) threads.old }
+{
+    for i in 0..threads.len() {
+        block_writer(threads.at_mut(i), number);
+    }
+}
+
 impl<D: Drop> RunState<D> {
+    /// Who is pending to write the lock can't go on.
+    pub(crate) fn block_writers(&mut self, number: usize)
+        ensures { self.new ≡ record self.old { threads = map (writing_with number State.Blocked) self.old.threads } }
+    {
+        block_writing(&mut self.threads, number);
+    }
+
     /// Who is pending on the object can't go on.
     pub(crate) fn block_pending(&mut self, number: usize)
         ensures { self.new ≡ record self.old { threads = map (pending_with number State.Blocked) self.old.threads } }
