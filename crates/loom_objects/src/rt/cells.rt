@@ -383,10 +383,13 @@ impl<D: Drop> RunState<D> {
         let Object::Cell(one) = self.objects.at(number) else {
             return Err(failed(FailureKind::Misuse));
         };
+        if one.is_taken || one.value.is_none() {
+            return Err(failed(FailureKind::Misuse));
+        }
         let Object::Cell(two) = self.objects.at(other) else {
             return Err(failed(FailureKind::Misuse));
         };
-        if one.is_taken || two.is_taken || one.value.is_none() || two.value.is_none() {
+        if two.is_taken || two.value.is_none() {
             return Err(failed(FailureKind::Misuse));
         }
         match self.views.write(active, other) {
@@ -416,10 +419,13 @@ impl<D: Drop> RunState<D> {
         let Object::Cell(one) = self.objects.at(number) else {
             return Err(failed(FailureKind::Misuse));
         };
+        if one.is_taken {
+            return Err(failed(FailureKind::Misuse));
+        }
         let Object::Cell(two) = self.objects.at(other) else {
             return Err(failed(FailureKind::Misuse));
         };
-        if one.is_taken || two.is_taken {
+        if two.is_taken {
             return Err(failed(FailureKind::Misuse));
         }
         if number == other {

@@ -5,7 +5,7 @@ ghost use Rattle.loom_objects.specs.Leaks as leaks;
 ghost use Rattle.loom_objects.specs.Steps as rules;
 ghost use Rattle.loom_views.specs.Table.{Points};
 ghost use Rattle.loom_objects.specs.World.{World, opening};
-ghost use Rattle.loom_objects.specs.Shown.{Does, Shows, IsSound, Resumes, HasSlot, needs_copy_at, turn_of, world_of};
+ghost use Rattle.loom_objects.specs.Shown.{Does, Shows, IsSound, Resumes, HasSlot, needs_copy, needs_copy_at, turn_of, world_of};
 
 use crate::data::Data;
 use crate::failure::{Stop, failed};
@@ -277,7 +277,8 @@ impl<D: Drop> RunState<D> {
 
     /// The active thread is told the reply.
     pub(crate) fn told(&self, answer: Result<Reply<D>, Stop>) -> Result<Resumed<D>, Stop>
-        ensures { result ≡ turn_of self.now.active answer }
+        ensures turn { result ≡ turn_of self.now.active answer }
+        ensures memory { result ≡ Err Stop.Memory → answer ≡ Err Stop.Memory }
     {
         match answer {
             Ok(reply) => Ok(Resumed::Passed(Passed::Turn(Turn::Reply(self.active, reply)))),
@@ -331,7 +332,6 @@ impl<D: Data> RunState<D> {
             }
         }
     }
-}
 
     /// What the active thread is told of what it had pending, where that is its whole effect.
     fn effect(&mut self, task: Task<D>) -> Result<Reply<D>, Stop>
