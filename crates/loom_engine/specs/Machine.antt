@@ -11,7 +11,7 @@ use Rattle.loom_objects.specs.declared.rt.run.Passed.{Passed}
 use Rattle.loom_objects.specs.declared.rt.run.Passed.TheVariants as passed
 use Rattle.loom_objects.specs.Tree.{Tree, Gives, Fails, Closes, Asks, ◌>>=◌, check}
 use Rattle.loom_objects.specs.World.{World}
-use Rattle.loom_objects.specs.Steps.{begins, told, turned, resumes, ends, all_ended, abilities}
+use Rattle.loom_objects.specs.Steps.{begins, told, turned, resumes, ends, all_ended, offers}
 use Rattle.loom_engine.specs.Routes.{which_thread}
 
 -- A thread comes to three further branch points at most before it is told something, and there are five threads.
@@ -33,7 +33,7 @@ module _ {D : Type 0} where
 
   -- at a branch point a schedule chooses the thread that goes on
   abbrev pub passes : World D → Tree (Passed D × World D)
-  passes w = Asks (which_thread w.active (abilities w)) (chooses w)
+  passes w = Asks (which_thread (offers w)) (chooses w)
 
   -- up to a turn; at another branch point it goes on again
   abbrev pub further : (World D → Tree (Turn D × World D)) → Passed D × World D → Tree (Turn D × World D)

@@ -47,24 +47,21 @@ use Rattle.loom_objects.specs.Counts.{an_arc, arc_begins, as_arc, comes_to as co
 use Rattle.loom_objects.specs.Leaks.{check_leak, first_leak, first_of, leak_of}
 use Rattle.loom_objects.specs.Tracks.{a_track, as_track, track_begins, track_take, tracked_value}
 use Rattle.loom_objects.specs.Cells.{a_cell, as_cell, cell_begins, data_left, is_free as is_free_cell, is_unread, reads_open, records_read, records_write, result_of}
-use Rattle.loom_objects.specs.Locks.{mutex_begins, lock, sets_free}
+use Rattle.loom_objects.specs.Locks.{mutex_begins, lock}
 use Rattle.loom_objects.specs.Notifiers.{as_notifier}
-use Rattle.loom_objects.specs.declared.rt.thread.Locking.{Locking}
-use Rattle.loom_objects.specs.Moves.{as_mutex, came, free_value, is_number, raises, with_active, with_points}
+use Rattle.loom_objects.specs.Moves.{as_mutex, came, is_number, raises, with_active, with_points}
 use Rattle.loom_objects.specs.Operation.{accessed}
 use Rattle.loom_objects.specs.Question.{Among, made_of, slots}
-use Rattle.loom_objects.specs.Steps.{abilities, all_ended, begins, ends, op_begins, resumes, takes_effect, told, turned}
+use Rattle.loom_objects.specs.Steps.{offers, all_ended, begins, ends, op_begins, resumes, all_run, takes_effect, told, turned}
 use Rattle.loom_objects.specs.Threads.{child_finish, finish_as, has_own, join, is_exited, is_finished, is_working, thread_begins}
 use Rattle.loom_objects.specs.Tree.{Tree, ◌>>=◌, found}
 use Rattle.loom_objects.specs.World.{World}
 use Rattle.loom_engine.specs.Machine.{chooses, closes as closes_run, further, further_branches, goes_on, passes, schedule, submit}
 use Rattle.loom_engine.specs.Routes.{which_thread}
-use Rattle.loom_engine.proofs.Runs.Defaults.{default_able, options_are_threads, IsLoadChoice, options_are_loads, slots_few}
+use Rattle.loom_engine.proofs.Runs.Defaults.{offers_ask, options_are_threads, IsLoadChoice, options_are_loads, slots_few}
 use Rattle.loom_engine.proofs.Runs.Fairness.{IsFairResult, either, raise_fair, spawn_fair, readable_fair, load_fair, store_fair, update_read_fair, update_write_fair, unsync_load_fair, with_mut_fair, with_mut_end_fair, cell_read_fair, cell_write_fair}
+use Rattle.loom_engine.proofs.Runs.Locking.{current_comes, free_comes, lock_comes, misuse, park_comes, unpark_comes, yield_now_comes}
 use Rattle.loom_engine.proofs.Runs.Events.{Comes, comes_to, comes_not, Anything, found_comes, then_comes, check_comes, IsGoing, IsOver, IsOpen, IsEvent, GoesOn, HasEnded, IsPass, goes, fails, closes, asks, going_event, event_open, then_event, check_event, event_after, turned_pass, StaysOpen}
-
-misuse : Misuse ≢ NotDeterministic
-misuse e = cc
 
 came_comes : {A B : Type 0} {P : B → Type 0} (r : Result A FailureKind) (next : A → Tree B) → IsFairResult r → ((a : A) → Comes P (next a)) → Comes P (came r >>= next)
 came_comes (Ok a) next fair h = h a
@@ -87,9 +84,6 @@ checked_comes None next fair h = h
 checked_comes (Some kind) next fair h = comes_not kind fair
 
 module _ {D : Type 0} where
-  free_comes : (n : ℕ) (value : D) (w : World D) → Comes Anything (sets_free n value w)
-  free_comes n value w = found_comes (as_mutex (slice_get w.objects n)) _ _ misuse (λ mutex. check_comes (is_number mutex.holder w.active) _ _ misuse (comes_to _ tt))
-
   mutex_comes : (todo : MutexOp D) (w : World D) → Comes Anything (mutex_begins todo w)
   mutex_comes (mutex_op.New value) w = comes_to _ tt
   mutex_comes (mutex_op.Lock n) w =
@@ -183,10 +177,10 @@ module _ {D : Type 0} where
       check_comes (has_own (slice_get w.threads t) n) _ _ misuse
       (found_comes (as_notifier (slice_get w.objects n)) _ _ misuse
       (λ notifier. check_comes (is_none notifier.waiter) _ _ misuse (found_comes (slice_get w.threads w.active) _ _ misuse (λ thread. comes_to _ tt))))
-  thread_comes thread_op.Current w = comes_not Misuse misuse
-  thread_comes thread_op.Park w = comes_not Misuse misuse
-  thread_comes (thread_op.Unpark t) w = comes_not Misuse misuse
-  thread_comes thread_op.Yield w = comes_not Misuse misuse
+  thread_comes thread_op.Current w = current_comes w
+  thread_comes thread_op.Park w = park_comes w
+  thread_comes (thread_op.Unpark t) w = unpark_comes t w
+  thread_comes thread_op.Yield w = yield_now_comes w
   thread_comes (thread_op.Finish value) w =
       found_comes (slice_get w.threads w.active) _ _ misuse (λ thread. check_comes (is_working thread.phase) _ _ misuse (finish_comes thread.notifier thread value w))
   thread_comes thread_op.Exit w = found_comes (slice_get w.threads w.active) _ _ misuse (λ thread. check_comes (is_finished thread.phase) _ _ misuse (comes_to _ tt))
@@ -245,9 +239,6 @@ module _ {D : Type 0} where
 
   told_comes : (answered : Reply D × World D) → Comes IsGoing (told answered)
   told_comes (reply, w) = comes_to _ tt
-
-  lock_comes : (locking : Locking) (n : ℕ) (w : World D) → Comes Anything (lock locking n w)
-  lock_comes locking n w = found_comes (as_mutex (slice_get w.objects n)) _ _ misuse (λ mutex. found_comes (free_value mutex) _ _ misuse (λ value. comes_to _ tt))
 
   child_finish_comes : (n : ℕ) (value : D) (w : World D) → Comes Anything (child_finish n value w)
   child_finish_comes n value w =
@@ -379,7 +370,7 @@ module _ {D : Type 0} where
   effect_event : (todo : Task D) (w : World D) → IsPass (takes_effect todo w)
   effect_event task.Start w = goes _ tt
   effect_event task.Body w = fails Misuse misuse
-  effect_event task.Continue w = fails Misuse misuse
+  effect_event task.Continue w = goes _ tt
   effect_event (task.Access access) w = turned_pass _ (access_event access w)
   effect_event (task.Lock locking n) w = replies_pass (lock locking n w) (lock_comes locking n w)
   effect_event (task.TryLock n) w = fails Misuse misuse
@@ -398,7 +389,7 @@ module _ {D : Type 0} where
   resumes_event : (t : ℕ) (w : World D) → IsPass (resumes t w)
   resumes_event t w = chosen (slice_get w.threads t)
     where
-      chosen : (o : Option (Thread D)) → IsPass (found o Misuse >>= (λ thread. takes_effect thread.task (with_active (record thread { task = task.Body }) (record w { active = t }))))
+      chosen : (o : Option (Thread D)) → IsPass (found o Misuse >>= (λ thread. takes_effect thread.task (with_active (record thread { task = task.Body }) (all_run (record w { active = t })))))
       chosen None = fails Misuse misuse
       chosen (Some thread) = effect_event thread.task _
 
@@ -432,10 +423,10 @@ module _ {D : Type 0} where
   chosen_event w (Some t) = resumes_event t w
   chosen_event w None = turned_pass _ (closes_event w)
 
-  option_event : (w : World D) (o : Choice) → Among o (made_of (which_thread w.active (abilities w))).options → IsPass (chooses w o)
+  option_event : (w : World D) (o : Choice) → Among o (made_of (which_thread (offers w))).options → IsPass (chooses w o)
   option_event w (choice.Thread o) h = chosen_event w o
-  option_event w (choice.Load slot) h = absurd (options_are_threads w.active (abilities w) (choice.Load slot) h)
-  option_event w (choice.Spurious answer) h = absurd (options_are_threads w.active (abilities w) (choice.Spurious answer) h)
+  option_event w (choice.Load slot) h = absurd (options_are_threads (offers w) (choice.Load slot) h)
+  option_event w (choice.Spurious answer) h = absurd (options_are_threads (offers w) (choice.Spurious answer) h)
 
   choice_open : (w : World D) (o : Choice) → StaysOpen GoesOn (chooses w o)
   choice_open w (choice.Thread o) = event_open _ (chosen_event w o)
@@ -443,7 +434,7 @@ module _ {D : Type 0} where
   choice_open w (choice.Spurious answer) = tt
 
   passes_event : (w : World D) → IsPass (passes w)
-  passes_event w = asks _ _ (default_able w.active (abilities w), omega arith) refl (option_event w) (choice_open w)
+  passes_event w = asks _ _ (offers_ask w) refl (option_event w) (choice_open w)
 
   module _ (again : World D → Tree (Turn D × World D)) where
     further_over : (after : Passed D × World D) → HasEnded after → Comes IsOver (further again after)

@@ -142,7 +142,7 @@ fn pass<D: Drop>(run: &mut RunState<D>, path: &mut Path) -> Result<Passed<D>, St
     ensures steps { run.new.steps_left ≡ run.old.steps_left }
     ensures same { (path.new.max_branches ≡ path.old.max_branches) × (path.new.given ≡ path.old.given) }
 {
-    match path.branch_thread(run.active, &run.abilities()) {
+    match path.branch_thread(&run.offers()) {
         Err(stop) => Err(stop),
         Ok(Some(thread)) => go_on(run, path, thread),
         Ok(None) => match close(run, path) {
