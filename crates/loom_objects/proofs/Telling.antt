@@ -1,6 +1,6 @@
 -- Threads that are told of one another: a notification at a thread's end, and a spawn.
 use Rattle.std.proofs.Common.{◌≡◌, ℕ, refl, ap, sym, ◌∙◌, subst}
-use Rattle.std.specs.Prelude.{Bool, true, false, [], ◌∷◌, ◌++◌, length, map, nat_lt, slice_get, slice_set, Option, Some, None, Ok, Result}
+use Rattle.std.specs.Prelude.{Bool, true, false, [], ◌∷◌, ◌++◌, length, map, nat_lt, slice_get, slice_set, Option, Some, None, Ok, Result, ⊤}
 use Rattle.std.specs.declared.sync.atomic.Ordering.TheVariants.{Release}
 use Rattle.loom_views.specs.Table.{Points, ShowsViews, MovesAs, points_after_release, points_after_spawn}
 use Rattle.loom_views.specs.declared.rt.failure.FailureKind.{FailureKind}
@@ -15,13 +15,12 @@ use Rattle.loom_objects.specs.declared.rt.run.Entry.TheVariants.{Answered}
 use Rattle.loom_objects.specs.declared.rt.run.RunState.{RunState}
 use Rattle.loom_objects.specs.declared.rt.sync.Notify.{Notify}
 use Rattle.loom_objects.specs.declared.rt.thread.State.TheVariants.{Runnable}
-use Rattle.loom_objects.specs.declared.rt.thread.Thread.{Thread}
-use Rattle.loom_objects.specs.Notifiers.{as_notifier, notify}
+use Rattle.loom_objects.specs.Notifiers.{as_notifier, notify, notifies_so}
 use Rattle.loom_objects.specs.declared.rt.sync.Spurious.TheVariants.{Never}
 use Rattle.loom_objects.specs.declared.rt.thread.Name.{Name}
-use Rattle.loom_objects.specs.Moves.{came, with_points, with_active, with_object, with_new, pending_with, releases, tells, wakes_pending}
+use Rattle.loom_objects.specs.Moves.{came, with_points, active_thread, with_active, with_object, with_new, pending_with, releases, tells, wakes_pending}
 use Rattle.loom_objects.specs.Shown.{world_of, Shows, Does}
-use Rattle.loom_objects.specs.Threads.{spawn, child_finish}
+use Rattle.loom_objects.specs.Threads.{spawn}
 use Rattle.loom_objects.specs.Tree.{Tree, Gives, ◌>>=◌, check, found}
 use Rattle.loom_objects.specs.World.{World, child_thread}
 use Rattle.loom_objects.proofs.Moving.{moved}
@@ -47,17 +46,17 @@ module _ {D : Type 0} (old : RunState D) (n : ℕ) (notifier : Notify) (at : sli
               ∙ ap (λ (o : Option (Object D)). found (as_notifier o) Misuse >>= (λ e. Gives (wakes_pending n (tells e.waiter (releases n (with_object n (object.Notify (record e { notified = true })) (world_of w.points old))))))) at,
         )
 
-    pub finishes : (thread : Thread D) (value : D) → slice_get woken.threads woken.active ≡ Some thread
-        → Does (child_finish n value) old (Ok reply.Done) (record woken { threads = slice_set woken.threads woken.active (record thread { result = Some value }) })
-    finishes thread value is w shown =
+    pub notifies_then : Does (notifies_so n) old (Ok tt) woken
+    notifies_then w shown =
         let z = notifies w shown in
-        let then_done : World D → Option (Thread D) → Tree (Reply D × World D) = λ v o. found o Misuse >>= (λ t. Gives (reply.Done, with_active (record t { result = Some value }) v)) in (
-          world_of z.0.points (record woken { threads = slice_set woken.threads woken.active (record thread { result = Some value }) }),
-          record { views = z.1.views; rest = refl },
-          ap (λ (tree : Tree (World D)). tree >>= (λ v. then_done v (slice_get v.threads v.active))) z.2
-              ∙ ap (λ (v : World D). then_done v (slice_get v.threads v.active)) z.1.rest
-              ∙ ap (then_done (world_of z.0.points woken)) is,
-        )
+        (z.0, z.1, ap (λ (tree : Tree (World D)). ◌>>=◌ {B = ⊤ × World D} tree (λ v. Gives (tt, v))) z.2)
+
+module _ {D : Type 0} where
+  -- what is left of a thread's end, once it has notified
+  abbrev pub keeps_result : D → World D → Tree (Reply D × World D)
+  keeps_result value w = do
+    thread ← active_thread w
+    Gives (reply.Done, with_active (record thread { result = Some value }) w)
 
 module _ {D : Type 0} where
   -- a notifier that nobody has notified or waits on

@@ -1,5 +1,5 @@
 -- What condition variables do.
-use Rattle.std.specs.Prelude.{ℕ, Bool, true, false, nat_lt, List, [], ◌∷◌, ◌++◌, length, take, drop, is_some, slice_get, Option, Some, None}
+use Rattle.std.specs.Prelude.{ℕ, Bool, false, nat_lt, List, [], ◌∷◌, ◌++◌, length, take, drop, is_some, slice_get, Option, Some, None}
 use Rattle.loom_views.specs.declared.rt.failure.FailureKind.TheVariants.{Misuse}
 use Rattle.loom_objects.specs.declared.operation.CondvarOp.{CondvarOp}
 use Rattle.loom_objects.specs.declared.operation.CondvarOp.TheVariants.{New, Wait, WaitTimeout, NotifyOne, NotifyAll}
@@ -7,7 +7,6 @@ use Rattle.loom_objects.specs.declared.operation.Reply.{Reply}
 use Rattle.loom_objects.specs.declared.operation.Reply.TheVariants as reply
 use Rattle.loom_objects.specs.declared.rt.object.Object.{Object}
 use Rattle.loom_objects.specs.declared.rt.object.Object.TheVariants as object
-use Rattle.loom_objects.specs.declared.rt.sync.Condvar.{Condvar}
 use Rattle.loom_objects.specs.declared.rt.run.Entry.{Entry}
 use Rattle.loom_objects.specs.declared.rt.run.Entry.TheVariants.{Answered, AtBranch}
 use Rattle.loom_objects.specs.declared.rt.run.Passed.{Passed}
@@ -15,7 +14,6 @@ use Rattle.loom_objects.specs.declared.rt.run.Passed.TheVariants as passed
 use Rattle.loom_objects.specs.declared.rt.thread.Locking.{Locking}
 use Rattle.loom_objects.specs.declared.rt.thread.Locking.TheVariants.{Untimed, Timed}
 use Rattle.loom_objects.specs.declared.rt.thread.State.TheVariants.{Sleeping}
-use Rattle.loom_objects.specs.declared.rt.thread.Task.{Task}
 use Rattle.loom_objects.specs.declared.rt.thread.Task.TheVariants as task
 use Rattle.loom_objects.specs.declared.rt.thread.Waking.{Waking}
 use Rattle.loom_objects.specs.declared.rt.thread.Waking.TheVariants.{One, All}

@@ -1,13 +1,11 @@
 -- What mutexes do.
-use Rattle.std.specs.Prelude.{ℕ, Bool, true, false, length, is_none, is_some, slice_get, Option, Some, None}
+use Rattle.std.specs.Prelude.{ℕ, Bool, true, false, length, is_none, is_some, Some, None}
 use Rattle.loom_views.specs.declared.rt.failure.FailureKind.TheVariants.{Misuse}
 use Rattle.loom_objects.specs.declared.operation.MutexOp.{MutexOp}
 use Rattle.loom_objects.specs.declared.operation.MutexOp.TheVariants.{New, Lock, TryLock, Release, GetMut, Put, IntoInner}
 use Rattle.loom_objects.specs.declared.operation.Reply.{Reply}
 use Rattle.loom_objects.specs.declared.operation.Reply.TheVariants as reply
-use Rattle.loom_objects.specs.declared.rt.object.Object.{Object}
 use Rattle.loom_objects.specs.declared.rt.object.Object.TheVariants as object
-use Rattle.loom_objects.specs.declared.rt.sync.Mutex.{Mutex}
 use Rattle.loom_objects.specs.declared.rt.run.Entry.{Entry}
 use Rattle.loom_objects.specs.declared.rt.run.Entry.TheVariants.{Answered, AtBranch}
 use Rattle.loom_objects.specs.declared.rt.thread.Locking.{Locking}

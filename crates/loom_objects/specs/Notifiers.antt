@@ -56,6 +56,12 @@ module _ {D : Type 0} where
     notifier ← a_notifier n w
     Gives (wakes_pending n (tells notifier.waiter (releases n (with_object n (object.Notify (record notifier { notified = true })) w))))
 
+  -- the same, with no answer
+  abbrev pub notifies_so : ℕ → World D → Tree (⊤ × World D)
+  notifies_so n w = do
+    after ← notify n w
+    Gives (tt, after)
+
   -- a notifier on which bodies wait
   abbrev pub notify_new : World D → Tree (Entry D × World D)
   notify_new w = Gives (entry.Answered (reply.Notify (length w.objects)), with_new (object.Notify (record { notified = false; waiter = None; spurious = NotYet })) w)

@@ -25,6 +25,7 @@ use Rattle.loom_objects.specs.Tree.{Tree, Gives, Fails, ◌>>=◌, check, found}
 use Rattle.loom_objects.specs.World.{World}
 use Rattle.loom_objects.specs.Moves.{with_active}
 use Rattle.loom_objects.specs.Locks.{mutex_begins, lock}
+use Rattle.loom_objects.specs.Notifiers.{notifier_begins, notifies, awaits, wakes_early}
 use Rattle.loom_objects.specs.Atomics.{atomic_begins, fence, takes_place}
 use Rattle.loom_objects.specs.Cells.{cell_begins}
 use Rattle.loom_objects.specs.Counts.{arc_begins, counts, tries_unwrap}
@@ -104,7 +105,7 @@ module _ {D : Type 0} where
   op_begins (op.Mutex todo place) w = mutex_begins todo w
   op_begins (op.RwLock todo place) w = Fails Misuse
   op_begins (op.Condvar todo place) w = Fails Misuse
-  op_begins (op.Notify todo place) w = Fails Misuse
+  op_begins (op.Notify todo place) w = notifier_begins todo w
   op_begins (op.Thread todo place) w = thread_begins todo w
   op_begins (op.Fail place) w = Fails Assertion
   op_begins (op.Unreachable place) w = Fails Unreachable
@@ -134,9 +135,9 @@ module _ {D : Type 0} where
   effect (TryLock n) w = Fails Misuse
   effect (Claim claim n) w = Fails Misuse
   effect (Wake waking n) w = Fails Misuse
-  effect (Notify n) w = Fails Misuse
-  effect (Await n) w = Fails Misuse
-  effect (Rouse n) w = Fails Misuse
+  effect (Notify n) w = notifies n w
+  effect (Await n) w = awaits n w
+  effect (Rouse n) w = wakes_early n w
   effect (Count todo n) w = counts todo n w
   effect (Join t n) w = join t n w
   effect (Finish n value) w = child_finish n value w

@@ -4,6 +4,7 @@ mod cells;
 mod counts;
 pub mod location;
 mod locks;
+mod notifiers;
 pub mod object;
 mod parking;
 pub mod run;

@@ -205,9 +205,8 @@ impl<D: Data> RunState<D> {
             Op::Arc(op, _) => self.arc_begins(op),
             Op::Track(op, _) => self.track_begins(op),
             Op::Mutex(op, _) => self.mutex_begins(op),
-            Op::RwLock(_, _) | Op::Condvar(_, _) | Op::Notify(_, _) => Err(failed(
-                FailureKind::Misuse,
-            )),
+            Op::RwLock(_, _) | Op::Condvar(_, _) => Err(failed(FailureKind::Misuse)),
+            Op::Notify(op, _) => self.notifier_begins(op),
             Op::Thread(op, _) => self.thread_begins(op),
             Op::Fail(_) => Err(failed(FailureKind::Assertion)),
             Op::Unreachable(_) => Err(failed(FailureKind::Unreachable)),
@@ -341,6 +340,9 @@ impl<D: Drop> RunState<D> {
         match task {
             Task::Continue => Ok(Reply::Done),
             Task::Lock(locking, mutex) => self.lock(locking, mutex),
+            Task::Notify(number) => self.notify(number),
+            Task::Await(number) => self.await_notified(number),
+            Task::Rouse(number) => self.wake_early(number),
             Task::Count(todo, number) => self.count(todo, number),
             Task::Join(joined, notifier) => self.join(joined, notifier),
             Task::Finish(notifier, value) => self.child_finish(notifier, value),

@@ -2,6 +2,7 @@ ghost use Rattle.std.specs.Prelude.{◌≡◌, ◌+◌, OnSome, IfNone, OnOk, On
 ghost use Rattle.loom_objects.specs.Cells as cells;
 ghost use Rattle.loom_objects.specs.Counts.{is_free, may_grow, sole_value, with_one_fewer, lent_to};
 ghost use Rattle.loom_objects.specs.Moves.{free_value, is_number};
+ghost use Rattle.loom_objects.specs.Notifiers as notifiers;
 ghost use Rattle.loom_objects.specs.Tracks.{tracked_value};
 
 use arrayvec::ArrayVec;
@@ -113,6 +114,37 @@ pub struct Notify {
     pub waiter: Option<u8>,
     /// Whether a thread has woken without one.
     pub spurious: Spurious,
+}
+
+impl Notify {
+    /// Bodies wait on it; a `join` doesn't.
+    pub(crate) fn is_for_waits(self) -> bool
+        ensures { result ≡ notifiers.is_for_waits self.spurious }
+    {
+        !matches!(self.spurious, Spurious::Never)
+    }
+
+    /// A thread may wake from it without a notification.
+    pub(crate) fn may_be_spurious(self) -> bool
+        ensures { result ≡ notifiers.may_be_spurious self.spurious }
+    {
+        matches!(self.spurious, Spurious::NotYet)
+    }
+
+    /// No thread but this one is inside a wait on it.
+    pub(crate) fn is_alone(self, thread: u8) -> bool
+        ensures { result ≡ notifiers.is_alone thread self }
+    {
+        let is_awaited = match self.waiter {
+            Some(waiter) => waiter != thread,
+            None => false,
+        };
+        let is_left = match self.spurious {
+            Spurious::Waking(waker) => waker != thread,
+            _ => false,
+        };
+        !is_awaited && !is_left
+    }
 }
 
 impl<D: Drop> Mutex<D> {

@@ -13,7 +13,6 @@ use crate::rt::sync::{Notify, Spurious};
 use crate::rt::thread::{Name, Phase, State, Task, Thread};
 use loom_views::rt::failure::FailureKind;
 use loom_views::sequence::Sequence;
-use std::sync::atomic::Ordering;
 
 impl<D: Drop> Thread<D> {
     /// The thread has this pending, and can't go on while it is blocked.
@@ -107,9 +106,9 @@ impl<D: Drop> RunState<D> {
         if thread.yields == u64::MAX {
             return Err(failed(FailureKind::TooManySteps));
         }
-        thread.yields += 1;
+        thread.pend(task, false);
         thread.state = State::Yielding;
-        thread.task = task;
+        thread.yields += 1;
         self.views.mark_yield(self.active as usize);
         Ok(())
     }
@@ -277,18 +276,7 @@ impl<D: Drop> RunState<D> {
         ensures steps { self.new.steps_left ≡ self.old.steps_left }
         ensures no_growth { result ≢ Err Stop.Memory }
     {
-        if notifier >= self.objects.len() {
-            return Err(failed(FailureKind::Misuse));
-        }
-        let Object::Notify(notify) = self.objects.at_mut(notifier) else {
-            return Err(failed(FailureKind::Misuse));
-        };
-        notify.notified = true;
-        let waiter = notify.waiter;
-        self.views
-            .release(self.active as usize, notifier, Ordering::Release);
-        self.tell(waiter);
-        self.wake_pending(notifier);
+        self.notify_waiter(notifier)?;
         let thread = self.threads.at_mut(self.active as usize);
         thread.result = Some(value);
         Ok(Reply::Done)
