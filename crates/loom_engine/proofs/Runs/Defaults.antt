@@ -10,7 +10,7 @@ use Rattle.loom_objects.specs.Question.{Among, made_of, IsSound, able_threads, t
 use Rattle.loom_objects.specs.Steps.{ability_in, offers, standings, with_able}
 use Rattle.loom_objects.specs.World.{World}
 use Rattle.loom_objects.proofs.Offering.{offers_sound}
-use Rattle.loom_engine.specs.Routes.{which_thread}
+use Rattle.loom_engine.specs.Routes.{which_thread, whether_spurious}
 use Rattle.loom_engine.proofs.Nodes.Defaults.{which_is_sound}
 
 set_length : {A : Type 0} (xs : List A) (k : ℕ) (a : A) → length (slice_set xs k a) ≡ length xs
@@ -66,3 +66,15 @@ pub slots_few : (readable : List Bool) (k : ℕ) → length (slots_from k readab
 slots_few [] k = omega arith
 slots_few (true ∷ readable) k = let h = slots_few readable (suc k) in omega arith
 slots_few (false ∷ readable) k = let h = slots_few readable (suc k) in omega arith
+
+-- ---- spurious wake-ups
+
+abbrev pub IsFlagChoice : Choice → Type 0
+IsFlagChoice (Thread k) = ⊥
+IsFlagChoice (Load slot) = ⊥
+IsFlagChoice (Spurious answer) = Unit {0}
+
+pub options_are_flags : (choice : Choice) → Among choice (made_of whether_spurious).options → IsFlagChoice choice
+options_are_flags choice (inl e) = subst IsFlagChoice (sym e) tt
+options_are_flags choice (inr (inl e)) = subst IsFlagChoice (sym e) tt
+options_are_flags choice (inr (inr h)) = absurd h

@@ -48,7 +48,7 @@ use Rattle.loom_objects.specs.Leaks.{check_leak, first_leak, first_of, leak_of}
 use Rattle.loom_objects.specs.Tracks.{a_track, as_track, track_begins, track_take, tracked_value}
 use Rattle.loom_objects.specs.Cells.{a_cell, as_cell, cell_begins, data_left, is_free as is_free_cell, is_unread, reads_open, records_read, records_write, result_of}
 use Rattle.loom_objects.specs.Locks.{mutex_begins, lock}
-use Rattle.loom_objects.specs.Notifiers.{as_notifier}
+use Rattle.loom_objects.specs.Notifiers.{as_notifier, awaits, notifies, wakes_early}
 use Rattle.loom_objects.specs.Moves.{as_mutex, came, is_number, raises, with_active, with_points}
 use Rattle.loom_objects.specs.Operation.{accessed}
 use Rattle.loom_objects.specs.Question.{Among, made_of, slots}
@@ -56,11 +56,11 @@ use Rattle.loom_objects.specs.Steps.{offers, all_ended, begins, ends, op_begins,
 use Rattle.loom_objects.specs.Threads.{child_finish, finish_as, has_own, join, is_exited, is_finished, is_working, thread_begins}
 use Rattle.loom_objects.specs.Tree.{Tree, ◌>>=◌, found}
 use Rattle.loom_objects.specs.World.{World}
-use Rattle.loom_engine.specs.Machine.{chooses, closes as closes_run, further, further_branches, goes_on, passes, schedule, submit}
+use Rattle.loom_engine.specs.Machine.{chooses, closes as closes_run, further, further_branches, goes_on, passes, schedule, submit, waits}
 use Rattle.loom_engine.specs.Routes.{which_thread}
-use Rattle.loom_engine.proofs.Runs.Defaults.{offers_ask, options_are_threads, IsLoadChoice, options_are_loads, slots_few}
+use Rattle.loom_engine.proofs.Runs.Defaults.{offers_ask, options_are_threads, IsFlagChoice, options_are_flags, IsLoadChoice, options_are_loads, slots_few}
 use Rattle.loom_engine.proofs.Runs.Fairness.{IsFairResult, either, raise_fair, spawn_fair, readable_fair, load_fair, store_fair, update_read_fair, update_write_fair, unsync_load_fair, with_mut_fair, with_mut_end_fair, cell_read_fair, cell_write_fair}
-use Rattle.loom_engine.proofs.Runs.Locking.{current_comes, free_comes, lock_comes, misuse, park_comes, unpark_comes, yield_now_comes}
+use Rattle.loom_engine.proofs.Runs.Locking.{awaits_comes, current_comes, enters_wait_comes, free_comes, lock_comes, misuse, notifier_comes, notifies_comes, park_comes, unpark_comes, wakes_early_comes, yield_now_comes}
 use Rattle.loom_engine.proofs.Runs.Events.{Comes, comes_to, comes_not, Anything, found_comes, then_comes, check_comes, IsGoing, IsOver, IsOpen, IsEvent, GoesOn, HasEnded, IsPass, goes, fails, closes, asks, going_event, event_open, then_event, check_event, event_after, turned_pass, StaysOpen}
 
 came_comes : {A B : Type 0} {P : B → Type 0} (r : Result A FailureKind) (next : A → Tree B) → IsFairResult r → ((a : A) → Comes P (next a)) → Comes P (came r >>= next)
@@ -227,7 +227,7 @@ module _ {D : Type 0} where
   op_comes (op.Mutex todo place) w = mutex_comes todo w
   op_comes (op.RwLock todo place) w = comes_not Misuse misuse
   op_comes (op.Condvar todo place) w = comes_not Misuse misuse
-  op_comes (op.Notify todo place) w = comes_not Misuse misuse
+  op_comes (op.Notify todo place) w = notifier_comes todo w
   op_comes (op.Thread todo place) w = thread_comes todo w
   op_comes (op.Fail place) w = comes_not Assertion (λ e. cc)
   op_comes (op.Unreachable place) w = comes_not Unreachable (λ e. cc)
@@ -378,9 +378,9 @@ module _ {D : Type 0} where
   effect_event (task.Wait locking n m value) w = fails Misuse misuse
   effect_event (task.Relock locking m) w = fails Misuse misuse
   effect_event (task.Wake waking n) w = fails Misuse misuse
-  effect_event (task.Notify n) w = fails Misuse misuse
-  effect_event (task.Await n) w = fails Misuse misuse
-  effect_event (task.Rouse n) w = fails Misuse misuse
+  effect_event (task.Notify n) w = replies_pass (notifies n w) (notifies_comes n w)
+  effect_event (task.Await n) w = replies_pass (awaits n w) (awaits_comes n w)
+  effect_event (task.Rouse n) w = replies_pass (wakes_early n w) (wakes_early_comes n w)
   effect_event (task.Count todo n) w = replies_pass (counts todo n w) (counts_comes todo n w)
   effect_event (task.TryUnwrap n) w = going_event _ (unwrap_comes n w)
   effect_event (task.Join t n) w = replies_pass (join t n w) (join_comes t n w)
@@ -453,10 +453,20 @@ module _ {D : Type 0} where
   schedule_event zero w = further_event _ (λ v. fails Misuse misuse) w
   schedule_event (suc more) w = further_event (schedule more) (schedule_event more) w
 
+  waits_event : (n : ℕ) (w : World D) (o : Choice) → IsFlagChoice o → IsEvent (waits n w o)
+  waits_event n w (choice.Spurious answer) h = then_event {Q = Anything} _ _ (enters_wait_comes answer n w) (λ after q. schedule_event further_branches after.1)
+  waits_event n w (choice.Thread t) h = absurd h
+  waits_event n w (choice.Load slot) h = absurd h
+
+  waits_open : (n : ℕ) (w : World D) (o : Choice) → IsOpen (waits n w o)
+  waits_open n w (choice.Spurious answer) = event_open _ (waits_event n w (choice.Spurious answer) tt)
+  waits_open n w (choice.Thread t) = tt
+  waits_open n w (choice.Load slot) = tt
+
   goes_on_event : (entered : Entry D × World D) → IsEvent (goes_on entered)
   goes_on_event (Answered reply, w) = going_event _ (told_comes (reply, w))
   goes_on_event (AtBranch, w) = schedule_event further_branches w
-  goes_on_event (AtSpurious n, w) = fails Misuse misuse
+  goes_on_event (AtSpurious n, w) = asks _ _ tt refl (λ o h. waits_event n w o (options_are_flags o h)) (waits_open n w)
 
   pub submit_event : (todo : Op D ⊤) (w : World D) → IsEvent (submit todo w)
   submit_event todo w = then_event (begins todo w) goes_on (begins_comes todo w) (λ entered q. goes_on_event entered)
