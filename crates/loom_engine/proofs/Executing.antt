@@ -1,6 +1,6 @@
 -- Schedules along a path, from what the chosen threads come to.
 use Rattle.std.proofs.Common.{◌≡◌, ℕ, zero, suc, ap, refl, sym, ◌∙◌}
-use Rattle.std.specs.Prelude.{Some, None, Result, Ok, Err, List}
+use Rattle.std.specs.Prelude.{Some, None, Result, Ok, Err}
 use Rattle.loom_views.specs.Table.{Points}
 use Rattle.loom_views.specs.declared.rt.failure.FailureKind.{FailureKind}
 use Rattle.loom_views.specs.declared.rt.failure.FailureKind.TheVariants.{Misuse}
@@ -12,10 +12,10 @@ use Rattle.loom_objects.specs.declared.operation.Turn.{Turn}
 use Rattle.loom_objects.specs.declared.rt.run.Passed.{Passed}
 use Rattle.loom_objects.specs.declared.rt.run.Passed.TheVariants as passed
 use Rattle.loom_objects.specs.declared.rt.run.RunState.{RunState}
-use Rattle.loom_objects.specs.declared.rt.thread.Ability.{Ability}
+use Rattle.loom_objects.specs.declared.rt.thread.Offers.{Offers}
 use Rattle.loom_objects.specs.Question.{Question}
 use Rattle.loom_objects.specs.Shown.{world_of, Shows}
-use Rattle.loom_objects.specs.Steps.{turned, resumes, abilities}
+use Rattle.loom_objects.specs.Steps.{turned, resumes, offers}
 use Rattle.loom_objects.specs.Tree.{Tree, Fails, Asks, ◌>>=◌}
 use Rattle.loom_objects.specs.World.{World}
 use Rattle.loom_engine.specs.Execution.{Comes, Along}
@@ -59,29 +59,27 @@ module _ {D : Type 0} where
 
   -- ---- one schedule
 
-  module _ (old : RunState D) (offers : List Ability) (is : (points : Points) → offers ≡ abilities (world_of points old)) (path mid : Route) (same : mid.max_branches ≡ path.max_branches) where
+  module _ (old : RunState D) (offered : Offers) (is : (points : Points) → offered ≡ offers (world_of points old)) (path mid : Route) (same : mid.max_branches ≡ path.max_branches) where
     -- the schedule as the code asks it
-    scheduled : (w : World D) → Shows w old → drives (passes w) path ≡ drives (Asks (which_thread old.active offers) (chooses w)) path
-    scheduled w shown =
-        ap (λ (a : ℕ). drives (Asks (which_thread a (abilities w)) (chooses w)) path) (ap (λ (v : World D). v.active) shown.rest)
-        ∙ ap (λ (list : List Ability). drives (Asks (which_thread old.active list) (chooses w)) path) (ap abilities shown.rest ∙ sym (is w.points))
+    scheduled : (w : World D) → Shows w old → drives (passes w) path ≡ drives (Asks (which_thread offered) (chooses w)) path
+    scheduled w shown = ap (λ (o : Offers). drives (Asks (which_thread o) (chooses w)) path) (ap offers shown.rest ∙ sym (is w.points))
 
-    pub schedule_refused : (stop : Stop) → Says Thread path (which_thread old.active offers) (Err stop) mid → Along passes old path (Err stop) old mid
+    pub schedule_refused : (stop : Stop) → Says Thread path (which_thread offered) (Err stop) mid → Along passes old path (Err stop) old mid
     schedule_refused (Failure failure) says w shown =
-        scheduled w shown ∙ refused (which_thread old.active offers) (chooses w) path failure.kind says.0 ∙ ap (λ (p : Route). (Err failure.kind, trail p)) (sym says.1)
+        scheduled w shown ∙ refused (which_thread offered) (chooses w) path failure.kind says.0 ∙ ap (λ (p : Route). (Err failure.kind, trail p)) (sym says.1)
     schedule_refused Memory says w shown = tt
 
-    pub thread_chosen : (thread : ℕ) → Says Thread path (which_thread old.active offers) (Ok (Some thread)) mid → (result : Result (Passed D) Stop) (new : RunState D) (after : Route)
+    pub thread_chosen : (thread : ℕ) → Says Thread path (which_thread offered) (Ok (Some thread)) mid → (result : Result (Passed D) Stop) (new : RunState D) (after : Route)
         → Along (resumes thread) old mid result new after → Along passes old path result new after
     thread_chosen thread says result new after along w shown =
         same_way (passes w) (resumes thread w) path mid result new after
-        (scheduled w shown ∙ asked (which_thread old.active offers) (chooses w) path mid (Thread (Some thread)) same says) (along w shown)
+        (scheduled w shown ∙ asked (which_thread offered) (chooses w) path mid (Thread (Some thread)) same says) (along w shown)
 
-    pub nobody_chosen : Says Thread path (which_thread old.active offers) (Ok None) mid → (result : Result (Turn D) Stop) (new : RunState D) (after : Route)
+    pub nobody_chosen : Says Thread path (which_thread offered) (Ok None) mid → (result : Result (Turn D) Stop) (new : RunState D) (after : Route)
         → Along closes old mid result new after → Along passes old path (passed_with result) new after
     nobody_chosen says result new after along w shown =
         same_way (passes w) (closes w >>= turned) path mid (passed_with result) new after
-        (scheduled w shown ∙ asked (which_thread old.active offers) (chooses w) path mid (Thread None) same says) (turned_comes (closes w) mid result new after (along w shown))
+        (scheduled w shown ∙ asked (which_thread offered) (chooses w) path mid (Thread None) same says) (turned_comes (closes w) mid result new after (along w shown))
 
   -- ---- schedules up to a turn
 

@@ -2,6 +2,7 @@
 pub mod Defaults
 pub mod Events
 pub mod Fairness
+pub mod Locking
 pub mod Steps
 pub mod Bodies
 pub mod Rows

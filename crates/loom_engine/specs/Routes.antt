@@ -7,9 +7,8 @@ use Rattle.loom_objects.specs.declared.choice.Choice.{Choice}
 use Rattle.loom_objects.specs.declared.choice.Choice.TheVariants.{Load}
 use Rattle.loom_objects.specs.declared.failure.Stop.{Stop}
 use Rattle.loom_objects.specs.declared.failure.Stop.TheVariants.{Failure, Memory}
-use Rattle.loom_objects.specs.declared.rt.thread.Ability.{Ability}
+use Rattle.loom_objects.specs.declared.rt.thread.Offers.{Offers}
 use Rattle.loom_objects.specs.Question.{Question, WhichThread, WhetherSpurious}
-use Rattle.loom_objects.specs.Steps.{default_thread}
 use Rattle.loom_objects.specs.Tree.{Tree}
 use Rattle.loom_engine.specs.declared.rt.node.Node.{Node}
 use Rattle.loom_engine.specs.Walk.Path.{Stored, choices, step}
@@ -48,9 +47,9 @@ trail route = record { nodes = stored route.nodes; position = route.position; gi
 abbrev pub chosen : Route → List Choice
 chosen route = choices (take route.position (stored route.nodes))
 
--- a schedule, while the active thread is this one and the threads offer this
-abbrev pub which_thread : ℕ → List Ability → Question
-which_thread active abilities = WhichThread true (record { default = default_thread active abilities; abilities = abilities; unordered = [] })
+-- a schedule, while the threads offer this
+abbrev pub which_thread : Offers → Question
+which_thread offers = WhichThread true (record { default = offers.default; abilities = offers.abilities; unordered = [] })
 
 -- a load, while these of the slots may be read
 abbrev pub which_store : List Bool → Question

@@ -3,8 +3,8 @@ use Rattle.std.proofs.Common.{◌≡◌, ℕ, List, Option, Some, None, refl, ap
 use Rattle.std.specs.Prelude.{slice_get, true}
 use Rattle.loom_objects.specs.declared.choice.Choice.{Choice}
 use Rattle.loom_objects.specs.declared.choice.Choice.TheVariants.{Thread, Load, Spurious}
-use Rattle.loom_objects.specs.declared.rt.thread.Ability.{Ability}
-use Rattle.loom_objects.specs.Question.{Made, made_of}
+use Rattle.loom_objects.specs.declared.rt.thread.Offers.{Offers}
+use Rattle.loom_objects.specs.Question.{Made, made_of, AreSoundOffers}
 use Rattle.loom_engine.specs.Walk.Path.{Pending as ToTry, Stored, fresh, choose}
 use Rattle.loom_engine.specs.Trees.Drive.{new_node}
 use Rattle.loom_engine.specs.declared.rt.node.Status.{Status}
@@ -29,22 +29,22 @@ not_to_try (Some first) statuses (Load slot) f h = cc h
 not_to_try None statuses (Spurious answer) f h = cc h
 not_to_try (Some first) statuses (Spurious answer) f h = cc h
 
-module _ (n : Schedule) (active : ℕ) (abilities : List Ability) (is_fresh : seen_schedule n ≡ fresh true (made_of (which_thread active abilities))) where
+module _ (n : Schedule) (offers : Offers) (sound : AreSoundOffers offers.default offers.abilities) (is_fresh : seen_schedule n ≡ fresh true (made_of (which_thread offers))) where
   made : Made
-  made = made_of (which_thread active abilities)
+  made = made_of (which_thread offers)
 
   default_is : Thread n.first ≡ made.default
   unfolding made
   default_is = ap (λ (x : Stored). x.made.default) is_fresh
 
   -- the default
-  pub at_default : (o : Choice) → o ≡ Thread n.first → Some (seen_schedule n) ≡ new_node true (made_of (which_thread active abilities)) (Some o)
+  pub at_default : (o : Choice) → o ≡ Thread n.first → Some (seen_schedule n) ≡ new_node true (made_of (which_thread offers)) (Some o)
   unfolding made
-  at_default o e = ap Some is_fresh ∙ sym (given_default made o (e ∙ default_is) (default_offered active abilities))
+  at_default o e = ap Some is_fresh ∙ sym (given_default made o (e ∙ default_is) (default_offered offers sound))
 
   -- a pending thread
   pub at_other : (o : Choice) (k : ℕ) → o ≡ Thread (Some k) → slice_get n.statuses k ≡ Some Pending
-      → Some (choose (seen_schedule n) (Thread (Some k))) ≡ new_node true (made_of (which_thread active abilities)) (Some o)
+      → Some (choose (seen_schedule n) (Thread (Some k))) ≡ new_node true (made_of (which_thread offers)) (Some o)
   unfolding made
   at_other o k e h =
       let state : (fresh true made).status (Thread (Some k)) ≡ ToTry =
@@ -53,7 +53,7 @@ module _ (n : Schedule) (active : ℕ) (abilities : List Ability) (is_fresh : se
 
   -- no option
   pub at_none : (o : Choice) → (o ≡ Thread n.first → ⊥) → ((k : ℕ) → o ≡ Thread (Some k) → slice_get n.statuses k ≡ Some Pending → ⊥)
-      → ◌≡◌ {A = Option Stored} None (new_node true (made_of (which_thread active abilities)) (Some o))
+      → ◌≡◌ {A = Option Stored} None (new_node true (made_of (which_thread offers)) (Some o))
   unfolding made
   at_none o f g =
       sym (given_none made o (λ e. f (e ∙ sym default_is)) (λ h. not_to_try n.first n.statuses o g (ap (λ (x : Stored). x.status o) is_fresh ∙ h)))

@@ -7,8 +7,8 @@ use Rattle.loom_objects.specs.declared.choice.Choice.{Choice}
 use Rattle.loom_objects.specs.declared.choice.Choice.TheVariants.{Thread, Load, Spurious}
 use Rattle.loom_objects.specs.declared.rt.thread.Ability.{Ability}
 use Rattle.loom_objects.specs.declared.rt.thread.Ability.TheVariants.{Able, Yielding, Unable}
-use Rattle.loom_objects.specs.Question.{Made, Among, Question, WhichThread, able_threads, thread_options, made_of, IsSoundDefault}
-use Rattle.loom_objects.specs.Steps.{default_thread}
+use Rattle.loom_objects.specs.Question.{Made, Among, Question, WhichThread, able_threads, thread_options, made_of, IsSoundDefault, AreSoundOffers}
+use Rattle.loom_objects.specs.declared.rt.thread.Offers.{Offers}
 use Rattle.loom_engine.specs.Walk.Machine.{is_thread}
 use Rattle.loom_engine.specs.Walk.Choices.{same, among, pick}
 use Rattle.loom_engine.specs.Walk.Path.{Status as State, Closed, Pending as ToTry, Active as Chosen, Stored, IsAtRest, fresh, choose}
@@ -178,29 +178,29 @@ made_with (Some k) abilities h g =
     ∙ ap (stored (Some k) abilities (Some k)) (fun_ext (λ o. some_state abilities k o h))
 
 -- a schedule with the default active and each other thread that is able pending is what a walk calls fresh
-pub made_is : (active : ℕ) (abilities : List Ability)
-    → seen_threads (default_thread active abilities) true (with_status (default_thread active abilities) Active (map made_status abilities)) ≡ fresh true (made_of (which_thread active abilities))
-made_is active abilities = made_with (default_thread active abilities) abilities (default_is_able active abilities) (none_is_able active abilities)
+pub made_is : (offers : Offers) → AreSoundOffers offers.default offers.abilities
+    → seen_threads offers.default true (with_status offers.default Active (map made_status offers.abilities)) ≡ fresh true (made_of (which_thread offers))
+made_is offers sound = made_with offers.default offers.abilities (default_is_able offers.default offers.abilities sound) (none_is_able offers.default offers.abilities sound)
 
 -- a run that asks one question and ends
 one_question : Question → Tree (Unit {0})
 one_question question = Asks question (λ choice. Gives tt)
 
 -- and it is at rest
-pub fresh_rests : (active : ℕ) (abilities : List Ability) → length abilities ≡ 5 → IsAtRest (fresh true (made_of (which_thread active abilities)))
+pub fresh_rests : (offers : Offers) → AreSoundOffers offers.default offers.abilities → length offers.abilities ≡ 5 → IsAtRest (fresh true (made_of (which_thread offers)))
 unfolding one_question
-fresh_rests active abilities size =
-    let question : Question = which_thread active abilities in
-    let sound : IsSoundTree (one_question question) = (which_is_sound active abilities (omega arith), λ choice a. tt) in
+fresh_rests offers is_sound size =
+    let question : Question = which_thread offers in
+    let sound : IsSoundTree (one_question question) = (which_is_sound offers is_sound (omega arith), λ choice a. tt) in
     fresh_at_rest (machine_of (whole_search 1) (λ passes question k o. false) (one_question question))
     (machine_law (whole_search 1) (λ passes question k o. false) (one_question question) sound (λ passes question k o e. absurd (cc e))) [] (made_of question) refl
 
-pub default_offered : (active : ℕ) (abilities : List Ability) → Among (Thread (default_thread active abilities)) (thread_options (default_thread active abilities) abilities)
-default_offered active abilities = offered (default_thread active abilities) (default_is_able active abilities)
+pub default_offered : (offers : Offers) → AreSoundOffers offers.default offers.abilities → Among (Thread offers.default) (thread_options offers.default offers.abilities)
+default_offered offers sound = offered offers.default offers.abilities sound
   where
-    offered : (first : Option ℕ) → IsSoundDefault first abilities → Among (Thread first) (thread_options first abilities)
-    offered None h = inl refl
-    offered (Some k) h = able_among abilities k 0 k (omega arith) h
+    offered : (first : Option ℕ) (abilities : List Ability) → AreSoundOffers first abilities → Among (Thread first) (thread_options first abilities)
+    offered None abilities h = inl refl
+    offered (Some k) abilities h = able_among abilities k 0 k (omega arith) h
 
 -- ---- a new node at a choice that was given
 

@@ -1,41 +1,32 @@
 -- A schedule's question is sound, and the choices that are no threads are no options.
-use Rattle.std.proofs.Common.{◌≡◌, ◌≤◌, ℕ, zero, suc, ◌+◌, Bool, true, false, List, [], ◌∷◌, length, map, Option, Some, None, refl, sym, subst, inl, inr, arith}
-use Rattle.std.specs.Prelude.{slice_get, cond}
-use Rattle.std.specs.List.{position_from}
+use Rattle.std.proofs.Common.{◌≡◌, ◌≤◌, ℕ, zero, suc, Bool, true, false, List, [], ◌∷◌, length, map, Option, Some, None, refl, ap, sym, subst, inl, inr, arith}
+use Rattle.std.specs.Prelude.{slice_set}
 use Rattle.loom_objects.specs.declared.rt.thread.Ability.{Ability}
 use Rattle.loom_objects.specs.declared.rt.thread.Ability.TheVariants.{Able, Yielding, Unable}
 use Rattle.loom_objects.specs.declared.choice.Choice.{Choice}
 use Rattle.loom_objects.specs.declared.choice.Choice.TheVariants.{Thread, Load, Spurious}
-use Rattle.loom_objects.specs.Question.{Among, made_of, IsSoundDefault, able_threads, thread_options, slots_from}
-use Rattle.loom_objects.specs.Steps.{is_able, is_able_one, default_thread}
-use Rattle.loom_engine.specs.Routes.{which_thread}
+use Rattle.loom_objects.specs.declared.rt.thread.Offers.{Offers}
+use Rattle.loom_objects.specs.Question.{Among, made_of, IsSound, able_threads, thread_options, slots_from}
+use Rattle.loom_objects.specs.Steps.{ability_in, offers, standings, with_able}
+use Rattle.loom_objects.specs.World.{World}
+use Rattle.loom_objects.proofs.Offering.{offers_sound}
+use Rattle.loom_engine.specs.Routes.{which_thread, whether_spurious}
+use Rattle.loom_engine.proofs.Nodes.Defaults.{which_is_sound}
 
-able_is : (o : Option Ability) → is_able o ≡ true → o ≡ Some Able
-able_is None h = absurd (cc h)
-able_is (Some Able) h = refl
-able_is (Some Yielding) h = absurd (cc h)
-able_is (Some Unable) h = absurd (cc h)
+set_length : {A : Type 0} (xs : List A) (k : ℕ) (a : A) → length (slice_set xs k a) ≡ length xs
+set_length [] k a = refl
+set_length (x ∷ xs) zero a = refl
+set_length (x ∷ xs) (suc k) a = ap suc (set_length xs k a)
 
--- the first that is able stands where it was found
-position_able : (abilities : List Ability) (before k : ℕ) → position_from is_able_one before abilities ≡ Some k → (i : ℕ) × (k ≡ before + i) × (slice_get abilities i ≡ Some Able)
-position_able [] before k h = absurd (cc h)
-position_able (Able ∷ rest) before k h = (zero, let e : before ≡ k = cc h in omega arith, refl)
-position_able (Yielding ∷ rest) before k h = let p = position_able rest (before + 1) k h in (suc p.0, let e = p.1 in omega arith, p.2)
-position_able (Unable ∷ rest) before k h = let p = position_able rest (before + 1) k h in (suc p.0, let e = p.1 in omega arith, p.2)
+able_length : (default : Option ℕ) (abilities : List Ability) → length (with_able default abilities) ≡ length abilities
+able_length None abilities = refl
+able_length (Some k) abilities = set_length abilities k Able
 
-lowest_able : (abilities : List Ability) (o : Option ℕ) → position_from is_able_one 0 abilities ≡ o → IsSoundDefault o abilities
-lowest_able abilities None h = tt
-lowest_able abilities (Some k) h =
-    let p = position_able abilities 0 k h in
-    let e : p.0 ≡ k = let f = p.1 in omega arith in
-    subst (λ (i : ℕ). slice_get abilities i ≡ Some Able) e p.2
-
-default_able_by : (active : ℕ) (abilities : List Ability) (b : Bool) → is_able (slice_get abilities active) ≡ b → IsSoundDefault (cond b (Some active) (position_from is_able_one 0 abilities)) abilities
-default_able_by active abilities true h = able_is (slice_get abilities active) h
-default_able_by active abilities false h = lowest_able abilities (position_from is_able_one 0 abilities) refl
-
-pub default_able : (active : ℕ) (abilities : List Ability) → IsSoundDefault (default_thread active abilities) abilities
-default_able active abilities = default_able_by active abilities (is_able (slice_get abilities active)) refl
+-- whatever the threads are, the question which of them goes on is sound
+pub offers_ask : {D : Type 0} (w : World D) → IsSound (which_thread (offers w))
+offers_ask w =
+    let few = able_length (offers w).default (map ability_in (standings w)) in
+    which_is_sound (offers w) (offers_sound w.active (standings w)) (omega (arith, few))
 
 -- an option of a schedule is a thread
 abbrev pub IsThreadChoice : Choice → Type 0
@@ -55,8 +46,8 @@ thread_options_are None abilities choice (inl e) = subst IsThreadChoice (sym e) 
 thread_options_are None abilities choice (inr h) = absurd h
 thread_options_are (Some k) abilities choice h = able_are_threads abilities 0 choice h
 
-pub options_are_threads : (active : ℕ) (abilities : List Ability) (choice : Choice) → Among choice (made_of (which_thread active abilities)).options → IsThreadChoice choice
-options_are_threads active abilities choice h = thread_options_are (default_thread active abilities) abilities choice h
+pub options_are_threads : (offers : Offers) (choice : Choice) → Among choice (made_of (which_thread offers)).options → IsThreadChoice choice
+options_are_threads offers choice h = thread_options_are offers.default offers.abilities choice h
 
 -- ---- loads
 
@@ -75,3 +66,15 @@ pub slots_few : (readable : List Bool) (k : ℕ) → length (slots_from k readab
 slots_few [] k = omega arith
 slots_few (true ∷ readable) k = let h = slots_few readable (suc k) in omega arith
 slots_few (false ∷ readable) k = let h = slots_few readable (suc k) in omega arith
+
+-- ---- spurious wake-ups
+
+abbrev pub IsFlagChoice : Choice → Type 0
+IsFlagChoice (Thread k) = ⊥
+IsFlagChoice (Load slot) = ⊥
+IsFlagChoice (Spurious answer) = Unit {0}
+
+pub options_are_flags : (choice : Choice) → Among choice (made_of whether_spurious).options → IsFlagChoice choice
+options_are_flags choice (inl e) = subst IsFlagChoice (sym e) tt
+options_are_flags choice (inr (inl e)) = subst IsFlagChoice (sym e) tt
+options_are_flags choice (inr (inr h)) = absurd h

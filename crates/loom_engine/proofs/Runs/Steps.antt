@@ -1,6 +1,6 @@
 -- Each operation that is handed over is an event, in each state of the machine.
 use Rattle.std.proofs.Common.{◌≡◌, ◌≢◌, ◌≤◌, ℕ, zero, suc, Bool, List, [], ◌∷◌, length, Option, Some, None, arith, refl}
-use Rattle.std.specs.Prelude.{◌==◌, ◌-◌, ◌^◌, true, false, not, if◌then◌else◌, slice_get, nat_lt, is_none, is_some, Result, Ok, Err, ⊤}
+use Rattle.std.specs.Prelude.{◌==◌, ◌-◌, ◌^◌, true, false, not, if◌then◌else◌, slice_get, nat_lt, is_none, Result, Ok, Err, ⊤}
 use Rattle.std.specs.declared.sync.atomic.Ordering.{Ordering}
 use Rattle.loom_views.specs.Changes.{fit, changed}
 use Rattle.loom_views.specs.Table.{Accessed, points_after_raise, points_after_spawn, points_after_read, points_after_write, points_after_load, points_after_store, points_after_update_read, points_after_update_write, points_after_unsync_load, points_after_with_mut, points_after_with_mut_end, readable_slots_of}
@@ -21,8 +21,6 @@ use Rattle.loom_objects.specs.declared.operation.CellOp.TheVariants as cell_op
 use Rattle.loom_objects.specs.declared.operation.Exchange.{Exchange}
 use Rattle.loom_objects.specs.declared.operation.MutexOp.{MutexOp}
 use Rattle.loom_objects.specs.declared.operation.MutexOp.TheVariants as mutex_op
-use Rattle.loom_objects.specs.declared.operation.RwLockOp.{RwLockOp}
-use Rattle.loom_objects.specs.declared.operation.RwLockOp.TheVariants as rwlock_op
 use Rattle.loom_objects.specs.declared.operation.Op.{Op}
 use Rattle.loom_objects.specs.declared.operation.Op.TheVariants as op
 use Rattle.loom_objects.specs.declared.operation.Reply.{Reply}
@@ -40,7 +38,6 @@ use Rattle.loom_objects.specs.declared.rt.sync.Track.{Track}
 use Rattle.loom_objects.specs.declared.rt.thread.Counting.{Counting}
 use Rattle.loom_objects.specs.declared.rt.thread.Counting.TheVariants as counting
 use Rattle.loom_objects.specs.declared.rt.sync.Cell.{Cell}
-use Rattle.loom_objects.specs.declared.rt.sync.RwLock.{RwLock}
 use Rattle.loom_objects.specs.declared.rt.run.Entry.TheVariants.{Answered, AtBranch, Spurious as AtSpurious}
 use Rattle.loom_objects.specs.declared.rt.thread.Task.{Task}
 use Rattle.loom_objects.specs.declared.rt.thread.Task.TheVariants as task
@@ -50,28 +47,23 @@ use Rattle.loom_objects.specs.Counts.{an_arc, arc_begins, as_arc, comes_to as co
 use Rattle.loom_objects.specs.Leaks.{check_leak, first_leak, first_of, leak_of}
 use Rattle.loom_objects.specs.Tracks.{a_track, as_track, track_begins, track_take, tracked_value}
 use Rattle.loom_objects.specs.Cells.{a_cell, as_cell, cell_begins, data_left, exchanges_cells, is_free as is_free_cell, is_unread, opens_write, reads_open, records_read, records_write, result_of, swap_if}
-use Rattle.loom_objects.specs.Locks.{mutex_begins, lock, locks_unless, sets_free, try_lock}
-use Rattle.loom_objects.specs.RwLocks.{a_rwlock, as_rwlock, claim_begins, claims, guards_of, is_refused, reads_lock, rwlock_begins, takes_unless, unlocked_value, writes_lock}
-use Rattle.loom_objects.specs.Notifiers.{as_notifier}
-use Rattle.loom_objects.specs.declared.rt.thread.Claim.{Claim}
-use Rattle.loom_objects.specs.declared.rt.thread.Claim.TheVariants.{Read, TryRead, Write, TryWrite}
-use Rattle.loom_objects.specs.declared.rt.thread.Locking.{Locking}
-use Rattle.loom_objects.specs.declared.rt.thread.Locking.TheVariants.{Untimed}
-use Rattle.loom_objects.specs.Moves.{as_mutex, came, free_value, is_number, raises, with_active, with_points}
+use Rattle.loom_objects.specs.Locks.{mutex_begins, lock, try_lock}
+use Rattle.loom_objects.specs.RwLocks.{claims}
+use Rattle.loom_objects.specs.Condvars.{wakes}
+use Rattle.loom_objects.specs.Notifiers.{as_notifier, awaits, notifies, wakes_early}
+use Rattle.loom_objects.specs.Moves.{as_mutex, came, is_number, raises, with_active, with_points}
 use Rattle.loom_objects.specs.Operation.{accessed}
 use Rattle.loom_objects.specs.Question.{Among, made_of, slots}
-use Rattle.loom_objects.specs.Steps.{abilities, all_ended, begins, ends, op_begins, resumes, takes_effect, told, turned}
+use Rattle.loom_objects.specs.Steps.{offers, all_ended, begins, ends, op_begins, resumes, all_run, takes_effect, told, turned}
 use Rattle.loom_objects.specs.Threads.{child_finish, finish_as, has_own, join, is_exited, is_finished, is_working, thread_begins}
 use Rattle.loom_objects.specs.Tree.{Tree, ◌>>=◌, found}
 use Rattle.loom_objects.specs.World.{World}
-use Rattle.loom_engine.specs.Machine.{chooses, closes as closes_run, further, further_branches, goes_on, passes, schedule, submit}
+use Rattle.loom_engine.specs.Machine.{chooses, closes as closes_run, further, further_branches, goes_on, passes, schedule, submit, waits}
 use Rattle.loom_engine.specs.Routes.{which_thread}
-use Rattle.loom_engine.proofs.Runs.Defaults.{default_able, options_are_threads, IsLoadChoice, options_are_loads, slots_few}
+use Rattle.loom_engine.proofs.Runs.Defaults.{offers_ask, options_are_threads, IsFlagChoice, options_are_flags, IsLoadChoice, options_are_loads, slots_few}
 use Rattle.loom_engine.proofs.Runs.Fairness.{IsFairResult, either, raise_fair, spawn_fair, readable_fair, load_fair, store_fair, update_read_fair, update_write_fair, unsync_load_fair, with_mut_fair, with_mut_end_fair, cell_read_fair, cell_write_fair}
+use Rattle.loom_engine.proofs.Runs.Locking.{awaits_comes, claims_comes, condvar_comes, current_comes, enters_wait_comes, falls_asleep_comes, free_comes, lock_comes, misuse, mutex_get_mut_comes, mutex_into_inner_comes, mutex_put_comes, notifier_comes, notifies_comes, park_comes, relocks_comes, rwlock_comes, try_lock_begins_comes, try_lock_comes, unpark_comes, wakes_comes, wakes_early_comes, yield_now_comes}
 use Rattle.loom_engine.proofs.Runs.Events.{Comes, comes_to, comes_not, Anything, found_comes, then_comes, check_comes, IsGoing, IsOver, IsOpen, IsEvent, GoesOn, HasEnded, IsPass, goes, fails, closes, asks, going_event, event_open, then_event, check_event, event_after, turned_pass, StaysOpen}
-
-misuse : Misuse ≢ NotDeterministic
-misuse e = cc
 
 came_comes : {A B : Type 0} {P : B → Type 0} (r : Result A FailureKind) (next : A → Tree B) → IsFairResult r → ((a : A) → Comes P (next a)) → Comes P (came r >>= next)
 came_comes (Ok a) next fair h = h a
@@ -94,41 +86,15 @@ checked_comes None next fair h = h
 checked_comes (Some kind) next fair h = comes_not kind fair
 
 module _ {D : Type 0} where
-  free_comes : (n : ℕ) (value : D) (w : World D) → Comes Anything (sets_free n value w)
-  free_comes n value w = found_comes (as_mutex (slice_get w.objects n)) _ _ misuse (λ mutex. check_comes (is_number mutex.holder w.active) _ _ misuse (comes_to _ tt))
-
   mutex_comes : (todo : MutexOp D) (w : World D) → Comes Anything (mutex_begins todo w)
   mutex_comes (mutex_op.New value) w = comes_to _ tt
   mutex_comes (mutex_op.Lock n) w =
       found_comes (as_mutex (slice_get w.objects n)) _ _ misuse (λ mutex. found_comes (slice_get w.threads w.active) _ _ misuse (λ thread. comes_to _ tt))
   mutex_comes (mutex_op.Release n value) w = then_comes {Q = Anything} _ _ (free_comes n value w) (λ freed q. comes_to _ tt)
-  mutex_comes (mutex_op.TryLock n) w =
-      found_comes (as_mutex (slice_get w.objects n)) _ _ misuse (λ mutex. found_comes (slice_get w.threads w.active) _ _ misuse (λ thread. comes_to _ tt))
-  mutex_comes (mutex_op.GetMut n) w = found_comes (as_mutex (slice_get w.objects n)) _ _ misuse (λ mutex. found_comes (free_value mutex) _ _ misuse (λ value. comes_to _ tt))
-  mutex_comes (mutex_op.Put n value) w = found_comes (as_mutex (slice_get w.objects n)) _ _ misuse (λ mutex. check_comes (is_number mutex.lent w.active) _ _ misuse (comes_to _ tt))
-  mutex_comes (mutex_op.IntoInner n) w = found_comes (as_mutex (slice_get w.objects n)) _ _ misuse (λ mutex. found_comes (free_value mutex) _ _ misuse (λ value. comes_to _ tt))
-
-  -- ---- read-write locks
-
-  rwlock_found : {B : Type 0} {P : B → Type 0} (n : ℕ) (w : World D) (next : RwLock D → Tree B) → ((lock : RwLock D) → Comes P (next lock)) → Comes P (a_rwlock n w >>= next)
-  rwlock_found n w next h = found_comes (as_rwlock (slice_get w.objects n)) _ _ misuse h
-
-  claim_begins_comes : (claim : Claim) (n : ℕ) (w : World D) → Comes Anything (claim_begins claim n w)
-  claim_begins_comes claim n w = rwlock_found n w _ (λ lock. found_comes (slice_get w.threads w.active) _ _ misuse (λ thread. comes_to _ tt))
-
-  rwlock_comes : (todo : RwLockOp D) (w : World D) → Comes Anything (rwlock_begins todo w)
-  rwlock_comes (rwlock_op.New value) w = comes_to _ tt
-  rwlock_comes (rwlock_op.Read n) w = claim_begins_comes Read n w
-  rwlock_comes (rwlock_op.TryRead n) w = claim_begins_comes TryRead n w
-  rwlock_comes (rwlock_op.ReadRelease n) w = rwlock_found n w _ (λ lock. check_comes (nat_lt 0 (guards_of w.active lock)) _ _ misuse (comes_to _ tt))
-  rwlock_comes (rwlock_op.Write n) w = claim_begins_comes Write n w
-  rwlock_comes (rwlock_op.TryWrite n) w = claim_begins_comes TryWrite n w
-  rwlock_comes (rwlock_op.WriteRelease n value) w = rwlock_found n w _ (λ lock. check_comes (is_number lock.writer w.active) _ _ misuse (comes_to _ tt))
-  rwlock_comes (rwlock_op.GetMut n) w = rwlock_found n w _ (λ lock. found_comes (unlocked_value lock) _ _ misuse (λ value. comes_to _ tt))
-  rwlock_comes (rwlock_op.Put n value) w = rwlock_found n w _ (λ lock. check_comes (is_number lock.lent w.active) _ _ misuse (comes_to _ tt))
-  rwlock_comes (rwlock_op.IntoInner n) w = rwlock_found n w _ (λ lock. found_comes (unlocked_value lock) _ _ misuse (λ value. comes_to _ tt))
-
-  -- ---- atomics
+  mutex_comes (mutex_op.TryLock n) w = try_lock_begins_comes n w
+  mutex_comes (mutex_op.GetMut n) w = mutex_get_mut_comes n w
+  mutex_comes (mutex_op.Put n value) w = mutex_put_comes n value w
+  mutex_comes (mutex_op.IntoInner n) w = mutex_into_inner_comes n w
 
   atomic_found : {B : Type 0} {P : B → Type 0} (n : ℕ) (w : World D) (next : Atomic → Tree B) → ((atomic : Atomic) → Comes P (next atomic)) → Comes P (an_atomic n w >>= next)
   atomic_found n w next h = found_comes (as_atomic (slice_get w.objects n)) _ _ misuse h
@@ -228,10 +194,10 @@ module _ {D : Type 0} where
       check_comes (has_own (slice_get w.threads t) n) _ _ misuse
       (found_comes (as_notifier (slice_get w.objects n)) _ _ misuse
       (λ notifier. check_comes (is_none notifier.waiter) _ _ misuse (found_comes (slice_get w.threads w.active) _ _ misuse (λ thread. comes_to _ tt))))
-  thread_comes thread_op.Current w = comes_not Misuse misuse
-  thread_comes thread_op.Park w = comes_not Misuse misuse
-  thread_comes (thread_op.Unpark t) w = comes_not Misuse misuse
-  thread_comes thread_op.Yield w = comes_not Misuse misuse
+  thread_comes thread_op.Current w = current_comes w
+  thread_comes thread_op.Park w = park_comes w
+  thread_comes (thread_op.Unpark t) w = unpark_comes t w
+  thread_comes thread_op.Yield w = yield_now_comes w
   thread_comes (thread_op.Finish value) w =
       found_comes (slice_get w.threads w.active) _ _ misuse (λ thread. check_comes (is_working thread.phase) _ _ misuse (finish_comes thread.notifier thread value w))
   thread_comes thread_op.Exit w = found_comes (slice_get w.threads w.active) _ _ misuse (λ thread. check_comes (is_finished thread.phase) _ _ misuse (comes_to _ tt))
@@ -277,8 +243,8 @@ module _ {D : Type 0} where
   op_comes (op.Track todo place) w = track_comes todo w
   op_comes (op.Mutex todo place) w = mutex_comes todo w
   op_comes (op.RwLock todo place) w = rwlock_comes todo w
-  op_comes (op.Condvar todo place) w = comes_not Misuse misuse
-  op_comes (op.Notify todo place) w = comes_not Misuse misuse
+  op_comes (op.Condvar todo place) w = condvar_comes todo w
+  op_comes (op.Notify todo place) w = notifier_comes todo w
   op_comes (op.Thread todo place) w = thread_comes todo w
   op_comes (op.Fail place) w = comes_not Assertion (λ e. cc)
   op_comes (op.Unreachable place) w = comes_not Unreachable (λ e. cc)
@@ -290,35 +256,6 @@ module _ {D : Type 0} where
 
   told_comes : (answered : Reply D × World D) → Comes IsGoing (told answered)
   told_comes (reply, w) = comes_to _ tt
-
-  lock_comes : (locking : Locking) (n : ℕ) (w : World D) → Comes Anything (lock locking n w)
-  lock_comes locking n w = found_comes (as_mutex (slice_get w.objects n)) _ _ misuse (λ mutex. found_comes (free_value mutex) _ _ misuse (λ value. comes_to _ tt))
-
-  locks_comes : (is_held : Bool) (n : ℕ) (w : World D) → Comes Anything (locks_unless is_held n w)
-  locks_comes true n w = comes_to _ tt
-  locks_comes false n w = lock_comes Untimed n w
-
-  try_lock_comes : (n : ℕ) (w : World D) → Comes Anything (try_lock n w)
-  try_lock_comes n w = found_comes (as_mutex (slice_get w.objects n)) _ _ misuse (λ mutex. check_comes (is_none mutex.lent) _ _ misuse (locks_comes (is_some mutex.holder) n w))
-
-  reads_lock_comes : (n : ℕ) (lock : RwLock D) (w : World D) → Comes Anything (reads_lock n lock w)
-  reads_lock_comes n lock w = found_comes lock.value _ _ misuse (λ value. check_comes (nat_lt (guards_of w.active lock) (2 ^ 64 - 1)) TooManySteps _ (λ e. cc) (comes_to _ tt))
-
-  writes_lock_comes : (n : ℕ) (lock : RwLock D) (w : World D) → Comes Anything (writes_lock n lock w)
-  writes_lock_comes n lock w = found_comes lock.value _ _ misuse (λ value. comes_to _ tt)
-
-  takes_comes : (is_refused : Bool) (claim : Claim) (n : ℕ) (lock : RwLock D) (w : World D) → Comes Anything (takes_unless is_refused claim n lock w)
-  takes_comes true Read n lock w = comes_not Misuse misuse
-  takes_comes true TryRead n lock w = comes_to _ tt
-  takes_comes true Write n lock w = comes_not Misuse misuse
-  takes_comes true TryWrite n lock w = comes_to _ tt
-  takes_comes false Read n lock w = reads_lock_comes n lock w
-  takes_comes false TryRead n lock w = reads_lock_comes n lock w
-  takes_comes false Write n lock w = writes_lock_comes n lock w
-  takes_comes false TryWrite n lock w = writes_lock_comes n lock w
-
-  claims_comes : (claim : Claim) (n : ℕ) (w : World D) → Comes Anything (claims claim n w)
-  claims_comes claim n w = rwlock_found n w _ (λ lock. check_comes (is_none lock.lent) _ _ misuse (takes_comes (is_refused claim lock) claim n lock w))
 
   child_finish_comes : (n : ℕ) (value : D) (w : World D) → Comes Anything (child_finish n value w)
   child_finish_comes n value w =
@@ -450,17 +387,17 @@ module _ {D : Type 0} where
   effect_event : (todo : Task D) (w : World D) → IsPass (takes_effect todo w)
   effect_event task.Start w = goes _ tt
   effect_event task.Body w = fails Misuse misuse
-  effect_event task.Continue w = fails Misuse misuse
+  effect_event task.Continue w = goes _ tt
   effect_event (task.Access access) w = turned_pass _ (access_event access w)
   effect_event (task.Lock locking n) w = replies_pass (lock locking n w) (lock_comes locking n w)
   effect_event (task.TryLock n) w = replies_pass (try_lock n w) (try_lock_comes n w)
   effect_event (task.Claim claim n) w = replies_pass (claims claim n w) (claims_comes claim n w)
-  effect_event (task.Wait locking n m value) w = fails Misuse misuse
-  effect_event (task.Relock locking m) w = fails Misuse misuse
-  effect_event (task.Wake waking n) w = fails Misuse misuse
-  effect_event (task.Notify n) w = fails Misuse misuse
-  effect_event (task.Await n) w = fails Misuse misuse
-  effect_event (task.Rouse n) w = fails Misuse misuse
+  effect_event (task.Wait locking n m value) w = going_event _ (falls_asleep_comes locking n m value w)
+  effect_event (task.Relock locking m) w = going_event _ (relocks_comes locking m w)
+  effect_event (task.Wake waking n) w = replies_pass (wakes waking n w) (wakes_comes waking n w)
+  effect_event (task.Notify n) w = replies_pass (notifies n w) (notifies_comes n w)
+  effect_event (task.Await n) w = replies_pass (awaits n w) (awaits_comes n w)
+  effect_event (task.Rouse n) w = replies_pass (wakes_early n w) (wakes_early_comes n w)
   effect_event (task.Count todo n) w = replies_pass (counts todo n w) (counts_comes todo n w)
   effect_event (task.TryUnwrap n) w = going_event _ (unwrap_comes n w)
   effect_event (task.Join t n) w = replies_pass (join t n w) (join_comes t n w)
@@ -469,7 +406,7 @@ module _ {D : Type 0} where
   resumes_event : (t : ℕ) (w : World D) → IsPass (resumes t w)
   resumes_event t w = chosen (slice_get w.threads t)
     where
-      chosen : (o : Option (Thread D)) → IsPass (found o Misuse >>= (λ thread. takes_effect thread.task (with_active (record thread { task = task.Body }) (record w { active = t }))))
+      chosen : (o : Option (Thread D)) → IsPass (found o Misuse >>= (λ thread. takes_effect thread.task (with_active (record thread { task = task.Body }) (all_run (record w { active = t })))))
       chosen None = fails Misuse misuse
       chosen (Some thread) = effect_event thread.task _
 
@@ -503,10 +440,10 @@ module _ {D : Type 0} where
   chosen_event w (Some t) = resumes_event t w
   chosen_event w None = turned_pass _ (closes_event w)
 
-  option_event : (w : World D) (o : Choice) → Among o (made_of (which_thread w.active (abilities w))).options → IsPass (chooses w o)
+  option_event : (w : World D) (o : Choice) → Among o (made_of (which_thread (offers w))).options → IsPass (chooses w o)
   option_event w (choice.Thread o) h = chosen_event w o
-  option_event w (choice.Load slot) h = absurd (options_are_threads w.active (abilities w) (choice.Load slot) h)
-  option_event w (choice.Spurious answer) h = absurd (options_are_threads w.active (abilities w) (choice.Spurious answer) h)
+  option_event w (choice.Load slot) h = absurd (options_are_threads (offers w) (choice.Load slot) h)
+  option_event w (choice.Spurious answer) h = absurd (options_are_threads (offers w) (choice.Spurious answer) h)
 
   choice_open : (w : World D) (o : Choice) → StaysOpen GoesOn (chooses w o)
   choice_open w (choice.Thread o) = event_open _ (chosen_event w o)
@@ -514,7 +451,7 @@ module _ {D : Type 0} where
   choice_open w (choice.Spurious answer) = tt
 
   passes_event : (w : World D) → IsPass (passes w)
-  passes_event w = asks _ _ (default_able w.active (abilities w), omega arith) refl (option_event w) (choice_open w)
+  passes_event w = asks _ _ (offers_ask w) refl (option_event w) (choice_open w)
 
   module _ (again : World D → Tree (Turn D × World D)) where
     further_over : (after : Passed D × World D) → HasEnded after → Comes IsOver (further again after)
@@ -533,10 +470,20 @@ module _ {D : Type 0} where
   schedule_event zero w = further_event _ (λ v. fails Misuse misuse) w
   schedule_event (suc more) w = further_event (schedule more) (schedule_event more) w
 
+  waits_event : (n : ℕ) (w : World D) (o : Choice) → IsFlagChoice o → IsEvent (waits n w o)
+  waits_event n w (choice.Spurious answer) h = then_event {Q = Anything} _ _ (enters_wait_comes answer n w) (λ after q. schedule_event further_branches after.1)
+  waits_event n w (choice.Thread t) h = absurd h
+  waits_event n w (choice.Load slot) h = absurd h
+
+  waits_open : (n : ℕ) (w : World D) (o : Choice) → IsOpen (waits n w o)
+  waits_open n w (choice.Spurious answer) = event_open _ (waits_event n w (choice.Spurious answer) tt)
+  waits_open n w (choice.Thread t) = tt
+  waits_open n w (choice.Load slot) = tt
+
   goes_on_event : (entered : Entry D × World D) → IsEvent (goes_on entered)
   goes_on_event (Answered reply, w) = going_event _ (told_comes (reply, w))
   goes_on_event (AtBranch, w) = schedule_event further_branches w
-  goes_on_event (AtSpurious n, w) = fails Misuse misuse
+  goes_on_event (AtSpurious n, w) = asks _ _ tt refl (λ o h. waits_event n w o (options_are_flags o h)) (waits_open n w)
 
   pub submit_event : (todo : Op D ⊤) (w : World D) → IsEvent (submit todo w)
   submit_event todo w = then_event (begins todo w) goes_on (begins_comes todo w) (λ entered q. goes_on_event entered)

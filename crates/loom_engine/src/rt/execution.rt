@@ -110,7 +110,24 @@ fn hand_over<D: Data>(
         Err(stop) => Err(stop),
         Ok(Entry::Answered(reply)) => Ok(Turn::Reply(run.active, reply)),
         Ok(Entry::AtBranch) => schedule(run, path, FURTHER_BRANCHES),
-        Ok(Entry::Spurious(_)) => Err(failed(FailureKind::Misuse)),
+        Ok(Entry::Spurious(notifier)) => wait(run, path, notifier),
+    }
+}
+
+/// Whether the active thread wakes from the notifier without a notification is chosen, and then it yields or waits.
+fn wait<D: Drop>(run: &mut RunState<D>, path: &mut Path, notifier: usize) -> Result<Turn<D>, Stop>
+    requires { IsSound run.old }
+    ensures along { Along (machine.is_asked notifier) run.old path.old result run.new path.new }
+    ensures sound { IsSound run.new }
+    ensures steps { run.new.steps_left ≡ run.old.steps_left }
+    ensures same { (path.new.max_branches ≡ path.old.max_branches) × (path.new.given ≡ path.old.given) }
+{
+    match path.branch_spurious() {
+        Err(stop) => Err(stop),
+        Ok(is_spurious) => match run.enter_wait(is_spurious, notifier) {
+            Err(stop) => Err(stop),
+            Ok(()) => schedule(run, path, FURTHER_BRANCHES),
+        },
     }
 }
 
@@ -142,7 +159,7 @@ fn pass<D: Data>(run: &mut RunState<D>, path: &mut Path) -> Result<Passed<D>, St
     ensures steps { run.new.steps_left ≡ run.old.steps_left }
     ensures same { (path.new.max_branches ≡ path.old.max_branches) × (path.new.given ≡ path.old.given) }
 {
-    match path.branch_thread(run.active, &run.abilities()) {
+    match path.branch_thread(&run.offers()) {
         Err(stop) => Err(stop),
         Ok(Some(thread)) => go_on(run, path, thread),
         Ok(None) => match close(run, path) {

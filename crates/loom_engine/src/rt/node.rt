@@ -1,8 +1,7 @@
 ghost use Rattle.std.specs.Prelude.{◌≡◌, ◌<◌, ◌≤◌, ◌↔◌, Some, IfSome, IsTrue, true, slice_get, slice_index, map, length};
 ghost use Rattle.std.specs.List.{position_from, Contains};
 ghost use Rattle.std.specs.Option.{option_map};
-ghost use Rattle.loom_objects.specs.Question.{made_of};
-ghost use Rattle.loom_objects.specs.Steps.{default_thread as default_of, is_able_one};
+ghost use Rattle.loom_objects.specs.Question.{made_of, AreSoundOffers};
 ghost use Rattle.loom_engine.specs.Walk.Path.{advance as advanced, choose as chosen, fresh, IsAtRest};
 ghost use Rattle.loom_engine.specs.Trees.Drive.{new_node};
 ghost use Rattle.loom_engine.specs.Nodes.{ability_of, made_status, is_active, is_pending, with_status as with_statuses, seen, seen_schedule, seen_load, seen_spurious, Advances, IsWell, IsWellLoad};
@@ -10,7 +9,7 @@ ghost use Rattle.loom_objects.specs.Question.{slots};
 ghost use Rattle.loom_engine.specs.Routes.{which_thread, which_store, whether_spurious};
 
 use loom_objects::choice::Choice;
-use loom_objects::rt::thread::Ability;
+use loom_objects::rt::thread::{Ability, Offers};
 
 /// What is known of a thread at a schedule (loom's `rt/path.rs`).
 #[derive(Clone, Copy, Debug, PartialEq, Eq)]
@@ -69,35 +68,6 @@ pub enum Node {
     Load(Load),
     /// Whether a thread wakes without a notification.
     Spurious(Spurious),
-}
-
-/// Whether a thread that offers this may be chosen.
-fn is_able(ability: Ability) -> bool
-    ensures { result ≡ is_able_one ability }
-{
-    matches!(ability, Ability::Able)
-}
-
-/// The active thread if it can go on, or else the lowest that can.
-fn default_thread(active: u8, abilities: &[Ability; 5]) -> Option<u8>
-    ensures default { result ≡ default_of active abilities.now }
-    ensures within { IfSome result (λ thread. thread < 5) }
-{
-    if active < 5 && is_able(abilities[active as usize]) {
-        return Some(active);
-    }
-    match lowest_able(abilities) {
-        Some(thread) => Some(thread as u8),
-        None => None,
-    }
-}
-
-/// The lowest thread that can go on.
-fn lowest_able(abilities: &[Ability; 5]) -> Option<usize>
-    ensures lowest { result ≡ position_from is_able_one 0 abilities.now }
-    ensures within { IfSome result (λ thread. thread < 5) }
-{
-    abilities.iter().position(|ability| is_able(*ability))
 }
 
 /// Whether the two are the same thread, or both none.
@@ -159,7 +129,8 @@ impl Status {
 
 /// The statuses, as the node is made, while no thread is the choice.
 fn made_statuses(abilities: &[Ability; 5]) -> [Status; 5]
-    ensures { result ≡ map made_status abilities.now }
+    ensures made { result ≡ map made_status abilities.now }
+    ensures size { length abilities.now ≡ 5 }
 {
     abilities.map(Status::made)
 }
@@ -177,25 +148,30 @@ fn with_status(mut statuses: [Status; 5], thread: Option<u8>, status: Status) ->
 
 impl Schedule {
     /// A new schedule: the default thread is the choice, and each other thread that can go on is to be tried.
-    pub(crate) fn new(active: u8, abilities: &[Ability; 5]) -> Schedule
-        ensures made { seen_schedule result ≡ fresh true (made_of (which_thread active abilities.now)) }
+    pub(crate) fn new(offers: &Offers) -> Schedule
+        requires { AreSoundOffers offers.now.default offers.now.abilities }
+        ensures made { seen_schedule result ≡ fresh true (made_of (which_thread offers.now)) }
         ensures rests { IsAtRest (seen_schedule result) }
     {
-        let first = default_thread(active, abilities);
         Schedule {
-            first,
+            first: offers.default,
             exploring: true,
-            statuses: with_status(made_statuses(abilities), first, Status::Active),
+            statuses: with_status(
+                made_statuses(&offers.abilities),
+                offers.default,
+                Status::Active,
+            ),
         }
     }
 
     /// A new schedule at a choice that was given, or None where that is no option. The default, if it is passed over,
     /// counts as tried.
-    pub(crate) fn at(active: u8, abilities: &[Ability; 5], choice: Choice) -> Option<Schedule>
-        ensures made { option_map seen_schedule result ≡ new_node true (made_of (which_thread active abilities.now)) (Some choice) }
+    pub(crate) fn at(offers: &Offers, choice: Choice) -> Option<Schedule>
+        requires { AreSoundOffers offers.now.default offers.now.abilities }
+        ensures made { option_map seen_schedule result ≡ new_node true (made_of (which_thread offers.now)) (Some choice) }
         ensures rests { IfSome result (λ schedule. IsAtRest (seen_schedule schedule)) }
     {
-        let mut schedule = Schedule::new(active, abilities);
+        let mut schedule = Schedule::new(offers);
         let Choice::Thread(thread) = choice else {
             return None;
         };
@@ -245,12 +221,12 @@ impl Schedule {
     }
 
     /// Whether it is the schedule that would be made now, whatever was tried there.
-    pub(crate) fn meets(&self, active: u8, abilities: &[Ability; 5]) -> bool
-        ensures { IsTrue result ↔ ((seen_schedule self.now).made ≡ made_of (which_thread active abilities.now)) }
+    pub(crate) fn meets(&self, offers: &Offers) -> bool
+        ensures { IsTrue result ↔ ((seen_schedule self.now).made ≡ made_of (which_thread offers.now)) }
     {
         self.exploring
-            && is_same_thread(self.first, default_thread(active, abilities))
-            && are_same_abilities(&self.statuses.map(Status::ability), abilities)
+            && is_same_thread(self.first, offers.default)
+            && are_same_abilities(&self.statuses.map(Status::ability), &offers.abilities)
     }
 
     /// Another thread is the choice, and the one that was is visited.

@@ -1,7 +1,7 @@
 ghost use Rattle.std.specs.Prelude.{◌≡◌, ◌≤◌, ◌<◌, ◌+◌, ◌↔◌, [], ◌∷◌, ◌++◌, IfOk, IfErr, IfSome, IsTrue, slice_get, map, length, true};
 ghost use Rattle.std.specs.List.{Contains};
 ghost use Rattle.std.specs.Option.{option_map};
-ghost use Rattle.loom_objects.specs.Question.{made_of};
+ghost use Rattle.loom_objects.specs.Question.{made_of, AreSoundOffers};
 ghost use Rattle.loom_engine.specs.Nodes.{seen, seen_schedule, seen_load, seen_spurious, AreWell, IsWell, IsWellLoad};
 ghost use Rattle.loom_engine.specs.Routes.{Route, at_rest, chosen, trail, Says, Pushes, IsAtLoad, PassesLoad, Steps, which_thread, which_store, whether_spurious};
 ghost use Rattle.loom_engine.specs.Trees.Drive.{is_used_up, new_node};
@@ -9,7 +9,7 @@ ghost use Rattle.loom_engine.specs.Trees.Drive.{is_used_up, new_node};
 use crate::rt::node::{Load, Node, Schedule, Spurious};
 use loom_objects::choice::Choice;
 use loom_objects::failure::{Stop, failed};
-use loom_objects::rt::thread::Ability;
+use loom_objects::rt::thread::Offers;
 use loom_views::rt::failure::FailureKind;
 use std::alloc::{AllocError, Global};
 use std::marker::Model;
@@ -106,19 +106,16 @@ impl Path {
     }
 
     /// Passes a schedule: follows the stored node, or makes one. Where it fails the path stays as it was.
-    pub fn branch_thread(
-        &mut self,
-        active: u8,
-        abilities: &[Ability; 5],
-    ) -> Result<Option<u8>, Stop>
-        ensures says { Says Choice.Thread self.old (which_thread active abilities.now) result self.new }
+    pub fn branch_thread(&mut self, offers: &Offers) -> Result<Option<u8>, Stop>
+        requires { AreSoundOffers offers.now.default offers.now.abilities }
+        ensures says { Says Choice.Thread self.old (which_thread offers.now) result self.new }
         ensures same { (self.new.max_branches ≡ self.old.max_branches) × (self.new.given ≡ self.old.given) }
     {
         if self.position < self.nodes.len() {
             let Node::Schedule(schedule) = self.nodes[self.position] else {
                 return Err(failed(FailureKind::NotDeterministic));
             };
-            if !schedule.meets(active, abilities) {
+            if !schedule.meets(offers) {
                 return Err(failed(FailureKind::NotDeterministic));
             }
             self.position += 1;
@@ -127,7 +124,7 @@ impl Path {
         if self.is_full() {
             return Err(failed(FailureKind::TooManyBranches));
         }
-        let Some(schedule) = new_schedule(active, abilities, self.given_here()) else {
+        let Some(schedule) = new_schedule(offers, self.given_here()) else {
             return Err(failed(FailureKind::NotDeterministic));
         };
         match self.lengthen(Node::Schedule(schedule)) {
@@ -244,13 +241,14 @@ fn choices_at(alloc: Global, nodes: &[Node]) -> Result<Vec<Choice>, AllocError>
 }
 
 /// A new schedule: at the choice that was given for its place, if any, or else at its default.
-fn new_schedule(active: u8, abilities: &[Ability; 5], given: Option<Choice>) -> Option<Schedule>
-    ensures made { option_map seen_schedule result ≡ new_node true (made_of (which_thread active abilities.now)) given }
+fn new_schedule(offers: &Offers, given: Option<Choice>) -> Option<Schedule>
+    requires { AreSoundOffers offers.now.default offers.now.abilities }
+    ensures made { option_map seen_schedule result ≡ new_node true (made_of (which_thread offers.now)) given }
     ensures rests { IfSome result (λ schedule. IsWell (Node.Schedule schedule)) }
 {
     match given {
-        Some(choice) => Schedule::at(active, abilities, choice),
-        None => Some(Schedule::new(active, abilities)),
+        Some(choice) => Schedule::at(offers, choice),
+        None => Some(Schedule::new(offers)),
     }
 }
 

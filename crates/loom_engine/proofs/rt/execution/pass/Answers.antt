@@ -4,16 +4,16 @@ use Rattle.loom_engine.proofs.rt.execution.pass.Goals as goal
 
 pub returns-in-Err-clause-along : goal.returns-in-Err-clause-along
 returns-in-Err-clause-along g c =
-    schedule_refused c.args.run.now c.abilities.result c.abilities.ensures c.args.path.now c.branch_thread.new.self c.branch_thread.ensures.same.0 c.in-Err.stop c.in-Err.ensures.says
+    schedule_refused c.args.run.now c.offers.result c.offers.ensures.offers c.args.path.now c.branch_thread.new.self c.branch_thread.ensures.same.0 c.in-Err.stop c.in-Err.ensures.says
 
 pub returns-in-Ok-Some-clause-along : goal.returns-in-Ok-Some-clause-along
 returns-in-Ok-Some-clause-along g c =
-    thread_chosen c.args.run.now c.abilities.result c.abilities.ensures c.args.path.now c.branch_thread.new.self c.branch_thread.ensures.same.0 c.in-Ok-Some.thread (rw c.in-Ok-Some.field-0-is at c.in-Ok-Some.ensures.says) c.go_on.result c.go_on.new.run c.go_on.new.path c.go_on.ensures.along
+    thread_chosen c.args.run.now c.offers.result c.offers.ensures.offers c.args.path.now c.branch_thread.new.self c.branch_thread.ensures.same.0 c.in-Ok-Some.thread (rw c.in-Ok-Some.field-0-is at c.in-Ok-Some.ensures.says) c.go_on.result c.go_on.new.run c.go_on.new.path c.go_on.ensures.along
 
 pub returns-in-Ok-clause-along : goal.returns-in-Ok-clause-along
 returns-in-Ok-clause-along g c =
-    nobody_chosen c.args.run.now c.abilities.result c.abilities.ensures c.args.path.now c.branch_thread.new.self c.branch_thread.ensures.same.0 (rw c.in-Ok-None.field-0-is at c.in-Ok-None.ensures.says) (Ok c.in-Ok.turn) c.close.new.run c.branch_thread.new.self c.in-Ok.ensures.along
+    nobody_chosen c.args.run.now c.offers.result c.offers.ensures.offers c.args.path.now c.branch_thread.new.self c.branch_thread.ensures.same.0 (rw c.in-Ok-None.field-0-is at c.in-Ok-None.ensures.says) (Ok c.in-Ok.turn) c.close.new.run c.branch_thread.new.self c.in-Ok.ensures.along
 
 pub returns-in-Err-close-clause-along : goal.returns-in-Err-close-clause-along
 returns-in-Err-close-clause-along g c =
-    nobody_chosen c.args.run.now c.abilities.result c.abilities.ensures c.args.path.now c.branch_thread.new.self c.branch_thread.ensures.same.0 (rw c.in-Ok-None.field-0-is at c.in-Ok-None.ensures.says) (Err c.in-Err-close.stop) c.close.new.run c.branch_thread.new.self c.in-Err-close.ensures.along
+    nobody_chosen c.args.run.now c.offers.result c.offers.ensures.offers c.args.path.now c.branch_thread.new.self c.branch_thread.ensures.same.0 (rw c.in-Ok-None.field-0-is at c.in-Ok-None.ensures.says) (Err c.in-Err-close.stop) c.close.new.run c.branch_thread.new.self c.in-Err-close.ensures.along

@@ -7,4 +7,4 @@ use Rattle.loom_engine.proofs.rt.path.new_schedule.Goals as goal
 
 pub returns-in-None-clause-made : goal.returns-in-None-clause-made
 returns-in-None-clause-made c =
-    ap Some c.new.ensures.made ∙ ap (new_node true (made_of (which_thread c.args.active c.args.abilities.now))) (sym c.in-None.is)
+    ap Some c.new.ensures.made ∙ ap (new_node true (made_of (which_thread c.args.offers.now))) (sym c.in-None.is)

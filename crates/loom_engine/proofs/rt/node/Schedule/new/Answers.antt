@@ -7,11 +7,8 @@ use Rattle.loom_engine.proofs.rt.node.Schedule.new.Goals as goal
 
 pub returns-clause-made : goal.returns-clause-made
 returns-clause-made c =
-    let abilities = c.args.abilities.now in
-    let statuses : c.with_status.result ≡ with_status c.default_thread-first.result Active (map made_status abilities) = cc in
-    ap (seen_threads _ _) statuses
-    ∙ ap (λ o. seen_threads o _ (with_status o Active (map made_status abilities))) c.default_thread-first.ensures.default
-    ∙ made_is c.args.active abilities
+    let statuses : c.with_status.result ≡ with_status c.args.offers.now.default Active (map made_status c.args.offers.now.abilities) = cc in
+    ap (seen_threads _ _) statuses ∙ made_is c.args.offers.now c.requires
 
 pub returns-clause-rests : goal.returns-clause-rests
-returns-clause-rests c = subst IsAtRest (sym (returns-clause-made c)) (fresh_rests c.args.active c.args.abilities.now c.told-abilities)
+returns-clause-rests c = subst IsAtRest (sym (returns-clause-made c)) (fresh_rests c.args.offers.now c.requires c.made_statuses.ensures.size)

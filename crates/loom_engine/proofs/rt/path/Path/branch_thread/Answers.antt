@@ -12,7 +12,7 @@ use Rattle.loom_engine.proofs.rt.path.Path.branch_thread.Goals as goal
 pub returns-in-Ok-clause-says : goal.returns-in-Ok-clause-says
 returns-in-Ok-clause-says c =
     let p : Route = c.args.self.now in
-    let question : Question = which_thread c.args.active c.args.abilities.now in
+    let question : Question = which_thread c.args.offers.now in
     let held : length (the_view c.self.inside).nodes ≤ (the_view c.self.inside).position = omega (arith, c.self.inside.nodes.ok.0) in
     let past : length p.nodes ≤ p.position = past_end (the_view c.self.inside) p c.self.view_is held in
     let room : p.position < p.max_branches = search rules in
