@@ -5,5 +5,6 @@ pub mod Leading
 pub mod Changing
 pub mod Entering
 pub mod Telling
+pub mod Rousing
 pub mod Resuming
 pub mod Leaking

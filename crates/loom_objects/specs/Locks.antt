@@ -1,5 +1,5 @@
 -- What mutexes do.
-use Rattle.std.specs.Prelude.{ℕ, Bool, true, false, length, is_none, is_some, Some, None}
+use Rattle.std.specs.Prelude.{ℕ, Bool, true, false, length, is_none, is_some, Some, None, ⊤}
 use Rattle.loom_views.specs.declared.rt.failure.FailureKind.TheVariants.{Misuse}
 use Rattle.loom_objects.specs.declared.operation.MutexOp.{MutexOp}
 use Rattle.loom_objects.specs.declared.operation.MutexOp.TheVariants.{New, Lock, TryLock, Release, GetMut, Put, IntoInner}
@@ -62,6 +62,12 @@ module _ {D : Type 0} where
     mutex ← a_mutex n w
     _ ← check (is_number mutex.holder w.active) Misuse
     Gives (wakes_pending n (releases n (with_object n (object.Mutex (record mutex { holder = None; value = Some value })) w)))
+
+  -- the same, with no answer
+  abbrev pub frees : ℕ → D → World D → Tree (⊤ × World D)
+  frees n value w = do
+    freed ← sets_free n value w
+    Gives (tt, freed)
 
   abbrev pub release : ℕ → D → World D → Tree (Entry D × World D)
   release n value w = do

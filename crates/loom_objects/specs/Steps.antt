@@ -21,6 +21,7 @@ use Rattle.loom_objects.specs.Tree.{Tree, Gives, Fails, ◌>>=◌, check, found}
 use Rattle.loom_objects.specs.World.{World}
 use Rattle.loom_objects.specs.Moves.{with_active}
 use Rattle.loom_objects.specs.Locks.{mutex_begins, lock}
+use Rattle.loom_objects.specs.Condvars.{condvar_begins, falls_asleep, relocks, wakes}
 use Rattle.loom_objects.specs.Notifiers.{notifier_begins, notifies, awaits, wakes_early}
 use Rattle.loom_objects.specs.Atomics.{atomic_begins, fence, takes_place}
 use Rattle.loom_objects.specs.Cells.{cell_begins}
@@ -59,7 +60,7 @@ module _ {D : Type 0} where
   op_begins (op.Track todo place) w = track_begins todo w
   op_begins (op.Mutex todo place) w = mutex_begins todo w
   op_begins (op.RwLock todo place) w = Fails Misuse
-  op_begins (op.Condvar todo place) w = Fails Misuse
+  op_begins (op.Condvar todo place) w = condvar_begins todo w
   op_begins (op.Notify todo place) w = notifier_begins todo w
   op_begins (op.Thread todo place) w = thread_begins todo w
   op_begins (op.Fail place) w = Fails Assertion
@@ -92,9 +93,9 @@ module _ {D : Type 0} where
   takes_effect (Lock locking n) w = turns_by (lock locking n) w
   takes_effect (TryLock n) w = Fails Misuse
   takes_effect (Claim claim n) w = Fails Misuse
-  takes_effect (Wait locking n m value) w = Fails Misuse
-  takes_effect (Relock locking m) w = Fails Misuse
-  takes_effect (Wake waking n) w = Fails Misuse
+  takes_effect (Wait locking n m value) w = falls_asleep locking n m value w
+  takes_effect (Relock locking m) w = relocks locking m w
+  takes_effect (Wake waking n) w = turns_by (wakes waking n) w
   takes_effect (Notify n) w = turns_by (notifies n) w
   takes_effect (Await n) w = turns_by (awaits n) w
   takes_effect (Rouse n) w = turns_by (wakes_early n) w

@@ -88,7 +88,8 @@ impl<D: Data> RunState<D> {
             Op::Arc(op, _) => self.arc_begins(op),
             Op::Track(op, _) => self.track_begins(op),
             Op::Mutex(op, _) => self.mutex_begins(op),
-            Op::RwLock(_, _) | Op::Condvar(_, _) => Err(failed(FailureKind::Misuse)),
+            Op::RwLock(_, _) => Err(failed(FailureKind::Misuse)),
+            Op::Condvar(op, _) => self.condvar_begins(op),
             Op::Notify(op, _) => self.notifier_begins(op),
             Op::Thread(op, _) => self.thread_begins(op),
             Op::Fail(_) => Err(failed(FailureKind::Assertion)),
@@ -171,16 +172,26 @@ impl<D: Drop> RunState<D> {
         let chosen = self.threads.at_mut(thread as usize);
         match mem::replace(&mut chosen.task, Task::Body) {
             Task::Start => Ok(Resumed::Passed(Passed::Turn(Turn::Start(thread)))),
-            Task::Body
-            | Task::Continue
-            | Task::TryLock(_)
-            | Task::Claim(_, _)
-            | Task::Wait(_, _, _, _)
-            | Task::Relock(_, _)
-            | Task::Wake(_, _) => Err(failed(FailureKind::Misuse)),
+            Task::Body | Task::Continue | Task::TryLock(_) | Task::Claim(_, _) => Err(failed(
+                FailureKind::Misuse,
+            )),
             Task::Access(access) => self.access(access),
             Task::Lock(locking, mutex) => {
                 let answer = self.lock(locking, mutex);
+                self.told(answer)
+            }
+            Task::Wait(locking, number, mutex, value) => {
+                match self.fall_asleep(locking, number, mutex, value) {
+                    Ok(passed) => Ok(Resumed::Passed(passed)),
+                    Err(stop) => Err(stop),
+                }
+            }
+            Task::Relock(locking, mutex) => match self.relock(locking, mutex) {
+                Ok(passed) => Ok(Resumed::Passed(passed)),
+                Err(stop) => Err(stop),
+            },
+            Task::Wake(waking, number) => {
+                let answer = self.wake(waking, number);
                 self.told(answer)
             }
             Task::Notify(number) => {
