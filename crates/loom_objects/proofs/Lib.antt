@@ -5,6 +5,7 @@ pub mod Leading
 pub mod Changing
 pub mod Entering
 pub mod Telling
+pub mod Rousing
 pub mod Resuming
 pub mod Leaking
 pub mod Offering

@@ -9,6 +9,7 @@ use Rattle.loom_objects.specs.declared.operation.AtomicOp.{AtomicOp}
 use Rattle.loom_objects.specs.declared.rt.run.Passed.TheVariants as passed
 use Rattle.loom_objects.specs.declared.rt.run.Passed.{Passed}
 use Rattle.loom_objects.specs.declared.rt.run.RunState.{RunState}
+use Rattle.loom_objects.specs.declared.rt.thread.Locking.{Locking}
 use Rattle.loom_objects.specs.declared.rt.thread.Task.{Task}
 use Rattle.loom_objects.specs.declared.rt.thread.Task.TheVariants as task
 use Rattle.loom_objects.specs.Shown.{Shows, Does, HasSlot, Resumes, turn_of}
@@ -36,21 +37,22 @@ module _ {D : Type 0} where
 
   -- what is no beginning, no access and no stage is told so
   pub whole : (todo : Task D) (w : World D) → (todo ≡ task.Start → ⊥) → ((access : AtomicOp) → todo ≡ task.Access access → ⊥) → ((n : ℕ) → todo ≡ task.TryUnwrap n → ⊥)
+      → ((locking : Locking) (n m : ℕ) (value : D) → todo ≡ task.Wait locking n m value → ⊥) → ((locking : Locking) (m : ℕ) → todo ≡ task.Relock locking m → ⊥)
       → takes_effect todo w ≡ turns_by (effect todo) w
-  whole task.Start w a b c = absurd (a refl)
-  whole (task.Access access) w a b c = absurd (b access refl)
-  whole (task.TryUnwrap n) w a b c = absurd (c n refl)
-  whole task.Body w a b c = refl
-  whole task.Continue w a b c = refl
-  whole (task.Lock locking n) w a b c = refl
-  whole (task.TryLock n) w a b c = refl
-  whole (task.Claim claim n) w a b c = refl
-  whole (task.Wait locking n m value) w a b c = refl
-  whole (task.Relock locking m) w a b c = refl
-  whole (task.Wake waking n) w a b c = refl
-  whole (task.Notify n) w a b c = refl
-  whole (task.Await n) w a b c = refl
-  whole (task.Rouse n) w a b c = refl
-  whole (task.Count counting n) w a b c = refl
-  whole (task.Join t n) w a b c = refl
-  whole (task.Finish n value) w a b c = refl
+  whole task.Start w a b c d e = absurd (a refl)
+  whole (task.Access access) w a b c d e = absurd (b access refl)
+  whole (task.TryUnwrap n) w a b c d e = absurd (c n refl)
+  whole task.Body w a b c d e = refl
+  whole task.Continue w a b c d e = refl
+  whole (task.Lock locking n) w a b c d e = refl
+  whole (task.TryLock n) w a b c d e = refl
+  whole (task.Claim claim n) w a b c d e = refl
+  whole (task.Wait locking n m value) w a b c d e = absurd (d locking n m value refl)
+  whole (task.Relock locking m) w a b c d e = absurd (e locking m refl)
+  whole (task.Wake waking n) w a b c d e = refl
+  whole (task.Notify n) w a b c d e = refl
+  whole (task.Await n) w a b c d e = refl
+  whole (task.Rouse n) w a b c d e = refl
+  whole (task.Count counting n) w a b c d e = refl
+  whole (task.Join t n) w a b c d e = refl
+  whole (task.Finish n value) w a b c d e = refl

@@ -1,13 +1,14 @@
 -- From the state that the code shows to the one that it shows then.
 use Rattle.std.proofs.Common.{◌≡◌, refl, ap, sym, ◌∙◌, subst}
-use Rattle.std.specs.Prelude.{Ok, Result, ⊤}
+use Rattle.std.specs.Prelude.{Ok, Err, Result, ⊤}
 use Rattle.loom_views.specs.Table.{Points, ShowsViews}
 use Rattle.loom_views.specs.declared.rt.failure.FailureKind.{FailureKind}
 use Rattle.loom_views.specs.declared.rt.table.Views.{Views}
 use Rattle.loom_objects.specs.declared.rt.run.RunState.{RunState}
 use Rattle.loom_objects.specs.Failing.{fails}
 use Rattle.loom_objects.specs.declared.failure.Stop.{Stop}
-use Rattle.loom_objects.specs.Shown.{world_of, Comes, Does}
+use Rattle.loom_objects.specs.declared.failure.Stop.TheVariants.{Failure, Memory}
+use Rattle.loom_objects.specs.Shown.{world_of, Shows, Comes, Does}
 use Rattle.loom_objects.specs.Tree.{Tree, Gives, Fails, Closes, Asks, ◌>>=◌}
 use Rattle.loom_objects.specs.World.{World}
 
@@ -51,6 +52,18 @@ given {D} (Fails kind) w e = absurd (cc)
 given {D} (Closes rest) w e = absurd (cc)
 given {D} (Asks question branch) w e = absurd (cc)
 
+failed_as : {D : Type 0} (tree : Tree (World D)) (kind : FailureKind) → ◌>>=◌ {B = ⊤ × World D} tree (λ v. Gives (tt, v)) ≡ Fails kind → tree ≡ Fails kind
+failed_as {D} (Gives v) kind e = absurd (cc)
+failed_as {D} (Fails other) kind e = cc
+failed_as {D} (Closes rest) kind e = absurd (cc)
+failed_as {D} (Asks question branch) kind e = absurd (cc)
+
+-- it fails as such a move does
+pub goes_not : {A D : Type 0} (move : World D → Tree (World D)) (next : World D → Tree (A × World D)) (old new : RunState D) (stop : Stop)
+    → Does {A = ⊤} (λ w. ◌>>=◌ {B = ⊤ × World D} (move w) (λ v. Gives (tt, v))) old (Err stop) new → Does {A = A} (λ w. move w >>= next) old (Err stop) new
+goes_not {A} {D} move next old new (Failure failure) does w shown = ap (λ (tree : Tree (World D)). tree >>= next) (failed_as (move w) failure.kind (does w shown))
+goes_not {A} {D} move next old new Memory does w shown = tt
+
 -- it goes on from what a move comes to that answers nothing
 pub goes_on : {A D : Type 0} (move : World D → Tree (World D)) (next : World D → Tree (A × World D)) (old mid new : RunState D) (a : A) → new.views ≡ mid.views
     → ((p : Points) → next (world_of p mid) ≡ Gives (a, world_of p new)) → Does {A = ⊤} (λ w. ◌>>=◌ {B = ⊤ × World D} (move w) (λ v. Gives (tt, v))) old (Ok tt) mid → Does (λ w. move w >>= next) old (Ok a) new
@@ -60,3 +73,12 @@ goes_on {A} {D} move next old mid new a same e does w shown =
       record { views = subst (ShowsViews z.0.points) (sym same) z.1.views; rest = refl },
       ap (λ (tree : Tree (World D)). tree >>= next) (given (move w) z.0 z.2) ∙ ap next z.1.rest ∙ e z.0.points,
     )
+
+-- from the state that the code has come to, it goes on as a move of the machine does
+pub moves_on : {A D : Type 0} (rule : World D → Tree (A × World D)) (move : World D → World D) (old mid new : RunState D) (a : A) → mid.views ≡ old.views
+    → ((p : Points) → rule (world_of p old) ≡ Gives (a, move (world_of p mid))) → ((w : World D) → Shows w mid → Shows (move w) new) → Does rule old (Ok a) new
+moves_on rule move old mid new a views e moves = λ w shown. (
+  move (world_of w.points mid),
+  moves (world_of w.points mid) (record { views = subst (ShowsViews w.points) (sym views) shown.views; rest = refl }),
+  ap rule shown.rest ∙ e w.points,
+)

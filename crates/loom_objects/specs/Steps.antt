@@ -26,6 +26,7 @@ use Rattle.loom_objects.specs.World.{World}
 use Rattle.loom_objects.specs.Moves.{with_active}
 use Rattle.loom_objects.specs.Locks.{mutex_begins, lock, try_lock}
 use Rattle.loom_objects.specs.RwLocks.{rwlock_begins, claims}
+use Rattle.loom_objects.specs.Condvars.{condvar_begins, falls_asleep, relocks, wakes}
 use Rattle.loom_objects.specs.Notifiers.{notifier_begins, notifies, awaits, wakes_early}
 use Rattle.loom_objects.specs.Atomics.{atomic_begins, fence, takes_place}
 use Rattle.loom_objects.specs.Cells.{cell_begins}
@@ -105,7 +106,7 @@ module _ {D : Type 0} where
   op_begins (op.Track todo place) w = track_begins todo w
   op_begins (op.Mutex todo place) w = mutex_begins todo w
   op_begins (op.RwLock todo place) w = rwlock_begins todo w
-  op_begins (op.Condvar todo place) w = Fails Misuse
+  op_begins (op.Condvar todo place) w = condvar_begins todo w
   op_begins (op.Notify todo place) w = notifier_begins todo w
   op_begins (op.Thread todo place) w = thread_begins todo w
   op_begins (op.Fail place) w = Fails Assertion
@@ -135,7 +136,7 @@ module _ {D : Type 0} where
   effect (Lock locking n) w = lock locking n w
   effect (TryLock n) w = try_lock n w
   effect (Claim claim n) w = claims claim n w
-  effect (Wake waking n) w = Fails Misuse
+  effect (Wake waking n) w = wakes waking n w
   effect (Notify n) w = notifies n w
   effect (Await n) w = awaits n w
   effect (Rouse n) w = wakes_early n w
@@ -148,8 +149,8 @@ module _ {D : Type 0} where
   abbrev pub takes_effect : Task D → World D → Tree (Passed D × World D)
   takes_effect Start w = turned (turn.Start w.active, w)
   takes_effect (Access access) w = turns_by (takes_place access) w
-  takes_effect (Wait locking n m value) w = Fails Misuse
-  takes_effect (Relock locking m) w = Fails Misuse
+  takes_effect (Wait locking n m value) w = falls_asleep locking n m value w
+  takes_effect (Relock locking m) w = relocks locking m w
   takes_effect (TryUnwrap n) w = tries_unwrap n w
   takes_effect todo w = turns_by (effect todo) w
 

@@ -1,6 +1,7 @@
 //! The state of a run.
 mod atomics;
 mod cells;
+mod condvars;
 mod counts;
 pub mod location;
 mod locks;

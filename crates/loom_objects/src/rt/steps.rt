@@ -206,7 +206,7 @@ impl<D: Data> RunState<D> {
             Op::Track(op, _) => self.track_begins(op),
             Op::Mutex(op, _) => self.mutex_begins(op),
             Op::RwLock(op, _) => self.rwlock_begins(op),
-            Op::Condvar(_, _) => Err(failed(FailureKind::Misuse)),
+            Op::Condvar(op, _) => self.condvar_begins(op),
             Op::Notify(op, _) => self.notifier_begins(op),
             Op::Thread(op, _) => self.thread_begins(op),
             Op::Fail(_) => Err(failed(FailureKind::Assertion)),
@@ -322,6 +322,16 @@ impl<D: Data> RunState<D> {
         match task {
             Task::Start => Ok(Resumed::Passed(Passed::Turn(Turn::Start(self.active)))),
             Task::Access(access) => self.access(access),
+            Task::Wait(locking, number, mutex, value) => {
+                match self.fall_asleep(locking, number, mutex, value) {
+                    Ok(passed) => Ok(Resumed::Passed(passed)),
+                    Err(stop) => Err(stop),
+                }
+            }
+            Task::Relock(locking, mutex) => match self.relock(locking, mutex) {
+                Ok(passed) => Ok(Resumed::Passed(passed)),
+                Err(stop) => Err(stop),
+            },
             Task::TryUnwrap(number) => match self.try_unwrap(number) {
                 Ok(passed) => Ok(Resumed::Passed(passed)),
                 Err(stop) => Err(stop),
@@ -346,6 +356,7 @@ impl<D: Data> RunState<D> {
             Task::Lock(locking, mutex) => self.lock(locking, mutex),
             Task::TryLock(mutex) => self.try_lock(mutex),
             Task::Claim(claim, number) => self.claim(claim, number),
+            Task::Wake(waking, number) => self.wake(waking, number),
             Task::Notify(number) => self.notify(number),
             Task::Await(number) => self.await_notified(number),
             Task::Rouse(number) => self.wake_early(number),

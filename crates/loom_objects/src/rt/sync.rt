@@ -1,12 +1,13 @@
-ghost use Rattle.std.specs.Prelude.{◌≡◌, ◌+◌, OnSome, IfNone, OnOk, OnErr, None, Some, true};
+ghost use Rattle.std.specs.Prelude.{◌≡◌, ◌+◌, ◌++◌, ◌∷◌, [], nat_lt, length, OnSome, IfNone, OnOk, OnErr, None, Some, true};
 ghost use Rattle.loom_objects.specs.Cells as cells;
+ghost use Rattle.loom_objects.specs.Condvars.{woken_by, left_by};
 ghost use Rattle.loom_objects.specs.Counts.{is_free, may_grow, sole_value, with_one_fewer, lent_to};
 ghost use Rattle.loom_objects.specs.Moves.{free_value, is_number};
 ghost use Rattle.loom_objects.specs.Notifiers as notifiers;
 ghost use Rattle.loom_objects.specs.RwLocks as rwlocks;
 ghost use Rattle.loom_objects.specs.Tracks.{tracked_value};
 
-use crate::rt::thread::Claim;
+use crate::rt::thread::{Claim, Waking};
 use arrayvec::ArrayVec;
 use loom_views::rt::MAX_THREADS;
 use loom_views::rt::failure::FailureKind;
@@ -146,6 +147,33 @@ impl Notify {
             _ => false,
         };
         !is_awaited && !is_left
+    }
+}
+
+impl Condvar {
+    /// The thread waits on it, after all others. False where as many wait as there may be threads; then nothing changes.
+    pub(crate) fn enter(&mut self, thread: u8) -> bool
+        ensures result { result ≡ nat_lt (length self.old.waiters.items) 5 }
+        ensures entered { result ≡ true → self.new ≡ record { waiters = record { items = self.old.waiters.items ++ thread ∷ [] } } }
+    {
+        self.waiters.try_push(thread).is_ok()
+    }
+
+    /// The first waiter, or all of them, leave. Answers those, in order.
+    pub(crate) fn leave(&mut self, waking: Waking) -> ArrayVec<u8, MAX_THREADS>
+        ensures woken { result.items ≡ woken_by waking self.old.waiters.items }
+        ensures left { self.new ≡ record { waiters = record { items = left_by waking self.old.waiters.items } } }
+    {
+        let mut woken = ArrayVec::new();
+        match waking {
+            Waking::One => {
+                if let Some(first) = self.waiters.pop_at(0) {
+                    woken.push(first);
+                }
+                woken
+            }
+            Waking::All => mem::replace(&mut self.waiters, woken),
+        }
     }
 }
 

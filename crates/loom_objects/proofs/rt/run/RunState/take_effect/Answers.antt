@@ -12,7 +12,7 @@ returns-in_default g c =
     record {
       does = λ w shown.
           rw c.told.ensures.turn
-          (subst (λ (tree : Tree (Passed g.row.D.Denot × World g.row.D.Denot)). Resumes tree (turn_of c.effect-answer.new.self.active c.effect-answer.result) c.effect-answer.new.self) (sym (whole c.args.task w c.in_default.not-Start c.in_default.not-Access c.in_default.not-TryUnwrap))
+          (subst (λ (tree : Tree (Passed g.row.D.Denot × World g.row.D.Denot)). Resumes tree (turn_of c.effect-answer.new.self.active c.effect-answer.result) c.effect-answer.new.self) (sym (whole c.args.task w c.in_default.not-Start c.in_default.not-Access c.in_default.not-TryUnwrap c.in_default.not-Wait c.in_default.not-Relock))
           (turns (effect c.args.task) c.args.self.now c.effect-answer.new.self c.effect-answer.result c.effect-answer.ensures.does w shown));
       slot = rw c.told.ensures.turn (turn_slot c.effect-answer.new.self.active c.effect-answer.result);
       sound = c.effect-answer.ensures.sound;
