@@ -13,7 +13,6 @@ use crate::rt::sync::Condvar;
 use crate::rt::thread::{Locking, State, Task, Waking};
 use arrayvec::ArrayVec;
 use loom_views::rt::failure::FailureKind;
-use std::sync::atomic::Ordering;
 
 impl<D: Drop> RunState<D> {
     pub(crate) fn condvar_begins(&mut self, op: CondvarOp<D>) -> Result<Entry<D>, Stop>
@@ -129,36 +128,6 @@ impl<D: Drop> RunState<D> {
         thread.pend(Task::Relock(locking, mutex), false);
         thread.state = State::Sleeping;
         Ok(Passed::AtBranch)
-    }
-
-    /// The active thread releases, the mutex is free and has its data back, and who is pending on it is woken.
-    fn set_free(&mut self, number: usize, value: D) -> Result<(), Stop>
-        requires { IsSound self.old }
-        ensures does { Does (frees number value) self.old result self.new }
-        ensures sound { IsSound self.new }
-        ensures steps { self.new.steps_left ≡ self.old.steps_left }
-        ensures no_growth { result ≢ Err Stop.Memory }
-    {
-        if number >= self.objects.len() {
-            return Err(failed(FailureKind::Misuse));
-        }
-        let active = self.active;
-        let Object::Mutex(mutex) = self.objects.at_mut(number) else {
-            return Err(failed(FailureKind::Misuse));
-        };
-        if mutex.is_taken {
-            return Err(failed(FailureKind::Misuse));
-        }
-        match mutex.holder {
-            Some(holder) if holder == active => {}
-            _ => return Err(failed(FailureKind::Misuse)),
-        }
-        mutex.holder = None;
-        mutex.value = Some(value);
-        self.views
-            .release(active as usize, number, Ordering::Release);
-        self.wake_pending(number);
-        Ok(())
     }
 
     /// The second stage: the active thread was woken, and comes to the mutex as one that locks it.
