@@ -5,3 +5,6 @@ pub mod Fairness
 pub mod Steps
 pub mod Bodies
 pub mod Rows
+pub mod Keeping
+pub mod Locking
+pub mod Exclusive
