@@ -7,4 +7,5 @@ pub mod Bodies
 pub mod Rows
 pub mod Keeping
 pub mod Locking
+pub mod Others
 pub mod Exclusive

@@ -31,6 +31,6 @@ module _ {D : Type 0} where
   is_exclusive (RwLock lock) = not (is_some lock.writer && not (is_unread lock)) && not (is_some lock.writer && is_some lock.value)
   is_exclusive _ = true
 
--- over every history each mutex has one holder at most, who alone has its data, and each read-write lock one writer or some readers
+-- over every history a mutex that is held keeps no data, and a read-write lock has one writer or some readers
 abbrev pub LocksLaw : Type 0 → Type 0
 LocksLaw D = (max_threads max_steps : ℕ) (w : World D) → IsReached max_threads max_steps w → list_all is_exclusive w.objects ≡ true

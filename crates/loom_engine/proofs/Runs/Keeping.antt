@@ -1,4 +1,4 @@
--- What every value that a tree comes to keeps, and locks that are sound: what one holds is nowhere else.
+-- What holds of every value that a tree comes to. And sound locks: more than exclusive ones, so that each operation keeps them.
 use Rattle.std.proofs.Common.{◌≡◌, ℕ, zero, suc, Bool, true, false, List, [], ◌∷◌, ◌++◌, Option, Some, None, refl, subst}
 use Rattle.std.specs.Prelude.{◌&&◌, not, cond, is_some, slice_get, slice_set, Result, Ok, Err, ⊤}
 use Rattle.std.specs.List.{list_all}
@@ -17,7 +17,7 @@ use Rattle.loom_engine.specs.Histories.{ComesTo, is_exclusive}
 
 -- ---- trees
 
--- whatever is chosen, what it comes to is so
+-- whatever is chosen, this holds of what it comes to
 pub data Keeps {A : Type 0} (P : A → Type 0) : Tree A → Type 0 where
   gives : (value : A) → P value → Keeps P (Gives value)
   fails : (kind : FailureKind) → Keeps P (Fails kind)
@@ -25,6 +25,7 @@ pub data Keeps {A : Type 0} (P : A → Type 0) : Tree A → Type 0 where
   asks : (question : Question) (branches : Choice → Tree A) → ((choice : Choice) → Keeps P (branches choice)) → Keeps P (Asks question branches)
 
 module _ {A : Type 0} {P : A → Type 0} where
+  -- so it holds of each value that the tree comes to by some choices
   pub kept_value : (tree : Tree A) (a : A) → Keeps P tree → ComesTo tree a → P a
   kept_value tree a (gives value h) comes = subst P comes h
   kept_value tree a (fails kind) comes = absurd comes
