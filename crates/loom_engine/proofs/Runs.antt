@@ -6,6 +6,6 @@ pub mod Steps
 pub mod Bodies
 pub mod Rows
 pub mod Keeping
-pub mod Locking
+pub mod LocksKept
 pub mod Others
 pub mod Exclusive

@@ -27,7 +27,7 @@ use Rattle.loom_objects.specs.World.{World}
 use Rattle.loom_engine.specs.Histories.{IsReached, at_first, later, LocksLaw}
 use Rattle.loom_engine.specs.Machine.{chooses, closes as closes_run, further, further_branches, goes_on, passes, schedule, submit}
 use Rattle.loom_engine.proofs.Runs.Keeping.{Keeps, gives, fails, closes, asks as questions, kept_value, then_keeps, found_keeps, check_keeps, all_exclusive, IsKept, Kept}
-use Rattle.loom_engine.proofs.Runs.Locking.{mutex_new_kept, lock_begins_kept, lock_kept, release_kept}
+use Rattle.loom_engine.proofs.Runs.LocksKept.{mutex_new_kept, lock_begins_kept, lock_kept, release_kept}
 use Rattle.loom_engine.proofs.Runs.Others.{atomic_begins_kept, fence_kept, takes_place_kept, cell_begins_kept, arc_begins_kept, tries_unwrap_kept, counts_kept, track_begins_kept, spawn_kept, join_begins_kept, join_kept, finish_kept, child_finish_kept, exit_kept, end_kept}
 
 leak_keeps : {B : Type 0} {P : B → Type 0} (leak : Option FailureKind) (next : ⊤ → Tree B) → Keeps P (next tt) → Keeps P (check_leak leak >>= next)

@@ -39,7 +39,7 @@ use Rattle.loom_objects.specs.Tracks.{a_track, as_track, track_begins, track_tak
 use Rattle.loom_objects.specs.Tree.{Tree, ◌>>=◌}
 use Rattle.loom_objects.specs.World.{World}
 use Rattle.loom_engine.proofs.Runs.Keeping.{Keeps, gives, fails, asks as questions, then_keeps, found_keeps, came_keeps, check_keeps, set_sound, more_sound, IsKept, Kept}
-use Rattle.loom_engine.proofs.Runs.Locking.{tells_kept, notifier_keeps, notify_kept, yields_kept}
+use Rattle.loom_engine.proofs.Runs.LocksKept.{tells_kept, notifier_keeps, notify_kept, yields_kept}
 
 module _ {D : Type 0} where
   raises_keeps : {B : Type 0} {P : B → Type 0} (w : World D) (next : World D → Tree B) → IsKept w → ((v : World D) → IsKept v → Keeps P (next v)) → Keeps P (raises w >>= next)
