@@ -6,3 +6,7 @@ pub mod Locking
 pub mod Steps
 pub mod Bodies
 pub mod Rows
+pub mod Keeping
+pub mod LocksKept
+pub mod Others
+pub mod Exclusive

@@ -6,3 +6,4 @@ pub mod Machine
 pub mod Execution
 pub mod Runs
 pub mod Rows
+pub mod Histories
