@@ -25,10 +25,11 @@ use Rattle.loom_objects.specs.Threads.{thread_begins}
 use Rattle.loom_objects.specs.Tree.{Tree, ◌>>=◌}
 use Rattle.loom_objects.specs.World.{World}
 use Rattle.loom_engine.specs.Histories.{IsReached, at_first, later, LocksLaw}
-use Rattle.loom_engine.specs.Machine.{chooses, closes as closes_run, further, further_branches, goes_on, passes, schedule, submit}
+use Rattle.loom_objects.specs.Notifiers.{enters_wait}
+use Rattle.loom_engine.specs.Machine.{chooses, closes as closes_run, further, further_branches, goes_on, passes, schedule, submit, waits}
 use Rattle.loom_engine.proofs.Runs.Keeping.{Keeps, gives, fails, closes, asks as questions, kept_value, then_keeps, found_keeps, check_keeps, all_exclusive, IsKept, Kept}
-use Rattle.loom_engine.proofs.Runs.LocksKept.{mutex_new_kept, lock_begins_kept, lock_kept, release_kept}
-use Rattle.loom_engine.proofs.Runs.Others.{atomic_begins_kept, fence_kept, takes_place_kept, cell_begins_kept, arc_begins_kept, tries_unwrap_kept, counts_kept, track_begins_kept, spawn_kept, join_begins_kept, join_kept, finish_kept, child_finish_kept, exit_kept, end_kept}
+use Rattle.loom_engine.proofs.Runs.LocksKept.{awaits_kept, claims_kept, condvar_begins_kept, enters_wait_kept, falls_asleep_kept, lock_begins_kept, lock_kept, mutex_get_mut_kept, mutex_into_inner_kept, mutex_new_kept, mutex_put_kept, notifier_begins_kept, notifies_kept, release_kept, relocks_kept, rwlock_begins_kept, try_lock_begins_kept, try_lock_kept, wakes_early_kept, wakes_kept}
+use Rattle.loom_engine.proofs.Runs.Others.{arc_begins_kept, atomic_begins_kept, cell_begins_kept, child_finish_kept, counts_kept, current_kept, end_kept, exit_kept, fence_kept, finish_kept, join_begins_kept, join_kept, park_kept, spawn_kept, takes_place_kept, track_begins_kept, tries_unwrap_kept, unpark_kept, yield_now_kept}
 
 leak_keeps : {B : Type 0} {P : B → Type 0} (leak : Option FailureKind) (next : ⊤ → Tree B) → Keeps P (next tt) → Keeps P (check_leak leak >>= next)
 leak_keeps None next h = h
@@ -40,19 +41,19 @@ module _ {D : Type 0} where
   mutex_begins_kept : (todo : MutexOp D) (w : World D) → IsKept w → Keeps Kept (mutex_begins todo w)
   mutex_begins_kept (mutex_op.New value) w k = mutex_new_kept value w k
   mutex_begins_kept (mutex_op.Lock n) w k = lock_begins_kept n w k
-  mutex_begins_kept (mutex_op.TryLock n) w k = fails _
+  mutex_begins_kept (mutex_op.TryLock n) w k = try_lock_begins_kept n w k
   mutex_begins_kept (mutex_op.Release n value) w k = release_kept n value w k
-  mutex_begins_kept (mutex_op.GetMut n) w k = fails _
-  mutex_begins_kept (mutex_op.Put n value) w k = fails _
-  mutex_begins_kept (mutex_op.IntoInner n) w k = fails _
+  mutex_begins_kept (mutex_op.GetMut n) w k = mutex_get_mut_kept n w k
+  mutex_begins_kept (mutex_op.Put n value) w k = mutex_put_kept n value w k
+  mutex_begins_kept (mutex_op.IntoInner n) w k = mutex_into_inner_kept n w k
 
   thread_begins_kept : (todo : ThreadOp D ⊤) (w : World D) → IsKept w → Keeps Kept (thread_begins todo w)
   thread_begins_kept (thread_op.Spawn body name) w k = spawn_kept name w k
   thread_begins_kept (thread_op.Join t n) w k = join_begins_kept t n w k
-  thread_begins_kept thread_op.Current w k = fails _
-  thread_begins_kept thread_op.Park w k = fails _
-  thread_begins_kept (thread_op.Unpark t) w k = fails _
-  thread_begins_kept thread_op.Yield w k = fails _
+  thread_begins_kept thread_op.Current w k = current_kept w k
+  thread_begins_kept thread_op.Park w k = park_kept w k
+  thread_begins_kept (thread_op.Unpark t) w k = unpark_kept t w k
+  thread_begins_kept thread_op.Yield w k = yield_now_kept w k
   thread_begins_kept (thread_op.Finish value) w k = finish_kept value w k
   thread_begins_kept thread_op.Exit w k = exit_kept w k
   thread_begins_kept thread_op.End w k = end_kept w k
@@ -64,9 +65,9 @@ module _ {D : Type 0} where
   op_begins_kept (op.Arc todo place) w k = arc_begins_kept todo w k
   op_begins_kept (op.Track todo place) w k = track_begins_kept todo w k
   op_begins_kept (op.Mutex todo place) w k = mutex_begins_kept todo w k
-  op_begins_kept (op.RwLock todo place) w k = fails _
-  op_begins_kept (op.Condvar todo place) w k = fails _
-  op_begins_kept (op.Notify todo place) w k = fails _
+  op_begins_kept (op.RwLock todo place) w k = rwlock_begins_kept todo w k
+  op_begins_kept (op.Condvar todo place) w k = condvar_begins_kept todo w k
+  op_begins_kept (op.Notify todo place) w k = notifier_begins_kept todo w k
   op_begins_kept (op.Thread todo place) w k = thread_begins_kept todo w k
   op_begins_kept (op.Fail place) w k = fails _
   op_begins_kept (op.Unreachable place) w k = fails _
@@ -86,17 +87,17 @@ module _ {D : Type 0} where
   takes_effect_kept : (todo : Task D) (w : World D) → IsKept w → Keeps Kept (takes_effect todo w)
   takes_effect_kept task.Start w k = gives _ k
   takes_effect_kept task.Body w k = fails _
-  takes_effect_kept task.Continue w k = fails _
+  takes_effect_kept task.Continue w k = gives _ k
   takes_effect_kept (task.Access access) w k = turns_kept _ (takes_place_kept access w k)
   takes_effect_kept (task.Lock locking n) w k = turns_kept _ (lock_kept locking n w k)
-  takes_effect_kept (task.TryLock n) w k = fails _
-  takes_effect_kept (task.Claim claim n) w k = fails _
-  takes_effect_kept (task.Wait locking n m value) w k = fails _
-  takes_effect_kept (task.Relock locking m) w k = fails _
-  takes_effect_kept (task.Wake waking n) w k = fails _
-  takes_effect_kept (task.Notify n) w k = fails _
-  takes_effect_kept (task.Await n) w k = fails _
-  takes_effect_kept (task.Rouse n) w k = fails _
+  takes_effect_kept (task.TryLock n) w k = turns_kept _ (try_lock_kept n w k)
+  takes_effect_kept (task.Claim claim n) w k = turns_kept _ (claims_kept claim n w k)
+  takes_effect_kept (task.Wait locking n m value) w k = falls_asleep_kept locking n m value w k
+  takes_effect_kept (task.Relock locking m) w k = relocks_kept locking m w k
+  takes_effect_kept (task.Wake waking n) w k = turns_kept _ (wakes_kept waking n w k)
+  takes_effect_kept (task.Notify n) w k = turns_kept _ (notifies_kept n w k)
+  takes_effect_kept (task.Await n) w k = turns_kept _ (awaits_kept n w k)
+  takes_effect_kept (task.Rouse n) w k = turns_kept _ (wakes_early_kept n w k)
   takes_effect_kept (task.Count todo n) w k = turns_kept _ (counts_kept todo n w k)
   takes_effect_kept (task.TryUnwrap n) w k = tries_unwrap_kept n w k
   takes_effect_kept (task.Join t n) w k = turns_kept _ (join_kept t n w k)
@@ -134,10 +135,15 @@ module _ {D : Type 0} where
   schedule_kept zero w k = further_kept _ (λ v q. fails _) w k
   schedule_kept (suc more) w k = further_kept (schedule more) (schedule_kept more) w k
 
+  waits_kept : (n : ℕ) (w : World D) (o : Choice) → IsKept w → Keeps Kept (waits n w o)
+  waits_kept n w (choice.Spurious answer) k = then_keeps {Q = Kept} (enters_wait answer n w) _ (enters_wait_kept answer n w k) (λ (_, v) q. schedule_kept further_branches v q)
+  waits_kept n w (choice.Thread t) k = fails _
+  waits_kept n w (choice.Load slot) k = fails _
+
   goes_on_kept : (entered : Entry D × World D) → Kept entered → Keeps Kept (goes_on entered)
   goes_on_kept (Answered reply, w) k = gives _ k
   goes_on_kept (AtBranch, w) k = schedule_kept further_branches w k
-  goes_on_kept (AtSpurious n, w) k = fails _
+  goes_on_kept (AtSpurious n, w) k = questions _ _ (λ o. waits_kept n w o k)
 
   submit_kept : (todo : Op D ⊤) (w : World D) → IsKept w → Keeps Kept (submit todo w)
   submit_kept todo w k = then_keeps {Q = Kept} (begins todo w) goes_on (begins_kept todo w k) goes_on_kept

@@ -29,7 +29,7 @@ use Rattle.loom_objects.specs.declared.rt.thread.Task.{Task}
 use Rattle.loom_objects.specs.declared.rt.thread.Task.TheVariants as task
 use Rattle.loom_objects.specs.declared.rt.thread.Thread.{Thread}
 use Rattle.loom_objects.specs.Atomics.{access_begins, an_atomic, as_atomic, asks, asks_slot, atomic_begins, exchanges, exchanges_if, fence, is_relaxed, opens, reads, slot_of, store, swap_of, takes_place, tells_exchanged, tells_read, writes}
-use Rattle.loom_objects.specs.Cells.{a_cell, as_cell, cell_begins, data_left, is_free as is_free_cell, is_unread, reads_open, records_read, records_write}
+use Rattle.loom_objects.specs.Cells.{a_cell, as_cell, cell_begins, data_left, exchanges_cells, opens_write, swap_if, is_free as is_free_cell, is_unread, reads_open, records_read, records_write}
 use Rattle.loom_objects.specs.Counts.{an_arc, arc_begins, as_arc, comes_to, counts, decrements, drops_last, is_free, may_grow, sole_value, tries_unwrap, unwraps_if, with_one_fewer}
 use Rattle.loom_objects.specs.Moves.{acquires, active_thread, is_number, raises, releases, with_object, with_points}
 use Rattle.loom_objects.specs.Operation.{accessed}
@@ -141,6 +141,20 @@ module _ {D : Type 0} where
   records_write_keeps : {B : Type 0} {P : B → Type 0} (n : ℕ) (w : World D) (next : World D → Tree B) → IsKept w → ((v : World D) → IsKept v → Keeps P (next v)) → Keeps P (records_write n w >>= next)
   records_write_keeps n w next k h = then_keeps {Q = IsKept} _ next (came_keeps (points_after_write w.points w.active n) _ (λ points. gives _ k)) h
 
+  opens_write_kept : (n : ℕ) (w : World D) → IsKept w → Keeps Kept (opens_write n w)
+  opens_write_kept n w k = cell_keeps n w _ (λ cell. raises_keeps w _ k (λ raised q. check_keeps (is_free_cell cell) _ _ (λ e. records_write_keeps n raised _ q (λ written r. gives _ r))))
+
+  exchanges_cells_kept : (n m : ℕ) (w : World D) → IsKept w → Keeps Kept (exchanges_cells n m w)
+  exchanges_cells_kept n m w k =
+      cell_keeps n w _ (λ one. cell_keeps m w _ (λ other. found_keeps one.value _ _ (λ of_one e. found_keeps other.value _ _ (λ of_other f.
+      records_write_keeps m w _ k (λ written r. records_write_keeps n written _ r (λ ended s. gives _ (set_sound _ n _ (set_sound ended.objects m _ s tt) tt)))))))
+
+  swap_kept : (is_same : Bool) (n m : ℕ) (w : World D) → IsKept w → Keeps Kept (swap_if is_same n m w)
+  swap_kept true n m w k = gives _ k
+  swap_kept false n m w k =
+      then_keeps {Q = Kept} (opens_write n w) _ (opens_write_kept n w k)
+      (λ (_, v) q. then_keeps {Q = Kept} (opens_write m v) _ (opens_write_kept m v q) (λ (_, u) r. exchanges_cells_kept n m u r))
+
   pub cell_begins_kept : (todo : CellOp D) (w : World D) → IsKept w → Keeps Kept (cell_begins todo w)
   cell_begins_kept (cell_op.New value) w k = gives _ (more_sound w.objects _ k tt)
   cell_begins_kept (cell_op.Read n) w k =
@@ -163,6 +177,7 @@ module _ {D : Type 0} where
   cell_begins_kept (cell_op.Replace n value) w k =
       cell_keeps n w _ (λ cell. raises_keeps w _ k (λ raised q. check_keeps (is_free_cell cell) _ _ (λ e. records_write_keeps n raised _ q (λ written r.
       found_keeps cell.value _ _ (λ old f. records_write_keeps n written _ r (λ ended s. gives _ (set_sound ended.objects n _ s tt)))))))
+  cell_begins_kept (cell_op.Swap n m) w k = cell_keeps n w _ (λ one. cell_keeps m w _ (λ other. swap_kept (n == m) n m w k))
 
   -- ---- counted references and tracked values
 

@@ -115,7 +115,7 @@ fn hand_over<D: Data>(
 }
 
 /// Whether the active thread wakes from the notifier without a notification is chosen, and then it yields or waits.
-fn wait<D: Drop>(run: &mut RunState<D>, path: &mut Path, notifier: usize) -> Result<Turn<D>, Stop>
+fn wait<D: Data>(run: &mut RunState<D>, path: &mut Path, notifier: usize) -> Result<Turn<D>, Stop>
     requires { IsSound run.old }
     ensures along { Along (machine.is_asked notifier) run.old path.old result run.new path.new }
     ensures sound { IsSound run.new }
