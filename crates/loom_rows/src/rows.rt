@@ -142,7 +142,18 @@ pub fn run_row<R: AllocGlobal, O: Write, E: Write>(
 ) -> u8
     ensures { (result ≡ 2) ⊎ Printed (O.contents out.old) (O.contents out.new) result }
 {
-    let answer = match words {
+    check_words(rt, words, out, err).unwrap_or(2)
+}
+
+fn check_words<R: AllocGlobal, O: Write, E: Write>(
+    rt: &R,
+    words: &[&str],
+    out: &mut O,
+    err: &mut E,
+) -> io::Result<u8>
+    ensures { IfOk result (λ status. (status ≡ 2) ⊎ Printed (O.contents out.old) (O.contents out.new) status) }
+{
+    match words {
         ["fetch_update_once"] => {
             let body = Updater::main(atomics::NUM_A, atomics::NUM_B);
             check_body(rt, Builder::new(), &body, out, err)
@@ -152,8 +163,7 @@ pub fn run_row<R: AllocGlobal, O: Write, E: Write>(
             None => refuse(err),
         },
         _ => refuse(err),
-    };
-    answer.unwrap_or(2)
+    }
 }
 
 fn refuse<W: Write>(err: &mut W) -> io::Result<u8>

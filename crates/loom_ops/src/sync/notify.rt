@@ -37,7 +37,7 @@ impl Notify {
         Op::Notify(NotifyOp::Notify(self.number), None)
     }
 
-    /// Waits until it is notified. Once in a run of a notifier a wait may end without that. A second thread that waits is the
+    /// Waits until it is notified. Once in a run, one wait on it may also end without that. A second thread that waits is the
     /// failure `SecondWaiter` (loom's `sync/notify.rs`).
     pub fn wait<D, S>(self) -> Op<D, S>
         ensures { result ≡ Op.Notify (NotifyOp.Wait self.number) None }
