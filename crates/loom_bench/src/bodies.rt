@@ -3,12 +3,17 @@ ghost use Rattle.std.specs.Prelude.{◌<◌, ◌↔◌, IsSome, IfSome};
 ghost use Rattle.loom_bench.specs.Names.{IsName};
 
 use loom_ops::sync::atomic::Ordering;
-use loom_scripts::script::{Access, Step, Value};
+use loom_scripts::script::CondvarAccess::{NotifyOne, Wait};
+use loom_scripts::script::{Access, MutexAccess, RwLockAccess, Step, Value};
 use loom_views::rt::change::Change;
 
 const FINISH: Step = Step::Finish(Value::Plain(0));
 
 const ADD: Access = Access::Update(Change::Add(1), Ordering::Relaxed);
+
+const LOCK: MutexAccess = MutexAccess::Lock;
+
+const RELEASE: MutexAccess = MutexAccess::Release(Value::Plain(0));
 
 /// Two threads store to an atomic each, and load from the other's.
 static STORE_BUFFERING: [Step; 13] = [
@@ -72,8 +77,8 @@ static THREE_ADDS: [Step; 13] = [
 
 /// Two threads lock two mutexes in the same order, beside a main that joins them.
 static LOCKS_IN_TURN: [Step; 16] = [
-    Step::NewMutex(0),
-    Step::NewMutex(1),
+    Step::NewMutex(0, 0),
+    Step::NewMutex(1, 0),
     Step::Spawn(0, 9),
     Step::Spawn(1, 9),
     Step::Join(0, 0),
@@ -81,10 +86,50 @@ static LOCKS_IN_TURN: [Step; 16] = [
     FINISH,
     Step::Exit,
     Step::End,
-    Step::Lock(0),
-    Step::Lock(1),
-    Step::Release(1),
-    Step::Release(0),
+    Step::Mutex(0, 0, LOCK),
+    Step::Mutex(1, 0, LOCK),
+    Step::Mutex(1, 0, RELEASE),
+    Step::Mutex(0, 0, RELEASE),
+    FINISH,
+    Step::Exit,
+    Step::End,
+];
+
+/// Two threads add to what a lock holds, one after the other, beside a main that reads it. Main joins them.
+static WRITERS_BESIDE_A_READER: [Step; 15] = [
+    Step::NewRwLock(0, 0),
+    Step::Spawn(0, 10),
+    Step::Spawn(1, 10),
+    Step::RwLock(0, 0, RwLockAccess::Read),
+    Step::RwLock(0, 0, RwLockAccess::ReadRelease),
+    Step::Join(0, 0),
+    Step::Join(1, 0),
+    FINISH,
+    Step::Exit,
+    Step::End,
+    Step::RwLock(0, 0, RwLockAccess::Write),
+    Step::RwLock(0, 1, RwLockAccess::WriteRelease(Value::Next(0))),
+    FINISH,
+    Step::Exit,
+    Step::End,
+];
+
+/// A thread leaves 1 in a mutex and notifies. Main waits for that unless the 1 is there, and joins the thread.
+static WAIT_AND_NOTIFY: [Step; 17] = [
+    Step::NewMutex(0, 0),
+    Step::NewCondvar(0),
+    Step::Spawn(0, 11),
+    Step::Mutex(0, 0, LOCK),
+    Step::Unless(0, 0, 6),
+    Step::Condvar(0, 0, Wait(0, Value::Plain(0))),
+    Step::Mutex(0, 1, MutexAccess::Release(Value::Held(0))),
+    Step::Join(0, 1),
+    FINISH,
+    Step::Exit,
+    Step::End,
+    Step::Mutex(0, 0, LOCK),
+    Step::Mutex(0, 0, MutexAccess::Release(Value::Plain(1))),
+    Step::Condvar(0, 0, NotifyOne),
     FINISH,
     Step::Exit,
     Step::End,
@@ -107,6 +152,8 @@ pub fn body_of(name: &str) -> Option<Measured>
     let (steps, checks) = match name {
         "store_buffering" => (STORE_BUFFERING.as_slice(), 1000),
         "locks_in_turn" => (LOCKS_IN_TURN.as_slice(), 1000),
+        "writers_beside_a_reader" => (WRITERS_BESIDE_A_READER.as_slice(), 100),
+        "wait_and_notify" => (WAIT_AND_NOTIFY.as_slice(), 1000),
         "three_threads" => (THREE_THREADS.as_slice(), 1),
         "three_adds" => (THREE_ADDS.as_slice(), 1),
         _ => return None,

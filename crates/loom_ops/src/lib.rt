@@ -5,6 +5,7 @@ ghost use Rattle.std.specs.Prelude.{◌≡◌, None};
 
 pub mod alloc;
 pub mod cell;
+pub mod hint;
 pub mod sync;
 pub mod thread;
 

@@ -2,9 +2,14 @@
 
 pub mod atomics;
 pub mod cells;
+pub mod locks;
 
 use loom::sync::atomic::Ordering::{Acquire, Relaxed, Release};
-use loom_scripts::script::{Step, Value};
+use loom_scripts::script::{MutexAccess, Step, Value};
+
+const LOCK: MutexAccess = MutexAccess::Lock;
+
+const RELEASE: MutexAccess = MutexAccess::Release(Value::Plain(0));
 
 /// Main finishes, exits and ends.
 pub static FINISH_ONLY: [Step; 3] = [Step::Finish(Value::Plain(7)), Step::Exit, Step::End];
@@ -22,10 +27,10 @@ pub static SPAWN_ONLY: [Step; 7] = [
 
 /// Main locks a mutex beside a thread that does nothing but end.
 pub static LOCK_BESIDE: [Step; 10] = [
-    Step::NewMutex(0),
+    Step::NewMutex(0, 0),
     Step::Spawn(0, 7),
-    Step::Lock(0),
-    Step::Release(0),
+    Step::Mutex(0, 0, LOCK),
+    Step::Mutex(0, 0, RELEASE),
     Step::Finish(Value::Plain(7)),
     Step::Exit,
     Step::End,
@@ -35,15 +40,15 @@ pub static LOCK_BESIDE: [Step; 10] = [
 ];
 
 /// Main makes mutexes without end.
-pub static MUTEX_FOREVER: [Step; 2] = [Step::NewMutex(0), Step::Jump(0)];
+pub static MUTEX_FOREVER: [Step; 2] = [Step::NewMutex(0, 0), Step::Jump(0)];
 
 /// Main's assertion fails.
 pub static FAIL_AT_ONCE: [Step; 1] = [Step::Fail];
 
 /// One thread locks a mutex and then another, a second thread the other and then the one. Main joins them.
 pub static TWO_MUTEXES_DEADLOCK: [Step; 23] = [
-    Step::NewMutex(0),
-    Step::NewMutex(1),
+    Step::NewMutex(0, 0),
+    Step::NewMutex(1, 0),
     Step::Spawn(0, 9),
     Step::Spawn(1, 16),
     Step::Join(0, 0),
@@ -51,17 +56,17 @@ pub static TWO_MUTEXES_DEADLOCK: [Step; 23] = [
     Step::Finish(Value::Plain(0)),
     Step::Exit,
     Step::End,
-    Step::Lock(0),
-    Step::Lock(1),
-    Step::Release(1),
-    Step::Release(0),
+    Step::Mutex(0, 0, LOCK),
+    Step::Mutex(1, 0, LOCK),
+    Step::Mutex(1, 0, RELEASE),
+    Step::Mutex(0, 0, RELEASE),
     Step::Finish(Value::Plain(1)),
     Step::Exit,
     Step::End,
-    Step::Lock(1),
-    Step::Lock(0),
-    Step::Release(0),
-    Step::Release(1),
+    Step::Mutex(1, 0, LOCK),
+    Step::Mutex(0, 0, LOCK),
+    Step::Mutex(0, 0, RELEASE),
+    Step::Mutex(1, 0, RELEASE),
     Step::Finish(Value::Plain(2)),
     Step::Exit,
     Step::End,

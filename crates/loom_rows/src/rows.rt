@@ -3,7 +3,7 @@ ghost use Rattle.std.specs.Prelude.{◌≡◌, ◌⊎◌, IfOk};
 ghost use Rattle.loom_rows.specs.Line.{Printed, PrintedOf};
 ghost use Rattle.loom_scripts.specs.Script.{started};
 
-use crate::bodies::{self, atomics, cells};
+use crate::bodies::{self, atomics, cells, locks};
 use crate::line::{self, ShownReport};
 use crate::updates::Updater;
 use loom::Body;
@@ -101,6 +101,33 @@ fn cell_row_of(name: &str) -> Option<Row> {
         "arc_unwrap" => &cells::ARC_UNWRAP,
         "track_then_arc" => &cells::TRACK_THEN_ARC,
         "arc_then_track" => &cells::ARC_THEN_TRACK,
+        _ => return lock_row_of(name),
+    };
+    Some(Row::new(steps))
+}
+
+// The row of this name, among those about threads that wait for one another.
+fn lock_row_of(name: &str) -> Option<Row> {
+    let steps: &'static [Step] = match name {
+        "release_unlocked" => &locks::RELEASE_UNLOCKED,
+        "lock_while_out" => &locks::LOCK_WHILE_OUT,
+        "mutex_into_inner" => &locks::MUTEX_INTO_INNER,
+        "rwlock_read_twice" => &locks::RWLOCK_READ_TWICE,
+        "rwlock_write_then_try_write" => &locks::RWLOCK_WRITE_THEN_TRY_WRITE,
+        "read_guard_of_another" => &locks::READ_GUARD_OF_ANOTHER,
+        "rwlock_writer_and_readers" => &locks::RWLOCK_WRITER_AND_READERS,
+        "condvar_alone" => &locks::CONDVAR_ALONE,
+        "condvar_with_token" => &locks::CONDVAR_WITH_TOKEN,
+        "condvar_hands_over" => &locks::CONDVAR_HANDS_OVER,
+        "notify_all" => &locks::NOTIFY_ALL,
+        "notify_wait" => &locks::NOTIFY_WAIT,
+        "second_waiter" => &locks::SECOND_WAITER,
+        "unpark_then_park" => &locks::UNPARK_THEN_PARK,
+        "park_alone" => &locks::PARK_ALONE,
+        "unpark_wakes" => &locks::UNPARK_WAKES,
+        "yield_beside" => &locks::YIELD_BESIDE,
+        "named_child" => &locks::NAMED_CHILD,
+        "unreachable" => &locks::UNREACHABLE,
         _ => return None,
     };
     Some(Row::new(steps))
@@ -115,7 +142,18 @@ pub fn run_row<R: AllocGlobal, O: Write, E: Write>(
 ) -> u8
     ensures { (result ≡ 2) ⊎ Printed (O.contents out.old) (O.contents out.new) result }
 {
-    let answer = match words {
+    check_words(rt, words, out, err).unwrap_or(2)
+}
+
+fn check_words<R: AllocGlobal, O: Write, E: Write>(
+    rt: &R,
+    words: &[&str],
+    out: &mut O,
+    err: &mut E,
+) -> io::Result<u8>
+    ensures { IfOk result (λ status. (status ≡ 2) ⊎ Printed (O.contents out.old) (O.contents out.new) status) }
+{
+    match words {
         ["fetch_update_once"] => {
             let body = Updater::main(atomics::NUM_A, atomics::NUM_B);
             check_body(rt, Builder::new(), &body, out, err)
@@ -125,8 +163,7 @@ pub fn run_row<R: AllocGlobal, O: Write, E: Write>(
             None => refuse(err),
         },
         _ => refuse(err),
-    };
-    answer.unwrap_or(2)
+    }
 }
 
 fn refuse<W: Write>(err: &mut W) -> io::Result<u8>

@@ -2,6 +2,7 @@ mod cells;
 mod handles;
 mod lists;
 mod litmus;
+mod locks;
 mod printed;
 mod replays;
 mod slow;

@@ -3,20 +3,27 @@ use Rattle.std.specs.Prelude.{ℕ, ◌+◌, ◌*◌, ◌%◌, ◌^◌, ◌==◌,
 use Rattle.std.specs.Borrow.{Bor}
 use Rattle.loom_objects.specs.declared.operation.AtomicOp.{AtomicOp}
 use Rattle.loom_objects.specs.declared.operation.Op.{Op}
-use Rattle.loom_objects.specs.declared.operation.Op.TheVariants.{Atomic as OnAtomic, Fence as Fences, Cell as OnCell, Arc as OnArc, Track as OnTrack, Mutex as OnMutex, Thread as OnThread, Fail as Fails}
+use Rattle.loom_objects.specs.declared.operation.Op.TheVariants.{Atomic as OnAtomic, Fence as Fences, Cell as OnCell, Arc as OnArc, Track as OnTrack, Mutex as OnMutex, RwLock as OnRwLock, Condvar as OnCondvar, Notify as OnNotify, Thread as OnThread, Fail as Fails, Unreachable as Unreached}
 use Rattle.loom_objects.specs.declared.operation.ArcOp.{ArcOp}
 use Rattle.loom_objects.specs.declared.operation.ArcOp.TheVariants as arc
 use Rattle.loom_objects.specs.declared.operation.AtomicOp.TheVariants as atomic
 use Rattle.loom_objects.specs.declared.operation.CellOp.{CellOp}
 use Rattle.loom_objects.specs.declared.operation.CellOp.TheVariants as cell
+use Rattle.loom_objects.specs.declared.operation.CondvarOp.TheVariants as condvar
+use Rattle.loom_objects.specs.declared.operation.MutexOp.{MutexOp}
 use Rattle.loom_objects.specs.declared.operation.MutexOp.TheVariants as mutex
+use Rattle.loom_objects.specs.declared.operation.NotifyOp.TheVariants as notify
+use Rattle.loom_objects.specs.declared.operation.RwLockOp.{RwLockOp}
+use Rattle.loom_objects.specs.declared.operation.RwLockOp.TheVariants as rwlock
 use Rattle.loom_objects.specs.declared.operation.ThreadOp.TheVariants as thread
 use Rattle.loom_objects.specs.declared.operation.TrackOp.{TrackOp}
 use Rattle.loom_objects.specs.declared.operation.TrackOp.TheVariants as track
 use Rattle.loom_objects.specs.declared.operation.Reply.{Reply}
 use Rattle.loom_objects.specs.declared.operation.Reply.TheVariants as reply
 use Rattle.loom_views.specs.declared.rt.num.Numbers.TheVariants.{U64}
-use Rattle.loom_ops.specs.Handles.{arc_handle, atomic_handle, unsafe_cell_handle, mutex_handle, guard_handle, join_handle, track_handle}
+use Rattle.loom_objects.specs.declared.rt.thread.Name.{Name}
+use Rattle.loom_ops.specs.declared.thread.Thread.{Thread}
+use Rattle.loom_ops.specs.Handles.{arc_handle, atomic_handle, unsafe_cell_handle, mutex_handle, rwlock_handle, condvar_handle, notify_handle, join_handle, thread_handle, named, track_handle, yielding}
 use Rattle.loom_scripts.specs.declared.number.Number.{Number}
 use Rattle.loom_scripts.specs.Number.{number}
 use Rattle.loom_scripts.specs.declared.script.Access.{Access}
@@ -25,9 +32,15 @@ use Rattle.loom_scripts.specs.declared.script.ArcAccess.{ArcAccess}
 use Rattle.loom_scripts.specs.declared.script.ArcAccess.TheVariants as on_arc
 use Rattle.loom_scripts.specs.declared.script.CellAccess.{CellAccess}
 use Rattle.loom_scripts.specs.declared.script.CellAccess.TheVariants as on_cell
+use Rattle.loom_scripts.specs.declared.script.CondvarAccess.{CondvarAccess}
+use Rattle.loom_scripts.specs.declared.script.CondvarAccess.TheVariants as on_condvar
+use Rattle.loom_scripts.specs.declared.script.MutexAccess.{MutexAccess}
+use Rattle.loom_scripts.specs.declared.script.MutexAccess.TheVariants as on_mutex
+use Rattle.loom_scripts.specs.declared.script.RwLockAccess.{RwLockAccess}
+use Rattle.loom_scripts.specs.declared.script.RwLockAccess.TheVariants as on_rwlock
 use Rattle.loom_scripts.specs.declared.script.Script.{Script}
 use Rattle.loom_scripts.specs.declared.script.Step.{Step}
-use Rattle.loom_scripts.specs.declared.script.Step.TheVariants.{NewAtomic, NewAtomicOf, Load, Store, Access as Accessing, Fence, NewCell, Cell, SwapCells, NewArc, Arc, NewTrack, Track, NewMutex, Lock, Release, Spawn, Join, Finish, Exit, End, Fail, Jump, Unless}
+use Rattle.loom_scripts.specs.declared.script.Step.TheVariants.{NewAtomic, NewAtomicOf, Load, Store, Access as Accessing, Fence, NewCell, Cell, SwapCells, NewArc, Arc, NewTrack, Track, NewMutex, Mutex, NewRwLock, RwLock, NewCondvar, Condvar, NewNotify, Notify, Await, Spawn, SpawnNamed, Join, Current, Park, Unpark, Yield, Finish, Exit, End, Unreachable, Fail, Jump, Unless}
 use Rattle.loom_scripts.specs.declared.script.TrackAccess.{TrackAccess}
 use Rattle.loom_scripts.specs.declared.script.TrackAccess.TheVariants as on_track
 use Rattle.loom_scripts.specs.declared.script.Value.{Value}
@@ -49,13 +62,16 @@ started steps = record {
   arcs = no_handles;
   tracks = no_handles;
   mutexes = no_handles;
-  guards = no_handles;
+  rwlocks = no_handles;
+  condvars = no_handles;
+  notifiers = no_handles;
   threads = no_handles;
+  known = no_handles;
 }
 
 -- a thread that it spawns at this step, with its registers and objects
 abbrev pub child : Script → ℕ → Script
-child s at = record s { at = at; slot = 0; guards = no_handles; threads = no_handles }
+child s at = record s { at = at; slot = 0; threads = no_handles }
 
 -- the slots with the handle in this slot, if there is such a handle and such a slot
 abbrev pub put : {A : Type 0} → List (Option A) → ℕ → Option A → List (Option A)
@@ -67,7 +83,8 @@ abbrev pub put_number : List ℕ → ℕ → Option ℕ → List ℕ
 put_number registers register None = registers
 put_number registers register (Some n) = slice_set registers register n
 
--- the number that the reply holds, of an object or of a thread that was joined, or 1 where others share what it would hold
+-- the number that the reply holds, of an object or of a thread that was joined, or 1 where others share or have what it would
+-- hold
 abbrev pub number_in : Reply Number → Option ℕ
 number_in (reply.Value n) = Some n
 number_in (reply.Exchanged (Ok n)) = Some n
@@ -75,14 +92,25 @@ number_in (reply.Exchanged (Err n)) = Some n
 number_in (reply.Data n) = Some n.0
 number_in (reply.Reading number n) = Some n.0
 number_in (reply.Writing number n) = Some n.0
+number_in (reply.Locked number n) = Some n.0
+number_in (reply.Waited number n timed_out) = Some n.0
+number_in (reply.ReadLocked number n) = Some n.0
+number_in (reply.WriteLocked number n) = Some n.0
 number_in reply.Shared = Some 1
+number_in reply.WouldBlock = Some 1
 number_in _ = None
 
--- the register for it: the last one, where a compare-exchange hasn't exchanged what it read, or others share the value
+-- the register for it: the last one, where a compare-exchange hasn't exchanged what it read, or others share or have the value
 abbrev pub register_for : ℕ → Reply Number → ℕ
 register_for register (reply.Exchanged (Err n)) = 3
 register_for register reply.Shared = 3
+register_for register reply.WouldBlock = 3
 register_for register _ = register
+
+-- the thread that the reply names: one that was spawned, or who asked which one it is
+abbrev pub known_in : Reply Number → Option Thread
+known_in (reply.Spawned thread name notifier) = Some (named thread name)
+known_in told = thread_handle told
 
 -- what the reply holds is kept in the slot, or the register, that the last step named
 abbrev pub kept : Script → Reply Number → Script
@@ -93,8 +121,11 @@ kept s told = record s {
   arcs = put s.arcs s.slot (arc_handle told);
   tracks = put s.tracks s.slot (track_handle told);
   mutexes = put s.mutexes s.slot (mutex_handle told);
-  guards = put s.guards s.slot (guard_handle told);
+  rwlocks = put s.rwlocks s.slot (rwlock_handle told);
+  condvars = put s.condvars s.slot (condvar_handle told);
+  notifiers = put s.notifiers s.slot (notify_handle told);
   threads = put s.threads s.slot (join_handle told);
+  known = put s.known s.slot (known_in told);
 }
 
 -- what the register holds, or 0 where there is none
@@ -142,10 +173,17 @@ slot_of (NewArc slot n) = slot
 slot_of (Arc slot register todo) = register
 slot_of (NewTrack slot n) = slot
 slot_of (Track slot register todo) = register
-slot_of (NewMutex slot) = slot
-slot_of (Lock slot) = slot
+slot_of (NewMutex slot n) = slot
+slot_of (Mutex slot register todo) = register
+slot_of (NewRwLock slot n) = slot
+slot_of (RwLock slot register todo) = register
+slot_of (NewCondvar slot) = slot
+slot_of (Condvar slot register todo) = register
+slot_of (NewNotify slot) = slot
 slot_of (Spawn slot at) = slot
+slot_of (SpawnNamed slot at name) = slot
 slot_of (Join slot register) = register
+slot_of (Current slot) = slot
 slot_of _ = 0
 
 -- the script behind its next step
@@ -206,6 +244,40 @@ track_op s (on_track.Put value) number = track.Put number (data_of s value)
 track_op s on_track.IntoInner number = track.IntoInner number
 track_op s on_track.Drop number = track.Drop number
 
+-- the access of the mutex of this number
+abbrev pub mutex_op : Script → MutexAccess → ℕ → MutexOp Number
+mutex_op s on_mutex.Lock number = mutex.Lock number
+mutex_op s on_mutex.TryLock number = mutex.TryLock number
+mutex_op s (on_mutex.Release value) number = mutex.Release number (data_of s value)
+mutex_op s on_mutex.GetMut number = mutex.GetMut number
+mutex_op s (on_mutex.Put value) number = mutex.Put number (data_of s value)
+mutex_op s on_mutex.IntoInner number = mutex.IntoInner number
+
+-- the access of the read-write lock of this number
+abbrev pub rwlock_op : Script → RwLockAccess → ℕ → RwLockOp Number
+rwlock_op s on_rwlock.Read number = rwlock.Read number
+rwlock_op s on_rwlock.TryRead number = rwlock.TryRead number
+rwlock_op s on_rwlock.ReadRelease number = rwlock.ReadRelease number
+rwlock_op s on_rwlock.Write number = rwlock.Write number
+rwlock_op s on_rwlock.TryWrite number = rwlock.TryWrite number
+rwlock_op s (on_rwlock.WriteRelease value) number = rwlock.WriteRelease number (data_of s value)
+rwlock_op s on_rwlock.GetMut number = rwlock.GetMut number
+rwlock_op s (on_rwlock.Put value) number = rwlock.Put number (data_of s value)
+rwlock_op s on_rwlock.IntoInner number = rwlock.IntoInner number
+
+-- the access of the condition variable of this number; a wait is with the mutex in a slot
+abbrev pub condvar_op : Script → CondvarAccess → ℕ → Op Number Script
+condvar_op s (on_condvar.Wait slot value) number =
+    on (slot_at s.mutexes slot) (λ m. OnCondvar (condvar.Wait number m.number (data_of s value)) None)
+condvar_op s (on_condvar.WaitTimeout slot value) number =
+    on (slot_at s.mutexes slot) (λ m. OnCondvar (condvar.WaitTimeout number m.number (data_of s value)) None)
+condvar_op s on_condvar.NotifyOne number = OnCondvar (condvar.NotifyOne number) None
+condvar_op s on_condvar.NotifyAll number = OnCondvar (condvar.NotifyAll number) None
+
+-- a thread's name
+abbrev pub name_of : Bor (List ℕ) → Name
+name_of text = record { text = text }
+
 -- the operation that the step makes
 abbrev pub operation : Script → Step → Op Number Script
 operation s (NewAtomic slot n) = OnAtomic (atomic.New U64 n) None
@@ -221,14 +293,26 @@ operation s (NewArc slot n) = OnArc (arc.New (number n)) None
 operation s (Arc slot register todo) = on (slot_at s.arcs slot) (λ a. OnArc (arc_op s todo a.number) None)
 operation s (NewTrack slot n) = OnTrack (track.New (number n)) None
 operation s (Track slot register todo) = on (slot_at s.tracks slot) (λ t. OnTrack (track_op s todo t.number) None)
-operation s (NewMutex slot) = OnMutex (mutex.New (number 0)) None
-operation s (Lock slot) = on (slot_at s.mutexes slot) (λ m. OnMutex (mutex.Lock m.number) None)
-operation s (Release slot) = on (slot_at s.guards slot) (λ g. OnMutex (mutex.Release g.number (number 0)) None)
+operation s (NewMutex slot n) = OnMutex (mutex.New (number n)) None
+operation s (Mutex slot register todo) = on (slot_at s.mutexes slot) (λ m. OnMutex (mutex_op s todo m.number) None)
+operation s (NewRwLock slot n) = OnRwLock (rwlock.New (number n)) None
+operation s (RwLock slot register todo) = on (slot_at s.rwlocks slot) (λ l. OnRwLock (rwlock_op s todo l.number) None)
+operation s (NewCondvar slot) = OnCondvar condvar.New None
+operation s (Condvar slot register todo) = on (slot_at s.condvars slot) (λ c. condvar_op s todo c.number)
+operation s (NewNotify slot) = OnNotify notify.New None
+operation s (Notify slot) = on (slot_at s.notifiers slot) (λ n. OnNotify (notify.Notify n.number) None)
+operation s (Await slot) = on (slot_at s.notifiers slot) (λ n. OnNotify (notify.Wait n.number) None)
 operation s (Spawn slot at) = OnThread (thread.Spawn (child s at) None) None
+operation s (SpawnNamed slot at name) = OnThread (thread.Spawn (child s at) (Some (name_of name))) None
 operation s (Join slot register) = on (slot_at s.threads slot) (λ t. OnThread (thread.Join t.thread t.notifier) None)
+operation s (Current slot) = OnThread thread.Current None
+operation s Park = OnThread thread.Park None
+operation s (Unpark slot) = on (slot_at s.known slot) (λ t. OnThread (thread.Unpark t.id.0) None)
+operation s Yield = yielding
 operation s (Finish value) = OnThread (thread.Finish (data_of s value)) None
 operation s Exit = OnThread thread.Exit None
 operation s End = OnThread thread.End None
+operation s Unreachable = Unreached None
 operation s _ = Fails None
 
 -- a script's meaning: what the reply holds is kept, and the next step tells the operation

@@ -1,15 +1,17 @@
 ghost use Rattle.std.specs.Prelude.{◌≡◌, IfOk};
-ghost use Rattle.loom_scripts.specs.Script.{started, next_of, number_in, register_for, put, put_number, kept, held, number_of, step_at, landing, slot_of, fetched, slot_at, child, accesses, data_of, cell_op, arc_op, track_op, on, operation};
+ghost use Rattle.loom_scripts.specs.Script.{started, next_of, number_in, register_for, known_in, put, put_number, kept, held, number_of, step_at, landing, slot_of, fetched, slot_at, child, accesses, data_of, cell_op, arc_op, track_op, mutex_op, rwlock_op, condvar_op, on, operation};
 
 use crate::number::Number;
 use loom_objects::body::Body;
 use loom_objects::operation::{AtomicOp, CellOp, Exchange, Op, Reply};
 use loom_ops::alloc::Track;
 use loom_ops::cell::{Cell, ConstPtr, MutPtr, UnsafeCell};
-use loom_ops::fail;
 use loom_ops::sync::atomic::{AtomicU64, Ordering, fence};
-use loom_ops::sync::{Arc, Mutex, MutexGuard};
-use loom_ops::thread::{self, JoinHandle};
+use loom_ops::sync::{
+    Arc, Condvar, Mutex, MutexGuard, Notify, RwLock, RwLockReadGuard, RwLockWriteGuard,
+};
+use loom_ops::thread::{self, JoinHandle, Thread};
+use loom_ops::{fail, hint};
 use loom_views::rt::change::Change;
 use loom_views::rt::num::Numbers;
 use std::alloc::AllocError;
@@ -77,6 +79,45 @@ pub enum TrackAccess {
     Drop,
 }
 
+/// What a step does with a mutex.
+#[derive(Clone, Copy, Debug)]
+pub enum MutexAccess {
+    Lock,
+    TryLock,
+    /// Gives it free, with this number in it.
+    Release(Value),
+    GetMut,
+    Put(Value),
+    IntoInner,
+}
+
+/// What a step does with a read-write lock.
+#[derive(Clone, Copy, Debug)]
+pub enum RwLockAccess {
+    Read,
+    TryRead,
+    /// Ends one guard of the thread for reading.
+    ReadRelease,
+    Write,
+    TryWrite,
+    /// Ends the guard for writing, with this number in the lock.
+    WriteRelease(Value),
+    GetMut,
+    Put(Value),
+    IntoInner,
+}
+
+/// What a step does with a condition variable.
+#[derive(Clone, Copy, Debug)]
+pub enum CondvarAccess {
+    /// Waits with the mutex in this slot, which gets this number.
+    Wait(usize, Value),
+    /// The same, by the call that has a time.
+    WaitTimeout(usize, Value),
+    NotifyOne,
+    NotifyAll,
+}
+
 /// One step of a script. It names a slot, of four, in which its thread keeps handles, and a register for a number.
 #[derive(Clone, Copy, Debug)]
 pub enum Step {
@@ -107,22 +148,48 @@ pub enum Step {
     NewTrack(usize, u64),
     /// Accesses the tracked number in the slot, and keeps the number that it is told in the register.
     Track(usize, usize, TrackAccess),
-    /// Makes a mutex, and keeps it in the slot.
-    NewMutex(usize),
-    /// Locks the mutex in the slot, and keeps the guard there.
-    Lock(usize),
-    /// Releases what the guard in the slot holds.
-    Release(usize),
+    /// Makes a mutex with this number, and keeps it in the slot.
+    NewMutex(usize, u64),
+    /// Accesses the mutex in the slot, and keeps the number that it is told in the register; where a thread holds it, 1 in the
+    /// last register instead.
+    Mutex(usize, usize, MutexAccess),
+    /// Makes a read-write lock with this number, and keeps it in the slot.
+    NewRwLock(usize, u64),
+    /// Accesses the read-write lock in the slot, and keeps the number that it is told in the register; where it would wait, 1
+    /// in the last register instead.
+    RwLock(usize, usize, RwLockAccess),
+    /// Makes a condition variable, and keeps it in the slot.
+    NewCondvar(usize),
+    /// Accesses the condition variable in the slot, and keeps the number that it is told in the register.
+    Condvar(usize, usize, CondvarAccess),
+    /// Makes a notifier, and keeps it in the slot.
+    NewNotify(usize),
+    /// Notifies by the notifier in the slot.
+    Notify(usize),
+    /// Waits on the notifier in the slot.
+    Await(usize),
     /// Keeps in the slot a thread that it starts at this step, with the objects and registers of this one.
     Spawn(usize, usize),
+    /// The same, with this name.
+    SpawnNamed(usize, usize, &'static str),
     /// Joins the thread in the slot, and keeps the number with which it finished in the register.
     Join(usize, usize),
+    /// Keeps in the slot which thread this is.
+    Current(usize),
+    /// Waits for a token.
+    Park,
+    /// Gives a token to the thread in the slot: one that it spawned, or itself, or one that its spawner knew.
+    Unpark(usize),
+    /// Lets other threads go on first.
+    Yield,
     /// Finishes with this number.
     Finish(Value),
     /// Gives the thread's locals back, after it finished.
     Exit,
     /// The thread's last operation, after it exited.
     End,
+    /// Never is reached.
+    Unreachable,
     /// The script's assertion fails. So does a step that finds no handle in its slot, or is beyond the script's end.
     Fail,
     /// Goes on at this step, which is no jump itself.
@@ -152,10 +219,16 @@ pub struct Script {
     pub tracks: [Option<Track>; 4],
     /// The mutexes that the thread was given.
     pub mutexes: [Option<Mutex>; 4],
-    /// The mutexes that it locked.
-    pub guards: [Option<MutexGuard>; 4],
+    /// The read-write locks that the thread was given.
+    pub rwlocks: [Option<RwLock>; 4],
+    /// The condition variables that the thread was given.
+    pub condvars: [Option<Condvar>; 4],
+    /// The notifiers that the thread was given.
+    pub notifiers: [Option<Notify>; 4],
     /// The threads that it spawned.
     pub threads: [Option<JoinHandle>; 4],
+    /// The threads that it knows: those that it spawned, itself once it has asked, and those that it was given.
+    pub known: [Option<Thread>; 4],
 }
 
 impl Script {
@@ -173,8 +246,11 @@ impl Script {
             arcs: [None; 4],
             tracks: [None; 4],
             mutexes: [None; 4],
-            guards: [None; 4],
+            rwlocks: [None; 4],
+            condvars: [None; 4],
+            notifiers: [None; 4],
             threads: [None; 4],
+            known: [None; 4],
         }
     }
 
@@ -190,8 +266,11 @@ impl Script {
         put(&mut self.arcs, slot, Arc::from_reply(reply));
         put(&mut self.tracks, slot, Track::from_reply(reply));
         put(&mut self.mutexes, slot, Mutex::from_reply(reply));
-        put(&mut self.guards, slot, MutexGuard::from_reply(reply));
+        put(&mut self.rwlocks, slot, RwLock::from_reply(reply));
+        put(&mut self.condvars, slot, Condvar::from_reply(reply));
+        put(&mut self.notifiers, slot, Notify::from_reply(reply));
         put(&mut self.threads, slot, JoinHandle::from_reply(reply));
+        put(&mut self.known, slot, known_in(reply));
     }
 
     /// What the register holds, or 0 where there is none.
@@ -267,7 +346,6 @@ impl Script {
         Script {
             at,
             slot: 0,
-            guards: [None; 4],
             threads: [None; 4],
             ..*self
         }
@@ -394,6 +472,72 @@ impl Script {
         }
     }
 
+    /// The access of the mutex in the slot.
+    fn access_mutex(&self, slot: usize, access: MutexAccess) -> Op<Number, Script>
+        ensures { result ≡ on (slot_at self.now.mutexes slot) (λ m. Op.Mutex (mutex_op self.now access m.number) None) }
+    {
+        let Some(mutex) = slot_at(&self.mutexes, slot) else {
+            return fail();
+        };
+        let number = mutex.number;
+        match access {
+            MutexAccess::Lock => mutex.lock(),
+            MutexAccess::TryLock => mutex.try_lock(),
+            MutexAccess::Release(value) => MutexGuard { number }.release(self.data_of(value)),
+            MutexAccess::GetMut => mutex.get_mut(),
+            MutexAccess::Put(value) => mutex.put(self.data_of(value)),
+            MutexAccess::IntoInner => mutex.into_inner(),
+        }
+    }
+
+    /// The access of the read-write lock in the slot.
+    fn access_rwlock(&self, slot: usize, access: RwLockAccess) -> Op<Number, Script>
+        ensures { result ≡ on (slot_at self.now.rwlocks slot) (λ l. Op.RwLock (rwlock_op self.now access l.number) None) }
+    {
+        let Some(lock) = slot_at(&self.rwlocks, slot) else {
+            return fail();
+        };
+        let number = lock.number;
+        match access {
+            RwLockAccess::Read => lock.read(),
+            RwLockAccess::TryRead => lock.try_read(),
+            RwLockAccess::ReadRelease => RwLockReadGuard { number }.release(),
+            RwLockAccess::Write => lock.write(),
+            RwLockAccess::TryWrite => lock.try_write(),
+            RwLockAccess::WriteRelease(value) => {
+                RwLockWriteGuard { number }.release(self.data_of(value))
+            }
+            RwLockAccess::GetMut => lock.get_mut(),
+            RwLockAccess::Put(value) => lock.put(self.data_of(value)),
+            RwLockAccess::IntoInner => lock.into_inner(),
+        }
+    }
+
+    /// The access of the condition variable in the slot.
+    fn access_condvar(&self, slot: usize, access: CondvarAccess) -> Op<Number, Script>
+        ensures { result ≡ on (slot_at self.now.condvars slot) (λ c. condvar_op self.now access c.number) }
+    {
+        let Some(condvar) = slot_at(&self.condvars, slot) else {
+            return fail();
+        };
+        match access {
+            CondvarAccess::Wait(mutex, value) => match slot_at(&self.mutexes, mutex) {
+                Some(Mutex { number }) => {
+                    condvar.wait(MutexGuard { number }, self.data_of(value))
+                }
+                None => fail(),
+            },
+            CondvarAccess::WaitTimeout(mutex, value) => match slot_at(&self.mutexes, mutex) {
+                Some(Mutex { number }) => {
+                    condvar.wait_timeout(MutexGuard { number }, self.data_of(value))
+                }
+                None => fail(),
+            },
+            CondvarAccess::NotifyOne => condvar.notify_one(),
+            CondvarAccess::NotifyAll => condvar.notify_all(),
+        }
+    }
+
     /// The operation that the step makes.
     fn operation(&self, step: Step) -> Op<Number, Script>
         ensures { result ≡ operation self.now step }
@@ -414,23 +558,40 @@ impl Script {
             Step::Arc(slot, _, access) => self.access_arc(slot, access),
             Step::NewTrack(_, number) => Track::new(Number(number)),
             Step::Track(slot, _, access) => self.access_track(slot, access),
-            Step::NewMutex(_) => Mutex::new(Number(0)),
-            Step::Lock(slot) => match slot_at(&self.mutexes, slot) {
-                Some(mutex) => mutex.lock(),
+            Step::NewMutex(_, number) => Mutex::new(Number(number)),
+            Step::Mutex(slot, _, access) => self.access_mutex(slot, access),
+            Step::NewRwLock(_, number) => RwLock::new(Number(number)),
+            Step::RwLock(slot, _, access) => self.access_rwlock(slot, access),
+            Step::NewCondvar(_) => Condvar::new(),
+            Step::Condvar(slot, _, access) => self.access_condvar(slot, access),
+            Step::NewNotify(_) => Notify::new(),
+            Step::Notify(slot) => match slot_at(&self.notifiers, slot) {
+                Some(notifier) => notifier.notify(),
                 None => fail(),
             },
-            Step::Release(slot) => match slot_at(&self.guards, slot) {
-                Some(guard) => guard.release(Number(0)),
+            Step::Await(slot) => match slot_at(&self.notifiers, slot) {
+                Some(notifier) => notifier.wait(),
                 None => fail(),
             },
             Step::Spawn(_, at) => thread::spawn(self.child(at)),
+            Step::SpawnNamed(_, at, name) => {
+                thread::Builder::new().name(name).spawn(self.child(at))
+            }
             Step::Join(slot, _) => match slot_at(&self.threads, slot) {
                 Some(thread) => thread.join(),
                 None => fail(),
             },
+            Step::Current(_) => thread::current(),
+            Step::Park => thread::park(),
+            Step::Unpark(slot) => match slot_at(&self.known, slot) {
+                Some(thread) => thread.unpark(),
+                None => fail(),
+            },
+            Step::Yield => thread::yield_now(),
             Step::Finish(value) => thread::finish(self.data_of(value)),
             Step::Exit => thread::exit(),
             Step::End => thread::end(),
+            Step::Unreachable => hint::unreachable_unchecked(),
             Step::Fail | Step::Jump(_) | Step::Unless(..) => fail(),
         }
     }
@@ -453,7 +614,8 @@ fn update(atomic: AtomicU64, change: Change, order: Ordering) -> Op<Number, Scri
     }
 }
 
-/// The number that the reply holds, of an object or of a thread that was joined, or 1 where others share what it would hold.
+/// The number that the reply holds, of an object or of a thread that was joined, or 1 where others share or have what it would
+/// hold.
 fn number_in(reply: &Reply<Number>) -> Option<u64>
     ensures { result ≡ number_in reply.now }
 {
@@ -464,7 +626,11 @@ fn number_in(reply: &Reply<Number>) -> Option<u64>
         Reply::Data(Number(number)) => Some(*number),
         Reply::Reading(_, Number(number)) => Some(*number),
         Reply::Writing(_, Number(number)) => Some(*number),
-        Reply::Shared => Some(1),
+        Reply::Locked(_, Number(number)) => Some(*number),
+        Reply::Waited(_, Number(number), _) => Some(*number),
+        Reply::ReadLocked(_, Number(number)) => Some(*number),
+        Reply::WriteLocked(_, Number(number)) => Some(*number),
+        Reply::Shared | Reply::WouldBlock => Some(1),
         _ => None,
     }
 }
@@ -474,8 +640,18 @@ fn register_for(register: usize, reply: &Reply<Number>) -> usize
     ensures { result ≡ register_for register reply.now }
 {
     match reply {
-        Reply::Exchanged(Err(_)) | Reply::Shared => 3,
+        Reply::Exchanged(Err(_)) | Reply::Shared | Reply::WouldBlock => 3,
         _ => register,
+    }
+}
+
+/// The thread that the reply names.
+fn known_in(reply: &Reply<Number>) -> Option<Thread>
+    ensures { result ≡ known_in reply.now }
+{
+    match JoinHandle::from_reply(reply) {
+        Some(handle) => Some(handle.thread()),
+        None => Thread::from_reply(reply),
     }
 }
 
@@ -522,14 +698,21 @@ fn slot_of(step: Step) -> usize
         | Step::NewCell(slot, _)
         | Step::NewArc(slot, _)
         | Step::NewTrack(slot, _)
-        | Step::NewMutex(slot)
-        | Step::Lock(slot)
-        | Step::Spawn(slot, _) => slot,
+        | Step::NewMutex(slot, _)
+        | Step::NewRwLock(slot, _)
+        | Step::NewCondvar(slot)
+        | Step::NewNotify(slot)
+        | Step::Spawn(slot, _)
+        | Step::SpawnNamed(slot, ..)
+        | Step::Current(slot) => slot,
         Step::Load(_, register, _)
         | Step::Access(_, register, _)
         | Step::Cell(_, register, _)
         | Step::Arc(_, register, _)
         | Step::Track(_, register, _)
+        | Step::Mutex(_, register, _)
+        | Step::RwLock(_, register, _)
+        | Step::Condvar(_, register, _)
         | Step::Join(_, register) => register,
         _ => 0,
     }

@@ -1,8 +1,9 @@
 //! Atomics: numbers that threads load and store without waiting for one another.
 ghost use Rattle.std.specs.Prelude.{◌≡◌, None};
 ghost use Rattle.std.specs.Option.{option_map};
-ghost use Rattle.loom_ops.specs.Handles.{atomic_handle, value_in, exchange, exchanged_in, update, fetched_in};
+ghost use Rattle.loom_ops.specs.Handles.{atomic_handle, value_in, exchange, exchanged_in, update, fetched_in, yielding};
 
+use crate::thread;
 use loom_objects::operation::{AtomicOp, Exchange, Op, Reply};
 use loom_views::rt::change::Change;
 use loom_views::rt::num::Numeric;
@@ -80,6 +81,13 @@ pub fn fence<D, S>(order: Ordering) -> Op<D, S>
     ensures { result ≡ Op.Fence order None }
 {
     Op::Fence(order, None)
+}
+
+/// The thread yields, as by `thread::yield_now` (loom's `sync/atomic/mod.rs`).
+pub fn spin_loop_hint<D, S>() -> Op<D, S>
+    ensures { result ≡ yielding }
+{
+    thread::yield_now()
 }
 
 impl<T: Numeric> Atomic<T> {

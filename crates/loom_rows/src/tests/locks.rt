@@ -1,0 +1,352 @@
+//! Locks, condition variables, notifiers and threads that wait: what their rows print, and each operation by its path in loom.
+use super::{NONE, ONE, ZERO, runs_of};
+use crate::bodies::locks::{
+    CONDVAR_HANDS_OVER, MUTEX_INTO_INNER, NOTIFY_ALL, NOTIFY_WAIT, RWLOCK_READ_TWICE,
+    RWLOCK_WRITE_THEN_TRY_WRITE, UNPARK_THEN_PARK, UNPARK_WAKES, YIELD_BESIDE,
+};
+use crate::rows;
+use loom::rt::execution::{Execution, Limits};
+use loom::rt::path::Path;
+use loom::sync::atomic::spin_loop_hint;
+use loom::sync::{
+    Condvar, Mutex, MutexGuard, Notify, RwLock, RwLockReadGuard, RwLockWriteGuard,
+    WaitTimeoutResult,
+};
+use loom::thread::{self, JoinHandle, Thread, ThreadId};
+use loom::{Choice, FailureKind, Op, Reply, hint};
+use loom_objects::failure::Stop;
+use loom_objects::operation::Turn;
+use loom_scripts::number::Number;
+use loom_scripts::script::{Script, Step};
+use std::alloc::Global;
+use std::process::Abort;
+use std::test::Fail;
+
+const CALM: Choice = Choice::Spurious(false);
+
+const SPURIOUS: Choice = Choice::Spurious(true);
+
+#[test]
+fn each_row_prints_its_line(rt: HostRuntime) {
+    for (name, line, status) in [
+        ("release_unlocked", "failed 14 0\n", 1),
+        ("lock_while_out", "failed 14 0 t0\n", 1),
+        ("rwlock_read_twice", "complete 1\n", 0),
+        ("rwlock_write_then_try_write", "complete 1\n", 0),
+        ("read_guard_of_another", "failed 14 0 t0 t1\n", 1),
+        ("condvar_alone", "failed 2 0 t0 t0 t-\n", 1),
+        ("condvar_with_token", "failed 2 0 t0 t0 t-\n", 1),
+        ("notify_wait", "complete 2\n", 0),
+        ("second_waiter", "failed 21 0 s0 t1\n", 1),
+        ("unpark_then_park", "complete 1\n", 0),
+        ("park_alone", "failed 2 0 t-\n", 1),
+        ("yield_beside", "complete 2\n", 0),
+        ("named_child", "complete 1\n", 0),
+        ("unreachable", "failed 15 0\n", 1),
+    ] {
+        let mut out = Vec::new(rt.alloc());
+        let mut err = Vec::new(rt.alloc());
+        let answer = rows::run_row(&rt, &[name], &mut out, &mut err);
+        assert_eq!(rt; answer, status, "{name}");
+        assert_eq!(rt; out.as_slice(), line.as_bytes(), "{name}");
+        assert!(rt; err.is_empty(), "{name}");
+    }
+}
+
+#[test]
+fn threads_find_what_others_left(rt: HostRuntime) {
+    for name in [
+        "mutex_into_inner",
+        "rwlock_writer_and_readers",
+        "condvar_hands_over",
+        "notify_all",
+        "unpark_wakes",
+    ] {
+        let mut out = Vec::new(rt.alloc());
+        let mut err = Vec::new(rt.alloc());
+        let answer = rows::run_row(&rt, &[name], &mut out, &mut err);
+        assert_eq!(rt; answer, 0, "{name}");
+        assert!(rt;
+            out.as_slice().starts_with("complete ".as_bytes()),
+            "{name}"
+        );
+        assert!(rt; err.is_empty(), "{name}");
+    }
+}
+
+// The script has these runs, in this order, each of which main finishes with 7.
+fn has_runs(
+    rt: &(impl Abort + AllocGlobal),
+    steps: &'static [Step],
+    lists: &[&[Choice]],
+) -> Result<(), Fail> {
+    let runs = runs_of(rt.alloc(), &Script::new(steps))?;
+    assert_eq!(rt; runs.len(), lists.len());
+    for (run, choices) in runs.iter().zip(lists) {
+        assert_eq!(rt; run.choices.as_slice(), *choices);
+        assert_eq!(rt; run.value, Number(7));
+    }
+    Ok(())
+}
+
+#[test]
+fn waits_have_branch_points(rt: HostRuntime) -> Result<(), Fail> {
+    has_runs(&rt, &RWLOCK_READ_TWICE, &[&[ZERO, ZERO, NONE]])?;
+    has_runs(&rt, &RWLOCK_WRITE_THEN_TRY_WRITE, &[&[ZERO, ZERO, NONE]])?;
+    has_runs(&rt, &UNPARK_THEN_PARK, &[&[NONE]])?;
+    has_runs(
+        &rt,
+        &NOTIFY_WAIT,
+        &[&[ZERO, CALM, ZERO, NONE], &[ZERO, SPURIOUS, ZERO, NONE]],
+    )?;
+    has_runs(
+        &rt,
+        &YIELD_BESIDE,
+        &[&[ONE, ONE, ZERO, NONE], &[ONE, ZERO, ONE, NONE]],
+    )
+}
+
+// Main finishes each run of the script with this number.
+fn each_run_gives(
+    rt: &(impl Abort + AllocGlobal),
+    steps: &'static [Step],
+    number: u64,
+) -> Result<(), Fail> {
+    for run in &runs_of(rt.alloc(), &Script::new(steps))? {
+        assert_eq!(rt; run.value, Number(number));
+    }
+    Ok(())
+}
+
+#[test]
+fn main_finds_the_number_in_every_run(rt: HostRuntime) -> Result<(), Fail> {
+    each_run_gives(&rt, &MUTEX_INTO_INNER, 2)?;
+    each_run_gives(&rt, &CONDVAR_HANDS_OVER, 7)?;
+    each_run_gives(&rt, &NOTIFY_ALL, 7)?;
+    each_run_gives(&rt, &UNPARK_WAKES, 7)
+}
+
+// A run of main, and of one thread more where main spawns it.
+#[derive(Drop)]
+struct Two {
+    execution: Execution<Number>,
+    path: Path,
+}
+
+impl Two {
+    fn new(alloc: Global) -> Result<Two, Fail> {
+        let limits = Limits {
+            max_threads: 2,
+            max_steps: 40,
+        };
+        let execution = Execution::new(alloc, limits)?;
+        let path = Path::new(alloc, 40);
+        Ok(Two { execution, path })
+    }
+
+    // Hands the operation over, and answers the reply to it, or `Start`, by which this thread goes on.
+    fn told(&mut self, thread: u8, op: Op<Number, ()>) -> Result<Reply<Number>, Fail> {
+        match self.execution.submit(&mut self.path, op) {
+            Ok(Turn::Reply(told, reply)) if told == thread => Ok(reply),
+            Ok(Turn::Start(told)) if told == thread => Ok(Reply::Start),
+            _ => Err(Fail::from("the thread isn't told anything")),
+        }
+    }
+
+    // Main hands the operation over, and goes on.
+    fn submit(&mut self, op: Op<Number, ()>) -> Result<Reply<Number>, Fail> {
+        self.told(0, op)
+    }
+
+    // Hands the operation over, and answers why it fails.
+    fn failure(&mut self, op: Op<Number, ()>) -> Result<FailureKind, Fail> {
+        match self.execution.submit(&mut self.path, op) {
+            Err(Stop::Failure(failure)) => Ok(failure.kind),
+            _ => Err(Fail::from("it doesn't fail")),
+        }
+    }
+
+    // The thread hands the operation over, which is done.
+    fn done(&mut self, thread: u8, op: Op<Number, ()>) -> Result<(), Fail> {
+        match self.told(thread, op)? {
+            Reply::Done => Ok(()),
+            _ => Err(Fail::from("it isn't done")),
+        }
+    }
+
+    // Main hands the operation over, and answers the number that it replies.
+    fn number(&mut self, op: Op<Number, ()>) -> Result<u64, Fail> {
+        match self.submit(op)? {
+            Reply::Data(Number(number)) => Ok(number),
+            _ => Err(Fail::from("there is no number")),
+        }
+    }
+
+    // Makes a mutex.
+    fn mutex(&mut self, number: u64) -> Result<Mutex, Fail> {
+        let made = self.submit(Mutex::new(Number(number)))?;
+        Ok(Mutex::from_reply(&made).ok_or("there is no mutex")?)
+    }
+
+    // The thread locks the mutex, which holds this number.
+    fn lock(&mut self, thread: u8, op: Op<Number, ()>, number: u64) -> Result<MutexGuard, Fail> {
+        let reply = self.told(thread, op)?;
+        match (MutexGuard::from_reply(&reply), reply) {
+            (Some(guard), Reply::Locked(_, Number(held))) if held == number => Ok(guard),
+            _ => Err(Fail::from("the mutex isn't locked")),
+        }
+    }
+
+    // Main reads the lock, which holds this number.
+    fn read(&mut self, op: Op<Number, ()>, number: u64) -> Result<RwLockReadGuard, Fail> {
+        let reply = self.submit(op)?;
+        match (RwLockReadGuard::from_reply(&reply), reply) {
+            (Some(guard), Reply::ReadLocked(_, Number(held))) if held == number => Ok(guard),
+            _ => Err(Fail::from("the lock isn't read")),
+        }
+    }
+
+    // Main writes the lock, which holds this number.
+    fn write(&mut self, op: Op<Number, ()>, number: u64) -> Result<RwLockWriteGuard, Fail> {
+        let reply = self.submit(op)?;
+        match (RwLockWriteGuard::from_reply(&reply), reply) {
+            (Some(guard), Reply::WriteLocked(_, Number(held))) if held == number => Ok(guard),
+            _ => Err(Fail::from("the lock isn't written")),
+        }
+    }
+
+    // Main spawns a thread.
+    fn spawn(&mut self, op: Op<Number, ()>) -> Result<JoinHandle, Fail> {
+        let spawned = self.submit(op)?;
+        Ok(JoinHandle::from_reply(&spawned).ok_or("there is no thread")?)
+    }
+
+    // The thread asks which one it is.
+    fn current(&mut self, thread: u8) -> Result<Thread, Fail> {
+        let reply = self.told(thread, thread::current())?;
+        Ok(Thread::from_reply(&reply).ok_or("there is no thread")?)
+    }
+
+    // The operation would block.
+    fn blocks(&mut self, op: Op<Number, ()>) -> Result<(), Fail> {
+        match self.submit(op)? {
+            Reply::WouldBlock => Ok(()),
+            _ => Err(Fail::from("it doesn't block")),
+        }
+    }
+}
+
+#[test]
+fn a_mutex_is_locked_and_taken_apart(rt: HostRuntime) -> Result<(), Fail> {
+    let mut main = Two::new(rt.alloc())?;
+    let mutex = main.mutex(1)?;
+    let guard = main.lock(0, mutex.lock(), 1)?;
+    main.blocks(mutex.try_lock())?;
+    main.done(0, guard.release(Number(2)))?;
+    let guard = main.lock(0, mutex.try_lock(), 2)?;
+    main.done(0, guard.release(Number(3)))?;
+    assert_eq!(rt; main.number(mutex.get_mut())?, 3);
+    main.done(0, mutex.put(Number(4)))?;
+    assert_eq!(rt; main.number(mutex.into_inner())?, 4);
+    let failure = main.failure(mutex.lock())?;
+    assert_eq!(rt; failure, FailureKind::Misuse);
+    Ok(())
+}
+
+#[test]
+fn a_lock_is_read_and_written(rt: HostRuntime) -> Result<(), Fail> {
+    let mut main = Two::new(rt.alloc())?;
+    let made = main.submit(RwLock::new(Number(1)))?;
+    let lock = RwLock::from_reply(&made).ok_or("there is no lock")?;
+    let one = main.read(lock.read(), 1)?;
+    let other = main.read(lock.try_read(), 1)?;
+    main.blocks(lock.try_write())?;
+    main.done(0, one.release())?;
+    main.done(0, other.release())?;
+    let writer = main.write(lock.write(), 1)?;
+    main.blocks(lock.try_read())?;
+    main.done(0, writer.release(Number(2)))?;
+    let writer = main.write(lock.try_write(), 2)?;
+    main.done(0, writer.release(Number(3)))?;
+    assert_eq!(rt; main.number(lock.get_mut())?, 3);
+    main.done(0, lock.put(Number(4)))?;
+    assert_eq!(rt; main.number(lock.into_inner())?, 4);
+    let failure = main.failure(lock.read())?;
+    assert_eq!(rt; failure, FailureKind::Misuse);
+    Ok(())
+}
+
+#[test]
+fn a_thread_waits_for_a_notification(rt: HostRuntime) -> Result<(), Fail> {
+    let mut run = Two::new(rt.alloc())?;
+    let mutex = run.mutex(1)?;
+    let made = run.submit(Condvar::new())?;
+    let condvar = Condvar::from_reply(&made).ok_or("there is no condition variable")?;
+    run.spawn(thread::spawn(()))?;
+    let guard = run.lock(0, mutex.lock(), 1)?;
+    // main sleeps, and the other thread starts
+    run.told(1, condvar.wait(guard, Number(2)))?;
+    let guard = run.lock(1, mutex.lock(), 2)?;
+    run.done(1, guard.release(Number(3)))?;
+    run.done(1, condvar.notify_one())?;
+    let guard = run.lock(1, mutex.lock(), 3)?;
+    // now that sleeps, and main goes on
+    let guard = run.lock(0, condvar.wait(guard, Number(4)), 4)?;
+    run.done(0, condvar.notify_all())?;
+    let reply = run.told(1, condvar.wait_timeout(guard, Number(5)))?;
+    assert!(rt; WaitTimeoutResult::from_reply(&reply).is_none());
+    let guard = MutexGuard::from_reply(&reply).ok_or("the mutex isn't locked")?;
+    run.done(1, condvar.notify_all())?;
+    run.done(1, guard.release(Number(6)))?;
+    // the other thread parks, and main goes on
+    let reply = run.told(0, thread::park())?;
+    let waited = WaitTimeoutResult::from_reply(&reply).ok_or("it didn't wait")?;
+    assert!(rt; !waited.timed_out());
+    assert!(rt; matches!(reply, Reply::Waited(_, Number(6), false)));
+    Ok(())
+}
+
+#[test]
+fn a_notifier_is_waited_on(rt: HostRuntime) -> Result<(), Fail> {
+    let mut main = Two::new(rt.alloc())?;
+    let made = main.submit(Notify::new())?;
+    let notifier = Notify::from_reply(&made).ok_or("there is no notifier")?;
+    main.done(0, notifier.notify())?;
+    main.done(0, notifier.wait())
+}
+
+#[test]
+fn a_child_finds_its_name(rt: HostRuntime) -> Result<(), Fail> {
+    let mut run = Two::new(rt.alloc())?;
+    let main = run.current(0)?;
+    assert_eq!(rt; main.id(), ThreadId(0));
+    assert!(rt; main.name().is_none());
+    let handle = run.spawn(thread::Builder::new().name("foobar").spawn(()))?;
+    assert_eq!(rt; handle.thread().name(), Some("foobar"));
+    // main yields, and the child starts
+    run.told(1, thread::yield_now())?;
+    let child = run.current(1)?;
+    assert_eq!(rt; child.name(), Some("foobar"));
+    assert_eq!(rt; child.id(), handle.thread().id());
+    let mut text = String::new(rt.alloc());
+    write!(text, "{:?}", child.id())?;
+    assert_eq!(rt; text.as_str(), "ThreadId(1)");
+    Ok(())
+}
+
+#[test]
+fn an_unparked_thread_goes_on(rt: HostRuntime) -> Result<(), Fail> {
+    let mut run = Two::new(rt.alloc())?;
+    let main = run.current(0)?;
+    run.done(0, main.unpark())?;
+    run.done(0, thread::park())?;
+    run.spawn(thread::spawn(()))?;
+    run.told(1, thread::park())?;
+    run.done(1, main.unpark())?;
+    // the other thread yields, and main was told that it isn't parked any more
+    run.done(0, hint::spin_loop())?;
+    run.done(1, spin_loop_hint())?;
+    let failure = run.failure(hint::unreachable_unchecked())?;
+    assert_eq!(rt; failure, FailureKind::Unreachable);
+    Ok(())
+}
