@@ -4,6 +4,7 @@ use crate::bodies::cells::{ARC_COUNT, ARC_UNWRAP};
 use crate::rows;
 use loom::alloc::Track;
 use loom::cell::{Cell, ConstPtr, MutPtr, UnsafeCell};
+use loom::model::{Builder, Report};
 use loom::rt::execution::{Execution, Limits};
 use loom::rt::path::Path;
 use loom::sync::Arc;
@@ -11,10 +12,42 @@ use loom::{Choice, FailureKind, Op, Reply};
 use loom_objects::failure::Stop;
 use loom_objects::operation::Turn;
 use loom_scripts::number::Number;
-use loom_scripts::script::{Script, Step};
+use loom_scripts::script::{CellAccess, Script, Step, Value};
 use std::alloc::Global;
 use std::process::Abort;
 use std::test::Fail;
+
+// Main exchanges the data of two cells, the second of which a thread writes.
+static SWAP_BESIDE_A_WRITE: [Step; 12] = [
+    Step::NewCell(0, 1),
+    Step::NewCell(1, 2),
+    Step::Spawn(0, 8),
+    Step::SwapCells(0, 1),
+    Step::Join(0, 0),
+    Step::Finish(Value::Plain(0)),
+    Step::Exit,
+    Step::End,
+    Step::Cell(1, 0, CellAccess::Replace(Value::Plain(5))),
+    Step::Finish(Value::Plain(0)),
+    Step::Exit,
+    Step::End,
+];
+
+// Main exchanges the data of a cell and itself, which a thread writes, and finishes with what the cell holds then.
+static SWAP_WITH_ITSELF: [Step; 12] = [
+    Step::NewCell(0, 7),
+    Step::Spawn(0, 8),
+    Step::SwapCells(0, 0),
+    Step::Join(0, 0),
+    Step::Cell(0, 1, CellAccess::Get),
+    Step::Finish(Value::Held(1)),
+    Step::Exit,
+    Step::End,
+    Step::Cell(0, 0, CellAccess::Replace(Value::Plain(8))),
+    Step::Finish(Value::Plain(0)),
+    Step::Exit,
+    Step::End,
+];
 
 #[test]
 fn each_row_prints_its_line(rt: HostRuntime) {
@@ -188,6 +221,61 @@ fn a_cell_replies_what_was_there(rt: HostRuntime) -> Result<(), Fail> {
     assert_eq!(rt; main.number(one.into_inner())?, 4);
     let failure = main.failure(one.get())?;
     assert_eq!(rt; failure, FailureKind::Misuse);
+    Ok(())
+}
+
+#[test]
+fn cells_exchange_their_data(rt: HostRuntime) -> Result<(), Fail> {
+    let mut main = Alone::new(rt.alloc())?;
+    let made = main.submit(Cell::new(Number(1)))?;
+    let one = Cell::from_reply(&made).ok_or("there is no cell")?;
+    let made = main.submit(Cell::new(Number(2)))?;
+    let other = Cell::from_reply(&made).ok_or("there is no other cell")?;
+    main.done(one.swap(other))?;
+    assert_eq!(rt; main.number(one.get())?, 2);
+    assert_eq!(rt; main.number(other.get())?, 1);
+    main.done(one.swap(one))?;
+    assert_eq!(rt; main.number(one.get())?, 2);
+    let gone = Cell { number: 9 };
+    let failure = main.failure(one.swap(gone))?;
+    assert_eq!(rt; failure, FailureKind::Misuse);
+    Ok(())
+}
+
+#[test]
+fn a_swap_meets_an_open_read(rt: HostRuntime) -> Result<(), Fail> {
+    let mut main = Alone::new(rt.alloc())?;
+    let made = main.submit(Cell::new(Number(1)))?;
+    let one = Cell::from_reply(&made).ok_or("there is no cell")?;
+    let made = main.submit(UnsafeCell::new(Number(2)))?;
+    let other = UnsafeCell::from_reply(&made).ok_or("there is no other cell")?;
+    let (_reader, number) = main.read(other.get())?;
+    assert_eq!(rt; number, 2);
+    let failure = main.failure(one.swap(Cell {
+        number: other.number,
+    }))?;
+    assert_eq!(rt; failure, FailureKind::OpenAccess);
+    Ok(())
+}
+
+#[test]
+fn a_swap_writes_the_second_cell(rt: HostRuntime) -> Result<(), Fail> {
+    match Builder::new().check(rt.alloc(), &Script::new(&SWAP_BESIDE_A_WRITE))? {
+        Report::Failed { failure, .. } => {
+            assert_eq!(rt; failure.kind, FailureKind::Race);
+            Ok(())
+        }
+        _ => Err(Fail::from("it doesn't fail")),
+    }
+}
+
+#[test]
+fn a_cell_and_itself_are_not_written(rt: HostRuntime) -> Result<(), Fail> {
+    let runs = runs_of(rt.alloc(), &Script::new(&SWAP_WITH_ITSELF))?;
+    assert!(rt; !runs.is_empty());
+    for run in runs.as_slice() {
+        assert_eq!(rt; run.value, Number(8));
+    }
     Ok(())
 }
 
