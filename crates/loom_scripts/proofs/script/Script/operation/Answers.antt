@@ -24,3 +24,6 @@ returns-in-RwLock c = rw c.in-RwLock.is c.access_rwlock.ensures
 
 pub returns-in-Condvar : goal.returns-in-Condvar
 returns-in-Condvar c = rw c.in-Condvar.is c.access_condvar.ensures
+
+pub returns-in-SwapCells : goal.returns-in-SwapCells
+returns-in-SwapCells c = rw c.in-SwapCells.is c.swap_cells.ensures
