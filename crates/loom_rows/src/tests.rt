@@ -1,5 +1,4 @@
 mod cells;
-mod handles;
 mod lists;
 mod litmus;
 mod locks;

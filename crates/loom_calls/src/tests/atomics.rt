@@ -1,5 +1,4 @@
-//! Handles by their paths in loom, at the execution of one run.
-use crate::bodies::atomics::{NUM_A, NUM_B};
+//! Atomics and fences.
 use loom::rt::execution::{Execution, Limits};
 use loom::rt::path::Path;
 use loom::sync::atomic::Ordering::{Acquire, Release, SeqCst};
@@ -12,6 +11,10 @@ use loom_views::rt::num::Numeric;
 use std::alloc::Global;
 use std::process::Abort;
 use std::test::Fail;
+
+const NUM_A: u64 = 11641914933775430211;
+
+const NUM_B: u64 = 13209405719799650717;
 
 // A run of main alone.
 #[derive(Drop)]

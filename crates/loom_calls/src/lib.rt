@@ -1,0 +1,6 @@
+//! Each call of the handles once, at the execution of one run and with ample memory. There are tests alone here: they stand apart
+//! from those of the rows, so that both can be proved side by side.
+#![tactic(auto)]
+
+#[cfg(test)]
+mod tests;

@@ -1,0 +1,3 @@
+mod atomics;
+mod cells;
+mod locks;
