@@ -1,12 +1,5 @@
 pub mod Lists
 pub mod Showing
 pub mod Moving
-pub mod Leading
-pub mod Changing
-pub mod Entering
-pub mod Telling
-pub mod Rousing
-pub mod Resuming
 pub mod Leaking
 pub mod Offering
-pub mod Parking

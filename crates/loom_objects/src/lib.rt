@@ -1,4 +1,4 @@
-//! Operations and their replies, and what they do to the threads and objects of a run.
+//! Operations and their replies; the threads and objects of a run, and the rules of what operations do to them.
 #![tactic(auto)]
 
 pub mod body;

@@ -1,17 +1,9 @@
 //! The state of a run.
-mod atomics;
-mod cells;
-mod condvars;
-mod counts;
+pub mod ending;
 pub mod location;
-mod locks;
-mod notifiers;
 pub mod object;
-mod parking;
+pub mod offers;
+pub mod pending;
 pub mod run;
-mod rwlocks;
-pub mod steps;
 pub mod sync;
 pub mod thread;
-mod threads;
-mod tracks;

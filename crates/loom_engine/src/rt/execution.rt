@@ -9,10 +9,13 @@ ghost use Rattle.loom_engine.specs.Machine as machine;
 ghost use Rattle.loom_engine.specs.Routes.{Says, which_store};
 
 use crate::rt::path::Path;
+use loom_atomics::atomics::read;
+use loom_machine::steps::{begin, resume};
 use loom_objects::data::Data;
 use loom_objects::failure::{Failure, Stop, failed};
 use loom_objects::operation::{Op, Turn};
 use loom_objects::rt::run::{Entry, Passed, Resumed, RunState};
+use loom_threads::notifiers::enter_wait;
 use loom_views::rt::failure::FailureKind;
 use std::alloc::{AllocError, Global};
 use std::marker::Model;
@@ -106,7 +109,7 @@ fn hand_over<D: Data>(
     ensures steps { OnOk result (run.old.steps_left ≡ run.new.steps_left + 1) }
     ensures same { (path.new.max_branches ≡ path.old.max_branches) × (path.new.given ≡ path.old.given) }
 {
-    match run.begin(op) {
+    match begin(run, op) {
         Err(stop) => Err(stop),
         Ok(Entry::Answered(reply)) => Ok(Turn::Reply(run.active, reply)),
         Ok(Entry::AtBranch) => schedule(run, path, FURTHER_BRANCHES),
@@ -124,7 +127,7 @@ fn wait<D: Data>(run: &mut RunState<D>, path: &mut Path, notifier: usize) -> Res
 {
     match path.branch_spurious() {
         Err(stop) => Err(stop),
-        Ok(is_spurious) => match run.enter_wait(is_spurious, notifier) {
+        Ok(is_spurious) => match enter_wait(run, is_spurious, notifier) {
             Err(stop) => Err(stop),
             Ok(()) => schedule(run, path, FURTHER_BRANCHES),
         },
@@ -177,12 +180,12 @@ fn go_on<D: Data>(run: &mut RunState<D>, path: &mut Path, thread: u8) -> Result<
     ensures steps { run.new.steps_left ≡ run.old.steps_left }
     ensures same { (path.new.max_branches ≡ path.old.max_branches) × (path.new.given ≡ path.old.given) }
 {
-    match run.resume(thread) {
+    match resume(run, thread) {
         Err(stop) => Err(stop),
         Ok(Resumed::Passed(passed)) => Ok(passed),
         Ok(Resumed::Load(load)) => match choose_slot(path, &load.readable) {
             Err(stop) => Err(stop),
-            Ok(slot) => match run.read(&load, slot) {
+            Ok(slot) => match read(run, &load, slot) {
                 Err(stop) => Err(stop),
                 Ok(turn) => Ok(Passed::Turn(turn)),
             },

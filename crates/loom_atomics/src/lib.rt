@@ -1,0 +1,4 @@
+//! What accesses to atomics and fences do.
+#![tactic(auto)]
+
+pub mod atomics;

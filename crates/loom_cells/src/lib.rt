@@ -1,0 +1,6 @@
+//! What cells, counted references and tracked values do.
+#![tactic(auto)]
+
+pub mod cells;
+pub mod counts;
+pub mod tracks;

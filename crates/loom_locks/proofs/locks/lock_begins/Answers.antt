@@ -1,0 +1,7 @@
+use Rattle.std.proofs.Common.{refl, rules}
+use Rattle.loom_objects.specs.Locks.{lock_begins}
+use Rattle.loom_objects.proofs.Showing.{keeps}
+use Rattle.loom_locks.proofs.locks.lock_begins.Goals as goal
+
+pub returns-clause-does : goal.returns-clause-does
+returns-clause-does g c = keeps (lock_begins c.args.number) _ _ _ refl (λ p. search rules)

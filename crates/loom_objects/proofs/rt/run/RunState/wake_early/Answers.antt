@@ -1,7 +1,0 @@
-use Rattle.std.proofs.Common.{refl, rules}
-use Rattle.loom_objects.specs.Notifiers.{wakes_early}
-use Rattle.loom_objects.proofs.Showing.{keeps}
-use Rattle.loom_objects.proofs.rt.run.RunState.wake_early.Goals as goal
-
-pub returns-clause-does : goal.returns-clause-does
-returns-clause-does g c = keeps (wakes_early c.args.number) _ _ _ refl (λ p. search rules)

@@ -1,7 +1,0 @@
-use Rattle.std.proofs.Common.{refl, rules}
-use Rattle.loom_objects.proofs.Entering.{with_muts}
-use Rattle.loom_objects.proofs.rt.run.RunState.with_mut.Goals as goal
-
-pub returns-in-Ok-clause-does : goal.returns-in-Ok-clause-does
-returns-in-Ok-clause-does g c =
-    rw c.set_atomic.ensures (with_muts c.args.self.now _ c.args.number c.in-Some.atomic (search rules) c.in-Ok.value refl c.in-Ok.ensures.shown)

@@ -1,0 +1,146 @@
+ghost use Rattle.std.specs.Prelude.{◌≡◌, None, Some, ◌<◌, map, IfSome};
+ghost use Rattle.std.specs.List.{position_from};
+ghost use Rattle.loom_objects.specs.Question.{AreSoundOffers};
+ghost use Rattle.loom_objects.specs.Steps as rules;
+ghost use Rattle.loom_objects.specs.Shown.{world_of};
+ghost use Rattle.loom_views.specs.Table.{Points};
+
+use crate::rt::run::RunState;
+use crate::rt::thread::{Ability, Offers, State, Thread};
+use loom_views::sequence::Sequence;
+
+fn ability_of(state: State) -> Ability
+    ensures { result ≡ rules.ability_of state }
+{
+    match state {
+        State::Runnable => Ability::Able,
+        State::Yielding => Ability::Yielding,
+        State::Blocked | State::Parked | State::Sleeping | State::Ended => Ability::Unable,
+    }
+}
+
+/// What the thread's state lets it do, and how often it has yielded.
+fn standing_at<D>(threads: &Sequence<Thread<D>>, place: usize) -> (Ability, u64)
+    ensures { result ≡ rules.standing_at threads.now place }
+{
+    if place >= threads.len() {
+        return (Ability::Unable, 0);
+    }
+    let thread = threads.at(place);
+    (ability_of(thread.state), thread.yields)
+}
+
+fn is_able(standing: (Ability, u64)) -> bool
+    ensures { result ≡ rules.is_able (Some standing) }
+{
+    matches!(standing.0, Ability::Able)
+}
+
+fn is_yielding(standing: (Ability, u64)) -> bool
+    ensures { result ≡ rules.is_yielding standing }
+{
+    matches!(standing.0, Ability::Yielding)
+}
+
+/// The better one of the best thread so far, with its yields, and this one: a thread that can go on and has yielded less.
+fn better(best: Option<(u8, u64)>, thread: u8, standing: (Ability, u64)) -> Option<(u8, u64)>
+    ensures { result ≡ rules.better best thread standing }
+{
+    if !is_able(standing) {
+        return best;
+    }
+    match best {
+        Some((_, least)) if least <= standing.1 => best,
+        _ => Some((thread, standing.1)),
+    }
+}
+
+/// Of the threads that can go on, the one with the fewest yields, the first on ties.
+fn fewest(standings: &[(Ability, u64); 5]) -> Option<u8>
+    ensures { result ≡ rules.fewest None 0 standings.now }
+{
+    let mut best = None;
+    for place in 0..5 {
+        best = better(best, place as u8, standings[place]);
+    }
+    match best {
+        Some((thread, _)) => Some(thread),
+        None => None,
+    }
+}
+
+/// The place of the first thread that has yielded.
+fn yielding_place(standings: &[(Ability, u64); 5]) -> Option<usize>
+    ensures first { result ≡ position_from rules.is_yielding 0 standings.now }
+    ensures within { IfSome result (λ thread. thread < 5) }
+{
+    standings.iter().position(|standing| is_yielding(*standing))
+}
+
+/// The active thread if it can go on, or else the one with the fewest yields that can, or else the first that has yielded.
+fn default_thread(active: u8, standings: &[(Ability, u64); 5]) -> Option<u8>
+    ensures { result ≡ rules.default_thread active standings.now }
+{
+    if active < 5 && is_able(standings[active as usize]) {
+        return Some(active);
+    }
+    if let Some(thread) = fewest(standings) {
+        return Some(thread);
+    }
+    match yielding_place(standings) {
+        Some(thread) => Some(thread as u8),
+        None => None,
+    }
+}
+
+fn ability_in(standing: (Ability, u64)) -> Ability
+    ensures { result ≡ rules.ability_in standing }
+{
+    standing.0
+}
+
+fn abilities(standings: &[(Ability, u64); 5]) -> [Ability; 5]
+    ensures { result ≡ map rules.ability_in standings.now }
+{
+    standings.map(ability_in)
+}
+
+/// The thread, if there is one, can go on.
+fn with_able(mut abilities: [Ability; 5], thread: Option<u8>) -> [Ability; 5]
+    ensures { result ≡ rules.with_able thread abilities }
+{
+    if let Some(thread) = thread {
+        if thread < 5 {
+            abilities[thread as usize] = Ability::Able;
+        }
+    }
+    abilities
+}
+
+impl<D: Drop> RunState<D> {
+    /// The five threads, as a schedule sees them.
+    fn standings(&self) -> [(Ability, u64); 5]
+        ensures { (points : Points) → result ≡ rules.standings (world_of points self.now) }
+    {
+        [
+            standing_at(&self.threads, 0),
+            standing_at(&self.threads, 1),
+            standing_at(&self.threads, 2),
+            standing_at(&self.threads, 3),
+            standing_at(&self.threads, 4),
+        ]
+    }
+
+    /// What the threads offer to a schedule, and which one goes on by itself.
+    pub fn offers(&self) -> Offers
+        ensures offers { (points : Points) → result ≡ rules.offers (world_of points self.now) }
+        ensures sound { AreSoundOffers result.default result.abilities }
+    {
+        let standings = self.standings();
+        let default = default_thread(self.active, &standings);
+        Offers {
+            default,
+            abilities: with_able(abilities(&standings), default),
+        }
+    }
+}

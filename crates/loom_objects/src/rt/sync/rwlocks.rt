@@ -1,0 +1,123 @@
+ghost use Rattle.std.specs.Prelude.{false, ◌≡◌, OnSome, IfNone, None, Some, true};
+ghost use Rattle.loom_objects.specs.Moves.{is_number};
+ghost use Rattle.loom_objects.specs.RwLocks as rwlocks;
+
+use crate::rt::sync::RwLock;
+use crate::rt::thread::Claim;
+use loom_views::rt::MAX_THREADS;
+
+impl<D: Drop> RwLock<D> {
+    /// How many guards for reading the thread has.
+    pub fn guards_of(&self, thread: u8) -> u64
+        ensures { result ≡ rwlocks.guards_of thread self.now }
+    {
+        match self.readers.get(thread as usize) {
+            Some(count) => *count,
+            None => 0,
+        }
+    }
+
+    /// The thread has so many guards for reading now.
+    pub fn set_guards(&mut self, thread: u8, count: u64)
+        ensures { self.new ≡ rwlocks.with_guards thread count self.old }
+    {
+        if (thread as usize) < MAX_THREADS {
+            self.readers[thread as usize] = count;
+        }
+    }
+
+    /// A guard of the thread for reading ends. Answers whether no thread has one then; None where this one has none, and then
+    /// nothing changes.
+    pub fn end_read(&mut self, thread: u8) -> Option<bool>
+        ensures result { result ≡ rwlocks.unread_after thread self.old }
+        ensures ended { OnSome result (self.new ≡ rwlocks.with_one_fewer thread self.old) }
+        ensures none { IfNone result (self.new ≡ self.old) }
+    {
+        let count = self.guards_of(thread);
+        if count == 0 {
+            return None;
+        }
+        self.set_guards(thread, count - 1);
+        Some(self.is_unread())
+    }
+
+    /// No thread has a guard for reading.
+    fn is_unread(&self) -> bool
+        ensures { result ≡ rwlocks.is_unread self.now }
+    {
+        self.readers.iter().all(|count| *count == 0)
+    }
+
+    /// A thread writes or some read.
+    fn is_held(&self) -> bool
+        ensures { result ≡ rwlocks.is_held self.now }
+    {
+        self.writer.is_some() || !self.is_unread()
+    }
+
+    /// A thread that takes the lock so can't have it now.
+    pub fn is_refused(&self, claim: Claim) -> bool
+        ensures { result ≡ rwlocks.is_refused claim self.now }
+    {
+        match claim {
+            Claim::Read => self.writer.is_some(),
+            Claim::TryRead => self.writer.is_some(),
+            Claim::Write => self.is_held(),
+            Claim::TryWrite => self.is_held(),
+        }
+    }
+
+    /// The thread writes from now on, and is given the data. None where that is out: then nothing changes.
+    pub fn hold(&mut self, thread: u8) -> Option<D>
+        ensures value { result ≡ self.old.value }
+        ensures held { OnSome result (self.new ≡ record self.old { writer = Some thread; value = None }) }
+        ensures none { IfNone result (self.new ≡ self.old) }
+    {
+        let value = self.value.take()?;
+        self.writer = Some(thread);
+        Some(value)
+    }
+
+    /// The thread has the data without holding it. None where it is held or the data is out: then nothing changes.
+    pub fn lend(&mut self, thread: u8) -> Option<D>
+        ensures value { result ≡ rwlocks.unlocked_value self.old }
+        ensures lent { OnSome result (self.new ≡ record self.old { value = None; lent = Some thread }) }
+        ensures none { IfNone result (self.new ≡ self.old) }
+    {
+        if self.is_held() {
+            return None;
+        }
+        let value = self.value.take()?;
+        self.lent = Some(thread);
+        Some(value)
+    }
+
+    /// The thread that has the data out puts some back. False where it hasn't; then nothing changes.
+    pub fn put(&mut self, thread: u8, value: D) -> bool
+        ensures result { result ≡ is_number self.old.lent thread }
+        ensures put { result ≡ true → self.new ≡ record self.old { value = Some value; lent = None } }
+        ensures same { result ≡ false → self.new ≡ self.old }
+    {
+        match self.lent {
+            Some(holder) if holder == thread => {}
+            _ => return false,
+        }
+        self.value = Some(value);
+        self.lent = None;
+        true
+    }
+
+    /// It is taken apart. None where it is held or the data is out: then nothing changes.
+    pub fn take_apart(&mut self) -> Option<D>
+        ensures value { result ≡ rwlocks.unlocked_value self.old }
+        ensures taken { OnSome result (self.new ≡ record self.old { value = None; is_taken = true }) }
+        ensures none { IfNone result (self.new ≡ self.old) }
+    {
+        if self.is_held() {
+            return None;
+        }
+        let value = self.value.take()?;
+        self.is_taken = true;
+        Some(value)
+    }
+}
