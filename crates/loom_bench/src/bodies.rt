@@ -3,8 +3,8 @@ ghost use Rattle.std.specs.Prelude.{◌<◌, ◌↔◌, IsSome, IfSome};
 ghost use Rattle.loom_bench.specs.Names.{IsName};
 
 use loom_ops::sync::atomic::Ordering;
-use loom_scripts::script::CondvarAccess::{NotifyOne, Wait};
-use loom_scripts::script::{Access, MutexAccess, RwLockAccess, Step, Value};
+use loom_scripts::step::CondvarAccess::{NotifyOne, Wait};
+use loom_scripts::step::{Access, MutexAccess, Object, RwLockAccess, Step, Value};
 use loom_views::rt::change::Change;
 
 const FINISH: Step = Step::Finish(Value::Plain(0));
@@ -17,8 +17,8 @@ const RELEASE: MutexAccess = MutexAccess::Release(Value::Plain(0));
 
 /// Two threads store to an atomic each, and load from the other's.
 static STORE_BUFFERING: [Step; 13] = [
-    Step::NewAtomic(0, 0),
-    Step::NewAtomic(1, 0),
+    Step::New(0, Object::AtomicU64(0)),
+    Step::New(1, Object::AtomicU64(0)),
     Step::Spawn(0, 8),
     Step::Store(1, Value::Plain(1), Ordering::Relaxed),
     Step::Load(0, 1, Ordering::Relaxed),
@@ -34,9 +34,9 @@ static STORE_BUFFERING: [Step; 13] = [
 
 /// Three threads, of which each loads twice from the next one's atomic, and then stores twice to its own.
 static THREE_THREADS: [Step; 22] = [
-    Step::NewAtomic(0, 0),
-    Step::NewAtomic(1, 0),
-    Step::NewAtomic(2, 0),
+    Step::New(0, Object::AtomicU64(0)),
+    Step::New(1, Object::AtomicU64(0)),
+    Step::New(2, Object::AtomicU64(0)),
     Step::Spawn(0, 10),
     Step::Spawn(1, 15),
     Step::Load(1, 0, Ordering::Relaxed),
@@ -60,7 +60,7 @@ static THREE_THREADS: [Step; 22] = [
 
 /// Three threads, of which each adds to one atomic twice. Main is one of them, and joins the others.
 static THREE_ADDS: [Step; 13] = [
-    Step::NewAtomic(0, 0),
+    Step::New(0, Object::AtomicU64(0)),
     Step::Spawn(0, 8),
     Step::Spawn(1, 8),
     Step::Access(0, 0, ADD),
@@ -77,8 +77,8 @@ static THREE_ADDS: [Step; 13] = [
 
 /// Two threads lock two mutexes in the same order, beside a main that joins them.
 static LOCKS_IN_TURN: [Step; 16] = [
-    Step::NewMutex(0, 0),
-    Step::NewMutex(1, 0),
+    Step::New(0, Object::Mutex(0)),
+    Step::New(1, Object::Mutex(0)),
     Step::Spawn(0, 9),
     Step::Spawn(1, 9),
     Step::Join(0, 0),
@@ -97,7 +97,7 @@ static LOCKS_IN_TURN: [Step; 16] = [
 
 /// Two threads add to what a lock holds, one after the other, beside a main that reads it. Main joins them.
 static WRITERS_BESIDE_A_READER: [Step; 15] = [
-    Step::NewRwLock(0, 0),
+    Step::New(0, Object::RwLock(0)),
     Step::Spawn(0, 10),
     Step::Spawn(1, 10),
     Step::RwLock(0, 0, RwLockAccess::Read),
@@ -116,8 +116,8 @@ static WRITERS_BESIDE_A_READER: [Step; 15] = [
 
 /// A thread leaves 1 in a mutex and notifies. Main waits for that unless the 1 is there, and joins the thread.
 static WAIT_AND_NOTIFY: [Step; 17] = [
-    Step::NewMutex(0, 0),
-    Step::NewCondvar(0),
+    Step::New(0, Object::Mutex(0)),
+    Step::New(0, Object::Condvar),
     Step::Spawn(0, 11),
     Step::Mutex(0, 0, LOCK),
     Step::Unless(0, 0, 6),

@@ -9,7 +9,8 @@ use crate::updates::Updater;
 use loom::Body;
 use loom::model::{Builder, Report};
 use loom_scripts::number::Number;
-use loom_scripts::script::{Script, Step};
+use loom_scripts::script::Script;
+use loom_scripts::step::Step;
 use std::io::{self, Write};
 
 /// A script, and how it is checked.

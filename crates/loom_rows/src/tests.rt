@@ -10,7 +10,7 @@ use loom::model::{Builder, Report};
 use loom::visitor::Visitor;
 use loom::{Body, Choice};
 use loom_scripts::number::Number;
-use loom_scripts::script::{Step, Value};
+use loom_scripts::step::{Step, Value};
 use std::alloc::{AllocError, Global};
 use std::test::Fail;
 

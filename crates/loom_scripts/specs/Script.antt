@@ -26,25 +26,27 @@ use Rattle.loom_ops.specs.declared.thread.Thread.{Thread}
 use Rattle.loom_ops.specs.Handles.{arc_handle, atomic_handle, unsafe_cell_handle, mutex_handle, rwlock_handle, condvar_handle, notify_handle, join_handle, thread_handle, named, track_handle, yielding}
 use Rattle.loom_scripts.specs.declared.number.Number.{Number}
 use Rattle.loom_scripts.specs.Number.{number}
-use Rattle.loom_scripts.specs.declared.script.Access.{Access}
-use Rattle.loom_scripts.specs.declared.script.Access.TheVariants as access
-use Rattle.loom_scripts.specs.declared.script.ArcAccess.{ArcAccess}
-use Rattle.loom_scripts.specs.declared.script.ArcAccess.TheVariants as on_arc
-use Rattle.loom_scripts.specs.declared.script.CellAccess.{CellAccess}
-use Rattle.loom_scripts.specs.declared.script.CellAccess.TheVariants as on_cell
-use Rattle.loom_scripts.specs.declared.script.CondvarAccess.{CondvarAccess}
-use Rattle.loom_scripts.specs.declared.script.CondvarAccess.TheVariants as on_condvar
-use Rattle.loom_scripts.specs.declared.script.MutexAccess.{MutexAccess}
-use Rattle.loom_scripts.specs.declared.script.MutexAccess.TheVariants as on_mutex
-use Rattle.loom_scripts.specs.declared.script.RwLockAccess.{RwLockAccess}
-use Rattle.loom_scripts.specs.declared.script.RwLockAccess.TheVariants as on_rwlock
+use Rattle.loom_scripts.specs.declared.step.Access.{Access}
+use Rattle.loom_scripts.specs.declared.step.Access.TheVariants as access
+use Rattle.loom_scripts.specs.declared.step.ArcAccess.{ArcAccess}
+use Rattle.loom_scripts.specs.declared.step.ArcAccess.TheVariants as on_arc
+use Rattle.loom_scripts.specs.declared.step.CellAccess.{CellAccess}
+use Rattle.loom_scripts.specs.declared.step.CellAccess.TheVariants as on_cell
+use Rattle.loom_scripts.specs.declared.step.CondvarAccess.{CondvarAccess}
+use Rattle.loom_scripts.specs.declared.step.CondvarAccess.TheVariants as on_condvar
+use Rattle.loom_scripts.specs.declared.step.MutexAccess.{MutexAccess}
+use Rattle.loom_scripts.specs.declared.step.MutexAccess.TheVariants as on_mutex
+use Rattle.loom_scripts.specs.declared.step.Object.{Object}
+use Rattle.loom_scripts.specs.declared.step.Object.TheVariants as object
+use Rattle.loom_scripts.specs.declared.step.RwLockAccess.{RwLockAccess}
+use Rattle.loom_scripts.specs.declared.step.RwLockAccess.TheVariants as on_rwlock
 use Rattle.loom_scripts.specs.declared.script.Script.{Script}
-use Rattle.loom_scripts.specs.declared.script.Step.{Step}
-use Rattle.loom_scripts.specs.declared.script.Step.TheVariants.{NewAtomic, NewAtomicOf, Load, Store, Access as Accessing, Fence, NewCell, Cell, SwapCells, NewArc, Arc, NewTrack, Track, NewMutex, Mutex, NewRwLock, RwLock, NewCondvar, Condvar, NewNotify, Notify, Await, Spawn, SpawnNamed, Join, Current, Park, Unpark, Yield, Finish, Exit, End, Unreachable, Fail, Jump, Unless}
-use Rattle.loom_scripts.specs.declared.script.TrackAccess.{TrackAccess}
-use Rattle.loom_scripts.specs.declared.script.TrackAccess.TheVariants as on_track
-use Rattle.loom_scripts.specs.declared.script.Value.{Value}
-use Rattle.loom_scripts.specs.declared.script.Value.TheVariants.{Plain, Held, Next, Both}
+use Rattle.loom_scripts.specs.declared.step.Step.{Step}
+use Rattle.loom_scripts.specs.declared.step.Step.TheVariants.{New, Load, Store, Access as Accessing, Fence, Cell, SwapCells, Arc, Track, Mutex, RwLock, Condvar, Notify, Await, Spawn, SpawnNamed, Join, Current, Park, Unpark, Yield, Finish, Exit, End, Unreachable, Fail, Jump, Unless}
+use Rattle.loom_scripts.specs.declared.step.TrackAccess.{TrackAccess}
+use Rattle.loom_scripts.specs.declared.step.TrackAccess.TheVariants as on_track
+use Rattle.loom_scripts.specs.declared.step.Value.{Value}
+use Rattle.loom_scripts.specs.declared.step.Value.TheVariants.{Plain, Held, Next, Both}
 
 -- four slots with nothing in them
 abbrev pub no_handles : {A : Type 0} → List (Option A)
@@ -163,23 +165,15 @@ landing s = landing_at s (step_at s.steps.now s.at)
 
 -- the slot, or the register, in which the step keeps what it is told
 abbrev pub slot_of : Step → ℕ
-slot_of (NewAtomic slot n) = slot
-slot_of (NewAtomicOf slot numbers n) = slot
+slot_of (New slot made) = slot
 slot_of (Load slot register order) = register
 slot_of (Accessing slot register todo) = register
-slot_of (NewCell slot n) = slot
 slot_of (Cell slot register todo) = register
-slot_of (NewArc slot n) = slot
 slot_of (Arc slot register todo) = register
-slot_of (NewTrack slot n) = slot
 slot_of (Track slot register todo) = register
-slot_of (NewMutex slot n) = slot
 slot_of (Mutex slot register todo) = register
-slot_of (NewRwLock slot n) = slot
 slot_of (RwLock slot register todo) = register
-slot_of (NewCondvar slot) = slot
 slot_of (Condvar slot register todo) = register
-slot_of (NewNotify slot) = slot
 slot_of (Spawn slot at) = slot
 slot_of (SpawnNamed slot at name) = slot
 slot_of (Join slot register) = register
@@ -278,28 +272,32 @@ condvar_op s on_condvar.NotifyAll number = OnCondvar (condvar.NotifyAll number) 
 abbrev pub name_of : Bor (List ℕ) → Name
 name_of text = record { text = text }
 
+-- the operation that makes the object
+abbrev pub creation : Object → Op Number Script
+creation (object.AtomicU64 n) = OnAtomic (atomic.New U64 n) None
+creation (object.Atomic numbers n) = OnAtomic (atomic.New numbers n) None
+creation (object.Cell n) = OnCell (cell.New (number n)) None
+creation (object.Arc n) = OnArc (arc.New (number n)) None
+creation (object.Track n) = OnTrack (track.New (number n)) None
+creation (object.Mutex n) = OnMutex (mutex.New (number n)) None
+creation (object.RwLock n) = OnRwLock (rwlock.New (number n)) None
+creation object.Condvar = OnCondvar condvar.New None
+creation object.Notify = OnNotify notify.New None
+
 -- the operation that the step makes
 abbrev pub operation : Script → Step → Op Number Script
-operation s (NewAtomic slot n) = OnAtomic (atomic.New U64 n) None
-operation s (NewAtomicOf slot numbers n) = OnAtomic (atomic.New numbers n) None
+operation s (New slot made) = creation made
 operation s (Load slot register order) = on (slot_at s.atomics slot) (λ a. OnAtomic (atomic.Load a.number order) None)
 operation s (Store slot value order) = on (slot_at s.atomics slot) (λ a. OnAtomic (atomic.Store a.number (number_of s value) order) None)
 operation s (Accessing slot register todo) = on (slot_at s.atomics slot) (λ a. OnAtomic (accesses s todo a.number) None)
 operation s (Fence order) = Fences order None
-operation s (NewCell slot n) = OnCell (cell.New (number n)) None
 operation s (Cell slot register todo) = on (slot_at s.cells slot) (λ c. OnCell (cell_op s todo c.number) None)
 operation s (SwapCells one other) = on (slot_at s.cells one) (λ c. on (slot_at s.cells other) (λ d. OnCell (cell.Swap c.number d.number) None))
-operation s (NewArc slot n) = OnArc (arc.New (number n)) None
 operation s (Arc slot register todo) = on (slot_at s.arcs slot) (λ a. OnArc (arc_op s todo a.number) None)
-operation s (NewTrack slot n) = OnTrack (track.New (number n)) None
 operation s (Track slot register todo) = on (slot_at s.tracks slot) (λ t. OnTrack (track_op s todo t.number) None)
-operation s (NewMutex slot n) = OnMutex (mutex.New (number n)) None
 operation s (Mutex slot register todo) = on (slot_at s.mutexes slot) (λ m. OnMutex (mutex_op s todo m.number) None)
-operation s (NewRwLock slot n) = OnRwLock (rwlock.New (number n)) None
 operation s (RwLock slot register todo) = on (slot_at s.rwlocks slot) (λ l. OnRwLock (rwlock_op s todo l.number) None)
-operation s (NewCondvar slot) = OnCondvar condvar.New None
 operation s (Condvar slot register todo) = on (slot_at s.condvars slot) (λ c. condvar_op s todo c.number)
-operation s (NewNotify slot) = OnNotify notify.New None
 operation s (Notify slot) = on (slot_at s.notifiers slot) (λ n. OnNotify (notify.Notify n.number) None)
 operation s (Await slot) = on (slot_at s.notifiers slot) (λ n. OnNotify (notify.Wait n.number) None)
 operation s (Spawn slot at) = OnThread (thread.Spawn (child s at) None) None

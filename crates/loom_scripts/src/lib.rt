@@ -3,3 +3,4 @@
 
 pub mod number;
 pub mod script;
+pub mod step;

@@ -1,9 +1,13 @@
 ghost use Rattle.std.specs.Prelude.{◌≡◌, IfOk};
-ghost use Rattle.loom_scripts.specs.Script.{started, next_of, number_in, register_for, known_in, put, put_number, kept, held, number_of, step_at, landing, slot_of, fetched, slot_at, child, accesses, data_of, cell_op, arc_op, track_op, mutex_op, rwlock_op, condvar_op, on, operation};
+ghost use Rattle.loom_scripts.specs.Script.{started, next_of, number_in, register_for, known_in, put, put_number, kept, held, number_of, step_at, landing, slot_of, fetched, slot_at, child, accesses, data_of, cell_op, arc_op, track_op, mutex_op, rwlock_op, condvar_op, on, creation, operation};
 
 use crate::number::Number;
+use crate::step::{
+    Access, ArcAccess, CellAccess, CondvarAccess, MutexAccess, Object, RwLockAccess, Step,
+    TrackAccess, Value,
+};
 use loom_objects::body::Body;
-use loom_objects::operation::{AtomicOp, CellOp, Exchange, Op, Reply};
+use loom_objects::operation::{AtomicOp, CellOp, NotifyOp, Op, Reply, ThreadOp};
 use loom_ops::alloc::Track;
 use loom_ops::cell::{Cell, ConstPtr, MutPtr, UnsafeCell};
 use loom_ops::sync::atomic::{AtomicU64, Ordering, fence};
@@ -13,190 +17,7 @@ use loom_ops::sync::{
 use loom_ops::thread::{self, JoinHandle, Thread};
 use loom_ops::{fail, hint};
 use loom_views::rt::change::Change;
-use loom_views::rt::num::Numbers;
 use std::alloc::AllocError;
-
-/// A number that a step makes. What it names is a register, of four, in which its thread keeps numbers; any other is 0.
-#[derive(Clone, Copy, Debug)]
-pub enum Value {
-    /// This number.
-    Plain(u64),
-    /// What the register holds.
-    Held(usize),
-    /// One more than the register holds; after the highest number comes 0.
-    Next(usize),
-    /// Ten times what the one register holds and what the other holds, as the lowest 64 bits of it.
-    Both(usize, usize),
-}
-
-/// What a step does with an atomic, beside loads and stores.
-#[derive(Clone, Copy, Debug)]
-pub enum Access {
-    /// A read-modify-write.
-    Update(Change, Ordering),
-    CompareExchange(Exchange),
-    /// The number that is expected, and the new one.
-    CompareAndSwap(u64, u64, Ordering),
-    UnsyncLoad,
-    IntoInner,
-    WithMut,
-    WithMutEnd(Value),
-}
-
-/// What a step does with a cell.
-#[derive(Clone, Copy, Debug)]
-pub enum CellAccess {
-    Read,
-    ReadEnd,
-    Deref,
-    Write,
-    /// Ends the write, with this number in the cell.
-    WriteEnd(Value),
-    IntoInner,
-    Get,
-    Replace(Value),
-}
-
-/// What a step does with a counted reference.
-#[derive(Clone, Copy, Debug)]
-pub enum ArcAccess {
-    Clone,
-    Drop,
-    Get,
-    GetMut,
-    Put(Value),
-    TryUnwrap,
-    StrongCount,
-}
-
-/// What a step does with a tracked value.
-#[derive(Clone, Copy, Debug)]
-pub enum TrackAccess {
-    GetRef,
-    GetMut,
-    Put(Value),
-    IntoInner,
-    Drop,
-}
-
-/// What a step does with a mutex.
-#[derive(Clone, Copy, Debug)]
-pub enum MutexAccess {
-    Lock,
-    TryLock,
-    /// Gives it free, with this number in it.
-    Release(Value),
-    GetMut,
-    Put(Value),
-    IntoInner,
-}
-
-/// What a step does with a read-write lock.
-#[derive(Clone, Copy, Debug)]
-pub enum RwLockAccess {
-    Read,
-    TryRead,
-    /// Ends one guard of the thread for reading.
-    ReadRelease,
-    Write,
-    TryWrite,
-    /// Ends the guard for writing, with this number in the lock.
-    WriteRelease(Value),
-    GetMut,
-    Put(Value),
-    IntoInner,
-}
-
-/// What a step does with a condition variable.
-#[derive(Clone, Copy, Debug)]
-pub enum CondvarAccess {
-    /// Waits with the mutex in this slot, which gets this number.
-    Wait(usize, Value),
-    /// The same, by the call that has a time.
-    WaitTimeout(usize, Value),
-    NotifyOne,
-    NotifyAll,
-}
-
-/// One step of a script. It names a slot, of four, in which its thread keeps handles, and a register for a number.
-#[derive(Clone, Copy, Debug)]
-pub enum Step {
-    /// Makes an atomic of 64 bits with this number, and keeps it in the slot.
-    NewAtomic(usize, u64),
-    /// Makes an atomic of this type with this number, and keeps it in the slot.
-    NewAtomicOf(usize, Numbers, u64),
-    /// Loads from the atomic in the slot, and keeps the number in the register.
-    Load(usize, usize, Ordering),
-    /// Stores into the atomic in the slot.
-    Store(usize, Value, Ordering),
-    /// Accesses the atomic in the slot, and keeps the number that it reads in the register; if a compare-exchange doesn't
-    /// exchange it, in the last register instead.
-    Access(usize, usize, Access),
-    Fence(Ordering),
-    /// Makes a cell with this number, and keeps it in the slot.
-    NewCell(usize, u64),
-    /// Accesses the cell in the slot, and keeps the number that it is told in the register.
-    Cell(usize, usize, CellAccess),
-    /// Exchanges the numbers of the cells in the two slots.
-    SwapCells(usize, usize),
-    /// Makes a counted reference to this number, and keeps it in the slot.
-    NewArc(usize, u64),
-    /// Accesses the counted reference in the slot, and keeps the number that it is told in the register; where others share
-    /// it, 1 in the last register instead.
-    Arc(usize, usize, ArcAccess),
-    /// Makes a tracked number, and keeps it in the slot.
-    NewTrack(usize, u64),
-    /// Accesses the tracked number in the slot, and keeps the number that it is told in the register.
-    Track(usize, usize, TrackAccess),
-    /// Makes a mutex with this number, and keeps it in the slot.
-    NewMutex(usize, u64),
-    /// Accesses the mutex in the slot, and keeps the number that it is told in the register; where a thread holds it, 1 in the
-    /// last register instead.
-    Mutex(usize, usize, MutexAccess),
-    /// Makes a read-write lock with this number, and keeps it in the slot.
-    NewRwLock(usize, u64),
-    /// Accesses the read-write lock in the slot, and keeps the number that it is told in the register; where it would wait, 1
-    /// in the last register instead.
-    RwLock(usize, usize, RwLockAccess),
-    /// Makes a condition variable, and keeps it in the slot.
-    NewCondvar(usize),
-    /// Accesses the condition variable in the slot, and keeps the number that it is told in the register.
-    Condvar(usize, usize, CondvarAccess),
-    /// Makes a notifier, and keeps it in the slot.
-    NewNotify(usize),
-    /// Notifies by the notifier in the slot.
-    Notify(usize),
-    /// Waits on the notifier in the slot.
-    Await(usize),
-    /// Keeps in the slot a thread that it starts at this step, with the objects and registers of this one.
-    Spawn(usize, usize),
-    /// The same, with this name.
-    SpawnNamed(usize, usize, &'static str),
-    /// Joins the thread in the slot, and keeps the number with which it finished in the register.
-    Join(usize, usize),
-    /// Keeps in the slot which thread this is.
-    Current(usize),
-    /// Waits for a token.
-    Park,
-    /// Gives a token to the thread in the slot: one that it spawned, or itself, or one that its spawner knew.
-    Unpark(usize),
-    /// Lets other threads go on first.
-    Yield,
-    /// Finishes with this number.
-    Finish(Value),
-    /// Gives the thread's locals back, after it finished.
-    Exit,
-    /// The thread's last operation, after it exited.
-    End,
-    /// Never is reached.
-    Unreachable,
-    /// The script's assertion fails. So does a step that finds no handle in its slot, or is beyond the script's end.
-    Fail,
-    /// Goes on at this step, which is no jump itself.
-    Jump(usize),
-    /// Goes on at this step if the register holds another number, and else at the next one. Neither is a jump itself.
-    Unless(usize, u64, usize),
-}
 
 /// A thread that runs a script: where it is, and the numbers and handles that it was given.
 #[derive(Clone, Copy)]
@@ -538,55 +359,73 @@ impl Script {
         }
     }
 
+    /// The notification by the notifier in the slot.
+    fn notify(&self, slot: usize) -> Op<Number, Script>
+        ensures { result ≡ on (slot_at self.now.notifiers slot) (λ n. Op.Notify (NotifyOp.Notify n.number) None) }
+    {
+        match slot_at(&self.notifiers, slot) {
+            Some(notifier) => notifier.notify(),
+            None => fail(),
+        }
+    }
+
+    /// The wait on the notifier in the slot.
+    fn wait(&self, slot: usize) -> Op<Number, Script>
+        ensures { result ≡ on (slot_at self.now.notifiers slot) (λ n. Op.Notify (NotifyOp.Wait n.number) None) }
+    {
+        match slot_at(&self.notifiers, slot) {
+            Some(notifier) => notifier.wait(),
+            None => fail(),
+        }
+    }
+
+    /// The join of the thread in the slot.
+    fn join(&self, slot: usize) -> Op<Number, Script>
+        ensures { result ≡ on (slot_at self.now.threads slot) (λ t. Op.Thread (ThreadOp.Join t.thread t.notifier) None) }
+    {
+        match slot_at(&self.threads, slot) {
+            Some(thread) => thread.join(),
+            None => fail(),
+        }
+    }
+
+    /// The token for the thread in the slot.
+    fn unpark(&self, slot: usize) -> Op<Number, Script>
+        ensures { result ≡ on (slot_at self.now.known slot) (λ t. Op.Thread (ThreadOp.Unpark t.id.0) None) }
+    {
+        match slot_at(&self.known, slot) {
+            Some(thread) => thread.unpark(),
+            None => fail(),
+        }
+    }
+
     /// The operation that the step makes.
     fn operation(&self, step: Step) -> Op<Number, Script>
         ensures { result ≡ operation self.now step }
     {
         match step {
-            Step::NewAtomic(_, number) => AtomicU64::new(number),
-            Step::NewAtomicOf(_, numbers, number) => {
-                Op::Atomic(AtomicOp::New(numbers, number), None)
-            }
+            Step::New(_, object) => creation(object),
             Step::Load(slot, _, order) => self.load(slot, order),
             Step::Store(slot, value, order) => self.store(slot, value, order),
             Step::Access(slot, _, access) => self.access(slot, access),
             Step::Fence(order) => fence(order),
-            Step::NewCell(_, number) => UnsafeCell::new(Number(number)),
             Step::Cell(slot, _, access) => self.access_cell(slot, access),
             Step::SwapCells(one, other) => self.swap_cells(one, other),
-            Step::NewArc(_, number) => Arc::new(Number(number)),
             Step::Arc(slot, _, access) => self.access_arc(slot, access),
-            Step::NewTrack(_, number) => Track::new(Number(number)),
             Step::Track(slot, _, access) => self.access_track(slot, access),
-            Step::NewMutex(_, number) => Mutex::new(Number(number)),
             Step::Mutex(slot, _, access) => self.access_mutex(slot, access),
-            Step::NewRwLock(_, number) => RwLock::new(Number(number)),
             Step::RwLock(slot, _, access) => self.access_rwlock(slot, access),
-            Step::NewCondvar(_) => Condvar::new(),
             Step::Condvar(slot, _, access) => self.access_condvar(slot, access),
-            Step::NewNotify(_) => Notify::new(),
-            Step::Notify(slot) => match slot_at(&self.notifiers, slot) {
-                Some(notifier) => notifier.notify(),
-                None => fail(),
-            },
-            Step::Await(slot) => match slot_at(&self.notifiers, slot) {
-                Some(notifier) => notifier.wait(),
-                None => fail(),
-            },
+            Step::Notify(slot) => self.notify(slot),
+            Step::Await(slot) => self.wait(slot),
             Step::Spawn(_, at) => thread::spawn(self.child(at)),
             Step::SpawnNamed(_, at, name) => {
                 thread::Builder::new().name(name).spawn(self.child(at))
             }
-            Step::Join(slot, _) => match slot_at(&self.threads, slot) {
-                Some(thread) => thread.join(),
-                None => fail(),
-            },
+            Step::Join(slot, _) => self.join(slot),
             Step::Current(_) => thread::current(),
             Step::Park => thread::park(),
-            Step::Unpark(slot) => match slot_at(&self.known, slot) {
-                Some(thread) => thread.unpark(),
-                None => fail(),
-            },
+            Step::Unpark(slot) => self.unpark(slot),
             Step::Yield => thread::yield_now(),
             Step::Finish(value) => thread::finish(self.data_of(value)),
             Step::Exit => thread::exit(),
@@ -594,6 +433,23 @@ impl Script {
             Step::Unreachable => hint::unreachable_unchecked(),
             Step::Fail | Step::Jump(_) | Step::Unless(..) => fail(),
         }
+    }
+}
+
+/// The operation that makes the object.
+fn creation(object: Object) -> Op<Number, Script>
+    ensures { result ≡ creation object }
+{
+    match object {
+        Object::AtomicU64(number) => AtomicU64::new(number),
+        Object::Atomic(numbers, number) => Op::Atomic(AtomicOp::New(numbers, number), None),
+        Object::Cell(number) => UnsafeCell::new(Number(number)),
+        Object::Arc(number) => Arc::new(Number(number)),
+        Object::Track(number) => Track::new(Number(number)),
+        Object::Mutex(number) => Mutex::new(Number(number)),
+        Object::RwLock(number) => RwLock::new(Number(number)),
+        Object::Condvar => Condvar::new(),
+        Object::Notify => Notify::new(),
     }
 }
 
@@ -693,15 +549,7 @@ fn slot_of(step: Step) -> usize
     ensures { result ≡ slot_of step }
 {
     match step {
-        Step::NewAtomic(slot, _)
-        | Step::NewAtomicOf(slot, ..)
-        | Step::NewCell(slot, _)
-        | Step::NewArc(slot, _)
-        | Step::NewTrack(slot, _)
-        | Step::NewMutex(slot, _)
-        | Step::NewRwLock(slot, _)
-        | Step::NewCondvar(slot)
-        | Step::NewNotify(slot)
+        Step::New(slot, _)
         | Step::Spawn(slot, _)
         | Step::SpawnNamed(slot, ..)
         | Step::Current(slot) => slot,

@@ -1,8 +1,8 @@
 //! The scripts of the rows about atomics and fences.
 use loom::sync::atomic::Ordering::{Relaxed, SeqCst};
 use loom_objects::operation::Exchange;
-use loom_scripts::script::Access::{CompareExchange, UnsyncLoad, Update, WithMut, WithMutEnd};
-use loom_scripts::script::{Step, Value};
+use loom_scripts::step::Access::{CompareExchange, UnsyncLoad, Update, WithMut, WithMutEnd};
+use loom_scripts::step::{Object, Step, Value};
 use loom_views::rt::change::Change::{Add, Max, Min, Nand, Xor};
 use loom_views::rt::num::Numbers;
 
@@ -17,32 +17,32 @@ const MINUS_99: u64 = 18446744073709551517;
 
 /// Main asserts what each function of a `u8` replies and leaves.
 pub static U8_FUNCTIONS: [Step; 34] = [
-    Step::NewAtomicOf(0, Numbers::U8, 67),
+    Step::New(0, Object::Atomic(Numbers::U8, 67)),
     Step::Access(0, 0, Update(Xor(157), SeqCst)),
     Step::Unless(0, 67, 33),
     Step::Load(0, 1, SeqCst),
     Step::Unless(1, 222, 33),
-    Step::NewAtomicOf(0, Numbers::U8, 67),
+    Step::New(0, Object::Atomic(Numbers::U8, 67)),
     Step::Access(0, 0, Update(Nand(157), SeqCst)),
     Step::Unless(0, 67, 33),
     Step::Load(0, 1, SeqCst),
     Step::Unless(1, 254, 33),
-    Step::NewAtomicOf(0, Numbers::U8, 67),
+    Step::New(0, Object::Atomic(Numbers::U8, 67)),
     Step::Access(0, 0, Update(Max(157), SeqCst)),
     Step::Unless(0, 67, 33),
     Step::Load(0, 1, SeqCst),
     Step::Unless(1, 157, 33),
-    Step::NewAtomicOf(0, Numbers::U8, 67),
+    Step::New(0, Object::Atomic(Numbers::U8, 67)),
     Step::Access(0, 0, Update(Min(157), SeqCst)),
     Step::Unless(0, 67, 33),
     Step::Load(0, 1, SeqCst),
     Step::Unless(1, 67, 33),
-    Step::NewAtomicOf(0, Numbers::U8, 67),
+    Step::New(0, Object::Atomic(Numbers::U8, 67)),
     Step::Access(0, 0, Update(Add(157), SeqCst)),
     Step::Unless(0, 67, 33),
     Step::Load(0, 1, SeqCst),
     Step::Unless(1, 224, 33),
-    Step::NewAtomicOf(0, Numbers::U8, 255),
+    Step::New(0, Object::Atomic(Numbers::U8, 255)),
     Step::Access(0, 0, Update(Add(1), SeqCst)),
     Step::Unless(0, 255, 33),
     Step::Load(0, 1, SeqCst),
@@ -55,12 +55,12 @@ pub static U8_FUNCTIONS: [Step; 34] = [
 
 /// Main asserts which of 67 and -99 is the larger `i8`, and which the smaller.
 pub static I8_FUNCTIONS: [Step; 14] = [
-    Step::NewAtomicOf(0, Numbers::I8, 67),
+    Step::New(0, Object::Atomic(Numbers::I8, 67)),
     Step::Access(0, 0, Update(Max(MINUS_99), SeqCst)),
     Step::Unless(0, 67, 13),
     Step::Load(0, 1, SeqCst),
     Step::Unless(1, 67, 13),
-    Step::NewAtomicOf(0, Numbers::I8, 67),
+    Step::New(0, Object::Atomic(Numbers::I8, 67)),
     Step::Access(0, 0, Update(Min(MINUS_99), SeqCst)),
     Step::Unless(0, 67, 13),
     Step::Load(0, 1, SeqCst),
@@ -73,7 +73,7 @@ pub static I8_FUNCTIONS: [Step; 14] = [
 
 /// Main asserts that the nand of true and true replies true and leaves false.
 pub static BOOL_NAND: [Step; 9] = [
-    Step::NewAtomicOf(0, Numbers::Bool, 1),
+    Step::New(0, Object::Atomic(Numbers::Bool, 1)),
     Step::Access(0, 0, Update(Nand(1), SeqCst)),
     Step::Unless(0, 1, 8),
     Step::Load(0, 1, SeqCst),
@@ -87,7 +87,7 @@ pub static BOOL_NAND: [Step; 9] = [
 /// Of two exchanges of a number, the first expects another one and fails. Main asserts that, and finishes with what is loaded
 /// after the second (loom's `tests/atomic_int.rs`).
 pub static COMPARE_EXCHANGE: [Step; 10] = [
-    Step::NewAtomic(0, NUM_A),
+    Step::New(0, Object::AtomicU64(NUM_A)),
     Step::Access(0, 0, CompareExchange(FAILS)),
     Step::Unless(3, NUM_A, 9),
     Step::Access(0, 1, CompareExchange(SUCCEEDS)),
@@ -115,7 +115,7 @@ const SUCCEEDS: Exchange = Exchange {
 
 /// A thread loads without synchronizing, beside a store of main (loom's `tests/atomic.rs`).
 pub static UNSYNC_RACE: [Step; 11] = [
-    Step::NewAtomic(0, 0),
+    Step::New(0, Object::AtomicU64(0)),
     Step::Spawn(0, 7),
     Step::Store(0, Value::Plain(1), Relaxed),
     Step::Join(0, 0),
@@ -130,7 +130,7 @@ pub static UNSYNC_RACE: [Step; 11] = [
 
 /// Main loads while its own mutation is open.
 pub static LOAD_IN_WITH_MUT: [Step; 7] = [
-    Step::NewAtomic(0, 0),
+    Step::New(0, Object::AtomicU64(0)),
     Step::Access(0, 0, WithMut),
     Step::Load(0, 0, SeqCst),
     Step::Access(0, 0, WithMutEnd(Value::Plain(0))),
@@ -149,7 +149,7 @@ pub static RELAXED_FENCE: [Step; 4] = [
 
 /// Main loads without synchronizing, without end.
 pub static UNSYNC_LOAD_FOREVER: [Step; 3] = [
-    Step::NewAtomic(0, 0),
+    Step::New(0, Object::AtomicU64(0)),
     Step::Access(0, 0, UnsyncLoad),
     Step::Jump(1),
 ];
@@ -157,8 +157,8 @@ pub static UNSYNC_LOAD_FOREVER: [Step; 3] = [
 /// Two threads set a truth value each, and then load the other's, with a fence between. Main is one of them, and finishes with
 /// ten times what the other thread loaded and what it loaded itself (loom's `tests/fence.rs`).
 pub static SB_FENCES: [Step; 16] = [
-    Step::NewAtomicOf(0, Numbers::Bool, 0),
-    Step::NewAtomicOf(1, Numbers::Bool, 0),
+    Step::New(0, Object::Atomic(Numbers::Bool, 0)),
+    Step::New(1, Object::Atomic(Numbers::Bool, 0)),
     Step::Spawn(0, 10),
     Step::Store(1, Value::Plain(1), Relaxed),
     Step::Fence(SeqCst),
@@ -178,7 +178,7 @@ pub static SB_FENCES: [Step; 16] = [
 /// Two threads add 1 to the same number. Main is one of them, and finishes with ten times what the other thread read and what
 /// it read itself (loom's `tests/atomic.rs`).
 pub static FETCH_ADD_ATOMIC: [Step; 11] = [
-    Step::NewAtomic(0, 0),
+    Step::New(0, Object::AtomicU64(0)),
     Step::Spawn(0, 7),
     Step::Access(0, 1, Update(Add(1), Relaxed)),
     Step::Join(0, 0),
@@ -193,7 +193,7 @@ pub static FETCH_ADD_ATOMIC: [Step; 11] = [
 
 /// Three threads whose stores and loads come to two stores with equal places in the modification order.
 pub static ORDERS_EQUAL: [Step; 17] = [
-    Step::NewAtomic(0, 0),
+    Step::New(0, Object::AtomicU64(0)),
     Step::Spawn(0, 8),
     Step::Store(0, Value::Plain(3), Relaxed),
     Step::Spawn(1, 12),

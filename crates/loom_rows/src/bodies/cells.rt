@@ -1,13 +1,13 @@
 //! The scripts of the rows about cells, counted references and tracked values.
 use loom::sync::atomic::Ordering::{Acquire, Release};
-use loom_scripts::script::CellAccess::{Read, ReadEnd, Write, WriteEnd};
-use loom_scripts::script::{ArcAccess, Step, Value};
+use loom_scripts::step::CellAccess::{Read, ReadEnd, Write, WriteEnd};
+use loom_scripts::step::{ArcAccess, Object, Step, Value};
 
 /// A thread writes a cell and releases that by an atomic. Main reads the cell where it acquires that, before and after it joins
 /// the thread, and asserts what it reads (loom's `tests/unsafe_cell.rs`).
 pub static ATOMIC_CAUSALITY_SUCCESS: [Step; 24] = [
-    Step::NewCell(0, 0),
-    Step::NewAtomic(0, 0),
+    Step::New(0, Object::Cell(0)),
+    Step::New(0, Object::AtomicU64(0)),
     Step::Spawn(0, 18),
     Step::Load(0, 0, Acquire),
     Step::Unless(0, 1, 8),
@@ -34,8 +34,8 @@ pub static ATOMIC_CAUSALITY_SUCCESS: [Step; 24] = [
 
 /// The same, but main reads the cell without looking at the atomic (loom's `tests/unsafe_cell.rs`).
 pub static ATOMIC_CAUSALITY_FAIL: [Step; 20] = [
-    Step::NewCell(0, 0),
-    Step::NewAtomic(0, 0),
+    Step::New(0, Object::Cell(0)),
+    Step::New(0, Object::AtomicU64(0)),
     Step::Spawn(0, 14),
     Step::Cell(0, 1, Read),
     Step::Unless(1, 123, 13),
@@ -58,7 +58,7 @@ pub static ATOMIC_CAUSALITY_FAIL: [Step; 20] = [
 
 /// Main and a thread both write a cell (loom's `tests/unsafe_cell.rs`).
 pub static UNSAFE_CELL_RACE_MUT_MUT_1: [Step; 17] = [
-    Step::NewCell(0, 1),
+    Step::New(0, Object::Cell(1)),
     Step::Spawn(0, 12),
     Step::Cell(0, 0, Write),
     Step::Cell(0, 0, WriteEnd(Value::Next(0))),
@@ -79,7 +79,7 @@ pub static UNSAFE_CELL_RACE_MUT_MUT_1: [Step; 17] = [
 
 /// Two threads both write a cell (loom's `tests/unsafe_cell.rs`).
 pub static UNSAFE_CELL_RACE_MUT_MUT_2: [Step; 17] = [
-    Step::NewCell(0, 1),
+    Step::New(0, Object::Cell(1)),
     Step::Spawn(0, 12),
     Step::Spawn(1, 12),
     Step::Join(0, 1),
@@ -100,7 +100,7 @@ pub static UNSAFE_CELL_RACE_MUT_MUT_2: [Step; 17] = [
 
 /// A thread writes a cell that main reads (loom's `tests/unsafe_cell.rs`).
 pub static UNSAFE_CELL_RACE_MUT_IMMUT_1: [Step; 18] = [
-    Step::NewCell(0, 1),
+    Step::New(0, Object::Cell(1)),
     Step::Spawn(0, 12),
     Step::Cell(0, 0, Read),
     Step::Cell(0, 0, ReadEnd),
@@ -122,7 +122,7 @@ pub static UNSAFE_CELL_RACE_MUT_IMMUT_1: [Step; 18] = [
 
 /// A thread reads a cell that main writes (loom's `tests/unsafe_cell.rs`).
 pub static UNSAFE_CELL_RACE_MUT_IMMUT_2: [Step; 18] = [
-    Step::NewCell(0, 1),
+    Step::New(0, Object::Cell(1)),
     Step::Spawn(0, 13),
     Step::Cell(0, 0, Write),
     Step::Cell(0, 0, WriteEnd(Value::Next(0))),
@@ -144,7 +144,7 @@ pub static UNSAFE_CELL_RACE_MUT_IMMUT_2: [Step; 18] = [
 
 /// The first of two threads writes a cell that the second one reads (loom's `tests/unsafe_cell.rs`).
 pub static UNSAFE_CELL_RACE_MUT_IMMUT_3: [Step; 23] = [
-    Step::NewCell(0, 1),
+    Step::New(0, Object::Cell(1)),
     Step::Spawn(0, 12),
     Step::Spawn(1, 18),
     Step::Join(0, 1),
@@ -171,7 +171,7 @@ pub static UNSAFE_CELL_RACE_MUT_IMMUT_3: [Step; 23] = [
 
 /// The second of two threads writes a cell that the first one reads (loom's `tests/unsafe_cell.rs`).
 pub static UNSAFE_CELL_RACE_MUT_IMMUT_4: [Step; 23] = [
-    Step::NewCell(0, 1),
+    Step::New(0, Object::Cell(1)),
     Step::Spawn(0, 12),
     Step::Spawn(1, 17),
     Step::Join(0, 1),
@@ -198,7 +198,7 @@ pub static UNSAFE_CELL_RACE_MUT_IMMUT_4: [Step; 23] = [
 
 /// The same, where the second one reads it before it writes (loom's `tests/unsafe_cell.rs`).
 pub static UNSAFE_CELL_RACE_MUT_IMMUT_5: [Step; 26] = [
-    Step::NewCell(0, 1),
+    Step::New(0, Object::Cell(1)),
     Step::Spawn(0, 12),
     Step::Spawn(1, 17),
     Step::Join(0, 1),
@@ -228,7 +228,7 @@ pub static UNSAFE_CELL_RACE_MUT_IMMUT_5: [Step; 26] = [
 
 /// Main writes a cell, then a thread, which it joins, and then main again (loom's `tests/unsafe_cell.rs`).
 pub static UNSAFE_CELL_OK_1: [Step; 19] = [
-    Step::NewCell(0, 1),
+    Step::New(0, Object::Cell(1)),
     Step::Cell(0, 0, Write),
     Step::Cell(0, 0, WriteEnd(Value::Next(0))),
     Step::Unless(0, 1, 12),
@@ -251,7 +251,7 @@ pub static UNSAFE_CELL_OK_1: [Step; 19] = [
 
 /// The same, where each of them reads the cell first (loom's `tests/unsafe_cell.rs`).
 pub static UNSAFE_CELL_OK_2: [Step; 28] = [
-    Step::NewCell(0, 1),
+    Step::New(0, Object::Cell(1)),
     Step::Cell(0, 0, Read),
     Step::Cell(0, 0, ReadEnd),
     Step::Unless(0, 1, 18),
@@ -283,7 +283,7 @@ pub static UNSAFE_CELL_OK_2: [Step; 28] = [
 
 /// Main, a thread and a thread of that one read a cell. Main writes it after they were joined (loom's `tests/unsafe_cell.rs`).
 pub static UNSAFE_CELL_OK_3: [Step; 30] = [
-    Step::NewCell(0, 1),
+    Step::New(0, Object::Cell(1)),
     Step::Spawn(0, 13),
     Step::Cell(0, 0, Read),
     Step::Cell(0, 0, ReadEnd),
@@ -317,8 +317,8 @@ pub static UNSAFE_CELL_OK_3: [Step; 30] = [
 
 /// A thread writes a cell after it released an atomic. Main writes the cell where it acquires that (loom's `tests/unsafe_cell.rs`).
 pub static UNSAFE_CELL_ACCESS_AFTER_SYNC: [Step; 16] = [
-    Step::NewAtomic(0, 0),
-    Step::NewCell(0, 0),
+    Step::New(0, Object::AtomicU64(0)),
+    Step::New(0, Object::Cell(0)),
     Step::Spawn(0, 10),
     Step::Load(0, 0, Acquire),
     Step::Unless(0, 1, 7),
@@ -337,7 +337,7 @@ pub static UNSAFE_CELL_ACCESS_AFTER_SYNC: [Step; 16] = [
 
 /// Main reads a cell while it writes it.
 pub static READ_IN_WRITE: [Step; 8] = [
-    Step::NewCell(0, 0),
+    Step::New(0, Object::Cell(0)),
     Step::Cell(0, 0, Write),
     Step::Cell(0, 0, Read),
     Step::Cell(0, 0, ReadEnd),
@@ -349,7 +349,7 @@ pub static READ_IN_WRITE: [Step; 8] = [
 
 /// Main makes a counted reference and doesn't drop it (loom's `tests/arc.rs`).
 pub static DETECT_MEM_LEAK: [Step; 4] = [
-    Step::NewArc(0, 0),
+    Step::New(0, Object::Arc(0)),
     Step::Finish(Value::Plain(0)),
     Step::Exit,
     Step::End,
@@ -357,7 +357,7 @@ pub static DETECT_MEM_LEAK: [Step; 4] = [
 
 /// Main makes a counted reference and clones it, asserts that there are two, and drops both. It finishes with the value.
 pub static ARC_COUNT: [Step; 10] = [
-    Step::NewArc(0, 7),
+    Step::New(0, Object::Arc(7)),
     Step::Arc(0, 0, ArcAccess::Clone),
     Step::Arc(0, 0, ArcAccess::StrongCount),
     Step::Unless(0, 2, 9),
@@ -371,7 +371,7 @@ pub static ARC_COUNT: [Step; 10] = [
 
 /// Main makes a counted reference, takes it apart, and finishes with the value.
 pub static ARC_UNWRAP: [Step; 5] = [
-    Step::NewArc(0, 7),
+    Step::New(0, Object::Arc(7)),
     Step::Arc(0, 0, ArcAccess::TryUnwrap),
     Step::Finish(Value::Held(0)),
     Step::Exit,
@@ -380,8 +380,8 @@ pub static ARC_UNWRAP: [Step; 5] = [
 
 /// Main makes a tracked value and then a counted reference, and drops neither.
 pub static TRACK_THEN_ARC: [Step; 5] = [
-    Step::NewTrack(0, 0),
-    Step::NewArc(0, 0),
+    Step::New(0, Object::Track(0)),
+    Step::New(0, Object::Arc(0)),
     Step::Finish(Value::Plain(0)),
     Step::Exit,
     Step::End,
@@ -389,8 +389,8 @@ pub static TRACK_THEN_ARC: [Step; 5] = [
 
 /// Main makes a counted reference and then a tracked value, and drops neither.
 pub static ARC_THEN_TRACK: [Step; 5] = [
-    Step::NewArc(0, 0),
-    Step::NewTrack(0, 0),
+    Step::New(0, Object::Arc(0)),
+    Step::New(0, Object::Track(0)),
     Step::Finish(Value::Plain(0)),
     Step::Exit,
     Step::End,

@@ -1,19 +1,19 @@
 //! The scripts of the rows about locks, condition variables, notifiers and threads that wait for one another.
 use loom::sync::atomic::Ordering::Relaxed;
-use loom_scripts::script::CondvarAccess::{NotifyAll, NotifyOne, Wait};
-use loom_scripts::script::{MutexAccess, RwLockAccess, Step, Value};
+use loom_scripts::step::CondvarAccess::{NotifyAll, NotifyOne, Wait};
+use loom_scripts::step::{MutexAccess, Object, RwLockAccess, Step, Value};
 
 const FINISH: Step = Step::Finish(Value::Plain(7));
 
 /// Main releases a mutex that it never locked.
 pub static RELEASE_UNLOCKED: [Step; 2] = [
-    Step::NewMutex(0, 0),
+    Step::New(0, Object::Mutex(0)),
     Step::Mutex(0, 0, MutexAccess::Release(Value::Plain(0))),
 ];
 
 /// Main takes the data of a mutex out, and then locks the mutex.
 pub static LOCK_WHILE_OUT: [Step; 3] = [
-    Step::NewMutex(0, 0),
+    Step::New(0, Object::Mutex(0)),
     Step::Mutex(0, 0, MutexAccess::GetMut),
     Step::Mutex(0, 0, MutexAccess::Lock),
 ];
@@ -21,7 +21,7 @@ pub static LOCK_WHILE_OUT: [Step; 3] = [
 /// Two threads each add 1 to what a mutex holds. Main joins them, takes the mutex apart, and asserts that it held 2 (loom's
 /// `tests/mutex.rs`).
 pub static MUTEX_INTO_INNER: [Step; 16] = [
-    Step::NewMutex(0, 0),
+    Step::New(0, Object::Mutex(0)),
     Step::Spawn(0, 11),
     Step::Spawn(1, 11),
     Step::Join(0, 1),
@@ -41,7 +41,7 @@ pub static MUTEX_INTO_INNER: [Step; 16] = [
 
 /// Main takes two guards for reading of a lock, and ends both.
 pub static RWLOCK_READ_TWICE: [Step; 8] = [
-    Step::NewRwLock(0, 1),
+    Step::New(0, Object::RwLock(1)),
     Step::RwLock(0, 0, RwLockAccess::Read),
     Step::RwLock(0, 0, RwLockAccess::Read),
     Step::RwLock(0, 0, RwLockAccess::ReadRelease),
@@ -53,7 +53,7 @@ pub static RWLOCK_READ_TWICE: [Step; 8] = [
 
 /// Main writes a lock, and asserts that it can't be written a second time (loom's `tests/rwlock.rs`).
 pub static RWLOCK_WRITE_THEN_TRY_WRITE: [Step; 9] = [
-    Step::NewRwLock(0, 1),
+    Step::New(0, Object::RwLock(1)),
     Step::RwLock(0, 0, RwLockAccess::Write),
     Step::RwLock(0, 0, RwLockAccess::TryWrite),
     Step::Unless(3, 1, 8),
@@ -66,7 +66,7 @@ pub static RWLOCK_WRITE_THEN_TRY_WRITE: [Step; 9] = [
 
 /// A thread ends a guard for reading that main has.
 pub static READ_GUARD_OF_ANOTHER: [Step; 5] = [
-    Step::NewRwLock(0, 0),
+    Step::New(0, Object::RwLock(0)),
     Step::RwLock(0, 0, RwLockAccess::Read),
     Step::Spawn(0, 4),
     Step::Join(0, 0),
@@ -76,8 +76,8 @@ pub static READ_GUARD_OF_ANOTHER: [Step; 5] = [
 /// Main writes a lock, and stores 1 into an atomic before it leaves 1 in the lock. Two threads read both under the lock, and assert
 /// that both are 0 or both 1.
 pub static RWLOCK_WRITER_AND_READERS: [Step; 24] = [
-    Step::NewRwLock(0, 0),
-    Step::NewAtomic(0, 0),
+    Step::New(0, Object::RwLock(0)),
+    Step::New(0, Object::AtomicU64(0)),
     Step::Spawn(0, 11),
     Step::Spawn(1, 11),
     Step::RwLock(0, 0, RwLockAccess::Write),
@@ -104,8 +104,8 @@ pub static RWLOCK_WRITER_AND_READERS: [Step; 24] = [
 
 /// Main waits on a condition variable that nobody notifies.
 pub static CONDVAR_ALONE: [Step; 4] = [
-    Step::NewMutex(0, 0),
-    Step::NewCondvar(0),
+    Step::New(0, Object::Mutex(0)),
+    Step::New(0, Object::Condvar),
     Step::Mutex(0, 0, MutexAccess::Lock),
     Step::Condvar(0, 0, Wait(0, Value::Plain(0))),
 ];
@@ -114,16 +114,16 @@ pub static CONDVAR_ALONE: [Step; 4] = [
 pub static CONDVAR_WITH_TOKEN: [Step; 6] = [
     Step::Current(0),
     Step::Unpark(0),
-    Step::NewMutex(0, 0),
-    Step::NewCondvar(0),
+    Step::New(0, Object::Mutex(0)),
+    Step::New(0, Object::Condvar),
     Step::Mutex(0, 0, MutexAccess::Lock),
     Step::Condvar(0, 0, Wait(0, Value::Plain(0))),
 ];
 
 /// A thread leaves 7 in a mutex and notifies. Main waits for that unless the 7 is there, and asserts that it finds it.
 pub static CONDVAR_HANDS_OVER: [Step; 19] = [
-    Step::NewMutex(0, 0),
-    Step::NewCondvar(0),
+    Step::New(0, Object::Mutex(0)),
+    Step::New(0, Object::Condvar),
     Step::Spawn(0, 13),
     Step::Mutex(0, 0, MutexAccess::Lock),
     Step::Unless(0, 0, 6),
@@ -146,8 +146,8 @@ pub static CONDVAR_HANDS_OVER: [Step; 19] = [
 /// Main and a thread wait on a condition variable, unless they find 7 in the mutex. Another thread leaves that there and
 /// notifies both. Each asserts that it finds the 7.
 pub static NOTIFY_ALL: [Step; 19] = [
-    Step::NewMutex(0, 0),
-    Step::NewCondvar(0),
+    Step::New(0, Object::Mutex(0)),
+    Step::New(0, Object::Condvar),
     Step::Spawn(0, 4),
     Step::Spawn(1, 13),
     Step::Mutex(0, 0, MutexAccess::Lock),
@@ -169,7 +169,7 @@ pub static NOTIFY_ALL: [Step; 19] = [
 
 /// Main notifies its own notifier, and then waits on it.
 pub static NOTIFY_WAIT: [Step; 6] = [
-    Step::NewNotify(0),
+    Step::New(0, Object::Notify),
     Step::Notify(0),
     Step::Await(0),
     FINISH,
@@ -179,7 +179,7 @@ pub static NOTIFY_WAIT: [Step; 6] = [
 
 /// Main and a thread wait on one notifier.
 pub static SECOND_WAITER: [Step; 4] = [
-    Step::NewNotify(0),
+    Step::New(0, Object::Notify),
     Step::Spawn(0, 3),
     Step::Await(0),
     Step::Await(0),
@@ -200,7 +200,7 @@ pub static PARK_ALONE: [Step; 1] = [Step::Park];
 
 /// Main parks, before or after a thread unparks it, which stored 7 into an atomic first. Main asserts that it loads the 7 then.
 pub static UNPARK_WAKES: [Step; 16] = [
-    Step::NewAtomic(0, 0),
+    Step::New(0, Object::AtomicU64(0)),
     Step::Current(0),
     Step::Spawn(1, 11),
     Step::Load(0, 1, Relaxed),

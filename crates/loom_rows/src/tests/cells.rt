@@ -5,14 +5,15 @@ use crate::rows;
 use loom::model::{Builder, Report};
 use loom::{Choice, FailureKind};
 use loom_scripts::number::Number;
-use loom_scripts::script::{CellAccess, Script, Step, Value};
+use loom_scripts::script::Script;
+use loom_scripts::step::{CellAccess, Object, Step, Value};
 use std::process::Abort;
 use std::test::Fail;
 
 // Main exchanges the data of two cells, the second of which a thread writes.
 static SWAP_BESIDE_A_WRITE: [Step; 12] = [
-    Step::NewCell(0, 1),
-    Step::NewCell(1, 2),
+    Step::New(0, Object::Cell(1)),
+    Step::New(1, Object::Cell(2)),
     Step::Spawn(0, 8),
     Step::SwapCells(0, 1),
     Step::Join(0, 0),
@@ -27,7 +28,7 @@ static SWAP_BESIDE_A_WRITE: [Step; 12] = [
 
 // Main exchanges the data of a cell and itself, which a thread writes, and finishes with what the cell holds then.
 static SWAP_WITH_ITSELF: [Step; 12] = [
-    Step::NewCell(0, 7),
+    Step::New(0, Object::Cell(7)),
     Step::Spawn(0, 8),
     Step::SwapCells(0, 0),
     Step::Join(0, 0),

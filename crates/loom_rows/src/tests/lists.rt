@@ -5,7 +5,8 @@ use crate::updates::Updater;
 use loom::model::{Builder, Replay};
 use loom::{Body, Choice};
 use loom_scripts::number::Number;
-use loom_scripts::script::{Script, Step};
+use loom_scripts::script::Script;
+use loom_scripts::step::Step;
 use std::process::Abort;
 use std::test::Fail;
 

@@ -7,7 +7,8 @@ use crate::bodies::locks::{
 use crate::rows;
 use loom::Choice;
 use loom_scripts::number::Number;
-use loom_scripts::script::{Script, Step};
+use loom_scripts::script::Script;
+use loom_scripts::step::Step;
 use std::process::Abort;
 use std::test::Fail;
 

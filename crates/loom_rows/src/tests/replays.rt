@@ -2,12 +2,13 @@ use super::{NONE, ONE, TWO, ZERO};
 use crate::bodies::{CHECK_ORDERING_INVALID_1, CHECKS_FAIL, LOCK_BESIDE, TWO_MUTEXES_DEADLOCK};
 use loom::model::{Builder, Replay, Report};
 use loom::{Choice, FailureKind};
-use loom_scripts::script::{MutexAccess, Script, Step};
+use loom_scripts::script::Script;
+use loom_scripts::step::{MutexAccess, Object, Step};
 use std::process::Abort;
 use std::test::Fail;
 
 static FAIL_AFTER_A_LOCK: [Step; 3] = [
-    Step::NewMutex(0, 0),
+    Step::New(0, Object::Mutex(0)),
     Step::Mutex(0, 0, MutexAccess::Lock),
     Step::Fail,
 ];

@@ -27,3 +27,18 @@ returns-in-Condvar c = rw c.in-Condvar.is c.access_condvar.ensures
 
 pub returns-in-SwapCells : goal.returns-in-SwapCells
 returns-in-SwapCells c = rw c.in-SwapCells.is c.swap_cells.ensures
+
+pub returns-in-New : goal.returns-in-New
+returns-in-New c = rw c.in-New.is c.creation.ensures
+
+pub returns-in-Notify : goal.returns-in-Notify
+returns-in-Notify c = rw c.in-Notify.is c.notify.ensures
+
+pub returns-in-Await : goal.returns-in-Await
+returns-in-Await c = rw c.in-Await.is c.wait.ensures
+
+pub returns-in-Join : goal.returns-in-Join
+returns-in-Join c = rw c.in-Join.is c.join.ensures
+
+pub returns-in-Unpark : goal.returns-in-Unpark
+returns-in-Unpark c = rw c.in-Unpark.is c.unpark.ensures
