@@ -1,19 +1,7 @@
-//! The operations as methods of handles.
+//! The handles, under loom's paths.
 #![tactic(auto)]
 
-ghost use Rattle.std.specs.Prelude.{◌≡◌, None};
-
-pub mod alloc;
-pub mod cell;
-pub mod hint;
 pub mod sync;
-pub mod thread;
 
-use loom_objects::operation::Op;
-
-/// The body's own assertion failed, which ends the run (own).
-pub fn fail<D, S>() -> Op<D, S>
-    ensures { result ≡ Op.Fail None }
-{
-    Op::Fail(None)
-}
+pub use loom_cell_ops::{alloc, cell};
+pub use loom_thread_ops::{fail, hint, thread};
