@@ -1,3 +1,7 @@
 mod atomics;
 mod cells;
+mod counts;
+mod exchanges;
 mod locks;
+mod run;
+mod threads;
