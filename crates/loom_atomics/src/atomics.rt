@@ -1,4 +1,4 @@
-ghost use Rattle.std.specs.Prelude.{◌≡◌, ◌≢◌, Ok, Err, Some, IfOk, ◌<◌, length, slice_get, slice_set};
+ghost use Rattle.std.specs.Prelude.{◌≡◌, ◌≢◌, Ok, Err, Some, IfOk, ◌<◌, length, slice_get, slice_set, true};
 ghost use Rattle.loom_objects.specs.Atomics as rules;
 ghost use Rattle.loom_objects.specs.World.{World};
 ghost use Rattle.loom_objects.specs.Operation.{accessed};
@@ -42,6 +42,7 @@ pub fn atomic_begins<D: Drop>(run: &mut RunState<D>, op: AtomicOp) -> Result<Ent
     ensures does { Does (rules.atomic_begins op) run.old result run.new }
     ensures sound { IsSound run.new }
     ensures steps { run.new.steps_left ≡ run.old.steps_left }
+    ensures growth { result ≡ Err Stop.Memory → rules.needs_memory op ≡ true }
 {
     match op {
         AtomicOp::New(numbers, value) => atomic_new(run, numbers, value),
@@ -113,6 +114,7 @@ fn unsync_load<D: Drop>(run: &mut RunState<D>, number: usize) -> Result<Entry<D>
     ensures does { Does (rules.unsync_load number) run.old result run.new }
     ensures sound { IsSound run.new }
     ensures steps { run.new.steps_left ≡ run.old.steps_left }
+    ensures no_growth { result ≢ Err Stop.Memory }
 {
     let Some(_) = atomic_at(run, number) else {
         return Err(failed(FailureKind::Misuse));
@@ -129,6 +131,7 @@ fn into_inner<D: Drop>(run: &mut RunState<D>, number: usize) -> Result<Entry<D>,
     ensures does { Does (rules.into_inner number) run.old result run.new }
     ensures sound { IsSound run.new }
     ensures steps { run.new.steps_left ≡ run.old.steps_left }
+    ensures no_growth { result ≢ Err Stop.Memory }
 {
     let Some(atomic) = atomic_at(run, number) else {
         return Err(failed(FailureKind::Misuse));
@@ -155,6 +158,7 @@ fn with_mut<D: Drop>(run: &mut RunState<D>, number: usize) -> Result<Entry<D>, S
     ensures does { Does (rules.with_mut number) run.old result run.new }
     ensures sound { IsSound run.new }
     ensures steps { run.new.steps_left ≡ run.old.steps_left }
+    ensures no_growth { result ≢ Err Stop.Memory }
 {
     let Some(atomic) = atomic_at(run, number) else {
         return Err(failed(FailureKind::Misuse));
@@ -182,6 +186,7 @@ fn with_mut_end<D: Drop>(run: &mut RunState<D>, number: usize, value: u64) -> Re
     ensures does { Does (rules.with_mut_end number value) run.old result run.new }
     ensures sound { IsSound run.new }
     ensures steps { run.new.steps_left ≡ run.old.steps_left }
+    ensures no_growth { result ≢ Err Stop.Memory }
 {
     let Some(atomic) = atomic_at(run, number) else {
         return Err(failed(FailureKind::Misuse));
@@ -213,6 +218,7 @@ pub fn fence<D: Drop>(run: &mut RunState<D>, order: Ordering) -> Result<Entry<D>
     ensures does { Does (rules.fence order) run.old result run.new }
     ensures sound { IsSound run.new }
     ensures steps { run.new.steps_left ≡ run.old.steps_left }
+    ensures no_growth { result ≢ Err Stop.Memory }
 {
     if is_relaxed(order) {
         return Err(failed(FailureKind::RelaxedFence));
@@ -233,6 +239,7 @@ fn access_begins<D: Drop>(run: &mut RunState<D>, access: AtomicOp) -> Result<Ent
     ensures does { Does (rules.access_begins access) run.old result run.new }
     ensures sound { IsSound run.new }
     ensures steps { run.new.steps_left ≡ run.old.steps_left }
+    ensures no_growth { result ≢ Err Stop.Memory }
 {
     let Some(number) = access.atomic() else {
         return Err(failed(FailureKind::Misuse));

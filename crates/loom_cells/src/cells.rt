@@ -1,4 +1,4 @@
-ghost use Rattle.std.specs.Prelude.{◌≡◌, ◌≢◌, ◌<◌, IfOk, IfErr, length, slice_get};
+ghost use Rattle.std.specs.Prelude.{◌≡◌, ◌≢◌, ◌<◌, IfOk, IfErr, length, slice_get, Err, true};
 ghost use Rattle.loom_objects.specs.Cells as rules;
 ghost use Rattle.loom_objects.specs.Shown.{Does, IsSound};
 
@@ -29,6 +29,7 @@ pub fn cell_begins<D: Data>(run: &mut RunState<D>, op: CellOp<D>) -> Result<Entr
     ensures does { Does (rules.cell_begins op) run.old result run.new }
     ensures sound { IsSound run.new }
     ensures steps { run.new.steps_left ≡ run.old.steps_left }
+    ensures growth { result ≡ Err Stop.Memory → rules.needs_memory op ≡ true }
 {
     match op {
         CellOp::New(value) => cell_new(run, value),
@@ -197,6 +198,7 @@ fn cell_read_end<D: Drop>(run: &mut RunState<D>, number: usize) -> Result<Entry<
     ensures does { Does (rules.cell_read_end number) run.old result run.new }
     ensures sound { IsSound run.new }
     ensures steps { run.new.steps_left ≡ run.old.steps_left }
+    ensures no_growth { result ≢ Err Stop.Memory }
 {
     let active = run.active;
     if number >= run.objects.len() {
@@ -226,6 +228,7 @@ fn cell_write<D: Drop>(run: &mut RunState<D>, number: usize) -> Result<Entry<D>,
     ensures does { Does (rules.cell_write number) run.old result run.new }
     ensures sound { IsSound run.new }
     ensures steps { run.new.steps_left ≡ run.old.steps_left }
+    ensures no_growth { result ≢ Err Stop.Memory }
 {
     let writer = run.active;
     if number >= run.objects.len() {
@@ -260,6 +263,7 @@ fn cell_write_end<D: Drop>(run: &mut RunState<D>, number: usize, value: D) -> Re
     ensures does { Does (rules.cell_write_end number value) run.old result run.new }
     ensures sound { IsSound run.new }
     ensures steps { run.new.steps_left ≡ run.old.steps_left }
+    ensures no_growth { result ≢ Err Stop.Memory }
 {
     let active = run.active;
     if number >= run.objects.len() {
@@ -288,6 +292,7 @@ fn cell_into_inner<D: Drop>(run: &mut RunState<D>, number: usize) -> Result<Entr
     ensures does { Does (rules.cell_into_inner number) run.old result run.new }
     ensures sound { IsSound run.new }
     ensures steps { run.new.steps_left ≡ run.old.steps_left }
+    ensures no_growth { result ≢ Err Stop.Memory }
 {
     if number >= run.objects.len() {
         return Err(failed(FailureKind::Misuse));
@@ -310,6 +315,7 @@ fn cell_replace<D: Drop>(run: &mut RunState<D>, number: usize, new: D) -> Result
     ensures does { Does (rules.cell_replace number new) run.old result run.new }
     ensures sound { IsSound run.new }
     ensures steps { run.new.steps_left ≡ run.old.steps_left }
+    ensures no_growth { result ≢ Err Stop.Memory }
 {
     let active = run.active as usize;
     if number >= run.objects.len() {
@@ -347,6 +353,7 @@ fn open_write<D: Drop>(run: &mut RunState<D>, number: usize) -> Result<(), Stop>
     ensures does { Does (rules.opens_write number) run.old result run.new }
     ensures sound { IsSound run.new }
     ensures steps { run.new.steps_left ≡ run.old.steps_left }
+    ensures no_growth { result ≢ Err Stop.Memory }
 {
     let active = run.active as usize;
     if number >= run.objects.len() {
@@ -382,6 +389,7 @@ fn exchange_cells<D: Drop>(
     ensures does { Does (rules.exchanges_cells number other) run.old result run.new }
     ensures sound { IsSound run.new }
     ensures steps { run.new.steps_left ≡ run.old.steps_left }
+    ensures no_growth { result ≢ Err Stop.Memory }
 {
     let active = run.active as usize;
     if number >= run.objects.len() || other >= run.objects.len() {
@@ -419,6 +427,7 @@ fn cell_swap<D: Drop>(run: &mut RunState<D>, number: usize, other: usize) -> Res
     ensures does { Does (rules.cell_swap number other) run.old result run.new }
     ensures sound { IsSound run.new }
     ensures steps { run.new.steps_left ≡ run.old.steps_left }
+    ensures no_growth { result ≢ Err Stop.Memory }
 {
     if number >= run.objects.len() || other >= run.objects.len() {
         return Err(failed(FailureKind::Misuse));

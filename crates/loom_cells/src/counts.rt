@@ -1,4 +1,4 @@
-ghost use Rattle.std.specs.Prelude.{◌≡◌, ◌≢◌, Err};
+ghost use Rattle.std.specs.Prelude.{◌≡◌, ◌≢◌, Err, true};
 ghost use Rattle.loom_objects.specs.Counts as rules;
 ghost use Rattle.loom_objects.specs.Shown.{Does, IsSound};
 
@@ -28,6 +28,7 @@ pub fn arc_begins<D: Data>(run: &mut RunState<D>, op: ArcOp<D>) -> Result<Entry<
     ensures does { Does (rules.arc_begins op) run.old result run.new }
     ensures sound { IsSound run.new }
     ensures steps { run.new.steps_left ≡ run.old.steps_left }
+    ensures growth { result ≡ Err Stop.Memory → rules.needs_memory op ≡ true }
 {
     match op {
         ArcOp::New(value) => arc_new(run, value),
@@ -82,6 +83,7 @@ fn arc_put<D: Drop>(run: &mut RunState<D>, number: usize, value: D) -> Result<En
     ensures does { Does (rules.arc_put number value) run.old result run.new }
     ensures sound { IsSound run.new }
     ensures steps { run.new.steps_left ≡ run.old.steps_left }
+    ensures no_growth { result ≢ Err Stop.Memory }
 {
     if number >= run.objects.len() {
         return Err(failed(FailureKind::Misuse));
@@ -105,6 +107,7 @@ fn count_begins<D: Drop>(
     ensures does { Does (rules.count_begins todo number) run.old result run.new }
     ensures sound { IsSound run.new }
     ensures steps { run.new.steps_left ≡ run.old.steps_left }
+    ensures no_growth { result ≢ Err Stop.Memory }
 {
     come_to(run, Task::Count(todo, number), number)
 }
@@ -114,6 +117,7 @@ fn unwrap_begins<D: Drop>(run: &mut RunState<D>, number: usize) -> Result<Entry<
     ensures does { Does (rules.unwrap_begins number) run.old result run.new }
     ensures sound { IsSound run.new }
     ensures steps { run.new.steps_left ≡ run.old.steps_left }
+    ensures no_growth { result ≢ Err Stop.Memory }
 {
     come_to(run, Task::TryUnwrap(number), number)
 }
@@ -124,6 +128,7 @@ fn come_to<D: Drop>(run: &mut RunState<D>, todo: Task<D>, number: usize) -> Resu
     ensures does { Does (rules.comes_to todo number) run.old result run.new }
     ensures sound { IsSound run.new }
     ensures steps { run.new.steps_left ≡ run.old.steps_left }
+    ensures no_growth { result ≢ Err Stop.Memory }
 {
     if number >= run.objects.len() {
         return Err(failed(FailureKind::Misuse));

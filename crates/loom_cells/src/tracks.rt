@@ -1,4 +1,4 @@
-ghost use Rattle.std.specs.Prelude.{◌≡◌};
+ghost use Rattle.std.specs.Prelude.{◌≡◌, ◌≢◌, Err, true};
 ghost use Rattle.loom_objects.specs.Tracks as rules;
 ghost use Rattle.loom_objects.specs.Shown.{Does, IsSound};
 
@@ -16,6 +16,7 @@ pub fn track_begins<D: Data>(run: &mut RunState<D>, op: TrackOp<D>) -> Result<En
     ensures does { Does (rules.track_begins op) run.old result run.new }
     ensures sound { IsSound run.new }
     ensures steps { run.new.steps_left ≡ run.old.steps_left }
+    ensures growth { result ≡ Err Stop.Memory → rules.needs_memory op ≡ true }
 {
     match op {
         TrackOp::New(value) => track_new(run, value),
@@ -67,6 +68,7 @@ fn track_get_mut<D: Data>(run: &mut RunState<D>, number: usize) -> Result<Entry<
     ensures does { Does (rules.track_get_mut number) run.old result run.new }
     ensures sound { IsSound run.new }
     ensures steps { run.new.steps_left ≡ run.old.steps_left }
+    ensures no_growth { result ≢ Err Stop.Memory }
 {
     if number >= run.objects.len() {
         return Err(failed(FailureKind::Misuse));
@@ -87,6 +89,7 @@ fn track_put<D: Data>(run: &mut RunState<D>, number: usize, value: D) -> Result<
     ensures does { Does (rules.track_put number value) run.old result run.new }
     ensures sound { IsSound run.new }
     ensures steps { run.new.steps_left ≡ run.old.steps_left }
+    ensures no_growth { result ≢ Err Stop.Memory }
 {
     if number >= run.objects.len() {
         return Err(failed(FailureKind::Misuse));
@@ -107,6 +110,7 @@ fn track_take<D: Data>(run: &mut RunState<D>, number: usize) -> Result<Entry<D>,
     ensures does { Does (rules.track_take number) run.old result run.new }
     ensures sound { IsSound run.new }
     ensures steps { run.new.steps_left ≡ run.old.steps_left }
+    ensures no_growth { result ≢ Err Stop.Memory }
 {
     if number >= run.objects.len() {
         return Err(failed(FailureKind::Misuse));

@@ -1,4 +1,4 @@
-ghost use Rattle.std.specs.Prelude.{◌≡◌, ◌≢◌, Err, ◌+◌, length, slice_get};
+ghost use Rattle.std.specs.Prelude.{◌≡◌, ◌≢◌, Err, ◌+◌, length, slice_get, true};
 ghost use Rattle.loom_objects.specs.Condvars as rules;
 ghost use Rattle.loom_objects.specs.Locks.{frees};
 ghost use Rattle.loom_objects.specs.Moves.{rouses, rouses_all, runs_on};
@@ -21,6 +21,7 @@ pub fn condvar_begins<D: Drop>(run: &mut RunState<D>, op: CondvarOp<D>) -> Resul
     ensures does { Does (rules.condvar_begins op) run.old result run.new }
     ensures sound { IsSound run.new }
     ensures steps { run.new.steps_left ≡ run.old.steps_left }
+    ensures growth { result ≡ Err Stop.Memory → rules.needs_memory op ≡ true }
 {
     match op {
         CondvarOp::New => condvar_new(run),
@@ -61,6 +62,7 @@ fn condvar_wait_begins<D: Drop>(
     ensures does { Does (rules.wait_begins locking number mutex value) run.old result run.new }
     ensures sound { IsSound run.new }
     ensures steps { run.new.steps_left ≡ run.old.steps_left }
+    ensures no_growth { result ≢ Err Stop.Memory }
 {
     if number >= run.objects.len() || mutex >= run.objects.len() {
         return Err(failed(FailureKind::Misuse));
@@ -92,6 +94,7 @@ fn wake_begins<D: Drop>(
     ensures does { Does (rules.wake_begins waking number) run.old result run.new }
     ensures sound { IsSound run.new }
     ensures steps { run.new.steps_left ≡ run.old.steps_left }
+    ensures no_growth { result ≢ Err Stop.Memory }
 {
     if number >= run.objects.len() {
         return Err(failed(FailureKind::Misuse));

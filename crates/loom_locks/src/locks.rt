@@ -1,4 +1,4 @@
-ghost use Rattle.std.specs.Prelude.{◌≡◌, ◌≢◌, Err, ◌+◌};
+ghost use Rattle.std.specs.Prelude.{◌≡◌, ◌≢◌, Err, ◌+◌, true};
 ghost use Rattle.loom_objects.specs.Locks as rules;
 ghost use Rattle.loom_objects.specs.Shown.{Does, IsSound};
 
@@ -27,6 +27,7 @@ pub fn mutex_begins<D: Drop>(run: &mut RunState<D>, op: MutexOp<D>) -> Result<En
     ensures does { Does (rules.mutex_begins op) run.old result run.new }
     ensures sound { IsSound run.new }
     ensures steps { run.new.steps_left ≡ run.old.steps_left }
+    ensures growth { result ≡ Err Stop.Memory → rules.needs_memory op ≡ true }
 {
     match op {
         MutexOp::New(value) => mutex_new(run, value),
@@ -62,6 +63,7 @@ fn lock_begins<D: Drop>(run: &mut RunState<D>, number: usize) -> Result<Entry<D>
     ensures does { Does (rules.lock_begins number) run.old result run.new }
     ensures sound { IsSound run.new }
     ensures steps { run.new.steps_left ≡ run.old.steps_left }
+    ensures no_growth { result ≢ Err Stop.Memory }
 {
     if number >= run.objects.len() {
         return Err(failed(FailureKind::Misuse));
@@ -84,6 +86,7 @@ fn try_lock_begins<D: Drop>(run: &mut RunState<D>, number: usize) -> Result<Entr
     ensures does { Does (rules.try_lock_begins number) run.old result run.new }
     ensures sound { IsSound run.new }
     ensures steps { run.new.steps_left ≡ run.old.steps_left }
+    ensures no_growth { result ≢ Err Stop.Memory }
 {
     if number >= run.objects.len() {
         return Err(failed(FailureKind::Misuse));
@@ -186,6 +189,7 @@ fn release<D: Drop>(run: &mut RunState<D>, number: usize, value: D) -> Result<En
     ensures does { Does (rules.release number value) run.old result run.new }
     ensures sound { IsSound run.new }
     ensures steps { run.new.steps_left ≡ run.old.steps_left }
+    ensures no_growth { result ≢ Err Stop.Memory }
 {
     match set_free(run, number, value) {
         Ok(()) => Ok(Entry::Answered(Reply::Done)),
@@ -199,6 +203,7 @@ fn mutex_get_mut<D: Drop>(run: &mut RunState<D>, number: usize) -> Result<Entry<
     ensures does { Does (rules.mutex_get_mut number) run.old result run.new }
     ensures sound { IsSound run.new }
     ensures steps { run.new.steps_left ≡ run.old.steps_left }
+    ensures no_growth { result ≢ Err Stop.Memory }
 {
     if number >= run.objects.len() {
         return Err(failed(FailureKind::Misuse));
@@ -219,6 +224,7 @@ fn mutex_put<D: Drop>(run: &mut RunState<D>, number: usize, value: D) -> Result<
     ensures does { Does (rules.mutex_put number value) run.old result run.new }
     ensures sound { IsSound run.new }
     ensures steps { run.new.steps_left ≡ run.old.steps_left }
+    ensures no_growth { result ≢ Err Stop.Memory }
 {
     if number >= run.objects.len() {
         return Err(failed(FailureKind::Misuse));
@@ -239,6 +245,7 @@ fn mutex_into_inner<D: Drop>(run: &mut RunState<D>, number: usize) -> Result<Ent
     ensures does { Does (rules.mutex_into_inner number) run.old result run.new }
     ensures sound { IsSound run.new }
     ensures steps { run.new.steps_left ≡ run.old.steps_left }
+    ensures no_growth { result ≢ Err Stop.Memory }
 {
     if number >= run.objects.len() {
         return Err(failed(FailureKind::Misuse));

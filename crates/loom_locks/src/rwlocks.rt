@@ -109,6 +109,7 @@ pub fn rwlock_begins<D: Drop>(run: &mut RunState<D>, op: RwLockOp<D>) -> Result<
     ensures does { Does (rules.rwlock_begins op) run.old result run.new }
     ensures sound { IsSound run.new }
     ensures steps { run.new.steps_left ≡ run.old.steps_left }
+    ensures growth { result ≡ Err Stop.Memory → rules.needs_memory op ≡ true }
 {
     match op {
         RwLockOp::New(value) => rwlock_new(run, value),
@@ -152,6 +153,7 @@ fn claim_begins<D: Drop>(
     ensures does { Does (rules.claim_begins claim number) run.old result run.new }
     ensures sound { IsSound run.new }
     ensures steps { run.new.steps_left ≡ run.old.steps_left }
+    ensures no_growth { result ≢ Err Stop.Memory }
 {
     if number >= run.objects.len() {
         return Err(failed(FailureKind::Misuse));
@@ -202,6 +204,7 @@ fn read_release<D: Drop>(run: &mut RunState<D>, number: usize) -> Result<Entry<D
     ensures does { Does (rules.read_release number) run.old result run.new }
     ensures sound { IsSound run.new }
     ensures steps { run.new.steps_left ≡ run.old.steps_left }
+    ensures no_growth { result ≢ Err Stop.Memory }
 {
     if number >= run.objects.len() {
         return Err(failed(FailureKind::Misuse));
@@ -230,6 +233,7 @@ fn write_release<D: Drop>(run: &mut RunState<D>, number: usize, value: D) -> Res
     ensures does { Does (rules.write_release number value) run.old result run.new }
     ensures sound { IsSound run.new }
     ensures steps { run.new.steps_left ≡ run.old.steps_left }
+    ensures no_growth { result ≢ Err Stop.Memory }
 {
     if number >= run.objects.len() {
         return Err(failed(FailureKind::Misuse));
@@ -259,6 +263,7 @@ fn rwlock_get_mut<D: Drop>(run: &mut RunState<D>, number: usize) -> Result<Entry
     ensures does { Does (rules.rwlock_get_mut number) run.old result run.new }
     ensures sound { IsSound run.new }
     ensures steps { run.new.steps_left ≡ run.old.steps_left }
+    ensures no_growth { result ≢ Err Stop.Memory }
 {
     if number >= run.objects.len() {
         return Err(failed(FailureKind::Misuse));
@@ -282,6 +287,7 @@ fn rwlock_put<D: Drop>(run: &mut RunState<D>, number: usize, value: D) -> Result
     ensures does { Does (rules.rwlock_put number value) run.old result run.new }
     ensures sound { IsSound run.new }
     ensures steps { run.new.steps_left ≡ run.old.steps_left }
+    ensures no_growth { result ≢ Err Stop.Memory }
 {
     if number >= run.objects.len() {
         return Err(failed(FailureKind::Misuse));
@@ -302,6 +308,7 @@ fn rwlock_into_inner<D: Drop>(run: &mut RunState<D>, number: usize) -> Result<En
     ensures does { Does (rules.rwlock_into_inner number) run.old result run.new }
     ensures sound { IsSound run.new }
     ensures steps { run.new.steps_left ≡ run.old.steps_left }
+    ensures no_growth { result ≢ Err Stop.Memory }
 {
     if number >= run.objects.len() {
         return Err(failed(FailureKind::Misuse));

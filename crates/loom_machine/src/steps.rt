@@ -41,6 +41,7 @@ pub fn begin<D: Data>(run: &mut RunState<D>, op: Op<D, ()>) -> Result<Entry<D>, 
     ensures does { Does (rules.begins op) run.old result run.new }
     ensures sound { IsSound run.new }
     ensures steps { OnOk result (run.old.steps_left ≡ run.new.steps_left + 1) }
+    ensures growth { result ≡ Err Stop.Memory → rules.needs_memory op ≡ true }
 {
     if run.steps_left == 0 {
         return Err(failed(FailureKind::TooManySteps));

@@ -219,3 +219,8 @@ module _ {D : Type 0} where
   takes_place (CompareExchange n exchange) w = asks n reader.Update (CompareExchange n exchange) w
   takes_place (CompareAndSwap n expected new order) w = asks n reader.Update (CompareAndSwap n expected new order) w
   takes_place _ w = Fails Misuse
+
+-- memory may be refused where an atomic is made
+abbrev pub needs_memory : AtomicOp → Bool
+needs_memory (New numbers value) = true
+needs_memory _ = false

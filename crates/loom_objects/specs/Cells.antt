@@ -227,3 +227,11 @@ module _ {D : Type 0} where
   -- the objects, where that of this number is changed, if it is a cell
   abbrev pub with_changed : ℕ → (Cell D → Cell D) → List (Object D) → List (Object D)
   with_changed n change objects = changed_as n change (slice_get objects n) objects
+
+  -- memory may be refused where a cell is made, or data is copied
+  abbrev pub needs_memory : CellOp D → Bool
+  needs_memory (New value) = true
+  needs_memory (Read n) = true
+  needs_memory (Deref n) = true
+  needs_memory (Get n) = true
+  needs_memory _ = false

@@ -1,5 +1,5 @@
 -- What condition variables do.
-use Rattle.std.specs.Prelude.{ℕ, Bool, false, nat_lt, List, [], ◌∷◌, ◌++◌, length, take, drop, is_some, slice_get, Option, Some, None}
+use Rattle.std.specs.Prelude.{ℕ, Bool, false, nat_lt, List, [], ◌∷◌, ◌++◌, length, take, drop, is_some, slice_get, Option, Some, None, true}
 use Rattle.loom_views.specs.declared.rt.failure.FailureKind.TheVariants.{Misuse}
 use Rattle.loom_objects.specs.declared.operation.CondvarOp.{CondvarOp}
 use Rattle.loom_objects.specs.declared.operation.CondvarOp.TheVariants.{New, Wait, WaitTimeout, NotifyOne, NotifyAll}
@@ -98,3 +98,8 @@ module _ {D : Type 0} where
   wakes waking n w = do
     waiters ← waiters_of n w
     Gives (reply.Done, rouses_all (woken_by waking waiters) (with_object n (with_waiters (left_by waking waiters)) w))
+
+  -- memory may be refused where a condition variable is made
+  abbrev pub needs_memory : CondvarOp D → Bool
+  needs_memory New = true
+  needs_memory _ = false

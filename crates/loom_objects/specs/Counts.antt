@@ -158,3 +158,9 @@ module _ {D : Type 0} where
   counts counting.GetMut n w = takes_out n w
   counts counting.Unwrap n w = unwraps n w
   counts counting.StrongCount n w = tells_count n w
+
+  -- memory may be refused where a counted reference is made, or its value is copied
+  abbrev pub needs_memory : ArcOp D → Bool
+  needs_memory (New value) = true
+  needs_memory (Get n) = true
+  needs_memory _ = false

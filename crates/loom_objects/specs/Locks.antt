@@ -103,3 +103,8 @@ module _ {D : Type 0} where
   mutex_begins (GetMut n) w = mutex_get_mut n w
   mutex_begins (Put n value) w = mutex_put n value w
   mutex_begins (IntoInner n) w = mutex_into_inner n w
+
+  -- memory may be refused where a mutex is made
+  abbrev pub needs_memory : MutexOp D → Bool
+  needs_memory (New value) = true
+  needs_memory _ = false

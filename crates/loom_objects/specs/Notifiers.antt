@@ -128,3 +128,8 @@ module _ {D : Type 0} where
   wakes_early n w = do
     notifier ← a_notifier n w
     Gives (reply.Done, with_object n (object.Notify (record notifier { spurious = Over })) w)
+
+-- memory may be refused where a notifier is made
+abbrev pub needs_memory : NotifyOp → Bool
+needs_memory notify_op.New = true
+needs_memory _ = false

@@ -192,3 +192,8 @@ module _ {D : Type 0} where
   writes_at n w = do
     lock ← a_rwlock n w
     writes_lock n lock w
+
+  -- memory may be refused where a read-write lock is made
+  abbrev pub needs_memory : RwLockOp D → Bool
+  needs_memory (lock_op.New value) = true
+  needs_memory _ = false

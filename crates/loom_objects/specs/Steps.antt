@@ -24,16 +24,16 @@ use Rattle.loom_objects.specs.declared.rt.thread.Task.TheVariants.{Start, Body, 
 use Rattle.loom_objects.specs.Tree.{Tree, Gives, Fails, ◌>>=◌, check, found}
 use Rattle.loom_objects.specs.World.{World}
 use Rattle.loom_objects.specs.Moves.{with_active}
-use Rattle.loom_objects.specs.Locks.{mutex_begins, lock, try_lock}
-use Rattle.loom_objects.specs.RwLocks.{rwlock_begins, claims}
-use Rattle.loom_objects.specs.Condvars.{condvar_begins, falls_asleep, relocks, wakes}
-use Rattle.loom_objects.specs.Notifiers.{notifier_begins, notifies, awaits, wakes_early}
-use Rattle.loom_objects.specs.Atomics.{atomic_begins, fence, takes_place}
-use Rattle.loom_objects.specs.Cells.{cell_begins}
-use Rattle.loom_objects.specs.Counts.{arc_begins, counts, tries_unwrap}
-use Rattle.loom_objects.specs.Tracks.{track_begins}
+use Rattle.loom_objects.specs.Locks.{mutex_begins, lock, try_lock, needs_memory as mutex_needs_memory}
+use Rattle.loom_objects.specs.RwLocks.{rwlock_begins, claims, needs_memory as rwlock_needs_memory}
+use Rattle.loom_objects.specs.Condvars.{condvar_begins, falls_asleep, relocks, wakes, needs_memory as condvar_needs_memory}
+use Rattle.loom_objects.specs.Notifiers.{notifier_begins, notifies, awaits, wakes_early, needs_memory as notifier_needs_memory}
+use Rattle.loom_objects.specs.Atomics.{atomic_begins, fence, takes_place, needs_memory as atomic_needs_memory}
+use Rattle.loom_objects.specs.Cells.{cell_begins, needs_memory as cell_needs_memory}
+use Rattle.loom_objects.specs.Counts.{arc_begins, counts, tries_unwrap, needs_memory as arc_needs_memory}
+use Rattle.loom_objects.specs.Tracks.{track_begins, needs_memory as track_needs_memory}
 use Rattle.loom_objects.specs.Leaks.{check_leak, first_leak}
-use Rattle.loom_objects.specs.Threads.{thread_begins, join, child_finish}
+use Rattle.loom_objects.specs.Threads.{thread_begins, join, child_finish, needs_memory as thread_needs_memory}
 
 abbrev pub ability_of : State → Ability
 ability_of Runnable = Able
@@ -111,6 +111,19 @@ module _ {D : Type 0} where
   op_begins (op.Thread todo place) w = thread_begins todo w
   op_begins (op.Fail place) w = Fails Assertion
   op_begins (op.Unreachable place) w = Fails Unreachable
+
+  -- memory may be refused: an object or a thread is made, or data is copied
+  abbrev pub needs_memory : Op D ⊤ → Bool
+  needs_memory (op.Atomic todo place) = atomic_needs_memory todo
+  needs_memory (op.Cell todo place) = cell_needs_memory todo
+  needs_memory (op.Arc todo place) = arc_needs_memory todo
+  needs_memory (op.Track todo place) = track_needs_memory todo
+  needs_memory (op.Mutex todo place) = mutex_needs_memory todo
+  needs_memory (op.RwLock todo place) = rwlock_needs_memory todo
+  needs_memory (op.Condvar todo place) = condvar_needs_memory todo
+  needs_memory (op.Notify todo place) = notifier_needs_memory todo
+  needs_memory (op.Thread todo place) = thread_needs_memory todo
+  needs_memory _ = false
 
   -- an operation that is handed over is counted before anything else
   abbrev pub begins : Op D ⊤ → World D → Tree (Entry D × World D)

@@ -150,3 +150,8 @@ module _ {D : Type 0} where
   thread_begins (Finish value) w = finish value w
   thread_begins Exit w = exit w
   thread_begins End w = end w
+
+  -- memory may be refused where a thread is made
+  abbrev pub needs_memory : ThreadOp D ⊤ → Bool
+  needs_memory (Spawn body name) = true
+  needs_memory _ = false

@@ -1,5 +1,5 @@
 -- What tracked values do.
-use Rattle.std.specs.Prelude.{ℕ, true, false, cond, length, slice_get, Option, Some, None}
+use Rattle.std.specs.Prelude.{ℕ, true, false, cond, length, slice_get, Option, Some, None, Bool}
 use Rattle.loom_views.specs.declared.rt.failure.FailureKind.TheVariants.{Misuse}
 use Rattle.loom_objects.specs.declared.operation.Reply.TheVariants as reply
 use Rattle.loom_objects.specs.declared.operation.TrackOp.{TrackOp}
@@ -65,3 +65,9 @@ module _ {D : Type 0} where
   track_begins (Put n value) w = track_put n value w
   track_begins (IntoInner n) w = track_take n w
   track_begins (Drop n) w = track_take n w
+
+  -- memory may be refused where a tracked value is made or copied
+  abbrev pub needs_memory : TrackOp D → Bool
+  needs_memory (New value) = true
+  needs_memory (GetRef n) = true
+  needs_memory _ = false

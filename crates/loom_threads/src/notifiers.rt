@@ -1,4 +1,4 @@
-ghost use Rattle.std.specs.Prelude.{◌≡◌, ◌≢◌, Err, ◌+◌};
+ghost use Rattle.std.specs.Prelude.{◌≡◌, ◌≢◌, Err, ◌+◌, true};
 ghost use Rattle.loom_objects.specs.Notifiers as rules;
 ghost use Rattle.loom_objects.specs.Shown.{Does, IsSound};
 
@@ -19,6 +19,7 @@ pub fn notifier_begins<D: Drop>(run: &mut RunState<D>, op: NotifyOp) -> Result<E
     ensures does { Does (rules.notifier_begins op) run.old result run.new }
     ensures sound { IsSound run.new }
     ensures steps { run.new.steps_left ≡ run.old.steps_left }
+    ensures growth { result ≡ Err Stop.Memory → rules.needs_memory op ≡ true }
 {
     match op {
         NotifyOp::New => notify_new(run),
@@ -49,6 +50,7 @@ fn notify_begins<D: Drop>(run: &mut RunState<D>, number: usize) -> Result<Entry<
     ensures does { Does (rules.notify_begins number) run.old result run.new }
     ensures sound { IsSound run.new }
     ensures steps { run.new.steps_left ≡ run.old.steps_left }
+    ensures no_growth { result ≢ Err Stop.Memory }
 {
     if number >= run.objects.len() {
         return Err(failed(FailureKind::Misuse));
@@ -71,6 +73,7 @@ fn wait_begins<D: Drop>(run: &mut RunState<D>, number: usize) -> Result<Entry<D>
     ensures does { Does (rules.wait_begins number) run.old result run.new }
     ensures sound { IsSound run.new }
     ensures steps { run.new.steps_left ≡ run.old.steps_left }
+    ensures no_growth { result ≢ Err Stop.Memory }
 {
     if number >= run.objects.len() {
         return Err(failed(FailureKind::Misuse));

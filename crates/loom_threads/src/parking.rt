@@ -47,6 +47,7 @@ pub(crate) fn current<D: Drop>(run: &mut RunState<D>) -> Result<Entry<D>, Stop>
     ensures does { Does rules.current run.old result run.new }
     ensures sound { IsSound run.new }
     ensures steps { run.new.steps_left ≡ run.old.steps_left }
+    ensures no_growth { result ≢ Err Stop.Memory }
 {
     let name = run.threads.at(run.active as usize).name;
     Ok(Entry::Answered(Reply::Thread(run.active, name)))
@@ -58,6 +59,7 @@ pub(crate) fn park<D: Drop>(run: &mut RunState<D>) -> Result<Entry<D>, Stop>
     ensures does { Does rules.park run.old result run.new }
     ensures sound { IsSound run.new }
     ensures steps { run.new.steps_left ≡ run.old.steps_left }
+    ensures no_growth { result ≢ Err Stop.Memory }
 {
     let thread = run.threads.at_mut(run.active as usize);
     if thread.has_token {
@@ -75,6 +77,7 @@ pub(crate) fn unpark<D: Drop>(run: &mut RunState<D>, thread: u8) -> Result<Entry
     ensures does { Does (rules.unpark thread) run.old result run.new }
     ensures sound { IsSound run.new }
     ensures steps { run.new.steps_left ≡ run.old.steps_left }
+    ensures no_growth { result ≢ Err Stop.Memory }
 {
     if thread as usize >= run.threads.len() {
         return Err(failed(FailureKind::Misuse));
@@ -93,6 +96,7 @@ pub(crate) fn yield_now<D: Drop>(run: &mut RunState<D>) -> Result<Entry<D>, Stop
     ensures does { Does rules.yield_now run.old result run.new }
     ensures sound { IsSound run.new }
     ensures steps { run.new.steps_left ≡ run.old.steps_left }
+    ensures no_growth { result ≢ Err Stop.Memory }
 {
     yield_by(run, Task::Continue)?;
     Ok(Entry::AtBranch)

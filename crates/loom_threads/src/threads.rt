@@ -1,4 +1,4 @@
-ghost use Rattle.std.specs.Prelude.{◌≡◌, ◌≢◌, Err, slice_get};
+ghost use Rattle.std.specs.Prelude.{◌≡◌, ◌≢◌, Err, slice_get, true};
 ghost use Rattle.loom_objects.specs.Threads as rules;
 ghost use Rattle.loom_objects.specs.Shown.{Does, IsSound};
 
@@ -17,6 +17,7 @@ pub fn thread_begins<D: Drop>(run: &mut RunState<D>, op: ThreadOp<D, ()>) -> Res
     ensures does { Does (rules.thread_begins op) run.old result run.new }
     ensures sound { IsSound run.new }
     ensures steps { run.new.steps_left ≡ run.old.steps_left }
+    ensures growth { result ≡ Err Stop.Memory → rules.needs_memory op ≡ true }
 {
     match op {
         ThreadOp::Spawn((), name) => spawn(run, name),
@@ -79,6 +80,7 @@ fn join_begins<D: Drop>(
     ensures does { Does (rules.join_begins thread notifier) run.old result run.new }
     ensures sound { IsSound run.new }
     ensures steps { run.new.steps_left ≡ run.old.steps_left }
+    ensures no_growth { result ≢ Err Stop.Memory }
 {
     if !has_notifier(run, thread, notifier) || notifier >= run.objects.len() {
         return Err(failed(FailureKind::Misuse));
@@ -142,6 +144,7 @@ fn finish<D: Drop>(run: &mut RunState<D>, value: D) -> Result<Entry<D>, Stop>
     ensures does { Does (rules.finish value) run.old result run.new }
     ensures sound { IsSound run.new }
     ensures steps { run.new.steps_left ≡ run.old.steps_left }
+    ensures no_growth { result ≢ Err Stop.Memory }
 {
     let thread = run.threads.at_mut(run.active as usize);
     if !matches!(thread.phase, Phase::Working) {
@@ -183,6 +186,7 @@ fn exit<D: Drop>(run: &mut RunState<D>) -> Result<Entry<D>, Stop>
     ensures does { Does rules.exit run.old result run.new }
     ensures sound { IsSound run.new }
     ensures steps { run.new.steps_left ≡ run.old.steps_left }
+    ensures no_growth { result ≢ Err Stop.Memory }
 {
     let thread = run.threads.at_mut(run.active as usize);
     if !matches!(thread.phase, Phase::Finished) {
@@ -198,6 +202,7 @@ fn end<D: Drop>(run: &mut RunState<D>) -> Result<Entry<D>, Stop>
     ensures does { Does rules.end run.old result run.new }
     ensures sound { IsSound run.new }
     ensures steps { run.new.steps_left ≡ run.old.steps_left }
+    ensures no_growth { result ≢ Err Stop.Memory }
 {
     let thread = run.threads.at_mut(run.active as usize);
     if !matches!(thread.phase, Phase::Exited) {
