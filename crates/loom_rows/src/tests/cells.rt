@@ -1,7 +1,6 @@
 //! Cells, counted references and tracked values: what their rows print and find.
-use super::{NONE, ZERO, runs_of};
+use super::{NONE, ZERO, begins, prints, runs_of};
 use crate::bodies::cells::{ARC_COUNT, ARC_UNWRAP};
-use crate::rows;
 use loom::model::{Builder, Report};
 use loom::{Choice, FailureKind};
 use loom_scripts::number::Number;
@@ -43,7 +42,7 @@ static SWAP_WITH_ITSELF: [Step; 12] = [
 ];
 
 #[test]
-fn each_row_prints_its_line(rt: HostRuntime) {
+fn each_row_prints_its_line(rt: HostRuntime) -> Result<(), Fail> {
     for (name, line, status) in [
         ("unsafe_cell_race_mut_mut_1", "failed 3 0 t1\n", 1),
         ("read_in_write", "failed 4 0\n", 1),
@@ -54,17 +53,13 @@ fn each_row_prints_its_line(rt: HostRuntime) {
         ("track_then_arc", "failed 6 0 t-\n", 1),
         ("arc_then_track", "failed 5 0 t-\n", 1),
     ] {
-        let mut out = Vec::new(rt.alloc());
-        let mut err = Vec::new(rt.alloc());
-        let answer = rows::run_row(&rt, &[name], &mut out, &mut err);
-        assert_eq!(rt; answer, status, "{name}");
-        assert_eq!(rt; out.as_slice(), line.as_bytes(), "{name}");
-        assert!(rt; err.is_empty(), "{name}");
+        prints(&rt, name, line, status)?;
     }
+    Ok(())
 }
 
 #[test]
-fn accesses_that_meet_are_races(rt: HostRuntime) {
+fn accesses_that_meet_are_races(rt: HostRuntime) -> Result<(), Fail> {
     for (name, beginning, status) in [
         ("atomic_causality_success", "complete ", 0),
         ("unsafe_cell_race_mut_mut_2", "failed 3 ", 1),
@@ -78,13 +73,9 @@ fn accesses_that_meet_are_races(rt: HostRuntime) {
         ("unsafe_cell_ok_3", "complete ", 0),
         ("unsafe_cell_access_after_sync", "failed 3 ", 1),
     ] {
-        let mut out = Vec::new(rt.alloc());
-        let mut err = Vec::new(rt.alloc());
-        let answer = rows::run_row(&rt, &[name], &mut out, &mut err);
-        assert_eq!(rt; answer, status, "{name}");
-        assert!(rt; out.as_slice().starts_with(beginning.as_bytes()), "{name}");
-        assert!(rt; err.is_empty(), "{name}");
+        begins(&rt, name, beginning, status)?;
     }
+    Ok(())
 }
 
 // The script has one run, with these choices, whose main finishes with 7.
