@@ -6,14 +6,12 @@ mod printed;
 mod replays;
 mod slow;
 
-use crate::rows;
 use loom::model::{Builder, Report};
 use loom::visitor::Visitor;
 use loom::{Body, Choice};
 use loom_scripts::number::Number;
 use loom_scripts::step::{Step, Value};
 use std::alloc::{AllocError, Global};
-use std::process::Abort;
 use std::test::Fail;
 
 const NONE: Choice = Choice::Thread(None);
@@ -78,37 +76,4 @@ fn runs_of<B: Body<Data = Number>>(alloc: Global, body: &B) -> Result<Vec<Run>, 
         Report::Complete { .. } => Ok(keeper.runs),
         _ => Err(Fail::from("the check is not complete")),
     }
-}
-
-// The row prints this line and nothing else, and answers this status.
-fn prints(rt: &(impl Abort + AllocGlobal), name: &str, line: &str, status: u8) -> Result<(), Fail> {
-    let mut out = Vec::new(rt.alloc());
-    let mut err = Vec::new(rt.alloc());
-    assert_eq!(rt;
-        rows::run_row(rt, &[name], &mut out, &mut err),
-        status,
-        "{name}"
-    );
-    assert_eq!(rt; out.as_slice(), line.as_bytes(), "{name}");
-    assert!(rt; err.is_empty(), "{name}");
-    Ok(())
-}
-
-// The row prints a line that begins so, and answers this status.
-fn begins(
-    rt: &(impl Abort + AllocGlobal),
-    name: &str,
-    beginning: &str,
-    status: u8,
-) -> Result<(), Fail> {
-    let mut out = Vec::new(rt.alloc());
-    let mut err = Vec::new(rt.alloc());
-    assert_eq!(rt;
-        rows::run_row(rt, &[name], &mut out, &mut err),
-        status,
-        "{name}"
-    );
-    assert!(rt; out.as_slice().starts_with(beginning.as_bytes()), "{name}");
-    assert!(rt; err.is_empty(), "{name}");
-    Ok(())
 }

@@ -1,6 +1,7 @@
 //! Cells, counted references and tracked values: what their rows print and find.
-use super::{NONE, ZERO, begins, prints, runs_of};
+use super::{NONE, ZERO, runs_of};
 use crate::bodies::cells::{ARC_COUNT, ARC_UNWRAP};
+use crate::rows;
 use loom::model::{Builder, Report};
 use loom::{Choice, FailureKind};
 use loom_scripts::number::Number;
@@ -42,7 +43,7 @@ static SWAP_WITH_ITSELF: [Step; 12] = [
 ];
 
 #[test]
-fn each_row_prints_its_line(rt: HostRuntime) -> Result<(), Fail> {
+fn each_row_prints_its_line(rt: HostRuntime) {
     for (name, line, status) in [
         ("unsafe_cell_race_mut_mut_1", "failed 3 0 t1\n", 1),
         ("read_in_write", "failed 4 0\n", 1),
@@ -53,13 +54,17 @@ fn each_row_prints_its_line(rt: HostRuntime) -> Result<(), Fail> {
         ("track_then_arc", "failed 6 0 t-\n", 1),
         ("arc_then_track", "failed 5 0 t-\n", 1),
     ] {
-        prints(&rt, name, line, status)?;
+        let mut out = Vec::new(rt.alloc());
+        let mut err = Vec::new(rt.alloc());
+        let answer = rows::run_row(&rt, &[name], &mut out, &mut err);
+        assert_eq!(rt; answer, status, "{name}");
+        assert_eq!(rt; out.as_slice(), line.as_bytes(), "{name}");
+        assert!(rt; err.is_empty(), "{name}");
     }
-    Ok(())
 }
 
 #[test]
-fn accesses_that_meet_are_races(rt: HostRuntime) -> Result<(), Fail> {
+fn accesses_that_meet_are_races(rt: HostRuntime) {
     for (name, beginning, status) in [
         ("atomic_causality_success", "complete ", 0),
         ("unsafe_cell_race_mut_mut_2", "failed 3 ", 1),
@@ -73,9 +78,13 @@ fn accesses_that_meet_are_races(rt: HostRuntime) -> Result<(), Fail> {
         ("unsafe_cell_ok_3", "complete ", 0),
         ("unsafe_cell_access_after_sync", "failed 3 ", 1),
     ] {
-        begins(&rt, name, beginning, status)?;
+        let mut out = Vec::new(rt.alloc());
+        let mut err = Vec::new(rt.alloc());
+        let answer = rows::run_row(&rt, &[name], &mut out, &mut err);
+        assert_eq!(rt; answer, status, "{name}");
+        assert!(rt; out.as_slice().starts_with(beginning.as_bytes()), "{name}");
+        assert!(rt; err.is_empty(), "{name}");
     }
-    Ok(())
 }
 
 // The script has one run, with these choices, whose main finishes with 7.

@@ -1,9 +1,10 @@
 //! Locks, condition variables, notifiers and threads that wait: what their rows print and find.
-use super::{NONE, ONE, ZERO, begins, prints, runs_of};
+use super::{NONE, ONE, ZERO, runs_of};
 use crate::bodies::locks::{
     CONDVAR_HANDS_OVER, MUTEX_INTO_INNER, NOTIFY_ALL, NOTIFY_WAIT, RWLOCK_READ_TWICE,
     RWLOCK_WRITE_THEN_TRY_WRITE, UNPARK_THEN_PARK, UNPARK_WAKES, YIELD_BESIDE,
 };
+use crate::rows;
 use loom::Choice;
 use loom_scripts::number::Number;
 use loom_scripts::script::Script;
@@ -16,7 +17,7 @@ const CALM: Choice = Choice::Spurious(false);
 const SPURIOUS: Choice = Choice::Spurious(true);
 
 #[test]
-fn each_row_prints_its_line(rt: HostRuntime) -> Result<(), Fail> {
+fn each_row_prints_its_line(rt: HostRuntime) {
     for (name, line, status) in [
         ("release_unlocked", "failed 14 0\n", 1),
         ("lock_while_out", "failed 14 0 t0\n", 1),
@@ -33,13 +34,17 @@ fn each_row_prints_its_line(rt: HostRuntime) -> Result<(), Fail> {
         ("named_child", "complete 1\n", 0),
         ("unreachable", "failed 15 0\n", 1),
     ] {
-        prints(&rt, name, line, status)?;
+        let mut out = Vec::new(rt.alloc());
+        let mut err = Vec::new(rt.alloc());
+        let answer = rows::run_row(&rt, &[name], &mut out, &mut err);
+        assert_eq!(rt; answer, status, "{name}");
+        assert_eq!(rt; out.as_slice(), line.as_bytes(), "{name}");
+        assert!(rt; err.is_empty(), "{name}");
     }
-    Ok(())
 }
 
 #[test]
-fn threads_find_what_others_left(rt: HostRuntime) -> Result<(), Fail> {
+fn threads_find_what_others_left(rt: HostRuntime) {
     for name in [
         "mutex_into_inner",
         "rwlock_writer_and_readers",
@@ -47,9 +52,16 @@ fn threads_find_what_others_left(rt: HostRuntime) -> Result<(), Fail> {
         "notify_all",
         "unpark_wakes",
     ] {
-        begins(&rt, name, "complete ", 0)?;
+        let mut out = Vec::new(rt.alloc());
+        let mut err = Vec::new(rt.alloc());
+        let answer = rows::run_row(&rt, &[name], &mut out, &mut err);
+        assert_eq!(rt; answer, 0, "{name}");
+        assert!(rt;
+            out.as_slice().starts_with("complete ".as_bytes()),
+            "{name}"
+        );
+        assert!(rt; err.is_empty(), "{name}");
     }
-    Ok(())
 }
 
 // The script has these runs, in this order, each of which main finishes with 7.

@@ -1,4 +1,4 @@
-use super::{FIVE_SPAWNS, JOIN_TWICE, begins, prints};
+use super::{FIVE_SPAWNS, JOIN_TWICE};
 use crate::bodies::LOCK_BESIDE;
 use crate::rows::{self, Row};
 use loom::model::Builder;
@@ -21,7 +21,7 @@ impl Write for Broken {
 }
 
 #[test]
-fn each_row_prints_its_line(rt: HostRuntime) -> Result<(), Fail> {
+fn each_row_prints_its_line(rt: HostRuntime) {
     for (name, line, status) in [
         ("finish_only", "complete 1\n", 0),
         ("spawn_only", "complete 1\n", 0),
@@ -47,13 +47,17 @@ fn each_row_prints_its_line(rt: HostRuntime) -> Result<(), Fail> {
             1,
         ),
     ] {
-        prints(&rt, name, line, status)?;
+        let mut out = Vec::new(rt.alloc());
+        let mut err = Vec::new(rt.alloc());
+        let answer = rows::run_row(&rt, &[name], &mut out, &mut err);
+        assert_eq!(rt; answer, status, "{name}");
+        assert_eq!(rt; out.as_slice(), line.as_bytes(), "{name}");
+        assert!(rt; err.is_empty(), "{name}");
     }
-    Ok(())
 }
 
 #[test]
-fn each_name_is_its_row(rt: HostRuntime) -> Result<(), Fail> {
+fn each_name_is_its_row(rt: HostRuntime) {
     for (name, beginning, status) in [
         ("load_buffering", "complete ", 0),
         ("sb_fences", "complete ", 0),
@@ -62,9 +66,13 @@ fn each_name_is_its_row(rt: HostRuntime) -> Result<(), Fail> {
         ("checks_fail", "failed 1 ", 1),
         ("two_mutexes_deadlock", "failed 2 ", 1),
     ] {
-        begins(&rt, name, beginning, status)?;
+        let mut out = Vec::new(rt.alloc());
+        let mut err = Vec::new(rt.alloc());
+        let answer = rows::run_row(&rt, &[name], &mut out, &mut err);
+        assert_eq!(rt; answer, status, "{name}");
+        assert!(rt; out.as_slice().starts_with(beginning.as_bytes()), "{name}");
+        assert!(rt; err.is_empty(), "{name}");
     }
-    Ok(())
 }
 
 #[test]

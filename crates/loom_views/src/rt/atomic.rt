@@ -131,10 +131,10 @@ impl State {
         match reader {
             Reader::Update => is_below,
             Reader::Load(order) => {
-                is_below
-                    && (other.first_seen.is_seen_from(&views.present)
-                        || store.first_seen.is_before_yield(thread, views.last_yield)
-                        || matches!(order, Ordering::SeqCst) && store.seq_cst && other.seq_cst)
+                let is_seen = other.first_seen.is_seen_from(&views.present);
+                let is_before = store.first_seen.is_before_yield(thread, views.last_yield);
+                let is_seq_cst = matches!(order, Ordering::SeqCst);
+                is_below && (is_seen || is_before || is_seq_cst && store.seq_cst && other.seq_cst)
             }
         }
     }
@@ -175,9 +175,9 @@ impl State {
         requires j_in { j < 7 }
         ensures { result ≡ has_order_of (is_same_slot self.now) (drops_slot self.now thread views.now reader) i j }
     {
-        i != j
-            && self.stores[i].order == self.stores[j].order
-            && !self.is_dropped(thread, views, reader, i, j)
+        let is_same = self.stores[i].order == self.stores[j].order;
+        let is_dropped = self.is_dropped(thread, views, reader, i, j);
+        i != j && is_same && !is_dropped
     }
 
     /// Whether slot `i` has the order of another slot in that way.
