@@ -1,7 +1,19 @@
-//! The handles, under loom's paths.
+//! The handles of a run, under loom's paths: each method makes an operation.
 #![tactic(auto)]
 
-pub mod sync;
+ghost use Rattle.std.specs.Prelude.{◌≡◌, None};
 
-pub use loom_cell_ops::{alloc, cell};
-pub use loom_thread_ops::{fail, hint, thread};
+pub mod alloc;
+pub mod cell;
+pub mod hint;
+pub mod sync;
+pub mod thread;
+
+use loom_objects::operation::Op;
+
+/// The body's own assertion failed, which ends the run (own).
+pub fn fail<D, S>() -> Op<D, S>
+    ensures { result ≡ Op.Fail None }
+{
+    Op::Fail(None)
+}

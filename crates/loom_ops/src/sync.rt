@@ -1,9 +1,13 @@
 //! Handles of atomics, of the objects by which threads wait for one another, and of counted references.
-pub use loom_atomic_ops::atomic;
-pub use loom_cell_ops::arc;
-pub use loom_cell_ops::arc::Arc;
-pub use loom_lock_ops::condvar::{Condvar, WaitTimeoutResult};
-pub use loom_lock_ops::mutex::{Mutex, MutexGuard};
-pub use loom_lock_ops::notify::Notify;
-pub use loom_lock_ops::rwlock::{RwLock, RwLockReadGuard, RwLockWriteGuard};
-pub use loom_lock_ops::{condvar, mutex, notify, rwlock};
+pub mod arc;
+pub mod atomic;
+pub mod condvar;
+pub mod mutex;
+pub mod notify;
+pub mod rwlock;
+
+pub use crate::sync::arc::Arc;
+pub use crate::sync::condvar::{Condvar, WaitTimeoutResult};
+pub use crate::sync::mutex::{Mutex, MutexGuard};
+pub use crate::sync::notify::Notify;
+pub use crate::sync::rwlock::{RwLock, RwLockReadGuard, RwLockWriteGuard};

@@ -7,11 +7,11 @@ use Rattle.loom_objects.specs.declared.operation.Op.{Op}
 use Rattle.loom_objects.specs.declared.operation.Op.TheVariants.{Atomic as OnAtomic, Thread as OnThread, Fail}
 use Rattle.loom_objects.specs.declared.operation.Reply.{Reply}
 use Rattle.loom_objects.specs.declared.operation.ThreadOp.TheVariants.{Finish, Exit, End}
-use Rattle.loom_atomic_ops.specs.Handles.{atomic_handle, value_in, fetched_in, exchange, update}
-use Rattle.loom_atomic_ops.specs.declared.atomic.Atomic.{Atomic}
-use Rattle.loom_atomic_ops.specs.declared.atomic.FetchUpdate.{FetchUpdate}
-use Rattle.loom_atomic_ops.specs.declared.atomic.Fetched.{Fetched}
-use Rattle.loom_atomic_ops.specs.declared.atomic.Fetched.TheVariants.{Read, Replaced}
+use Rattle.loom_ops.specs.Atomics.{atomic_handle, value_in, fetched_in, exchange, update}
+use Rattle.loom_ops.specs.declared.sync.atomic.Atomic.{Atomic}
+use Rattle.loom_ops.specs.declared.sync.atomic.FetchUpdate.{FetchUpdate}
+use Rattle.loom_ops.specs.declared.sync.atomic.Fetched.{Fetched}
+use Rattle.loom_ops.specs.declared.sync.atomic.Fetched.TheVariants.{Read, Replaced}
 use Rattle.loom_scripts.specs.declared.number.Number.{Number}
 use Rattle.loom_scripts.specs.Number.{number}
 use Rattle.loom_rows.specs.declared.updates.Awaits.{Awaits}

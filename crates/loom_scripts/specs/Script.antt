@@ -22,11 +22,16 @@ use Rattle.loom_objects.specs.declared.operation.Reply.{Reply}
 use Rattle.loom_objects.specs.declared.operation.Reply.TheVariants as reply
 use Rattle.loom_views.specs.declared.rt.num.Numbers.TheVariants.{U64}
 use Rattle.loom_objects.specs.declared.rt.thread.Name.{Name}
-use Rattle.loom_thread_ops.specs.declared.thread.Thread.{Thread}
-use Rattle.loom_atomic_ops.specs.Handles.{atomic_handle}
-use Rattle.loom_cell_ops.specs.Handles.{arc_handle, unsafe_cell_handle, track_handle}
-use Rattle.loom_lock_ops.specs.Handles.{mutex_handle, rwlock_handle, condvar_handle, notify_handle}
-use Rattle.loom_thread_ops.specs.Handles.{join_handle, thread_handle, named, yielding}
+use Rattle.loom_ops.specs.declared.thread.Thread.{Thread}
+use Rattle.loom_ops.specs.Atomics.{atomic_handle}
+use Rattle.loom_ops.specs.Counts.{arc_handle}
+use Rattle.loom_ops.specs.Cells.{unsafe_cell_handle}
+use Rattle.loom_ops.specs.Tracks.{track_handle}
+use Rattle.loom_ops.specs.Locks.{mutex_handle}
+use Rattle.loom_ops.specs.RwLocks.{rwlock_handle}
+use Rattle.loom_ops.specs.Condvars.{condvar_handle}
+use Rattle.loom_ops.specs.Notifiers.{notify_handle}
+use Rattle.loom_ops.specs.Threads.{join_handle, thread_handle, named, yielding}
 use Rattle.loom_scripts.specs.declared.number.Number.{Number}
 use Rattle.loom_scripts.specs.Number.{number}
 use Rattle.loom_scripts.specs.declared.step.Access.{Access}

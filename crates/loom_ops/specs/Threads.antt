@@ -1,0 +1,29 @@
+-- The threads that replies hold.
+use Rattle.std.specs.Prelude.{ℕ, Option, Some, None}
+use Rattle.loom_objects.specs.declared.operation.Op.{Op}
+use Rattle.loom_objects.specs.declared.operation.Op.TheVariants.{Thread as OnThread}
+use Rattle.loom_objects.specs.declared.operation.Reply.{Reply}
+use Rattle.loom_objects.specs.declared.operation.Reply.TheVariants.{Spawned, Thread as ThreadIs}
+use Rattle.loom_objects.specs.declared.operation.ThreadOp.TheVariants.{Yield}
+use Rattle.loom_objects.specs.declared.rt.thread.Name.{Name}
+use Rattle.loom_ops.specs.declared.thread.JoinHandle.{JoinHandle}
+use Rattle.loom_ops.specs.declared.thread.Thread.{Thread}
+
+-- the thread of this number, with this name
+abbrev pub named : ℕ → Option Name → Thread
+named thread name = record { id = record { 0 = thread }; name = name }
+
+module _ {D : Type 0} where
+  -- the thread that was spawned, its name, and its notifier
+  abbrev pub join_handle : Reply D → Option JoinHandle
+  join_handle (Spawned thread name notifier) = Some (record { thread = thread; name = name; notifier = notifier })
+  join_handle _ = None
+
+  -- the thread that asked which one it is
+  abbrev pub thread_handle : Reply D → Option Thread
+  thread_handle (ThreadIs thread name) = Some (named thread name)
+  thread_handle _ = None
+
+-- a thread lets others go first
+abbrev pub yielding : {D S : Type 0} → Op D S
+yielding = OnThread Yield None

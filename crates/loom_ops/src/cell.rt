@@ -1,0 +1,229 @@
+//! Cells: data that threads read and write, where accesses that meet fail the run.
+ghost use Rattle.std.specs.Prelude.{◌≡◌, None};
+ghost use Rattle.loom_ops.specs.Cells.{cell_handle, unsafe_cell_handle, reader_handle, writer_handle, written_in};
+
+use loom_objects::operation::{CellOp, Op, Reply};
+
+/// A cell of the run, whose accesses each begin and end by an operation (loom's `cell/unsafe_cell.rs`).
+#[derive(Clone, Copy, Debug)]
+pub struct UnsafeCell {
+    /// Its place in the order in which objects were made.
+    pub number: usize,
+}
+
+/// A cell that this thread reads (loom's `cell/unsafe_cell.rs`).
+#[derive(Clone, Copy, Debug)]
+pub struct ConstPtr {
+    /// The cell's number.
+    pub number: usize,
+}
+
+/// A cell that this thread writes (loom's `cell/unsafe_cell.rs`).
+#[derive(Clone, Copy, Debug)]
+pub struct MutPtr {
+    /// The cell's number.
+    pub number: usize,
+}
+
+/// A cell of the run, each of whose accesses begins and ends at once. Where an access of the same object by `UnsafeCell` is
+/// open, they fail as those would (loom's `cell/cell.rs`).
+#[derive(Clone, Copy, Debug)]
+pub struct Cell {
+    /// Its place in the order in which objects were made.
+    pub number: usize,
+}
+
+impl UnsafeCell {
+    /// A new cell with this data, which nobody accesses (loom's `cell/unsafe_cell.rs`).
+    #[allow(clippy::new_ret_no_self)]
+    pub fn new<D, S>(value: D) -> Op<D, S>
+        ensures { result ≡ Op.Cell (CellOp.New value) None }
+    {
+        Op::Cell(CellOp::New(value), None)
+    }
+
+    /// The cell that was made, if that is what the reply says (own).
+    pub fn from_reply<D>(reply: &Reply<D>) -> Option<UnsafeCell>
+        ensures { result ≡ unsafe_cell_handle reply.now }
+    {
+        match reply {
+            Reply::Cell(number) => Some(UnsafeCell { number: *number }),
+            _ => None,
+        }
+    }
+
+    /// Begins to read, and replies a copy of the data; `ConstPtr::end` ends it. While a write is open that is the failure
+    /// `OpenAccess`, and where the thread doesn't know of an earlier one, `Race` (loom's `cell/unsafe_cell.rs`).
+    pub fn get<D, S>(self) -> Op<D, S>
+        ensures { result ≡ Op.Cell (CellOp.Read self.number) None }
+    {
+        Op::Cell(CellOp::Read(self.number), None)
+    }
+
+    /// The same as `get`: in loom a closure is given what is read, and here the body goes on until `ConstPtr::end` (loom's
+    /// `cell/unsafe_cell.rs`).
+    pub fn with<D, S>(self) -> Op<D, S>
+        ensures { result ≡ Op.Cell (CellOp.Read self.number) None }
+    {
+        self.get()
+    }
+
+    /// Begins to write, and replies the data; `MutPtr::end` hands it back. While a read or a write is open that is the failure
+    /// `OpenAccess`, and where the thread doesn't know of an earlier one, `Race` (loom's `cell/unsafe_cell.rs`).
+    pub fn get_mut<D, S>(self) -> Op<D, S>
+        ensures { result ≡ Op.Cell (CellOp.Write self.number) None }
+    {
+        Op::Cell(CellOp::Write(self.number), None)
+    }
+
+    /// The same as `get_mut`: in loom a closure is given what is written, and here the body goes on until `MutPtr::end`
+    /// (loom's `cell/unsafe_cell.rs`).
+    pub fn with_mut<D, S>(self) -> Op<D, S>
+        ensures { result ≡ Op.Cell (CellOp.Write self.number) None }
+    {
+        self.get_mut()
+    }
+
+    /// Replies the data, and the cell is no more: a later operation of it is a misuse. While an access is open that is the
+    /// failure `OpenAccess` (loom's `cell/unsafe_cell.rs`).
+    pub fn into_inner<D, S>(self) -> Op<D, S>
+        ensures { result ≡ Op.Cell (CellOp.IntoInner self.number) None }
+    {
+        Op::Cell(CellOp::IntoInner(self.number), None)
+    }
+}
+
+impl ConstPtr {
+    /// The cell that the thread reads from now on, if that is what the reply says (own).
+    pub fn from_reply<D>(reply: &Reply<D>) -> Option<ConstPtr>
+        ensures { result ≡ reader_handle reply.now }
+    {
+        match reply {
+            Reply::Reading(number, _) => Some(ConstPtr { number: *number }),
+            _ => None,
+        }
+    }
+
+    /// Replies another copy of the data. A read that isn't open is a misuse (loom's `cell/unsafe_cell.rs`).
+    pub fn deref<D, S>(self) -> Op<D, S>
+        ensures { result ≡ Op.Cell (CellOp.Deref self.number) None }
+    {
+        Op::Cell(CellOp::Deref(self.number), None)
+    }
+
+    /// The same as `deref`: what loom's closure does with the data, the body does with the reply (loom's
+    /// `cell/unsafe_cell.rs`).
+    pub fn with<D, S>(self) -> Op<D, S>
+        ensures { result ≡ Op.Cell (CellOp.Deref self.number) None }
+    {
+        self.deref()
+    }
+
+    /// Ends the read: in loom the pointer's drop, or the closure's end. A read that isn't open is a misuse, and a write that
+    /// the thread doesn't know of is the failure `Race` (loom's `cell/unsafe_cell.rs`).
+    pub fn end<D, S>(self) -> Op<D, S>
+        ensures { result ≡ Op.Cell (CellOp.ReadEnd self.number) None }
+    {
+        Op::Cell(CellOp::ReadEnd(self.number), None)
+    }
+}
+
+impl MutPtr {
+    /// The cell that the thread writes from now on, if that is what the reply says (own).
+    pub fn from_reply<D>(reply: &Reply<D>) -> Option<MutPtr>
+        ensures { result ≡ writer_handle reply.now }
+    {
+        match reply {
+            Reply::Writing(number, _) => Some(MutPtr { number: *number }),
+            _ => None,
+        }
+    }
+
+    /// The data that the thread writes from now on, if that is what the reply says. It is the body's until it ends the write,
+    /// so this stands in for `deref` and `with`, and is no operation (own).
+    pub fn data<D: Drop>(reply: Reply<D>) -> Option<D>
+        ensures { result ≡ written_in reply }
+    {
+        match reply {
+            Reply::Writing(_, value) => Some(value),
+            _ => None,
+        }
+    }
+
+    /// Ends the write, and the cell holds this data: in loom the pointer's drop, or the closure's end. A write that isn't open
+    /// is a misuse, and an access that the thread doesn't know of is the failure `Race` (loom's `cell/unsafe_cell.rs`).
+    pub fn end<D, S>(self, value: D) -> Op<D, S>
+        ensures { result ≡ Op.Cell (CellOp.WriteEnd self.number value) None }
+    {
+        Op::Cell(CellOp::WriteEnd(self.number, value), None)
+    }
+}
+
+impl Cell {
+    /// A new cell with this data (loom's `cell/cell.rs`).
+    #[allow(clippy::new_ret_no_self)]
+    pub fn new<D, S>(value: D) -> Op<D, S>
+        ensures { result ≡ Op.Cell (CellOp.New value) None }
+    {
+        UnsafeCell::new(value)
+    }
+
+    /// The cell that was made, if that is what the reply says (own).
+    pub fn from_reply<D>(reply: &Reply<D>) -> Option<Cell>
+        ensures { result ≡ cell_handle reply.now }
+    {
+        match reply {
+            Reply::Cell(number) => Some(Cell { number: *number }),
+            _ => None,
+        }
+    }
+
+    /// Writes the data, and replies what was there before; in loom that is dropped. Where the thread doesn't know of an
+    /// access, that is the failure `Race` (loom's `cell/cell.rs`).
+    pub fn set<D, S>(self, value: D) -> Op<D, S>
+        ensures { result ≡ Op.Cell (CellOp.Replace self.number value) None }
+    {
+        self.replace(value)
+    }
+
+    /// Writes the data, and replies what was there before. Where the thread doesn't know of an access, that is the failure
+    /// `Race` (loom's `cell/cell.rs`).
+    pub fn replace<D, S>(self, value: D) -> Op<D, S>
+        ensures { result ≡ Op.Cell (CellOp.Replace self.number value) None }
+    {
+        Op::Cell(CellOp::Replace(self.number, value), None)
+    }
+
+    /// Exchanges the data of the two cells, by a write of each. Where the thread doesn't know of an access to one of them, that
+    /// is the failure `Race`. A cell and itself keep their data, and nothing is written (loom's `cell/cell.rs`).
+    pub fn swap<D, S>(self, other: Cell) -> Op<D, S>
+        ensures { result ≡ Op.Cell (CellOp.Swap self.number other.number) None }
+    {
+        Op::Cell(CellOp::Swap(self.number, other.number), None)
+    }
+
+    /// Replies a copy of the data. Where the thread doesn't know of a write, that is the failure `Race` (loom's
+    /// `cell/cell.rs`).
+    pub fn get<D, S>(self) -> Op<D, S>
+        ensures { result ≡ Op.Cell (CellOp.Get self.number) None }
+    {
+        Op::Cell(CellOp::Get(self.number), None)
+    }
+
+    /// The same as `replace`: what stays behind is given, where loom takes the type's default (loom's `cell/cell.rs`).
+    pub fn take<D, S>(self, left: D) -> Op<D, S>
+        ensures { result ≡ Op.Cell (CellOp.Replace self.number left) None }
+    {
+        self.replace(left)
+    }
+
+    /// Replies the data, and the cell is no more: a later operation of it is a misuse (loom's `cell/cell.rs`).
+    pub fn into_inner<D, S>(self) -> Op<D, S>
+        ensures { result ≡ Op.Cell (CellOp.IntoInner self.number) None }
+    {
+        UnsafeCell {
+            number: self.number,
+        }
+        .into_inner()
+    }
+}

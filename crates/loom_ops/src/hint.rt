@@ -1,0 +1,20 @@
+//! Hints to the processor, of which a run makes operations.
+ghost use Rattle.std.specs.Prelude.{◌≡◌, None};
+ghost use Rattle.loom_ops.specs.Threads.{yielding};
+
+use crate::thread;
+use loom_objects::operation::Op;
+
+/// The thread yields, as by `thread::yield_now` (loom's `hint.rs`).
+pub fn spin_loop<D, S>() -> Op<D, S>
+    ensures { result ≡ yielding }
+{
+    thread::yield_now()
+}
+
+/// Code was reached that never is, which ends the run as `Unreachable` (loom's `hint.rs`).
+pub fn unreachable_unchecked<D, S>() -> Op<D, S>
+    ensures { result ≡ Op.Unreachable None }
+{
+    Op::Unreachable(None)
+}

@@ -1,0 +1,93 @@
+//! Counted references.
+ghost use Rattle.std.specs.Prelude.{◌≡◌, ◌==◌, None};
+ghost use Rattle.loom_ops.specs.Counts.{arc_handle};
+
+use loom_objects::operation::{ArcOp, Op, Reply};
+
+/// A counted reference of the run (loom's `sync/arc.rs`). The references that were made and not dropped are counted, not the
+/// handles: a handle that is copied or dropped does nothing. Where some are left at the run's end, it fails as `LeakArc`.
+#[derive(Clone, Copy, Debug)]
+pub struct Arc {
+    /// Its place in the order in which objects were made.
+    pub number: usize,
+}
+
+impl Arc {
+    /// A new counted reference to this value, the only one (loom's `sync/arc.rs`).
+    #[allow(clippy::new_ret_no_self)]
+    pub fn new<D, S>(value: D) -> Op<D, S>
+        ensures { result ≡ Op.Arc (ArcOp.New value) None }
+    {
+        Op::Arc(ArcOp::New(value), None)
+    }
+
+    /// The counted reference that was made, if that is what the reply says (own).
+    pub fn from_reply<D>(reply: &Reply<D>) -> Option<Arc>
+        ensures { result ≡ arc_handle reply.now }
+    {
+        match reply {
+            Reply::Arc(number) => Some(Arc { number: *number }),
+            _ => None,
+        }
+    }
+
+    /// One reference more, by the same handle (loom's `sync/arc.rs`).
+    #[allow(clippy::should_implement_trait)]
+    pub fn clone<D, S>(self) -> Op<D, S>
+        ensures { result ≡ Op.Arc (ArcOp.Clone self.number) None }
+    {
+        Op::Arc(ArcOp::Clone(self.number), None)
+    }
+
+    /// One reference fewer: in loom the drop. The last one replies the value, and a later operation of it is a misuse (loom's
+    /// `sync/arc.rs`).
+    pub fn drop<D, S>(self) -> Op<D, S>
+        ensures { result ≡ Op.Arc (ArcOp.Drop self.number) None }
+    {
+        Op::Arc(ArcOp::Drop(self.number), None)
+    }
+
+    /// Replies a copy of the value: in loom the `Deref` (loom's `sync/arc.rs`).
+    pub fn get<D, S>(self) -> Op<D, S>
+        ensures { result ≡ Op.Arc (ArcOp.Get self.number) None }
+    {
+        Op::Arc(ArcOp::Get(self.number), None)
+    }
+
+    /// Replies the value if there is one reference alone, and else `Shared`. `put` hands it back, and any other operation of
+    /// the reference before that is a misuse (loom's `sync/arc.rs`).
+    pub fn get_mut<D, S>(self) -> Op<D, S>
+        ensures { result ≡ Op.Arc (ArcOp.GetMut self.number) None }
+    {
+        Op::Arc(ArcOp::GetMut(self.number), None)
+    }
+
+    /// Hands the value back, after `get_mut` by the same thread, else it is a misuse (own).
+    pub fn put<D, S>(self, value: D) -> Op<D, S>
+        ensures { result ≡ Op.Arc (ArcOp.Put self.number value) None }
+    {
+        Op::Arc(ArcOp::Put(self.number, value), None)
+    }
+
+    /// Drops the reference and replies the value if it is alone, and else replies `Shared` and drops nothing (loom's
+    /// `sync/arc.rs`).
+    pub fn try_unwrap<D, S>(self) -> Op<D, S>
+        ensures { result ≡ Op.Arc (ArcOp.TryUnwrap self.number) None }
+    {
+        Op::Arc(ArcOp::TryUnwrap(self.number), None)
+    }
+
+    /// Replies how many references there are (loom's `sync/arc.rs`).
+    pub fn strong_count<D, S>(self) -> Op<D, S>
+        ensures { result ≡ Op.Arc (ArcOp.StrongCount self.number) None }
+    {
+        Op::Arc(ArcOp::StrongCount(self.number), None)
+    }
+
+    /// Both count the same references. It is no operation (loom's `sync/arc.rs`).
+    pub fn ptr_eq(self, other: Arc) -> bool
+        ensures { result ≡ (self.number == other.number) }
+    {
+        self.number == other.number
+    }
+}

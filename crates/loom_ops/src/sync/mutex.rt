@@ -1,0 +1,98 @@
+//! Mutexes.
+ghost use Rattle.std.specs.Prelude.{◌≡◌, None};
+ghost use Rattle.loom_ops.specs.Locks.{mutex_handle, guard_handle};
+
+use loom_objects::operation::{MutexOp, Op, Reply};
+
+/// A mutex of the run (loom's `sync/mutex.rs`).
+#[derive(Clone, Copy, Debug)]
+pub struct Mutex {
+    /// Its place in the order in which objects were made.
+    pub number: usize,
+}
+
+/// A mutex that this thread holds (loom's `sync/mutex.rs`).
+#[derive(Clone, Copy, Debug)]
+pub struct MutexGuard {
+    /// The mutex's number.
+    pub number: usize,
+}
+
+impl Mutex {
+    /// A new mutex with this data, which nobody holds (loom's `sync/mutex.rs`).
+    #[allow(clippy::new_ret_no_self)]
+    pub fn new<D, S>(value: D) -> Op<D, S>
+        ensures { result ≡ Op.Mutex (MutexOp.New value) None }
+    {
+        Op::Mutex(MutexOp::New(value), None)
+    }
+
+    /// The mutex that was made, if that is what the reply says (own).
+    pub fn from_reply<D>(reply: &Reply<D>) -> Option<Mutex>
+        ensures { result ≡ mutex_handle reply.now }
+    {
+        match reply {
+            Reply::Mutex(number) => Some(Mutex { number: *number }),
+            _ => None,
+        }
+    }
+
+    /// The thread holds the mutex from its reply on, which gives it the data. It waits while another holds it (loom's
+    /// `sync/mutex.rs`).
+    pub fn lock<D, S>(self) -> Op<D, S>
+        ensures { result ≡ Op.Mutex (MutexOp.Lock self.number) None }
+    {
+        Op::Mutex(MutexOp::Lock(self.number), None)
+    }
+
+    /// The same, where nobody holds the mutex. Where a thread does, this one as well, it replies `WouldBlock` and doesn't wait
+    /// (loom's `sync/mutex.rs`).
+    pub fn try_lock<D, S>(self) -> Op<D, S>
+        ensures { result ≡ Op.Mutex (MutexOp.TryLock self.number) None }
+    {
+        Op::Mutex(MutexOp::TryLock(self.number), None)
+    }
+
+    /// Replies the data, which `put` hands back. While a thread holds the mutex that is a misuse, and so is any other operation
+    /// of it before the `put` (loom's `sync/mutex.rs`).
+    pub fn get_mut<D, S>(self) -> Op<D, S>
+        ensures { result ≡ Op.Mutex (MutexOp.GetMut self.number) None }
+    {
+        Op::Mutex(MutexOp::GetMut(self.number), None)
+    }
+
+    /// Hands the data back, after `get_mut` by the same thread, else it is a misuse (own).
+    pub fn put<D, S>(self, value: D) -> Op<D, S>
+        ensures { result ≡ Op.Mutex (MutexOp.Put self.number value) None }
+    {
+        Op::Mutex(MutexOp::Put(self.number, value), None)
+    }
+
+    /// Replies the data, and the mutex is no more: a later operation of it is a misuse, and so is this one while a thread holds
+    /// the mutex (loom's `sync/mutex.rs`).
+    pub fn into_inner<D, S>(self) -> Op<D, S>
+        ensures { result ≡ Op.Mutex (MutexOp.IntoInner self.number) None }
+    {
+        Op::Mutex(MutexOp::IntoInner(self.number), None)
+    }
+}
+
+impl MutexGuard {
+    /// The mutex that the thread holds now, if that is what the reply says: of a lock, or of a wait with a time (own).
+    pub fn from_reply<D>(reply: &Reply<D>) -> Option<MutexGuard>
+        ensures { result ≡ guard_handle reply.now }
+    {
+        match reply {
+            Reply::Locked(number, _) => Some(MutexGuard { number: *number }),
+            Reply::Waited(number, ..) => Some(MutexGuard { number: *number }),
+            _ => None,
+        }
+    }
+
+    /// The mutex is free, and holds this data: in loom the guard's drop (loom's `sync/mutex.rs`).
+    pub fn release<D, S>(self, value: D) -> Op<D, S>
+        ensures { result ≡ Op.Mutex (MutexOp.Release self.number value) None }
+    {
+        Op::Mutex(MutexOp::Release(self.number, value), None)
+    }
+}

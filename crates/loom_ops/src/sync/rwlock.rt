@@ -1,0 +1,141 @@
+//! Read-write locks: many threads read, or one writes.
+ghost use Rattle.std.specs.Prelude.{◌≡◌, None};
+ghost use Rattle.loom_ops.specs.RwLocks.{rwlock_handle, read_guard_handle, write_guard_handle};
+
+use loom_objects::operation::{Op, Reply, RwLockOp};
+
+/// A read-write lock of the run (loom's `sync/rwlock.rs`).
+#[derive(Clone, Copy, Debug)]
+pub struct RwLock {
+    /// Its place in the order in which objects were made.
+    pub number: usize,
+}
+
+/// A lock that this thread reads (loom's `sync/rwlock.rs`). The guards that were replied and not released are counted, by
+/// thread: a handle that is copied or dropped does nothing.
+#[derive(Clone, Copy, Debug)]
+pub struct RwLockReadGuard {
+    /// The lock's number.
+    pub number: usize,
+}
+
+/// A lock that this thread writes (loom's `sync/rwlock.rs`).
+#[derive(Clone, Copy, Debug)]
+pub struct RwLockWriteGuard {
+    /// The lock's number.
+    pub number: usize,
+}
+
+impl RwLock {
+    /// A new lock with this data, which nobody holds (loom's `sync/rwlock.rs`).
+    #[allow(clippy::new_ret_no_self)]
+    pub fn new<D, S>(value: D) -> Op<D, S>
+        ensures { result ≡ Op.RwLock (RwLockOp.New value) None }
+    {
+        Op::RwLock(RwLockOp::New(value), None)
+    }
+
+    /// The lock that was made, if that is what the reply says (own).
+    pub fn from_reply<D>(reply: &Reply<D>) -> Option<RwLock>
+        ensures { result ≡ rwlock_handle reply.now }
+    {
+        match reply {
+            Reply::RwLock(number) => Some(RwLock { number: *number }),
+            _ => None,
+        }
+    }
+
+    /// The thread reads from its reply on, which gives it a copy of the data. It waits while a thread writes, and for no
+    /// other that reads (loom's `sync/rwlock.rs`).
+    pub fn read<D, S>(self) -> Op<D, S>
+        ensures { result ≡ Op.RwLock (RwLockOp.Read self.number) None }
+    {
+        Op::RwLock(RwLockOp::Read(self.number), None)
+    }
+
+    /// The same, where no thread writes. Where one does, it replies `WouldBlock` and doesn't wait (loom's `sync/rwlock.rs`).
+    pub fn try_read<D, S>(self) -> Op<D, S>
+        ensures { result ≡ Op.RwLock (RwLockOp.TryRead self.number) None }
+    {
+        Op::RwLock(RwLockOp::TryRead(self.number), None)
+    }
+
+    /// The thread alone writes from its reply on, which gives it the data. It waits while a thread reads or writes (loom's
+    /// `sync/rwlock.rs`).
+    pub fn write<D, S>(self) -> Op<D, S>
+        ensures { result ≡ Op.RwLock (RwLockOp.Write self.number) None }
+    {
+        Op::RwLock(RwLockOp::Write(self.number), None)
+    }
+
+    /// The same, where no thread reads or writes. Where one does, this one as well, it replies `WouldBlock` and doesn't wait
+    /// (loom's `sync/rwlock.rs`).
+    pub fn try_write<D, S>(self) -> Op<D, S>
+        ensures { result ≡ Op.RwLock (RwLockOp.TryWrite self.number) None }
+    {
+        Op::RwLock(RwLockOp::TryWrite(self.number), None)
+    }
+
+    /// Replies the data, which `put` hands back. While a thread reads or writes that is a misuse, and so is any access before
+    /// the `put` (loom's `sync/rwlock.rs`).
+    pub fn get_mut<D, S>(self) -> Op<D, S>
+        ensures { result ≡ Op.RwLock (RwLockOp.GetMut self.number) None }
+    {
+        Op::RwLock(RwLockOp::GetMut(self.number), None)
+    }
+
+    /// Hands the data back, after `get_mut` by the same thread, else it is a misuse (own).
+    pub fn put<D, S>(self, value: D) -> Op<D, S>
+        ensures { result ≡ Op.RwLock (RwLockOp.Put self.number value) None }
+    {
+        Op::RwLock(RwLockOp::Put(self.number, value), None)
+    }
+
+    /// Replies the data, and the lock is no more: a later operation of it is a misuse, and so is this one while a thread reads
+    /// or writes (loom's `sync/rwlock.rs`).
+    pub fn into_inner<D, S>(self) -> Op<D, S>
+        ensures { result ≡ Op.RwLock (RwLockOp.IntoInner self.number) None }
+    {
+        Op::RwLock(RwLockOp::IntoInner(self.number), None)
+    }
+}
+
+impl RwLockReadGuard {
+    /// The lock that the thread reads now, if that is what the reply says (own).
+    pub fn from_reply<D>(reply: &Reply<D>) -> Option<RwLockReadGuard>
+        ensures { result ≡ read_guard_handle reply.now }
+    {
+        match reply {
+            Reply::ReadLocked(number, _) => Some(RwLockReadGuard { number: *number }),
+            _ => None,
+        }
+    }
+
+    /// One guard of the thread ends: in loom the guard's drop. A thread that has none of the lock makes a misuse (loom's
+    /// `sync/rwlock.rs`).
+    pub fn release<D, S>(self) -> Op<D, S>
+        ensures { result ≡ Op.RwLock (RwLockOp.ReadRelease self.number) None }
+    {
+        Op::RwLock(RwLockOp::ReadRelease(self.number), None)
+    }
+}
+
+impl RwLockWriteGuard {
+    /// The lock that the thread writes now, if that is what the reply says (own).
+    pub fn from_reply<D>(reply: &Reply<D>) -> Option<RwLockWriteGuard>
+        ensures { result ≡ write_guard_handle reply.now }
+    {
+        match reply {
+            Reply::WriteLocked(number, _) => Some(RwLockWriteGuard { number: *number }),
+            _ => None,
+        }
+    }
+
+    /// The lock is free, and holds this data: in loom the guard's drop. A thread that doesn't write makes a misuse (loom's
+    /// `sync/rwlock.rs`).
+    pub fn release<D, S>(self, value: D) -> Op<D, S>
+        ensures { result ≡ Op.RwLock (RwLockOp.WriteRelease self.number value) None }
+    {
+        Op::RwLock(RwLockOp::WriteRelease(self.number, value), None)
+    }
+}

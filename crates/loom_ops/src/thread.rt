@@ -1,0 +1,186 @@
+//! Threads: how they begin and how they end, who they are, and how they let others go first.
+ghost use Rattle.std.specs.Prelude.{◌≡◌, Some, None};
+ghost use Rattle.std.specs.Option.{option_map};
+ghost use Rattle.loom_ops.specs.Threads.{join_handle, thread_handle, named};
+
+use loom_objects::operation::{Op, Reply, ThreadOp};
+use loom_objects::rt::thread::Name;
+
+/// A thread that was spawned, and the notifier that it notifies when it finishes (loom's `thread.rs`).
+#[derive(Clone, Copy, Debug)]
+pub struct JoinHandle {
+    /// The thread's place in the order in which threads were made; main is 0.
+    pub thread: u8,
+    /// Its name, if it was given one.
+    pub name: Option<Name>,
+    /// The notifier's number.
+    pub notifier: usize,
+}
+
+/// A thread of the run (loom's `thread.rs`).
+#[derive(Clone, Copy, Debug)]
+pub struct Thread {
+    /// Its place in the order in which threads were made; main is 0.
+    pub id: ThreadId,
+    /// Its name, if it was given one.
+    pub name: Option<Name>,
+}
+
+/// A thread's place in the order in which threads were made; main is 0 (loom's `thread.rs`).
+#[derive(Clone, Copy, Debug, PartialEq, Eq, Hash)]
+pub struct ThreadId(pub u8);
+
+/// What a thread is to be that is spawned (loom's `thread.rs`).
+#[derive(Clone, Copy, Debug)]
+pub struct Builder {
+    /// Its name, if it is given one.
+    pub name: Option<Name>,
+}
+
+impl JoinHandle {
+    /// The thread that was spawned, if that is what the reply says (own).
+    pub fn from_reply<D>(reply: &Reply<D>) -> Option<JoinHandle>
+        ensures { result ≡ join_handle reply.now }
+    {
+        match reply {
+            Reply::Spawned(thread, name, notifier) => Some(JoinHandle {
+                thread: *thread,
+                name: *name,
+                notifier: *notifier,
+            }),
+            _ => None,
+        }
+    }
+
+    /// Waits for the thread to finish, and takes its result. A second join is a misuse (loom's `thread.rs`).
+    pub fn join<D, S>(self) -> Op<D, S>
+        ensures { result ≡ Op.Thread (ThreadOp.Join self.thread self.notifier) None }
+    {
+        Op::Thread(ThreadOp::Join(self.thread, self.notifier), None)
+    }
+
+    /// The thread itself. It is no operation (loom's `thread.rs`).
+    pub fn thread(self) -> Thread
+        ensures { result ≡ named self.thread self.name }
+    {
+        Thread {
+            id: ThreadId(self.thread),
+            name: self.name,
+        }
+    }
+}
+
+impl Thread {
+    /// The thread that `current` was made by, if that is what the reply says (own).
+    pub fn from_reply<D>(reply: &Reply<D>) -> Option<Thread>
+        ensures { result ≡ thread_handle reply.now }
+    {
+        match reply {
+            Reply::Thread(thread, name) => Some(Thread {
+                id: ThreadId(*thread),
+                name: *name,
+            }),
+            _ => None,
+        }
+    }
+
+    /// Which thread it is. It is no operation (loom's `thread.rs`).
+    pub fn id(self) -> ThreadId
+        ensures { result ≡ self.id }
+    {
+        self.id
+    }
+
+    /// Its name, if it was given one. It is no operation (loom's `thread.rs`).
+    pub fn name(self) -> Option<&'static str>
+        ensures { result ≡ option_map (λ name. name.text) self.name }
+    {
+        match self.name {
+            Some(name) => Some(name.text),
+            None => None,
+        }
+    }
+
+    /// The thread goes on if it is parked, and else has a token, by which it isn't parked the next time; it has one at most
+    /// (loom's `thread.rs`).
+    pub fn unpark<D, S>(self) -> Op<D, S>
+        ensures { result ≡ Op.Thread (ThreadOp.Unpark self.id.0) None }
+    {
+        Op::Thread(ThreadOp::Unpark(self.id.0), None)
+    }
+}
+
+impl Builder {
+    /// A thread without a name (loom's `thread.rs`).
+    #[allow(clippy::new_without_default)]
+    pub fn new() -> Builder
+        ensures { result.name ≡ None }
+    {
+        Builder { name: None }
+    }
+
+    /// The same, with this name (loom's `thread.rs`).
+    pub fn name(self, name: &'static str) -> Builder
+        ensures { option_map (λ name. name.text) result.name ≡ Some name.entry }
+    {
+        Builder {
+            name: Some(Name { text: name }),
+        }
+    }
+
+    /// A new thread, whose code is this body (loom's `thread.rs`).
+    pub fn spawn<D, S>(self, body: S) -> Op<D, S>
+        ensures { result ≡ Op.Thread (ThreadOp.Spawn body self.name) None }
+    {
+        Op::Thread(ThreadOp::Spawn(body, self.name), None)
+    }
+}
+
+/// A new thread without a name, whose code is this body (loom's `thread.rs`).
+pub fn spawn<D, S>(body: S) -> Op<D, S>
+    ensures { result ≡ Op.Thread (ThreadOp.Spawn body None) None }
+{
+    Op::Thread(ThreadOp::Spawn(body, None), None)
+}
+
+/// Replies which thread makes it, and its name (loom's `thread.rs`).
+pub fn current<D, S>() -> Op<D, S>
+    ensures { result ≡ Op.Thread ThreadOp.Current None }
+{
+    Op::Thread(ThreadOp::Current, None)
+}
+
+/// Takes the thread's token; without one the thread waits until it is unparked (loom's `thread.rs`).
+pub fn park<D, S>() -> Op<D, S>
+    ensures { result ≡ Op.Thread ThreadOp.Park None }
+{
+    Op::Thread(ThreadOp::Park, None)
+}
+
+/// Lets other threads that can go on do so first (loom's `thread.rs`).
+pub fn yield_now<D, S>() -> Op<D, S>
+    ensures { result ≡ Op.Thread ThreadOp.Yield None }
+{
+    Op::Thread(ThreadOp::Yield, None)
+}
+
+/// The thread's work is over, with this result: the first of the three operations at a thread's end (own).
+pub fn finish<D, S>(value: D) -> Op<D, S>
+    ensures { result ≡ Op.Thread (ThreadOp.Finish value) None }
+{
+    Op::Thread(ThreadOp::Finish(value), None)
+}
+
+/// The thread's locals are given back, after it finished (own).
+pub fn exit<D, S>() -> Op<D, S>
+    ensures { result ≡ Op.Thread ThreadOp.Exit None }
+{
+    Op::Thread(ThreadOp::Exit, None)
+}
+
+/// The thread's last operation, after it exited (own).
+pub fn end<D, S>() -> Op<D, S>
+    ensures { result ≡ Op.Thread ThreadOp.End None }
+{
+    Op::Thread(ThreadOp::End, None)
+}
