@@ -18,8 +18,8 @@ use Rattle.loom_engine.specs.Execution.{Comes}
 use Rattle.loom_engine.specs.Machine.{submit}
 use Rattle.loom_engine.specs.Routes.{Route, trail, settings_of, whole_search, drives}
 use Rattle.loom_engine.specs.Runs.{Meaning, with_child, at_turn, handed, play}
-use Rattle.loom_engine.specs.Trees.Drive.{drive}
-use Rattle.loom_engine.specs.Trees.Marks.{marking}
+use Rattle.loom_walks.specs.Trees.Drive.{drive}
+use Rattle.loom_walks.specs.Trees.Marks.{marking}
 use Rattle.loom_engine.proofs.Binding.{drive_then, drive_fails}
 use Rattle.loom.specs.Ending.{Outcome, IsUnderWay, ComesToTurn}
 

@@ -4,14 +4,14 @@ use Rattle.std.specs.Prelude.{Some, None, Result}
 use Rattle.loom_views.specs.declared.rt.failure.FailureKind.{FailureKind}
 use Rattle.loom_objects.specs.declared.choice.Choice.{Choice}
 use Rattle.loom_objects.specs.Tree.{Tree}
-use Rattle.loom_engine.specs.Walk.Path.{choices}
-use Rattle.loom_engine.specs.Trees.Outcomes.{outcome}
-use Rattle.loom_engine.specs.Trees.Marks.{marking}
-use Rattle.loom_engine.specs.Trees.Replay.{replayed}
+use Rattle.loom_walks.specs.Walk.Path.{choices}
+use Rattle.loom_walks.specs.Trees.Outcomes.{outcome}
+use Rattle.loom_walks.specs.Trees.Marks.{marking}
+use Rattle.loom_walks.specs.Trees.Replay.{replayed}
 use Rattle.loom_engine.specs.Routes.{Route, at_rest, whole_search, stored, trail, chosen, drives}
 use Rattle.loom_engine.specs.Runs.{IsRunTree}
-use Rattle.loom_engine.proofs.Trees.Marks.{marking_law}
-use Rattle.loom_engine.proofs.Trees.Replays.{replayed_as, allowed_replay_law}
+use Rattle.loom_walks.proofs.Trees.Marks.{marking_law}
+use Rattle.loom_walks.proofs.Trees.Replays.{replayed_as, allowed_replay_law}
 use Rattle.loom.specs.Check.{IsReplay}
 use Rattle.loom.proofs.Walking.{take_all}
 

@@ -4,17 +4,17 @@ use Rattle.std.specs.Prelude.{true, false, None, Ok, Err, Result, IfOk, ◌-◌,
 use Rattle.loom_views.specs.declared.rt.failure.FailureKind.{FailureKind}
 use Rattle.loom_objects.specs.declared.choice.Choice.{Choice}
 use Rattle.loom_objects.specs.Tree.{Tree}
-use Rattle.loom_engine.specs.Walk.Path.{choices}
-use Rattle.loom_engine.specs.Trees.Meeting.{Settings}
-use Rattle.loom_engine.specs.Trees.Drive.{Trail, drive, at_start}
-use Rattle.loom_engine.specs.Trees.Check.{Makes, makes_none}
-use Rattle.loom_engine.specs.Trees.Marks.{marking}
-use Rattle.loom_engine.specs.Trees.Reports.{IsWholeSearch, IsFailedReport}
+use Rattle.loom_walks.specs.Walk.Path.{choices}
+use Rattle.loom_walks.specs.Trees.Meeting.{Settings}
+use Rattle.loom_walks.specs.Trees.Drive.{Trail, drive, at_start}
+use Rattle.loom_walks.specs.Trees.Check.{Makes, makes_none}
+use Rattle.loom_walks.specs.Trees.Marks.{marking}
+use Rattle.loom_walks.specs.Trees.Reports.{IsWholeSearch, IsFailedReport}
 use Rattle.loom_engine.specs.Routes.{Route, at_rest, whole_search, stored, trail, chosen, Steps, drives}
 use Rattle.loom_engine.specs.Runs.{IsRunTree}
-use Rattle.loom_engine.proofs.Trees.Marks.{marking_law}
-use Rattle.loom_engine.proofs.Trees.Rounds.{another_round, final_round, next_driven}
-use Rattle.loom_engine.proofs.Trees.Reporting.{complete_report_law, stopped_report_law, failed_report_law}
+use Rattle.loom_walks.proofs.Trees.Marks.{marking_law}
+use Rattle.loom_walks.proofs.Trees.Rounds.{another_round, final_round, next_driven}
+use Rattle.loom_walks.proofs.Trees.Reporting.{complete_report_law, stopped_report_law, failed_report_law}
 use Rattle.loom.specs.Check.{Given, WasGiven, Reports, ReportsAlone}
 use Rattle.loom.specs.declared.error.CheckError.{CheckError}
 use Rattle.loom.specs.declared.model.Limit.{Limit}

@@ -4,13 +4,13 @@ use Rattle.loom_views.specs.declared.rt.failure.FailureKind.{FailureKind}
 use Rattle.loom_objects.specs.declared.choice.Choice.{Choice}
 use Rattle.loom_objects.specs.Tree.{Tree}
 use Rattle.loom_engine.specs.Routes.{whole_search}
-use Rattle.loom_engine.specs.Walk.Machine.{Machine, run}
-use Rattle.loom_engine.specs.Walk.Walks.{IsAllowed}
-use Rattle.loom_engine.specs.Trees.Marks.{marking}
-use Rattle.loom_engine.specs.Trees.Meeting.{machine_of}
-use Rattle.loom_engine.specs.Trees.Outcomes.{outcome}
-use Rattle.loom_engine.specs.Trees.Replay.{replayed}
-use Rattle.loom_engine.specs.Trees.Reports.{IsCompleteReport, IsStoppedReport, IsFailedReport}
+use Rattle.loom_walks.specs.Walk.Machine.{Machine, run}
+use Rattle.loom_walks.specs.Walk.Walks.{IsAllowed}
+use Rattle.loom_walks.specs.Trees.Marks.{marking}
+use Rattle.loom_walks.specs.Trees.Meeting.{machine_of}
+use Rattle.loom_walks.specs.Trees.Outcomes.{outcome}
+use Rattle.loom_walks.specs.Trees.Replay.{replayed}
+use Rattle.loom_walks.specs.Trees.Reports.{IsCompleteReport, IsStoppedReport, IsFailedReport}
 use Rattle.loom.specs.declared.model.Replay.{Replay}
 use Rattle.loom.specs.declared.model.Replay.TheVariants as replay
 use Rattle.loom.specs.declared.model.Report.{Report}

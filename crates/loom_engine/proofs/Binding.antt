@@ -5,8 +5,8 @@ use Rattle.loom_views.specs.declared.rt.failure.FailureKind.{FailureKind}
 use Rattle.loom_views.specs.declared.rt.failure.FailureKind.TheVariants.{NotDeterministic}
 use Rattle.loom_objects.specs.declared.choice.Choice.{Choice}
 use Rattle.loom_objects.specs.Tree.{Tree, Gives, Fails, Closes, Asks, ◌>>=◌}
-use Rattle.loom_engine.specs.Trees.Meeting.{Settings, Marking}
-use Rattle.loom_engine.specs.Trees.Drive.{Trail, Answer, branch, backtrack, is_used_up, drive, drive_on}
+use Rattle.loom_walks.specs.Trees.Meeting.{Settings, Marking}
+use Rattle.loom_walks.specs.Trees.Drive.{Trail, Answer, branch, backtrack, is_used_up, drive, drive_on}
 
 module _ {A B : Type 0} (s : Settings) (adds : Marking) where
   -- from what the one tree came to the path goes on through the other

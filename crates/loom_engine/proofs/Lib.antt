@@ -1,5 +1,3 @@
-pub mod Walk
-pub mod Trees
 pub mod Binding
 pub mod Executing
 pub mod Runs

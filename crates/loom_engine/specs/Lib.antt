@@ -1,5 +1,3 @@
-pub mod Walk
-pub mod Trees
 pub mod Nodes
 pub mod Routes
 pub mod Machine

@@ -7,8 +7,8 @@ use Rattle.loom_objects.specs.declared.choice.Choice.TheVariants.{Thread}
 use Rattle.loom_objects.specs.declared.rt.thread.Ability.{Ability}
 use Rattle.loom_objects.specs.declared.rt.thread.Ability.TheVariants.{Able, Yielding, Unable}
 use Rattle.loom_objects.specs.Question.{WhichThread, WhetherSpurious, Question, slots, asked_store, made_of}
-use Rattle.loom_engine.specs.Walk.Path.{Status as State, Closed, Skip as Skipped, Pending as ToTry, Active as Chosen, Visited as Tried, Stored, IsAtRest, advance}
-use Rattle.loom_engine.specs.Trees.Drive.{value_status}
+use Rattle.loom_walks.specs.Walk.Path.{Status as State, Closed, Skip as Skipped, Pending as ToTry, Active as Chosen, Visited as Tried, Stored, IsAtRest, advance}
+use Rattle.loom_walks.specs.Trees.Drive.{value_status}
 use Rattle.loom_engine.specs.declared.rt.node.Status.{Status}
 use Rattle.loom_engine.specs.declared.rt.node.Status.TheVariants.{Disabled, Skip, Yield, Pending, Active, Visited}
 use Rattle.loom_engine.specs.declared.rt.node.Node.{Node}

@@ -11,10 +11,10 @@ use Rattle.loom_objects.specs.declared.rt.thread.Offers.{Offers}
 use Rattle.loom_objects.specs.Question.{Question, WhichThread, WhetherSpurious}
 use Rattle.loom_objects.specs.Tree.{Tree}
 use Rattle.loom_engine.specs.declared.rt.node.Node.{Node}
-use Rattle.loom_engine.specs.Walk.Path.{Stored, choices, step}
-use Rattle.loom_engine.specs.Trees.Meeting.{Settings}
-use Rattle.loom_engine.specs.Trees.Drive.{Trail, branch, drive}
-use Rattle.loom_engine.specs.Trees.Marks.{marking}
+use Rattle.loom_walks.specs.Walk.Path.{Stored, choices, step}
+use Rattle.loom_walks.specs.Trees.Meeting.{Settings}
+use Rattle.loom_walks.specs.Trees.Drive.{Trail, branch, drive}
+use Rattle.loom_walks.specs.Trees.Marks.{marking}
 use Rattle.loom_engine.specs.Nodes.{seen}
 use Rattle.loom_objects.specs.Question.{slots, asked_store}
 

@@ -14,7 +14,7 @@ use Rattle.loom_objects.specs.declared.operation.Reply.{Reply}
 use Rattle.loom_objects.specs.declared.operation.Reply.TheVariants as reply
 use Rattle.loom_objects.specs.declared.operation.ThreadOp.TheVariants as thread
 use Rattle.loom_engine.specs.Runs.{Meaning, runs}
-use Rattle.loom_engine.specs.Trees.Outcomes.{outcome}
+use Rattle.loom_walks.specs.Trees.Outcomes.{outcome}
 
 -- one operation of a script; a spawn names the number of the script that is started
 pub data Step : Type 0 where

@@ -10,9 +10,9 @@ use Rattle.loom_objects.specs.Operation.{plain, started}
 use Rattle.loom_objects.specs.Tree.{Tree, Gives, Fails, ◌>>=◌, found}
 use Rattle.loom_objects.specs.World.{World, opening}
 use Rattle.loom_engine.specs.Machine.{submit}
-use Rattle.loom_engine.specs.Trees.Check.{IsClosing}
-use Rattle.loom_engine.specs.Trees.Meeting.{ExploresTree}
-use Rattle.loom_engine.specs.Trees.Outcomes.{IsSoundTree, IsFair}
+use Rattle.loom_walks.specs.Trees.Check.{IsClosing}
+use Rattle.loom_walks.specs.Trees.Meeting.{ExploresTree}
+use Rattle.loom_walks.specs.Trees.Outcomes.{IsSoundTree, IsFair}
 
 -- what a body means: from its state and a reply, its next state and operation
 abbrev pub Meaning : Type 0 → Type 0 → Type 0

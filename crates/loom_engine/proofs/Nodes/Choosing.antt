@@ -9,13 +9,13 @@ use Rattle.loom_objects.specs.declared.choice.Choice.{Choice}
 use Rattle.loom_objects.specs.declared.choice.Choice.TheVariants.{Thread, Load, Spurious}
 use Rattle.loom_objects.specs.declared.rt.thread.Ability.{Ability}
 use Rattle.loom_objects.specs.Question.{WhichThread, able_threads, made_of}
-use Rattle.loom_engine.specs.Walk.Choices.{same, pick}
-use Rattle.loom_engine.specs.Walk.Path.{Status as State, Closed, Skip as Skipped, Pending as ToTry, Active as Chosen, Visited as Tried, Stored, IsAtRest, first_pending, advance, choose}
+use Rattle.loom_walks.specs.Walk.Choices.{same, pick}
+use Rattle.loom_walks.specs.Walk.Path.{Status as State, Closed, Skip as Skipped, Pending as ToTry, Active as Chosen, Visited as Tried, Stored, IsAtRest, first_pending, advance, choose}
 use Rattle.loom_engine.specs.declared.rt.node.Status.{Status}
 use Rattle.loom_engine.specs.declared.rt.node.Status.TheVariants.{Disabled, Skip, Yield, Pending, Active, Visited}
 use Rattle.loom_engine.specs.Nodes.{ability_of, state_at, thread_state, active_thread, with_status, seen_threads, is_active, is_pending}
-use Rattle.loom_engine.proofs.Walk.Lists.{pick_same, pick_other}
-use Rattle.loom_engine.proofs.Walk.Resting.{choose_at_rest}
+use Rattle.loom_walks.proofs.Walk.Lists.{pick_same, pick_other}
+use Rattle.loom_walks.proofs.Walk.Resting.{choose_at_rest}
 use Rattle.loom_engine.proofs.Nodes.Statuses.{active_is, pending_is, state_there, get_put, get_else, state_put, state_else, offers_put, first_found, first_is}
 
 -- ---- what is pending

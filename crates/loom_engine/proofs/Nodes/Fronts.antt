@@ -1,7 +1,7 @@
 -- The last node of a path goes on, or is dropped.
 use Rattle.std.proofs.Common.{◌≡◌, ◌≢◌, ℕ, zero, suc, List, [], ◌∷◌, length, take, get_or, slice_set, Option, Some, None, true, false, nat_eq, ◌-◌, refl, ap, sym, ◌∙◌, subst, arith}
 use Rattle.std.proofs.lemmas.Bool.{eqb-true, eqb-false}
-use Rattle.loom_engine.specs.Walk.Path.{Stored, advance, step}
+use Rattle.loom_walks.specs.Walk.Path.{Stored, advance, step}
 use Rattle.loom_engine.specs.declared.rt.node.Node.{Node}
 use Rattle.loom_engine.specs.Nodes.{seen, IsWell, AreWell}
 use Rattle.loom_engine.specs.Routes.{stored}

@@ -5,8 +5,8 @@ use Rattle.loom_objects.specs.declared.choice.Choice.{Choice}
 use Rattle.loom_objects.specs.declared.choice.Choice.TheVariants.{Thread, Load, Spurious}
 use Rattle.loom_objects.specs.declared.rt.thread.Offers.{Offers}
 use Rattle.loom_objects.specs.Question.{Made, made_of, AreSoundOffers}
-use Rattle.loom_engine.specs.Walk.Path.{Pending as ToTry, Stored, fresh, choose}
-use Rattle.loom_engine.specs.Trees.Drive.{new_node}
+use Rattle.loom_walks.specs.Walk.Path.{Pending as ToTry, Stored, fresh, choose}
+use Rattle.loom_walks.specs.Trees.Drive.{new_node}
 use Rattle.loom_engine.specs.declared.rt.node.Status.{Status}
 use Rattle.loom_engine.specs.declared.rt.node.Status.TheVariants.{Pending}
 use Rattle.loom_engine.specs.declared.rt.node.Schedule.{Schedule}

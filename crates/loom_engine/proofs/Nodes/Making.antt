@@ -9,20 +9,20 @@ use Rattle.loom_objects.specs.declared.rt.thread.Ability.{Ability}
 use Rattle.loom_objects.specs.declared.rt.thread.Ability.TheVariants.{Able, Yielding, Unable}
 use Rattle.loom_objects.specs.Question.{Made, Among, Question, WhichThread, able_threads, thread_options, made_of, IsSoundDefault, AreSoundOffers}
 use Rattle.loom_objects.specs.declared.rt.thread.Offers.{Offers}
-use Rattle.loom_engine.specs.Walk.Machine.{is_thread}
-use Rattle.loom_engine.specs.Walk.Choices.{same, among, pick}
-use Rattle.loom_engine.specs.Walk.Path.{Status as State, Closed, Pending as ToTry, Active as Chosen, Stored, IsAtRest, fresh, choose}
-use Rattle.loom_engine.specs.Trees.Drive.{value_status, made_at, new_node}
+use Rattle.loom_walks.specs.Walk.Machine.{is_thread}
+use Rattle.loom_walks.specs.Walk.Choices.{same, among, pick}
+use Rattle.loom_walks.specs.Walk.Path.{Status as State, Closed, Pending as ToTry, Active as Chosen, Stored, IsAtRest, fresh, choose}
+use Rattle.loom_walks.specs.Trees.Drive.{value_status, made_at, new_node}
 use Rattle.loom_engine.specs.declared.rt.node.Status.{Status}
 use Rattle.loom_engine.specs.declared.rt.node.Status.TheVariants.{Pending, Active}
 use Rattle.loom_engine.specs.Nodes.{ability_of, made_status, with_status, state_of, state_at, thread_state, active_thread, is_active, seen_threads}
 use Rattle.loom_objects.specs.Tree.{Tree, Gives, Asks}
-use Rattle.loom_engine.specs.Trees.Outcomes.{IsSoundTree}
-use Rattle.loom_engine.specs.Trees.Meeting.{machine_of}
+use Rattle.loom_walks.specs.Trees.Outcomes.{IsSoundTree}
+use Rattle.loom_walks.specs.Trees.Meeting.{machine_of}
 use Rattle.loom_engine.specs.Routes.{which_thread, whole_search}
-use Rattle.loom_engine.proofs.Walk.Resting.{fresh_at_rest}
-use Rattle.loom_engine.proofs.Walk.Statuses.{FirstStatus, is_default, is_pending, is_skipped, is_closed, fresh_cases}
-use Rattle.loom_engine.proofs.Trees.Machines.{able_among, machine_law}
+use Rattle.loom_walks.proofs.Walk.Resting.{fresh_at_rest}
+use Rattle.loom_walks.proofs.Walk.Statuses.{FirstStatus, is_default, is_pending, is_skipped, is_closed, fresh_cases}
+use Rattle.loom_walks.proofs.Trees.Machines.{able_among, machine_law}
 use Rattle.loom_engine.proofs.Nodes.Defaults.{default_is_able, none_is_able, which_is_sound}
 use Rattle.loom_engine.proofs.Nodes.Statuses.{state_there, state_else, get_put, get_else, offers_put, first_is}
 

@@ -5,10 +5,10 @@ use Rattle.std.specs.Option.{option_map}
 use Rattle.loom_views.specs.declared.rt.failure.FailureKind.TheVariants.{NotDeterministic, TooManyBranches}
 use Rattle.loom_objects.specs.declared.choice.Choice.{Choice}
 use Rattle.loom_objects.specs.Question.{Question, made_of}
-use Rattle.loom_engine.specs.Walk.Path.{Stored, choices}
-use Rattle.loom_engine.specs.Trees.Comparing.{same_made}
-use Rattle.loom_engine.specs.Trees.Meeting.{every_at}
-use Rattle.loom_engine.specs.Trees.Drive.{Answer, passes_of, branch, branch_at, lengthen, new_node}
+use Rattle.loom_walks.specs.Walk.Path.{Stored, choices}
+use Rattle.loom_walks.specs.Trees.Comparing.{same_made}
+use Rattle.loom_walks.specs.Trees.Meeting.{every_at}
+use Rattle.loom_walks.specs.Trees.Drive.{Answer, passes_of, branch, branch_at, lengthen, new_node}
 use Rattle.loom_engine.specs.declared.rt.node.Node.{Node}
 use Rattle.loom_engine.specs.Nodes.{seen, IsWell, AreWell}
 use Rattle.loom_engine.specs.Routes.{Route, stored, trail, settings_of, choice_here, passed}

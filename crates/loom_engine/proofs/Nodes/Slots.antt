@@ -8,9 +8,9 @@ use Rattle.std.proofs.lemmas.Grind.{common_steps}
 use Rattle.loom_objects.specs.declared.choice.Choice.{Choice}
 use Rattle.loom_objects.specs.declared.choice.Choice.TheVariants.{Load}
 use Rattle.loom_objects.specs.Question.{Made, Among, made_of}
-use Rattle.loom_engine.specs.Walk.Path.{fresh, advance}
-use Rattle.loom_engine.specs.Trees.Meeting.{every_at}
-use Rattle.loom_engine.specs.Trees.Drive.{passes_of, new_node}
+use Rattle.loom_walks.specs.Walk.Path.{fresh, advance}
+use Rattle.loom_walks.specs.Trees.Meeting.{every_at}
+use Rattle.loom_walks.specs.Trees.Drive.{passes_of, new_node}
 use Rattle.loom_engine.specs.Nodes.{in_turn}
 use Rattle.loom_objects.specs.Question.{slots_from, slots, asked_store}
 use Rattle.loom_engine.specs.Routes.{Route, trail, settings_of}

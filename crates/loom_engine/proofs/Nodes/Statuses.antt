@@ -2,7 +2,7 @@
 use Rattle.std.proofs.Common.{◌≡◌, ℕ, zero, suc, ◌+◌, ◌<◌, Bool, true, false, List, [], ◌∷◌, map, Some, refl, ap, sym, ◌∙◌, arith}
 use Rattle.std.specs.Prelude.{slice_get, slice_set, cond}
 use Rattle.std.specs.List.{position_from}
-use Rattle.loom_engine.specs.Walk.Path.{Pending as ToTry}
+use Rattle.loom_walks.specs.Walk.Path.{Pending as ToTry}
 use Rattle.loom_engine.specs.declared.rt.node.Status.{Status}
 use Rattle.loom_engine.specs.declared.rt.node.Status.TheVariants.{Disabled, Skip, Yield, Pending, Active, Visited}
 use Rattle.loom_engine.specs.Nodes.{ability_of, state_of, state_at, is_active, is_pending}

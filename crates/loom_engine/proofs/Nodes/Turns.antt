@@ -5,10 +5,10 @@ use mathlib.Core.Path.{fun_ext}
 use Rattle.loom_objects.specs.declared.choice.Choice.{Choice}
 use Rattle.loom_objects.specs.declared.rt.thread.Ability.{Ability}
 use Rattle.loom_objects.specs.Question.{Made, Among}
-use Rattle.loom_engine.specs.Walk.Machine.{is_thread}
-use Rattle.loom_engine.specs.Walk.Choices.{same, among, pick}
-use Rattle.loom_engine.specs.Walk.Path.{Status as State, Closed, Skip as Skipped, Pending as ToTry, Active as Chosen, Visited as Tried, Stored, fresh, first_pending, advance, choose}
-use Rattle.loom_engine.specs.Trees.Drive.{value_status, made_at, new_node}
+use Rattle.loom_walks.specs.Walk.Machine.{is_thread}
+use Rattle.loom_walks.specs.Walk.Choices.{same, among, pick}
+use Rattle.loom_walks.specs.Walk.Path.{Status as State, Closed, Skip as Skipped, Pending as ToTry, Active as Chosen, Visited as Tried, Stored, fresh, first_pending, advance, choose}
+use Rattle.loom_walks.specs.Trees.Drive.{value_status, made_at, new_node}
 use Rattle.loom_engine.proofs.Nodes.Making.{pick_yes, pick_no}
 
 -- each option stands once in the list

@@ -10,8 +10,8 @@ use Rattle.loom_objects.specs.Tree.{Tree, Gives}
 use Rattle.loom_objects.specs.World.{World}
 use Rattle.loom_engine.specs.Machine.{submit}
 use Rattle.loom_engine.specs.Runs.{Meaning, at_turn, play, IsRunTree, RunTreeLaw}
-use Rattle.loom_engine.specs.Trees.Outcomes.{IsFair}
-use Rattle.loom_engine.specs.Trees.Outcomes.{IsQuiet}
+use Rattle.loom_walks.specs.Trees.Outcomes.{IsFair}
+use Rattle.loom_walks.specs.Trees.Outcomes.{IsQuiet}
 use Rattle.loom_engine.proofs.Runs.Events.{IsGoing, IsOver, failing_run, found_run, event_then}
 use Rattle.loom_engine.proofs.Runs.Steps.{submit_event}
 

@@ -6,7 +6,7 @@ use Rattle.loom_views.specs.Graph.{raised, reaches, inside}
 use Rattle.loom_views.specs.Slots.{number_in_slot}
 use Rattle.loom_engine.specs.Machine.{schedule}
 use Rattle.loom_engine.specs.Runs.{play}
-use Rattle.loom_engine.specs.Walk.Choices.{same, same_thread, same_flag, among}
+use Rattle.loom_walks.specs.Walk.Choices.{same, same_thread, same_flag, among}
 use Rattle.loom_engine.specs.Rows.{RowsLaw, SharedRowsLaw}
 
 pub rows_law : RowsLaw

@@ -2,8 +2,8 @@ ghost use Rattle.std.specs.Prelude.{◌≡◌, ◌<◌, ◌≤◌, ◌↔◌, So
 ghost use Rattle.std.specs.List.{position_from, Contains};
 ghost use Rattle.std.specs.Option.{option_map};
 ghost use Rattle.loom_objects.specs.Question.{made_of, AreSoundOffers};
-ghost use Rattle.loom_engine.specs.Walk.Path.{advance as advanced, choose as chosen, fresh, IsAtRest};
-ghost use Rattle.loom_engine.specs.Trees.Drive.{new_node};
+ghost use Rattle.loom_walks.specs.Walk.Path.{advance as advanced, choose as chosen, fresh, IsAtRest};
+ghost use Rattle.loom_walks.specs.Trees.Drive.{new_node};
 ghost use Rattle.loom_engine.specs.Nodes.{ability_of, made_status, is_active, is_pending, with_status as with_statuses, seen, seen_schedule, seen_load, seen_spurious, Advances, IsWell, IsWellLoad};
 ghost use Rattle.loom_objects.specs.Question.{slots};
 ghost use Rattle.loom_engine.specs.Routes.{which_thread, which_store, whether_spurious};

@@ -1,5 +1,5 @@
 use Rattle.std.proofs.Common.{◌≡◌, ◌-◌, suc, length, sym, ap, subst, ◌∙◌}
-use Rattle.loom_engine.specs.Walk.Path.{step}
+use Rattle.loom_walks.specs.Walk.Path.{step}
 use Rattle.loom_engine.specs.Nodes.{AreWell}
 use Rattle.loom_engine.specs.Routes.{stored}
 use Rattle.loom_engine.proofs.Nodes.Fronts.{well_last, well_set, well_front, step_moved, step_dropped, step_empty, has_last, has_none}

@@ -1,5 +1,5 @@
 use Rattle.std.proofs.Common.{◌≡◌, length}
-use Rattle.loom_engine.specs.Walk.Path.{step}
+use Rattle.loom_walks.specs.Walk.Path.{step}
 use Rattle.loom_engine.specs.Nodes.{AreWell}
 use Rattle.loom_engine.specs.Routes.{stored}
 use Rattle.loom_engine.proofs.rt.path.step_nodes.Given as goal

@@ -1,6 +1,6 @@
 use Rattle.std.proofs.Common.{◌≡◌, subst, ap, sym, ◌∙◌}
 use Rattle.std.specs.Prelude.{slice_set}
-use Rattle.loom_engine.specs.Walk.Path.{IsAtRest}
+use Rattle.loom_walks.specs.Walk.Path.{IsAtRest}
 use Rattle.loom_engine.specs.declared.rt.node.Status.TheVariants.{Active, Visited}
 use Rattle.loom_engine.specs.Nodes.{active_thread, with_status, seen_threads}
 use Rattle.loom_engine.proofs.Nodes.Choosing.{chosen_is, chosen_rests}

@@ -1,5 +1,5 @@
 use Rattle.std.proofs.Common.{◌≡◌, ap, sym, ◌∙◌, subst, map}
-use Rattle.loom_engine.specs.Walk.Path.{IsAtRest}
+use Rattle.loom_walks.specs.Walk.Path.{IsAtRest}
 use Rattle.loom_engine.specs.declared.rt.node.Status.TheVariants.{Active}
 use Rattle.loom_engine.specs.Nodes.{made_status, with_status, seen_threads}
 use Rattle.loom_engine.proofs.Nodes.Making.{made_is, fresh_rests}

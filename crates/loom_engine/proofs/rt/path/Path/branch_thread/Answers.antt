@@ -2,7 +2,7 @@ use Rattle.std.proofs.Common.{◌≤◌, ◌<◌, length, refl, ap, ◌∙◌, a
 use Rattle.std.specs.Prelude.{true}
 use Rattle.loom_objects.specs.Question.{Question, made_of}
 use Rattle.loom_objects.specs.declared.choice.Choice.TheVariants.{Thread}
-use Rattle.loom_engine.specs.Trees.Drive.{new_node}
+use Rattle.loom_walks.specs.Trees.Drive.{new_node}
 use Rattle.loom_engine.specs.declared.rt.node.Node.TheVariants as node
 use Rattle.loom_engine.specs.Routes.{Route, which_thread}
 use Rattle.loom_engine.specs.contracts.rt.path.Path.{the_view}

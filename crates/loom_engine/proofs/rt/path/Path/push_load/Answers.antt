@@ -1,7 +1,7 @@
 use Rattle.std.proofs.Common.{◌≤◌, ◌<◌, ℕ, length, slice_index, refl, ap, ◌∙◌, arith, rules}
 use Rattle.std.specs.Prelude.{true}
 use Rattle.loom_objects.specs.Question.{Question, made_of, slots}
-use Rattle.loom_engine.specs.Trees.Drive.{new_node}
+use Rattle.loom_walks.specs.Trees.Drive.{new_node}
 use Rattle.loom_engine.specs.declared.rt.node.Load.{Load}
 use Rattle.loom_engine.specs.declared.rt.node.Node.{Node}
 use Rattle.loom_engine.specs.declared.rt.node.Node.TheVariants as node

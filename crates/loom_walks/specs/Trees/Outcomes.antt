@@ -1,0 +1,65 @@
+-- Which nodes a run through a tree meets, and what it comes to.
+use Rattle.std.specs.Prelude.{ℕ, zero, suc, ◌≢◌, Bool, true, false, List, [], ◌∷◌, Option, Some, None, Result, Ok, Err}
+use Rattle.loom_objects.specs.declared.choice.Choice.{Choice}
+use Rattle.loom_objects.specs.Question.{Made, Among, made_of, IsSound}
+use Rattle.loom_objects.specs.Tree.{Tree, Gives, Fails, Closes, Asks}
+use Rattle.loom_walks.specs.Walk.Choices.{among, pick}
+use Rattle.loom_views.specs.declared.rt.failure.FailureKind.{FailureKind}
+use Rattle.loom_views.specs.declared.rt.failure.FailureKind.TheVariants.{TooManyBranches, NotDeterministic}
+
+module _ {A : Type 0} where
+  -- it asks nothing
+  abbrev pub IsQuiet : Tree A → Type 0
+  IsQuiet (Gives value) = Unit {0}
+  IsQuiet (Fails failure) = Unit {0}
+  IsQuiet (Closes rest) = IsQuiet rest
+  IsQuiet (Asks question branch) = ⊥
+
+  -- each question that a run comes to is sound, and once the run is over it asks nothing
+  abbrev pub IsSoundTree : Tree A → Type 0
+  IsSoundTree (Gives value) = Unit {0}
+  IsSoundTree (Fails failure) = Unit {0}
+  IsSoundTree (Closes rest) = IsQuiet rest
+  IsSoundTree (Asks question branch) = IsSound question × ((choice : Choice) → Among choice (made_of question).options → IsSoundTree (branch choice))
+
+  -- The node that the run meets after these choices, each of which is an option where it comes, or None where the run
+  -- is over. The number bounds the nodes to come.
+  abbrev pub met : ℕ → Tree A → List Choice → Option Made
+  met room (Gives value) c = None
+  met room (Fails failure) c = None
+  met room (Closes rest) c = None
+  met zero (Asks question branch) c = None
+  met (suc room) (Asks question branch) [] = Some (made_of question)
+  met (suc room) (Asks question branch) (x ∷ c) = pick (among x (made_of question).options) (met room (branch x) c) None
+
+  -- what the run comes to that meets just as many nodes as there are choices, each an option where it comes
+  abbrev pub outcome : ℕ → Tree A → List Choice → Option (Result A FailureKind)
+  outcome room (Gives value) [] = Some (Ok value)
+  outcome room (Gives value) (x ∷ c) = None
+  outcome room (Fails failure) [] = Some (Err failure)
+  outcome room (Fails failure) (x ∷ c) = None
+  outcome room (Closes rest) c = outcome room rest c
+  outcome zero (Asks question branch) [] = Some (Err TooManyBranches)
+  outcome (suc room) (Asks question branch) [] = None
+  outcome zero (Asks question branch) (x ∷ c) = None
+  outcome (suc room) (Asks question branch) (x ∷ c) = pick (among x (made_of question).options) (outcome room (branch x) c) None
+
+  -- the nodes that these choices pass, with the choice at each
+  abbrev pub passed : Tree A → List Choice → List (Made × Choice)
+  passed (Gives value) c = []
+  passed (Fails failure) c = []
+  passed (Closes rest) c = []
+  passed (Asks question branch) [] = []
+  passed (Asks question branch) (x ∷ c) = (made_of question, x) ∷ passed (branch x) c
+
+abbrev pub is_failure : {A : Type 0} → Option (Result A FailureKind) → Bool
+is_failure None = false
+is_failure (Some (Ok value)) = false
+is_failure (Some (Err failure)) = true
+
+-- no run fails because a path doesn't meet it
+abbrev pub IsFair : {A : Type 0} → Tree A → Type 0
+IsFair (Gives value) = Unit {0}
+IsFair (Fails kind) = kind ≢ NotDeterministic
+IsFair (Closes rest) = IsFair rest
+IsFair (Asks question branches) = (choice : Choice) → Among choice (made_of question).options → IsFair (branches choice)
