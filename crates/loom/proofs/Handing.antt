@@ -15,12 +15,13 @@ use Rattle.loom_objects.specs.Shown.{Shows}
 use Rattle.loom_objects.specs.Tree.{Gives, ◌>>=◌, found}
 use Rattle.loom_objects.specs.World.{World}
 use Rattle.loom_engine.specs.Execution.{Comes}
-use Rattle.loom_engine.specs.Machine.{submit}
-use Rattle.loom_engine.specs.Routes.{Route, trail, settings_of, whole_search, drives}
-use Rattle.loom_engine.specs.Runs.{Meaning, with_child, at_turn, handed, play}
+use Rattle.loom_runs.specs.Machine.{submit}
+use Rattle.loom_engine.specs.Routes.{Route, trail, settings_of, drives}
+use Rattle.loom_walks.specs.Trees.Meeting.{whole_search}
+use Rattle.loom_runs.specs.Runs.{Meaning, with_child, at_turn, handed, play}
 use Rattle.loom_walks.specs.Trees.Drive.{drive}
 use Rattle.loom_walks.specs.Trees.Marks.{marking}
-use Rattle.loom_engine.proofs.Binding.{drive_then, drive_fails}
+use Rattle.loom_walks.proofs.Trees.Binding.{drive_then, drive_fails}
 use Rattle.loom.specs.Ending.{Outcome, IsUnderWay, ComesToTurn}
 
 pub slice_get-is : {A : Type 0} (xs : List A) (i : ℕ) (x : A) → i < length xs → x ≡ get_or xs i x → slice_get xs i ≡ Some x

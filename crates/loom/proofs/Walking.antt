@@ -10,8 +10,9 @@ use Rattle.loom_walks.specs.Trees.Drive.{Trail, drive, at_start}
 use Rattle.loom_walks.specs.Trees.Check.{Makes, makes_none}
 use Rattle.loom_walks.specs.Trees.Marks.{marking}
 use Rattle.loom_walks.specs.Trees.Reports.{IsWholeSearch, IsFailedReport}
-use Rattle.loom_engine.specs.Routes.{Route, at_rest, whole_search, stored, trail, chosen, Steps, drives}
-use Rattle.loom_engine.specs.Runs.{IsRunTree}
+use Rattle.loom_engine.specs.Routes.{Route, at_rest, stored, trail, chosen, Steps, drives}
+use Rattle.loom_walks.specs.Trees.Meeting.{whole_search}
+use Rattle.loom_runs.specs.Runs.{IsRunTree}
 use Rattle.loom_walks.proofs.Trees.Marks.{marking_law}
 use Rattle.loom_walks.proofs.Trees.Rounds.{another_round, final_round, next_driven}
 use Rattle.loom_walks.proofs.Trees.Reporting.{complete_report_law, stopped_report_law, failed_report_law}

@@ -3,7 +3,7 @@ use Rattle.std.specs.Prelude.{◌≡◌, ◌-◌, ◌^◌, ℕ, List, [], ◌∷
 use Rattle.loom_views.specs.declared.rt.failure.FailureKind.{FailureKind}
 use Rattle.loom_objects.specs.declared.choice.Choice.{Choice}
 use Rattle.loom_objects.specs.Tree.{Tree}
-use Rattle.loom_engine.specs.Routes.{whole_search}
+use Rattle.loom_walks.specs.Trees.Meeting.{whole_search}
 use Rattle.loom_walks.specs.Walk.Machine.{Machine, run}
 use Rattle.loom_walks.specs.Walk.Walks.{IsAllowed}
 use Rattle.loom_walks.specs.Trees.Marks.{marking}

@@ -12,7 +12,7 @@ use Rattle.loom_objects.specs.Tree.{Tree}
 use Rattle.loom_objects.specs.World.{World}
 use Rattle.loom_objects.specs.Shown.{Shows}
 use Rattle.loom_engine.specs.Routes.{Route, trail, drives}
-use Rattle.loom_engine.specs.Runs.{Meaning, play}
+use Rattle.loom_runs.specs.Runs.{Meaning, play}
 use Rattle.loom_walks.specs.Trees.Drive.{Trail}
 use Rattle.loom.specs.declared.model.Ending.{Ending}
 use Rattle.loom.specs.declared.model.Ending.TheVariants.{Ended, Failed}

@@ -1,6 +1,6 @@
 ghost use Rattle.std.specs.Prelude.{◌≡◌, ◌<◌, ◌≤◌, ◌+◌, ◌⊎◌, None, OnOk, IfOk, IfErr, vec_len};
 ghost use Rattle.loom_engine.specs.Execution.{over_after};
-ghost use Rattle.loom_engine.specs.Runs.{runs as runs_of, with_child};
+ghost use Rattle.loom_runs.specs.Runs.{runs as runs_of, with_child};
 ghost use Rattle.loom.specs.Check.{Reports, ReportsAlone, Replays};
 ghost use Rattle.loom.specs.Ending.{Outcome, RunsAlong, IsUnderWay, ComesToTurn};
 ghost use Rattle.loom.specs.Settings.{defaults, tested};

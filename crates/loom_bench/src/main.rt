@@ -3,7 +3,7 @@
 
 ghost use Rattle.std.specs.Prelude.{◌≡◌, ◌-◌, ◌*◌, ◌/◌, ◌^◌, IfSome, min, max};
 ghost use Rattle.std.specs.Duration.{as_nanos};
-ghost use Rattle.loom_engine.specs.Runs.{runs as runs_of};
+ghost use Rattle.loom_runs.specs.Runs.{runs as runs_of};
 ghost use Rattle.loom.specs.Check.{ReportsAlone};
 ghost use Rattle.loom.specs.declared.model.Report.TheVariants.{Complete};
 ghost use Rattle.loom_scripts.specs.Script.{started, next_of};

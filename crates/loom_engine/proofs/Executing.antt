@@ -19,11 +19,13 @@ use Rattle.loom_objects.specs.Steps.{turned, resumes, offers}
 use Rattle.loom_objects.specs.Tree.{Tree, Fails, Asks, ◌>>=◌}
 use Rattle.loom_objects.specs.World.{World}
 use Rattle.loom_engine.specs.Execution.{Comes, Along}
-use Rattle.loom_engine.specs.Machine.{closes, chooses, passes, further, schedule}
-use Rattle.loom_engine.specs.Routes.{Route, trail, settings_of, whole_search, which_thread, Says, drives}
+use Rattle.loom_runs.specs.Machine.{closes, chooses, passes, further, schedule}
+use Rattle.loom_engine.specs.Routes.{Route, trail, settings_of, Says, drives}
+use Rattle.loom_walks.specs.Trees.Meeting.{whole_search}
+use Rattle.loom_runs.specs.Asking.{which_thread}
 use Rattle.loom_walks.specs.Trees.Drive.{branch, drive, drive_on}
 use Rattle.loom_walks.specs.Trees.Marks.{marking}
-use Rattle.loom_engine.proofs.Binding.{drive_then, drive_fails}
+use Rattle.loom_walks.proofs.Trees.Binding.{drive_then, drive_fails}
 
 module _ {A : Type 0} (question : Question) (branches : Choice → Tree A) (path : Route) where
   -- the path answers a question, and the tree goes on

@@ -1,4 +1,2 @@
-pub mod Binding
 pub mod Executing
-pub mod Runs
 pub mod Nodes

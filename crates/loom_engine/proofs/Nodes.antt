@@ -1,5 +1,4 @@
 -- Proofs about the nodes of the path, and about the path.
-pub mod Defaults
 pub mod Statuses
 pub mod Choosing
 pub mod Making

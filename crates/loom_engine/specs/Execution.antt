@@ -10,7 +10,7 @@ use Rattle.loom_objects.specs.declared.rt.run.RunState.{RunState}
 use Rattle.loom_objects.specs.Tree.{Tree}
 use Rattle.loom_objects.specs.World.{World}
 use Rattle.loom_objects.specs.Shown.{Shows}
-use Rattle.loom_engine.specs.Machine.{submit}
+use Rattle.loom_runs.specs.Machine.{submit}
 use Rattle.loom_engine.specs.Routes.{Route, trail, drives}
 
 -- the state of the run, and what every further operation is answered once the run is over

@@ -7,16 +7,14 @@ use Rattle.loom_objects.specs.declared.choice.Choice.{Choice}
 use Rattle.loom_objects.specs.declared.choice.Choice.TheVariants.{Load}
 use Rattle.loom_objects.specs.declared.failure.Stop.{Stop}
 use Rattle.loom_objects.specs.declared.failure.Stop.TheVariants.{Failure, Memory}
-use Rattle.loom_objects.specs.declared.rt.thread.Offers.{Offers}
-use Rattle.loom_objects.specs.Question.{Question, WhichThread, WhetherSpurious}
+use Rattle.loom_objects.specs.Question.{Question}
 use Rattle.loom_objects.specs.Tree.{Tree}
 use Rattle.loom_engine.specs.declared.rt.node.Node.{Node}
 use Rattle.loom_walks.specs.Walk.Path.{Stored, choices, step}
-use Rattle.loom_walks.specs.Trees.Meeting.{Settings}
+use Rattle.loom_walks.specs.Trees.Meeting.{Settings, whole_search}
 use Rattle.loom_walks.specs.Trees.Drive.{Trail, branch, drive}
 use Rattle.loom_walks.specs.Trees.Marks.{marking}
 use Rattle.loom_engine.specs.Nodes.{seen}
-use Rattle.loom_objects.specs.Question.{slots, asked_store}
 
 -- the largest number of nodes, the nodes, how many of them the run has passed, and the choices that new nodes take in turn
 pub record Route : Type 0 where
@@ -29,10 +27,7 @@ pub record Route : Type 0 where
 abbrev pub at_rest : ℕ → List Node → Route
 at_rest max_branches nodes = record { max_branches = max_branches; nodes = nodes; position = 0; given = [] }
 
--- each option is to be tried, without a bound on preemptions
-abbrev pub whole_search : ℕ → Settings
-whole_search max_branches = record { reduce = false; bound = None; max_branches = max_branches }
-
+-- the settings of its search
 abbrev pub settings_of : Route → Settings
 settings_of route = whole_search route.max_branches
 
@@ -46,18 +41,6 @@ trail route = record { nodes = stored route.nodes; position = route.position; gi
 -- the choices at the nodes that the run has passed
 abbrev pub chosen : Route → List Choice
 chosen route = choices (take route.position (stored route.nodes))
-
--- a schedule, while the threads offer this
-abbrev pub which_thread : Offers → Question
-which_thread offers = WhichThread true (record { default = offers.default; abilities = offers.abilities; unordered = [] })
-
--- a load, while these of the slots may be read
-abbrev pub which_store : List Bool → Question
-which_store readable = asked_store true (slots readable)
-
--- whether a thread wakes without a notification
-abbrev pub whether_spurious : Question
-whether_spurious = WhetherSpurious true
 
 module _ {A : Type 0} (choice : A → Choice) where
   -- The path answers the question by what stands for a choice, and passes the node; or it refuses, and stays as it was.

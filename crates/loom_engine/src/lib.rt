@@ -1,5 +1,4 @@
-//! The path of choices, the machine that runs operations along it, and which runs a search makes.
+//! The path of choices, and the execution of a run along it.
 #![tactic(auto)]
 
-pub mod laws;
 pub mod rt;

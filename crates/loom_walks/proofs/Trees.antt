@@ -12,3 +12,4 @@ pub mod Foreign
 pub mod Rounds
 pub mod Replays
 pub mod Reporting
+pub mod Binding

@@ -1,5 +1,5 @@
 use Rattle.std.proofs.Common.{IfSome}
-use Rattle.loom_engine.specs.Runs.{runs as runs_of}
+use Rattle.loom_runs.specs.Runs.{runs as runs_of}
 use Rattle.loom.specs.Check.{ReportsAlone}
 use Rattle.loom.specs.declared.model.Report.TheVariants.{Complete}
 use Rattle.loom_scripts.specs.Script.{started, next_of}

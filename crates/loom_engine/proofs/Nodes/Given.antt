@@ -11,7 +11,7 @@ use Rattle.loom_engine.specs.declared.rt.node.Status.{Status}
 use Rattle.loom_engine.specs.declared.rt.node.Status.TheVariants.{Pending}
 use Rattle.loom_engine.specs.declared.rt.node.Schedule.{Schedule}
 use Rattle.loom_engine.specs.Nodes.{thread_state, state_at, seen_schedule}
-use Rattle.loom_engine.specs.Routes.{which_thread}
+use Rattle.loom_runs.specs.Asking.{which_thread}
 use Rattle.loom_engine.proofs.Nodes.Statuses.{state_there, to_try_there}
 use Rattle.loom_engine.proofs.Nodes.Making.{default_offered, given_default, given_other, given_none}
 

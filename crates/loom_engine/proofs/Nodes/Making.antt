@@ -19,11 +19,12 @@ use Rattle.loom_engine.specs.Nodes.{ability_of, made_status, with_status, state_
 use Rattle.loom_objects.specs.Tree.{Tree, Gives, Asks}
 use Rattle.loom_walks.specs.Trees.Outcomes.{IsSoundTree}
 use Rattle.loom_walks.specs.Trees.Meeting.{machine_of}
-use Rattle.loom_engine.specs.Routes.{which_thread, whole_search}
+use Rattle.loom_walks.specs.Trees.Meeting.{whole_search}
+use Rattle.loom_runs.specs.Asking.{which_thread}
 use Rattle.loom_walks.proofs.Walk.Resting.{fresh_at_rest}
 use Rattle.loom_walks.proofs.Walk.Statuses.{FirstStatus, is_default, is_pending, is_skipped, is_closed, fresh_cases}
 use Rattle.loom_walks.proofs.Trees.Machines.{able_among, machine_law}
-use Rattle.loom_engine.proofs.Nodes.Defaults.{default_is_able, none_is_able, which_is_sound}
+use Rattle.loom_runs.proofs.Asking.{default_is_able, none_is_able, which_is_sound}
 use Rattle.loom_engine.proofs.Nodes.Statuses.{state_there, state_else, get_put, get_else, offers_put, first_is}
 
 -- ---- the statuses as they are made

@@ -5,8 +5,9 @@ ghost use Rattle.loom_objects.specs.World.{opening};
 ghost use Rattle.loom_objects.specs.Shown.{Shows, IsSound};
 ghost use Rattle.loom_engine.specs.Execution.{Along, Submits, over_after as answered_after};
 ghost use Rattle.loom_objects.specs.Steps.{resumes};
-ghost use Rattle.loom_engine.specs.Machine as machine;
-ghost use Rattle.loom_engine.specs.Routes.{Says, which_store};
+ghost use Rattle.loom_runs.specs.Machine as machine;
+ghost use Rattle.loom_engine.specs.Routes.{Says};
+ghost use Rattle.loom_runs.specs.Asking.{which_store};
 
 use crate::rt::path::Path;
 use loom_atomics::atomics::read;

@@ -6,7 +6,7 @@ ghost use Rattle.loom_walks.specs.Walk.Path.{advance as advanced, choose as chos
 ghost use Rattle.loom_walks.specs.Trees.Drive.{new_node};
 ghost use Rattle.loom_engine.specs.Nodes.{ability_of, made_status, is_active, is_pending, with_status as with_statuses, seen, seen_schedule, seen_load, seen_spurious, Advances, IsWell, IsWellLoad};
 ghost use Rattle.loom_objects.specs.Question.{slots};
-ghost use Rattle.loom_engine.specs.Routes.{which_thread, which_store, whether_spurious};
+ghost use Rattle.loom_runs.specs.Asking.{which_thread, which_store, whether_spurious};
 
 use loom_objects::choice::Choice;
 use loom_objects::rt::thread::{Ability, Offers};

@@ -3,7 +3,8 @@ ghost use Rattle.std.specs.List.{Contains};
 ghost use Rattle.std.specs.Option.{option_map};
 ghost use Rattle.loom_objects.specs.Question.{made_of, AreSoundOffers};
 ghost use Rattle.loom_engine.specs.Nodes.{seen, seen_schedule, seen_load, seen_spurious, AreWell, IsWell, IsWellLoad};
-ghost use Rattle.loom_engine.specs.Routes.{Route, at_rest, chosen, trail, Says, Pushes, IsAtLoad, PassesLoad, Steps, which_thread, which_store, whether_spurious};
+ghost use Rattle.loom_engine.specs.Routes.{Route, at_rest, chosen, trail, Says, Pushes, IsAtLoad, PassesLoad, Steps};
+ghost use Rattle.loom_runs.specs.Asking.{which_thread, which_store, whether_spurious};
 ghost use Rattle.loom_walks.specs.Trees.Drive.{is_used_up, new_node};
 
 use crate::rt::node::{Load, Node, Schedule, Spurious};

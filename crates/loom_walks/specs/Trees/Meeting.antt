@@ -15,6 +15,10 @@ pub record Settings : Type 0 where
   pub bound : Option ℕ
   pub max_branches : ℕ
 
+-- each option is to be tried, without a bound on preemptions
+abbrev pub whole_search : ℕ → Settings
+whole_search max_branches = record { reduce = false; bound = None; max_branches = max_branches }
+
 -- ---- preemptions
 
 -- the count of the next schedule, and what the last one chose

@@ -1,4 +1,4 @@
-use Rattle.loom_engine.specs.Runs.{runs}
+use Rattle.loom_runs.specs.Runs.{runs}
 use Rattle.loom.specs.declared.model.Nobody.{Nobody}
 use Rattle.loom.proofs.Walking.{reports_alone_ok}
 use Rattle.loom.proofs.model.Builder.check.Goals as goal

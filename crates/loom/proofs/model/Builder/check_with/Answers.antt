@@ -1,7 +1,7 @@
 use Rattle.std.proofs.Common.{◌∙◌, ap, arith}
 use Rattle.loom_engine.specs.Routes.{Route, at_rest}
-use Rattle.loom_engine.specs.Runs.{runs}
-use Rattle.loom_engine.proofs.Runs.Bodies.{run_tree_law}
+use Rattle.loom_runs.specs.Runs.{runs}
+use Rattle.loom_runs.proofs.Runs.Bodies.{run_tree_law}
 use Rattle.loom.specs.declared.model.Limit.TheVariants.{Permutations}
 use Rattle.loom.proofs.Walking.{walking_start, walking_on, walking_ends, walking_fails, walking_stops}
 use Rattle.loom.proofs.model.Builder.check_with.Goals as goal

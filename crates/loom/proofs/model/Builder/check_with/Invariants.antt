@@ -1,5 +1,5 @@
 use Rattle.std.proofs.Common.{◌-◌}
-use Rattle.loom_engine.specs.Runs.{runs}
+use Rattle.loom_runs.specs.Runs.{runs}
 use Rattle.loom.proofs.Walking.{IsWalking}
 use Rattle.loom.proofs.model.Builder.check_with.Given as goal
 

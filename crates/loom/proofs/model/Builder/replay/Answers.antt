@@ -1,6 +1,6 @@
 use Rattle.std.specs.Prelude.{Ok, Err}
-use Rattle.loom_engine.specs.Runs.{runs}
-use Rattle.loom_engine.proofs.Runs.Bodies.{run_tree_law}
+use Rattle.loom_runs.specs.Runs.{runs}
+use Rattle.loom_runs.proofs.Runs.Bodies.{run_tree_law}
 use Rattle.loom.proofs.Replaying.{replays}
 use Rattle.loom.proofs.model.Builder.replay.Goals as goal
 

@@ -1,7 +1,7 @@
 use Rattle.std.proofs.Common.{◌≡◌}
 use Rattle.std.specs.Prelude.{None}
 use Rattle.loom_engine.specs.Routes.{drives}
-use Rattle.loom_engine.specs.Runs.{runs}
+use Rattle.loom_runs.specs.Runs.{runs}
 use Rattle.loom.specs.Ending.{IsUnderWay}
 use Rattle.loom.proofs.model.Builder.run.Given as goal
 

@@ -2,7 +2,7 @@ use Rattle.std.proofs.Common.{Some, ap, sym, ◌∙◌}
 use Rattle.std.specs.Prelude.{true}
 use Rattle.loom_objects.specs.Question.{made_of}
 use Rattle.loom_walks.specs.Trees.Drive.{new_node}
-use Rattle.loom_engine.specs.Routes.{which_thread}
+use Rattle.loom_runs.specs.Asking.{which_thread}
 use Rattle.loom_engine.proofs.rt.path.new_schedule.Goals as goal
 
 pub returns-in-None-clause-made : goal.returns-in-None-clause-made

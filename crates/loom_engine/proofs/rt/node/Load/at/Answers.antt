@@ -3,7 +3,7 @@ use Rattle.std.specs.Prelude.{slice_get}
 use Rattle.loom_objects.specs.Question.{made_of}
 use Rattle.loom_walks.specs.Trees.Drive.{new_node}
 use Rattle.loom_objects.specs.Question.{slots}
-use Rattle.loom_engine.specs.Routes.{which_store}
+use Rattle.loom_runs.specs.Asking.{which_store}
 use Rattle.loom_engine.proofs.Nodes.Slots.{some_slot, slot_place, get_slot, load_given, load_refused}
 use Rattle.loom_engine.proofs.rt.node.Load.at.Goals as goal
 

@@ -4,7 +4,8 @@ use Rattle.loom_objects.specs.Question.{made_of}
 use Rattle.loom_objects.specs.declared.choice.Choice.TheVariants.{Spurious}
 use Rattle.loom_walks.specs.Trees.Drive.{new_node}
 use Rattle.loom_engine.specs.declared.rt.node.Node.TheVariants as node
-use Rattle.loom_engine.specs.Routes.{Route, whether_spurious}
+use Rattle.loom_engine.specs.Routes.{Route}
+use Rattle.loom_runs.specs.Asking.{whether_spurious}
 use Rattle.loom_engine.specs.contracts.rt.path.Path.{the_view}
 use Rattle.loom_engine.proofs.Nodes.Paths.{past_end, makes}
 use Rattle.loom_engine.proofs.rt.path.Path.branch_spurious.Goals as goal

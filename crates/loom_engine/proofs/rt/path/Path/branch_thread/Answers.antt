@@ -4,7 +4,8 @@ use Rattle.loom_objects.specs.Question.{Question, made_of}
 use Rattle.loom_objects.specs.declared.choice.Choice.TheVariants.{Thread}
 use Rattle.loom_walks.specs.Trees.Drive.{new_node}
 use Rattle.loom_engine.specs.declared.rt.node.Node.TheVariants as node
-use Rattle.loom_engine.specs.Routes.{Route, which_thread}
+use Rattle.loom_engine.specs.Routes.{Route}
+use Rattle.loom_runs.specs.Asking.{which_thread}
 use Rattle.loom_engine.specs.contracts.rt.path.Path.{the_view}
 use Rattle.loom_engine.proofs.Nodes.Paths.{past_end, makes}
 use Rattle.loom_engine.proofs.rt.path.Path.branch_thread.Goals as goal

@@ -6,7 +6,8 @@ use Rattle.loom_engine.specs.declared.rt.node.Load.{Load}
 use Rattle.loom_engine.specs.declared.rt.node.Node.{Node}
 use Rattle.loom_engine.specs.declared.rt.node.Node.TheVariants as node
 use Rattle.loom_engine.specs.Nodes.{seen, seen_load}
-use Rattle.loom_engine.specs.Routes.{Route, which_store}
+use Rattle.loom_engine.specs.Routes.{Route}
+use Rattle.loom_runs.specs.Asking.{which_store}
 use Rattle.loom_engine.specs.contracts.rt.path.Path.{the_view}
 use Rattle.loom_engine.proofs.Nodes.Slots.{some_slot, every_load, load_readable}
 use Rattle.loom_engine.proofs.Nodes.Turns.{new_is_made}

@@ -1,0 +1,162 @@
+-- What one operation that is handed over may come to.
+use Rattle.std.proofs.Common.{◌≡◌, ◌≢◌, Bool, true, false, Option, Some, None}
+use Rattle.std.specs.Prelude.{⊤}
+use Rattle.loom_views.specs.declared.rt.failure.FailureKind.{FailureKind}
+use Rattle.loom_views.specs.declared.rt.failure.FailureKind.TheVariants.{NotDeterministic}
+use Rattle.loom_objects.specs.declared.choice.Choice.{Choice}
+use Rattle.loom_objects.specs.declared.operation.Turn.{Turn}
+use Rattle.loom_objects.specs.declared.operation.Turn.TheVariants.{Reply, Start, Ended}
+use Rattle.loom_objects.specs.declared.rt.run.Passed.{Passed}
+use Rattle.loom_objects.specs.declared.rt.run.Passed.TheVariants as passed
+use Rattle.loom_objects.specs.Question.{Question, Among, made_of, IsSound}
+use Rattle.loom_objects.specs.Steps.{turned}
+use Rattle.loom_objects.specs.Tree.{Tree, Gives, Fails, Closes, Asks, ◌>>=◌, check, found}
+use Rattle.loom_objects.specs.World.{World}
+use Rattle.loom_walks.specs.Trees.Check.{IsClosing}
+use Rattle.loom_walks.specs.Trees.Outcomes.{IsQuiet}
+use Rattle.loom_runs.specs.Runs.{IsRunTree}
+use Rattle.loom_walks.specs.Trees.Outcomes.{IsFair}
+
+-- it asks nothing, and comes to such a value or fails, but not because a path doesn't meet it
+pub data Comes {A : Type 0} (P : A → Type 0) : Tree A → Type 0 where
+  comes_to : (value : A) → P value → Comes P (Gives value)
+  comes_not : (kind : FailureKind) → kind ≢ NotDeterministic → Comes P (Fails kind)
+
+abbrev pub Anything : {A : Type 0} → A → Type 0
+Anything value = Unit {0}
+
+module _ {A B : Type 0} {P : B → Type 0} where
+  pub found_comes : (o : Option A) (kind : FailureKind) (next : A → Tree B) → kind ≢ NotDeterministic → ((a : A) → Comes P (next a)) → Comes P (found o kind >>= next)
+  found_comes None kind next fair h = comes_not kind fair
+  found_comes (Some a) kind next fair h = h a
+
+  pub then_comes : {Q : A → Type 0} (tree : Tree A) (next : A → Tree B) → Comes Q tree → ((a : A) → Q a → Comes P (next a)) → Comes P (tree >>= next)
+  then_comes tree next (comes_to a q) h = h a q
+  then_comes tree next (comes_not kind fair) h = comes_not kind fair
+
+pub check_comes : {B : Type 0} {P : B → Type 0} (passes : Bool) (kind : FailureKind) (next : ⊤ → Tree B) → kind ≢ NotDeterministic → Comes P (next tt) → Comes P (check passes kind >>= next)
+check_comes true kind next fair h = h
+check_comes false kind next fair h = comes_not kind fair
+
+-- whatever is chosen, it ends a run only where the run is over
+abbrev pub StaysOpen : {A : Type 0} → (A → Type 0) → Tree A → Type 0
+StaysOpen Goes (Gives value) = Goes value
+StaysOpen Goes (Fails kind) = Unit {0}
+StaysOpen Goes (Closes rest) = Unit {0}
+StaysOpen Goes (Asks question branches) = (choice : Choice) → StaysOpen Goes (branches choice)
+
+-- An event: it ends a run only where the run is over, and then asks nothing. Its questions are sound and explore. By
+-- options it comes to no failure that is a path's.
+pub data EventOf {A : Type 0} (Goes Over : A → Type 0) : Tree A → Type 0 where
+  goes : (value : A) → Goes value → EventOf Goes Over (Gives value)
+  fails : (kind : FailureKind) → kind ≢ NotDeterministic → EventOf Goes Over (Fails kind)
+  closes : (rest : Tree A) → Comes Over rest → EventOf Goes Over (Closes rest)
+  asks : (question : Question) (branches : Choice → Tree A) → IsSound question → (made_of question).exploring ≡ true
+      → ((choice : Choice) → Among choice (made_of question).options → EventOf Goes Over (branches choice)) → ((choice : Choice) → StaysOpen Goes (branches choice)) → EventOf Goes Over (Asks question branches)
+
+module _ {A : Type 0} {Goes Over : A → Type 0} where
+  pub going_event : (tree : Tree A) → Comes Goes tree → EventOf Goes Over tree
+  going_event tree (comes_to value h) = goes value h
+  going_event tree (comes_not kind fair) = fails kind fair
+
+  pub event_open : (tree : Tree A) → EventOf Goes Over tree → StaysOpen Goes tree
+  event_open tree (goes value h) = h
+  event_open tree (fails kind fair) = tt
+  event_open tree (closes rest h) = tt
+  event_open tree (asks question branches sound exploring options opens) = opens
+
+  pub then_event : {B : Type 0} {Q : B → Type 0} (tree : Tree B) (next : B → Tree A) → Comes Q tree → ((b : B) → Q b → EventOf Goes Over (next b)) → EventOf Goes Over (tree >>= next)
+  then_event tree next (comes_to b q) h = h b q
+  then_event tree next (comes_not kind fair) h = fails kind fair
+
+  pub check_event : (passes : Bool) (kind : FailureKind) (next : ⊤ → Tree A) → kind ≢ NotDeterministic → EventOf Goes Over (next tt) → EventOf Goes Over (check passes kind >>= next)
+  check_event true kind next fair h = h
+  check_event false kind next fair h = fails kind fair
+
+-- an event, and from what it comes to another
+module _ {A B : Type 0} {Goes Over : A → Type 0} {Goes' Over' : B → Type 0} (next : A → Tree B) (onward : (a : A) → Goes a → EventOf Goes' Over' (next a)) (rests : (a : A) → Over a → Comes Over' (next a)) where
+  stays_open : (tree : Tree A) → StaysOpen Goes tree → StaysOpen Goes' (tree >>= next)
+  stays_open (Gives a) opens = event_open (next a) (onward a opens)
+  stays_open (Fails kind) opens = tt
+  stays_open (Closes rest) opens = tt
+  stays_open (Asks question branches) opens = λ choice. stays_open (branches choice) (opens choice)
+
+  pub event_after : (tree : Tree A) → EventOf Goes Over tree → EventOf Goes' Over' (tree >>= next)
+  event_after tree (goes a h) = onward a h
+  event_after tree (fails kind fair) = fails kind fair
+  event_after tree (closes rest h) = closes (rest >>= next) (then_comes rest next h rests)
+  event_after tree (asks question branches sound exploring options opens) =
+      asks question _ sound exploring (λ choice a. event_after (branches choice) (options choice a)) (λ choice. stays_open (branches choice) (opens choice))
+
+module _ {D : Type 0} where
+  -- a thread goes on
+  abbrev pub IsGoing : Turn D × World D → Type 0
+  IsGoing (Reply thread reply, w) = Unit {0}
+  IsGoing (Start thread, w) = Unit {0}
+  IsGoing (Ended value, w) = ⊥
+
+  -- the run is over
+  abbrev pub IsOver : Turn D × World D → Type 0
+  IsOver (Reply thread reply, w) = ⊥
+  IsOver (Start thread, w) = ⊥
+  IsOver (Ended value, w) = Unit {0}
+
+  abbrev pub IsOpen : Tree (Turn D × World D) → Type 0
+  IsOpen tree = StaysOpen IsGoing tree
+
+  -- an event up to a turn
+  abbrev pub IsEvent : Tree (Turn D × World D) → Type 0
+  IsEvent tree = EventOf IsGoing IsOver tree
+
+  -- a thread goes on, or one comes to another branch point
+  abbrev pub GoesOn : Passed D × World D → Type 0
+  GoesOn (passed.Turn turn, w) = IsGoing (turn, w)
+  GoesOn (passed.AtBranch, w) = Unit {0}
+
+  abbrev pub HasEnded : Passed D × World D → Type 0
+  HasEnded (passed.Turn turn, w) = IsOver (turn, w)
+  HasEnded (passed.AtBranch, w) = ⊥
+
+  -- an event up to a turn or another branch point
+  abbrev pub IsPass : Tree (Passed D × World D) → Type 0
+  IsPass tree = EventOf GoesOn HasEnded tree
+
+  pub turned_pass : (tree : Tree (Turn D × World D)) → IsEvent tree → IsPass (tree >>= turned)
+  turned_pass tree event = event_after turned (λ (turn, w) h. goes _ h) (λ (turn, w) h. comes_to _ h) tree event
+
+-- ---- what comes after an event
+
+pub failing_run : {R : Type 0} (kind : FailureKind) → kind ≢ NotDeterministic → IsRunTree {A = R} (Fails kind)
+failing_run kind fair = record { sound = tt; closing = tt; exploring = tt; fair = fair }
+
+pub found_run : {A R : Type 0} (o : Option A) (kind : FailureKind) (next : A → Tree R) → kind ≢ NotDeterministic → ((a : A) → IsRunTree (next a)) → IsRunTree (found o kind >>= next)
+found_run None kind next fair h = failing_run kind fair
+found_run (Some a) kind next fair h = h a
+
+module _ {D R : Type 0} (next : Turn D × World D → Tree R) where
+  -- where the run is over it asks nothing more, and fails no more because of a path
+  abbrev pub RestsAfter : Type 0
+  RestsAfter = (turned : Turn D × World D) → IsOver turned → IsQuiet (next turned) × IsFair (next turned)
+
+  over_then : (tree : Tree (Turn D × World D)) → Comes IsOver tree → RestsAfter → IsQuiet (tree >>= next) × IsFair (tree >>= next)
+  over_then tree (comes_to turned h) rests = rests turned h
+  over_then tree (comes_not kind fair) rests = (tt, fair)
+
+  open_then : (tree : Tree (Turn D × World D)) → IsOpen tree → ((turned : Turn D × World D) → IsGoing turned → IsClosing (next turned)) → IsClosing (tree >>= next)
+  open_then (Gives turned) opens goes_on = goes_on turned opens
+  open_then (Fails kind) opens goes_on = tt
+  open_then (Closes rest) opens goes_on = tt
+  open_then (Asks question branches) opens goes_on = λ choice. open_then (branches choice) (opens choice) goes_on
+
+  pub event_then : (tree : Tree (Turn D × World D)) → IsEvent tree → ((turned : Turn D × World D) → IsGoing turned → IsRunTree (next turned)) → RestsAfter → IsRunTree (tree >>= next)
+  event_then tree (goes turned h) goes_on rests = goes_on turned h
+  event_then tree (fails kind fair) goes_on rests = failing_run kind fair
+  event_then tree (closes rest h) goes_on rests =
+      let r : IsQuiet (rest >>= next) × IsFair (rest >>= next) = over_then rest h rests in
+      record { sound = r.0; closing = tt; exploring = tt; fair = r.1 }
+  event_then tree (asks question branches sound exploring options opens) goes_on rests = record {
+    sound = (sound, λ choice a. (event_then (branches choice) (options choice a) goes_on rests).sound);
+    closing = λ choice. open_then (branches choice) (opens choice) (λ turned h. (goes_on turned h).closing);
+    exploring = (exploring, λ choice a. (event_then (branches choice) (options choice a) goes_on rests).exploring);
+    fair = λ choice a. (event_then (branches choice) (options choice a) goes_on rests).fair;
+  }

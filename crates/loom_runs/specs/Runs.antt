@@ -1,0 +1,62 @@
+-- The runs of a body: what its threads hand over, one operation after another.
+use Rattle.std.specs.Prelude.{ℕ, zero, suc, List, [], ◌∷◌, ◌++◌, Option, Some, None, slice_get, slice_set}
+use Rattle.loom_views.specs.declared.rt.failure.FailureKind.TheVariants.{TooManySteps, Misuse}
+use Rattle.loom_objects.specs.declared.operation.Op.{Op}
+use Rattle.loom_objects.specs.declared.operation.Reply.{Reply}
+use Rattle.loom_objects.specs.declared.operation.Reply.TheVariants as reply
+use Rattle.loom_objects.specs.declared.operation.Turn.{Turn}
+use Rattle.loom_objects.specs.declared.operation.Turn.TheVariants as turn
+use Rattle.loom_objects.specs.Operation.{plain, started}
+use Rattle.loom_objects.specs.Tree.{Tree, Gives, Fails, ◌>>=◌, found}
+use Rattle.loom_objects.specs.World.{World, opening}
+use Rattle.loom_runs.specs.Machine.{submit}
+use Rattle.loom_walks.specs.Trees.Check.{IsClosing}
+use Rattle.loom_walks.specs.Trees.Meeting.{ExploresTree}
+use Rattle.loom_walks.specs.Trees.Outcomes.{IsSoundTree, IsFair}
+
+-- what a body means: from its state and a reply, its next state and operation
+abbrev pub Meaning : Type 0 → Type 0 → Type 0
+Meaning D S = S → Reply D → S × Op D S
+
+abbrev pub with_child : {S : Type 0} → List S → Option S → List S
+with_child bodies None = bodies
+with_child bodies (Some child) = bodies ++ child ∷ []
+
+-- goes on with the thread whose turn it is and what it is told, or ends with main's result
+abbrev pub at_turn : {D R : Type 0} → (ℕ → Reply D → R) → (D → R) → Turn D → R
+at_turn go stop (turn.Reply thread answer) = go thread answer
+at_turn go stop (turn.Start thread) = go thread reply.Start
+at_turn go stop (turn.Ended value) = stop value
+
+module _ {D S : Type 0} where
+  -- what comes after the body of a thread has handed over its operation and is in its next state
+  abbrev pub handed : (List S → World D → ℕ → Reply D → Tree D) → List S → World D → ℕ → S × Op D S → Tree D
+  handed rest bodies w thread (after, op) = do
+    turned ← submit (plain op) w
+    at_turn (rest (with_child (slice_set bodies thread after) (started op)) turned.1) (λ value. Gives value) turned.0
+
+  -- The thread is told the reply, and its body hands over its next operation, and so on to the run's end, with main's
+  -- result. What is started is a thread more. The number bounds the operations to come.
+  unfoldable pub play : Meaning D S → ℕ → List S → World D → ℕ → Reply D → Tree D
+  play next zero bodies w thread answer = Fails TooManySteps
+  play next (suc left) bodies w thread answer = do
+    body ← found (slice_get bodies thread) Misuse
+    handed (play next left) bodies w thread (next body answer)
+
+  -- all runs of a body, as a tree
+  abbrev pub runs : Meaning D S → ℕ → ℕ → S → Tree D
+  runs next max_threads max_steps body = play next (suc max_steps) (body ∷ []) (opening max_threads max_steps) 0 reply.Start
+
+-- what holds of each body's tree of runs
+pub record IsRunTree {A : Type 0} (tree : Tree A) : Type 0 where
+  -- its questions have their default among their options
+  pub sound : IsSoundTree tree
+  -- it comes to a value only where the run is over
+  pub closing : IsClosing tree
+  -- each question explores
+  pub exploring : ExploresTree tree
+  pub fair : IsFair tree
+
+-- Each body's runs are such a tree, whatever the body means.
+abbrev pub RunTreeLaw : Type 0 → Type 0 → Type 0
+RunTreeLaw D S = (next : Meaning D S) (max_threads max_steps : ℕ) (body : S) → IsRunTree (runs next max_threads max_steps body)

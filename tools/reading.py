@@ -1,0 +1,143 @@
+#!/usr/bin/env python3
+"""How much there is to read, to know what a check promises.
+
+Follows the imports from the file that states the theorem and from the definition of a body's runs, and prints each file of
+this repository that they come to, with its lines, and the sum. A file of `specs` counts whole. A declared type counts with
+the lines of its declaration, and so do the types that it names. The rules of the operations, which say what each operation
+does, are named apart and not followed. Ends with status 1 where the sum is above the limit.
+
+    tools/reading.py
+"""
+import re
+import sys
+from pathlib import Path
+
+LIMIT = 1500
+CRATES = Path(__file__).resolve().parent.parent / "crates"
+START = ["loom/specs/Check.antt", "loom_runs/specs/Runs.antt"]
+RULES = {
+    f"loom_objects/specs/{name}.antt"
+    for name in [
+        "Atomics", "Cells", "Condvars", "Counts", "Leaks", "Locks", "Notifiers", "RwLocks", "Steps", "Threads", "Tracks",
+    ]
+}
+
+IMPORT = re.compile(r"^\s*use Rattle\.(\w+)\.specs\.([\w.]+)", re.M)
+DECLARATION = r"^(?:pub )?(?:enum|struct|trait|type) {name}\b"
+
+
+def spec_file(crate, path):
+    """The file of `specs` that an import names: its longest beginning that is one."""
+    parts = path.split(".")
+    for size in range(len(parts), 0, -1):
+        file = CRATES / crate / "specs" / ("/".join(parts[:size]) + ".antt")
+        if file.is_file():
+            return file
+    return None
+
+
+def source_file(crate, modules):
+    """The file of `src` that keeps a module."""
+    source = CRATES / crate / "src"
+    return source / "lib.rt" if not modules else source / ("/".join(modules) + ".rt")
+
+
+def declared(crate, path):
+    """The declaration that an import of a declared type names: its file and its name."""
+    parts = [part for part in path.split(".") if part]
+    modules = [part for part in parts if part[0].islower()]
+    return source_file(crate, modules), parts[len(modules)]
+
+
+def block(text, name):
+    """The lines of a type's declaration, with what is said of it."""
+    lines = text.split("\n")
+    at = next((i for i, line in enumerate(lines) if re.match(DECLARATION.format(name=name), line)), None)
+    if at is None:
+        return []
+    first = at
+    while first > 0 and re.match(r"(///|#\[)", lines[first - 1]):
+        first -= 1
+    last = at
+    if "{" in lines[at] and "}" not in lines[at]:
+        while lines[last] != "}":
+            last += 1
+    return lines[first : last + 1]
+
+
+def named(crate, file, lines):
+    """The types of this repository that a declaration names."""
+    text = file.read_text()
+    code = "\n".join(line for line in lines if not re.match(r"\s*(///|#\[)", line))
+    for name in sorted(set(re.findall(r"\b[A-Z]\w*", code))):
+        if re.search(DECLARATION.format(name=name), text, re.M):
+            yield file, name
+            continue
+        for use in re.finditer(r"^use (crate|loom_\w+)((?:::\w+)*)::(?:\{([^}]*)\}|(\w+));", text, re.M):
+            if name in re.findall(r"\w+", use.group(3) or use.group(4)):
+                home = crate if use.group(1) == "crate" else use.group(1)
+                target = source_file(home, use.group(2).split("::")[1:])
+                for found in reexported(home, target, name):
+                    yield found
+
+
+def reexported(crate, file, name):
+    """Where a name stands that a module declares or hands on."""
+    if not file.is_file():
+        return
+    text = file.read_text()
+    if re.search(DECLARATION.format(name=name), text, re.M):
+        yield file, name
+        return
+    for use in re.finditer(r"^pub use (?:self::)?(\w+)::(?:\{([^}]*)\}|(\w+));", text, re.M):
+        if name in re.findall(r"\w+", use.group(2) or use.group(3)):
+            inner = file.with_suffix("") / f"{use.group(1)}.rt"
+            yield from reexported(crate, inner, name)
+
+
+def imports(crate, text, specs, types):
+    """Puts what the text imports into the two lists."""
+    for crate, path in IMPORT.findall(text):
+        if not (CRATES / crate).is_dir():
+            continue
+        if path.startswith("declared."):
+            types.append(declared(crate, path[len("declared.") :]))
+        else:
+            file = spec_file(crate, path)
+            if file is not None:
+                specs.append(file)
+
+
+def main():
+    specs, types = [CRATES / name for name in START], []
+    read, rules, declarations = {}, set(), {}
+    while specs or types:
+        if specs:
+            file = specs.pop(0)
+            name = str(file.relative_to(CRATES))
+            if name in RULES:
+                rules.add(name)
+            elif name not in read:
+                text = file.read_text()
+                read[name] = text.count("\n")
+                imports(name.split("/")[0], text, specs, types)
+        else:
+            file, name = types.pop(0)
+            key = (str(file.relative_to(CRATES)), name)
+            if key not in declarations:
+                lines = block(file.read_text(), name)
+                declarations[key] = len(lines)
+                types.extend(named(key[0].split("/")[0], file, lines))
+    for name, lines in read.items():
+        print(f"{lines:5} {name}")
+    for file in sorted({file for file, _ in declarations}):
+        parts = {name: lines for (of, name), lines in declarations.items() if of == file}
+        print(f"{sum(parts.values()):5} {file}: {', '.join(sorted(parts))}")
+    total = sum(read.values()) + sum(declarations.values())
+    print(f"{total:5} in all, of at most {LIMIT}")
+    print(f"apart from the rules of the operations: {', '.join(sorted(rules))}")
+    return 1 if total > LIMIT else 0
+
+
+if __name__ == "__main__":
+    sys.exit(main())
