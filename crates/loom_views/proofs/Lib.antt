@@ -6,6 +6,7 @@ pub mod Counted
 pub mod VersionLists
 pub mod Loops
 pub mod SlotNumbers
+pub mod SlotSets
 pub mod Shown
 pub mod Accesses
 pub mod Choices

@@ -1,5 +1,5 @@
 -- The numbers below a bound, and which slots a reader may choose.
-use Rattle.std.specs.Prelude.{ℕ, zero, suc, ◌+◌, ◌-◌, ◌*◌, ◌/◌, Bool, false, not, ◌&&◌, ◌==◌, min, List, [], ◌∷◌, ◌++◌, Option, Some, None}
+use Rattle.std.specs.Prelude.{ℕ, zero, suc, ◌+◌, ◌-◌, ◌*◌, ◌/◌, Bool, false, not, ◌&&◌, ◌==◌, min, List, [], ◌∷◌, ◌++◌, map, Option, Some, None}
 use Rattle.std.specs.List.{list_any, filter}
 
 -- the numbers below n, in rising order
@@ -37,3 +37,11 @@ has_equal_order_at same drops n i = list_any (has_order_of same drops i) (slots 
 -- some slot has another's order in that way
 abbrev pub has_equal_orders : (ℕ → ℕ → Bool) → (ℕ → ℕ → Bool) → ℕ → Bool
 has_equal_orders same drops n = list_any (has_equal_order_at same drops n) (slots n)
+
+-- whether a list has the slot
+abbrev pub has_slot : List ℕ → ℕ → Bool
+has_slot slots i = list_any (λ j. j == i) slots
+
+-- the set of the slots in a list: whether it has slot 0, slot 1 and so on
+abbrev pub slot_set : List ℕ → List Bool
+slot_set slots = map (has_slot slots) (0 ∷ 1 ∷ 2 ∷ 3 ∷ 4 ∷ 5 ∷ 6 ∷ [])

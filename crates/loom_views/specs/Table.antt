@@ -1,6 +1,6 @@
 -- The points of a whole run: of its threads, and of the objects that threads synchronize at or access.
-use Rattle.std.specs.Prelude.{ℕ, ◌≤◌, ◌<◌, ◌≡◌, ◌==◌, nat_le, nat_lt, Bool, if◌then◌else◌, List, [], ◌∷◌, ◌++◌, length, map, slice_get, slice_set, Option, Some, None, Result, Ok, Err}
-use Rattle.std.specs.List.{list_any, flat_map}
+use Rattle.std.specs.Prelude.{ℕ, ◌≤◌, ◌<◌, ◌≡◌, nat_le, nat_lt, Bool, if◌then◌else◌, List, [], ◌∷◌, ◌++◌, length, slice_get, slice_set, Option, Some, None, Result, Ok, Err}
+use Rattle.std.specs.List.{flat_map}
 use Rattle.std.specs.declared.sync.atomic.Ordering.{Ordering}
 use Rattle.std.specs.declared.sync.atomic.Ordering.TheVariants.{Relaxed, Release, Acquire, AcqRel, SeqCst}
 use Rattle.loom_views.specs.declared.rt.atomic.Reader.{Reader}
@@ -16,6 +16,7 @@ use Rattle.loom_views.specs.Atomic.{History, StorePoints, Scene, Answer, readabl
 use Rattle.loom_views.specs.Fences.{after_stores, kept_stores}
 use Rattle.loom_views.specs.Cells.{Accesses, new_accesses, read_step, write_step, ShowsAccesses}
 use Rattle.loom_views.specs.Shown.{ShowsState}
+pub use Rattle.loom_views.specs.Slots.{has_slot, slot_set}
 
 -- what an object has: the number of the point at which threads synchronize, the history of an atomic, or the accesses of a cell
 pub data Place : Type 0 where
@@ -262,13 +263,6 @@ readable_by p t reader (Some own) (Some (Keeps history)) = if fails_by_orders p.
 
 abbrev pub readable_slots_of : Points → ℕ → ℕ → Reader → Result (List ℕ) FailureKind
 readable_slots_of p t n reader = readable_by p t reader (slice_get p.threads t) (slice_get p.places n)
-
--- which of the seven slots a list has
-abbrev pub has_slot : List ℕ → ℕ → Bool
-has_slot slots i = list_any (λ j. j == i) slots
-
-abbrev pub slot_set : List ℕ → List Bool
-slot_set slots = map (has_slot slots) (0 ∷ 1 ∷ 2 ∷ 3 ∷ 4 ∷ 5 ∷ 6 ∷ [])
 
 -- a store is kept in the slot, if the object is an atomic
 abbrev pub IsSlotKept : Option Place → ℕ → Type 0

@@ -1,6 +1,6 @@
 -- The accesses of an atomic of a run.
 use Rattle.std.proofs.Common.{◌≡◌, ℕ, ◌<◌, Bool, true, false, List, [], ◌∷◌, ◌++◌, length, get_or, set, subst, ap, sym, ◌∙◌, arith, ⊎_elim, Option, Some, None, Result, Ok, Err}
-use Rattle.std.specs.Prelude.{IsTrue, nat_lt, ◌==◌, if◌then◌else◌}
+use Rattle.std.specs.Prelude.{IsTrue, MatchResult, nat_lt, ◌==◌, if◌then◌else◌}
 use Rattle.std.specs.List.{slice_get, list_any, AllByRecursion}
 use Rattle.std.specs.declared.sync.atomic.Ordering.{Ordering}
 use Rattle.std.specs.declared.sync.atomic.Ordering.TheVariants.{Release}
@@ -126,15 +126,13 @@ module _ (p : Points) (v : Views) (t n : ℕ) (d : ThreadViews) (state : State) 
       rw (f.is, o.is) (subst (λ (kepts : List ThreadViews). StoresAs (accessed p t n (store_step t s value order)) result (record v { threads = kepts; places = set v.places n (Keeping new) })) (set-get_or v.threads t d)
       (finishes-stepped (store_step t s value order) result (get_or v.threads t d) new (store-grows t s value order) (store-stores t s value order) (finishes s (scene-shown f o))))
 
-  pub readable-offered : (reader : Reader) (slots : List ℕ) → ((s : Scene) → ShowsScene t s (get_or v.threads t d) state → (slots ≡ readable s.graph t s.thread reader s.history.stores) × (fails_by_orders s.graph t s.thread reader s.history.stores ≡ false)) → OffersAs (readable_slots_of p t n reader) (Ok (slot_set slots))
-  readable-offered reader slots offers =
+  pub offers-readable : (reader : Reader) (result : Result (List Bool) FailureKind) → ((s : Scene) → ShowsScene t s (get_or v.threads t d) state → MatchResult result (λ set. (set ≡ slot_set (readable s.graph t s.thread reader s.history.stores)) × (fails_by_orders s.graph t s.thread reader s.history.stores ≡ false)) (λ kind. (kind ≡ OrdersEqual) × IsTrue (fails_by_orders s.graph t s.thread reader s.history.stores))) → OffersAs (readable_slots_of p t n reader) result
+  offers-readable reader (Ok set) offers =
       let f = found p v t d l m z in
       let o = found_atomic p v n state kept z in
       let h = offers (scene_of p f.own o.history) (scene-shown f o) in
-      rw (f.is, o.is, h.1) (ap (λ (xs : List ℕ). Ok (slot_set xs)) h.0)
-
-  pub readable-refused : (reader : Reader) (kind : FailureKind) → ((s : Scene) → ShowsScene t s (get_or v.threads t d) state → (kind ≡ OrdersEqual) × IsTrue (fails_by_orders s.graph t s.thread reader s.history.stores)) → OffersAs (readable_slots_of p t n reader) (Err kind)
-  readable-refused reader kind refuses =
+      rw (f.is, o.is, h.1) (ap Ok h.0)
+  offers-readable reader (Err kind) refuses =
       let f = found p v t d l m z in
       let o = found_atomic p v n state kept z in
       let h = refuses (scene_of p f.own o.history) (scene-shown f o) in

@@ -4,12 +4,12 @@
 //! history by points. Slots are numbered from 0: the store with number `n` stands in slot `n` modulo `MAX_ATOMIC_HISTORY`.
 //! The thread has raised its version before the call. Where a call fails, the atomic and the thread's views are as before.
 
-ghost use Rattle.std.specs.Prelude.{◌≡◌, ℕ, ◌+◌, ◌<◌, ◌≤◌, ◌==◌, min, IsTrue, None, slice_index_or, false, MatchResult, OnErr, Ok, Err, length};
+ghost use Rattle.std.specs.Prelude.{◌≡◌, ℕ, ◌+◌, ◌<◌, ◌≤◌, ◌==◌, ◌&&◌, not, min, IsTrue, None, slice_index_or, false, MatchResult, OnErr, Ok, Err, length};
 ghost use Rattle.std.specs.List.{list_any};
 ghost use Rattle.loom_views.specs.Versions.{join, join_all};
 ghost use Rattle.loom_views.specs.Untouched.{untouched};
 ghost use Rattle.loom_views.specs.declared.rt.failure.FailureKind.TheVariants.{OrdersEqual, TooManyStores};
-ghost use Rattle.loom_views.specs.Slots.{upto, has_order_of, has_equal_order_at};
+ghost use Rattle.loom_views.specs.Slots.{slots, slot_set, has_equal_order_at};
 ghost use Rattle.loom_views.specs.Ring.{is_touch_in, is_version_before, touch_version, store_at, drops_slot, is_same_slot, readable_now, fails_now, is_order_seen, orders_seen, state_read, state_made, load_tracked, store_tracked, unsync_load_tracked, unsync_mut_tracked, load_now, store_now, update_read_now, update_write_now, newest_slot, unsync_load_now, mutate_now, mutate_end_now, state_blank};
 ghost use Rattle.loom_views.specs.Graph.{Graph, IsChained, IsPresent};
 ghost use Rattle.loom_views.specs.Threads.{ThreadPoints, ShowsThread};
@@ -22,7 +22,6 @@ use crate::rt::failure::FailureKind;
 use crate::rt::synchronize::{Synchronize, ThreadViews};
 use crate::rt::vv::VersionVec;
 use crate::rt::{MAX_ATOMIC_HISTORY, MAX_THREADS};
-use arrayvec::ArrayVec;
 use std::sync::atomic::Ordering;
 
 /// Who reads (own; loom has two functions, in `rt/atomic.rs`).
@@ -118,131 +117,94 @@ impl State {
         usize::from(self.count).min(MAX_ATOMIC_HISTORY)
     }
 
-    /// Whether the store in slot `j` keeps a reader from choosing slot `i`.
-    fn drops(&self, thread: usize, views: &ThreadViews, reader: Reader, i: usize, j: usize) -> bool
-        requires thread_in { thread < 5 }
-        requires i_in { i < 7 }
-        requires j_in { j < 7 }
-        ensures { result ≡ drops_slot self.now thread views.now reader i j }
-    {
-        let store = &self.stores[i];
-        let other = &self.stores[j];
-        let is_below = store.order < other.order;
-        match reader {
-            Reader::Update => is_below,
-            Reader::Load(order) => {
-                let is_seen = other.first_seen.is_seen_from(&views.present);
-                let is_before = store.first_seen.is_before_yield(thread, views.last_yield);
-                let is_seq_cst = matches!(order, Ordering::SeqCst);
-                is_below && (is_seen || is_before || is_seq_cst && store.seq_cst && other.seq_cst)
-            }
-        }
-    }
-
-    /// Whether a store in a slot below `end` keeps the reader from choosing slot `i`.
-    fn is_dropped(
-        &self,
-        thread: usize,
-        views: &ThreadViews,
-        reader: Reader,
-        i: usize,
-        end: usize,
-    ) -> bool
-        requires thread_in { thread < 5 }
-        requires i_in { i < 7 }
-        requires end_in { end ≤ 7 }
-        ensures { result ≡ list_any (drops_slot self.now thread views.now reader i) (upto end) }
-    {
-        for j in 0..end {
-            if self.drops(thread, views, reader, i, j) {
-                return true;
-            }
-        }
-        false
-    }
-
-    /// Whether slot `i` has the order of another slot `j`, and no slot before `j` drops it.
-    fn has_order_of(
+    /// Whether the store in slot `j` keeps a reader from choosing slot `i`. It is `OrdersEqual` where these are two slots, and
+    /// their stores have equal orders.
+    fn drops(
         &self,
         thread: usize,
         views: &ThreadViews,
         reader: Reader,
         i: usize,
         j: usize,
-    ) -> bool
+    ) -> Result<bool, FailureKind>
         requires thread_in { thread < 5 }
         requires i_in { i < 7 }
         requires j_in { j < 7 }
-        ensures { result ≡ has_order_of (is_same_slot self.now) (drops_slot self.now thread views.now reader) i j }
+        ensures { MatchResult result (λ dropped. (dropped ≡ drops_slot self.now thread views.now reader i j) × ((not (i == j) && is_same_slot self.now i j) ≡ false))
+            (λ kind. (kind ≡ OrdersEqual) × IsTrue (not (i == j) && is_same_slot self.now i j)) }
     {
-        let is_same = self.stores[i].order == self.stores[j].order;
-        let is_dropped = self.is_dropped(thread, views, reader, i, j);
-        i != j && is_same && !is_dropped
+        let store = &self.stores[i];
+        let other = &self.stores[j];
+        if i == j || !store.order.is_within(&other.order) {
+            return Ok(false);
+        }
+        if other.order.is_within(&store.order) {
+            return Err(FailureKind::OrdersEqual);
+        }
+        match reader {
+            Reader::Update => Ok(true),
+            Reader::Load(order) => {
+                Ok(
+                    other.first_seen.is_seen_from(&views.present)
+                        || store.first_seen.is_before_yield(thread, views.last_yield)
+                        || matches!(order, Ordering::SeqCst) && store.seq_cst && other.seq_cst,
+                )
+            }
+        }
     }
 
-    /// Whether slot `i` has the order of another slot in that way.
-    fn has_equal_order(&self, thread: usize, views: &ThreadViews, reader: Reader, i: usize) -> bool
+    /// Whether a kept store keeps the reader from choosing slot `i`. It is `OrdersEqual` where slot `i` has the order of another
+    /// slot, and no slot before that one keeps the reader from it.
+    fn is_dropped(
+        &self,
+        thread: usize,
+        views: &ThreadViews,
+        reader: Reader,
+        i: usize,
+    ) -> Result<bool, FailureKind>
         requires thread_in { thread < 5 }
         requires i_in { i < 7 }
-        ensures { result ≡ has_equal_order_at (is_same_slot self.now) (drops_slot self.now thread views.now reader) self.now.count i }
+        ensures { MatchResult result (λ dropped. (dropped ≡ list_any (drops_slot self.now thread views.now reader i) (slots self.now.count)) × (has_equal_order_at (is_same_slot self.now) (drops_slot self.now thread views.now reader) self.now.count i ≡ false))
+            (λ kind. (kind ≡ OrdersEqual) × IsTrue (has_equal_order_at (is_same_slot self.now) (drops_slot self.now thread views.now reader) self.now.count i)) }
     {
         for j in 0..self.kept() {
-            if self.has_order_of(thread, views, reader, i, j) {
-                return true;
+            if self.drops(thread, views, reader, i, j)? {
+                return Ok(true);
             }
         }
-        false
+        Ok(false)
     }
 
-    /// Whether the reader's choice fails since two orders are equal.
-    fn has_equal_orders(&self, thread: usize, views: &ThreadViews, reader: Reader) -> bool
-        requires { thread < 5 }
-        ensures { result ≡ fails_now self.now thread views.now reader }
-    {
-        for i in 0..self.kept() {
-            if self.has_equal_order(thread, views, reader, i) {
-                return true;
-            }
-        }
-        false
-    }
-
-    /// The slots that the reader may choose, in rising order.
+    /// The set of the slots that the reader may choose.
     fn readable_in_vectors(
         &self,
         thread: usize,
         views: &ThreadViews,
         reader: Reader,
-    ) -> Result<ArrayVec<u8, 7>, FailureKind>
+    ) -> Result<[bool; MAX_ATOMIC_HISTORY], FailureKind>
         requires { thread < 5 }
-        ensures { MatchResult result (λ slots. (slots.items ≡ readable_now self.now thread views.now reader) × (fails_now self.now thread views.now reader ≡ false))
+        ensures { MatchResult result (λ set. (set ≡ slot_set (readable_now self.now thread views.now reader)) × (fails_now self.now thread views.now reader ≡ false))
             (λ kind. (kind ≡ OrdersEqual) × IsTrue (fails_now self.now thread views.now reader)) }
     {
-        if self.has_equal_orders(thread, views, reader) {
-            return Err(FailureKind::OrdersEqual);
+        let mut set = [false; MAX_ATOMIC_HISTORY];
+        for i in 0..self.kept() {
+            set[i] = !self.is_dropped(thread, views, reader, i)?;
         }
-        let kept = self.kept();
-        let mut slots = ArrayVec::new();
-        for i in 0..kept {
-            if !self.is_dropped(thread, views, reader, i, kept) {
-                slots.push(i as u8);
-            }
-        }
-        Ok(slots)
+        Ok(set)
     }
 
-    /// The slots that the reader may choose, in rising order: those of the stores that no kept store keeps it from. Where two
-    /// orders are equal on the way it is `OrdersEqual`. By law `laws::some_slot_is_readable` there is always a slot (loom's
+    /// The set of the slots that the reader may choose: those of the stores that no kept store keeps it from. Where two orders
+    /// are equal on the way it is `OrdersEqual`. By law `laws::some_slot_is_readable` there is always a slot (loom's
     /// `rt/atomic.rs`).
     pub fn readable(
         &self,
         thread: usize,
         views: &ThreadViews,
         reader: Reader,
-    ) -> Result<ArrayVec<u8, 7>, FailureKind>
+    ) -> Result<[bool; MAX_ATOMIC_HISTORY], FailureKind>
         requires { thread < 5 }
         ensures { (s : Scene) → ShowsScene thread s views.now self.now →
-            MatchResult result (λ slots. (slots.items ≡ readable s.graph thread s.thread reader s.history.stores) × (fails_by_orders s.graph thread s.thread reader s.history.stores ≡ false))
+            MatchResult result (λ set. (set ≡ slot_set (readable s.graph thread s.thread reader s.history.stores)) × (fails_by_orders s.graph thread s.thread reader s.history.stores ≡ false))
             (λ kind. (kind ≡ OrdersEqual) × IsTrue (fails_by_orders s.graph thread s.thread reader s.history.stores)) }
     {
         self.readable_in_vectors(thread, views, reader)

@@ -8,7 +8,7 @@ ghost use Rattle.std.specs.Prelude.{◌≡◌, ◌++◌, ◌∷◌, ◌<◌, ◌
 ghost use Rattle.loom_views.specs.declared.rt.failure.FailureKind.TheVariants.{Misuse};
 ghost use Rattle.loom_views.specs.declared.rt.table.Kept.TheVariants.{Meeting};
 ghost use Rattle.loom_views.specs.Versions.{zeros};
-ghost use Rattle.loom_views.specs.Table.{Points, ShowsViews, MovesAs, LoadsAs, StoresAs, OffersAs, IsSlotKept, opening, points_after_raise, points_after_acquire, points_after_release, points_after_release_fence, points_after_yield, points_with_point, points_after_spawn, points_after_join, points_with_atomic, points_after_load, points_after_store, points_after_update_read, points_after_update_write, points_after_update_fail, points_after_unsync_load, points_after_with_mut, points_after_with_mut_end, points_after_acquire_fence, points_after_meet_global, points_after_fence, points_with_cell, points_after_read, points_after_write, readable_slots_of, slot_set, has_slot};
+ghost use Rattle.loom_views.specs.Table.{Points, ShowsViews, MovesAs, LoadsAs, StoresAs, OffersAs, IsSlotKept, opening, points_after_raise, points_after_acquire, points_after_release, points_after_release_fence, points_after_yield, points_with_point, points_after_spawn, points_after_join, points_with_atomic, points_after_load, points_after_store, points_after_update_read, points_after_update_write, points_after_update_fail, points_after_unsync_load, points_after_with_mut, points_after_with_mut_end, points_after_acquire_fence, points_after_meet_global, points_after_fence, points_with_cell, points_after_read, points_after_write, readable_slots_of};
 
 use crate::rt::atomic::{Reader, State};
 use crate::rt::cell::AccessRecords;
@@ -17,7 +17,6 @@ use crate::rt::synchronize::{Synchronize, ThreadViews};
 use crate::rt::vv::VersionVec;
 use crate::rt::{MAX_ATOMIC_HISTORY, MAX_THREADS};
 use crate::sequence::Sequence;
-use arrayvec::ArrayVec;
 use std::alloc::{AllocError, Global};
 use std::sync::atomic::Ordering;
 
@@ -273,10 +272,7 @@ impl Views {
         }
         let views = self.threads[thread];
         match self.places.at(place) {
-            Kept::Keeping(state) => match state.readable(thread, &views, reader) {
-                Ok(slots) => Ok(set_of(&slots)),
-                Err(kind) => Err(kind),
-            },
+            Kept::Keeping(state) => state.readable(thread, &views, reader),
             _ => Err(FailureKind::Misuse),
         }
     }
@@ -512,26 +508,4 @@ impl Views {
             _ => Err(FailureKind::Misuse),
         }
     }
-}
-
-/// The set of the slots in a list.
-fn set_of(slots: &ArrayVec<u8, MAX_ATOMIC_HISTORY>) -> [bool; MAX_ATOMIC_HISTORY]
-    ensures { result ≡ slot_set slots.now.items }
-{
-    [
-        has_slot(slots, 0),
-        has_slot(slots, 1),
-        has_slot(slots, 2),
-        has_slot(slots, 3),
-        has_slot(slots, 4),
-        has_slot(slots, 5),
-        has_slot(slots, 6),
-    ]
-}
-
-/// Whether a list has the slot.
-fn has_slot(slots: &ArrayVec<u8, MAX_ATOMIC_HISTORY>, slot: u8) -> bool
-    ensures { result ≡ has_slot slots.now.items slot }
-{
-    slots.iter().any(|other| *other == slot)
 }

@@ -1,13 +1,14 @@
-use Rattle.std.proofs.Common.{◌≡◌, ◌≤◌, not}
-use Rattle.std.specs.List.{list_any, filter}
-use Rattle.arrayvec.specs.ArrayVec.{array_vec_len}
-use Rattle.loom_views.specs.Slots.{upto}
-use Rattle.loom_views.specs.Ring.{drops_slot}
+use Rattle.std.proofs.Common.{◌≡◌, ◌≤◌, ◌<◌, ℕ, not, false, get_or, length}
+use Rattle.std.specs.List.{list_any}
+use Rattle.loom_views.specs.Slots.{slots, has_equal_order_at}
+use Rattle.loom_views.specs.Ring.{drops_slot, is_same_slot}
 use Rattle.loom_views.proofs.rt.atomic.State.readable_in_vectors.Given as goal
 
--- the slots so far that no kept store drops
+-- the slots so far that no kept store drops, none of which has another's order
 abbrev pub invariant-loop-i : goal.invariant-loop-i
 invariant-loop-i l = record {
-  room : array_vec_len l.slots ≤ l.i;
-  listed : l.slots.items ≡ filter (λ i. not (list_any (drops_slot l.self l.thread l.views l.reader i) (upto l.kept))) (upto l.i);
+  seven : length l.set ≡ 7;
+  told : (k : ℕ) → k < l.i → get_or l.set k false ≡ not (list_any (drops_slot l.self l.thread l.views l.reader k) (slots l.self.count));
+  rest : (k : ℕ) → l.i ≤ k → get_or l.set k false ≡ false;
+  apart : (k : ℕ) → k < l.i → has_equal_order_at (is_same_slot l.self) (drops_slot l.self l.thread l.views l.reader) l.self.count k ≡ false;
 }

@@ -1,0 +1,18 @@
+use Rattle.std.proofs.Common.{◌≡◌, min, not, rules, arith, Err}
+use Rattle.std.specs.List.{list_any}
+use Rattle.loom_views.specs.Slots.{slots, has_equal_order_at}
+use Rattle.loom_views.specs.Ring.{drops_slot, is_same_slot}
+use Rattle.loom_views.proofs.Loops.{any_upto-hit, any_upto-none}
+use Rattle.loom_views.proofs.SlotSets.{set-is}
+use Rattle.loom_views.proofs.rt.atomic.State.readable_in_vectors.Goals as goal
+
+pub returns-in_err-set : goal.returns-in_err-set
+returns-in_err-set c =
+    let same : c.from_residual.result ≡ Err c.in_err-set.field-0.0 = search rules in
+    rw same (c.in_err-set.ensures.0, any_upto-hit (has_equal_order_at (is_same_slot c.args.self.now) (drops_slot c.args.self.now c.args.thread c.args.views.now c.args.reader) c.args.self.now.count) (min c.args.self.now.count 7) c.loop-i.i (omega arith) c.in_err-set.ensures.1)
+
+pub returns : goal.returns
+returns c = (
+  set-is c.loop-i.set (λ i. not (list_any (drops_slot c.args.self.now c.args.thread c.args.views.now c.args.reader i) (slots c.args.self.now.count))) (min c.args.self.now.count 7) (omega arith) c.loop-i.invariant.seven (λ i l. c.loop-i.invariant.told i (omega arith)) (λ i l. c.loop-i.invariant.rest i (omega arith)),
+  any_upto-none (has_equal_order_at (is_same_slot c.args.self.now) (drops_slot c.args.self.now c.args.thread c.args.views.now c.args.reader) c.args.self.now.count) (min c.args.self.now.count 7) (λ k l. c.loop-i.invariant.apart k (omega arith)),
+)
