@@ -10,7 +10,7 @@ use Rattle.loom_walks.specs.Trees.Marks.{marking}
 use Rattle.loom_walks.specs.Trees.Replay.{replayed}
 use Rattle.loom_engine.specs.Routes.{Route, at_rest, stored, trail, chosen, drives}
 use Rattle.loom_walks.specs.Trees.Meeting.{whole_search}
-use Rattle.loom_runs.specs.Runs.{IsRunTree}
+use Rattle.loom_runs.specs.Trees.{IsRunTree}
 use Rattle.loom_walks.proofs.Trees.Marks.{marking_law}
 use Rattle.loom_walks.proofs.Trees.Replays.{replayed_as, allowed_replay_law}
 use Rattle.loom.specs.Check.{IsReplay}

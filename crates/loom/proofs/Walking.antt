@@ -9,14 +9,14 @@ use Rattle.loom_walks.specs.Trees.Meeting.{Settings}
 use Rattle.loom_walks.specs.Trees.Drive.{Trail, drive, at_start}
 use Rattle.loom_walks.specs.Trees.Check.{Makes, makes_none}
 use Rattle.loom_walks.specs.Trees.Marks.{marking}
-use Rattle.loom_walks.specs.Trees.Reports.{IsWholeSearch, IsFailedReport}
+use Rattle.loom_walks.specs.Trees.Reports.{IsWholeSearch}
 use Rattle.loom_engine.specs.Routes.{Route, at_rest, stored, trail, chosen, Steps, drives}
 use Rattle.loom_walks.specs.Trees.Meeting.{whole_search}
-use Rattle.loom_runs.specs.Runs.{IsRunTree}
+use Rattle.loom_runs.specs.Trees.{IsRunTree}
 use Rattle.loom_walks.proofs.Trees.Marks.{marking_law}
 use Rattle.loom_walks.proofs.Trees.Rounds.{another_round, final_round, next_driven}
 use Rattle.loom_walks.proofs.Trees.Reporting.{complete_report_law, stopped_report_law, failed_report_law}
-use Rattle.loom.specs.Check.{Given, WasGiven, Reports, ReportsAlone}
+use Rattle.loom.specs.Check.{Given, WasGiven, IsFailedReport, Reports, ReportsAlone}
 use Rattle.loom.specs.declared.error.CheckError.{CheckError}
 use Rattle.loom.specs.declared.model.Limit.{Limit}
 use Rattle.loom.specs.declared.model.Report.{Report}
@@ -105,36 +105,39 @@ module _ {D : Type 0} (max_branches : ℕ) (tree : Tree D) where
         → Steps after.nodes false nodes → Reports takes old new max_branches tree (Complete (count + 1))
     walking_ends sound path after visitor new count value list nodes z e same gave steps =
         let c : choices (stored after.nodes) ≡ list = sym (all_chosen sound path after visitor count (Ok value) z e) ∙ sym same in
-        let runs = z.runs ++ (choices (stored after.nodes), value) ∷ [] in (
+        let runs = z.runs ++ (choices (stored after.nodes), value) ∷ [] in
+        let law = complete_report_law search (marking None) tree runs (whole sound)
+        (final_round search (marking None) tree [] (stored path.nodes) z.runs value (trail after) z.makes (driven path after (Ok value) z.rests e) steps) in (
           runs,
           record {
             given = given_more takes old z.runs visitor new (choices (stored after.nodes)) value z.given (subst (λ l. takes visitor l value new) (sym c) gave);
             counted = one_longer z.runs (choices (stored after.nodes), value) count z.counted;
           },
-          complete_report_law search (marking None) tree runs (whole sound)
-              (final_round search (marking None) tree [] (stored path.nodes) z.runs value (trail after) z.makes (driven path after (Ok value) z.rests e) steps),
+          record { are_runs = law.0; walk = law.1; in_order = law.2; none_fails = law.3; every_run = law.4 },
         )
 
     -- a run that fails
     pub walking_fails : IsRunTree tree → (path after : Route) (visitor : V) (count : ℕ) (kind : FailureKind) (list : List Choice) → IsWalking path visitor count
         → drives tree path ≡ (Err kind, trail after) → list ≡ chosen after
-        → (runs : List (List Choice × D)) × WasGiven takes old visitor runs count × IsFailedReport search (marking None) tree runs kind list
-    walking_fails sound path after visitor count kind list z e same = (
-      z.runs,
-      record { given = z.given; counted = z.counted },
-      subst (IsFailedReport search (marking None) tree z.runs kind) (sym (all_chosen sound path after visitor count (Err kind) z e) ∙ sym same)
-          (failed_report_law search (marking None) tree z.runs (stored path.nodes) kind (trail after) (whole sound) sound.fair z.makes (driven path after (Err kind) z.rests e)),
-    )
+        → (runs : List (List Choice × D)) × WasGiven takes old visitor runs count × IsFailedReport max_branches tree runs kind list
+    walking_fails sound path after visitor count kind list z e same =
+        let law = failed_report_law search (marking None) tree z.runs (stored path.nodes) kind (trail after) (whole sound) sound.fair z.makes (driven path after (Err kind) z.rests e) in (
+          z.runs,
+          record { given = z.given; counted = z.counted },
+          subst (IsFailedReport max_branches tree z.runs kind) (sym (all_chosen sound path after visitor count (Err kind) z e) ∙ sym same)
+              (record { are_runs = law.0; more = law.1.0; walk = law.1.1; in_order = law.1.2; reachable = law.2; fails = law.3; own = law.4; replays = law.5 }),
+        )
 
     -- no more runs are made
     pub walking_stops : IsRunTree tree → (path : Route) (visitor : V) (count : ℕ) (limit : Limit) → IsWalking path visitor count → count ≡ 2 ^ 64 - 1
         → Reports takes old visitor max_branches tree (Stopped count limit)
-    walking_stops sound path visitor count limit z full = (
-      z.runs,
-      record { given = z.given; counted = z.counted },
-      stopped_report_law search (marking None) tree z.runs (stored path.nodes) (whole sound) z.makes,
-      full,
-    )
+    walking_stops sound path visitor count limit z full =
+        let law = stopped_report_law search (marking None) tree z.runs (stored path.nodes) (whole sound) z.makes in (
+          z.runs,
+          record { given = z.given; counted = z.counted },
+          record { are_runs = law.0; more = law.1.0; unfinished = law.1.1; walk = law.1.2; in_order = law.1.3 },
+          full,
+        )
 
 -- ---- where nobody is given the runs
 

@@ -1,29 +1,70 @@
--- What a check reports of a body's runs, and what a replay does.
-use Rattle.std.specs.Prelude.{◌≡◌, ◌-◌, ◌^◌, ℕ, List, [], ◌∷◌, Some, None, Result, Ok, Err, length}
+-- What a check promises. The runs of a body are a tree: `runs` in `loom_runs/specs/Runs.antt` says which. A run is the list of
+-- the choices that it makes, and the machine of a tree says which node a run meets after which choices. What a report says of
+-- these runs, and of those that the visitor was given, is `Reports`; what a replay does is `Replays`.
+use Rattle.std.specs.Prelude.{◌≡◌, ◌≢◌, ◌-◌, ◌^◌, ℕ, List, [], ◌∷◌, ◌++◌, Some, None, Result, Ok, Err, length, ◌↔◌}
 use Rattle.loom_views.specs.declared.rt.failure.FailureKind.{FailureKind}
+use Rattle.loom_views.specs.declared.rt.failure.FailureKind.TheVariants.{NotDeterministic}
 use Rattle.loom_objects.specs.declared.choice.Choice.{Choice}
 use Rattle.loom_objects.specs.Tree.{Tree}
-use Rattle.loom_walks.specs.Trees.Meeting.{whole_search}
 use Rattle.loom_walks.specs.Walk.Machine.{Machine, run}
-use Rattle.loom_walks.specs.Walk.Walks.{IsAllowed}
+use Rattle.loom_walks.specs.Walk.Runs.{Reachable}
+use Rattle.loom_walks.specs.Walk.Lists.{IsWalkList, IsInOrder, IsAllowed}
 use Rattle.loom_walks.specs.Trees.Marks.{marking}
-use Rattle.loom_walks.specs.Trees.Meeting.{machine_of}
-use Rattle.loom_walks.specs.Trees.Outcomes.{outcome}
+use Rattle.loom_walks.specs.Trees.Meeting.{whole_search, machine_of}
+use Rattle.loom_walks.specs.Trees.Outcomes.{outcome, AreRuns, choices_made}
 use Rattle.loom_walks.specs.Trees.Replay.{replayed}
-use Rattle.loom_walks.specs.Trees.Reports.{IsCompleteReport, IsStoppedReport, IsFailedReport}
 use Rattle.loom.specs.declared.model.Replay.{Replay}
 use Rattle.loom.specs.declared.model.Replay.TheVariants as replay
 use Rattle.loom.specs.declared.model.Report.{Report}
 use Rattle.loom.specs.declared.model.Report.TheVariants.{Complete, Stopped, Failed}
 
+-- ---- the runs
+
+module _ {D : Type 0} (max_branches : ℕ) (tree : Tree D) where
+  -- the machine of a body's runs, with at most so many nodes, each option of which is to be tried
+  abbrev pub machine : Machine
+  machine = machine_of (whole_search max_branches) (marking None) tree
+
+  -- what is known of a check that is complete, with the choices and the value of each run
+  pub record IsCompleteReport (runs : List (List Choice × D)) : Type 0 where
+    -- each is a run, and comes to its value
+    pub are_runs : AreRuns max_branches tree runs
+    -- each reachable run was made, once, and the runs that share a beginning stand together
+    pub walk : IsWalkList (Reachable machine) (choices_made runs)
+    pub in_order : IsInOrder machine (choices_made runs)
+    pub none_fails : (x : List Choice) → Reachable machine x → (value : D) × (outcome max_branches tree x ≡ Some (Ok value))
+    -- what the tree can come to is reachable
+    pub every_run : (x : List Choice) → Reachable machine x ↔ ((o : Result D FailureKind) × (outcome max_branches tree x ≡ Some o))
+
+  -- what is known of a check that was stopped before another run
+  pub record IsStoppedReport (runs : List (List Choice × D)) : Type 0 where
+    pub are_runs : AreRuns max_branches tree runs
+    -- the reachable runs that it didn't make, of which there are some
+    pub more : List (List Choice)
+    pub unfinished : more ≢ []
+    pub walk : IsWalkList (Reachable machine) (choices_made runs ++ more)
+    pub in_order : IsInOrder machine (choices_made runs ++ more)
+
+  -- what is known of a check in which the run with these choices failed, after the others
+  pub record IsFailedReport (runs : List (List Choice × D)) (failure : FailureKind) (failing : List Choice) : Type 0 where
+    pub are_runs : AreRuns max_branches tree runs
+    -- the reachable runs that it didn't make
+    pub more : List (List Choice)
+    pub walk : IsWalkList (Reachable machine) (choices_made runs ++ failing ∷ more)
+    pub in_order : IsInOrder machine (choices_made runs ++ failing ∷ more)
+    pub reachable : Reachable machine failing
+    pub fails : outcome max_branches tree failing ≡ Some (Err failure)
+    -- it isn't that the body isn't deterministic
+    pub own : failure ≢ NotDeterministic
+    -- its choices lead to the failure again
+    pub replays : replayed max_branches tree failing ≡ (failing, Err failure)
+
+-- ---- the visitor
+
 -- the visitor was given these runs, one after another: choices and main's result
 abbrev pub Given : {V D : Type 0} → (V → List Choice → D → V → Type 0) → V → List (List Choice × D) → V → Type 0
 Given takes old [] new = new ≡ old
 Given takes old (made ∷ runs) new = (mid : _) × takes old made.0 made.1 mid × Given takes mid runs new
-
--- the machine of a body's runs, with at most so many nodes, each option of which is to be tried
-abbrev pub machine : {D : Type 0} → ℕ → Tree D → Machine
-machine max_branches tree = machine_of (whole_search max_branches) (marking None) tree
 
 module _ {V D : Type 0} (takes : V → List Choice → D → V → Type 0) (old new : V) where
   -- the visitor was given these runs, so many
@@ -31,19 +72,20 @@ module _ {V D : Type 0} (takes : V → List Choice → D → V → Type 0) (old 
     pub given : Given takes old runs new
     pub counted : length runs ≡ count
 
+  -- ---- reports
+
   module _ (max_branches : ℕ) (tree : Tree D) where
     -- What a report says of the runs of a body, which are this tree, and of what the visitor was given.
     abbrev pub Reports : Report → Type 0
-    Reports (Complete count) = (runs : List (List Choice × D)) × WasGiven runs count
-        × IsCompleteReport (whole_search max_branches) (marking None) tree runs
-    Reports (Stopped count limit) = (runs : List (List Choice × D)) × WasGiven runs count
-        × IsStoppedReport (whole_search max_branches) (marking None) tree runs × (count ≡ 2 ^ 64 - 1)
-    Reports (Failed count failure choices) = (runs : List (List Choice × D)) × WasGiven runs count
-        × IsFailedReport (whole_search max_branches) (marking None) tree runs failure.kind choices.items
+    Reports (Complete count) = (runs : List (List Choice × D)) × WasGiven runs count × IsCompleteReport max_branches tree runs
+    Reports (Stopped count limit) = (runs : List (List Choice × D)) × WasGiven runs count × IsStoppedReport max_branches tree runs × (count ≡ 2 ^ 64 - 1)
+    Reports (Failed count failure choices) = (runs : List (List Choice × D)) × WasGiven runs count × IsFailedReport max_branches tree runs failure.kind choices.items
 
 -- what a report says where nobody is given the runs
 abbrev pub ReportsAlone : {D : Type 0} → ℕ → Tree D → Report → Type 0
 ReportsAlone max_branches tree report = Reports {V = Unit {0}} (λ old choices value new. Unit {0}) tt tt max_branches tree report
+
+-- ---- replays
 
 module _ {D : Type 0} (max_branches : ℕ) (tree : Tree D) (given : List Choice) where
   -- The run that takes the given choices and then defaults made these choices, and came to this. Where each given choice

@@ -5,7 +5,7 @@ use Rattle.loom_objects.specs.declared.choice.Choice.{Choice}
 use Rattle.loom_objects.specs.declared.operation.Op.{Op}
 use Rattle.loom_objects.specs.declared.operation.Turn.{Turn}
 use Rattle.loom_objects.specs.declared.rt.object.Object.{Object}
-use Rattle.loom_objects.specs.declared.rt.object.Object.TheVariants.{Mutex, RwLock}
+use Rattle.loom_objects.specs.declared.rt.object.Object.TheVariants.{Atomic, Mutex, RwLock, Condvar, Notify, Cell, Arc, Track}
 use Rattle.loom_objects.specs.RwLocks.{is_unread}
 use Rattle.loom_objects.specs.Tree.{Tree, Gives, Fails, Closes, Asks}
 use Rattle.loom_objects.specs.World.{World, opening}
@@ -29,7 +29,12 @@ module _ {D : Type 0} where
   abbrev pub is_exclusive : Object D → Bool
   is_exclusive (Mutex mutex) = not (is_some mutex.holder && is_some mutex.value)
   is_exclusive (RwLock lock) = not (is_some lock.writer && not (is_unread lock)) && not (is_some lock.writer && is_some lock.value)
-  is_exclusive _ = true
+  is_exclusive (Atomic atomic) = true
+  is_exclusive (Condvar condvar) = true
+  is_exclusive (Notify notifier) = true
+  is_exclusive (Cell cell) = true
+  is_exclusive (Arc arc) = true
+  is_exclusive (Track track) = true
 
 -- over every history a mutex that is held keeps no data, and a read-write lock has one writer or some readers
 abbrev pub LocksLaw : Type 0 → Type 0

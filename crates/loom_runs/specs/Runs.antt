@@ -10,9 +10,6 @@ use Rattle.loom_objects.specs.Operation.{plain, started}
 use Rattle.loom_objects.specs.Tree.{Tree, Gives, Fails, ◌>>=◌, found}
 use Rattle.loom_objects.specs.World.{World, opening}
 use Rattle.loom_runs.specs.Machine.{submit}
-use Rattle.loom_walks.specs.Trees.Check.{IsClosing}
-use Rattle.loom_walks.specs.Trees.Meeting.{ExploresTree}
-use Rattle.loom_walks.specs.Trees.Outcomes.{IsSoundTree, IsFair}
 
 -- what a body means: from its state and a reply, its next state and operation
 abbrev pub Meaning : Type 0 → Type 0 → Type 0
@@ -46,17 +43,3 @@ module _ {D S : Type 0} where
   -- all runs of a body, as a tree
   abbrev pub runs : Meaning D S → ℕ → ℕ → S → Tree D
   runs next max_threads max_steps body = play next (suc max_steps) (body ∷ []) (opening max_threads max_steps) 0 reply.Start
-
--- what holds of each body's tree of runs
-pub record IsRunTree {A : Type 0} (tree : Tree A) : Type 0 where
-  -- its questions have their default among their options
-  pub sound : IsSoundTree tree
-  -- it comes to a value only where the run is over
-  pub closing : IsClosing tree
-  -- each question explores
-  pub exploring : ExploresTree tree
-  pub fair : IsFair tree
-
--- Each body's runs are such a tree, whatever the body means.
-abbrev pub RunTreeLaw : Type 0 → Type 0 → Type 0
-RunTreeLaw D S = (next : Meaning D S) (max_threads max_steps : ℕ) (body : S) → IsRunTree (runs next max_threads max_steps body)

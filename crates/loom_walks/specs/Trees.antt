@@ -1,11 +1,14 @@
 -- Trees of runs, and paths that drive through them.
 pub mod Outcomes
 pub mod Meeting
+pub mod Marks
+pub mod Replay
+pub mod Sound
+pub mod Machines
 pub mod Comparing
 pub mod Drive
 pub mod Check
-pub mod Marks
+pub mod Replays
+pub mod Reports
 pub mod Example
 pub mod Foreign
-pub mod Replay
-pub mod Reports

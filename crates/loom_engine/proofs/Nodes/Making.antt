@@ -17,7 +17,7 @@ use Rattle.loom_engine.specs.declared.rt.node.Status.{Status}
 use Rattle.loom_engine.specs.declared.rt.node.Status.TheVariants.{Pending, Active}
 use Rattle.loom_engine.specs.Nodes.{ability_of, made_status, with_status, state_of, state_at, thread_state, active_thread, is_active, seen_threads}
 use Rattle.loom_objects.specs.Tree.{Tree, Gives, Asks}
-use Rattle.loom_walks.specs.Trees.Outcomes.{IsSoundTree}
+use Rattle.loom_walks.specs.Trees.Sound.{IsSoundTree}
 use Rattle.loom_walks.specs.Trees.Meeting.{machine_of}
 use Rattle.loom_walks.specs.Trees.Meeting.{whole_search}
 use Rattle.loom_runs.specs.Asking.{which_thread}

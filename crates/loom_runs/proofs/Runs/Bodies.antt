@@ -9,9 +9,10 @@ use Rattle.loom_objects.specs.Operation.{plain}
 use Rattle.loom_objects.specs.Tree.{Tree, Gives}
 use Rattle.loom_objects.specs.World.{World}
 use Rattle.loom_runs.specs.Machine.{submit}
-use Rattle.loom_runs.specs.Runs.{Meaning, at_turn, play, IsRunTree, RunTreeLaw}
-use Rattle.loom_walks.specs.Trees.Outcomes.{IsFair}
-use Rattle.loom_walks.specs.Trees.Outcomes.{IsQuiet}
+use Rattle.loom_runs.specs.Runs.{Meaning, at_turn, play}
+use Rattle.loom_runs.specs.Trees.{IsRunTree, RunTreeLaw}
+use Rattle.loom_walks.specs.Trees.Sound.{IsFair}
+use Rattle.loom_walks.specs.Trees.Sound.{IsQuiet}
 use Rattle.loom_runs.proofs.Runs.Events.{IsGoing, IsOver, failing_run, found_run, event_then}
 use Rattle.loom_runs.proofs.Runs.Steps.{submit_event}
 

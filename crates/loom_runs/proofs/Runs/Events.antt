@@ -12,10 +12,10 @@ use Rattle.loom_objects.specs.Question.{Question, Among, made_of, IsSound}
 use Rattle.loom_objects.specs.Steps.{turned}
 use Rattle.loom_objects.specs.Tree.{Tree, Gives, Fails, Closes, Asks, ◌>>=◌, check, found}
 use Rattle.loom_objects.specs.World.{World}
-use Rattle.loom_walks.specs.Trees.Check.{IsClosing}
-use Rattle.loom_walks.specs.Trees.Outcomes.{IsQuiet}
-use Rattle.loom_runs.specs.Runs.{IsRunTree}
-use Rattle.loom_walks.specs.Trees.Outcomes.{IsFair}
+use Rattle.loom_walks.specs.Trees.Sound.{IsClosing}
+use Rattle.loom_walks.specs.Trees.Sound.{IsQuiet}
+use Rattle.loom_runs.specs.Trees.{IsRunTree}
+use Rattle.loom_walks.specs.Trees.Sound.{IsFair}
 
 -- it asks nothing, and comes to such a value or fails, but not because a path doesn't meet it
 pub data Comes {A : Type 0} (P : A → Type 0) : Tree A → Type 0 where

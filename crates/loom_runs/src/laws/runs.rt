@@ -1,6 +1,7 @@
-//! Laws of the runs of a body. The definitions stand in `specs/Runs.antt`, small bodies in `specs/Rows.antt`.
+//! Laws of the runs of a body. What holds of them is said in `specs/Trees.antt`, small bodies stand in
+//! `specs/Rows.antt`.
 ghost use Rattle.loom_runs.specs.Rows.{RowsLaw, SharedRowsLaw};
-ghost use Rattle.loom_runs.specs.Runs.{RunTreeLaw};
+ghost use Rattle.loom_runs.specs.Trees.{RunTreeLaw};
 
 /// The runs of each body are a tree with sound questions that explore. It comes to a value only where the run is over,
 /// and asks nothing after that. No run fails because a path doesn't meet it.

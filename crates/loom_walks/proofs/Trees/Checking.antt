@@ -3,11 +3,13 @@ use Rattle.std.proofs.Common.{◌≡◌, ◌⊎◌, ℕ, zero, suc, true, false,
 use Rattle.std.specs.Prelude.{Result, Ok, Err}
 use Rattle.loom_objects.specs.declared.choice.Choice.{Choice}
 use Rattle.loom_objects.specs.Question.{Made, Among, made_of}
-use Rattle.loom_walks.specs.Walk.Machine.{Machine, IsMachine}
+use Rattle.loom_walks.specs.Walk.Machine.{Machine}
+use Rattle.loom_walks.specs.Walk.Sound.{IsMachine}
 use Rattle.loom_walks.specs.Walk.Runs.{Reachable}
 use Rattle.loom_walks.specs.Walk.Choices.{among, pick}
 use Rattle.loom_walks.specs.Walk.Path.{Stored, choices, IsResting, Rest, after_run, next, step}
-use Rattle.loom_walks.specs.Walk.Walks.{run_of, Member, IsOnce, StandTogether, IsWalkList, IsStopped, IsAllowed, Rounds, stay, go_on, Completes, last_round, one_round, LeavesRest}
+use Rattle.loom_walks.specs.Walk.Walks.{run_of, Rounds, stay, go_on, Completes, last_round, one_round, LeavesRest}
+use Rattle.loom_walks.specs.Walk.Lists.{Member, IsOnce, StandTogether, IsWalkList, IsAllowed}
 use Rattle.loom_walks.proofs.Walk.Defaults.{over, run_is, ends_over, run_reached}
 use Rattle.loom_walks.proofs.Walk.Together.{complete_law as walk_complete, stopped_law as walk_stopped}
 use Rattle.loom_walks.proofs.Walk.Round.{round_law, fresh_law as walk_fresh}
@@ -15,10 +17,13 @@ use Rattle.loom_walks.proofs.Walk.Ends.{ends_law as walk_ends}
 use Rattle.loom_walks.proofs.Walk.Order.{order_law as walk_order}
 use Rattle.loom_views.specs.declared.rt.failure.FailureKind.{FailureKind}
 use Rattle.loom_objects.specs.Tree.{Tree, Gives, Fails, Closes, Asks}
-use Rattle.loom_walks.specs.Trees.Outcomes.{IsQuiet, IsSoundTree, met, outcome, is_failure}
-use Rattle.loom_walks.specs.Trees.Meeting.{Settings, Marking, IsMarking, machine_of}
+use Rattle.loom_walks.specs.Trees.Outcomes.{met, outcome, is_failure}
+use Rattle.loom_walks.specs.Trees.Sound.{IsQuiet, IsSoundTree}
+use Rattle.loom_walks.specs.Trees.Meeting.{Settings, Marking, machine_of}
+use Rattle.loom_walks.specs.Trees.Machines.{IsMarking}
 use Rattle.loom_walks.specs.Trees.Drive.{Trail, drive, at_start, at_end, IsDriven}
-use Rattle.loom_walks.specs.Trees.Check.{Makes, makes_none, makes_one, MakesAll, makes_last, makes_more, IsRun, AreRuns, choices_made, IsComplete, IsPart, IsFailure, CompleteLaw, FreshLaw, PartLaw, FailureLaw, EndLaw}
+use Rattle.loom_walks.specs.Trees.Check.{Makes, makes_none, makes_one, MakesAll, makes_last, makes_more, IsComplete, IsPart, IsFailure, CompleteLaw, FreshLaw, PartLaw, FailureLaw, EndLaw}
+use Rattle.loom_walks.specs.Trees.Outcomes.{IsRun, AreRuns, choices_made}
 use Rattle.loom_walks.proofs.Trees.Machines.{machine_law}
 use Rattle.loom_walks.proofs.Trees.Driving.{drive_law}
 
@@ -98,7 +103,7 @@ module _ {A : Type 0} (s : Settings) (adds : Marking) (tree : Tree A) (sound : I
   record Good (p : List Stored) (value : A) (path : Trail) : Type 0 where
     fine : m.fails (run_of m p) ≡ false
     is_run : choices path.nodes ≡ run_of m p
-    ran : IsRun s adds tree (choices path.nodes, value)
+    ran : IsRun s.max_branches tree (choices path.nodes, value)
     steps : step path.nodes ≡ next m p
 
   good_of : (p : List Stored) (value : A) (path : Trail) → IsResting m p → drive s adds tree (at_start p) ≡ (Ok value, path) → Good p value path
@@ -112,8 +117,8 @@ module _ {A : Type 0} (s : Settings) (adds : Marking) (tree : Tree A) (sound : I
       }
 
   pub record Part (p : List Stored) (runs : List (List Choice × A)) (last : List Stored) : Type 0 where
-    pub rounds : Rounds m p (choices_made s adds tree runs) last
-    pub are_runs : AreRuns s adds tree runs
+    pub rounds : Rounds m p (choices_made runs) last
+    pub are_runs : AreRuns s.max_branches tree runs
     pub rests : IsResting m last
 
   pub part_of : (p : List Stored) (runs : List (List Choice × A)) (last : List Stored) → IsResting m p → Makes s adds tree p runs last → Part p runs last
@@ -125,14 +130,14 @@ module _ {A : Type 0} (s : Settings) (adds : Marking) (tree : Tree A) (sound : I
     where
       go : Good p value path → next m p ≡ Some later → Part later others last → Part p ((choices path.nodes, value) ∷ others) last
       go g f z = record {
-        rounds = subst (λ c. Rounds m p (c ∷ choices_made s adds tree others) last) (sym g.is_run) (go_on p later last (choices_made s adds tree others) g.fine f z.rounds);
+        rounds = subst (λ c. Rounds m p (c ∷ choices_made others) last) (sym g.is_run) (go_on p later last (choices_made others) g.fine f z.rounds);
         are_runs = (g.ran, z.are_runs);
         rests = z.rests;
       }
 
   record Whole (p : List Stored) (runs : List (List Choice × A)) : Type 0 where
-    rounds : Completes m p (choices_made s adds tree runs)
-    are_runs : AreRuns s adds tree runs
+    rounds : Completes m p (choices_made runs)
+    are_runs : AreRuns s.max_branches tree runs
 
   whole_of : (p : List Stored) (runs : List (List Choice × A)) → IsResting m p → MakesAll s adds tree p runs → Whole p runs
   whole_of p runs rests (makes_last _ value path h e) =
@@ -148,11 +153,11 @@ module _ {A : Type 0} (s : Settings) (adds : Marking) (tree : Tree A) (sound : I
     where
       go : Good p value path → next m p ≡ Some later → Whole later others → Whole p ((choices path.nodes, value) ∷ others)
       go g f z = record {
-        rounds = subst (λ c. Completes m p (c ∷ choices_made s adds tree others)) (sym g.is_run) (one_round p later (choices_made s adds tree others) g.fine f z.rounds);
+        rounds = subst (λ c. Completes m p (c ∷ choices_made others)) (sym g.is_run) (one_round p later (choices_made others) g.fine f z.rounds);
         are_runs = (g.ran, z.are_runs);
       }
 
-  made_run : (runs : List (List Choice × A)) (x : List Choice) → AreRuns s adds tree runs → Member x (choices_made s adds tree runs)
+  made_run : (runs : List (List Choice × A)) (x : List Choice) → AreRuns s.max_branches tree runs → Member x (choices_made runs)
       → (value : A) × (outcome s.max_branches tree x ≡ Some (Ok value))
   made_run [] x h e = absurd e
   made_run (made ∷ runs) x h (inl e) = (made.1, ap (outcome s.max_branches tree) e ∙ h.0)
@@ -161,26 +166,26 @@ module _ {A : Type 0} (s : Settings) (adds : Marking) (tree : Tree A) (sound : I
   pub complete_at : (p : List Stored) (runs : List (List Choice × A)) → IsResting m p → MakesAll s adds tree p runs → IsComplete s adds tree p runs
   complete_at p runs rests made =
       let z = whole_of p runs rests made in
-      let w = walk_complete m p (choices_made s adds tree runs) is rests z.rounds in
+      let w = walk_complete m p (choices_made runs) is rests z.rounds in
       record { are_runs = z.are_runs; walk = w.0; none_fails = λ x h. made_run runs x z.are_runs ((w.0.members x).0 h) }
 
   pub part_at : (p last : List Stored) (runs : List (List Choice × A)) → IsResting m p → Makes s adds tree p runs last → IsPart s adds tree p runs last
   part_at p last runs rests made =
       let z = part_of p runs last rests made in
-      record { are_runs = z.are_runs; stopped = walk_stopped m p last (choices_made s adds tree runs) is rests z.rounds }
+      record { are_runs = z.are_runs; stopped = walk_stopped m p last (choices_made runs) is rests z.rounds }
 
   pub fresh_at : (runs : List (List Choice × A)) → MakesAll s adds tree [] runs
-      → IsWalkList (Reachable m) (choices_made s adds tree runs) × (s.reduce ≡ false → Rattle.loom_walks.specs.Walk.Walks.IsInOrder m (choices_made s adds tree runs))
+      → IsWalkList (Reachable m) (choices_made runs) × (s.reduce ≡ false → Rattle.loom_walks.specs.Walk.Lists.IsInOrder m (choices_made runs))
   fresh_at runs made =
       let f = walk_fresh m is in
       let z = whole_of [] runs f.0 made in
-      let w = (walk_complete m [] (choices_made s adds tree runs) is f.0 z.rounds).0 in (
+      let w = (walk_complete m [] (choices_made runs) is f.0 z.rounds).0 in (
         record {
           members = λ x. (λ h. (w.members x).0 ((f.1 x).1 h), λ h. (f.1 x).0 ((w.members x).1 h));
           once = w.once;
           together = w.together;
         },
-        λ e. walk_order m (choices_made s adds tree runs) is e z.rounds,
+        λ e. walk_order m (choices_made runs) is e z.rounds,
       )
 
   pub failure_at : (p last : List Stored) (runs : List (List Choice × A)) (failure : FailureKind) (path : Trail) → IsResting m p → Makes s adds tree p runs last
@@ -194,7 +199,7 @@ module _ {A : Type 0} (s : Settings) (adds : Marking) (tree : Tree A) (sound : I
         outcome = comes;
         allowed = allowed_by s adds tree (choices path.nodes) (Err failure) sound comes;
         is_run = sym (run_is m is (choices path.nodes) (choices path.nodes) (over (choices path.nodes) ended));
-        left = subst (Rest m p) (sym r.is_run) (walk_stopped m p last (choices_made s adds tree runs) is rests z.rounds).next_run;
+        left = subst (Rest m p) (sym r.is_run) (walk_stopped m p last (choices_made runs) is rests z.rounds).next_run;
       }
 
   -- ---- the walk's rounds are drives

@@ -14,8 +14,11 @@ use Rattle.loom_walks.proofs.Walk.EveryRun.{every_run_law as walk_every}
 use Rattle.loom_views.specs.declared.rt.failure.FailureKind.{FailureKind}
 use Rattle.loom_views.specs.declared.rt.failure.FailureKind.TheVariants.{TooManyBranches}
 use Rattle.loom_objects.specs.Tree.{Tree, Gives, Fails, Closes, Asks}
-use Rattle.loom_walks.specs.Trees.Outcomes.{IsQuiet, IsSoundTree, met, outcome, passed}
-use Rattle.loom_walks.specs.Trees.Meeting.{Settings, Tally, start, is_last, preempts, tally_thread, tally_one, tally, count, is_below, every_at, every_met, Marking, IsMarking, IsMarkingBelow, front_of, marked_too, marks_of, no_marks, machine_of, ExploresTree, BoundLaw, EveryRunLaw}
+use Rattle.loom_walks.specs.Trees.Outcomes.{met, outcome, passed}
+use Rattle.loom_walks.specs.Trees.Sound.{IsQuiet, IsSoundTree}
+use Rattle.loom_walks.specs.Trees.Meeting.{Settings, Tally, start, is_last, preempts, tally_thread, tally_one, tally, count, is_below, every_at, every_met, Marking, front_of, marked_too, marks_of, no_marks, machine_of}
+use Rattle.loom_walks.specs.Trees.Machines.{IsMarking, IsMarkingBelow, BoundLaw, EveryRunLaw}
+use Rattle.loom_walks.specs.Trees.Sound.{ExploresTree}
 use Rattle.loom_walks.proofs.Trees.Machines.{machine_law}
 use Rattle.loom_walks.proofs.Trees.Checking.{allowed_by}
 

@@ -15,8 +15,10 @@ use Rattle.loom_views.specs.declared.rt.failure.FailureKind.{FailureKind}
 use Rattle.loom_views.specs.declared.rt.failure.FailureKind.TheVariants.{NotDeterministic, TooManyBranches}
 use Rattle.loom_walks.specs.Trees.Comparing.{same_made}
 use Rattle.loom_objects.specs.Tree.{Tree, Gives, Fails, Closes, Asks}
-use Rattle.loom_walks.specs.Trees.Outcomes.{IsQuiet, IsSoundTree, met, outcome, passed}
-use Rattle.loom_walks.specs.Trees.Meeting.{Settings, Marking, IsMarking, marked_too, marks_of, no_marks, machine_of, every_at, every_met}
+use Rattle.loom_walks.specs.Trees.Outcomes.{met, outcome, passed}
+use Rattle.loom_walks.specs.Trees.Sound.{IsQuiet, IsSoundTree}
+use Rattle.loom_walks.specs.Trees.Meeting.{Settings, Marking, marked_too, marks_of, no_marks, machine_of, every_at, every_met}
+use Rattle.loom_walks.specs.Trees.Machines.{IsMarking}
 use Rattle.loom_walks.specs.Trees.Drive.{Trail, pass_of, passes_of, Answer, make, lengthen, new_node, branch_at, branch, marked, backtrack, is_used_up, drive, drive_on, at_start, at_end, IsDriven, DriveLaw}
 use Rattle.loom_walks.proofs.Trees.Machines.{sound_default, machine_law}
 

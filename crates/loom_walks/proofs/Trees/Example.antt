@@ -6,7 +6,7 @@ use Rattle.loom_objects.specs.declared.choice.Choice.TheVariants.{Thread, Load, 
 use Rattle.loom_walks.specs.Walk.Choices.{same, same_thread, same_flag, among}
 use Rattle.loom_walks.specs.Walk.Path.{step}
 use Rattle.loom_walks.specs.Trees.Comparing.{same_made, same_ability, same_choices, same_offers}
-use Rattle.loom_walks.specs.Trees.Outcomes.{IsSoundTree}
+use Rattle.loom_walks.specs.Trees.Sound.{IsSoundTree}
 use Rattle.loom_walks.specs.Trees.Example.{after_choice, ExampleLaw}
 
 wise : (c : Choice) → IsSoundTree (after_choice c)

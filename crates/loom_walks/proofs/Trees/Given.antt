@@ -6,15 +6,17 @@ use Rattle.loom_objects.specs.Question.{Made, Among, Question, made_of}
 use Rattle.loom_walks.specs.Walk.Machine.{Machine}
 use Rattle.loom_walks.specs.Walk.Choices.{among, pick}
 use Rattle.loom_walks.specs.Walk.Path.{Stored, choices}
-use Rattle.loom_walks.specs.Walk.Walks.{IsAllowed}
+use Rattle.loom_walks.specs.Walk.Lists.{IsAllowed}
 use Rattle.loom_walks.proofs.Walk.Lists.{TwoSplits, earlier, same_place, later, two_splits, choices_append, snoc_append}
 use Rattle.loom_views.specs.declared.rt.failure.FailureKind.{FailureKind}
 use Rattle.loom_views.specs.declared.rt.failure.FailureKind.TheVariants.{NotDeterministic, TooManyBranches}
 use Rattle.loom_objects.specs.Tree.{Tree, Gives, Fails, Closes, Asks}
-use Rattle.loom_walks.specs.Trees.Outcomes.{IsSoundTree, outcome}
+use Rattle.loom_walks.specs.Trees.Outcomes.{outcome}
+use Rattle.loom_walks.specs.Trees.Sound.{IsSoundTree}
 use Rattle.loom_walks.specs.Trees.Meeting.{Settings, Marking, marked_too, no_marks, machine_of, every_at}
 use Rattle.loom_walks.specs.Trees.Drive.{Trail, passes_of, Answer, lengthen, new_node, made_at, branch_at, branch, is_used_up, drive, drive_on}
-use Rattle.loom_walks.specs.Trees.Check.{IsClosing, Given, all_allowed, refused, fails_before, GivenLaw}
+use Rattle.loom_walks.specs.Trees.Check.{Given, all_allowed, refused, fails_before, GivenLaw}
+use Rattle.loom_walks.specs.Trees.Sound.{IsClosing}
 use Rattle.loom_walks.proofs.Trees.Driving.{Here, here_start, here_on, pick_yes, choices_size}
 use Rattle.loom_walks.proofs.Trees.Replaying.{passed_to, get_end, get_at, at_present, made_by, full_by, backtracked}
 

@@ -13,10 +13,13 @@ use Rattle.loom_views.specs.declared.rt.failure.FailureKind.{FailureKind}
 use Rattle.loom_views.specs.declared.rt.failure.FailureKind.TheVariants.{NotDeterministic}
 use Rattle.loom_walks.specs.Trees.Comparing.{same_made}
 use Rattle.loom_objects.specs.Tree.{Tree, Gives, Fails, Closes, Asks}
-use Rattle.loom_walks.specs.Trees.Outcomes.{IsSoundTree, outcome, passed}
-use Rattle.loom_walks.specs.Trees.Meeting.{Settings, Marking, IsMarking, marked_too, no_marks, machine_of, every_at, every_met}
+use Rattle.loom_walks.specs.Trees.Outcomes.{outcome, passed}
+use Rattle.loom_walks.specs.Trees.Sound.{IsSoundTree}
+use Rattle.loom_walks.specs.Trees.Meeting.{Settings, Marking, marked_too, no_marks, machine_of, every_at, every_met}
+use Rattle.loom_walks.specs.Trees.Machines.{IsMarking}
 use Rattle.loom_walks.specs.Trees.Drive.{Trail, pass_of, Answer, branch_at, branch, marked, backtrack, drive, drive_on, at_start, is_used_up}
-use Rattle.loom_walks.specs.Trees.Check.{IsClosing, FirstRun, told_apart, all_met, fails_early, FirstRunLaw}
+use Rattle.loom_walks.specs.Trees.Check.{FirstRun, told_apart, all_met, fails_early, FirstRunLaw}
+use Rattle.loom_walks.specs.Trees.Sound.{IsClosing}
 use Rattle.loom_walks.proofs.Trees.Machines.{sound_default, machine_law}
 use Rattle.loom_walks.proofs.Trees.Driving.{at_here, take_front, get_next, node_next, one_on, trail, passes_here, branch_stored, branch_new, AllOffer, offers_from, rest_offers, Split, split_marked, More, more_marks, marks_early, passes_size, passes_append, choices_size, Here, here_start, here_on}
 

@@ -9,8 +9,10 @@ use Rattle.loom_objects.specs.Question.{Made, Among, Question, WhichThread, Whic
 use Rattle.loom_walks.specs.Walk.Machine.{is_thread}
 use Rattle.loom_walks.specs.Walk.Choices.{among, pick}
 use Rattle.loom_objects.specs.Tree.{Tree, Gives, Fails, Closes, Asks}
-use Rattle.loom_walks.specs.Trees.Outcomes.{IsSoundTree, met, passed}
-use Rattle.loom_walks.specs.Trees.Meeting.{Settings, Marking, IsMarking, marked_too, marks_of, no_marks, every_at, every_met, is_below, count, MachineLaw}
+use Rattle.loom_walks.specs.Trees.Outcomes.{met, passed}
+use Rattle.loom_walks.specs.Trees.Sound.{IsSoundTree}
+use Rattle.loom_walks.specs.Trees.Meeting.{Settings, Marking, marked_too, marks_of, no_marks, every_at, every_met, is_below, count}
+use Rattle.loom_walks.specs.Trees.Machines.{IsMarking, MachineLaw}
 
 -- ---- questions
 

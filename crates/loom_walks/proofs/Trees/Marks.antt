@@ -7,7 +7,8 @@ use Rattle.loom_objects.specs.declared.choice.Choice.TheVariants.{Thread}
 use Rattle.loom_objects.specs.Question.{Made}
 use Rattle.loom_walks.specs.Walk.Choices.{same, pick}
 use Rattle.loom_walks.specs.Trees.Meeting.{count, front_of}
-use Rattle.loom_walks.specs.Trees.Marks.{is_disabled, adds_there, adds_any, added_at, is_in, unordered_in, is_off_bound, MarkingLaw}
+use Rattle.loom_walks.specs.Trees.Marks.{is_disabled, adds_there, adds_any, added_at, is_in, unordered_in, is_off_bound}
+use Rattle.loom_walks.specs.Trees.Machines.{MarkingLaw}
 
 there_explores : (x : Option (Made × Choice)) (t : ℕ) (o : Choice) → adds_there x t o ≡ true → IsSomeAnd x (λ pass. pass.0.exploring ≡ true)
 there_explores None t o h = absurd (cc h)

@@ -8,13 +8,14 @@ use Rattle.loom_walks.specs.Walk.Machine.{Machine, is_thread, run}
 use Rattle.loom_walks.specs.Walk.Choices.{same, among, pick}
 use Rattle.loom_walks.specs.Walk.Path.{Stored, choices, fresh, choose}
 use Rattle.loom_walks.specs.Walk.UnderWay.{mark_with}
-use Rattle.loom_walks.specs.Walk.Walks.{IsAllowed}
+use Rattle.loom_walks.specs.Walk.Lists.{IsAllowed}
 use Rattle.loom_walks.proofs.Walk.Lists.{choices_append, snoc_append}
 use Rattle.loom_walks.proofs.Walk.Defaults.{Defaults, over, on, run_is}
 use Rattle.loom_views.specs.declared.rt.failure.FailureKind.{FailureKind}
 use Rattle.loom_views.specs.declared.rt.failure.FailureKind.TheVariants.{NotDeterministic, TooManyBranches}
 use Rattle.loom_objects.specs.Tree.{Tree, Gives, Fails, Closes, Asks}
-use Rattle.loom_walks.specs.Trees.Outcomes.{IsSoundTree, met, outcome}
+use Rattle.loom_walks.specs.Trees.Outcomes.{met, outcome}
+use Rattle.loom_walks.specs.Trees.Sound.{IsSoundTree}
 use Rattle.loom_walks.specs.Trees.Meeting.{Settings, Marking, marked_too, no_marks, machine_of, every_at}
 use Rattle.loom_walks.specs.Trees.Drive.{Trail, passes_of, Answer, lengthen, new_node, made_at, value_status, branch_at, branch, marked, backtrack, is_used_up, drive, drive_on}
 use Rattle.loom_walks.specs.Trees.Check.{following, ReplayLaw}

@@ -10,14 +10,16 @@ use Rattle.loom_views.specs.declared.rt.failure.FailureKind.TheVariants.{NotDete
 use Rattle.loom_walks.specs.Walk.Machine.{run}
 use Rattle.loom_walks.specs.Walk.Choices.{among, pick}
 use Rattle.loom_walks.specs.Walk.Path.{Stored, choices, fresh}
-use Rattle.loom_walks.specs.Walk.Walks.{IsAllowed}
-use Rattle.loom_walks.specs.Trees.Outcomes.{IsQuiet, IsSoundTree, met, outcome}
+use Rattle.loom_walks.specs.Walk.Lists.{IsAllowed}
+use Rattle.loom_walks.specs.Trees.Outcomes.{met, outcome}
+use Rattle.loom_walks.specs.Trees.Sound.{IsQuiet, IsSoundTree}
 use Rattle.loom_walks.specs.Trees.Meeting.{Settings, Marking, machine_of, every_at}
 use Rattle.loom_walks.specs.Trees.Drive.{Trail, passes_of, Answer, new_node, made_at, branch, drive, drive_on}
 use Rattle.loom_walks.specs.Trees.Check.{following}
-use Rattle.loom_walks.specs.Trees.Replay.{before, replayed, ReplayFollowsLaw, AllowedReplayLaw}
+use Rattle.loom_walks.specs.Trees.Replay.{before, replayed}
+use Rattle.loom_walks.specs.Trees.Replays.{ReplayFollowsLaw, AllowedReplayLaw}
 use Rattle.loom_walks.specs.Trees.Reports.{RefusedReplayLaw}
-use Rattle.loom_walks.specs.Trees.Outcomes.{IsFair}
+use Rattle.loom_walks.specs.Trees.Sound.{IsFair}
 use Rattle.loom_walks.proofs.Walk.Lists.{choices_append, snoc_append}
 use Rattle.loom_walks.proofs.Trees.Machines.{sound_default}
 use Rattle.loom_walks.proofs.Trees.Driving.{pick_yes, choices_size}

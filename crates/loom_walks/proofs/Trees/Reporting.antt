@@ -6,16 +6,19 @@ use Rattle.loom_objects.specs.Question.{Made, Among, made_of}
 use Rattle.loom_objects.specs.Tree.{Tree, Gives, Fails, Closes, Asks}
 use Rattle.loom_views.specs.declared.rt.failure.FailureKind.{FailureKind}
 use Rattle.loom_views.specs.declared.rt.failure.FailureKind.TheVariants.{NotDeterministic}
-use Rattle.loom_walks.specs.Walk.Machine.{Machine, IsMachine, extend, run}
+use Rattle.loom_walks.specs.Walk.Machine.{Machine, extend, run}
+use Rattle.loom_walks.specs.Walk.Sound.{IsMachine}
 use Rattle.loom_walks.specs.Walk.Runs.{Alternative, Reachable, by_default, by_alternative}
 use Rattle.loom_walks.specs.Walk.Choices.{among, pick}
 use Rattle.loom_walks.specs.Walk.Path.{Stored, choices, IsResting, fresh, new_nodes, mark, mark_all, after_run, next, step}
-use Rattle.loom_walks.specs.Walk.Walks.{run_of, Each, IsWalkList, Precedes, IsInOrder, Rounds, stay, go_on, Completes, last_round, one_round}
+use Rattle.loom_walks.specs.Walk.Walks.{run_of, Rounds, stay, go_on, Completes, last_round, one_round}
+use Rattle.loom_walks.specs.Walk.Lists.{Each, IsWalkList, Precedes, IsInOrder}
 use Rattle.loom_walks.specs.Trees.Outcomes.{outcome}
 use Rattle.loom_walks.specs.Trees.Meeting.{Settings, Marking, machine_of}
-use Rattle.loom_walks.specs.Trees.Check.{Makes, choices_made}
+use Rattle.loom_walks.specs.Trees.Check.{Makes}
+use Rattle.loom_walks.specs.Trees.Outcomes.{choices_made}
 use Rattle.loom_walks.specs.Trees.Reports.{IsWholeSearch, CompleteReportLaw, StoppedReportLaw, FailedReportLaw}
-use Rattle.loom_walks.specs.Trees.Outcomes.{IsFair}
+use Rattle.loom_walks.specs.Trees.Sound.{IsFair}
 use Rattle.loom_walks.proofs.Walk.Together.{complete_law as walk_complete, resumed}
 use Rattle.loom_walks.proofs.Walk.Round.{fresh_law as walk_fresh}
 use Rattle.loom_walks.proofs.Walk.Ends.{ends_law as walk_ends}
@@ -209,46 +212,46 @@ module _ {A : Type 0} where
       let k = machine_law s adds tree search.sound search.marking in
       let f = walk_fresh m k in
       let z = complete_at s adds tree search.sound search.marking [] runs f.0 made in
-      let w = fresh_at s adds tree search.sound search.marking runs made in
-      record {
-        are_runs = z.are_runs;
-        walk = w.0;
-        in_order = w.1 search.whole;
-        none_fails = λ x h. z.none_fails x ((f.1 x).1 h);
-        every_run = λ x. every_run_law s adds tree search.sound search.marking search.whole search.unbounded search.exploring x;
-      }
+      let w = fresh_at s adds tree search.sound search.marking runs made in (
+        z.are_runs,
+        w.0,
+        w.1 search.whole,
+        λ x h. z.none_fails x ((f.1 x).1 h),
+        λ x. every_run_law s adds tree search.sound search.marking search.whole search.unbounded search.exploring x,
+      )
 
   part : (s : Settings) (adds : Marking) (tree : Tree A) (runs : List (List Choice × A)) (last : List Stored) (search : IsWholeSearch s adds tree) → Makes s adds tree [] runs last
       → Part s adds tree search.sound search.marking [] runs last
   part s adds tree runs last search made = part_of s adds tree search.sound search.marking [] runs last (empty_rests (machine_of s adds tree)) made
 
   goes : (s : Settings) (adds : Marking) (tree : Tree A) (runs : List (List Choice × A)) (last : List Stored) (search : IsWholeSearch s adds tree) → Makes s adds tree [] runs last
-      → Goes (machine_of s adds tree) (choices_made s adds tree runs) last
+      → Goes (machine_of s adds tree) (choices_made runs) last
   goes s adds tree runs last search made =
       let z = part s adds tree runs last search made in
-      goes_from (machine_of s adds tree) (machine_law s adds tree search.sound search.marking) search.whole (choices_made s adds tree runs) last z.rests z.rounds
+      goes_from (machine_of s adds tree) (machine_law s adds tree search.sound search.marking) search.whole (choices_made runs) last z.rests z.rounds
 
   pub stopped_report_law : StoppedReportLaw A
   stopped_report_law s adds tree runs last search made =
       let z = part s adds tree runs last search made in
       let g = goes s adds tree runs last search made in
-      record { are_runs = z.are_runs; more = run_of (machine_of s adds tree) last ∷ g.more; unfinished = λ e. cc e; walk = g.walk; in_order = g.in_order }
+      (z.are_runs, (run_of (machine_of s adds tree) last ∷ g.more, λ e. cc e, g.walk, g.in_order))
 
   pub failed_report_law : FailedReportLaw A
   failed_report_law s adds tree runs last failure path search fair made h =
       let m : Machine = machine_of s adds tree in
-      let list = choices_made s adds tree runs in
+      let list = choices_made runs in
       let z = part s adds tree runs last search made in
       let g = goes s adds tree runs last search made in
       let d = driven s adds tree search.sound search.marking last (Err failure) path z.rests h in
-      let f = failure_at s adds tree search.sound search.marking [] last runs failure path (empty_rests m) made h in
-      record {
-        are_runs = z.are_runs;
-        more = g.more;
-        walk = subst (λ r. IsWalkList (Reachable m) (list ++ r ∷ g.more)) (sym d.is_run) g.walk;
-        in_order = subst (λ r. IsInOrder m (list ++ r ∷ g.more)) (sym d.is_run) g.in_order;
-        reachable = ((walk_fresh m (machine_law s adds tree search.sound search.marking)).1 (choices path.nodes)).0 f.left;
-        fails = f.outcome;
-        own = fails_fair tree s.max_branches (choices path.nodes) failure fair f.outcome;
-        replays = whole_replay tree s.max_branches (choices path.nodes) (Err failure) search.sound f.outcome;
-      }
+      let f = failure_at s adds tree search.sound search.marking [] last runs failure path (empty_rests m) made h in (
+        z.are_runs,
+        (
+          g.more,
+          subst (λ r. IsWalkList (Reachable m) (list ++ r ∷ g.more)) (sym d.is_run) g.walk,
+          subst (λ r. IsInOrder m (list ++ r ∷ g.more)) (sym d.is_run) g.in_order,
+        ),
+        ((walk_fresh m (machine_law s adds tree search.sound search.marking)).1 (choices path.nodes)).0 f.left,
+        f.outcome,
+        fails_fair tree s.max_branches (choices path.nodes) failure fair f.outcome,
+        whole_replay tree s.max_branches (choices path.nodes) (Err failure) search.sound f.outcome,
+      )

@@ -7,8 +7,10 @@ use Rattle.loom_views.specs.declared.rt.failure.FailureKind.{FailureKind}
 use Rattle.loom_walks.specs.Walk.Path.{Stored, choices, node_at, IsResting, after_run, step}
 use Rattle.loom_walks.specs.Walk.Machine.{Machine}
 use Rattle.loom_walks.specs.Walk.Walks.{run_of}
-use Rattle.loom_walks.specs.Trees.Outcomes.{IsSoundTree, outcome}
-use Rattle.loom_walks.specs.Trees.Meeting.{Settings, Marking, IsMarking, machine_of}
+use Rattle.loom_walks.specs.Trees.Outcomes.{outcome}
+use Rattle.loom_walks.specs.Trees.Sound.{IsSoundTree}
+use Rattle.loom_walks.specs.Trees.Meeting.{Settings, Marking, machine_of}
+use Rattle.loom_walks.specs.Trees.Machines.{IsMarking}
 use Rattle.loom_walks.specs.Trees.Drive.{Trail, drive, at_start, at_end, IsDriven}
 use Rattle.loom_walks.specs.Trees.Check.{Makes, makes_none, makes_one, MakesAll, makes_last, makes_more}
 use Rattle.loom_walks.proofs.Trees.Driving.{drive_law}

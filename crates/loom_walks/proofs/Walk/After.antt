@@ -3,7 +3,8 @@ use Rattle.std.proofs.Common.{◌≡◌, ◌⊎◌, ℕ, zero, suc, ◌+◌, Lis
 use Rattle.loom_objects.specs.declared.choice.Choice.{Choice}
 use Rattle.loom_walks.specs.Walk.Choices.{same, pick}
 use Rattle.loom_objects.specs.Question.{Made}
-use Rattle.loom_walks.specs.Walk.Machine.{Machine, IsMachine, extend, run}
+use Rattle.loom_walks.specs.Walk.Machine.{Machine, extend, run}
+use Rattle.loom_walks.specs.Walk.Sound.{IsMachine}
 use Rattle.loom_walks.specs.Walk.Path.{Stored, choices, node_at, fresh, new_nodes, mark, mark_all, after_run}
 use Rattle.loom_walks.proofs.Walk.Lists.{node_chooses, node_on, choices_append, snoc_append}
 use Rattle.loom_walks.proofs.Walk.Defaults.{Defaults, run_reached, takes_default}

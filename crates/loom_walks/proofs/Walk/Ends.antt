@@ -3,7 +3,8 @@ use Rattle.std.proofs.Common.{◌≡◌, ◌⊎◌, ℕ, zero, suc, ◌+◌, ◌
 use native.Mathlib.Decide.{dec_le}
 use Rattle.loom_objects.specs.declared.choice.Choice.{Choice}
 use Rattle.loom_objects.specs.Question.{Made, Among}
-use Rattle.loom_walks.specs.Walk.Machine.{Machine, IsMachine, run}
+use Rattle.loom_walks.specs.Walk.Machine.{Machine, run}
+use Rattle.loom_walks.specs.Walk.Sound.{IsMachine}
 use Rattle.loom_walks.specs.Walk.Path.{Status, Closed, Skip, Pending, Active, Visited, Stored, choices, IsAtRest, IsResting, node_at, step, next, after_run, new_nodes, fresh, first_status, mark, mark_all, choose, advance}
 use Rattle.loom_walks.specs.Walk.Walks.{run_of, Completes, last_round, one_round, Rounds, stay, go_on, LeavesRest, visited_in, digits, progress, EndsLaw}
 use Rattle.loom_walks.proofs.Walk.Lists.{node_on}

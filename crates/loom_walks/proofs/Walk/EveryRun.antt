@@ -3,9 +3,11 @@ use Rattle.std.proofs.Common.{◌≡◌, List, [], ◌∷◌, ◌++◌, Some, No
 use Rattle.loom_objects.specs.declared.choice.Choice.{Choice}
 use Rattle.loom_walks.specs.Walk.Choices.{same}
 use Rattle.loom_objects.specs.Question.{Made, Among}
-use Rattle.loom_walks.specs.Walk.Machine.{Machine, IsMachine, run}
+use Rattle.loom_walks.specs.Walk.Machine.{Machine, run}
+use Rattle.loom_walks.specs.Walk.Sound.{IsMachine}
 use Rattle.loom_walks.specs.Walk.Runs.{Reachable, by_default, by_alternative}
-use Rattle.loom_walks.specs.Walk.Walks.{IsAllowed, ExploresAll, EveryRunLaw}
+use Rattle.loom_walks.specs.Walk.Walks.{ExploresAll, EveryRunLaw}
+use Rattle.loom_walks.specs.Walk.Lists.{IsAllowed}
 use Rattle.loom_walks.proofs.Walk.Lists.{snoc_append, TwoSplits, earlier, same_place, later, two_splits}
 use Rattle.loom_walks.proofs.Walk.Defaults.{Defaults, over, run_reached, run_is, goes_on, ends_over, takes_default, one_default}
 use Rattle.loom_walks.proofs.Walk.Together.{TwoBeginnings, within, past, two_beginnings}

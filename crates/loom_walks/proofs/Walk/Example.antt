@@ -5,7 +5,8 @@ use native.Mathlib.Decide.{ℕ_discrete}
 use Rattle.loom_objects.specs.declared.choice.Choice.{Choice}
 use Rattle.loom_walks.specs.Walk.Choices.{same, same_thread, same_flag, among}
 use Rattle.loom_objects.specs.Question.{Made, Among}
-use Rattle.loom_walks.specs.Walk.Machine.{IsMachine, run, extend}
+use Rattle.loom_walks.specs.Walk.Machine.{run, extend}
+use Rattle.loom_walks.specs.Walk.Sound.{IsMachine}
 use Rattle.loom_walks.specs.Walk.Path.{new_nodes, step}
 use Rattle.loom_walks.specs.Walk.Example.{t, one_choice, two_ways, ExampleLaw}
 

@@ -2,7 +2,8 @@
 use Rattle.std.proofs.Common.{◌≡◌, ◌≢◌, ◌⊎◌, Bool, true, false, cond, ◌&&◌, List, [], ◌∷◌, ◌++◌, length, Some, ap, sym, ◌∙◌, subst, inl, inr}
 use Rattle.loom_objects.specs.declared.choice.Choice.{Choice}
 use Rattle.loom_objects.specs.Question.{Made, Among}
-use Rattle.loom_walks.specs.Walk.Machine.{Machine, IsMachine, run}
+use Rattle.loom_walks.specs.Walk.Machine.{Machine, run}
+use Rattle.loom_walks.specs.Walk.Sound.{IsMachine}
 use Rattle.loom_walks.specs.Walk.Runs.{Alternative}
 use Rattle.loom_walks.specs.Walk.Path.{Status, Closed, Skip, Pending, Active, Visited, Stored, choices, IsAtRest, IsResting, IsBarred, IsLeftOut, node_at, first_status, mark_status, mark, Rest, by_path, by_pending, by_alternative}
 use Rattle.loom_walks.proofs.Walk.Lists.{node_chooses}

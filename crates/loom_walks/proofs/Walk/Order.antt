@@ -2,10 +2,12 @@
 use Rattle.std.proofs.Common.{◌≡◌, ◌⊎◌, Bool, true, false, ◌&&◌, List, [], ◌∷◌, ◌++◌, length, Some, refl, ap, sym, ◌∙◌, subst, inl, inr, append_assoc}
 use Rattle.loom_objects.specs.declared.choice.Choice.{Choice}
 use Rattle.loom_objects.specs.Question.{Made, Among}
-use Rattle.loom_walks.specs.Walk.Machine.{Machine, IsMachine, run}
+use Rattle.loom_walks.specs.Walk.Machine.{Machine, run}
+use Rattle.loom_walks.specs.Walk.Sound.{IsMachine}
 use Rattle.loom_walks.specs.Walk.Runs.{Alternative}
 use Rattle.loom_walks.specs.Walk.Path.{Status, Closed, Skip, Pending, Active, Visited, Stored, choices, IsAtRest, IsResting, IsBarred, IsLeftOut, node_at, next, after_run, first_status, choose, first_pending, Rest, by_path, by_pending, by_alternative}
-use Rattle.loom_walks.specs.Walk.Walks.{run_of, Member, Each, Completes, last_round, one_round, LeavesRest, StandsBefore, ComesFirst, Precedes, IsInOrder, OrderLaw}
+use Rattle.loom_walks.specs.Walk.Walks.{run_of, Completes, last_round, one_round, LeavesRest, OrderLaw}
+use Rattle.loom_walks.specs.Walk.Lists.{Member, Each, StandsBefore, ComesFirst, Precedes, IsInOrder}
 use Rattle.loom_walks.proofs.Walk.Lists.{node_chooses, chooses_node, TwoSplits, earlier, same_place, later, two_splits}
 use Rattle.loom_walks.proofs.Walk.Defaults.{over, run_is, ends_over}
 use Rattle.loom_walks.proofs.Walk.Statuses.{left_out, was_pending, both_true, FirstStatus, is_default, is_pending, is_skipped, is_closed, fresh_cases, Chosen, was_present, is_next, is_other, chosen_cases}

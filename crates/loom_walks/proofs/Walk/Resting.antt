@@ -2,7 +2,8 @@
 use Rattle.std.proofs.Common.{◌≡◌, ◌⊎◌, ℕ, Bool, true, false, ◌&&◌, List, length, Some, refl, ap, sym, ◌∙◌, subst, inl, inr}
 use Rattle.loom_objects.specs.declared.choice.Choice.{Choice}
 use Rattle.loom_objects.specs.Question.{Made, Among}
-use Rattle.loom_walks.specs.Walk.Machine.{Machine, IsMachine, is_thread}
+use Rattle.loom_walks.specs.Walk.Machine.{Machine, is_thread}
+use Rattle.loom_walks.specs.Walk.Sound.{IsMachine}
 use Rattle.loom_walks.specs.Walk.Path.{Status, Closed, Skip, Pending, Active, Visited, Stored, IsAtRest, IsResting, node_at, first_status, fresh, mark, choose}
 use Rattle.loom_walks.proofs.Walk.Lists.{node_chooses}
 use Rattle.loom_walks.proofs.Walk.Statuses.{both_true, kept_closed, kept_active, kept_visited, was_closed, was_active, was_visited, was_skip, was_pending, FirstStatus, is_default, is_pending, is_skipped, is_closed, fresh_default, fresh_cases, Chosen, was_present, is_next, is_other, chosen_cases}

@@ -2,9 +2,11 @@
 use Rattle.std.proofs.Common.{◌≡◌, ◌⊎◌, ◌↔◌, false, List, [], ◌∷◌, ◌++◌, Some, None, refl, ap, sym, ◌∙◌, subst, inl, inr, append_assoc}
 use Rattle.loom_objects.specs.declared.choice.Choice.{Choice}
 use Rattle.loom_walks.specs.Walk.Choices.{same}
-use Rattle.loom_walks.specs.Walk.Machine.{Machine, IsMachine}
+use Rattle.loom_walks.specs.Walk.Machine.{Machine}
+use Rattle.loom_walks.specs.Walk.Sound.{IsMachine}
 use Rattle.loom_walks.specs.Walk.Path.{Stored, choices, IsResting, next, after_run, choose, Rest, by_path}
-use Rattle.loom_walks.specs.Walk.Walks.{run_of, Member, IsOnce, Begins, Each, StandTogether, Rounds, stay, go_on, Completes, last_round, one_round, LeavesRest, StoppedLaw, CompleteLaw, JoinLaw}
+use Rattle.loom_walks.specs.Walk.Walks.{run_of, Rounds, stay, go_on, Completes, last_round, one_round, LeavesRest, StoppedLaw, CompleteLaw, JoinLaw}
+use Rattle.loom_walks.specs.Walk.Lists.{Member, IsOnce, Begins, Each, StandTogether}
 use Rattle.loom_walks.proofs.Walk.Lists.{node_chooses}
 use Rattle.loom_walks.proofs.Walk.After.{after_run_is}
 use Rattle.loom_walks.proofs.Walk.Resting.{after_resting}

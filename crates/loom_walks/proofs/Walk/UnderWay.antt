@@ -3,7 +3,8 @@ use Rattle.std.proofs.Common.{◌≡◌, ◌⊎◌, ℕ, zero, suc, ◌+◌, ◌
 use mathlib.Core.Path.{fun_ext}
 use Rattle.loom_objects.specs.declared.choice.Choice.{Choice}
 use Rattle.loom_objects.specs.Question.{Made}
-use Rattle.loom_walks.specs.Walk.Machine.{Machine, IsMachine, run}
+use Rattle.loom_walks.specs.Walk.Machine.{Machine, run}
+use Rattle.loom_walks.specs.Walk.Sound.{IsMachine}
 use Rattle.loom_walks.specs.Walk.Path.{Status, Closed, Skip, Pending, Active, Visited, Stored, choices, node_at, new_nodes, fresh, mark, mark_all, mark_status, after_run}
 use Rattle.loom_walks.specs.Walk.UnderWay.{mark_with, IsUnderWay, begins, follows, makes, marks_more, Meets, OverLaw, MeetingLaw}
 use Rattle.loom_walks.proofs.Walk.Lists.{node_chooses, chooses_node, node_on, choices_append, snoc_append, TwoSplits, earlier, same_place, later, two_splits}

@@ -1,15 +1,18 @@
 -- What a check makes of a tree of runs: rounds, each of which drives a path through the tree and steps to the next.
-use Rattle.std.specs.Prelude.{◌≡◌, false, List, [], ◌∷◌, map, Some, None, Result, Ok, Err, ◌⊎◌, take, length, ◌≤◌}
+use Rattle.std.specs.Prelude.{◌≡◌, false, List, [], ◌∷◌, Some, None, Result, Ok, Err, ◌⊎◌, take, length, ◌≤◌}
 use Rattle.loom_objects.specs.declared.choice.Choice.{Choice}
 use Rattle.loom_walks.specs.Walk.Machine.{run}
 use Rattle.loom_walks.specs.Walk.Runs.{Reachable}
 use Rattle.loom_walks.specs.Walk.Path.{Stored, choices, IsResting, Rest, step, node_at, IsAtRest}
-use Rattle.loom_walks.specs.Walk.Walks.{IsWalkList, IsStopped, IsAllowed, IsInOrder}
+use Rattle.loom_walks.specs.Walk.Walks.{IsStopped}
+use Rattle.loom_walks.specs.Walk.Lists.{IsWalkList, IsAllowed, IsInOrder}
 use Rattle.loom_views.specs.declared.rt.failure.FailureKind.{FailureKind}
 use Rattle.loom_views.specs.declared.rt.failure.FailureKind.TheVariants.{NotDeterministic}
-use Rattle.loom_objects.specs.Tree.{Tree, Gives, Fails, Closes, Asks}
-use Rattle.loom_walks.specs.Trees.Outcomes.{IsSoundTree, outcome}
-use Rattle.loom_walks.specs.Trees.Meeting.{Settings, Marking, IsMarking, machine_of}
+use Rattle.loom_objects.specs.Tree.{Tree}
+use Rattle.loom_walks.specs.Trees.Outcomes.{outcome, AreRuns, choices_made}
+use Rattle.loom_walks.specs.Trees.Sound.{IsSoundTree, IsClosing}
+use Rattle.loom_walks.specs.Trees.Meeting.{Settings, Marking, machine_of}
+use Rattle.loom_walks.specs.Trees.Machines.{IsMarking}
 use Rattle.loom_walks.specs.Trees.Drive.{Trail, drive, at_start}
 
 module _ {A : Type 0} (s : Settings) (adds : Marking) (tree : Tree A) where
@@ -26,26 +29,15 @@ module _ {A : Type 0} (s : Settings) (adds : Marking) (tree : Tree A) where
     makes_more : (p later : List Stored) (value : A) (path : Trail) (runs : List (List Choice × A)) → drive s adds tree (at_start p) ≡ (Ok value, path)
         → step path.nodes ≡ Some later → MakesAll later runs → MakesAll p ((choices path.nodes, value) ∷ runs)
 
-  -- these choices are those of a run that comes to this value
-  abbrev pub IsRun : List Choice × A → Type 0
-  IsRun made = outcome s.max_branches tree made.0 ≡ Some (Ok made.1)
-
-  abbrev pub AreRuns : List (List Choice × A) → Type 0
-  AreRuns [] = Unit {0}
-  AreRuns (made ∷ runs) = IsRun made × AreRuns runs
-
-  abbrev pub choices_made : List (List Choice × A) → List (List Choice)
-  choices_made runs = map (λ made. made.0) runs
-
   -- what is known of a check that is complete
   pub record IsComplete (p : List Stored) (runs : List (List Choice × A)) : Type 0 where
-    pub are_runs : AreRuns runs
+    pub are_runs : AreRuns s.max_branches tree runs
     pub walk : IsWalkList (Rest (machine_of s adds tree) p) (choices_made runs)
     pub none_fails : (x : List Choice) → Rest (machine_of s adds tree) p x → (value : A) × (outcome s.max_branches tree x ≡ Some (Ok value))
 
   -- what is known of one that was stopped, or goes on
   pub record IsPart (p : List Stored) (runs : List (List Choice × A)) (last : List Stored) : Type 0 where
-    pub are_runs : AreRuns runs
+    pub are_runs : AreRuns s.max_branches tree runs
     pub stopped : IsStopped (machine_of s adds tree) p (choices_made runs) last
 
   -- what is known of the run that fails
@@ -63,8 +55,8 @@ CompleteLaw A = (s : Settings) (adds : Marking) (tree : Tree A) (p : List Stored
 -- From a path without nodes that is what is reachable; in a search that isn't reduced it comes in order.
 abbrev pub FreshLaw : Type 0 → Type 0
 FreshLaw A = (s : Settings) (adds : Marking) (tree : Tree A) (runs : List (List Choice × A)) → IsSoundTree tree → IsMarking adds → MakesAll s adds tree [] runs
-    → IsWalkList (Reachable (machine_of s adds tree)) (choices_made s adds tree runs)
-    × (s.reduce ≡ false → IsInOrder (machine_of s adds tree) (choices_made s adds tree runs))
+    → IsWalkList (Reachable (machine_of s adds tree)) (choices_made runs)
+    × (s.reduce ≡ false → IsInOrder (machine_of s adds tree) (choices_made runs))
 
 -- Rounds that were stopped have made a part, and leave the other for the path that they came to.
 abbrev pub PartLaw : Type 0 → Type 0
@@ -92,13 +84,6 @@ abbrev pub ReplayLaw : Type 0 → Type 0
 ReplayLaw A = (s : Settings) (adds : Marking) (tree : Tree A) (c : List Choice) → IsSoundTree tree → IsMarking adds → IsAllowed (machine_of s adds tree) c
     → (choices (drive s adds tree (following c)).1.nodes ≡ run (machine_of s adds tree) c)
     × (outcome s.max_branches tree (run (machine_of s adds tree) c) ≡ Some (drive s adds tree (following c)).0)
-
--- a run gives a value only once it is over
-abbrev pub IsClosing : {A : Type 0} → Tree A → Type 0
-IsClosing (Gives value) = ⊥
-IsClosing (Fails failure) = Unit {0}
-IsClosing (Closes rest) = Unit {0}
-IsClosing (Asks question branches) = (choice : Choice) → IsClosing (branches choice)
 
 -- What the first run along a path comes to that was loaded: it tells the path apart from the tree's nodes; or it has met
 -- each node of the path; or it fails before, and the choices that it has passed lead to that failure.

@@ -10,8 +10,10 @@ use Rattle.loom_views.specs.declared.rt.failure.FailureKind.{FailureKind}
 use Rattle.loom_views.specs.declared.rt.failure.FailureKind.TheVariants.{NotDeterministic, TooManyBranches}
 use Rattle.loom_walks.specs.Trees.Comparing.{same_made}
 use Rattle.loom_objects.specs.Tree.{Tree, Gives, Fails, Closes, Asks}
-use Rattle.loom_walks.specs.Trees.Outcomes.{IsSoundTree, outcome}
-use Rattle.loom_walks.specs.Trees.Meeting.{Settings, Marking, IsMarking, every_at, machine_of}
+use Rattle.loom_walks.specs.Trees.Outcomes.{outcome}
+use Rattle.loom_walks.specs.Trees.Sound.{IsSoundTree}
+use Rattle.loom_walks.specs.Trees.Meeting.{Settings, Marking, every_at, machine_of}
+use Rattle.loom_walks.specs.Trees.Machines.{IsMarking}
 
 -- the nodes, how many of them the run has passed, and the choices that new nodes take in turn
 pub record Trail : Type 0 where

@@ -6,7 +6,7 @@ use Rattle.loom_walks.specs.Walk.Path.{Stored, choices, step}
 use Rattle.loom_objects.specs.declared.rt.thread.Ability.TheVariants.{Able, Unable}
 use Rattle.loom_objects.specs.Question.{Question, WhichThread, WhetherSpurious}
 use Rattle.loom_objects.specs.Tree.{Tree, Gives, Closes, Asks}
-use Rattle.loom_walks.specs.Trees.Outcomes.{IsSoundTree}
+use Rattle.loom_walks.specs.Trees.Sound.{IsSoundTree}
 use Rattle.loom_walks.specs.Trees.Meeting.{Settings, Marking}
 use Rattle.loom_walks.specs.Trees.Drive.{drive, at_start}
 

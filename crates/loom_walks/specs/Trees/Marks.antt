@@ -1,5 +1,5 @@
 -- What a schedule marks at the nodes before it, where accesses aren't ordered.
-use Rattle.std.specs.Prelude.{ℕ, zero, suc, ◌≡◌, Bool, true, false, not, ◌&&◌, ◌||◌, eqb, cond, List, [], ◌∷◌, Option, Some, None, slice_get}
+use Rattle.std.specs.Prelude.{ℕ, zero, suc, Bool, true, false, not, ◌&&◌, ◌||◌, eqb, cond, List, [], ◌∷◌, Option, Some, None, slice_get}
 use Rattle.loom_objects.specs.declared.choice.Choice.{Choice}
 use Rattle.loom_objects.specs.declared.choice.Choice.TheVariants.{Thread}
 use Rattle.loom_objects.specs.declared.rt.thread.Ability.{Ability}
@@ -7,7 +7,7 @@ use Rattle.loom_objects.specs.declared.rt.thread.Ability.TheVariants.{Able, Yiel
 use Rattle.loom_objects.specs.Question.{Made, Question, WhichThread, WhichStore, WhetherSpurious}
 use Rattle.loom_walks.specs.Walk.Machine.{is_thread}
 use Rattle.loom_walks.specs.Walk.Choices.{same, pick}
-use Rattle.loom_walks.specs.Trees.Meeting.{Marking, IsMarking, IsMarkingBelow, count, front_of}
+use Rattle.loom_walks.specs.Trees.Meeting.{Marking, count, front_of}
 
 -- a schedule that was passed, and its place
 abbrev pub Place : Type 0
@@ -75,7 +75,3 @@ is_off_bound (Some bound) n = not (eqb n bound)
 -- nothing is added where the count is the bound
 abbrev pub marking : Option ℕ → Marking
 marking bound passes question k o = is_off_bound bound (count (front_of k passes)) && adds_any bound passes k o (unordered_in question)
-
--- These marks are made only where the run explores, and the count isn't the bound.
-abbrev pub MarkingLaw : Type 0
-MarkingLaw = (bound : Option ℕ) → IsMarking (marking bound) × ((b : ℕ) → bound ≡ Some b → IsMarkingBelow b (marking bound))

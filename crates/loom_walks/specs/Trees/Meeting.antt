@@ -1,13 +1,11 @@
 -- A tree of runs as the machine that a walk explores.
-use Rattle.std.specs.Prelude.{ℕ, zero, suc, ◌≡◌, ◌≢◌, ◌≤◌, Bool, true, false, not, ◌&&◌, ◌||◌, cond, List, [], ◌∷◌, ◌++◌, Option, Some, None, slice_get, nat_lt, IsSomeAnd, Result, ◌↔◌}
+use Rattle.std.specs.Prelude.{ℕ, zero, suc, Bool, true, false, not, ◌&&◌, ◌||◌, cond, List, [], ◌∷◌, ◌++◌, Option, Some, None, nat_lt}
 use Rattle.loom_objects.specs.declared.choice.Choice.{Choice}
-use Rattle.loom_objects.specs.Question.{Made, Among, Question, made_of}
-use Rattle.loom_walks.specs.Walk.Machine.{Machine, IsMachine, is_thread}
-use Rattle.loom_walks.specs.Walk.Runs.{Reachable}
+use Rattle.loom_objects.specs.Question.{Made, Question, made_of}
+use Rattle.loom_walks.specs.Walk.Machine.{Machine, is_thread}
 use Rattle.loom_walks.specs.Walk.Choices.{same, pick}
-use Rattle.loom_views.specs.declared.rt.failure.FailureKind.{FailureKind}
 use Rattle.loom_objects.specs.Tree.{Tree, Gives, Fails, Closes, Asks}
-use Rattle.loom_walks.specs.Trees.Outcomes.{IsSoundTree, met, outcome, passed, is_failure}
+use Rattle.loom_walks.specs.Trees.Outcomes.{met, outcome, passed, is_failure}
 
 -- whether the search is reduced, the bound on preemptions, and the largest number of nodes
 pub record Settings : Type 0 where
@@ -71,20 +69,10 @@ every_met s passes (Some n) = every_at s passes n
 abbrev pub Marking : Type 0
 Marking = List (Made × Choice) → Question → ℕ → Choice → Bool
 
--- marks are made only at nodes that were passed, where the run explores
-abbrev pub IsMarking : Marking → Type 0
-IsMarking adds = (passes : List (Made × Choice)) (question : Question) (k : ℕ) (o : Choice) → adds passes question k o ≡ true
-    → IsSomeAnd (slice_get passes k) (λ pass. pass.0.exploring ≡ true)
-
 abbrev pub front_of : ℕ → List (Made × Choice) → List (Made × Choice)
 front_of zero passes = []
 front_of (suc k) [] = []
 front_of (suc k) (pass ∷ passes) = pass ∷ front_of k passes
-
--- marks are made only at nodes whose preemption count isn't the bound
-abbrev pub IsMarkingBelow : ℕ → Marking → Type 0
-IsMarkingBelow bound adds = (passes : List (Made × Choice)) (question : Question) (k : ℕ) (o : Choice) → adds passes question k o ≡ true
-    → count (front_of k passes) ≢ bound
 
 -- what was marked before, and what is marked now
 abbrev pub marked_too : (ℕ → Choice → Bool) → (ℕ → Choice → Bool) → ℕ → Choice → Bool
@@ -112,24 +100,3 @@ machine_of s adds tree = record {
   marks = marks_of adds no_marks [] tree;
   fails = λ c. is_failure (outcome s.max_branches tree c);
 }
-
--- A tree of runs with sound questions is a machine for walks.
-abbrev pub MachineLaw : Type 0 → Type 0
-MachineLaw A = (s : Settings) (adds : Marking) (tree : Tree A) → IsSoundTree tree → IsMarking adds → IsMachine (machine_of s adds tree)
-
--- With a bound, and marks that are made at nodes that are not at it, no run that is reachable passes it at any node.
-abbrev pub BoundLaw : Type 0 → Type 0
-BoundLaw A = (s : Settings) (adds : Marking) (tree : Tree A) (bound : ℕ) → IsSoundTree tree → IsMarking adds → s.bound ≡ Some bound → IsMarkingBelow bound adds
-    → (x : List Choice) → Reachable (machine_of s adds tree) x → (before rest : List Choice) → x ≡ before ++ rest → count (passed tree before) ≤ bound
-
--- each question that a run comes to explores
-abbrev pub ExploresTree : {A : Type 0} → Tree A → Type 0
-ExploresTree (Gives value) = Unit {0}
-ExploresTree (Fails failure) = Unit {0}
-ExploresTree (Closes rest) = Unit {0}
-ExploresTree (Asks question branches) = ((made_of question).exploring ≡ true) × ((choice : Choice) → Among choice (made_of question).options → ExploresTree (branches choice))
-
--- In a search that isn't reduced or bounded, of a tree that explores throughout, each run is reachable.
-abbrev pub EveryRunLaw : Type 0 → Type 0
-EveryRunLaw A = (s : Settings) (adds : Marking) (tree : Tree A) → IsSoundTree tree → IsMarking adds → s.reduce ≡ false → s.bound ≡ None → ExploresTree tree
-    → (x : List Choice) → Reachable (machine_of s adds tree) x ↔ ((o : Result A FailureKind) × (outcome s.max_branches tree x ≡ Some o))

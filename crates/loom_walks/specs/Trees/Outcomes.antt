@@ -1,27 +1,13 @@
 -- Which nodes a run through a tree meets, and what it comes to.
-use Rattle.std.specs.Prelude.{ℕ, zero, suc, ◌≢◌, Bool, true, false, List, [], ◌∷◌, Option, Some, None, Result, Ok, Err}
+use Rattle.std.specs.Prelude.{ℕ, zero, suc, ◌≡◌, Bool, true, false, List, [], ◌∷◌, map, Option, Some, None, Result, Ok, Err}
 use Rattle.loom_objects.specs.declared.choice.Choice.{Choice}
-use Rattle.loom_objects.specs.Question.{Made, Among, made_of, IsSound}
+use Rattle.loom_objects.specs.Question.{Made, made_of}
 use Rattle.loom_objects.specs.Tree.{Tree, Gives, Fails, Closes, Asks}
 use Rattle.loom_walks.specs.Walk.Choices.{among, pick}
 use Rattle.loom_views.specs.declared.rt.failure.FailureKind.{FailureKind}
-use Rattle.loom_views.specs.declared.rt.failure.FailureKind.TheVariants.{TooManyBranches, NotDeterministic}
+use Rattle.loom_views.specs.declared.rt.failure.FailureKind.TheVariants.{TooManyBranches}
 
 module _ {A : Type 0} where
-  -- it asks nothing
-  abbrev pub IsQuiet : Tree A → Type 0
-  IsQuiet (Gives value) = Unit {0}
-  IsQuiet (Fails failure) = Unit {0}
-  IsQuiet (Closes rest) = IsQuiet rest
-  IsQuiet (Asks question branch) = ⊥
-
-  -- each question that a run comes to is sound, and once the run is over it asks nothing
-  abbrev pub IsSoundTree : Tree A → Type 0
-  IsSoundTree (Gives value) = Unit {0}
-  IsSoundTree (Fails failure) = Unit {0}
-  IsSoundTree (Closes rest) = IsQuiet rest
-  IsSoundTree (Asks question branch) = IsSound question × ((choice : Choice) → Among choice (made_of question).options → IsSoundTree (branch choice))
-
   -- The node that the run meets after these choices, each of which is an option where it comes, or None where the run
   -- is over. The number bounds the nodes to come.
   abbrev pub met : ℕ → Tree A → List Choice → Option Made
@@ -52,14 +38,19 @@ module _ {A : Type 0} where
   passed (Asks question branch) [] = []
   passed (Asks question branch) (x ∷ c) = (made_of question, x) ∷ passed (branch x) c
 
+  -- these choices are those of a run of at most so many nodes, which comes to this value
+  abbrev pub IsRun : ℕ → Tree A → List Choice × A → Type 0
+  IsRun room tree made = outcome room tree made.0 ≡ Some (Ok made.1)
+
+  abbrev pub AreRuns : ℕ → Tree A → List (List Choice × A) → Type 0
+  AreRuns room tree [] = Unit {0}
+  AreRuns room tree (made ∷ runs) = IsRun room tree made × AreRuns room tree runs
+
+  -- the choices of each run
+  abbrev pub choices_made : List (List Choice × A) → List (List Choice)
+  choices_made runs = map (λ made. made.0) runs
+
 abbrev pub is_failure : {A : Type 0} → Option (Result A FailureKind) → Bool
 is_failure None = false
 is_failure (Some (Ok value)) = false
 is_failure (Some (Err failure)) = true
-
--- no run fails because a path doesn't meet it
-abbrev pub IsFair : {A : Type 0} → Tree A → Type 0
-IsFair (Gives value) = Unit {0}
-IsFair (Fails kind) = kind ≢ NotDeterministic
-IsFair (Closes rest) = IsFair rest
-IsFair (Asks question branches) = (choice : Choice) → Among choice (made_of question).options → IsFair (branches choice)

@@ -8,76 +8,58 @@ use Rattle.loom_views.specs.declared.rt.failure.FailureKind.TheVariants.{NotDete
 use Rattle.loom_walks.specs.Walk.Machine.{Machine}
 use Rattle.loom_walks.specs.Walk.Runs.{Reachable}
 use Rattle.loom_walks.specs.Walk.Path.{Stored, choices}
-use Rattle.loom_walks.specs.Walk.Walks.{IsWalkList, IsInOrder, IsAllowed}
-use Rattle.loom_walks.specs.Trees.Outcomes.{IsSoundTree, IsFair, outcome}
-use Rattle.loom_walks.specs.Trees.Meeting.{Settings, Marking, IsMarking, ExploresTree, machine_of}
+use Rattle.loom_walks.specs.Walk.Lists.{IsWalkList, IsInOrder, IsAllowed}
+use Rattle.loom_walks.specs.Trees.Outcomes.{outcome}
+use Rattle.loom_walks.specs.Trees.Sound.{IsSoundTree, IsFair}
+use Rattle.loom_walks.specs.Trees.Meeting.{Settings, Marking, machine_of}
+use Rattle.loom_walks.specs.Trees.Machines.{IsMarking}
+use Rattle.loom_walks.specs.Trees.Sound.{ExploresTree}
 use Rattle.loom_walks.specs.Trees.Drive.{Trail, drive, at_start}
-use Rattle.loom_walks.specs.Trees.Check.{Makes, MakesAll, AreRuns, choices_made, IsClosing}
+use Rattle.loom_walks.specs.Trees.Check.{Makes, MakesAll}
+use Rattle.loom_walks.specs.Trees.Outcomes.{AreRuns, choices_made}
+use Rattle.loom_walks.specs.Trees.Sound.{IsClosing}
 use Rattle.loom_walks.specs.Trees.Replay.{replayed}
 
-module _ {A : Type 0} (s : Settings) (adds : Marking) (tree : Tree A) where
-  -- the search leaves no run out: it is neither reduced nor bounded, and the tree explores throughout
-  pub record IsWholeSearch : Type 0 where
-    pub whole : s.reduce ≡ false
-    pub unbounded : s.bound ≡ None
-    pub marking : IsMarking adds
-    pub sound : IsSoundTree tree
-    pub closing : IsClosing tree
-    pub exploring : ExploresTree tree
+-- the search leaves no run out: it is neither reduced nor bounded, and the tree explores throughout
+pub record IsWholeSearch {A : Type 0} (s : Settings) (adds : Marking) (tree : Tree A) : Type 0 where
+  pub whole : s.reduce ≡ false
+  pub unbounded : s.bound ≡ None
+  pub marking : IsMarking adds
+  pub sound : IsSoundTree tree
+  pub closing : IsClosing tree
+  pub exploring : ExploresTree tree
 
-  -- the tree as a walk explores it
-  abbrev pub machine : Machine
-  machine = machine_of s adds tree
-
-  -- what is known of a check that is complete, with the choices and the value of each run
-  pub record IsCompleteReport (runs : List (List Choice × A)) : Type 0 where
-    -- each is a run, and comes to its value
-    pub are_runs : AreRuns s adds tree runs
-    -- each reachable run was made, once
-    pub walk : IsWalkList (Reachable machine) (choices_made s adds tree runs)
-    pub in_order : IsInOrder machine (choices_made s adds tree runs)
-    pub none_fails : (x : List Choice) → Reachable machine x → (value : A) × (outcome s.max_branches tree x ≡ Some (Ok value))
-    -- what the tree can come to is reachable
-    pub every_run : (x : List Choice) → Reachable machine x ↔ ((o : Result A FailureKind) × (outcome s.max_branches tree x ≡ Some o))
-
-  -- what is known of a check that was stopped before another run
-  pub record IsStoppedReport (runs : List (List Choice × A)) : Type 0 where
-    pub are_runs : AreRuns s adds tree runs
-    -- the reachable runs that it didn't make, of which there are some
-    pub more : List (List Choice)
-    pub unfinished : more ≢ []
-    pub walk : IsWalkList (Reachable machine) (choices_made s adds tree runs ++ more)
-    pub in_order : IsInOrder machine (choices_made s adds tree runs ++ more)
-
-  -- what is known of a check in which the run with these choices failed, after the others
-  pub record IsFailedReport (runs : List (List Choice × A)) (failure : FailureKind) (failing : List Choice) : Type 0 where
-    pub are_runs : AreRuns s adds tree runs
-    -- the reachable runs that it didn't make
-    pub more : List (List Choice)
-    pub walk : IsWalkList (Reachable machine) (choices_made s adds tree runs ++ failing ∷ more)
-    pub in_order : IsInOrder machine (choices_made s adds tree runs ++ failing ∷ more)
-    pub reachable : Reachable machine failing
-    pub fails : outcome s.max_branches tree failing ≡ Some (Err failure)
-    -- it isn't that the path doesn't meet the tree
-    pub own : failure ≢ NotDeterministic
-    -- its choices lead to the failure again
-    pub replays : replayed s.max_branches tree failing ≡ (failing, Err failure)
-
--- Rounds up to the last are a complete check.
+-- Rounds up to the last have made runs of the tree, each reachable one once and in order. None fails, and what the tree can
+-- come to is reachable.
 abbrev pub CompleteReportLaw : Type 0 → Type 0
 CompleteReportLaw A = (s : Settings) (adds : Marking) (tree : Tree A) (runs : List (List Choice × A)) → IsWholeSearch s adds tree → MakesAll s adds tree [] runs
-    → IsCompleteReport s adds tree runs
+    → AreRuns s.max_branches tree runs
+    × IsWalkList (Reachable (machine_of s adds tree)) (choices_made runs)
+    × IsInOrder (machine_of s adds tree) (choices_made runs)
+    × ((x : List Choice) → Reachable (machine_of s adds tree) x → (value : A) × (outcome s.max_branches tree x ≡ Some (Ok value)))
+    × ((x : List Choice) → Reachable (machine_of s adds tree) x ↔ ((o : Result A FailureKind) × (outcome s.max_branches tree x ≡ Some o)))
 
--- Rounds that leave a path for another are a check that was stopped.
+-- Rounds that leave a path for another have made the first of the reachable runs in order, and there are more.
 abbrev pub StoppedReportLaw : Type 0 → Type 0
 StoppedReportLaw A = (s : Settings) (adds : Marking) (tree : Tree A) (runs : List (List Choice × A)) (last : List Stored) → IsWholeSearch s adds tree → Makes s adds tree [] runs last
-    → IsStoppedReport s adds tree runs
+    → AreRuns s.max_branches tree runs
+    × ((more : List (List Choice)) × (more ≢ [])
+    × IsWalkList (Reachable (machine_of s adds tree)) (choices_made runs ++ more)
+    × IsInOrder (machine_of s adds tree) (choices_made runs ++ more))
 
--- Rounds after which a run fails are a check that failed.
+-- Rounds after which a run fails have made the reachable runs before it, and it stands next in order. Its choices lead to its
+-- failure again, which isn't that the path doesn't meet the tree.
 abbrev pub FailedReportLaw : Type 0 → Type 0
 FailedReportLaw A = (s : Settings) (adds : Marking) (tree : Tree A) (runs : List (List Choice × A)) (last : List Stored) (failure : FailureKind) (path : Trail) → IsWholeSearch s adds tree → IsFair tree
     → Makes s adds tree [] runs last → drive s adds tree (at_start last) ≡ (Err failure, path)
-    → IsFailedReport s adds tree runs failure (choices path.nodes)
+    → AreRuns s.max_branches tree runs
+    × ((more : List (List Choice))
+    × IsWalkList (Reachable (machine_of s adds tree)) (choices_made runs ++ choices path.nodes ∷ more)
+    × IsInOrder (machine_of s adds tree) (choices_made runs ++ choices path.nodes ∷ more))
+    × Reachable (machine_of s adds tree) (choices path.nodes)
+    × (outcome s.max_branches tree (choices path.nodes) ≡ Some (Err failure))
+    × (failure ≢ NotDeterministic)
+    × (replayed s.max_branches tree (choices path.nodes) ≡ (choices path.nodes, Err failure))
 
 -- ---- refused choices
 

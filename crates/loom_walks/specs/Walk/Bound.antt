@@ -2,7 +2,8 @@
 use Rattle.std.specs.Prelude.{ℕ, suc, ◌<◌, ◌≤◌, ◌≡◌, ◌≢◌, true, false, List, [], ◌∷◌, ◌++◌, length, Some}
 use Rattle.loom_objects.specs.declared.choice.Choice.{Choice}
 use Rattle.loom_objects.specs.Question.{Made}
-use Rattle.loom_walks.specs.Walk.Machine.{Machine, IsMachine, is_thread}
+use Rattle.loom_walks.specs.Walk.Machine.{Machine, is_thread}
+use Rattle.loom_walks.specs.Walk.Sound.{IsMachine}
 use Rattle.loom_walks.specs.Walk.Runs.{Reachable}
 
 -- count c is the number of preemptions that a schedule counts after the choices c, which is to stay within the bound.

@@ -3,7 +3,7 @@ use Rattle.std.specs.Prelude.{◌≡◌, ◌≢◌, Bool, true, List, [], ◌∷
 use Rattle.loom_objects.specs.declared.choice.Choice.{Choice}
 use Rattle.loom_walks.specs.Walk.Path.{Status, Skip, Pending, Active, Visited, Stored, choices, node_at, IsAtRest, step}
 use Rattle.loom_objects.specs.Question.{Made}
-use Rattle.loom_walks.specs.Walk.Walks.{Begins}
+use Rattle.loom_walks.specs.Walk.Lists.{Begins}
 
 -- A run that began with the path p has left the path q: p's nodes with the same choices, of whose options only those
 -- skipped may have changed, and new nodes at which nothing is visited yet.

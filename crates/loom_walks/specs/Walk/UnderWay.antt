@@ -2,7 +2,8 @@
 use Rattle.std.specs.Prelude.{ℕ, zero, suc, ◌<◌, ◌≡◌, Bool, true, false, ◌&&◌, ◌||◌, List, [], ◌∷◌, ◌++◌, length, Some, None}
 use Rattle.loom_objects.specs.declared.choice.Choice.{Choice}
 use Rattle.loom_objects.specs.Question.{Made}
-use Rattle.loom_walks.specs.Walk.Machine.{Machine, IsMachine, run}
+use Rattle.loom_walks.specs.Walk.Machine.{Machine, run}
+use Rattle.loom_walks.specs.Walk.Sound.{IsMachine}
 use Rattle.loom_walks.specs.Walk.Path.{Stored, choices, node_at, fresh, mark_status, after_run}
 
 -- marks that are made at the nodes from number k on: what they mark at a node is to be tried there if it was skipped

@@ -1,6 +1,6 @@
 //! Laws of what a check reports, and of runs that are replayed. The definitions stand in `specs/Trees/Reports.antt` and
 //! `specs/Trees/Replay.antt`.
-ghost use Rattle.loom_walks.specs.Trees.Replay.{AllowedReplayLaw, ReplayFollowsLaw};
+ghost use Rattle.loom_walks.specs.Trees.Replays.{AllowedReplayLaw, ReplayFollowsLaw};
 ghost use Rattle.loom_walks.specs.Trees.Reports.{CompleteReportLaw, FailedReportLaw, RefusedReplayLaw, StoppedReportLaw};
 
 /// A complete check has made each reachable run once and in order, and none of them fails.

@@ -4,8 +4,8 @@ ghost use Rattle.loom_walks.specs.Trees.Check.{CompleteLaw, EndLaw, FailureLaw, 
 ghost use Rattle.loom_walks.specs.Trees.Drive.{DriveLaw};
 ghost use Rattle.loom_walks.specs.Trees.Example.{ExampleLaw};
 ghost use Rattle.loom_walks.specs.Trees.Foreign.{ForeignLaw};
-ghost use Rattle.loom_walks.specs.Trees.Marks.{MarkingLaw};
-ghost use Rattle.loom_walks.specs.Trees.Meeting.{BoundLaw, EveryRunLaw, MachineLaw};
+ghost use Rattle.loom_walks.specs.Trees.Machines.{MarkingLaw};
+ghost use Rattle.loom_walks.specs.Trees.Machines.{BoundLaw, EveryRunLaw, MachineLaw};
 
 /// A tree of runs with sound questions is a machine for walks.
 pub fn tree_machine<A>()
