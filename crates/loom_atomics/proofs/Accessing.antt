@@ -10,8 +10,7 @@ use Rattle.loom_views.specs.declared.rt.change.Change.{Change}
 use Rattle.loom_views.specs.declared.rt.failure.FailureKind.{FailureKind}
 use Rattle.loom_views.specs.declared.rt.failure.FailureKind.TheVariants.{Misuse}
 use Rattle.loom_views.specs.declared.rt.table.Views.{Views}
-use Rattle.loom_views.proofs.Table.Kept.{reading_keeps_slots_law}
-use Rattle.loom_views.proofs.Table.Offered.{offered_slots_are_kept_law}
+use Rattle.loom_views.proofs.Table.Kept.{offered_slots_are_kept_law, reading_keeps_slots_law}
 use Rattle.loom_objects.specs.declared.operation.AtomicOp.{AtomicOp}
 use Rattle.loom_objects.specs.declared.operation.AtomicOp.TheVariants.{Load, Update, CompareExchange}
 use Rattle.loom_objects.specs.declared.operation.Exchange.{Exchange}

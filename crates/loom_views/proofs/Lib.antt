@@ -1,7 +1,6 @@
 pub mod Reaching
 pub mod Counting
 pub mod Views
-pub mod Sweeping
 pub mod Counted
 pub mod VersionLists
 pub mod Loops
@@ -10,9 +9,7 @@ pub mod SlotSets
 pub mod Shown
 pub mod Accesses
 pub mod Choices
-pub mod Rows
 pub mod ThreadMoves
-pub mod SomeReadable
 pub mod Growth
 pub mod Fences
 pub mod Cells

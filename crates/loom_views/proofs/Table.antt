@@ -5,12 +5,6 @@ pub mod Spawned
 pub mod Accesses
 pub mod Updates
 pub mod Fences
-pub mod Meeting
 pub mod Cells
 pub mod Others
-pub mod Racing
-pub mod Rows
-pub mod Offered
 pub mod Kept
-pub mod Marked
-pub mod Global

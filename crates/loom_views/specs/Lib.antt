@@ -15,5 +15,4 @@ pub mod Cells
 pub mod Table
 pub mod Numbers
 pub mod Changes
-pub mod Laws
-pub mod Examples
+pub mod Kept

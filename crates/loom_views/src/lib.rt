@@ -4,5 +4,3 @@
 
 pub mod rt;
 pub mod sequence;
-#[cfg(test)]
-mod tests;

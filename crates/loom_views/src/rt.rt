@@ -3,7 +3,6 @@ pub mod atomic;
 pub mod cell;
 pub mod change;
 pub mod failure;
-pub mod laws;
 pub mod num;
 pub mod synchronize;
 pub mod table;

@@ -1,5 +1,5 @@
--- Reading a slot leaves a store in it.
-use Rattle.std.proofs.Common.{◌≡◌, ℕ, ◌<◌, Bool, true, false, List, [], ◌∷◌, length, set, refl, subst, sym, Option, Some, None, Ok, Err}
+-- A store is kept in each slot that is offered, and reading a slot leaves a store in it.
+use Rattle.std.proofs.Common.{zero, suc, ◌≡◌, ℕ, ◌<◌, Bool, true, false, List, [], ◌∷◌, length, set, refl, subst, sym, Option, Some, None, Ok, Err}
 use Rattle.std.specs.Prelude.{if◌then◌else◌}
 use Rattle.std.specs.List.{slice_get, list_any}
 use Rattle.std.proofs.lemmas.List.{length-set}
@@ -8,9 +8,23 @@ use Rattle.loom_views.specs.declared.rt.failure.FailureKind.TheVariants.{Race, O
 use Rattle.loom_views.specs.Slots.{number_in_slot}
 use Rattle.loom_views.specs.Threads.{ThreadPoints}
 use Rattle.loom_views.specs.Atomic.{Scene, Answer, StorePoints, History, in_slot, touch, races, conflicts, scene_read, scene_recorded_load, update_read_step}
-use Rattle.loom_views.specs.Table.{Place, Meets, Keeps, Records, Points, Accessed, IsSlotKept, scene_of, points_of, accessed, access_by}
-use Rattle.loom_views.specs.Laws.{SlotsStayLaw}
+use Rattle.loom_views.specs.Table.{Place, Meets, Keeps, Records, Points, Accessed, IsSlotKept, has_slot, slot_set, scene_of, points_of, accessed, access_by}
+use Rattle.loom_views.specs.Kept.{KeepingLaw, SlotsStayLaw}
+use Rattle.loom_views.proofs.Table.Accesses.{readable-kept}
 use Rattle.loom_views.proofs.Table.Lists.{get-set_same}
+
+pub offered_slots_are_kept_law : KeepingLaw
+offered_slots_are_kept_law p t n reader slots slot e h = readable-kept p t n reader slots slot e (at slot h)
+  where
+    at : (i : ℕ) → slice_get (slot_set slots) i ≡ Some true → has_slot slots i ≡ true
+    at zero q = cc
+    at (suc zero) q = cc
+    at (suc (suc zero)) q = cc
+    at (suc (suc (suc zero))) q = cc
+    at (suc (suc (suc (suc zero)))) q = cc
+    at (suc (suc (suc (suc (suc zero))))) q = cc
+    at (suc (suc (suc (suc (suc (suc zero)))))) q = cc
+    at (suc (suc (suc (suc (suc (suc (suc i))))))) q = absurd (cc)
 
 -- an access whose tests pass leads to what it is to lead to
 passed-after : (P : Accessed → Type 0) (s : Scene) (kinds : List (List ℕ)) (passed : Answer) (p : Points) (t n : ℕ) (after : Accessed) → accessed p t n (conflicts s kinds (Ok passed)) ≡ Ok after → P (record { points = points_of p t n passed.scene; value = passed.value }) → P after

@@ -194,7 +194,7 @@ impl State {
     }
 
     /// The set of the slots that the reader may choose: those of the stores that no kept store keeps it from. Where two orders
-    /// are equal on the way it is `OrdersEqual`. By law `laws::some_slot_is_readable` there is always a slot (loom's
+    /// are equal on the way it is `OrdersEqual`. By law `loom_view_laws::some_slot_is_readable` there is always a slot (loom's
     /// `rt/atomic.rs`).
     pub fn readable(
         &self,

@@ -111,7 +111,7 @@ impl VersionVec {
 }
 
 /// Two vectors are equal where each is inside the other, which is where they have the same counts: law
-/// `laws::equal_vectors_are_same` (loom's `rt/vv.rs`).
+/// `loom_view_laws::equal_vectors_are_same` (loom's `rt/vv.rs`).
 impl PartialEq for VersionVec {
     ghost eq = { versions_eq };
 

@@ -1,0 +1,4 @@
+pub mod Sweeping
+pub mod Rows
+pub mod SomeReadable
+pub mod Table

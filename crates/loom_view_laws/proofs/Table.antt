@@ -1,0 +1,6 @@
+pub mod Meeting
+pub mod Racing
+pub mod Rows
+pub mod Offered
+pub mod Marked
+pub mod Global

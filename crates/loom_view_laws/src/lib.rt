@@ -1,0 +1,103 @@
+//! Laws of views, of the vectors that show them, and of the choice of a store. A law is the contract of a function that does
+//! nothing; it is stated in `specs/Laws`, and what the layers above need too in `specs/Kept` of `loom_views`. No crate stands on
+//! this one.
+#![tactic(auto)]
+
+ghost use Rattle.loom_view_laws.specs.Examples.{ExampleLaw};
+ghost use Rattle.loom_views.specs.Kept.{KeepingLaw, SlotsStayLaw};
+ghost use Rattle.loom_view_laws.specs.Laws.{PastLaw, ReachingLaw, CountLaw, ComparingLaw, EqualLaw, StandingLaw, ReadableLaw, OfferingLaw, LoadingLaw, UpdatingLaw, RacingLaw, FencingLaw, MovesAsAcqRel, GlobalLaw};
+
+/// That a chain of edges leads from one point to another can be found by one sweep from the newest point down (own).
+pub fn past_is_reaching()
+    ensures { PastLaw }
+{}
+
+/// A point that raises a version has its view inside another point's just where it reaches that point. So a view is known by
+/// its raising points (own).
+pub fn view_is_reaching()
+    ensures { ReachingLaw }
+{}
+
+/// A vector that shows a point counts, for each thread, the raising points of that thread that reach the point (own).
+pub fn versions_count_raising_points()
+    ensures { CountLaw }
+{}
+
+/// Two vectors that show points of one graph are compared as the views of these points are, where the raising points of each
+/// thread form a chain (own).
+pub fn vectors_compare_as_views()
+    ensures { ComparingLaw }
+{}
+
+/// Vectors that are equal by `==` have the same counts (own).
+pub fn equal_vectors_are_same()
+    ensures { EqualLaw }
+{}
+
+/// A vector that shows a point goes on showing it when points are added (own).
+pub fn points_stay_shown()
+    ensures { StandingLaw }
+{}
+
+/// Where an atomic has a store, a reader has a slot to choose; `readable` answers slots, or `OrdersEqual` (own).
+pub fn some_slot_is_readable()
+    ensures { ReadableLaw }
+{}
+
+/// Of what is kept of a run, a choice of slots always offers one, unless it fails: each atomic has a store (own).
+pub fn some_slot_is_offered()
+    ensures { OfferingLaw }
+{}
+
+/// In each slot that a choice offers a store is kept, so it may be loaded from (own).
+pub fn offered_slots_are_kept()
+    ensures { KeepingLaw }
+{}
+
+/// A load from a slot in which a store is kept answers the value of one of the last seven stores of its atomic (own).
+pub fn loads_read_kept_stores()
+    ensures { LoadingLaw }
+{}
+
+/// A read-modify-write that reads a slot in which a store is kept answers the value of one of the last seven stores of its
+/// atomic (own).
+pub fn updates_read_kept_stores()
+    ensures { UpdatingLaw }
+{}
+
+/// A slot in which a store is kept has one still once a read-modify-write has read it, so the same read-modify-write may write
+/// to it or end at it (own).
+pub fn reading_keeps_slots()
+    ensures { SlotsStayLaw }
+{}
+
+/// A read of a cell is a data race just where some write of it hasn't come to the thread, and a write just where some write or
+/// read hasn't (own).
+pub fn accesses_out_of_view_race()
+    ensures { RacingLaw }
+{}
+
+/// A sequentially consistent fence brings its thread what the earlier ones left at the global point, and leaves there what has
+/// come to the thread (own).
+pub fn fences_meet_at_the_global_point()
+    ensures { FencingLaw }
+{}
+
+/// Once its slot is chosen, a sequentially consistent load, and the failing end of a read-modify-write, leads to the very points
+/// that the same by `AcqRel` leads to. A store, and the write of a read-modify-write, does so but for the mark of the store that
+/// it makes. Which slots a load may choose does depend on it (own).
+pub fn sequentially_consistent_accesses_move_as_acq_rel()
+    ensures { MovesAsAcqRel }
+{}
+
+/// Each move of a run leaves the global point where it was, but for a sequentially consistent fence, whose last step meets there
+/// (own).
+pub fn only_sequentially_consistent_fences_move_the_global_point()
+    ensures { GlobalLaw }
+{}
+
+/// In small histories of one atomic: a thread that stored alone may load its last value only, also once slots are used again,
+/// and beside another thread's store it may load either value (own).
+pub fn example_histories()
+    ensures { ExampleLaw }
+{}

@@ -1,5 +1,0 @@
-use Rattle.loom_views.proofs.Rows.{examples}
-use Rattle.loom_views.proofs.rt.laws.example_histories.Goals as goal
-
-pub returns : goal.returns
-returns c = examples

@@ -1,5 +1,0 @@
-use Rattle.loom_views.proofs.Sweeping.{past-is}
-use Rattle.loom_views.proofs.rt.laws.past_is_reaching.Goals as goal
-
-pub returns : goal.returns
-returns c = past-is

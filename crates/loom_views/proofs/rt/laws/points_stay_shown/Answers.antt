@@ -1,5 +1,0 @@
-use Rattle.loom_views.proofs.Views.{shows-old}
-use Rattle.loom_views.proofs.rt.laws.points_stay_shown.Goals as goal
-
-pub returns : goal.returns
-returns c = shows-old

@@ -1,5 +1,0 @@
-use Rattle.loom_views.proofs.Table.Offered.{some_slot_is_offered_law}
-use Rattle.loom_views.proofs.rt.laws.some_slot_is_offered.Goals as goal
-
-pub returns : goal.returns
-returns c = some_slot_is_offered_law

@@ -1,5 +1,0 @@
-use Rattle.loom_views.proofs.SomeReadable.{some-readable}
-use Rattle.loom_views.proofs.rt.laws.some_slot_is_readable.Goals as goal
-
-pub returns : goal.returns
-returns c = some-readable

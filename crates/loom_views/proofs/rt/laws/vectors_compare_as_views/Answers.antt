@@ -1,5 +1,0 @@
-use Rattle.loom_views.proofs.Views.{shows-inside}
-use Rattle.loom_views.proofs.rt.laws.vectors_compare_as_views.Goals as goal
-
-pub returns : goal.returns
-returns c = shows-inside

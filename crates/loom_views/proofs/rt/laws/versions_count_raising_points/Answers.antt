@@ -1,5 +1,0 @@
-use Rattle.loom_views.proofs.Counted.{counted-is}
-use Rattle.loom_views.proofs.rt.laws.versions_count_raising_points.Goals as goal
-
-pub returns : goal.returns
-returns c = counted-is

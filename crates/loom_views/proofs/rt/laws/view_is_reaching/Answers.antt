@@ -1,5 +1,0 @@
-use Rattle.loom_views.proofs.Views.{raising-inside}
-use Rattle.loom_views.proofs.rt.laws.view_is_reaching.Goals as goal
-
-pub returns : goal.returns
-returns c = raising-inside
