@@ -17,26 +17,26 @@ use Rattle.loom_walks.specs.Trees.Sound.{IsQuiet}
 use Rattle.loom_runs.specs.Trees.{IsRunTree}
 use Rattle.loom_walks.specs.Trees.Sound.{IsFair}
 
--- it asks nothing, and comes to such a value or fails, but not because a path doesn't meet it
-pub data Comes {A : Type 0} (P : A → Type 0) : Tree A → Type 0 where
-  comes_to : (value : A) → P value → Comes P (Gives value)
-  comes_not : (kind : FailureKind) → kind ≢ NotDeterministic → Comes P (Fails kind)
+-- It settles without a choice: it gives such a value, or it fails, but not because a path does not meet it.
+pub data Settles {A : Type 0} (P : A → Type 0) : Tree A → Type 0 where
+  settles_at : (value : A) → P value → Settles P (Gives value)
+  fails_by_itself : (kind : FailureKind) → kind ≢ NotDeterministic → Settles P (Fails kind)
 
 abbrev pub Anything : {A : Type 0} → A → Type 0
 Anything value = Unit {0}
 
 module _ {A B : Type 0} {P : B → Type 0} where
-  pub found_comes : (o : Option A) (kind : FailureKind) (next : A → Tree B) → kind ≢ NotDeterministic → ((a : A) → Comes P (next a)) → Comes P (found o kind >>= next)
-  found_comes None kind next fair h = comes_not kind fair
-  found_comes (Some a) kind next fair h = h a
+  pub found_settles : (o : Option A) (kind : FailureKind) (next : A → Tree B) → kind ≢ NotDeterministic → ((a : A) → Settles P (next a)) → Settles P (found o kind >>= next)
+  found_settles None kind next fair h = fails_by_itself kind fair
+  found_settles (Some a) kind next fair h = h a
 
-  pub then_comes : {Q : A → Type 0} (tree : Tree A) (next : A → Tree B) → Comes Q tree → ((a : A) → Q a → Comes P (next a)) → Comes P (tree >>= next)
-  then_comes tree next (comes_to a q) h = h a q
-  then_comes tree next (comes_not kind fair) h = comes_not kind fair
+  pub then_settles : {Q : A → Type 0} (tree : Tree A) (next : A → Tree B) → Settles Q tree → ((a : A) → Q a → Settles P (next a)) → Settles P (tree >>= next)
+  then_settles tree next (settles_at a q) h = h a q
+  then_settles tree next (fails_by_itself kind fair) h = fails_by_itself kind fair
 
-pub check_comes : {B : Type 0} {P : B → Type 0} (passes : Bool) (kind : FailureKind) (next : ⊤ → Tree B) → kind ≢ NotDeterministic → Comes P (next tt) → Comes P (check passes kind >>= next)
-check_comes true kind next fair h = h
-check_comes false kind next fair h = comes_not kind fair
+pub check_settles : {B : Type 0} {P : B → Type 0} (passes : Bool) (kind : FailureKind) (next : ⊤ → Tree B) → kind ≢ NotDeterministic → Settles P (next tt) → Settles P (check passes kind >>= next)
+check_settles true kind next fair h = h
+check_settles false kind next fair h = fails_by_itself kind fair
 
 -- whatever is chosen, it ends a run only where the run is over
 abbrev pub StaysOpen : {A : Type 0} → (A → Type 0) → Tree A → Type 0
@@ -50,14 +50,14 @@ StaysOpen Goes (Asks question branches) = (choice : Choice) → StaysOpen Goes (
 pub data EventOf {A : Type 0} (Goes Over : A → Type 0) : Tree A → Type 0 where
   goes : (value : A) → Goes value → EventOf Goes Over (Gives value)
   fails : (kind : FailureKind) → kind ≢ NotDeterministic → EventOf Goes Over (Fails kind)
-  closes : (rest : Tree A) → Comes Over rest → EventOf Goes Over (Closes rest)
+  closes : (rest : Tree A) → Settles Over rest → EventOf Goes Over (Closes rest)
   asks : (question : Question) (branches : Choice → Tree A) → IsSound question → (made_of question).exploring ≡ true
       → ((choice : Choice) → Among choice (made_of question).options → EventOf Goes Over (branches choice)) → ((choice : Choice) → StaysOpen Goes (branches choice)) → EventOf Goes Over (Asks question branches)
 
 module _ {A : Type 0} {Goes Over : A → Type 0} where
-  pub going_event : (tree : Tree A) → Comes Goes tree → EventOf Goes Over tree
-  going_event tree (comes_to value h) = goes value h
-  going_event tree (comes_not kind fair) = fails kind fair
+  pub going_event : (tree : Tree A) → Settles Goes tree → EventOf Goes Over tree
+  going_event tree (settles_at value h) = goes value h
+  going_event tree (fails_by_itself kind fair) = fails kind fair
 
   pub event_open : (tree : Tree A) → EventOf Goes Over tree → StaysOpen Goes tree
   event_open tree (goes value h) = h
@@ -65,16 +65,16 @@ module _ {A : Type 0} {Goes Over : A → Type 0} where
   event_open tree (closes rest h) = tt
   event_open tree (asks question branches sound exploring options opens) = opens
 
-  pub then_event : {B : Type 0} {Q : B → Type 0} (tree : Tree B) (next : B → Tree A) → Comes Q tree → ((b : B) → Q b → EventOf Goes Over (next b)) → EventOf Goes Over (tree >>= next)
-  then_event tree next (comes_to b q) h = h b q
-  then_event tree next (comes_not kind fair) h = fails kind fair
+  pub then_event : {B : Type 0} {Q : B → Type 0} (tree : Tree B) (next : B → Tree A) → Settles Q tree → ((b : B) → Q b → EventOf Goes Over (next b)) → EventOf Goes Over (tree >>= next)
+  then_event tree next (settles_at b q) h = h b q
+  then_event tree next (fails_by_itself kind fair) h = fails kind fair
 
   pub check_event : (passes : Bool) (kind : FailureKind) (next : ⊤ → Tree A) → kind ≢ NotDeterministic → EventOf Goes Over (next tt) → EventOf Goes Over (check passes kind >>= next)
   check_event true kind next fair h = h
   check_event false kind next fair h = fails kind fair
 
 -- an event, and from what it comes to another
-module _ {A B : Type 0} {Goes Over : A → Type 0} {Goes' Over' : B → Type 0} (next : A → Tree B) (onward : (a : A) → Goes a → EventOf Goes' Over' (next a)) (rests : (a : A) → Over a → Comes Over' (next a)) where
+module _ {A B : Type 0} {Goes Over : A → Type 0} {Goes' Over' : B → Type 0} (next : A → Tree B) (onward : (a : A) → Goes a → EventOf Goes' Over' (next a)) (rests : (a : A) → Over a → Settles Over' (next a)) where
   stays_open : (tree : Tree A) → StaysOpen Goes tree → StaysOpen Goes' (tree >>= next)
   stays_open (Gives a) opens = event_open (next a) (onward a opens)
   stays_open (Fails kind) opens = tt
@@ -84,7 +84,7 @@ module _ {A B : Type 0} {Goes Over : A → Type 0} {Goes' Over' : B → Type 0} 
   pub event_after : (tree : Tree A) → EventOf Goes Over tree → EventOf Goes' Over' (tree >>= next)
   event_after tree (goes a h) = onward a h
   event_after tree (fails kind fair) = fails kind fair
-  event_after tree (closes rest h) = closes (rest >>= next) (then_comes rest next h rests)
+  event_after tree (closes rest h) = closes (rest >>= next) (then_settles rest next h rests)
   event_after tree (asks question branches sound exploring options opens) =
       asks question _ sound exploring (λ choice a. event_after (branches choice) (options choice a)) (λ choice. stays_open (branches choice) (opens choice))
 
@@ -122,7 +122,7 @@ module _ {D : Type 0} where
   IsPass tree = EventOf GoesOn HasEnded tree
 
   pub turned_pass : (tree : Tree (Turn D × World D)) → IsEvent tree → IsPass (tree >>= turned)
-  turned_pass tree event = event_after turned (λ (turn, w) h. goes _ h) (λ (turn, w) h. comes_to _ h) tree event
+  turned_pass tree event = event_after turned (λ (turn, w) h. goes _ h) (λ (turn, w) h. settles_at _ h) tree event
 
 -- ---- what comes after an event
 
@@ -138,9 +138,9 @@ module _ {D R : Type 0} (next : Turn D × World D → Tree R) where
   abbrev pub RestsAfter : Type 0
   RestsAfter = (turned : Turn D × World D) → IsOver turned → IsQuiet (next turned) × IsFair (next turned)
 
-  over_then : (tree : Tree (Turn D × World D)) → Comes IsOver tree → RestsAfter → IsQuiet (tree >>= next) × IsFair (tree >>= next)
-  over_then tree (comes_to turned h) rests = rests turned h
-  over_then tree (comes_not kind fair) rests = (tt, fair)
+  over_then : (tree : Tree (Turn D × World D)) → Settles IsOver tree → RestsAfter → IsQuiet (tree >>= next) × IsFair (tree >>= next)
+  over_then tree (settles_at turned h) rests = rests turned h
+  over_then tree (fails_by_itself kind fair) rests = (tt, fair)
 
   open_then : (tree : Tree (Turn D × World D)) → IsOpen tree → ((turned : Turn D × World D) → IsGoing turned → IsClosing (next turned)) → IsClosing (tree >>= next)
   open_then (Gives turned) opens goes_on = goes_on turned opens
