@@ -188,7 +188,8 @@ impl State {
     {
         let mut set = [false; MAX_ATOMIC_HISTORY];
         for i in 0..self.kept() {
-            set[i] = !self.is_dropped(thread, views, reader, i)?;
+            let is_dropped = self.is_dropped(thread, views, reader, i)?;
+            set[i] = !is_dropped;
         }
         Ok(set)
     }

@@ -6,10 +6,10 @@ use Rattle.loom_views.proofs.Loops.{any_upto-hit, any_upto-none}
 use Rattle.loom_views.proofs.SlotSets.{set-is}
 use Rattle.loom_views.proofs.rt.atomic.State.readable_in_vectors.Goals as goal
 
-pub returns-in_err-set : goal.returns-in_err-set
-returns-in_err-set c =
-    let same : c.from_residual.result ≡ Err c.in_err-set.field-0.0 = search rules in
-    rw same (c.in_err-set.ensures.0, any_upto-hit (has_equal_order_at (is_same_slot c.args.self.now) (drops_slot c.args.self.now c.args.thread c.args.views.now c.args.reader) c.args.self.now.count) (min c.args.self.now.count 7) c.loop-i.i (omega arith) c.in_err-set.ensures.1)
+pub returns-in_err-is_dropped : goal.returns-in_err-is_dropped
+returns-in_err-is_dropped c =
+    let same : c.from_residual.result ≡ Err c.in_err-is_dropped.field-0.0 = search rules in
+    rw same (c.in_err-is_dropped.ensures.0, any_upto-hit (has_equal_order_at (is_same_slot c.args.self.now) (drops_slot c.args.self.now c.args.thread c.args.views.now c.args.reader) c.args.self.now.count) (min c.args.self.now.count 7) c.loop-i.i (omega arith) c.in_err-is_dropped.ensures.1)
 
 pub returns : goal.returns
 returns c = (

@@ -1,0 +1,6 @@
+use Rattle.std.proofs.Common.{arith}
+use Rattle.std.proofs.lemmas.Grind.{common_steps}
+use Rattle.loom_views.proofs.rt.atomic.State.drops.Goals as goal
+
+pub returns-in-Update : goal.returns-in-Update
+returns-in-Update c = grind (arith, common_steps)
