@@ -2,137 +2,171 @@
 ghost use Rattle.std.specs.Prelude.{◌<◌, ◌↔◌, IsSome, IfSome};
 ghost use Rattle.loom_bench.specs.Names.{IsName};
 
-use loom_ops::sync::atomic::Ordering;
-use loom_scripts::step::CondvarAccess::{NotifyOne, Wait};
-use loom_scripts::step::{Access, MutexAccess, Object, RwLockAccess, Step, Value};
+use loom_objects::operation::{AtomicOp, CondvarOp, MutexOp, Op, RwLockOp, ThreadOp};
+use loom_scripts::step::{END, EXIT, Step, Value};
 use loom_views::rt::change::Change;
+use loom_views::rt::num::Numbers;
+use std::sync::atomic::Ordering;
 
-const FINISH: Step = Step::Finish(Value::Plain(0));
-
-const ADD: Access = Access::Update(Change::Add(1), Ordering::Relaxed);
-
-const LOCK: MutexAccess = MutexAccess::Lock;
-
-const RELEASE: MutexAccess = MutexAccess::Release(Value::Plain(0));
+const FINISH: Step = Step::Do(0, Op::Thread(ThreadOp::Finish(Value::Plain(0)), None));
 
 /// Two threads store to an atomic each, and load from the other's.
 static STORE_BUFFERING: [Step; 13] = [
-    Step::New(0, Object::AtomicU64(0)),
-    Step::New(1, Object::AtomicU64(0)),
-    Step::Spawn(0, 8),
-    Step::Store(1, Value::Plain(1), Ordering::Relaxed),
-    Step::Load(0, 1, Ordering::Relaxed),
-    Step::Join(0, 0),
-    Step::Finish(Value::Both(0, 1)),
+    Step::Do(0, Op::Atomic(AtomicOp::New(Numbers::U64, 0), None)),
+    Step::Do(1, Op::Atomic(AtomicOp::New(Numbers::U64, 0), None)),
+    Step::Do(2, Op::Thread(ThreadOp::Spawn(8, None), None)),
+    Step::Do(
+        0,
+        Op::Atomic(AtomicOp::Store(1, 1, Ordering::Relaxed), None),
+    ),
+    Step::Do(1, Op::Atomic(AtomicOp::Load(0, Ordering::Relaxed), None)),
+    Step::Do(0, Op::Thread(ThreadOp::Join(2, 2), None)),
+    Step::Do(0, Op::Thread(ThreadOp::Finish(Value::Both(0, 1)), None)),
     Step::Jump(11),
-    Step::Store(0, Value::Plain(1), Ordering::Relaxed),
-    Step::Load(1, 0, Ordering::Relaxed),
-    Step::Finish(Value::Held(0)),
-    Step::Exit,
-    Step::End,
+    Step::Do(
+        0,
+        Op::Atomic(AtomicOp::Store(0, 1, Ordering::Relaxed), None),
+    ),
+    Step::Do(0, Op::Atomic(AtomicOp::Load(1, Ordering::Relaxed), None)),
+    Step::Do(0, Op::Thread(ThreadOp::Finish(Value::Held(0)), None)),
+    EXIT,
+    END,
 ];
 
 /// Three threads, of which each loads twice from the next one's atomic, and then stores twice to its own.
 static THREE_THREADS: [Step; 22] = [
-    Step::New(0, Object::AtomicU64(0)),
-    Step::New(1, Object::AtomicU64(0)),
-    Step::New(2, Object::AtomicU64(0)),
-    Step::Spawn(0, 10),
-    Step::Spawn(1, 15),
-    Step::Load(1, 0, Ordering::Relaxed),
-    Step::Load(1, 1, Ordering::Relaxed),
-    Step::Store(0, Value::Plain(1), Ordering::Relaxed),
-    Step::Store(0, Value::Plain(2), Ordering::Relaxed),
+    Step::Do(0, Op::Atomic(AtomicOp::New(Numbers::U64, 0), None)),
+    Step::Do(1, Op::Atomic(AtomicOp::New(Numbers::U64, 0), None)),
+    Step::Do(2, Op::Atomic(AtomicOp::New(Numbers::U64, 0), None)),
+    Step::Do(3, Op::Thread(ThreadOp::Spawn(10, None), None)),
+    Step::Do(4, Op::Thread(ThreadOp::Spawn(15, None), None)),
+    Step::Do(0, Op::Atomic(AtomicOp::Load(1, Ordering::Relaxed), None)),
+    Step::Do(1, Op::Atomic(AtomicOp::Load(1, Ordering::Relaxed), None)),
+    Step::Do(
+        0,
+        Op::Atomic(AtomicOp::Store(0, 1, Ordering::Relaxed), None),
+    ),
+    Step::Do(
+        0,
+        Op::Atomic(AtomicOp::Store(0, 2, Ordering::Relaxed), None),
+    ),
     Step::Jump(19),
-    Step::Load(2, 0, Ordering::Relaxed),
-    Step::Load(2, 1, Ordering::Relaxed),
-    Step::Store(1, Value::Plain(1), Ordering::Relaxed),
-    Step::Store(1, Value::Plain(2), Ordering::Relaxed),
+    Step::Do(0, Op::Atomic(AtomicOp::Load(2, Ordering::Relaxed), None)),
+    Step::Do(1, Op::Atomic(AtomicOp::Load(2, Ordering::Relaxed), None)),
+    Step::Do(
+        0,
+        Op::Atomic(AtomicOp::Store(1, 1, Ordering::Relaxed), None),
+    ),
+    Step::Do(
+        0,
+        Op::Atomic(AtomicOp::Store(1, 2, Ordering::Relaxed), None),
+    ),
     Step::Jump(19),
-    Step::Load(0, 0, Ordering::Relaxed),
-    Step::Load(0, 1, Ordering::Relaxed),
-    Step::Store(2, Value::Plain(1), Ordering::Relaxed),
-    Step::Store(2, Value::Plain(2), Ordering::Relaxed),
+    Step::Do(0, Op::Atomic(AtomicOp::Load(0, Ordering::Relaxed), None)),
+    Step::Do(1, Op::Atomic(AtomicOp::Load(0, Ordering::Relaxed), None)),
+    Step::Do(
+        0,
+        Op::Atomic(AtomicOp::Store(2, 1, Ordering::Relaxed), None),
+    ),
+    Step::Do(
+        0,
+        Op::Atomic(AtomicOp::Store(2, 2, Ordering::Relaxed), None),
+    ),
     FINISH,
-    Step::Exit,
-    Step::End,
+    EXIT,
+    END,
 ];
 
 /// Three threads, of which each adds to one atomic twice. Main is one of them, and joins the others.
 static THREE_ADDS: [Step; 13] = [
-    Step::New(0, Object::AtomicU64(0)),
-    Step::Spawn(0, 8),
-    Step::Spawn(1, 8),
-    Step::Access(0, 0, ADD),
-    Step::Access(0, 0, ADD),
-    Step::Join(0, 0),
-    Step::Join(1, 0),
+    Step::Do(0, Op::Atomic(AtomicOp::New(Numbers::U64, 0), None)),
+    Step::Do(1, Op::Thread(ThreadOp::Spawn(8, None), None)),
+    Step::Do(2, Op::Thread(ThreadOp::Spawn(8, None), None)),
+    Step::Do(
+        0,
+        Op::Atomic(AtomicOp::Update(0, Change::Add(1), Ordering::Relaxed), None),
+    ),
+    Step::Do(
+        0,
+        Op::Atomic(AtomicOp::Update(0, Change::Add(1), Ordering::Relaxed), None),
+    ),
+    Step::Do(0, Op::Thread(ThreadOp::Join(1, 1), None)),
+    Step::Do(0, Op::Thread(ThreadOp::Join(2, 2), None)),
     Step::Jump(10),
-    Step::Access(0, 0, ADD),
-    Step::Access(0, 0, ADD),
+    Step::Do(
+        0,
+        Op::Atomic(AtomicOp::Update(0, Change::Add(1), Ordering::Relaxed), None),
+    ),
+    Step::Do(
+        0,
+        Op::Atomic(AtomicOp::Update(0, Change::Add(1), Ordering::Relaxed), None),
+    ),
     FINISH,
-    Step::Exit,
-    Step::End,
+    EXIT,
+    END,
 ];
 
 /// Two threads lock two mutexes in the same order, beside a main that joins them.
 static LOCKS_IN_TURN: [Step; 16] = [
-    Step::New(0, Object::Mutex(0)),
-    Step::New(1, Object::Mutex(0)),
-    Step::Spawn(0, 9),
-    Step::Spawn(1, 9),
-    Step::Join(0, 0),
-    Step::Join(1, 0),
+    Step::Do(0, Op::Mutex(MutexOp::New(Value::Plain(0)), None)),
+    Step::Do(1, Op::Mutex(MutexOp::New(Value::Plain(0)), None)),
+    Step::Do(2, Op::Thread(ThreadOp::Spawn(9, None), None)),
+    Step::Do(3, Op::Thread(ThreadOp::Spawn(9, None), None)),
+    Step::Do(0, Op::Thread(ThreadOp::Join(2, 2), None)),
+    Step::Do(0, Op::Thread(ThreadOp::Join(3, 3), None)),
     FINISH,
-    Step::Exit,
-    Step::End,
-    Step::Mutex(0, 0, LOCK),
-    Step::Mutex(1, 0, LOCK),
-    Step::Mutex(1, 0, RELEASE),
-    Step::Mutex(0, 0, RELEASE),
+    EXIT,
+    END,
+    Step::Do(0, Op::Mutex(MutexOp::Lock(0), None)),
+    Step::Do(0, Op::Mutex(MutexOp::Lock(1), None)),
+    Step::Do(0, Op::Mutex(MutexOp::Release(1, Value::Plain(0)), None)),
+    Step::Do(0, Op::Mutex(MutexOp::Release(0, Value::Plain(0)), None)),
     FINISH,
-    Step::Exit,
-    Step::End,
+    EXIT,
+    END,
 ];
 
 /// Two threads add to what a lock holds, one after the other, beside a main that reads it. Main joins them.
 static WRITERS_BESIDE_A_READER: [Step; 15] = [
-    Step::New(0, Object::RwLock(0)),
-    Step::Spawn(0, 10),
-    Step::Spawn(1, 10),
-    Step::RwLock(0, 0, RwLockAccess::Read),
-    Step::RwLock(0, 0, RwLockAccess::ReadRelease),
-    Step::Join(0, 0),
-    Step::Join(1, 0),
+    Step::Do(0, Op::RwLock(RwLockOp::New(Value::Plain(0)), None)),
+    Step::Do(1, Op::Thread(ThreadOp::Spawn(10, None), None)),
+    Step::Do(2, Op::Thread(ThreadOp::Spawn(10, None), None)),
+    Step::Do(0, Op::RwLock(RwLockOp::Read(0), None)),
+    Step::Do(0, Op::RwLock(RwLockOp::ReadRelease(0), None)),
+    Step::Do(0, Op::Thread(ThreadOp::Join(1, 1), None)),
+    Step::Do(0, Op::Thread(ThreadOp::Join(2, 2), None)),
     FINISH,
-    Step::Exit,
-    Step::End,
-    Step::RwLock(0, 0, RwLockAccess::Write),
-    Step::RwLock(0, 1, RwLockAccess::WriteRelease(Value::Next(0))),
+    EXIT,
+    END,
+    Step::Do(0, Op::RwLock(RwLockOp::Write(0), None)),
+    Step::Do(
+        1,
+        Op::RwLock(RwLockOp::WriteRelease(0, Value::Next(0)), None),
+    ),
     FINISH,
-    Step::Exit,
-    Step::End,
+    EXIT,
+    END,
 ];
 
 /// A thread leaves 1 in a mutex and notifies. Main waits for that unless the 1 is there, and joins the thread.
 static WAIT_AND_NOTIFY: [Step; 17] = [
-    Step::New(0, Object::Mutex(0)),
-    Step::New(0, Object::Condvar),
-    Step::Spawn(0, 11),
-    Step::Mutex(0, 0, LOCK),
+    Step::Do(0, Op::Mutex(MutexOp::New(Value::Plain(0)), None)),
+    Step::Do(1, Op::Condvar(CondvarOp::New, None)),
+    Step::Do(2, Op::Thread(ThreadOp::Spawn(11, None), None)),
+    Step::Do(0, Op::Mutex(MutexOp::Lock(0), None)),
     Step::Unless(0, 0, 6),
-    Step::Condvar(0, 0, Wait(0, Value::Plain(0))),
-    Step::Mutex(0, 1, MutexAccess::Release(Value::Held(0))),
-    Step::Join(0, 1),
+    Step::Do(0, Op::Condvar(CondvarOp::Wait(1, 0, Value::Plain(0)), None)),
+    Step::Do(1, Op::Mutex(MutexOp::Release(0, Value::Held(0)), None)),
+    Step::Do(1, Op::Thread(ThreadOp::Join(2, 2), None)),
     FINISH,
-    Step::Exit,
-    Step::End,
-    Step::Mutex(0, 0, LOCK),
-    Step::Mutex(0, 0, MutexAccess::Release(Value::Plain(1))),
-    Step::Condvar(0, 0, NotifyOne),
+    EXIT,
+    END,
+    Step::Do(0, Op::Mutex(MutexOp::Lock(0), None)),
+    Step::Do(0, Op::Mutex(MutexOp::Release(0, Value::Plain(1)), None)),
+    Step::Do(0, Op::Condvar(CondvarOp::NotifyOne(1), None)),
     FINISH,
-    Step::Exit,
-    Step::End,
+    EXIT,
+    END,
 ];
 
 /// A body, and how often it is checked.

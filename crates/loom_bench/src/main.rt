@@ -6,7 +6,8 @@ ghost use Rattle.std.specs.Duration.{as_nanos};
 ghost use Rattle.loom_runs.specs.Runs.{runs as runs_of};
 ghost use Rattle.loom.specs.Check.{ReportsAlone};
 ghost use Rattle.loom.specs.declared.model.Report.TheVariants.{Complete};
-ghost use Rattle.loom_scripts.specs.Script.{started, next_of};
+ghost use Rattle.loom_scripts.specs.Running.{started};
+ghost use Rattle.loom_scripts.specs.Script.{next_of};
 
 mod bodies;
 
@@ -81,9 +82,11 @@ fn measure(rt: &HostRuntime, name: &str, body: Measured) -> io::Result<u8> {
 
 /// The number of runs of a check, once all checks were made; None where one isn't complete, or none is to be made.
 fn check_often(alloc: Global, body: Measured) -> Option<u64>
-    ensures { IfSome result (λ runs. ReportsAlone 1000 (runs_of next_of 5 1000000 (started body.steps)) (Complete runs)) }
+    ensures { IfSome result (λ runs. ReportsAlone 1000 (runs_of next_of 5 1000000 (started body.steps.now)) (Complete runs)) }
 {
-    let script = Script::new(body.steps);
+    let Ok(script) = Script::new(alloc, body.steps) else {
+        return None;
+    };
     let mut made = None;
     for _ in 0..body.checks {
         match Builder::new().check(alloc, &script) {

@@ -1,14 +1,7 @@
 //! Prints what a check of a named row finds.
 #![tactic(auto)]
 
-mod bodies;
-mod guide;
-mod line;
-mod rows;
-#[cfg(test)]
-mod tests;
-mod updates;
-
+use loom_row_bodies::rows;
 use std::process::ExitCode;
 use std::{env, io};
 

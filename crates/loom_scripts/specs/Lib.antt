@@ -1,2 +1,5 @@
 pub mod Number
+pub mod Operations
+pub mod Running
 pub mod Script
+pub mod Slots

@@ -2,5 +2,7 @@
 #![tactic(auto)]
 
 pub mod number;
+mod operations;
 pub mod script;
+pub mod state;
 pub mod step;

@@ -1,0 +1,208 @@
+//! The scripts of the rows.
+
+pub mod atomics;
+pub mod cells;
+pub mod locks;
+
+use loom::sync::atomic::Ordering::{Acquire, Relaxed, Release};
+use loom_objects::operation::{AtomicOp, MutexOp, Op, ThreadOp};
+use loom_scripts::step::{END, EXIT, FAIL, Step, Value};
+use loom_views::rt::num::Numbers;
+
+/// Main finishes, exits and ends.
+pub static FINISH_ONLY: [Step; 3] = [
+    Step::Do(0, Op::Thread(ThreadOp::Finish(Value::Plain(7)), None)),
+    EXIT,
+    END,
+];
+
+/// Main spawns a thread, which does nothing but end.
+pub static SPAWN_ONLY: [Step; 7] = [
+    Step::Do(0, Op::Thread(ThreadOp::Spawn(4, None), None)),
+    Step::Do(0, Op::Thread(ThreadOp::Finish(Value::Plain(7)), None)),
+    EXIT,
+    END,
+    Step::Do(0, Op::Thread(ThreadOp::Finish(Value::Plain(3)), None)),
+    EXIT,
+    END,
+];
+
+/// Main locks a mutex beside a thread that does nothing but end.
+pub static LOCK_BESIDE: [Step; 10] = [
+    Step::Do(0, Op::Mutex(MutexOp::New(Value::Plain(0)), None)),
+    Step::Do(1, Op::Thread(ThreadOp::Spawn(7, None), None)),
+    Step::Do(0, Op::Mutex(MutexOp::Lock(0), None)),
+    Step::Do(0, Op::Mutex(MutexOp::Release(0, Value::Plain(0)), None)),
+    Step::Do(0, Op::Thread(ThreadOp::Finish(Value::Plain(7)), None)),
+    EXIT,
+    END,
+    Step::Do(0, Op::Thread(ThreadOp::Finish(Value::Plain(3)), None)),
+    EXIT,
+    END,
+];
+
+/// Main makes mutexes without end.
+pub static MUTEX_FOREVER: [Step; 2] = [
+    Step::Do(0, Op::Mutex(MutexOp::New(Value::Plain(0)), None)),
+    Step::Jump(0),
+];
+
+/// Main's assertion fails.
+pub static FAIL_AT_ONCE: [Step; 1] = [FAIL];
+
+/// One thread locks a mutex and then another, a second thread the other and then the one. Main joins them.
+pub static TWO_MUTEXES_DEADLOCK: [Step; 23] = [
+    Step::Do(0, Op::Mutex(MutexOp::New(Value::Plain(0)), None)),
+    Step::Do(1, Op::Mutex(MutexOp::New(Value::Plain(0)), None)),
+    Step::Do(2, Op::Thread(ThreadOp::Spawn(9, None), None)),
+    Step::Do(3, Op::Thread(ThreadOp::Spawn(16, None), None)),
+    Step::Do(0, Op::Thread(ThreadOp::Join(2, 2), None)),
+    Step::Do(1, Op::Thread(ThreadOp::Join(3, 3), None)),
+    Step::Do(0, Op::Thread(ThreadOp::Finish(Value::Plain(0)), None)),
+    EXIT,
+    END,
+    Step::Do(0, Op::Mutex(MutexOp::Lock(0), None)),
+    Step::Do(0, Op::Mutex(MutexOp::Lock(1), None)),
+    Step::Do(0, Op::Mutex(MutexOp::Release(1, Value::Plain(0)), None)),
+    Step::Do(0, Op::Mutex(MutexOp::Release(0, Value::Plain(0)), None)),
+    Step::Do(0, Op::Thread(ThreadOp::Finish(Value::Plain(1)), None)),
+    EXIT,
+    END,
+    Step::Do(0, Op::Mutex(MutexOp::Lock(1), None)),
+    Step::Do(0, Op::Mutex(MutexOp::Lock(0), None)),
+    Step::Do(0, Op::Mutex(MutexOp::Release(0, Value::Plain(0)), None)),
+    Step::Do(0, Op::Mutex(MutexOp::Release(1, Value::Plain(0)), None)),
+    Step::Do(0, Op::Thread(ThreadOp::Finish(Value::Plain(2)), None)),
+    EXIT,
+    END,
+];
+
+/// Main loads from an atomic beside a thread that stores 1 into it, and finishes with what it loaded.
+pub static LOAD_BESIDE: [Step; 10] = [
+    Step::Do(0, Op::Atomic(AtomicOp::New(Numbers::U64, 0), None)),
+    Step::Do(1, Op::Thread(ThreadOp::Spawn(6, None), None)),
+    Step::Do(0, Op::Atomic(AtomicOp::Load(0, Relaxed), None)),
+    Step::Do(0, Op::Thread(ThreadOp::Finish(Value::Held(0)), None)),
+    EXIT,
+    END,
+    Step::Do(0, Op::Atomic(AtomicOp::Store(0, 1, Relaxed), None)),
+    Step::Do(0, Op::Thread(ThreadOp::Finish(Value::Plain(0)), None)),
+    EXIT,
+    END,
+];
+
+/// Main stores 1 to 7 into an atomic, loads from it, and finishes with what it loaded.
+pub static STORE_SEVEN: [Step; 12] = [
+    Step::Do(0, Op::Atomic(AtomicOp::New(Numbers::U64, 0), None)),
+    Step::Do(0, Op::Atomic(AtomicOp::Store(0, 1, Relaxed), None)),
+    Step::Do(0, Op::Atomic(AtomicOp::Store(0, 2, Relaxed), None)),
+    Step::Do(0, Op::Atomic(AtomicOp::Store(0, 3, Relaxed), None)),
+    Step::Do(0, Op::Atomic(AtomicOp::Store(0, 4, Relaxed), None)),
+    Step::Do(0, Op::Atomic(AtomicOp::Store(0, 5, Relaxed), None)),
+    Step::Do(0, Op::Atomic(AtomicOp::Store(0, 6, Relaxed), None)),
+    Step::Do(0, Op::Atomic(AtomicOp::Store(0, 7, Relaxed), None)),
+    Step::Do(0, Op::Atomic(AtomicOp::Load(0, Relaxed), None)),
+    Step::Do(0, Op::Thread(ThreadOp::Finish(Value::Held(0)), None)),
+    EXIT,
+    END,
+];
+
+/// Two threads store 1, each into an atomic of its own, and then load from the other's. Main is one of them, and finishes
+/// with ten times what the other thread loaded and what it loaded itself (loom's `tests/litmus.rs`).
+pub static STORE_BUFFERING: [Step; 14] = [
+    Step::Do(0, Op::Atomic(AtomicOp::New(Numbers::U64, 0), None)),
+    Step::Do(1, Op::Atomic(AtomicOp::New(Numbers::U64, 0), None)),
+    Step::Do(2, Op::Thread(ThreadOp::Spawn(9, None), None)),
+    Step::Do(0, Op::Atomic(AtomicOp::Store(1, 1, Relaxed), None)),
+    Step::Do(1, Op::Atomic(AtomicOp::Load(0, Relaxed), None)),
+    Step::Do(0, Op::Thread(ThreadOp::Join(2, 2), None)),
+    Step::Do(0, Op::Thread(ThreadOp::Finish(Value::Both(0, 1)), None)),
+    EXIT,
+    END,
+    Step::Do(0, Op::Atomic(AtomicOp::Store(0, 1, Relaxed), None)),
+    Step::Do(0, Op::Atomic(AtomicOp::Load(1, Relaxed), None)),
+    Step::Do(0, Op::Thread(ThreadOp::Finish(Value::Held(0)), None)),
+    EXIT,
+    END,
+];
+
+/// Main loads from one atomic and stores 1 into another, beside a thread that stores into the one what it loads from the
+/// other. Main finishes with what it loaded (loom's `tests/litmus.rs`).
+pub static LOAD_BUFFERING: [Step; 14] = [
+    Step::Do(0, Op::Atomic(AtomicOp::New(Numbers::U64, 0), None)),
+    Step::Do(1, Op::Atomic(AtomicOp::New(Numbers::U64, 0), None)),
+    Step::Do(2, Op::Thread(ThreadOp::Spawn(9, None), None)),
+    Step::Do(0, Op::Atomic(AtomicOp::Load(0, Relaxed), None)),
+    Step::Do(0, Op::Atomic(AtomicOp::Store(1, 1, Relaxed), None)),
+    Step::Do(1, Op::Thread(ThreadOp::Join(2, 2), None)),
+    Step::Do(0, Op::Thread(ThreadOp::Finish(Value::Held(0)), None)),
+    EXIT,
+    END,
+    Step::Do(0, Op::Atomic(AtomicOp::Load(1, Relaxed), None)),
+    Step::Store(0, Value::Held(0), Relaxed),
+    Step::Do(0, Op::Thread(ThreadOp::Finish(Value::Plain(0)), None)),
+    EXIT,
+    END,
+];
+
+/// A thread stores 1 into one atomic and releases it by a second. Where main acquires that, it asserts that it loads the 1
+/// (loom's `tests/atomic_relaxed.rs`).
+pub static CHECK_ORDERING_VALID: [Step; 16] = [
+    Step::Do(0, Op::Atomic(AtomicOp::New(Numbers::U64, 0), None)),
+    Step::Do(1, Op::Atomic(AtomicOp::New(Numbers::U64, 0), None)),
+    Step::Do(2, Op::Thread(ThreadOp::Spawn(11, None), None)),
+    Step::Do(0, Op::Atomic(AtomicOp::Load(1, Acquire), None)),
+    Step::Unless(0, 1, 7),
+    Step::Do(1, Op::Atomic(AtomicOp::Load(0, Relaxed), None)),
+    Step::Unless(1, 1, 10),
+    Step::Do(0, Op::Thread(ThreadOp::Finish(Value::Both(0, 1)), None)),
+    EXIT,
+    END,
+    FAIL,
+    Step::Do(0, Op::Atomic(AtomicOp::Store(0, 1, Relaxed), None)),
+    Step::Do(0, Op::Atomic(AtomicOp::Store(1, 1, Release), None)),
+    Step::Do(0, Op::Thread(ThreadOp::Finish(Value::Plain(0)), None)),
+    EXIT,
+    END,
+];
+
+/// The same, but main doesn't acquire (loom's `tests/atomic_relaxed.rs`).
+pub static CHECK_ORDERING_INVALID_1: [Step; 16] = [
+    Step::Do(0, Op::Atomic(AtomicOp::New(Numbers::U64, 0), None)),
+    Step::Do(1, Op::Atomic(AtomicOp::New(Numbers::U64, 0), None)),
+    Step::Do(2, Op::Thread(ThreadOp::Spawn(11, None), None)),
+    Step::Do(0, Op::Atomic(AtomicOp::Load(1, Relaxed), None)),
+    Step::Unless(0, 1, 7),
+    Step::Do(1, Op::Atomic(AtomicOp::Load(0, Relaxed), None)),
+    Step::Unless(1, 1, 10),
+    Step::Do(0, Op::Thread(ThreadOp::Finish(Value::Both(0, 1)), None)),
+    EXIT,
+    END,
+    FAIL,
+    Step::Do(0, Op::Atomic(AtomicOp::Store(0, 1, Relaxed), None)),
+    Step::Do(0, Op::Atomic(AtomicOp::Store(1, 1, Release), None)),
+    Step::Do(0, Op::Thread(ThreadOp::Finish(Value::Plain(0)), None)),
+    EXIT,
+    END,
+];
+
+/// Two threads each store one more than they load. Main joins them, and asserts that 2 is loaded then (loom's
+/// `tests/smoke.rs`).
+pub static CHECKS_FAIL: [Step; 16] = [
+    Step::Do(0, Op::Atomic(AtomicOp::New(Numbers::U64, 0), None)),
+    Step::Do(1, Op::Thread(ThreadOp::Spawn(11, None), None)),
+    Step::Do(2, Op::Thread(ThreadOp::Spawn(11, None), None)),
+    Step::Do(1, Op::Thread(ThreadOp::Join(1, 1), None)),
+    Step::Do(2, Op::Thread(ThreadOp::Join(2, 2), None)),
+    Step::Do(0, Op::Atomic(AtomicOp::Load(0, Relaxed), None)),
+    Step::Unless(0, 2, 10),
+    Step::Do(0, Op::Thread(ThreadOp::Finish(Value::Held(0)), None)),
+    EXIT,
+    END,
+    FAIL,
+    Step::Do(0, Op::Atomic(AtomicOp::Load(0, Acquire), None)),
+    Step::Store(0, Value::Next(0), Release),
+    Step::Do(0, Op::Thread(ThreadOp::Finish(Value::Plain(0)), None)),
+    EXIT,
+    END,
+];

@@ -1,0 +1,228 @@
+//! The scripts of the rows about atomics and fences.
+use loom::sync::atomic::Ordering::{Relaxed, SeqCst};
+use loom_objects::operation::{AtomicOp, Exchange, Op, ThreadOp};
+use loom_scripts::step::{END, EXIT, FAIL, Step, Value};
+use loom_views::rt::change::Change::{Add, Max, Min, Nand, Xor};
+use loom_views::rt::num::Numbers;
+
+/// A number of 64 bits (loom's `tests/atomic_int.rs`).
+pub const NUM_A: u64 = 11641914933775430211;
+
+/// Another one (loom's `tests/atomic_int.rs`).
+pub const NUM_B: u64 = 13209405719799650717;
+
+/// The 64 bits of -99.
+const MINUS_99: u64 = 18446744073709551517;
+
+/// Main asserts what each function of a `u8` replies and leaves.
+pub static U8_FUNCTIONS: [Step; 34] = [
+    Step::Do(0, Op::Atomic(AtomicOp::New(Numbers::U8, 67), None)),
+    Step::Do(0, Op::Atomic(AtomicOp::Update(0, Xor(157), SeqCst), None)),
+    Step::Unless(0, 67, 33),
+    Step::Do(1, Op::Atomic(AtomicOp::Load(0, SeqCst), None)),
+    Step::Unless(1, 222, 33),
+    Step::Do(0, Op::Atomic(AtomicOp::New(Numbers::U8, 67), None)),
+    Step::Do(0, Op::Atomic(AtomicOp::Update(0, Nand(157), SeqCst), None)),
+    Step::Unless(0, 67, 33),
+    Step::Do(1, Op::Atomic(AtomicOp::Load(0, SeqCst), None)),
+    Step::Unless(1, 254, 33),
+    Step::Do(0, Op::Atomic(AtomicOp::New(Numbers::U8, 67), None)),
+    Step::Do(0, Op::Atomic(AtomicOp::Update(0, Max(157), SeqCst), None)),
+    Step::Unless(0, 67, 33),
+    Step::Do(1, Op::Atomic(AtomicOp::Load(0, SeqCst), None)),
+    Step::Unless(1, 157, 33),
+    Step::Do(0, Op::Atomic(AtomicOp::New(Numbers::U8, 67), None)),
+    Step::Do(0, Op::Atomic(AtomicOp::Update(0, Min(157), SeqCst), None)),
+    Step::Unless(0, 67, 33),
+    Step::Do(1, Op::Atomic(AtomicOp::Load(0, SeqCst), None)),
+    Step::Unless(1, 67, 33),
+    Step::Do(0, Op::Atomic(AtomicOp::New(Numbers::U8, 67), None)),
+    Step::Do(0, Op::Atomic(AtomicOp::Update(0, Add(157), SeqCst), None)),
+    Step::Unless(0, 67, 33),
+    Step::Do(1, Op::Atomic(AtomicOp::Load(0, SeqCst), None)),
+    Step::Unless(1, 224, 33),
+    Step::Do(0, Op::Atomic(AtomicOp::New(Numbers::U8, 255), None)),
+    Step::Do(0, Op::Atomic(AtomicOp::Update(0, Add(1), SeqCst), None)),
+    Step::Unless(0, 255, 33),
+    Step::Do(1, Op::Atomic(AtomicOp::Load(0, SeqCst), None)),
+    Step::Unless(1, 0, 33),
+    Step::Do(0, Op::Thread(ThreadOp::Finish(Value::Plain(0)), None)),
+    EXIT,
+    END,
+    FAIL,
+];
+
+/// Main asserts which of 67 and -99 is the larger `i8`, and which the smaller.
+pub static I8_FUNCTIONS: [Step; 14] = [
+    Step::Do(0, Op::Atomic(AtomicOp::New(Numbers::I8, 67), None)),
+    Step::Do(
+        0,
+        Op::Atomic(AtomicOp::Update(0, Max(MINUS_99), SeqCst), None),
+    ),
+    Step::Unless(0, 67, 13),
+    Step::Do(1, Op::Atomic(AtomicOp::Load(0, SeqCst), None)),
+    Step::Unless(1, 67, 13),
+    Step::Do(0, Op::Atomic(AtomicOp::New(Numbers::I8, 67), None)),
+    Step::Do(
+        0,
+        Op::Atomic(AtomicOp::Update(0, Min(MINUS_99), SeqCst), None),
+    ),
+    Step::Unless(0, 67, 13),
+    Step::Do(1, Op::Atomic(AtomicOp::Load(0, SeqCst), None)),
+    Step::Unless(1, MINUS_99, 13),
+    Step::Do(0, Op::Thread(ThreadOp::Finish(Value::Plain(0)), None)),
+    EXIT,
+    END,
+    FAIL,
+];
+
+/// Main asserts that the nand of true and true replies true and leaves false.
+pub static BOOL_NAND: [Step; 9] = [
+    Step::Do(0, Op::Atomic(AtomicOp::New(Numbers::Bool, 1), None)),
+    Step::Do(0, Op::Atomic(AtomicOp::Update(0, Nand(1), SeqCst), None)),
+    Step::Unless(0, 1, 8),
+    Step::Do(1, Op::Atomic(AtomicOp::Load(0, SeqCst), None)),
+    Step::Unless(1, 0, 8),
+    Step::Do(0, Op::Thread(ThreadOp::Finish(Value::Plain(0)), None)),
+    EXIT,
+    END,
+    FAIL,
+];
+
+/// Of two exchanges of a number, the first expects another one and fails. Main asserts that, and finishes with what is loaded
+/// after the second (loom's `tests/atomic_int.rs`).
+pub static COMPARE_EXCHANGE: [Step; 10] = [
+    Step::Do(0, Op::Atomic(AtomicOp::New(Numbers::U64, NUM_A), None)),
+    Step::Do(0, Op::Atomic(AtomicOp::CompareExchange(0, FAILS), None)),
+    Step::Unless(3, NUM_A, 9),
+    Step::Do(1, Op::Atomic(AtomicOp::CompareExchange(0, SUCCEEDS), None)),
+    Step::Unless(1, NUM_A, 9),
+    Step::Do(2, Op::Atomic(AtomicOp::Load(0, SeqCst), None)),
+    Step::Do(0, Op::Thread(ThreadOp::Finish(Value::Held(2)), None)),
+    EXIT,
+    END,
+    FAIL,
+];
+
+const FAILS: Exchange = Exchange {
+    expected: NUM_B,
+    new: NUM_A,
+    success: SeqCst,
+    failure: SeqCst,
+};
+
+const SUCCEEDS: Exchange = Exchange {
+    expected: NUM_A,
+    new: NUM_B,
+    success: SeqCst,
+    failure: SeqCst,
+};
+
+/// A thread loads without synchronizing, beside a store of main (loom's `tests/atomic.rs`).
+pub static UNSYNC_RACE: [Step; 11] = [
+    Step::Do(0, Op::Atomic(AtomicOp::New(Numbers::U64, 0), None)),
+    Step::Do(1, Op::Thread(ThreadOp::Spawn(7, None), None)),
+    Step::Do(0, Op::Atomic(AtomicOp::Store(0, 1, Relaxed), None)),
+    Step::Do(0, Op::Thread(ThreadOp::Join(1, 1), None)),
+    Step::Do(0, Op::Thread(ThreadOp::Finish(Value::Plain(0)), None)),
+    EXIT,
+    END,
+    Step::Do(0, Op::Atomic(AtomicOp::UnsyncLoad(0), None)),
+    Step::Do(0, Op::Thread(ThreadOp::Finish(Value::Plain(0)), None)),
+    EXIT,
+    END,
+];
+
+/// Main loads while its own mutation is open.
+pub static LOAD_IN_WITH_MUT: [Step; 7] = [
+    Step::Do(0, Op::Atomic(AtomicOp::New(Numbers::U64, 0), None)),
+    Step::Do(0, Op::Atomic(AtomicOp::WithMut(0), None)),
+    Step::Do(0, Op::Atomic(AtomicOp::Load(0, SeqCst), None)),
+    Step::Do(0, Op::Atomic(AtomicOp::WithMutEnd(0, 0), None)),
+    Step::Do(0, Op::Thread(ThreadOp::Finish(Value::Plain(0)), None)),
+    EXIT,
+    END,
+];
+
+/// Main makes a relaxed fence, which fails.
+pub static RELAXED_FENCE: [Step; 4] = [
+    Step::Do(0, Op::Fence(Relaxed, None)),
+    Step::Do(0, Op::Thread(ThreadOp::Finish(Value::Plain(0)), None)),
+    EXIT,
+    END,
+];
+
+/// Main loads without synchronizing, without end.
+pub static UNSYNC_LOAD_FOREVER: [Step; 3] = [
+    Step::Do(0, Op::Atomic(AtomicOp::New(Numbers::U64, 0), None)),
+    Step::Do(0, Op::Atomic(AtomicOp::UnsyncLoad(0), None)),
+    Step::Jump(1),
+];
+
+/// Two threads set a truth value each, and then load the other's, with a fence between. Main is one of them, and finishes with
+/// ten times what the other thread loaded and what it loaded itself (loom's `tests/fence.rs`).
+pub static SB_FENCES: [Step; 16] = [
+    Step::Do(0, Op::Atomic(AtomicOp::New(Numbers::Bool, 0), None)),
+    Step::Do(1, Op::Atomic(AtomicOp::New(Numbers::Bool, 0), None)),
+    Step::Do(2, Op::Thread(ThreadOp::Spawn(10, None), None)),
+    Step::Do(0, Op::Atomic(AtomicOp::Store(1, 1, Relaxed), None)),
+    Step::Do(0, Op::Fence(SeqCst, None)),
+    Step::Do(1, Op::Atomic(AtomicOp::Load(0, Relaxed), None)),
+    Step::Do(0, Op::Thread(ThreadOp::Join(2, 2), None)),
+    Step::Do(0, Op::Thread(ThreadOp::Finish(Value::Both(0, 1)), None)),
+    EXIT,
+    END,
+    Step::Do(0, Op::Atomic(AtomicOp::Store(0, 1, Relaxed), None)),
+    Step::Do(0, Op::Fence(SeqCst, None)),
+    Step::Do(0, Op::Atomic(AtomicOp::Load(1, Relaxed), None)),
+    Step::Do(0, Op::Thread(ThreadOp::Finish(Value::Held(0)), None)),
+    EXIT,
+    END,
+];
+
+/// Two threads add 1 to the same number. Main is one of them, and finishes with ten times what the other thread read and what
+/// it read itself (loom's `tests/atomic.rs`).
+pub static FETCH_ADD_ATOMIC: [Step; 11] = [
+    Step::Do(0, Op::Atomic(AtomicOp::New(Numbers::U64, 0), None)),
+    Step::Do(1, Op::Thread(ThreadOp::Spawn(7, None), None)),
+    Step::Do(1, Op::Atomic(AtomicOp::Update(0, Add(1), Relaxed), None)),
+    Step::Do(0, Op::Thread(ThreadOp::Join(1, 1), None)),
+    Step::Do(0, Op::Thread(ThreadOp::Finish(Value::Both(0, 1)), None)),
+    EXIT,
+    END,
+    Step::Do(0, Op::Atomic(AtomicOp::Update(0, Add(1), Relaxed), None)),
+    Step::Do(0, Op::Thread(ThreadOp::Finish(Value::Held(0)), None)),
+    EXIT,
+    END,
+];
+
+/// Three threads whose stores and loads come to two stores with equal places in the modification order.
+pub static ORDERS_EQUAL: [Step; 17] = [
+    Step::Do(0, Op::Atomic(AtomicOp::New(Numbers::U64, 0), None)),
+    Step::Do(1, Op::Thread(ThreadOp::Spawn(8, None), None)),
+    Step::Do(0, Op::Atomic(AtomicOp::Store(0, 3, Relaxed), None)),
+    Step::Do(2, Op::Thread(ThreadOp::Spawn(12, None), None)),
+    Step::Do(0, Op::Atomic(AtomicOp::Load(0, Relaxed), None)),
+    Step::Do(0, Op::Thread(ThreadOp::Finish(Value::Plain(0)), None)),
+    EXIT,
+    END,
+    Step::Do(0, Op::Atomic(AtomicOp::Store(0, 0, Relaxed), None)),
+    Step::Do(0, Op::Atomic(AtomicOp::Store(0, 0, Relaxed), None)),
+    Step::Do(0, Op::Atomic(AtomicOp::Update(0, Add(1), Relaxed), None)),
+    Step::Jump(14),
+    Step::Do(0, Op::Atomic(AtomicOp::Load(0, Relaxed), None)),
+    Step::Do(
+        0,
+        Op::Atomic(AtomicOp::CompareExchange(0, TWO_BY_TWO), None),
+    ),
+    Step::Do(0, Op::Thread(ThreadOp::Finish(Value::Plain(0)), None)),
+    EXIT,
+    END,
+];
+
+const TWO_BY_TWO: Exchange = Exchange {
+    expected: 2,
+    new: 2,
+    success: Relaxed,
+    failure: Relaxed,
+};

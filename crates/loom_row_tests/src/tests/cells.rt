@@ -1,0 +1,85 @@
+//! Cells, counted references and tracked values: what their rows print and find.
+use super::{NONE, ZERO, runs_of};
+use loom::model::{Builder, Report};
+use loom::{Choice, FailureKind};
+use loom_objects::operation::{CellOp, Op, ThreadOp};
+use loom_row_bodies::bodies::cells::{ARC_COUNT, ARC_UNWRAP};
+use loom_scripts::number::Number;
+use loom_scripts::script::Script;
+use loom_scripts::step::{END, EXIT, Step, Value};
+use std::process::Abort;
+use std::test::Fail;
+
+// Main exchanges the data of two cells, the second of which a thread writes.
+static SWAP_BESIDE_A_WRITE: [Step; 12] = [
+    Step::Do(0, Op::Cell(CellOp::New(Value::Plain(1)), None)),
+    Step::Do(1, Op::Cell(CellOp::New(Value::Plain(2)), None)),
+    Step::Do(2, Op::Thread(ThreadOp::Spawn(8, None), None)),
+    Step::Do(0, Op::Cell(CellOp::Swap(0, 1), None)),
+    Step::Do(0, Op::Thread(ThreadOp::Join(2, 2), None)),
+    Step::Do(0, Op::Thread(ThreadOp::Finish(Value::Plain(0)), None)),
+    EXIT,
+    END,
+    Step::Do(0, Op::Cell(CellOp::Replace(1, Value::Plain(5)), None)),
+    Step::Do(0, Op::Thread(ThreadOp::Finish(Value::Plain(0)), None)),
+    EXIT,
+    END,
+];
+
+// Main exchanges the data of a cell and itself, which a thread writes, and finishes with what the cell holds then.
+static SWAP_WITH_ITSELF: [Step; 12] = [
+    Step::Do(0, Op::Cell(CellOp::New(Value::Plain(7)), None)),
+    Step::Do(1, Op::Thread(ThreadOp::Spawn(8, None), None)),
+    Step::Do(0, Op::Cell(CellOp::Swap(0, 0), None)),
+    Step::Do(0, Op::Thread(ThreadOp::Join(1, 1), None)),
+    Step::Do(1, Op::Cell(CellOp::Get(0), None)),
+    Step::Do(0, Op::Thread(ThreadOp::Finish(Value::Held(1)), None)),
+    EXIT,
+    END,
+    Step::Do(0, Op::Cell(CellOp::Replace(0, Value::Plain(8)), None)),
+    Step::Do(0, Op::Thread(ThreadOp::Finish(Value::Plain(0)), None)),
+    EXIT,
+    END,
+];
+
+// The script has one run, with these choices, whose main finishes with 7.
+fn has_one_run(
+    rt: &(impl Abort + AllocGlobal),
+    steps: &'static [Step],
+    choices: &[Choice],
+) -> Result<(), Fail> {
+    let runs = runs_of(rt.alloc(), &Script::new(rt.alloc(), steps)?)?;
+    let [run] = runs.as_slice() else {
+        return Err(Fail::from("there is another number of runs"));
+    };
+    assert_eq!(rt; run.choices.as_slice(), choices);
+    assert_eq!(rt; run.value, Number(7));
+    Ok(())
+}
+
+#[test]
+fn counting_has_branch_points(rt: HostRuntime) -> Result<(), Fail> {
+    has_one_run(&rt, &ARC_COUNT, &[ZERO, ZERO, ZERO, ZERO, NONE])?;
+    has_one_run(&rt, &ARC_UNWRAP, &[ZERO, ZERO, NONE])
+}
+
+#[test]
+fn a_swap_writes_the_second_cell(rt: HostRuntime) -> Result<(), Fail> {
+    match Builder::new().check(rt.alloc(), &Script::new(rt.alloc(), &SWAP_BESIDE_A_WRITE)?)? {
+        Report::Failed { failure, .. } => {
+            assert_eq!(rt; failure.kind, FailureKind::Race);
+            Ok(())
+        }
+        _ => Err(Fail::from("it doesn't fail")),
+    }
+}
+
+#[test]
+fn a_cell_and_itself_are_not_written(rt: HostRuntime) -> Result<(), Fail> {
+    let runs = runs_of(rt.alloc(), &Script::new(rt.alloc(), &SWAP_WITH_ITSELF)?)?;
+    assert!(rt; !runs.is_empty());
+    for run in runs.as_slice() {
+        assert_eq!(rt; run.value, Number(8));
+    }
+    Ok(())
+}

@@ -1,0 +1,42 @@
+//! The first body of docs/GUIDE.md.
+use loom::model::{Builder, Replay, Report};
+use loom::{Choice, FailureKind};
+use loom_row_bodies::guide::Counter;
+use std::test::Fail;
+
+#[test]
+fn no_thread_is_counted_third(rt: HostRuntime) -> Result<(), Fail> {
+    let report = Builder::new().check(rt.alloc(), &Counter::main(2))?;
+    match report {
+        Report::Complete { runs } => assert_eq!(rt; runs, 4),
+        _ => return Err(Fail::from("the check is not complete")),
+    }
+    Ok(())
+}
+
+#[test]
+fn main_is_not_always_first(rt: HostRuntime) -> Result<(), Fail> {
+    let body = Counter::main(1);
+    let Report::Failed {
+        runs,
+        failure,
+        choices,
+    } = Builder::new().check(rt.alloc(), &body)?
+    else {
+        return Err(Fail::from("no run failed"));
+    };
+    assert_eq!(rt; runs, 1);
+    assert_eq!(rt; failure.kind, FailureKind::Assertion);
+    let [zero, one] = [Choice::Thread(Some(0)), Choice::Thread(Some(1))];
+    assert_eq!(rt; choices.as_slice(), [one, one, one, zero].as_slice());
+    let Replay::Failed {
+        failure,
+        choices: again,
+    } = Builder::new().replay(rt.alloc(), &body, choices.as_slice())?
+    else {
+        return Err(Fail::from("the run ended"));
+    };
+    assert_eq!(rt; failure.kind, FailureKind::Assertion);
+    assert_eq!(rt; again.as_slice(), choices.as_slice());
+    Ok(())
+}

@@ -1,0 +1,207 @@
+//! What the rows print.
+use super::{FIVE_SPAWNS, JOIN_TWICE};
+use loom::model::Builder;
+use loom_row_bodies::bodies::LOCK_BESIDE;
+use loom_row_bodies::rows::{self, Row};
+use std::io::{self, ErrorKind, Write};
+use std::process::Abort;
+use std::test::Fail;
+
+// Each row's line and status.
+static LINES: [(&str, &str, u8); 41] = [
+    ("finish_only", "complete 1\n", 0),
+    ("spawn_only", "complete 1\n", 0),
+    ("lock_beside", "complete 3\n", 0),
+    ("mutex_forever", "failed 12 0\n", 1),
+    ("fail_at_once", "failed 1 0\n", 1),
+    ("load_beside", "complete 6\n", 0),
+    ("store_seven", "complete 1\n", 0),
+    ("store_buffering", "complete 48\n", 0),
+    ("u8_functions", "complete 1\n", 0),
+    ("i8_functions", "complete 1\n", 0),
+    ("bool_nand", "complete 1\n", 0),
+    ("compare_exchange", "complete 1\n", 0),
+    ("fetch_update_once", "complete 1\n", 0),
+    ("fetch_add_atomic", "complete 4\n", 0),
+    ("unsync_race", "failed 3 0 t0 t1\n", 1),
+    ("load_in_with_mut", "failed 4 0 t0 l0\n", 1),
+    ("relaxed_fence", "failed 16 0\n", 1),
+    ("unsync_load_forever", "failed 12 0\n", 1),
+    (
+        "orders_equal",
+        "failed 13 1625 t0 t1 t1 t1 t0 l2 t1 l2 t1 t2 t2 l3 t2\n",
+        1,
+    ),
+    ("unsafe_cell_race_mut_mut_1", "failed 3 0 t1\n", 1),
+    ("read_in_write", "failed 4 0\n", 1),
+    ("atomic_causality_fail", "failed 1 0\n", 1),
+    ("detect_mem_leak", "failed 5 0 t-\n", 1),
+    ("arc_count", "complete 1\n", 0),
+    ("arc_unwrap", "complete 1\n", 0),
+    ("track_then_arc", "failed 6 0 t-\n", 1),
+    ("arc_then_track", "failed 5 0 t-\n", 1),
+    ("release_unlocked", "failed 14 0\n", 1),
+    ("lock_while_out", "failed 14 0 t0\n", 1),
+    ("rwlock_read_twice", "complete 1\n", 0),
+    ("rwlock_write_then_try_write", "complete 1\n", 0),
+    ("read_guard_of_another", "failed 14 0 t0 t1\n", 1),
+    ("condvar_alone", "failed 2 0 t0 t0 t-\n", 1),
+    ("condvar_with_token", "failed 2 0 t0 t0 t-\n", 1),
+    ("notify_wait", "complete 2\n", 0),
+    ("second_waiter", "failed 21 0 s0 t1\n", 1),
+    ("unpark_then_park", "complete 1\n", 0),
+    ("park_alone", "failed 2 0 t-\n", 1),
+    ("yield_beside", "complete 2\n", 0),
+    ("named_child", "complete 1\n", 0),
+    ("unreachable", "failed 15 0\n", 1),
+];
+
+// How the lines of rows with many runs begin, and their status.
+static BEGINNINGS: [(&str, &str, u8); 22] = [
+    ("load_buffering", "complete ", 0),
+    ("sb_fences", "complete ", 0),
+    ("check_ordering_valid", "complete ", 0),
+    ("check_ordering_invalid_1", "failed 1 ", 1),
+    ("checks_fail", "failed 1 ", 1),
+    ("two_mutexes_deadlock", "failed 2 ", 1),
+    ("atomic_causality_success", "complete ", 0),
+    ("unsafe_cell_race_mut_mut_2", "failed 3 ", 1),
+    ("unsafe_cell_race_mut_immut_1", "failed 3 ", 1),
+    ("unsafe_cell_race_mut_immut_2", "failed 3 ", 1),
+    ("unsafe_cell_race_mut_immut_3", "failed 3 ", 1),
+    ("unsafe_cell_race_mut_immut_4", "failed 3 ", 1),
+    ("unsafe_cell_race_mut_immut_5", "failed 3 ", 1),
+    ("unsafe_cell_ok_1", "complete ", 0),
+    ("unsafe_cell_ok_2", "complete ", 0),
+    ("unsafe_cell_ok_3", "complete ", 0),
+    ("unsafe_cell_access_after_sync", "failed 3 ", 1),
+    ("mutex_into_inner", "complete ", 0),
+    ("rwlock_writer_and_readers", "complete ", 0),
+    ("condvar_hands_over", "complete ", 0),
+    ("notify_all", "complete ", 0),
+    ("unpark_wakes", "complete ", 0),
+];
+
+// Runs the row of this name, which answers this status and writes nothing on standard error. Gives what it prints.
+fn printed_by(rt: &(impl Abort + AllocGlobal), name: &str, status: u8) -> Vec<u8> {
+    let mut out = Vec::new(rt.alloc());
+    let mut err = Vec::new(rt.alloc());
+    let answer = rows::run_row(rt, &[name], &mut out, &mut err);
+    assert_eq!(rt; answer, status, "{name}");
+    assert!(rt; err.is_empty(), "{name}");
+    out
+}
+
+#[test]
+fn each_row_prints_its_line(rt: HostRuntime) {
+    for (name, line, status) in LINES {
+        let out = printed_by(&rt, name, status);
+        assert_eq!(rt; out.as_slice(), line.as_bytes(), "{name}");
+    }
+}
+
+#[test]
+fn each_name_is_its_row(rt: HostRuntime) {
+    for (name, beginning, status) in BEGINNINGS {
+        let out = printed_by(&rt, name, status);
+        assert!(rt; out.as_slice().starts_with(beginning.as_bytes()), "{name}");
+    }
+}
+
+// A writer that takes nothing.
+#[derive(Drop)]
+struct Broken;
+
+impl Write for Broken {
+    fn write(&mut self, _buf: &[u8]) -> io::Result<usize> {
+        Err(io::Error::from(ErrorKind::BrokenPipe))
+    }
+
+    fn flush(&mut self) -> io::Result<()> {
+        Ok(())
+    }
+}
+
+#[test]
+fn other_words_print_the_usage(rt: HostRuntime) {
+    let usage = b"usage: loom_rows NAME [FILE]\n".as_slice();
+    let words = ["no_such_row", "lock_beside", "lock_beside"];
+    for (from, to) in [(0usize, 0usize), (0, 1), (1, 3), (0, 3)] {
+        let mut out = Vec::new(rt.alloc());
+        let mut err = Vec::new(rt.alloc());
+        let answer = rows::run_row(&rt, &words[from..to], &mut out, &mut err);
+        assert_eq!(rt; answer, 2, "{from} to {to}");
+        assert!(rt; out.is_empty(), "{from} to {to}");
+        assert_eq!(rt; err.as_slice(), usage, "{from} to {to}");
+    }
+}
+
+#[test]
+fn a_writer_that_fails_gives_status_2(rt: HostRuntime) {
+    let mut taken = Vec::new(rt.alloc());
+    let answer = rows::run_row(&rt, &["lock_beside"], &mut Broken, &mut taken);
+    assert_eq!(rt; answer, 2);
+    let answer = rows::run_row(&rt, &["no_such_row"], &mut taken, &mut Broken);
+    assert_eq!(rt; answer, 2);
+    assert!(rt; taken.is_empty());
+}
+
+// Checks lock_beside with these settings, and compares what is printed on standard error.
+fn refuses(rt: &(impl Abort + AllocGlobal), builder: Builder, line: &str) -> Result<(), Fail> {
+    let mut row = Row::new(&LOCK_BESIDE);
+    row.builder = builder;
+    let mut out = Vec::new(rt.alloc());
+    let mut err = Vec::new(rt.alloc());
+    let status = rows::check_row(rt, row, &mut out, &mut err)?;
+    assert_eq!(rt; status, 2, "{line}");
+    assert!(rt; out.is_empty(), "{line}");
+    assert_eq!(rt; err.as_slice(), line.as_bytes());
+    Ok(())
+}
+
+#[test]
+fn settings_out_of_range_are_refused(rt: HostRuntime) -> Result<(), Fail> {
+    let defaults = Builder::new();
+    for (max_threads, max_branches, max_steps, line) in [
+        (0, defaults.max_branches, defaults.max_steps, "error 1\n"),
+        (6, defaults.max_branches, defaults.max_steps, "error 1\n"),
+        (defaults.max_threads, 0, defaults.max_steps, "error 2\n"),
+        (
+            defaults.max_threads,
+            1_000_001,
+            defaults.max_steps,
+            "error 2\n",
+        ),
+        (defaults.max_threads, defaults.max_branches, 0, "error 5\n"),
+    ] {
+        let mut builder = Builder::new();
+        builder.max_threads = max_threads;
+        builder.max_branches = max_branches;
+        builder.max_steps = max_steps;
+        refuses(&rt, builder, line)?;
+    }
+    Ok(())
+}
+
+// Checks the row, and compares the line that is printed of a failure.
+fn fails(rt: &(impl Abort + AllocGlobal), row: Row, line: &str) -> Result<(), Fail> {
+    let mut out = Vec::new(rt.alloc());
+    let mut err = Vec::new(rt.alloc());
+    let status = rows::check_row(rt, row, &mut out, &mut err)?;
+    assert_eq!(rt; status, 1, "{line}");
+    assert_eq!(rt; out.as_slice(), line.as_bytes());
+    Ok(())
+}
+
+#[test]
+fn limits_fail_a_run(rt: HostRuntime) -> Result<(), Fail> {
+    let mut short = Row::new(&LOCK_BESIDE);
+    short.builder.max_branches = 3;
+    fails(&rt, short, "failed 9 0 t0 t1 t1\n")?;
+    fails(&rt, Row::new(&FIVE_SPAWNS), "failed 8 0\n")
+}
+
+#[test]
+fn a_thread_is_joined_once(rt: HostRuntime) -> Result<(), Fail> {
+    fails(&rt, Row::new(&JOIN_TWICE), "failed 14 0 t1 t1 t0\n")
+}

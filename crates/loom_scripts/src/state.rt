@@ -1,0 +1,250 @@
+//! How far a thread of a script is, and what it keeps.
+ghost use Rattle.std.specs.Prelude.{◌≡◌};
+ghost use Rattle.loom_scripts.specs.Running.{at_first, child, fetched, keep_of, landing};
+ghost use Rattle.loom_scripts.specs.Slots.{data_of, handle_at, held, kept, notifier, number_of, object, put_handle, put_number, thread, told_by};
+
+use crate::number::Number;
+use crate::step::{Step, Value};
+use loom_objects::operation::Reply;
+
+/// What a slot keeps.
+#[derive(Clone, Copy, Debug)]
+pub enum Handle {
+    /// Nothing yet.
+    Empty,
+    /// The number of an object.
+    Object(usize),
+    /// A thread.
+    Thread(u8),
+    /// A thread that was spawned, and the number of its notifier.
+    Spawned(u8, usize),
+}
+
+/// What a step keeps of a reply.
+#[derive(Clone, Copy, Debug)]
+pub enum Told {
+    /// Nothing.
+    Nothing,
+    /// A number, for the register that the step names.
+    Number(u64),
+    /// A number, for the last register: of what the operation wanted, and didn't get.
+    Instead(u64),
+    /// A handle, for the slot that the step names.
+    Handle(Handle),
+}
+
+/// How far a thread of a script is, and the numbers and handles that it was given.
+#[derive(Clone, Copy)]
+pub struct State {
+    /// The next step's place.
+    pub at: usize,
+    /// The slot, or the register, in which the last step keeps what it is told.
+    pub keep: usize,
+    /// The numbers that it was told.
+    pub registers: [u64; 4],
+    /// The handles that it was given.
+    pub slots: [Handle; 8],
+}
+
+impl State {
+    /// At the first step, without handles, and with 0 in each register.
+    pub(crate) fn new() -> State
+        ensures { result ≡ at_first }
+    {
+        State {
+            at: 0,
+            keep: 0,
+            registers: [0; 4],
+            slots: [Handle::Empty; 8],
+        }
+    }
+
+    /// Keeps what the reply tells where the last step says.
+    pub(crate) fn keep(&mut self, reply: &Reply<Number>)
+        ensures { self.new ≡ kept self.old reply.now }
+    {
+        match told_by(reply) {
+            Told::Nothing => {}
+            Told::Number(number) => self.put_number(self.keep, number),
+            Told::Instead(number) => self.put_number(3, number),
+            Told::Handle(handle) => self.put_handle(handle),
+        }
+    }
+
+    /// The register holds the number, if there is such a register.
+    fn put_number(&mut self, register: usize, number: u64)
+        ensures { self.new ≡ put_number self.old register number }
+    {
+        if register < self.registers.len() {
+            self.registers[register] = number;
+        }
+    }
+
+    /// The slot that the last step names keeps the handle, if there is such a slot.
+    fn put_handle(&mut self, handle: Handle)
+        ensures { self.new ≡ put_handle self.old handle }
+    {
+        if self.keep < self.slots.len() {
+            self.slots[self.keep] = handle;
+        }
+    }
+
+    /// What the register holds, or 0 where there is none.
+    fn held(&self, register: usize) -> u64
+        ensures { result ≡ held self.now register }
+    {
+        if register < self.registers.len() {
+            self.registers[register]
+        } else {
+            0
+        }
+    }
+
+    /// The number that the value stands for.
+    pub(crate) fn number_of(&self, value: Value) -> u64
+        ensures { result ≡ number_of self.now value }
+    {
+        match value {
+            Value::Plain(number) => number,
+            Value::Held(register) => self.held(register),
+            Value::Next(register) => self.held(register).wrapping_add(1),
+            Value::Both(one, other) => self
+                .held(one)
+                .wrapping_mul(10)
+                .wrapping_add(self.held(other)),
+        }
+    }
+
+    /// The same, as objects hold it.
+    pub(crate) fn data_of(&self, value: Value) -> Number
+        ensures { result ≡ data_of self.now value }
+    {
+        Number(self.number_of(value))
+    }
+
+    /// What the slot keeps.
+    fn handle_at(&self, slot: usize) -> Handle
+        ensures { result ≡ handle_at self.now slot }
+    {
+        if slot < self.slots.len() {
+            self.slots[slot]
+        } else {
+            Handle::Empty
+        }
+    }
+
+    /// The number of the object in the slot.
+    pub(crate) fn object(&self, slot: usize) -> Option<usize>
+        ensures { result ≡ object self.now slot }
+    {
+        match self.handle_at(slot) {
+            Handle::Object(number) => Some(number),
+            Handle::Empty | Handle::Thread(_) | Handle::Spawned(..) => None,
+        }
+    }
+
+    /// The thread in the slot.
+    pub(crate) fn thread(&self, slot: u8) -> Option<u8>
+        ensures { result ≡ thread self.now slot }
+    {
+        match self.handle_at(usize::from(slot)) {
+            Handle::Thread(thread) => Some(thread),
+            Handle::Spawned(thread, _) => Some(thread),
+            Handle::Empty | Handle::Object(_) => None,
+        }
+    }
+
+    /// The notifier of the thread in the slot.
+    pub(crate) fn notifier(&self, slot: usize) -> Option<usize>
+        ensures { result ≡ notifier self.now slot }
+    {
+        match self.handle_at(slot) {
+            Handle::Spawned(_, notifier) => Some(notifier),
+            Handle::Empty | Handle::Object(_) | Handle::Thread(_) => None,
+        }
+    }
+
+    /// Where the next of the steps stands, behind a jump.
+    fn landing(&self, steps: &[Step]) -> usize
+        ensures { result ≡ landing steps.now self.now }
+    {
+        if self.at >= steps.len() {
+            return self.at;
+        }
+        match &steps[self.at] {
+            Step::Jump(target) => *target,
+            Step::Unless(register, number, target) => {
+                if self.held(*register) == *number {
+                    self.at + 1
+                } else {
+                    *target
+                }
+            }
+            Step::Do(..) | Step::Store(..) => self.at,
+        }
+    }
+
+    /// Goes behind the next of the steps, and answers where that stands.
+    pub(crate) fn fetch(&mut self, steps: &[Step]) -> usize
+        ensures place { result ≡ landing steps.now self.old }
+        ensures moved { self.new ≡ fetched steps.now self.old }
+    {
+        let place = self.landing(steps);
+        if place < steps.len() {
+            self.keep = keep_of(&steps[place]);
+            self.at = place + 1;
+        }
+        place
+    }
+
+    /// The state of a thread that begins at this step, with the numbers and handles of this one.
+    pub(crate) fn child(&self, at: usize) -> State
+        ensures { result ≡ child self.now at }
+    {
+        State {
+            at,
+            keep: 0,
+            ..*self
+        }
+    }
+}
+
+/// What a step keeps of the reply.
+fn told_by(reply: &Reply<Number>) -> Told
+    ensures { result ≡ told_by reply.now }
+{
+    match reply {
+        Reply::Start | Reply::Done => Told::Nothing,
+        Reply::Atomic(number)
+        | Reply::Cell(number)
+        | Reply::Arc(number)
+        | Reply::Track(number)
+        | Reply::Mutex(number)
+        | Reply::RwLock(number)
+        | Reply::Condvar(number)
+        | Reply::Notify(number) => Told::Handle(Handle::Object(*number)),
+        Reply::Value(number) => Told::Number(*number),
+        Reply::Exchanged(Ok(number)) => Told::Number(*number),
+        Reply::Exchanged(Err(number)) => Told::Instead(*number),
+        Reply::Data(number)
+        | Reply::Reading(_, number)
+        | Reply::Writing(_, number)
+        | Reply::Locked(_, number)
+        | Reply::Waited(_, number, _)
+        | Reply::ReadLocked(_, number)
+        | Reply::WriteLocked(_, number) => Told::Number(number.0),
+        Reply::Shared | Reply::WouldBlock => Told::Instead(1),
+        Reply::Thread(thread, _) => Told::Handle(Handle::Thread(*thread)),
+        Reply::Spawned(thread, _, notifier) => Told::Handle(Handle::Spawned(*thread, *notifier)),
+    }
+}
+
+/// The slot, or the register, in which the step keeps what it is told.
+fn keep_of(step: &Step) -> usize
+    ensures { result ≡ keep_of step.now }
+{
+    match step {
+        Step::Do(keep, _) => *keep,
+        Step::Store(..) | Step::Jump(_) | Step::Unless(..) => 0,
+    }
+}
