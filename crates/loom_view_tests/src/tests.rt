@@ -3,6 +3,7 @@ use loom_views::rt::failure::FailureKind;
 use loom_views::rt::num::Numeric;
 use loom_views::rt::table::Views;
 use loom_views::rt::vv::VersionVec;
+use std::fmt::Debug;
 use std::process::Abort;
 use std::sync::atomic::Ordering;
 use std::test::Fail;
@@ -16,15 +17,20 @@ const SECOND: [bool; 7] = [false, true, false, false, false, false, false];
 
 const THIRD: [bool; 7] = [false, false, true, false, false, false, false];
 
+// Ends the test where a call didn't answer what it is to answer.
+fn same<T: PartialEq + Debug + Drop>(rt: &impl Abort, found: T, wanted: T) {
+    assert_eq!(rt; found, wanted);
+}
+
 // Main has a notifier, 0, and an atomic, 1, which begins with 5; it spawns a child, and stores 7.
 fn stored(rt: &(impl Abort + AllocGlobal)) -> Result<Views, Fail> {
     let mut views = Views::new(rt.alloc());
     views.add_point()?;
     views.add_atomic(0, 5)?;
-    assert_eq!(rt; views.spawn(0), Ok(()));
-    assert_eq!(rt; views.raise(0), Ok(()));
-    assert_eq!(rt; views.store(0, 1, 7, Ordering::Relaxed), Ok(()));
-    assert_eq!(rt; views.raise(1), Ok(()));
+    same(rt, views.spawn(0), Ok(()));
+    same(rt, views.raise(0), Ok(()));
+    same(rt, views.store(0, 1, 7, Ordering::Relaxed), Ok(()));
+    same(rt, views.raise(1), Ok(()));
     Ok(views)
 }
 
@@ -33,8 +39,8 @@ fn a_store_may_be_missed(rt: HostRuntime) -> Result<(), Fail> {
     let mut views = stored(&rt)?;
     views.release(0, 0, Ordering::Relaxed);
     views.acquire(1, 0);
-    assert_eq!(rt; views.readable(1, 1, ANY), Ok(FIRST_TWO));
-    assert_eq!(rt; views.load(1, 1, 0, Ordering::Relaxed), Ok(5));
+    same(&rt, views.readable(1, 1, ANY), Ok(FIRST_TWO));
+    same(&rt, views.load(1, 1, 0, Ordering::Relaxed), Ok(5));
     Ok(())
 }
 
@@ -43,8 +49,8 @@ fn a_store_is_seen_once_it_was_released(rt: HostRuntime) -> Result<(), Fail> {
     let mut views = stored(&rt)?;
     views.release(0, 0, Ordering::Release);
     views.acquire(1, 0);
-    assert_eq!(rt; views.readable(1, 1, ANY), Ok(SECOND));
-    assert_eq!(rt; views.load(1, 1, 1, Ordering::Relaxed), Ok(7));
+    same(&rt, views.readable(1, 1, ANY), Ok(SECOND));
+    same(&rt, views.load(1, 1, 1, Ordering::Relaxed), Ok(7));
     Ok(())
 }
 
@@ -54,7 +60,7 @@ fn a_fence_releases_what_came_before_it(rt: HostRuntime) -> Result<(), Fail> {
     views.release_fence(0);
     views.release(0, 0, Ordering::Relaxed);
     views.acquire(1, 0);
-    assert_eq!(rt; views.readable(1, 1, ANY), Ok(SECOND));
+    same(&rt, views.readable(1, 1, ANY), Ok(SECOND));
     Ok(())
 }
 
@@ -62,17 +68,17 @@ fn a_fence_releases_what_came_before_it(rt: HostRuntime) -> Result<(), Fail> {
 fn a_join_brings_what_the_other_did(rt: HostRuntime) -> Result<(), Fail> {
     let mut views = stored(&rt)?;
     views.join_thread(1, 0);
-    assert_eq!(rt; views.readable(1, 1, ANY), Ok(SECOND));
+    same(&rt, views.readable(1, 1, ANY), Ok(SECOND));
     Ok(())
 }
 
 #[test]
 fn a_yield_leaves_what_was_read(rt: HostRuntime) -> Result<(), Fail> {
     let mut views = stored(&rt)?;
-    assert_eq!(rt; views.load(1, 1, 0, Ordering::Relaxed), Ok(5));
-    assert_eq!(rt; views.readable(1, 1, ANY), Ok(FIRST_TWO));
+    same(&rt, views.load(1, 1, 0, Ordering::Relaxed), Ok(5));
+    same(&rt, views.readable(1, 1, ANY), Ok(FIRST_TWO));
     views.mark_yield(1);
-    assert_eq!(rt; views.readable(1, 1, ANY), Ok(SECOND));
+    same(&rt, views.readable(1, 1, ANY), Ok(SECOND));
     Ok(())
 }
 
@@ -82,13 +88,17 @@ fn buffered(rt: &(impl Abort + AllocGlobal), order: Ordering) -> Result<Views, F
     let mut views = Views::new(rt.alloc());
     views.add_atomic(0, 0)?;
     views.add_atomic(0, 0)?;
-    assert_eq!(rt; views.spawn(0), Ok(()));
+    same(rt, views.spawn(0), Ok(()));
     for thread in 0..2 {
-        assert_eq!(rt; views.raise(thread), Ok(()));
-        assert_eq!(rt; views.store(thread, thread, 1, Ordering::Relaxed), Ok(()));
-        assert_eq!(rt; views.raise(thread), Ok(()));
+        same(rt, views.raise(thread), Ok(()));
+        same(
+            rt,
+            views.store(thread, thread, 1, Ordering::Relaxed),
+            Ok(()),
+        );
+        same(rt, views.raise(thread), Ok(()));
         views.fence(thread, order);
-        assert_eq!(rt; views.raise(thread), Ok(()));
+        same(rt, views.raise(thread), Ok(()));
     }
     Ok(views)
 }
@@ -96,11 +106,11 @@ fn buffered(rt: &(impl Abort + AllocGlobal), order: Ordering) -> Result<Views, F
 #[test]
 fn one_of_two_sees_the_other_past_seq_cst_fences(rt: HostRuntime) -> Result<(), Fail> {
     let views = buffered(&rt, Ordering::SeqCst)?;
-    assert_eq!(rt; views.readable(0, 1, ANY), Ok(FIRST_TWO));
-    assert_eq!(rt; views.readable(1, 0, ANY), Ok(SECOND));
+    same(&rt, views.readable(0, 1, ANY), Ok(FIRST_TWO));
+    same(&rt, views.readable(1, 0, ANY), Ok(SECOND));
     let views = buffered(&rt, Ordering::AcqRel)?;
-    assert_eq!(rt; views.readable(0, 1, ANY), Ok(FIRST_TWO));
-    assert_eq!(rt; views.readable(1, 0, ANY), Ok(FIRST_TWO));
+    same(&rt, views.readable(0, 1, ANY), Ok(FIRST_TWO));
+    same(&rt, views.readable(1, 0, ANY), Ok(FIRST_TWO));
     Ok(())
 }
 
@@ -109,45 +119,49 @@ fn an_acquire_fence_takes_in_what_was_read_before(rt: HostRuntime) -> Result<(),
     let mut views = Views::new(rt.alloc());
     views.add_atomic(0, 0)?;
     views.add_atomic(0, 0)?;
-    assert_eq!(rt; views.spawn(0), Ok(()));
-    assert_eq!(rt; views.raise(0), Ok(()));
-    assert_eq!(rt; views.store(0, 0, 7, Ordering::Relaxed), Ok(()));
-    assert_eq!(rt; views.raise(0), Ok(()));
+    same(&rt, views.spawn(0), Ok(()));
+    same(&rt, views.raise(0), Ok(()));
+    same(&rt, views.store(0, 0, 7, Ordering::Relaxed), Ok(()));
+    same(&rt, views.raise(0), Ok(()));
     views.fence(0, Ordering::Release);
-    assert_eq!(rt; views.raise(0), Ok(()));
-    assert_eq!(rt; views.store(0, 1, 1, Ordering::Relaxed), Ok(()));
-    assert_eq!(rt; views.raise(1), Ok(()));
-    assert_eq!(rt; views.load(1, 1, 1, Ordering::Relaxed), Ok(1));
-    assert_eq!(rt; views.readable(1, 0, ANY), Ok(FIRST_TWO));
-    assert_eq!(rt; views.raise(1), Ok(()));
+    same(&rt, views.raise(0), Ok(()));
+    same(&rt, views.store(0, 1, 1, Ordering::Relaxed), Ok(()));
+    same(&rt, views.raise(1), Ok(()));
+    same(&rt, views.load(1, 1, 1, Ordering::Relaxed), Ok(1));
+    same(&rt, views.readable(1, 0, ANY), Ok(FIRST_TWO));
+    same(&rt, views.raise(1), Ok(()));
     views.fence(1, Ordering::Acquire);
-    assert_eq!(rt; views.readable(1, 0, ANY), Ok(SECOND));
+    same(&rt, views.readable(1, 0, ANY), Ok(SECOND));
     Ok(())
 }
 
 #[test]
 fn a_read_modify_write_reads_the_newest(rt: HostRuntime) -> Result<(), Fail> {
     let mut views = stored(&rt)?;
-    assert_eq!(rt; views.readable(1, 1, Reader::Update), Ok(SECOND));
-    assert_eq!(rt; views.update_read(1, 1, 1), Ok(7));
-    assert_eq!(rt; views.update_write(1, 1, 1, 8, Ordering::Release), Ok(()));
-    assert_eq!(rt; views.raise(0), Ok(()));
-    assert_eq!(rt; views.readable(0, 1, Reader::Update), Ok(THIRD));
-    assert_eq!(rt; views.update_read(0, 1, 2), Ok(8));
-    assert_eq!(rt; views.unsync_load(0, 1), Err(FailureKind::Race));
+    same(&rt, views.readable(1, 1, Reader::Update), Ok(SECOND));
+    same(&rt, views.update_read(1, 1, 1), Ok(7));
+    same(
+        &rt,
+        views.update_write(1, 1, 1, 8, Ordering::Release),
+        Ok(()),
+    );
+    same(&rt, views.raise(0), Ok(()));
+    same(&rt, views.readable(0, 1, Reader::Update), Ok(THIRD));
+    same(&rt, views.update_read(0, 1, 2), Ok(8));
+    same(&rt, views.unsync_load(0, 1), Err(FailureKind::Race));
     views.update_fail(0, 1, 2, Ordering::Acquire);
-    assert_eq!(rt; views.unsync_load(0, 1), Ok(8));
+    same(&rt, views.unsync_load(0, 1), Ok(8));
     Ok(())
 }
 
 #[test]
 fn a_mutation_leaves_its_value(rt: HostRuntime) -> Result<(), Fail> {
     let mut views = stored(&rt)?;
-    assert_eq!(rt; views.with_mut(1, 1), Err(FailureKind::Race));
-    assert_eq!(rt; views.with_mut(0, 1), Ok(7));
-    assert_eq!(rt; views.unsync_load(0, 1), Err(FailureKind::OpenAccess));
-    assert_eq!(rt; views.with_mut_end(0, 1, 9), Ok(()));
-    assert_eq!(rt; views.unsync_load(0, 1), Ok(9));
+    same(&rt, views.with_mut(1, 1), Err(FailureKind::Race));
+    same(&rt, views.with_mut(0, 1), Ok(7));
+    same(&rt, views.unsync_load(0, 1), Err(FailureKind::OpenAccess));
+    same(&rt, views.with_mut_end(0, 1, 9), Ok(()));
+    same(&rt, views.unsync_load(0, 1), Ok(9));
     Ok(())
 }
 
@@ -156,47 +170,48 @@ fn with_cell(rt: &(impl Abort + AllocGlobal)) -> Result<Views, Fail> {
     let mut views = Views::new(rt.alloc());
     views.add_point()?;
     views.add_cell(0)?;
-    assert_eq!(rt; views.spawn(0), Ok(()));
-    assert_eq!(rt; views.raise(0), Ok(()));
-    assert_eq!(rt; views.raise(1), Ok(()));
+    same(rt, views.spawn(0), Ok(()));
+    same(rt, views.raise(0), Ok(()));
+    same(rt, views.raise(1), Ok(()));
     Ok(views)
 }
 
 #[test]
 fn two_may_read_a_cell_and_neither_may_write_then(rt: HostRuntime) -> Result<(), Fail> {
     let mut views = with_cell(&rt)?;
-    assert_eq!(rt; views.read(0, 1), Ok(()));
-    assert_eq!(rt; views.read(1, 1), Ok(()));
-    assert_eq!(rt; views.write(0, 1), Err(FailureKind::Race));
-    assert_eq!(rt; views.write(1, 1), Err(FailureKind::Race));
+    same(&rt, views.read(0, 1), Ok(()));
+    same(&rt, views.read(1, 1), Ok(()));
+    same(&rt, views.write(0, 1), Err(FailureKind::Race));
+    same(&rt, views.write(1, 1), Err(FailureKind::Race));
     views.join_thread(0, 1);
-    assert_eq!(rt; views.write(0, 1), Ok(()));
-    assert_eq!(rt; views.read(1, 1), Err(FailureKind::Race));
+    same(&rt, views.write(0, 1), Ok(()));
+    same(&rt, views.read(1, 1), Err(FailureKind::Race));
     Ok(())
 }
 
 #[test]
 fn a_release_brings_the_write_of_a_cell(rt: HostRuntime) -> Result<(), Fail> {
     let mut views = with_cell(&rt)?;
-    assert_eq!(rt; views.write(0, 1), Ok(()));
+    same(&rt, views.write(0, 1), Ok(()));
     views.release(0, 0, Ordering::Release);
-    assert_eq!(rt; views.read(1, 1), Err(FailureKind::Race));
+    same(&rt, views.read(1, 1), Err(FailureKind::Race));
     views.acquire(1, 0);
-    assert_eq!(rt; views.read(1, 1), Ok(()));
-    assert_eq!(rt; views.write(1, 1), Ok(()));
-    assert_eq!(rt; views.read(1, 0), Err(FailureKind::Misuse));
+    same(&rt, views.read(1, 1), Ok(()));
+    same(&rt, views.write(1, 1), Ok(()));
+    same(&rt, views.read(1, 0), Err(FailureKind::Misuse));
     Ok(())
 }
 
 #[test]
 fn a_notifier_holds_no_value(rt: HostRuntime) -> Result<(), Fail> {
     let mut views = stored(&rt)?;
-    assert_eq!(rt; views.readable(1, 0, ANY), Err(FailureKind::Misuse));
-    assert_eq!(rt;
+    same(&rt, views.readable(1, 0, ANY), Err(FailureKind::Misuse));
+    same(
+        &rt,
         views.store(1, 0, 7, Ordering::Relaxed),
-        Err(FailureKind::Misuse)
+        Err(FailureKind::Misuse),
     );
-    assert_eq!(rt; views.raise(2), Err(FailureKind::Misuse));
+    same(&rt, views.raise(2), Err(FailureKind::Misuse));
     Ok(())
 }
 
@@ -204,9 +219,9 @@ fn a_notifier_holds_no_value(rt: HostRuntime) -> Result<(), Fail> {
 fn five_threads_are_the_most(rt: HostRuntime) -> Result<(), Fail> {
     let mut views = Views::new(rt.alloc());
     for _ in 0..4 {
-        assert_eq!(rt; views.spawn(0), Ok(()));
+        same(&rt, views.spawn(0), Ok(()));
     }
-    assert_eq!(rt; views.spawn(0), Err(FailureKind::TooManyThreads));
+    same(&rt, views.spawn(0), Err(FailureKind::TooManyThreads));
     Ok(())
 }
 
@@ -216,18 +231,18 @@ fn vectors_are_joined_and_compared(rt: HostRuntime) -> Result<(), Fail> {
     let mut other = VersionVec::new();
     assert!(rt; one.inc(0));
     assert!(rt; other.inc(3));
-    assert_eq!(rt; one.partial_cmp(&other), None);
-    assert_eq!(rt; one.ahead(&other), Some(3));
+    same(&rt, one.partial_cmp(&other), None);
+    same(&rt, one.ahead(&other), Some(3));
     one.join(&other);
-    assert_eq!(rt; one.versions(), [1, 0, 0, 1, 0]);
+    same(&rt, one.versions(), [1, 0, 0, 1, 0]);
     assert!(rt; other < one);
     Ok(())
 }
 
 #[test]
 fn numbers_keep_their_value(rt: HostRuntime) -> Result<(), Fail> {
-    assert_eq!(rt; i8::from_u64((-3i8).into_u64()), -3i8);
-    assert_eq!(rt; u64::from_u64(u64::MAX.into_u64()), u64::MAX);
+    same(&rt, i8::from_u64((-3i8).into_u64()), -3i8);
+    same(&rt, u64::from_u64(u64::MAX.into_u64()), u64::MAX);
     assert!(rt; bool::from_u64(true.into_u64()));
     Ok(())
 }
