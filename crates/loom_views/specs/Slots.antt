@@ -30,11 +30,11 @@ readable_slots drops n = filter (λ i. not (list_any (drops i) (slots n))) (slot
 abbrev pub has_order_of : (ℕ → ℕ → Bool) → (ℕ → ℕ → Bool) → ℕ → ℕ → Bool
 has_order_of same drops i j = (not (i == j) && same i j) && not (list_any (drops i) (upto j))
 
--- slot i has the order of some slot in that way
+-- slot i has the order of some other slot, before any slot drops it
 abbrev pub has_equal_order_at : (ℕ → ℕ → Bool) → (ℕ → ℕ → Bool) → ℕ → ℕ → Bool
 has_equal_order_at same drops n i = list_any (has_order_of same drops i) (slots n)
 
--- some slot has another's order in that way
+-- some slot does
 abbrev pub has_equal_orders : (ℕ → ℕ → Bool) → (ℕ → ℕ → Bool) → ℕ → Bool
 has_equal_orders same drops n = list_any (has_equal_order_at same drops n) (slots n)
 

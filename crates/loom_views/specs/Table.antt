@@ -8,7 +8,7 @@ use Rattle.loom_views.specs.declared.rt.synchronize.ThreadViews.{ThreadViews}
 use Rattle.loom_views.specs.declared.rt.failure.FailureKind.{FailureKind}
 use Rattle.loom_views.specs.declared.rt.failure.FailureKind.TheVariants.{TooManyThreads, TooManyVersions, OrdersEqual, Misuse}
 use Rattle.loom_views.specs.declared.rt.table.Kept.{Kept}
-use Rattle.loom_views.specs.declared.rt.table.Kept.TheVariants.{Meeting, Keeping, Recording}
+use Rattle.loom_views.specs.declared.rt.table.Kept.TheVariants.{Point, Atomic, Cell}
 use Rattle.loom_views.specs.declared.rt.table.Views.{Views}
 use Rattle.loom_views.specs.Graph.{Graph, moved, raised, Shows, IsChained, IsPresent}
 use Rattle.loom_views.specs.Threads.{ThreadPoints, ShowsThread, with_present, graph_after_raise, graph_after_acquire, graph_after_release, graph_after_release_fence, graph_after_store, graph_after_spawn, child_points, parent_points}
@@ -43,7 +43,7 @@ with_thread p t g own = record p { graph = g; threads = slice_set p.threads t ow
 abbrev pub with_place : Points → ℕ → Graph → Place → Points
 with_place p n g place = record p { graph = g; places = slice_set p.places n place }
 
--- another object
+-- one more object, at the end
 abbrev pub with_new_place : Points → Graph → Place → Points
 with_new_place p g place = record p { graph = g; places = p.places ++ place ∷ [] }
 
@@ -282,15 +282,15 @@ ShowsThreads g threads kept = (t : ℕ) → t < 5 → ShowsThreadAt g t (slice_g
 
 -- what is kept of an object shows its points, and an atomic has a store
 abbrev pub ShowsPlace : Graph → Place → Kept → Type 0
-ShowsPlace g (Meets k) (Meeting view) = Shows g k view
-ShowsPlace g (Meets k) (Keeping state) = ⊥
-ShowsPlace g (Meets k) (Recording records) = ⊥
-ShowsPlace g (Keeps history) (Meeting view) = ⊥
-ShowsPlace g (Keeps history) (Keeping state) = ShowsState g history state × (0 < length history.stores)
-ShowsPlace g (Keeps history) (Recording records) = ⊥
-ShowsPlace g (Records cell) (Meeting view) = ⊥
-ShowsPlace g (Records cell) (Keeping state) = ⊥
-ShowsPlace g (Records cell) (Recording records) = ShowsAccesses g cell records
+ShowsPlace g (Meets k) (Point view) = Shows g k view
+ShowsPlace g (Meets k) (Atomic state) = ⊥
+ShowsPlace g (Meets k) (Cell records) = ⊥
+ShowsPlace g (Keeps history) (Point view) = ⊥
+ShowsPlace g (Keeps history) (Atomic state) = ShowsState g history state × (0 < length history.stores)
+ShowsPlace g (Keeps history) (Cell records) = ⊥
+ShowsPlace g (Records cell) (Point view) = ⊥
+ShowsPlace g (Records cell) (Atomic state) = ⊥
+ShowsPlace g (Records cell) (Cell records) = ShowsAccesses g cell records
 
 abbrev pub ShowsPlaceAt : Graph → Option Place → Option Kept → Type 0
 ShowsPlaceAt g None None = Unit {0}

@@ -5,7 +5,7 @@ use Rattle.std.specs.List.{slice_get, list_any}
 use Rattle.loom_views.specs.declared.rt.failure.FailureKind.{FailureKind}
 use Rattle.loom_views.specs.declared.rt.failure.FailureKind.TheVariants.{OrdersEqual, Race, OpenAccess}
 use Rattle.loom_views.specs.declared.rt.table.Kept.{Kept}
-use Rattle.loom_views.specs.declared.rt.table.Kept.TheVariants.{Meeting, Keeping, Recording}
+use Rattle.loom_views.specs.declared.rt.table.Kept.TheVariants.{Point, Atomic, Cell}
 use Rattle.loom_views.specs.declared.rt.table.Views.{Views}
 use Rattle.loom_views.specs.Slots.{number_in_slot}
 use Rattle.loom_views.specs.Threads.{ThreadPoints}
@@ -21,9 +21,9 @@ atomic-stored p v n history z e = let h = z.places n in go (slice_get v.places n
   where
     go : (o : Option Kept) → ShowsPlaceAt p.graph (Some (Keeps history)) o → 0 < length history.stores
     go None h = absurd h
-    go (Some (Meeting view)) h = absurd h
-    go (Some (Keeping state)) h = h.1
-    go (Some (Recording records)) h = absurd h
+    go (Some (Point view)) h = absurd h
+    go (Some (Atomic state)) h = h.1
+    go (Some (Cell records)) h = absurd h
 
 pub some_slot_is_offered_law : OfferingLaw
 some_slot_is_offered_law p v t n reader z = go (slice_get p.threads t) (slice_get p.places n) refl

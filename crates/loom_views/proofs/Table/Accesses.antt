@@ -12,7 +12,7 @@ use Rattle.loom_views.specs.declared.rt.atomic.State.{State}
 use Rattle.loom_views.specs.declared.rt.failure.FailureKind.{FailureKind}
 use Rattle.loom_views.specs.declared.rt.failure.FailureKind.TheVariants.{OrdersEqual, Race, OpenAccess, TooManyStores}
 use Rattle.loom_views.specs.declared.rt.synchronize.ThreadViews.{ThreadViews}
-use Rattle.loom_views.specs.declared.rt.table.Kept.TheVariants.{Keeping}
+use Rattle.loom_views.specs.declared.rt.table.Kept.TheVariants.{Atomic}
 use Rattle.loom_views.specs.declared.rt.table.Views.{Views}
 use Rattle.loom_views.specs.Graph.{Graph, IsChained, IsPresent}
 use Rattle.loom_views.specs.Threads.{ThreadPoints, ShowsThread}
@@ -80,13 +80,13 @@ some-made t s value order = some-pushed s.history.stores _
 pub store-stores : (t : ℕ) (s : Scene) (value : ℕ) (order : Ordering) → LeadsTo HasStore (store_step t s value order)
 store-stores t s value order = store-leads HasStore t s value order (some-made t (scene_recorded_store s) value order)
 
-module _ (p : Points) (v : Views) (t n : ℕ) (d : ThreadViews) (state : State) (l : t < v.count) (m : t < 5) (kept : slice_get v.places n ≡ Some (Keeping state)) (z : ShowsViews p v) where
+module _ (p : Points) (v : Views) (t n : ℕ) (d : ThreadViews) (state : State) (l : t < v.count) (m : t < 5) (kept : slice_get v.places n ≡ Some (Atomic state)) (z : ShowsViews p v) where
   -- the scene that thread t and atomic n make
   pub scene-shown : (f : Found p t (get_or v.threads t d)) (o : FoundAtomic p n state) → ShowsScene t (scene_of p f.own o.history) (get_or v.threads t d) state
   scene-shown f o = record { chained = z.chained; present = f.present; thread = f.shown; history = o.shown }
 
   -- the scene that an access leads to is shown within the run
-  pub scene-stepped : (s : Scene) (views : ThreadViews) (new : State) → Grows t p.graph s → HasStore s → ShowsScene t s views new → ShowsViews (points_of p t n s) (record v { threads = set v.threads t views; places = set v.places n (Keeping new) })
+  pub scene-stepped : (s : Scene) (views : ThreadViews) (new : State) → Grows t p.graph s → HasStore s → ShowsScene t s views new → ShowsViews (points_of p t n s) (record v { threads = set v.threads t views; places = set v.places n (Atomic new) })
   scene-stepped s views new r h y =
       let f = found p v t d l m z in
       let o = found_atomic p v n state kept z in
@@ -98,19 +98,19 @@ module _ (p : Points) (v : Views) (t n : ℕ) (d : ThreadViews) (state : State) 
         most = omega (arith, length-set p.threads t s.thread);
         five = length-set v.threads t views ∙ z.five;
         threads = threads-set r p.threads v.threads s.thread views f.there (omega arith) z.threads y.present y.thread;
-        places = places-set s.graph p.places v.places n (Keeps s.history) (Keeping new) (slice_get_within p.places n (Keeps o.history) o.is) (slice_get_within v.places n (Keeping state) kept) (places-grown r p.places v.places z.places) (y.history, h);
+        places = places-set s.graph p.places v.places n (Keeps s.history) (Atomic new) (slice_get_within p.places n (Keeps o.history) o.is) (slice_get_within v.places n (Atomic state) kept) (places-grown r p.places v.places z.places) (y.history, h);
         global = shows-grown r p.global v.global z.global;
       }
 
-  pub answers-stepped : (step : Result Answer FailureKind) (result : Result ℕ FailureKind) (views : ThreadViews) (new : State) → LeadsTo (Grows t p.graph) step → LeadsTo HasStore step → AnswersAs t step result views new → LoadsAs (accessed p t n step) result (record v { threads = set v.threads t views; places = set v.places n (Keeping new) })
+  pub answers-stepped : (step : Result Answer FailureKind) (result : Result ℕ FailureKind) (views : ThreadViews) (new : State) → LeadsTo (Grows t p.graph) step → LeadsTo HasStore step → AnswersAs t step result views new → LoadsAs (accessed p t n step) result (record v { threads = set v.threads t views; places = set v.places n (Atomic new) })
   answers-stepped (Ok answer) result views new r h a = (a.0, scene-stepped answer.scene views new r h a.1)
   answers-stepped (Err kind) result views new r h a = a
 
-  pub finishes-stepped : (step : Result Answer FailureKind) (result : Result (Unit {0}) FailureKind) (views : ThreadViews) (new : State) → LeadsTo (Grows t p.graph) step → LeadsTo HasStore step → FinishesAs t step result views new → StoresAs (accessed p t n step) result (record v { threads = set v.threads t views; places = set v.places n (Keeping new) })
+  pub finishes-stepped : (step : Result Answer FailureKind) (result : Result (Unit {0}) FailureKind) (views : ThreadViews) (new : State) → LeadsTo (Grows t p.graph) step → LeadsTo HasStore step → FinishesAs t step result views new → StoresAs (accessed p t n step) result (record v { threads = set v.threads t views; places = set v.places n (Atomic new) })
   finishes-stepped (Ok answer) result views new r h a = (a.0, scene-stepped answer.scene views new r h a.1)
   finishes-stepped (Err kind) result views new r h a = a
 
-  pub load-moved : (slot : ℕ) (order : Ordering) (result : Result ℕ FailureKind) (views : ThreadViews) (new : State) → ((s : Scene) → ShowsScene t s (get_or v.threads t d) state → slot < length s.history.stores → AnswersAs t (load_step t s slot order) result views new) → IsSlotKept (slice_get p.places n) slot → LoadsAs (points_after_load p t n slot order) result (record v { threads = set v.threads t views; places = set v.places n (Keeping new) })
+  pub load-moved : (slot : ℕ) (order : Ordering) (result : Result ℕ FailureKind) (views : ThreadViews) (new : State) → ((s : Scene) → ShowsScene t s (get_or v.threads t d) state → slot < length s.history.stores → AnswersAs t (load_step t s slot order) result views new) → IsSlotKept (slice_get p.places n) slot → LoadsAs (points_after_load p t n slot order) result (record v { threads = set v.threads t views; places = set v.places n (Atomic new) })
   load-moved slot order result views new answers b =
       let f = found p v t d l m z in
       let o = found_atomic p v n state kept z in
@@ -118,12 +118,12 @@ module _ (p : Points) (v : Views) (t n : ℕ) (d : ThreadViews) (state : State) 
       let within = rw o.is at b in
       rw (f.is, o.is) (answers-stepped (load_step t s slot order) result views new (load-grows t s slot order) (load-stores t s slot order o.some) (answers s (scene-shown f o) within.1))
 
-  pub store-moved : (value : ℕ) (order : Ordering) (result : Result (Unit {0}) FailureKind) (new : State) → ((s : Scene) → ShowsScene t s (get_or v.threads t d) state → FinishesAs t (store_step t s value order) result (get_or v.threads t d) new) → StoresAs (points_after_store p t n value order) result (record v { places = set v.places n (Keeping new) })
+  pub store-moved : (value : ℕ) (order : Ordering) (result : Result (Unit {0}) FailureKind) (new : State) → ((s : Scene) → ShowsScene t s (get_or v.threads t d) state → FinishesAs t (store_step t s value order) result (get_or v.threads t d) new) → StoresAs (points_after_store p t n value order) result (record v { places = set v.places n (Atomic new) })
   store-moved value order result new finishes =
       let f = found p v t d l m z in
       let o = found_atomic p v n state kept z in
       let s = scene_of p f.own o.history in
-      rw (f.is, o.is) (subst (λ (kepts : List ThreadViews). StoresAs (accessed p t n (store_step t s value order)) result (record v { threads = kepts; places = set v.places n (Keeping new) })) (set-get_or v.threads t d)
+      rw (f.is, o.is) (subst (λ (kepts : List ThreadViews). StoresAs (accessed p t n (store_step t s value order)) result (record v { threads = kepts; places = set v.places n (Atomic new) })) (set-get_or v.threads t d)
       (finishes-stepped (store_step t s value order) result (get_or v.threads t d) new (store-grows t s value order) (store-stores t s value order) (finishes s (scene-shown f o))))
 
   pub offers-readable : (reader : Reader) (result : Result (List Bool) FailureKind) → ((s : Scene) → ShowsScene t s (get_or v.threads t d) state → MatchResult result (λ set. (set ≡ slot_set (readable s.graph t s.thread reader s.history.stores)) × (fails_by_orders s.graph t s.thread reader s.history.stores ≡ false)) (λ kind. (kind ≡ OrdersEqual) × IsTrue (fails_by_orders s.graph t s.thread reader s.history.stores))) → OffersAs (readable_slots_of p t n reader) result
@@ -138,12 +138,12 @@ module _ (p : Points) (v : Views) (t n : ℕ) (d : ThreadViews) (state : State) 
       let h = refuses (scene_of p f.own o.history) (scene-shown f o) in
       rw (f.is, o.is, h.1) (ap Err h.0)
 
-pub atomic-added : (p : Points) (v : Views) (t value : ℕ) (d : ThreadViews) (state : State) → t < v.count → t < 5 → ShowsViews p v → ((g : Graph) (own : ThreadPoints) → IsChained g → IsPresent g t own.present → ShowsThread g t own (get_or v.threads t d) → ShowsScene t (new_step t g own value) (get_or v.threads t d) state) → ShowsViews (points_with_atomic p t value) (record v { places = v.places ++ Keeping state ∷ [] })
+pub atomic-added : (p : Points) (v : Views) (t value : ℕ) (d : ThreadViews) (state : State) → t < v.count → t < 5 → ShowsViews p v → ((g : Graph) (own : ThreadPoints) → IsChained g → IsPresent g t own.present → ShowsThread g t own (get_or v.threads t d) → ShowsScene t (new_step t g own value) (get_or v.threads t d) state) → ShowsViews (points_with_atomic p t value) (record v { places = v.places ++ Atomic state ∷ [] })
 atomic-added p v t value d state l m z made =
     let f = found p v t d l m z in
     let s : Scene = record { graph = p.graph; thread = f.own; history = new_history f.own.present } in
     let y = made p.graph f.own z.chained f.present f.shown in
-    rw f.is (place-added p v (scene_made 5 s value None Release).graph (Keeps (new_step t p.graph f.own value).history) (Keeping state) (scene_made-grown 5 s value None Release) y.chained (y.history, some-made t s value Release) z)
+    rw f.is (place-added p v (scene_made 5 s value None Release).graph (Keeps (new_step t p.graph f.own value).history) (Atomic state) (scene_made-grown 5 s value None Release) y.chained (y.history, some-made t s value Release) z)
 
 member-at : (P : ℕ → Type 0) (xs : List ℕ) (i : ℕ) → AllByRecursion P xs → list_any (λ j. j == i) xs ≡ true → P i
 member-at P [] i h e = absurd (false≢true e)

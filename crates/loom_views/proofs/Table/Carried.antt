@@ -9,7 +9,7 @@ use Rattle.loom_views.specs.declared.rt.atomic.State.{State}
 use Rattle.loom_views.specs.declared.rt.cell.AccessRecords.{AccessRecords}
 use Rattle.loom_views.specs.declared.rt.synchronize.ThreadViews.{ThreadViews}
 use Rattle.loom_views.specs.declared.rt.table.Kept.{Kept}
-use Rattle.loom_views.specs.declared.rt.table.Kept.TheVariants.{Meeting, Keeping, Recording}
+use Rattle.loom_views.specs.declared.rt.table.Kept.TheVariants.{Point, Atomic, Cell}
 use Rattle.loom_views.specs.declared.rt.table.Views.{Views}
 use Rattle.loom_views.specs.Graph.{Graph, raised, Shows, IsChained, IsPresent}
 use Rattle.loom_views.specs.Threads.{ThreadPoints, ShowsThread, child_points}
@@ -34,15 +34,15 @@ thread_at-grown r u n (Some own) None h = absurd h
 thread_at-grown r u n (Some own) (Some views) h = (present-grown r u own.present n h.0, thread-grown r u own views h.1)
 
 pub place-grown : {t : ℕ} {g g' : Graph} → GrownBy t g g' → (place : Place) (kept : Kept) → ShowsPlace g place kept → ShowsPlace g' place kept
-place-grown r (Meets k) (Meeting view) h = shows-grown r k view h
-place-grown r (Meets k) (Keeping state) h = absurd h
-place-grown r (Meets k) (Recording records) h = absurd h
-place-grown r (Keeps history) (Meeting view) h = absurd h
-place-grown r (Keeps history) (Keeping state) h = (state-grown r history state h.0, h.1)
-place-grown r (Keeps history) (Recording records) h = absurd h
-place-grown r (Records cell) (Meeting view) h = absurd h
-place-grown r (Records cell) (Keeping state) h = absurd h
-place-grown r (Records cell) (Recording records) h = accesses-grown r cell records h
+place-grown r (Meets k) (Point view) h = shows-grown r k view h
+place-grown r (Meets k) (Atomic state) h = absurd h
+place-grown r (Meets k) (Cell records) h = absurd h
+place-grown r (Keeps history) (Point view) h = absurd h
+place-grown r (Keeps history) (Atomic state) h = (state-grown r history state h.0, h.1)
+place-grown r (Keeps history) (Cell records) h = absurd h
+place-grown r (Records cell) (Point view) h = absurd h
+place-grown r (Records cell) (Atomic state) h = absurd h
+place-grown r (Records cell) (Cell records) h = accesses-grown r cell records h
 
 place_at-grown : {t : ℕ} {g g' : Graph} → GrownBy t g g' → (place : Option Place) (kept : Option Kept) → ShowsPlaceAt g place kept → ShowsPlaceAt g' place kept
 place_at-grown r None None h = tt
@@ -109,10 +109,10 @@ pub record FoundPoint (p : Points) (n : ℕ) (view : List ℕ) : Type 0 where
   pub is : slice_get p.places n ≡ Some (Meets point)
   pub shown : Shows p.graph point view
 
-pub found_point : (p : Points) (v : Views) (n : ℕ) (view : List ℕ) → slice_get v.places n ≡ Some (Meeting view) → ShowsViews p v → FoundPoint p n view
+pub found_point : (p : Points) (v : Views) (n : ℕ) (view : List ℕ) → slice_get v.places n ≡ Some (Point view) → ShowsViews p v → FoundPoint p n view
 found_point p v n view e z = let h = z.places n in go (slice_get p.places n) refl (rw e at h)
   where
-    go : (o : Option Place) → slice_get p.places n ≡ o → ShowsPlaceAt p.graph o (Some (Meeting view)) → FoundPoint p n view
+    go : (o : Option Place) → slice_get p.places n ≡ o → ShowsPlaceAt p.graph o (Some (Point view)) → FoundPoint p n view
     go None q h = absurd h
     go (Some (Meets k)) q h = record { point = k; is = q; shown = h }
     go (Some (Keeps history)) q h = absurd h
@@ -125,10 +125,10 @@ pub record FoundAtomic (p : Points) (n : ℕ) (state : State) : Type 0 where
   pub shown : ShowsState p.graph history state
   pub some : 0 < length history.stores
 
-pub found_atomic : (p : Points) (v : Views) (n : ℕ) (state : State) → slice_get v.places n ≡ Some (Keeping state) → ShowsViews p v → FoundAtomic p n state
+pub found_atomic : (p : Points) (v : Views) (n : ℕ) (state : State) → slice_get v.places n ≡ Some (Atomic state) → ShowsViews p v → FoundAtomic p n state
 found_atomic p v n state e z = let h = z.places n in go (slice_get p.places n) refl (rw e at h)
   where
-    go : (o : Option Place) → slice_get p.places n ≡ o → ShowsPlaceAt p.graph o (Some (Keeping state)) → FoundAtomic p n state
+    go : (o : Option Place) → slice_get p.places n ≡ o → ShowsPlaceAt p.graph o (Some (Atomic state)) → FoundAtomic p n state
     go None q h = absurd h
     go (Some (Meets k)) q h = absurd h
     go (Some (Keeps history)) q h = record { history = history; is = q; shown = h.0; some = h.1 }
@@ -140,10 +140,10 @@ pub record FoundCell (p : Points) (n : ℕ) (records : AccessRecords) : Type 0 w
   pub is : slice_get p.places n ≡ Some (Records cell)
   pub shown : ShowsAccesses p.graph cell records
 
-pub found_cell : (p : Points) (v : Views) (n : ℕ) (records : AccessRecords) → slice_get v.places n ≡ Some (Recording records) → ShowsViews p v → FoundCell p n records
+pub found_cell : (p : Points) (v : Views) (n : ℕ) (records : AccessRecords) → slice_get v.places n ≡ Some (Cell records) → ShowsViews p v → FoundCell p n records
 found_cell p v n records e z = let h = z.places n in go (slice_get p.places n) refl (rw e at h)
   where
-    go : (o : Option Place) → slice_get p.places n ≡ o → ShowsPlaceAt p.graph o (Some (Recording records)) → FoundCell p n records
+    go : (o : Option Place) → slice_get p.places n ≡ o → ShowsPlaceAt p.graph o (Some (Cell records)) → FoundCell p n records
     go None q h = absurd h
     go (Some (Meets k)) q h = absurd h
     go (Some (Keeps history)) q h = absurd h
@@ -176,7 +176,7 @@ place-stepped p v n g place kept l m r c s z = record {
   global = shows-grown r p.global v.global z.global;
 }
 
--- another object, in such a graph
+-- one more object, in such a graph
 pub place-added : (p : Points) (v : Views) (g : Graph) (place : Place) (kept : Kept) → GrownBy 5 p.graph g → IsChained g → ShowsPlace g place kept → ShowsViews p v → ShowsViews (with_new_place p g place) (record v { places = v.places ++ kept ∷ [] })
 place-added p v g place kept r c s z = record {
   chained = c;

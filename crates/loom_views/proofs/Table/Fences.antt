@@ -8,7 +8,7 @@ use Rattle.std.proofs.lemmas.Option.{slice_get_within, get_or_from_slice_get}
 use Rattle.loom_views.specs.declared.rt.atomic.State.{State}
 use Rattle.loom_views.specs.declared.rt.synchronize.ThreadViews.{ThreadViews}
 use Rattle.loom_views.specs.declared.rt.table.Kept.{Kept}
-use Rattle.loom_views.specs.declared.rt.table.Kept.TheVariants.{Keeping}
+use Rattle.loom_views.specs.declared.rt.table.Kept.TheVariants.{Atomic}
 use Rattle.loom_views.specs.declared.rt.table.Views.{Views}
 use Rattle.loom_views.specs.Graph.{Graph, Shows, IsChained, IsPresent}
 use Rattle.loom_views.specs.Threads.{ThreadPoints, ShowsThread, with_present, graph_after_acquire}
@@ -67,7 +67,7 @@ fenced-more p own n place e =
     append-none (x ∷ xs) = ap (λ ys. x ∷ ys) (append-none xs)
 
 -- an atomic comes next, or another object
-pub fenced-atomic : (v : Views) (t : ℕ) (before views after : ThreadViews) (n : ℕ) (state : State) → slice_get v.places n ≡ Some (Keeping state) → ((u : ℕ) (s : Scene) → ShowsScene u s views state → ShowsScene u (acquire_fence_step s) after state) → IsFenced v t before views n → IsFenced v t before after (n + 1)
+pub fenced-atomic : (v : Views) (t : ℕ) (before views after : ThreadViews) (n : ℕ) (state : State) → slice_get v.places n ≡ Some (Atomic state) → ((u : ℕ) (s : Scene) → ShowsScene u s views state → ShowsScene u (acquire_fence_step s) after state) → IsFenced v t before views n → IsFenced v t before after (n + 1)
 fenced-atomic v t before views after n state kept step h = λ p own z i s.
     let o = found_atomic p v n state kept z in
     let now = h p own z i s in
@@ -77,7 +77,7 @@ fenced-atomic v t before views after n state kept step h = λ p own z i s.
     let y = step t scene shown in
     rw (fenced-more p own n (Keeps o.history) o.is) (record { chained = y.chained; present = y.present; thread = y.thread })
 
-pub fenced-other : (v : Views) (t : ℕ) (before views : ThreadViews) (n : ℕ) (kept : Kept) → slice_get v.places n ≡ Some kept → ((state : State) → kept ≡ Keeping state → ⊥) → IsFenced v t before views n → IsFenced v t before views (n + 1)
+pub fenced-other : (v : Views) (t : ℕ) (before views : ThreadViews) (n : ℕ) (kept : Kept) → slice_get v.places n ≡ Some kept → ((state : State) → kept ≡ Atomic state → ⊥) → IsFenced v t before views n → IsFenced v t before views (n + 1)
 fenced-other v t before views n kept e d h = λ p own z i s.
     let o = other p v n kept e z in
     rw (fenced-more p own n o.place o.is, other-stored p v t n kept e z d o.place o.shown) (h p own z i s)

@@ -6,7 +6,7 @@ use Rattle.std.specs.declared.sync.atomic.Ordering.{Ordering}
 use Rattle.std.proofs.lemmas.Bool.{lt-ltb}
 use Rattle.std.proofs.lemmas.Option.{slice_get_within}
 use Rattle.loom_views.specs.declared.rt.synchronize.ThreadViews.{ThreadViews}
-use Rattle.loom_views.specs.declared.rt.table.Kept.TheVariants.{Meeting}
+use Rattle.loom_views.specs.declared.rt.table.Kept.TheVariants.{Point}
 use Rattle.loom_views.specs.declared.rt.table.Views.{Views}
 use Rattle.loom_views.specs.Graph.{Graph, Shows, version, raised, IsChained, IsPresent}
 use Rattle.loom_views.specs.Threads.{ThreadPoints, ShowsThread, with_present, graph_after_raise, graph_after_acquire, graph_after_release_fence, graph_after_store}
@@ -24,17 +24,17 @@ module _ (p : Points) (v : Views) (t : ℕ) (d : ThreadViews) (l : t < v.count) 
       let e : nat_lt (length (raised p.graph t)) 65534 ≡ true = lt-ltb (length (raised p.graph t)) 65534 (room p.graph f.own f.present f.shown) in
       rw (f.is, e) (refl, thread-stepped p v t (graph_after_raise p.graph f.own t) (with_present p.graph f.own) views f.there (raising (f.own.present ∷ []) same) (chained-raising p.graph f.own.present t [] z.chained f.present) (present-new [] (Some t) p.graph t f.own.present f.present) (shown p.graph f.own z.chained f.shown) z)
 
-  pub acquire-moved : (n : ℕ) (view : List ℕ) (views : ThreadViews) → slice_get v.places n ≡ Some (Meeting view) → ((g : Graph) (own : ThreadPoints) (k : ℕ) → IsChained g → ShowsThread g t own (get_or v.threads t d) → Shows g k view → ShowsThread (graph_after_acquire g own k) t (with_present g own) views) → ShowsViews (points_after_acquire p t n) (record v { threads = set v.threads t views })
+  pub acquire-moved : (n : ℕ) (view : List ℕ) (views : ThreadViews) → slice_get v.places n ≡ Some (Point view) → ((g : Graph) (own : ThreadPoints) (k : ℕ) → IsChained g → ShowsThread g t own (get_or v.threads t d) → Shows g k view → ShowsThread (graph_after_acquire g own k) t (with_present g own) views) → ShowsViews (points_after_acquire p t n) (record v { threads = set v.threads t views })
   acquire-moved n view views kept shown =
       let f = found p v t d l m z in
       let o = found_point p v n view kept z in
       rw (f.is, o.is) (thread-stepped p v t (graph_after_acquire p.graph f.own o.point) (with_present p.graph f.own) views f.there (quiet (f.own.present ∷ o.point ∷ []) same) (chained-moved p.graph (f.own.present ∷ o.point ∷ []) z.chained) (present-new (o.point ∷ []) None p.graph t f.own.present f.present) (shown p.graph f.own o.point z.chained f.shown o.shown) z)
 
-  pub release-moved : (n : ℕ) (order : Ordering) (view new : List ℕ) → slice_get v.places n ≡ Some (Meeting view) → ((g : Graph) (own : ThreadPoints) (k : ℕ) → IsChained g → ShowsThread g t own (get_or v.threads t d) → Shows g k view → Shows (graph_after_store g own k order) (length g) new) → ShowsViews (points_after_release p t n order) (record v { places = set v.places n (Meeting new) })
+  pub release-moved : (n : ℕ) (order : Ordering) (view new : List ℕ) → slice_get v.places n ≡ Some (Point view) → ((g : Graph) (own : ThreadPoints) (k : ℕ) → IsChained g → ShowsThread g t own (get_or v.threads t d) → Shows g k view → Shows (graph_after_store g own k order) (length g) new) → ShowsViews (points_after_release p t n order) (record v { places = set v.places n (Point new) })
   release-moved n order view new kept shown =
       let f = found p v t d l m z in
       let o = found_point p v n view kept z in
-      rw (f.is, o.is) (place-stepped p v n (graph_after_store p.graph f.own o.point order) (Meets (length p.graph)) (Meeting new) (slice_get_within p.places n (Meets o.point) o.is) (slice_get_within v.places n (Meeting view) kept) (quiet _ same) (chained-moved p.graph _ z.chained) (shown p.graph f.own o.point z.chained f.shown o.shown) z)
+      rw (f.is, o.is) (place-stepped p v n (graph_after_store p.graph f.own o.point order) (Meets (length p.graph)) (Point new) (slice_get_within p.places n (Meets o.point) o.is) (slice_get_within v.places n (Point view) kept) (quiet _ same) (chained-moved p.graph _ z.chained) (shown p.graph f.own o.point z.chained f.shown o.shown) z)
 
   pub fence-moved : (views : ThreadViews) → ((g : Graph) (own : ThreadPoints) → IsChained g → ShowsThread g t own (get_or v.threads t d) → ShowsThread (graph_after_release_fence g own) t (record own { released = length g }) views) → ShowsViews (points_after_release_fence p t) (record v { threads = set v.threads t views })
   fence-moved views shown =
@@ -53,5 +53,5 @@ module _ (p : Points) (v : Views) (t : ℕ) (d : ThreadViews) (l : t < v.count) 
       let o = found p v u b h i z in
       rw (f.is, o.is) (thread-stepped p v t (graph_after_acquire p.graph f.own o.own.present) (with_present p.graph f.own) views f.there (quiet (f.own.present ∷ o.own.present ∷ []) same) (chained-moved p.graph (f.own.present ∷ o.own.present ∷ []) z.chained) (present-new (o.own.present ∷ []) None p.graph t f.own.present f.present) (shown p.graph f.own o.own.present z.chained f.shown o.shown.present) z)
 
-pub point-added : (p : Points) (v : Views) → ShowsViews p v → ShowsViews (points_with_point p) (record v { places = v.places ++ Meeting zeros ∷ [] })
-point-added p v z = place-added p v _ (Meets (length p.graph)) (Meeting zeros) (quiet [] same) (chained-moved p.graph [] z.chained) (shows-start p.graph z.chained) z
+pub point-added : (p : Points) (v : Views) → ShowsViews p v → ShowsViews (points_with_point p) (record v { places = v.places ++ Point zeros ∷ [] })
+point-added p v z = place-added p v _ (Meets (length p.graph)) (Point zeros) (quiet [] same) (chained-moved p.graph [] z.chained) (shows-start p.graph z.chained) z

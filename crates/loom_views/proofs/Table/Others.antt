@@ -7,7 +7,7 @@ use Rattle.loom_views.specs.declared.rt.cell.AccessRecords.{AccessRecords}
 use Rattle.loom_views.specs.declared.rt.failure.FailureKind.{FailureKind}
 use Rattle.loom_views.specs.declared.rt.failure.FailureKind.TheVariants.{Misuse}
 use Rattle.loom_views.specs.declared.rt.table.Kept.{Kept}
-use Rattle.loom_views.specs.declared.rt.table.Kept.TheVariants.{Meeting, Keeping, Recording}
+use Rattle.loom_views.specs.declared.rt.table.Kept.TheVariants.{Point, Atomic, Cell}
 use Rattle.loom_views.specs.declared.rt.table.Views.{Views}
 use Rattle.loom_views.specs.Graph.{Graph}
 use Rattle.loom_views.specs.Threads.{ThreadPoints}
@@ -30,23 +30,23 @@ other p v n kept e z = let h = z.places n in go (slice_get p.places n) refl (rw 
     go (Some place) q h = record { place = place; is = q; shown = h }
 
 -- what is kept is of another kind, so the object is
-no_point : (g : Graph) (k : ℕ) (kept : Kept) → ((view : List ℕ) → kept ≡ Meeting view → ⊥) → ShowsPlace g (Meets k) kept → ⊥
-no_point g k (Meeting view) d h = d view refl
-no_point g k (Keeping state) d h = h
-no_point g k (Recording records) d h = h
+no_point : (g : Graph) (k : ℕ) (kept : Kept) → ((view : List ℕ) → kept ≡ Point view → ⊥) → ShowsPlace g (Meets k) kept → ⊥
+no_point g k (Point view) d h = d view refl
+no_point g k (Atomic state) d h = h
+no_point g k (Cell records) d h = h
 
-no_atomic : (g : Graph) (history : History) (kept : Kept) → ((state : State) → kept ≡ Keeping state → ⊥) → ShowsPlace g (Keeps history) kept → ⊥
-no_atomic g history (Meeting view) d h = h
-no_atomic g history (Keeping state) d h = d state refl
-no_atomic g history (Recording records) d h = h
+no_atomic : (g : Graph) (history : History) (kept : Kept) → ((state : State) → kept ≡ Atomic state → ⊥) → ShowsPlace g (Keeps history) kept → ⊥
+no_atomic g history (Point view) d h = h
+no_atomic g history (Atomic state) d h = d state refl
+no_atomic g history (Cell records) d h = h
 
-no_cell : (g : Graph) (cell : Accesses) (kept : Kept) → ((records : AccessRecords) → kept ≡ Recording records → ⊥) → ShowsPlace g (Records cell) kept → ⊥
-no_cell g cell (Meeting view) d h = h
-no_cell g cell (Keeping state) d h = h
-no_cell g cell (Recording records) d h = d records refl
+no_cell : (g : Graph) (cell : Accesses) (kept : Kept) → ((records : AccessRecords) → kept ≡ Cell records → ⊥) → ShowsPlace g (Records cell) kept → ⊥
+no_cell g cell (Point view) d h = h
+no_cell g cell (Atomic state) d h = h
+no_cell g cell (Cell records) d h = d records refl
 
 module _ (p : Points) (v : Views) (t n : ℕ) (kept : Kept) (e : slice_get v.places n ≡ Some kept) (z : ShowsViews p v) where
-  pub other-released : ((view : List ℕ) → kept ≡ Meeting view → ⊥) → (order : Ordering) → ShowsViews (points_after_release p t n order) (record v { places = set v.places n kept })
+  pub other-released : ((view : List ℕ) → kept ≡ Point view → ⊥) → (order : Ordering) → ShowsViews (points_after_release p t n order) (record v { places = set v.places n kept })
   other-released d order =
       let o = other p v n kept e z in
       rw (set-same v.places n kept e, o.is) (go (slice_get p.threads t) o.place o.shown)
@@ -58,7 +58,7 @@ module _ (p : Points) (v : Views) (t n : ℕ) (kept : Kept) (e : slice_get v.pla
       go (Some own) (Records cell) h = z
 
   -- an access of what is no atomic
-  module _ (d : (state : State) → kept ≡ Keeping state → ⊥) where
+  module _ (d : (state : State) → kept ≡ Atomic state → ⊥) where
     misused : (step : Scene → Result Answer FailureKind) → access p t n step ≡ Err Misuse
     misused step = let o = other p v n kept e z in rw o.is (go (slice_get p.threads t) o.place o.shown)
       where
@@ -81,7 +81,7 @@ module _ (p : Points) (v : Views) (t n : ℕ) (kept : Kept) (e : slice_get v.pla
     other-stored (Records cell) h = refl
 
   -- an access of what is no cell
-  pub other-records : ((records : AccessRecords) → kept ≡ Recording records → ⊥) → (step : Graph → ℕ → Accesses → Result Accesses FailureKind) (new : Views) → MovesAs (record_by p n step (slice_get p.threads t) (slice_get p.places n)) (Err Misuse) new
+  pub other-records : ((records : AccessRecords) → kept ≡ Cell records → ⊥) → (step : Graph → ℕ → Accesses → Result Accesses FailureKind) (new : Views) → MovesAs (record_by p n step (slice_get p.threads t) (slice_get p.places n)) (Err Misuse) new
   other-records d step new = let o = other p v n kept e z in rw o.is (go (slice_get p.threads t) o.place o.shown)
     where
       go : (q : Option ThreadPoints) (place : Place) → ShowsPlace p.graph place kept → MovesAs (record_by p n step q (Some place)) (Err Misuse) new

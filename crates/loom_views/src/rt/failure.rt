@@ -26,7 +26,7 @@ pub enum FailureKind {
     TooManyBranches = 9,
     #[error("a version past 65534")]
     TooManyVersions = 10,
-    #[error("more than 65535 stores to one cell")]
+    #[error("more than 65535 stores to one atomic")]
     TooManyStores = 11,
     #[error("more operations than `max_steps`")]
     TooManySteps = 12,

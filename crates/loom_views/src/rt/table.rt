@@ -6,7 +6,7 @@
 
 ghost use Rattle.std.specs.Prelude.{◌≡◌, ◌++◌, ◌∷◌, ◌<◌, ◌≤◌, [], Err, OnErr, OnOk, slice_get};
 ghost use Rattle.loom_views.specs.declared.rt.failure.FailureKind.TheVariants.{Misuse};
-ghost use Rattle.loom_views.specs.declared.rt.table.Kept.TheVariants.{Meeting};
+ghost use Rattle.loom_views.specs.declared.rt.table.Kept.TheVariants.{Point};
 ghost use Rattle.loom_views.specs.Versions.{zeros};
 ghost use Rattle.loom_views.specs.Table.{Points, ShowsViews, MovesAs, LoadsAs, StoresAs, OffersAs, IsSlotKept, opening, points_after_raise, points_after_acquire, points_after_release, points_after_release_fence, points_after_yield, points_with_point, points_after_spawn, points_after_join, points_with_atomic, points_after_load, points_after_store, points_after_update_read, points_after_update_write, points_after_update_fail, points_after_unsync_load, points_after_with_mut, points_after_with_mut_end, points_after_acquire_fence, points_after_meet_global, points_after_fence, points_with_cell, points_after_read, points_after_write, readable_slots_of};
 
@@ -23,20 +23,20 @@ use std::sync::atomic::Ordering;
 /// What is kept of an object (own; loom's objects keep it each for itself).
 #[derive(Clone, Copy)]
 pub enum Kept {
-    /// Threads synchronize at it.
-    Meeting(Synchronize),
-    /// An atomic.
-    Keeping(State),
-    /// A cell.
-    Recording(AccessRecords),
+    /// Of one at which threads synchronize: its view.
+    Point(Synchronize),
+    /// Of an atomic: its last stores.
+    Atomic(State),
+    /// Of a cell: the views of its accesses.
+    Cell(AccessRecords),
 }
 
 impl Kept {
     /// A point at which no thread has synchronized.
     fn new_point() -> Kept
-        ensures { result ≡ Meeting zeros }
+        ensures { result ≡ Point zeros }
     {
-        Kept::Meeting(Synchronize::new())
+        Kept::Point(Synchronize::new())
     }
 }
 
@@ -88,7 +88,7 @@ impl Views {
             return;
         }
         let mut views = self.threads[thread];
-        if let Kept::Meeting(sync) = self.places.at(place) {
+        if let Kept::Point(sync) = self.places.at(place) {
             sync.sync_load(&mut views, Ordering::Acquire);
             self.threads[thread] = views;
         }
@@ -102,7 +102,7 @@ impl Views {
             return;
         }
         let views = self.threads[thread];
-        if let Kept::Meeting(sync) = self.places.at_mut(place) {
+        if let Kept::Point(sync) = self.places.at_mut(place) {
             sync.sync_store(&views, order);
         }
     }
@@ -129,7 +129,7 @@ impl Views {
         }
         let mut views = self.threads[thread];
         for place in 0..self.places.len() {
-            if let Kept::Keeping(state) = self.places.at(place) {
+            if let Kept::Atomic(state) = self.places.at(place) {
                 state.acquire_fence(&mut views);
             }
         }
@@ -182,19 +182,19 @@ impl Views {
         self.threads[thread] = views;
     }
 
-    /// Another object.
+    /// Adds an object with what is kept of it. An error where a growth was refused; then nothing changes.
     fn add(&mut self, kept: Kept) -> Result<(), AllocError>
         ensures ok { OnOk result (self.new ≡ record self.old { places = self.old.places ++ kept ∷ [] }) }
         ensures err { OnErr result (self.new ≡ self.old) }
     {
         match kept {
-            Kept::Meeting(sync) => self.places.push(Kept::Meeting(sync)),
-            Kept::Keeping(state) => self.places.push(Kept::Keeping(state)),
-            Kept::Recording(records) => self.places.push(Kept::Recording(records)),
+            Kept::Point(sync) => self.places.push(Kept::Point(sync)),
+            Kept::Atomic(state) => self.places.push(Kept::Atomic(state)),
+            Kept::Cell(records) => self.places.push(Kept::Cell(records)),
         }
     }
 
-    /// Another object that threads synchronize at. An error where a growth was refused; then nothing changes (loom's
+    /// Adds an object that threads synchronize at. An error where a growth was refused; then nothing changes (loom's
     /// `rt/synchronize.rs`).
     pub fn add_point(&mut self) -> Result<(), AllocError>
         ensures shown { (p : Points) → ShowsViews p self.old → OnOk result (ShowsViews (points_with_point p) self.new) }
@@ -253,7 +253,7 @@ impl Views {
             return Ok(());
         }
         let views = self.threads[thread];
-        self.add(Kept::Keeping(State::new(thread, &views, value)))
+        self.add(Kept::Atomic(State::new(thread, &views, value)))
     }
 
     /// The slots of an atomic that a reader may choose, once the thread has raised its version. `OrdersEqual` where two stores
@@ -272,7 +272,7 @@ impl Views {
         }
         let views = self.threads[thread];
         match self.places.at(place) {
-            Kept::Keeping(state) => state.readable(thread, &views, reader),
+            Kept::Atomic(state) => state.readable(thread, &views, reader),
             _ => Err(FailureKind::Misuse),
         }
     }
@@ -300,7 +300,7 @@ impl Views {
         }
         let mut views = self.threads[thread];
         match self.places.at_mut(place) {
-            Kept::Keeping(state) => {
+            Kept::Atomic(state) => {
                 let answer = state.load(thread, &mut views, slot, order);
                 self.threads[thread] = views;
                 answer
@@ -327,7 +327,7 @@ impl Views {
         }
         let views = self.threads[thread];
         match self.places.at_mut(place) {
-            Kept::Keeping(state) => state.store(thread, &views, value, order),
+            Kept::Atomic(state) => state.store(thread, &views, value, order),
             _ => Err(FailureKind::Misuse),
         }
     }
@@ -353,7 +353,7 @@ impl Views {
         }
         let views = self.threads[thread];
         match self.places.at_mut(place) {
-            Kept::Keeping(state) => state.update_read(thread, &views, slot),
+            Kept::Atomic(state) => state.update_read(thread, &views, slot),
             _ => Err(FailureKind::Misuse),
         }
     }
@@ -382,7 +382,7 @@ impl Views {
         }
         let mut views = self.threads[thread];
         match self.places.at_mut(place) {
-            Kept::Keeping(state) => {
+            Kept::Atomic(state) => {
                 let answer = state.update_write(thread, &mut views, slot, value, success);
                 self.threads[thread] = views;
                 answer
@@ -404,7 +404,7 @@ impl Views {
             return;
         }
         let mut views = self.threads[thread];
-        if let Kept::Keeping(state) = self.places.at(place) {
+        if let Kept::Atomic(state) = self.places.at(place) {
             state.update_fail(&mut views, slot, failure);
             self.threads[thread] = views;
         }
@@ -422,7 +422,7 @@ impl Views {
         }
         let views = self.threads[thread];
         match self.places.at_mut(place) {
-            Kept::Keeping(state) => state.unsync_load(&views),
+            Kept::Atomic(state) => state.unsync_load(&views),
             _ => Err(FailureKind::Misuse),
         }
     }
@@ -439,7 +439,7 @@ impl Views {
         }
         let views = self.threads[thread];
         match self.places.at_mut(place) {
-            Kept::Keeping(state) => state.with_mut(&views),
+            Kept::Atomic(state) => state.with_mut(&views),
             _ => Err(FailureKind::Misuse),
         }
     }
@@ -460,7 +460,7 @@ impl Views {
         }
         let views = self.threads[thread];
         match self.places.at_mut(place) {
-            Kept::Keeping(state) => state.with_mut_end(&views, value),
+            Kept::Atomic(state) => state.with_mut_end(&views, value),
             _ => Err(FailureKind::Misuse),
         }
     }
@@ -474,7 +474,7 @@ impl Views {
             return Ok(());
         }
         let views = self.threads[thread];
-        self.add(Kept::Recording(AccessRecords::new(&views)))
+        self.add(Kept::Cell(AccessRecords::new(&views)))
     }
 
     /// A thread reads a cell, which is recorded. `Race` with a write that hasn't come to the thread, `Misuse` where there is no
@@ -488,7 +488,7 @@ impl Views {
         }
         let views = self.threads[thread];
         match self.places.at_mut(place) {
-            Kept::Recording(records) => records.read(&views),
+            Kept::Cell(records) => records.read(&views),
             _ => Err(FailureKind::Misuse),
         }
     }
@@ -504,7 +504,7 @@ impl Views {
         }
         let views = self.threads[thread];
         match self.places.at_mut(place) {
-            Kept::Recording(records) => records.write(&views),
+            Kept::Cell(records) => records.write(&views),
             _ => Err(FailureKind::Misuse),
         }
     }

@@ -1,7 +1,7 @@
 use Rattle.std.proofs.Common.{◌≡◌, ap, ◌∙◌, length, get_or, subst, Some, arith}
 use Rattle.loom_views.proofs.Table.Fences.{IsFenced, fenced-atomic, fenced-other, acquire_fence-moved}
 use Rattle.loom_views.proofs.rt.table.Views.acquire_fence.Goals as goal
-use Rattle.loom_views.proofs.rt.table.Views.acquire_fence.Goals.{in-Keeping, in_default}
+use Rattle.loom_views.proofs.rt.table.Views.acquire_fence.Goals.{in-Atomic, in_default}
 
 pub loop-place-preserved : goal.loop-place-preserved
 loop-place-preserved c =
@@ -9,8 +9,8 @@ loop-place-preserved c =
     let t = c.args.thread in
     let before = get_or v.threads t c.index-self-thread.result in
     elim c.match-at.branch [
-      | in-Keeping w ↦ rw w.views-is (fenced-atomic v t before c.loop-place.views w.acquire_fence.new.views c.loop-place.place w.in-Keeping.state (c.at.ensures ∙ ap Some w.in-Keeping.is) w.acquire_fence.ensures c.loop-place.invariant)
-      | in_default w ↦ rw w.views-is (fenced-other v t before c.loop-place.views c.loop-place.place c.at.result.now c.at.ensures w.in_default.not-Keeping c.loop-place.invariant)
+      | in-Atomic w ↦ rw w.views-is (fenced-atomic v t before c.loop-place.views w.acquire_fence.new.views c.loop-place.place w.in-Atomic.state (c.at.ensures ∙ ap Some w.in-Atomic.is) w.acquire_fence.ensures c.loop-place.invariant)
+      | in_default w ↦ rw w.views-is (fenced-other v t before c.loop-place.views c.loop-place.place c.at.result.now c.at.ensures w.in_default.not-Atomic c.loop-place.invariant)
     ]
 
 pub returns : goal.returns

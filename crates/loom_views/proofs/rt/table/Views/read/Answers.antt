@@ -5,14 +5,14 @@ use Rattle.loom_views.proofs.Table.Others.{other-records}
 use Rattle.loom_views.proofs.Table.Updates.{place-unchanged}
 use Rattle.loom_views.proofs.rt.table.Views.read.Goals as goal
 
-pub returns-in-Recording-clause-shown : goal.returns-in-Recording-clause-shown
-returns-in-Recording-clause-shown c = λ p z. access-recorded p c.args.self.now c.args.thread c.args.place c.index-self-thread.result c.in-Recording.records c.if-thread-self.false c.if-thread-ge-MAX_THREADS.false (c.at_mut.ensures.value ∙ ap Some c.in-Recording.is) z read_step c.read.result c.read.new.self c.read.ensures.shown
+pub returns-in-Cell-clause-shown : goal.returns-in-Cell-clause-shown
+returns-in-Cell-clause-shown c = λ p z. access-recorded p c.args.self.now c.args.thread c.args.place c.index-self-thread.result c.in-Cell.records c.if-thread-self.false c.if-thread-ge-MAX_THREADS.false (c.at_mut.ensures.value ∙ ap Some c.in-Cell.is) z read_step c.read.result c.read.new.self c.read.ensures.shown
 
-pub returns-in-Recording-clause-err : goal.returns-in-Recording-clause-err
-returns-in-Recording-clause-err c = records-unchanged c.args.self.now c.args.place c.in-Recording.records c.read.new.self c.read.result (c.at_mut.ensures.value ∙ ap Some c.in-Recording.is) c.read.ensures.err
+pub returns-in-Cell-clause-err : goal.returns-in-Cell-clause-err
+returns-in-Cell-clause-err c = records-unchanged c.args.self.now c.args.place c.in-Cell.records c.read.new.self c.read.result (c.at_mut.ensures.value ∙ ap Some c.in-Cell.is) c.read.ensures.err
 
 pub returns-in_default : goal.returns-in_default
 returns-in_default c = record {
-  shown = λ p z. other-records p c.args.self.now c.args.thread c.args.place c.at_mut.result.now c.at_mut.ensures.value z c.in_default.not-Recording read_step _;
+  shown = λ p z. other-records p c.args.self.now c.args.thread c.args.place c.at_mut.result.now c.at_mut.ensures.value z c.in_default.not-Cell read_step _;
   err = place-unchanged c.args.self.now c.args.place c.at_mut.result.now c.at_mut.ensures.value;
 }

@@ -4,14 +4,14 @@ use Rattle.loom_views.proofs.Table.Others.{other-loads}
 use Rattle.loom_views.proofs.Table.Updates.{unsync_load-moved, kept-unchanged, place-unchanged}
 use Rattle.loom_views.proofs.rt.table.Views.unsync_load.Goals as goal
 
-pub returns-in-Keeping-clause-shown : goal.returns-in-Keeping-clause-shown
-returns-in-Keeping-clause-shown c = λ p z. unsync_load-moved p c.args.self.now c.args.thread c.args.place c.index-self-thread.result c.in-Keeping.state c.if-thread-self.false c.if-thread-ge-MAX_THREADS.false (c.at_mut.ensures.value ∙ ap Some c.in-Keeping.is) z c.unsync_load.result c.unsync_load.new.self c.unsync_load.ensures.shown
+pub returns-in-Atomic-clause-shown : goal.returns-in-Atomic-clause-shown
+returns-in-Atomic-clause-shown c = λ p z. unsync_load-moved p c.args.self.now c.args.thread c.args.place c.index-self-thread.result c.in-Atomic.state c.if-thread-self.false c.if-thread-ge-MAX_THREADS.false (c.at_mut.ensures.value ∙ ap Some c.in-Atomic.is) z c.unsync_load.result c.unsync_load.new.self c.unsync_load.ensures.shown
 
-pub returns-in-Keeping-clause-err : goal.returns-in-Keeping-clause-err
-returns-in-Keeping-clause-err c = kept-unchanged c.args.self.now c.args.place c.in-Keeping.state c.unsync_load.new.self c.unsync_load.result (c.at_mut.ensures.value ∙ ap Some c.in-Keeping.is) c.unsync_load.ensures.err
+pub returns-in-Atomic-clause-err : goal.returns-in-Atomic-clause-err
+returns-in-Atomic-clause-err c = kept-unchanged c.args.self.now c.args.place c.in-Atomic.state c.unsync_load.new.self c.unsync_load.result (c.at_mut.ensures.value ∙ ap Some c.in-Atomic.is) c.unsync_load.ensures.err
 
 pub returns-in_default : goal.returns-in_default
 returns-in_default c = record {
-  shown = λ p z. other-loads p c.args.self.now c.args.thread c.args.place c.at_mut.result.now c.at_mut.ensures.value z c.in_default.not-Keeping unsync_load_step _;
+  shown = λ p z. other-loads p c.args.self.now c.args.thread c.args.place c.at_mut.result.now c.at_mut.ensures.value z c.in_default.not-Atomic unsync_load_step _;
   err = place-unchanged c.args.self.now c.args.place c.at_mut.result.now c.at_mut.ensures.value;
 }
