@@ -1,13 +1,15 @@
-use Rattle.std.proofs.Common.{◌≤◌, ◌<◌, length, refl, ap, ◌∙◌, arith, rules}
+use Rattle.std.proofs.Common.{◌≡◌, ◌≤◌, ◌<◌, length, refl, ap, ◌∙◌, arith, rules}
 use Rattle.std.specs.Prelude.{true}
 use Rattle.loom_objects.specs.Question.{made_of}
 use Rattle.loom_objects.specs.declared.choice.Choice.TheVariants.{Spurious}
 use Rattle.loom_walks.specs.Trees.Drive.{new_node}
+use Rattle.loom_engine.specs.declared.rt.node.Node.{Node}
 use Rattle.loom_engine.specs.declared.rt.node.Node.TheVariants as node
+use Rattle.loom_engine.specs.Nodes.{seen}
 use Rattle.loom_engine.specs.Routes.{Route}
 use Rattle.loom_runs.specs.Asking.{whether_spurious}
 use Rattle.loom_engine.specs.contracts.rt.path.Path.{the_view}
-use Rattle.loom_engine.proofs.Nodes.Paths.{past_end, makes}
+use Rattle.loom_engine.proofs.Nodes.Paths.{past_end, follows, full, refuses, makes}
 use Rattle.loom_engine.proofs.rt.path.Path.branch_spurious.Goals as goal
 
 pub returns-in-Ok-clause-says : goal.returns-in-Ok-clause-says
@@ -18,3 +20,26 @@ returns-in-Ok-clause-says c =
     let room : p.position < p.max_branches = search rules in
     makes p whether_spurious past room refl (node.Spurious c.in-Some.spurious) (Spurious c.in-Some.spurious.answer) c.lengthen.new.self
     (c.in-Some.ensures ∙ ap (new_node true (made_of whether_spurious)) c.given_here.ensures) refl c.in-Ok.ensures.made
+
+pub returns-then-self-len-clause-says : goal.returns-then-self-len-clause-says
+returns-then-self-len-clause-says c =
+    let p : Route = the_view c.self.inside in
+    let n : Node = node.Spurious c.in-Spurious.spurious in
+    let meets : (seen n).made ≡ made_of whether_spurious = search rules in
+    rw (← c.self.view_is) (follows p whether_spurious n (seen n).present (omega (arith, c.self.inside.nodes.ok.0)) (rw c.in-Spurious.is at c.index.ensures) meets refl)
+
+pub returns-then-is_full-clause-says : goal.returns-then-is_full-clause-says
+returns-then-is_full-clause-says c =
+    let p : Route = c.args.self.now in
+    let held : length (the_view c.self.inside).nodes ≤ (the_view c.self.inside).position = omega (arith, c.self.inside.nodes.ok.0) in
+    let past : length p.nodes ≤ p.position = past_end (the_view c.self.inside) p c.self.view_is held in
+    rw c.failed-then-is_full.ensures (full p whether_spurious past (c.if-is_full.ensures.0 refl), refl)
+
+pub returns-in_default-new_spurious-clause-says : goal.returns-in_default-new_spurious-clause-says
+returns-in_default-new_spurious-clause-says c =
+    let p : Route = c.args.self.now in
+    let held : length (the_view c.self.inside).nodes ≤ (the_view c.self.inside).position = omega (arith, c.self.inside.nodes.ok.0) in
+    let past : length p.nodes ≤ p.position = past_end (the_view c.self.inside) p c.self.view_is held in
+    let room : p.position < p.max_branches = search rules in
+    rw c.failed-in_default-new_spurious.ensures
+    (refuses p whether_spurious past room refl (c.in_default-new_spurious.ensures ∙ ap (new_node true (made_of whether_spurious)) c.given_here.ensures), refl)

@@ -96,3 +96,10 @@ returns-in-Ok-clause-readable c =
       load_readable load.exploring load.readable c.args.readable.now load.position slot c.in-Some.ensures.well (some_slot c.args.readable.now c.requires.some) refl
           (new_is_made (made_of (which_store c.args.readable.now)) c.given_here.result (seen_load load) c.in-Some.ensures.made),
     )
+
+pub returns-in-Ok-clause-same : goal.returns-in-Ok-clause-same
+returns-in-Ok-clause-same c = (
+  ap (λ (r : Route). r.max_branches) c.in-Ok.ensures.made,
+  ap (λ (r : Route). r.position) c.in-Ok.ensures.made,
+  ap (λ (r : Route). r.given) c.in-Ok.ensures.made,
+)
