@@ -7,6 +7,9 @@ use crate::number::Number;
 use crate::step::{Step, Value};
 use loom_objects::operation::Reply;
 
+// The last register.
+const LAST: usize = 3;
+
 /// What a slot keeps.
 #[derive(Clone, Copy, Debug)]
 pub enum Handle {
@@ -66,7 +69,7 @@ impl State {
         match told_by(reply) {
             Told::Nothing => {}
             Told::Number(number) => self.put_number(self.keep, number),
-            Told::Instead(number) => self.put_number(3, number),
+            Told::Instead(number) => self.put_number(LAST, number),
             Told::Handle(handle) => self.put_handle(handle),
         }
     }
