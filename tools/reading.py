@@ -21,8 +21,8 @@ START = ["loom/specs/Check.antt", "loom_runs/specs/Runs.antt"]
 RULES = {
     f"loom_objects/specs/{name}.antt"
     for name in [
-        "Atomics", "Cells", "Condvars", "Counts", "Leaks", "Locks", "Moves", "Notifiers", "RwLocks", "Steps", "Threads",
-        "Tracks", "World",
+        "Atomics", "Cells", "Condvars", "Counts", "Effects", "Ending", "Leaks", "Lent", "Locks", "Lookup", "Moves",
+        "Notifiers", "Rule", "RwLocks", "Schedules", "Steps", "Threads", "Tracks", "Turns", "World",
     ]
 }
 # how the code keeps the nodes of a path and the state of a run

@@ -1,224 +1,172 @@
--- What stores, loads and read-modify-writes come to, in the rules of the machine.
-use Rattle.std.proofs.Common.{◌≡◌, ℕ, arith, refl, ap, sym, ◌∙◌, subst}
-use Rattle.std.specs.Prelude.{◌==◌, true, false, List, [], ◌∷◌, zero, suc, Bool, slice_get, Option, Some, Ok, Err, Result}
+-- What comes of an access that reads: the choice of its store, and a read-modify-write by the slot that was chosen.
+use Rattle.std.proofs.Common.{◌≡◌, ℕ, zero, suc, ◌⊎◌, inl, inr, arith, refl, ap, sym, subst}
+use Rattle.std.specs.Prelude.{◌==◌, true, false, List, [], ◌∷◌, Bool, slice_get, Option, Some, Ok, Err, Result}
 use Rattle.std.specs.List.{Contains}
 use Rattle.std.specs.declared.sync.atomic.Ordering.{Ordering}
-use Rattle.loom_views.specs.Changes.{fit, changed}
-use Rattle.loom_views.specs.Table.{Points, Accessed, ShowsViews, MovesAs, StoresAs, LoadsAs, OffersAs, IsSlotKept, slot_set, points_after_raise, points_after_store, points_after_load, points_after_update_read, points_after_update_write, points_after_update_fail, readable_slots_of}
+use Rattle.loom_views.specs.Changes.{fit}
+use Rattle.loom_views.specs.Table.{Points, Accessed, ShowsViews, MovesAs, StoresAs, LoadsAs, OffersAs, IsSlotKept, slot_set, points_after_raise, points_after_update_read, points_after_update_write, points_after_update_fail, readable_slots_of}
 use Rattle.loom_views.specs.declared.rt.atomic.Reader.{Reader}
 use Rattle.loom_views.specs.declared.rt.change.Change.{Change}
 use Rattle.loom_views.specs.declared.rt.failure.FailureKind.{FailureKind}
-use Rattle.loom_views.specs.declared.rt.failure.FailureKind.TheVariants.{Misuse}
 use Rattle.loom_views.specs.declared.rt.table.Views.{Views}
 use Rattle.loom_views.proofs.Table.Kept.{offered_slots_are_kept_law, reading_keeps_slots_law}
 use Rattle.loom_objects.specs.declared.operation.AtomicOp.{AtomicOp}
-use Rattle.loom_objects.specs.declared.operation.AtomicOp.TheVariants.{Load, Update, CompareExchange}
+use Rattle.loom_objects.specs.declared.operation.AtomicOp.TheVariants.{Load, Store, Update, CompareExchange, CompareAndSwap}
 use Rattle.loom_objects.specs.declared.operation.Exchange.{Exchange}
-use Rattle.loom_objects.specs.declared.operation.Reply.{Reply}
-use Rattle.loom_objects.specs.declared.operation.Reply.TheVariants as reply
-use Rattle.loom_objects.specs.declared.rt.run.Loading.{Loading}
-use Rattle.loom_objects.specs.declared.rt.run.Resumed.TheVariants as resumed
-use Rattle.loom_objects.specs.declared.rt.run.RunState.{RunState}
 use Rattle.loom_objects.specs.declared.rt.sync.Atomic.{Atomic}
-use Rattle.loom_objects.specs.Atomics.{as_atomic, asks, asks_slot, asks_store, exchanges, exchanges_if, loads, opens, reads, store, updates, writes}
-use Rattle.loom_objects.specs.Failing.{fails}
-use Rattle.loom_objects.specs.Moves.{came, raises, with_points}
+use Rattle.loom_objects.specs.declared.rt.run.Resumed.TheVariants as resumed
+use Rattle.loom_objects.specs.Atomics.{access_begins, atomic_begins, exchanges, opens, some_slot}
+use Rattle.loom_objects.specs.Moves.{an_atomic, with_points}
 use Rattle.loom_objects.specs.Operation.{accessed}
-use Rattle.loom_objects.specs.Question.{slots_from, asked_store}
-use Rattle.loom_objects.specs.Shown.{world_of, Shows, Does, DoesAt, KeepsAt, Resumes, read_by}
-use Rattle.loom_objects.specs.Steps.{told, turned, turns_by}
-use Rattle.loom_objects.specs.Tree.{Tree, Gives, Fails, Asks, ◌>>=◌, found}
+use Rattle.loom_objects.specs.Rule.{◌>>=◌}
+use Rattle.loom_objects.specs.Scene.{Stage, world_of, Comes, DoesAt, KeepsAt}
 use Rattle.loom_objects.specs.World.{World}
-use Rattle.loom_objects.proofs.Moving.{moved}
+use Rattle.loom_objects.proofs.Showing.{Leads}
 
-pub stored : (r : Result Accessed FailureKind) (v : Views) → StoresAs r (Ok tt) v → (a : Accessed) × (r ≡ Ok a) × ShowsViews a.points v
-stored (Ok a) v h = (a, refl, h.1)
-stored (Err kind) v h = absurd (cc)
+-- ---- an access that waits for its turn
 
-pub stored_not : (r : Result Accessed FailureKind) (v : Views) (kind : FailureKind) → StoresAs r (Err kind) v → r ≡ Err kind
-stored_not (Ok a) v kind h = let e = h.0 in absurd (cc)
-stored_not (Err other) v kind h = cc
+-- at each of these the thread comes to a branch point
+pub comes_to_branch : {D : Type 0} (access : AtomicOp) (w : World D)
+    → ((n : ℕ) × (order : Ordering) × (access ≡ Load n order)) ⊎ (((n : ℕ) × (value : ℕ) × (order : Ordering) × (access ≡ Store n value order))
+    ⊎ (((n : ℕ) × (change : Change) × (order : Ordering) × (access ≡ Update n change order)) ⊎ (((n : ℕ) × (exchange : Exchange) × (access ≡ CompareExchange n exchange))
+    ⊎ ((n : ℕ) × (expected : ℕ) × (new : ℕ) × (order : Ordering) × (access ≡ CompareAndSwap n expected new order)))))
+    → atomic_begins access w ≡ access_begins access w
+comes_to_branch access w (inl (n, order, e)) = rw e refl
+comes_to_branch access w (inr (inl (n, value, order, e))) = rw e refl
+comes_to_branch access w (inr (inr (inl (n, change, order, e)))) = rw e refl
+comes_to_branch access w (inr (inr (inr (inl (n, exchange, e))))) = rw e refl
+comes_to_branch access w (inr (inr (inr (inr (n, expected, new, order, e))))) = rw e refl
 
-pub loaded : (r : Result Accessed FailureKind) (value : ℕ) (v : Views) → LoadsAs r (Ok value) v → (a : Accessed) × (r ≡ Ok a) × (value ≡ a.value) × ShowsViews a.points v
-loaded (Ok a) value v h = let e = h.0 in (a, refl, cc, h.1)
-loaded (Err kind) value v h = absurd (cc)
+-- ---- which store is read
+
+-- a set with a slot has one that may be read
+pub some_is : (readable : List Bool) → Contains readable true → some_slot readable ≡ true
+some_is [] h = let within = h.1 in absurd (omega arith)
+some_is (true ∷ readable) h = refl
+some_is (false ∷ readable) (zero, within, e) = absurd (cc)
+some_is (false ∷ readable) (suc i, within, e) = some_is readable (i, omega arith, e)
+
+moved : (r : Result Points FailureKind) (v : Views) → MovesAs r (Ok tt) v → (p : Points) × (r ≡ Ok p) × ShowsViews p v
+moved (Ok p) v h = (p, refl, h.1)
+moved (Err kind) v h = absurd (cc)
 
 offered : (r : Result (List ℕ) FailureKind) (readable : List Bool) → OffersAs r (Ok readable) → (offers : List ℕ) × (r ≡ Ok offers) × (readable ≡ slot_set offers)
 offered (Ok offers) readable h = (offers, refl, cc)
 offered (Err kind) readable h = absurd (cc)
 
--- a set with a slot has a lowest one
-lowest_from : (readable : List Bool) (k : ℕ) → Contains readable true → (lowest : ℕ) × (others : List ℕ) × (slots_from k readable ≡ lowest ∷ others)
-lowest_from [] k h = let within = h.1 in absurd (omega arith)
-lowest_from (true ∷ readable) k h = (k, slots_from (suc k) readable, refl)
-lowest_from (false ∷ readable) k (zero, within, e) = absurd cc
-lowest_from (false ∷ readable) k (suc i, within, e) = lowest_from readable (suc k) (i, omega arith, e)
+module _ (n t u : ℕ) (stays : u ≡ t) (reader : Reader) (readable : List Bool) (old new : Views)
+    (offers : (p : Points) → ShowsViews p new → OffersAs (readable_slots_of p u n reader) (Ok readable)) where
+  -- the thread raises, and then these slots may be read
+  abbrev pub Opens : Points → Points → Type 0
+  Opens p q = (points_after_raise p t ≡ Ok q) × ((slots : List ℕ) × (readable_slots_of q t n reader ≡ Ok slots) × (readable ≡ slot_set slots))
 
--- how a rule goes on, once it is known what a part of it comes to
-module _ {A B : Type 0} (next : A → Tree B) where
-  pub came_as : (r : Result A FailureKind) (a : A) → r ≡ Ok a → (came r >>= next) ≡ next a
-  came_as r a e = ap (λ (s : Result A FailureKind). came s >>= next) e
+  pub leads_to_offers : ((p : Points) → ShowsViews p old → MovesAs (points_after_raise p t) (Ok tt) new) → Leads old new Opens
+  leads_to_offers raise = λ p shown.
+      let q = moved (points_after_raise p t) new (raise p shown) in
+      let o = offered (readable_slots_of q.0 u n reader) readable (offers q.0 q.2) in
+      (q.0, (q.1, (o.0, subst (λ (s : ℕ). readable_slots_of q.0 s n reader ≡ Ok o.0) stays o.1, o.2)), q.2)
 
-  pub came_not : (r : Result A FailureKind) (kind : FailureKind) → r ≡ Err kind → (came r >>= next) ≡ Fails kind
-  came_not r kind e = ap (λ (s : Result A FailureKind). came s >>= next) e
+  -- each of them keeps a store
+  pub offers_kept : (access : AtomicOp) → accessed access ≡ Some n → (p : Points) → ShowsViews p new → (slot : ℕ) → slice_get readable slot ≡ Some true → KeepsAt p (accessed access) slot
+  offers_kept access of p shown slot set =
+      let o = offered (readable_slots_of p u n reader) readable (offers p shown) in
+      subst (λ (m : Option ℕ). KeepsAt p m slot) (sym of)
+      (offered_slots_are_kept_law p u n reader o.0 slot o.1 (subst (λ (set : List Bool). slice_get set slot ≡ Some true) o.2 set))
 
-  pub found_as : (o : Option A) (kind : FailureKind) (a : A) → o ≡ Some a → (found o kind >>= next) ≡ next a
-  found_as o kind a e = ap (λ (s : Option A). found s kind >>= next) e
+-- and so an access opens
+pub opens_as : {D : Type 0} (n : ℕ) (reader : Reader) (access : AtomicOp) (w : World D) (q : Points) (atomic : Atomic) (slots : List ℕ) (readable : List Bool) → points_after_raise w.points w.active ≡ Ok q
+    → an_atomic n w ≡ Ok atomic → readable_slots_of q w.active n reader ≡ Ok slots → readable ≡ slot_set slots → some_slot readable ≡ true
+    → opens n reader access w ≡ Ok (resumed.Load (record { access = access; readable = readable }), with_points q w)
+opens_as n reader access w q atomic slots readable raise at reads is some =
+    rw (raise, at, reads, ← is, some) refl
 
-pub raised_as : {B D : Type 0} (next : World D → Tree B) (w : World D) (p : Points) → points_after_raise w.points w.active ≡ Ok p → (raises w >>= next) ≡ next (with_points p w)
-raised_as next w p e = ap (λ (r : Result Points FailureKind). (came r >>= (λ points. Gives (with_points points w))) >>= next) e
+-- ---- by the slot that was chosen
 
--- the active thread raises, and then accesses the atomic
-module _ {D : Type 0} (old : RunState D) (mid : Views) (raise : (p : Points) → ShowsViews p old.views → MovesAs (points_after_raise p old.active) (Ok tt) mid) (n : ℕ) (atomic : Atomic) (at : as_atomic (slice_get old.objects n) ≡ Some atomic) where
-  module _ (value : ℕ) (order : Ordering) (cast : ℕ) (is : cast ≡ fit atomic.numbers value) (new : RunState D) where
-    -- what a store comes to, once it is known how the thread raises
-    store_left : (w : World D) → Shows w old → (p : Points) → points_after_raise w.points old.active ≡ Ok p
-        → store n value order w ≡ (came (points_after_store p old.active n cast order) >>= (λ after. Gives (reply.Done, world_of after.points old)))
-    store_left w shown p e =
-        ap (store n value order) shown.rest ∙ raised_as _ (world_of w.points old) p e ∙ found_as _ (as_atomic (slice_get old.objects n)) Misuse atomic at
-        ∙ ap (λ (put : ℕ). came (points_after_store p old.active n put order) >>= (λ after. Gives (reply.Done, world_of after.points old))) (sym is)
+stored : (r : Result Accessed FailureKind) (v : Views) → StoresAs r (Ok tt) v → (a : Accessed) × (r ≡ Ok a) × ShowsViews a.points v
+stored (Ok a) v h = (a, refl, h.1)
+stored (Err kind) v h = absurd (cc)
 
-    pub stores : new ≡ record old { views = new.views } → ((p : Points) → ShowsViews p mid → StoresAs (points_after_store p old.active n cast order) (Ok tt) new.views)
-        → Does (store n value order) old (Ok reply.Done) new
-    stores rest accesses = λ w shown.
-        let q = moved (points_after_raise w.points old.active) mid (raise w.points shown.views) in
-        let a = stored (points_after_store q.0 old.active n cast order) new.views (accesses q.0 q.2) in (
-          world_of a.0.points new,
-          record { views = a.2; rest = refl },
-          store_left w shown q.0 q.1 ∙ came_as _ (points_after_store q.0 old.active n cast order) a.0 a.1
-              ∙ ap (λ (r : RunState D). Gives (reply.Done, world_of a.0.points r)) (sym rest),
-        )
+stored_not : (r : Result Accessed FailureKind) (v : Views) (kind : FailureKind) → StoresAs r (Err kind) v → r ≡ Err kind
+stored_not (Ok a) v kind h = let e = h.0 in absurd (cc)
+stored_not (Err other) v kind h = cc
 
-    pub store_fails : (kind : FailureKind) → ((p : Points) → ShowsViews p mid → StoresAs (points_after_store p old.active n cast order) (Err kind) new.views)
-        → Does (store n value order) old (fails kind) new
-    store_fails kind accesses = λ w shown.
-        let q = moved (points_after_raise w.points old.active) mid (raise w.points shown.views) in
-        let e = stored_not (points_after_store q.0 old.active n cast order) new.views kind (accesses q.0 q.2) in
-        store_left w shown q.0 q.1 ∙ came_not _ (points_after_store q.0 old.active n cast order) kind e
+loaded : (r : Result Accessed FailureKind) (value : ℕ) (v : Views) → LoadsAs r (Ok value) v → (a : Accessed) × (r ≡ Ok a) × (value ≡ a.value) × ShowsViews a.points v
+loaded (Ok a) value v h = let e = h.0 in (a, refl, cc, h.1)
+loaded (Err kind) value v h = absurd (cc)
 
-  module _ (reader : Reader) (access : AtomicOp) (readable : List Bool) where
-    pub asked : ((p : Points) → ShowsViews p mid → OffersAs (readable_slots_of p old.active n reader) (Ok readable)) → Contains readable true → accessed access ≡ Some n
-        → (w : World D) → Shows w old → Resumes (turns_by (asks n reader access) w) (Ok (resumed.Load (record { access = access; readable = readable }))) (record old { views = mid })
-    asked offers some of w shown =
-        let q = moved (points_after_raise w.points old.active) mid (raise w.points shown.views) in
-        let o = offered (readable_slots_of q.0 old.active n reader) readable (offers q.0 q.2) in
-        let l = lowest_from readable 0 some in
-        let load : Loading = record { access = access; readable = readable } in
-        let v : World D = world_of q.0 old in
-        let opened : opens n reader (world_of w.points old) ≡ Gives (slot_set o.0, v) =
-        raised_as _ (world_of w.points old) q.0 q.1 ∙ found_as _ (as_atomic (slice_get old.objects n)) Misuse atomic at ∙ came_as _ (readable_slots_of q.0 old.active n reader) o.0 o.1 in (
-          world_of q.0 (record old { views = mid }),
-          record { views = q.2; rest = refl },
-          λ slot set. subst (λ (m : Option ℕ). KeepsAt v m slot) (sym of)
-              (offered_slots_are_kept_law q.0 old.active n reader o.0 slot o.1 (subst (λ (set : List Bool). slice_get set slot ≡ Some true) o.2 set)),
-          ap (turns_by (asks n reader access)) shown.rest
-              ∙ ap (λ (tree : Tree (List Bool × World D)). ((tree >>= (λ offered. asks_store offered.0 >>= reads access offered.1)) >>= told) >>= turned) opened
-              ∙ ap (λ (set : List Bool). ((asks_store set >>= reads access v) >>= told) >>= turned) (sym o.2)
-              ∙ ap (λ (numbers : List ℕ). ((asks_slot numbers >>= reads access v) >>= told) >>= turned) l.2
-              ∙ ap (λ (numbers : List ℕ). Asks (asked_store true numbers) (λ choice. read_by load v choice >>= turned)) (sym l.2),
-        )
-
--- a load goes on by its slot
-pub loads_slot : {D : Type 0} (old new : RunState D) (n : ℕ) (order : Ordering) (slot value : ℕ) → new ≡ record old { views = new.views }
-    → ((p : Points) → ShowsViews p old.views → IsSlotKept (slice_get p.places n) slot → LoadsAs (points_after_load p old.active n slot order) (Ok value) new.views)
-    → DoesAt (Load n order) slot (loads n order slot) old (Ok (reply.Value value)) new
-loads_slot {D} old new n order slot value rest accesses = λ w shown kept.
-    let a = loaded (points_after_load w.points old.active n slot order) value new.views (accesses w.points shown.views kept) in (
-      world_of a.0.points new,
-      record { views = a.3; rest = refl },
-      ap (loads n order slot) shown.rest ∙ came_as _ (points_after_load w.points old.active n slot order) a.0 a.1
-          ∙ ap (λ (v : ℕ). Gives (reply.Value v, world_of a.0.points old)) (sym a.2) ∙ ap (λ (r : RunState D). Gives (reply.Value value, world_of a.0.points r)) (sym rest),
-    )
-
--- an access reads for a read-modify-write, and then writes, or ends
-module _ {D : Type 0} (old : RunState D) (mid : Views) (n : ℕ) (atomic : Atomic) (at : as_atomic (slice_get old.objects n) ≡ Some atomic) (slot read : ℕ)
-    (get : (p : Points) → ShowsViews p old.views → IsSlotKept (slice_get p.places n) slot → LoadsAs (points_after_update_read p old.active n slot) (Ok read) mid) where
+-- a rule reads for a read-modify-write from the slot, and goes on by what it has read
+module _ {A D : Type 0} (rule : World D → Result (A × World D) FailureKind) (old mid new : Stage D) (n slot read : ℕ) (stays : mid.active ≡ old.active)
+    (get : (p : Points) → ShowsViews p old.views → IsSlotKept (slice_get p.places n) slot → LoadsAs (points_after_update_read p old.active n slot) (Ok read) mid.views) where
   -- the points after the read, which keep the slot
   read_at : (p : Points) → ShowsViews p old.views → IsSlotKept (slice_get p.places n) slot
-      → (a : Accessed) × (points_after_update_read p old.active n slot ≡ Ok a) × (read ≡ a.value) × ShowsViews a.points mid × IsSlotKept (slice_get a.points.places n) slot
+      → (a : Accessed) × (points_after_update_read p old.active n slot ≡ Ok a) × (read ≡ a.value) × ShowsViews a.points mid.views × IsSlotKept (slice_get a.points.places n) slot
   read_at p shown kept =
-      let a = loaded (points_after_update_read p old.active n slot) read mid (get p shown kept) in
+      let a = loaded (points_after_update_read p old.active n slot) read mid.views (get p shown kept) in
       (a.0, a.1, a.2, a.3, reading_keeps_slots_law p old.active n slot a.0 a.1 kept)
 
-  module _ (change : Change) (order : Ordering) (cast : ℕ) (is : cast ≡ fit atomic.numbers (changed atomic.numbers change read)) (new : RunState D) where
-    update_left : (w : World D) → Shows w old → (a : Accessed) → points_after_update_read w.points old.active n slot ≡ Ok a → read ≡ a.value
-        → updates n change order slot w ≡ (came (points_after_update_write a.points old.active n slot cast order) >>= (λ after. Gives (reply.Value read, world_of after.points old)))
-    update_left w shown a e same =
-        ap (updates n change order slot) shown.rest ∙ found_as _ (as_atomic (slice_get old.objects n)) Misuse atomic at ∙ came_as _ (points_after_update_read w.points old.active n slot) a e
-        ∙ ap (λ (v : ℕ). ◌>>=◌ {B = Reply D × World D} (writes n (fit atomic.numbers (changed atomic.numbers change v)) order slot (world_of a.points old)) (λ written. Gives (reply.Value v, written))) (sym same)
-        ∙ ap (λ (put : ℕ). ◌>>=◌ {B = Reply D × World D} (writes n put order slot (world_of a.points old)) (λ written. Gives (reply.Value read, written))) (sym is)
-        ∙ joined (points_after_update_write a.points old.active n slot cast order)
-      where
-        joined : (r : Result Accessed FailureKind) → ◌>>=◌ {B = Reply D × World D} (came r >>= (λ after. Gives (with_points after.points (world_of a.points old)))) (λ written. Gives (reply.Value read, written))
-            ≡ (came r >>= (λ after. Gives (reply.Value read, world_of after.points old)))
-        joined (Ok after) = refl
-        joined (Err kind) = refl
+  -- what it does, where the slot keeps a store
+  abbrev pub DoesKept : Result A FailureKind → Type 0
+  DoesKept result = (p : Points) → (left : ℕ) → ShowsViews p old.views → IsSlotKept (slice_get p.places n) slot → Comes p left (rule (world_of p left old)) result new
 
-    pub updates_slot : new ≡ record old { views = new.views }
-        → ((p : Points) → ShowsViews p mid → IsSlotKept (slice_get p.places n) slot → StoresAs (points_after_update_write p old.active n slot cast order) (Ok tt) new.views)
-        → DoesAt (Update n change order) slot (updates n change order slot) old (Ok (reply.Value read)) new
-    updates_slot rest put = λ w shown kept.
-        let a = read_at w.points shown.views kept in
-        let b = stored (points_after_update_write a.0.points old.active n slot cast order) new.views (put a.0.points a.3 a.4) in (
-          world_of b.0.points new,
-          record { views = b.2; rest = refl },
-          update_left w shown a.0 a.1 a.2 ∙ came_as _ (points_after_update_write a.0.points old.active n slot cast order) b.0 b.1
-              ∙ ap (λ (r : RunState D). Gives (reply.Value read, world_of b.0.points r)) (sym rest),
-        )
+  module _ (value : ℕ) (order : Ordering) where
+    -- it writes
+    pub writes_on : (a : A)
+        → ((p : Points) → ShowsViews p mid.views → IsSlotKept (slice_get p.places n) slot → StoresAs (points_after_update_write p mid.active n slot value order) (Ok tt) new.views)
+        → ((p : Points) (left : ℕ) (got put : Accessed) → points_after_update_read p old.active n slot ≡ Ok got → read ≡ got.value
+        → points_after_update_write got.points old.active n slot value order ≡ Ok put → rule (world_of p left old) ≡ Ok (a, world_of put.points left new))
+        → DoesKept (Ok a)
+    writes_on a puts same = λ p left shown kept.
+        let got = read_at p shown kept in
+        let put = stored (points_after_update_write got.0.points mid.active n slot value order) new.views (puts got.0.points got.3 got.4) in
+        rw (same p left got.0 put.0 got.1 got.2 (subst (λ (t : ℕ). points_after_update_write got.0.points t n slot value order ≡ Ok put.0) stays put.1)) (refl, put.2)
 
-    pub update_fails : (kind : FailureKind) → ((p : Points) → ShowsViews p mid → IsSlotKept (slice_get p.places n) slot → StoresAs (points_after_update_write p old.active n slot cast order) (Err kind) new.views)
-        → DoesAt (Update n change order) slot (updates n change order slot) old (fails kind) new
-    update_fails kind put = λ w shown kept.
-        let a = read_at w.points shown.views kept in
-        let e = stored_not (points_after_update_write a.0.points old.active n slot cast order) new.views kind (put a.0.points a.3 a.4) in
-        update_left w shown a.0 a.1 a.2 ∙ came_not _ (points_after_update_write a.0.points old.active n slot cast order) kind e
+    -- its write fails
+    pub write_fails : (kind : FailureKind) (after : Views)
+        → ((p : Points) → ShowsViews p mid.views → IsSlotKept (slice_get p.places n) slot → StoresAs (points_after_update_write p mid.active n slot value order) (Err kind) after)
+        → ((p : Points) (left : ℕ) (got : Accessed) → points_after_update_read p old.active n slot ≡ Ok got → read ≡ got.value
+        → points_after_update_write got.points old.active n slot value order ≡ Err kind → rule (world_of p left old) ≡ Err kind)
+        → DoesKept (Err kind)
+    write_fails kind after puts same = λ p left shown kept.
+        let got = read_at p shown kept in
+        let failed = stored_not (points_after_update_write got.0.points mid.active n slot value order) after kind (puts got.0.points got.3 got.4) in
+        same p left got.0 got.1 got.2 (subst (λ (t : ℕ). points_after_update_write got.0.points t n slot value order ≡ Err kind) stays failed)
 
-  module _ (exchange : Exchange) (new : RunState D) where
-    exchange_left : (w : World D) → Shows w old → (a : Accessed) → points_after_update_read w.points old.active n slot ≡ Ok a → read ≡ a.value → (b : Bool) → (read == fit atomic.numbers exchange.expected) ≡ b
-        → exchanges n exchange slot w ≡ exchanges_if b n (fit atomic.numbers exchange.new) exchange slot read (world_of a.points old)
-    exchange_left w shown a e same b is =
-        ap (exchanges n exchange slot) shown.rest ∙ found_as _ (as_atomic (slice_get old.objects n)) Misuse atomic at ∙ came_as _ (points_after_update_read w.points old.active n slot) a e
-        ∙ ap (λ (v : ℕ). exchanges_if (v == fit atomic.numbers exchange.expected) n (fit atomic.numbers exchange.new) exchange slot v (world_of a.points old)) (sym same)
-        ∙ ap (λ (c : Bool). exchanges_if c n (fit atomic.numbers exchange.new) exchange slot read (world_of a.points old)) is
+  -- it ends with what it has read
+  pub ends_there : (failure : Ordering) (a : A)
+      → ((p : Points) → ShowsViews p mid.views → IsSlotKept (slice_get p.places n) slot → ShowsViews (points_after_update_fail p mid.active n slot failure) new.views)
+      → ((p : Points) (left : ℕ) (got : Accessed) → points_after_update_read p old.active n slot ≡ Ok got → read ≡ got.value
+      → rule (world_of p left old) ≡ Ok (a, world_of (points_after_update_fail got.points old.active n slot failure) left new))
+      → DoesKept (Ok a)
+  ends_there failure a ends same = λ p left shown kept.
+      let got = read_at p shown kept in
+      let shows = subst (λ (t : ℕ). ShowsViews (points_after_update_fail got.0.points t n slot failure) new.views) stays (ends got.0.points got.3 got.4) in
+      rw (same p left got.0 got.1 got.2) (refl, shows)
 
-    -- another value was read
-    pub exchange_refused : (read == fit atomic.numbers exchange.expected) ≡ false → new ≡ record old { views = new.views }
-        → ((p : Points) → ShowsViews p mid → IsSlotKept (slice_get p.places n) slot → ShowsViews (points_after_update_fail p old.active n slot exchange.failure) new.views)
-        → DoesAt (CompareExchange n exchange) slot (exchanges n exchange slot) old (Ok (Err read)) new
-    exchange_refused other rest ends = λ w shown kept.
-        let a = read_at w.points shown.views kept in (
-          world_of (points_after_update_fail a.0.points old.active n slot exchange.failure) new,
-          record { views = ends a.0.points a.3 a.4; rest = refl },
-          exchange_left w shown a.0 a.1 a.2 false other
-              ∙ ap (λ (r : RunState D). Gives (Err read, world_of (points_after_update_fail a.0.points old.active n slot exchange.failure) r)) (sym rest),
-        )
+-- a compare-exchange that has read the value that it expects, and whose write fails
+pub exchange_fails : {D : Type 0} (n : ℕ) (exchange : Exchange) (slot : ℕ) (w : World D) (atomic : Atomic) (got : Accessed) (new : ℕ) (kind : FailureKind)
+    → an_atomic n w ≡ Ok atomic → points_after_update_read w.points w.active n slot ≡ Ok got → (got.value == fit atomic.numbers exchange.expected) ≡ true → new ≡ fit atomic.numbers exchange.new
+    → points_after_update_write got.points w.active n slot new exchange.success ≡ Err kind → exchanges n exchange slot w ≡ Err kind
+exchange_fails n exchange slot w atomic got new kind at reads expected is writes =
+    rw (at, reads, expected, ← is, writes) refl
 
-    module _ (cast : ℕ) (is : cast ≡ fit atomic.numbers exchange.new) (expected : (read == fit atomic.numbers exchange.expected) ≡ true) where
-      written_left : (p : Points) → exchanges_if true n (fit atomic.numbers exchange.new) exchange slot read (world_of p old)
-          ≡ (came (points_after_update_write p old.active n slot cast exchange.success) >>= (λ after. Gives (Ok read, world_of after.points old)))
-      written_left p =
-          ap (λ (put : ℕ). exchanges_if true n put exchange slot read (world_of p old)) (sym is) ∙ joined (points_after_update_write p old.active n slot cast exchange.success)
-        where
-          joined : (r : Result Accessed FailureKind) → ◌>>=◌ {B = Result ℕ ℕ × World D} (came r >>= (λ after. Gives (with_points after.points (world_of p old)))) (λ written. Gives (Ok read, written))
-              ≡ (came r >>= (λ after. Gives (Ok read, world_of after.points old)))
-          joined (Ok after) = refl
-          joined (Err kind) = refl
+-- ---- what the thread is told of it
 
-      pub exchanges_slot : new ≡ record old { views = new.views }
-          → ((p : Points) → ShowsViews p mid → IsSlotKept (slice_get p.places n) slot → StoresAs (points_after_update_write p old.active n slot cast exchange.success) (Ok tt) new.views)
-          → DoesAt (CompareExchange n exchange) slot (exchanges n exchange slot) old (Ok (Ok read)) new
-      exchanges_slot rest put = λ w shown kept.
-          let a = read_at w.points shown.views kept in
-          let b = stored (points_after_update_write a.0.points old.active n slot cast exchange.success) new.views (put a.0.points a.3 a.4) in (
-            world_of b.0.points new,
-            record { views = b.2; rest = refl },
-            exchange_left w shown a.0 a.1 a.2 true expected ∙ written_left a.0.points ∙ came_as _ (points_after_update_write a.0.points old.active n slot cast exchange.success) b.0 b.1
-                ∙ ap (λ (r : RunState D). Gives (Ok read, world_of b.0.points r)) (sym rest),
-          )
+-- the answer, told so
+abbrev pub told_by : {A B : Type 0} → (A → B) → Result A FailureKind → Result B FailureKind
+told_by f (Ok a) = Ok (f a)
+told_by f (Err kind) = Err kind
 
-      pub exchange_fails : (kind : FailureKind) → ((p : Points) → ShowsViews p mid → IsSlotKept (slice_get p.places n) slot → StoresAs (points_after_update_write p old.active n slot cast exchange.success) (Err kind) new.views)
-          → DoesAt (CompareExchange n exchange) slot (exchanges n exchange slot) old (fails kind) new
-      exchange_fails kind put = λ w shown kept.
-          let a = read_at w.points shown.views kept in
-          let e = stored_not (points_after_update_write a.0.points old.active n slot cast exchange.success) new.views kind (put a.0.points a.3 a.4) in
-          exchange_left w shown a.0 a.1 a.2 true expected ∙ written_left a.0.points ∙ came_not _ (points_after_update_write a.0.points old.active n slot cast exchange.success) kind e
+module _ {A B D : Type 0} (f : A → B) where
+  comes_told : (p : Points) (left : ℕ) (answer : Result (A × World D) FailureKind) (r : Result A FailureKind) (new : Stage D)
+      → Comes p left answer r new → Comes p left (answer >>= (λ x. Ok (f x.0, x.1))) (told_by f r) new
+  comes_told p left (Ok x) (Ok a) new h =
+      let e = h.0 in
+      let same : x ≡ (a, world_of x.1.points left new) = cc in
+      (ap (λ (y : A × World D). Ok (f y.0, y.1)) same, h.1)
+  comes_told p left (Ok x) (Err kind) new h = absurd (cc)
+  comes_told p left (Err kind) (Ok a) new h = let e = h.0 in absurd (cc)
+  comes_told p left (Err kind) (Err other) new h = let same : kind ≡ other = cc in ap Err same
+
+  pub tells : (access : AtomicOp) (slot : ℕ) (rule : World D → Result (A × World D) FailureKind) (old new : Stage D) (r : Result A FailureKind)
+      → DoesAt access slot rule old r new → DoesAt access slot (λ w. rule w >>= (λ x. Ok (f x.0, x.1))) old (told_by f r) new
+  tells access slot rule old new r does = λ p left shown kept. comes_told p left (rule (world_of p left old)) r new (does p left shown kept)

@@ -1,2 +1,1 @@
 mod Accessing
-mod Entering

@@ -1,21 +1,19 @@
-ghost use Rattle.std.specs.Prelude.{◌≡◌, ◌≢◌, Ok, Err, Some, IfOk, ◌<◌, length, slice_get, slice_set, true};
+ghost use Rattle.std.specs.Prelude.{◌≡◌, IfOk, OnErr, Some, true};
 ghost use Rattle.loom_objects.specs.Atomics as rules;
-ghost use Rattle.loom_objects.specs.World.{World};
 ghost use Rattle.loom_objects.specs.Operation.{accessed};
-ghost use Rattle.loom_objects.specs.Shown.{Does, DoesAt, Comes, Shows, IsSound, KeepsAt, Resumes, HasSlot, read_by};
-ghost use Rattle.loom_objects.specs.Steps.{turns_by};
-ghost use Rattle.loom_objects.specs.declared.choice.Choice.{Choice};
+ghost use Rattle.loom_objects.specs.Scene.{Does, DoesAt, DoesIfOk, HasSlot, KeepsSlots};
+ghost use Rattle.loom_views.specs.Table.{Points, ShowsViews};
 
-use loom_objects::failure::{Stop, failed};
-use loom_objects::operation::{AtomicOp, Exchange, Reply, Turn};
-use loom_objects::rt::object::Object;
-use loom_objects::rt::run::{Entry, Loading, Resumed, RunState};
+use loom_objects::operation::{AtomicOp, Exchange, Reply};
+use loom_objects::rt::run::{Entry, Loading, Resumed};
+use loom_objects::rt::scene::Scene;
 use loom_objects::rt::sync::Atomic;
 use loom_objects::rt::thread::Task;
 use loom_views::rt::atomic::Reader;
 use loom_views::rt::change::Change;
 use loom_views::rt::failure::FailureKind;
 use loom_views::rt::num::Numbers;
+use std::alloc::AllocError;
 use std::sync::atomic::Ordering;
 
 /// The ordering of a `compare_and_swap` that reads another value than the one that is expected.
@@ -29,6 +27,27 @@ fn where_not_swapped(order: Ordering) -> Ordering
     }
 }
 
+/// A `compare_and_swap` is a compare-exchange with that ordering.
+fn swap_of(expected: u64, new: u64, order: Ordering) -> Exchange
+    ensures { result ≡ rules.swap_of expected new order }
+{
+    Exchange {
+        expected,
+        new,
+        success: order,
+        failure: where_not_swapped(order),
+    }
+}
+
+/// The value that was read, exchanged or not.
+fn either_way(answer: Result<u64, u64>) -> u64
+    ensures { result ≡ rules.either_way answer }
+{
+    match answer {
+        Ok(value) | Err(value) => value,
+    }
+}
+
 fn is_relaxed(order: Ordering) -> bool
     ensures { result ≡ rules.is_relaxed order }
 {
@@ -36,452 +55,251 @@ fn is_relaxed(order: Ordering) -> bool
 }
 
 /// What an operation on an atomic does up to its branch point, or all of it: `Misuse` where it isn't on an atomic, or on one
-/// that was taken apart.
-pub fn atomic_begins<D: Drop>(run: &mut RunState<D>, op: AtomicOp) -> Result<Entry<D>, Stop>
-    requires { IsSound run.old }
-    ensures does { Does (rules.atomic_begins op) run.old result run.new }
-    ensures sound { IsSound run.new }
-    ensures steps { run.new.steps_left ≡ run.old.steps_left }
-    ensures growth { result ≡ Err Stop.Memory → rules.needs_memory op ≡ true }
+/// that was taken apart. An outer error only where memory is refused.
+pub fn atomic_begins<D: Drop>(
+    scene: &mut Scene<D>,
+    op: AtomicOp,
+) -> Result<Result<Entry<D>, FailureKind>, AllocError>
+    ensures does { IfOk result (λ answer. Does (rules.atomic_begins op) scene.old answer scene.new) }
+    ensures growth { OnErr result (rules.needs_memory op ≡ true) }
 {
     match op {
-        AtomicOp::New(numbers, value) => atomic_new(run, numbers, value),
-        AtomicOp::UnsyncLoad(number) => unsync_load(run, number),
-        AtomicOp::IntoInner(number) => into_inner(run, number),
-        AtomicOp::WithMut(number) => with_mut(run, number),
-        AtomicOp::WithMutEnd(number, value) => with_mut_end(run, number, value),
+        AtomicOp::New(numbers, value) => Ok(Ok(atomic_new(scene, numbers, value)?)),
+        AtomicOp::UnsyncLoad(number) => Ok(unsync_load(scene, number)),
+        AtomicOp::IntoInner(number) => Ok(into_inner(scene, number)),
+        AtomicOp::WithMut(number) => Ok(with_mut(scene, number)),
+        AtomicOp::WithMutEnd(number, value) => Ok(with_mut_end(scene, number, value)),
         AtomicOp::Load(..)
         | AtomicOp::Store(..)
         | AtomicOp::Update(..)
         | AtomicOp::CompareExchange(..)
-        | AtomicOp::CompareAndSwap(..) => access_begins(run, op),
+        | AtomicOp::CompareAndSwap(..) => Ok(access_begins(scene, op)),
     }
 }
 
 fn atomic_new<D: Drop>(
-    run: &mut RunState<D>,
+    scene: &mut Scene<D>,
     numbers: Numbers,
     value: u64,
-) -> Result<Entry<D>, Stop>
-    requires { IsSound run.old }
-    ensures does { Does (rules.atomic_new numbers value) run.old result run.new }
-    ensures sound { IsSound run.new }
-    ensures steps { run.new.steps_left ≡ run.old.steps_left }
+) -> Result<Entry<D>, AllocError>
+    ensures { DoesIfOk (rules.atomic_new numbers value) scene.old result scene.new }
 {
-    let number = run.objects.len();
-    match run
-        .views
-        .add_atomic(run.active as usize, numbers.fit(value))
-    {
-        Ok(()) => {}
-        Err(_) => return Err(Stop::Memory),
-    }
     let atomic = Atomic {
         numbers,
         is_taken: false,
         opened: None,
     };
-    match run.objects.push(Object::Atomic(atomic)) {
-        Ok(()) => Ok(Entry::Answered(Reply::Atomic(number))),
-        Err(_) => Err(Stop::Memory),
-    }
-}
-
-/// The atomic of this number, while it wasn't taken apart.
-fn atomic_at<D: Drop>(run: &RunState<D>, number: usize) -> Option<Atomic>
-    ensures { result ≡ rules.as_atomic (slice_get run.now.objects number) }
-{
-    if number >= run.objects.len() {
-        return None;
-    }
-    match run.objects.at(number) {
-        Object::Atomic(atomic) if !atomic.is_taken => Some(*atomic),
-        _ => None,
-    }
-}
-
-/// The atomic of this number is now so.
-fn set_atomic<D: Drop>(run: &mut RunState<D>, number: usize, atomic: Atomic)
-    requires { number < length run.old.objects }
-    ensures { run.new ≡ record run.old { objects = slice_set run.old.objects number (Object.Atomic atomic) } }
-{
-    *run.objects.at_mut(number) = Object::Atomic(atomic);
+    let number = scene.add_atomic(atomic, numbers.fit(value))?;
+    Ok(Entry::Answered(Reply::Atomic(number)))
 }
 
 /// A load that doesn't synchronize.
-fn unsync_load<D: Drop>(run: &mut RunState<D>, number: usize) -> Result<Entry<D>, Stop>
-    requires { IsSound run.old }
-    ensures does { Does (rules.unsync_load number) run.old result run.new }
-    ensures sound { IsSound run.new }
-    ensures steps { run.new.steps_left ≡ run.old.steps_left }
-    ensures no_growth { result ≢ Err Stop.Memory }
+fn unsync_load<D: Drop>(scene: &mut Scene<D>, number: usize) -> Result<Entry<D>, FailureKind>
+    ensures { Does (rules.unsync_load number) scene.old result scene.new }
 {
-    let Some(_) = atomic_at(run, number) else {
-        return Err(failed(FailureKind::Misuse));
-    };
-    match run.views.unsync_load(run.active as usize, number) {
-        Ok(value) => Ok(Entry::Answered(Reply::Value(value))),
-        Err(kind) => Err(failed(kind)),
-    }
+    scene.atomic(number)?;
+    let value = scene.unsync_load(number)?;
+    Ok(Entry::Answered(Reply::Value(value)))
 }
 
 /// A load that doesn't synchronize, after which the atomic is taken apart.
-fn into_inner<D: Drop>(run: &mut RunState<D>, number: usize) -> Result<Entry<D>, Stop>
-    requires { IsSound run.old }
-    ensures does { Does (rules.into_inner number) run.old result run.new }
-    ensures sound { IsSound run.new }
-    ensures steps { run.new.steps_left ≡ run.old.steps_left }
-    ensures no_growth { result ≢ Err Stop.Memory }
+fn into_inner<D: Drop>(scene: &mut Scene<D>, number: usize) -> Result<Entry<D>, FailureKind>
+    ensures { Does (rules.into_inner number) scene.old result scene.new }
 {
-    let Some(atomic) = atomic_at(run, number) else {
-        return Err(failed(FailureKind::Misuse));
-    };
-    match run.views.unsync_load(run.active as usize, number) {
-        Ok(value) => {
-            set_atomic(
-                run,
-                number,
-                Atomic {
-                    is_taken: true,
-                    ..atomic
-                },
-            );
-            Ok(Entry::Answered(Reply::Value(value)))
-        }
-        Err(kind) => Err(failed(kind)),
-    }
+    let atomic = scene.atomic_mut(number)?;
+    atomic.is_taken = true;
+    let value = scene.unsync_load(number)?;
+    Ok(Entry::Answered(Reply::Value(value)))
 }
 
 /// The active thread opens a mutation.
-fn with_mut<D: Drop>(run: &mut RunState<D>, number: usize) -> Result<Entry<D>, Stop>
-    requires { IsSound run.old }
-    ensures does { Does (rules.with_mut number) run.old result run.new }
-    ensures sound { IsSound run.new }
-    ensures steps { run.new.steps_left ≡ run.old.steps_left }
-    ensures no_growth { result ≢ Err Stop.Memory }
+fn with_mut<D: Drop>(scene: &mut Scene<D>, number: usize) -> Result<Entry<D>, FailureKind>
+    ensures { Does (rules.with_mut number) scene.old result scene.new }
 {
-    let Some(atomic) = atomic_at(run, number) else {
-        return Err(failed(FailureKind::Misuse));
-    };
-    let active = run.active;
-    match run.views.with_mut(active as usize, number) {
-        Ok(value) => {
-            set_atomic(
-                run,
-                number,
-                Atomic {
-                    opened: Some(active),
-                    ..atomic
-                },
-            );
-            Ok(Entry::Answered(Reply::Value(value)))
-        }
-        Err(kind) => Err(failed(kind)),
-    }
+    let active = scene.active();
+    let atomic = scene.atomic_mut(number)?;
+    atomic.opened = Some(active);
+    let value = scene.with_mut(number)?;
+    Ok(Entry::Answered(Reply::Value(value)))
 }
 
 /// Who has opened the mutation ends it, with the value that it leaves.
-fn with_mut_end<D: Drop>(run: &mut RunState<D>, number: usize, value: u64) -> Result<Entry<D>, Stop>
-    requires { IsSound run.old }
-    ensures does { Does (rules.with_mut_end number value) run.old result run.new }
-    ensures sound { IsSound run.new }
-    ensures steps { run.new.steps_left ≡ run.old.steps_left }
-    ensures no_growth { result ≢ Err Stop.Memory }
+fn with_mut_end<D: Drop>(
+    scene: &mut Scene<D>,
+    number: usize,
+    value: u64,
+) -> Result<Entry<D>, FailureKind>
+    ensures { Does (rules.with_mut_end number value) scene.old result scene.new }
 {
-    let Some(atomic) = atomic_at(run, number) else {
-        return Err(failed(FailureKind::Misuse));
-    };
-    let active = run.active;
+    let active = scene.active();
+    let atomic = scene.atomic_mut(number)?;
     if atomic.opened != Some(active) {
-        return Err(failed(FailureKind::Misuse));
+        return Err(FailureKind::Misuse);
     }
+    atomic.opened = None;
     let value = atomic.numbers.fit(value);
-    match run.views.with_mut_end(active as usize, number, value) {
-        Ok(()) => {
-            set_atomic(
-                run,
-                number,
-                Atomic {
-                    opened: None,
-                    ..atomic
-                },
-            );
-            Ok(Entry::Answered(Reply::Done))
-        }
-        Err(kind) => Err(failed(kind)),
-    }
+    scene.with_mut_end(number, value)?;
+    Ok(Entry::Answered(Reply::Done))
 }
 
 /// The active thread raises its version, and makes a fence.
-pub fn fence<D: Drop>(run: &mut RunState<D>, order: Ordering) -> Result<Entry<D>, Stop>
-    requires { IsSound run.old }
-    ensures does { Does (rules.fence order) run.old result run.new }
-    ensures sound { IsSound run.new }
-    ensures steps { run.new.steps_left ≡ run.old.steps_left }
-    ensures no_growth { result ≢ Err Stop.Memory }
+pub fn fence<D: Drop>(scene: &mut Scene<D>, order: Ordering) -> Result<Entry<D>, FailureKind>
+    ensures { Does (rules.fence order) scene.old result scene.new }
 {
     if is_relaxed(order) {
-        return Err(failed(FailureKind::RelaxedFence));
+        return Err(FailureKind::RelaxedFence);
     }
-    let active = run.active as usize;
-    match run.views.raise(active) {
-        Ok(()) => {
-            run.views.fence(active, order);
-            Ok(Entry::Answered(Reply::Done))
-        }
-        Err(kind) => Err(failed(kind)),
-    }
+    scene.raise()?;
+    scene.fence(order);
+    Ok(Entry::Answered(Reply::Done))
 }
 
 /// The thread comes to a branch point.
-fn access_begins<D: Drop>(run: &mut RunState<D>, access: AtomicOp) -> Result<Entry<D>, Stop>
-    requires { IsSound run.old }
-    ensures does { Does (rules.access_begins access) run.old result run.new }
-    ensures sound { IsSound run.new }
-    ensures steps { run.new.steps_left ≡ run.old.steps_left }
-    ensures no_growth { result ≢ Err Stop.Memory }
+fn access_begins<D: Drop>(scene: &mut Scene<D>, access: AtomicOp) -> Result<Entry<D>, FailureKind>
+    ensures { Does (rules.access_begins access) scene.old result scene.new }
 {
-    let Some(number) = access.atomic() else {
-        return Err(failed(FailureKind::Misuse));
-    };
-    let Some(_) = atomic_at(run, number) else {
-        return Err(failed(FailureKind::Misuse));
-    };
-    let thread = run.threads.at_mut(run.active as usize);
-    thread.pend(Task::Access(access), false);
+    let number = access.atomic().ok_or(FailureKind::Misuse)?;
+    scene.atomic(number)?;
+    scene.pend(Task::Access(access), false);
     Ok(Entry::AtBranch)
 }
 
-/// The access takes effect; one that reads up to the choice of the store that it reads.
-pub fn access<D: Drop>(run: &mut RunState<D>, access: AtomicOp) -> Result<Resumed<D>, Stop>
-    requires { IsSound run.old }
-    ensures does { (w : World D) → Shows w run.old → Resumes (turns_by (rules.takes_place access) w) result run.new }
+/// The access takes effect; one that reads up to the choice of the store that it reads, of which there is one at least, and
+/// each of which is kept.
+pub fn access<D: Drop>(scene: &mut Scene<D>, access: AtomicOp) -> Result<Resumed<D>, FailureKind>
+    ensures does { Does (rules.accesses access) scene.old result scene.new }
     ensures slot { IfOk result HasSlot }
-    ensures sound { IsSound run.new }
-    ensures steps { run.new.steps_left ≡ run.old.steps_left }
-    ensures no_growth { result ≢ Err Stop.Memory }
+    ensures kept { (p : Points) → ShowsViews p scene.new.views → IfOk result (KeepsSlots p) }
 {
     match access {
         AtomicOp::Store(number, value, order) => {
-            let answer = store(run, number, value, order);
-            run.told(answer)
+            let reply = store(scene, number, value, order)?;
+            Ok(scene.told(reply))
         }
-        AtomicOp::Load(number, order) => open(run, number, Reader::Load(order), access),
+        AtomicOp::Load(number, order) => open(scene, number, Reader::Load(order), access),
         AtomicOp::Update(number, ..)
         | AtomicOp::CompareExchange(number, _)
-        | AtomicOp::CompareAndSwap(number, ..) => open(run, number, Reader::Update, access),
+        | AtomicOp::CompareAndSwap(number, ..) => open(scene, number, Reader::Update, access),
         AtomicOp::New(..)
         | AtomicOp::UnsyncLoad(_)
         | AtomicOp::IntoInner(_)
         | AtomicOp::WithMut(_)
-        | AtomicOp::WithMutEnd(..) => Err(failed(FailureKind::Misuse)),
+        | AtomicOp::WithMutEnd(..) => Err(FailureKind::Misuse),
     }
 }
 
 /// The active thread raises its version, and stores.
 fn store<D: Drop>(
-    run: &mut RunState<D>,
+    scene: &mut Scene<D>,
     number: usize,
     value: u64,
     order: Ordering,
-) -> Result<Reply<D>, Stop>
-    requires { IsSound run.old }
-    ensures does { Does (rules.store number value order) run.old result run.new }
-    ensures sound { IsSound run.new }
-    ensures steps { run.new.steps_left ≡ run.old.steps_left }
-    ensures no_growth { result ≢ Err Stop.Memory }
+) -> Result<Reply<D>, FailureKind>
+    ensures { Does (rules.store number value order) scene.old result scene.new }
 {
-    let active = run.active as usize;
-    match run.views.raise(active) {
-        Ok(()) => {}
-        Err(kind) => return Err(failed(kind)),
-    }
-    let Some(atomic) = atomic_at(run, number) else {
-        return Err(failed(FailureKind::Misuse));
-    };
+    scene.raise()?;
+    let atomic = scene.atomic(number)?;
     let value = atomic.numbers.fit(value);
-    match run.views.store(active, number, value, order) {
-        Ok(()) => Ok(Reply::Done),
-        Err(kind) => Err(failed(kind)),
-    }
+    scene.store(number, value, order)?;
+    Ok(Reply::Done)
 }
 
 /// The active thread raises its version, and it is to be chosen which store the access reads.
 fn open<D: Drop>(
-    run: &mut RunState<D>,
+    scene: &mut Scene<D>,
     number: usize,
     reader: Reader,
     access: AtomicOp,
-) -> Result<Resumed<D>, Stop>
-    requires sound { IsSound run.old }
-    requires of { accessed access ≡ Some number }
-    ensures does { (w : World D) → Shows w run.old → Resumes (turns_by (rules.asks number reader access) w) result run.new }
+) -> Result<Resumed<D>, FailureKind>
+    requires { accessed access ≡ Some number }
+    ensures does { Does (rules.opens number reader access) scene.old result scene.new }
     ensures slot { IfOk result HasSlot }
-    ensures sound { IsSound run.new }
-    ensures steps { run.new.steps_left ≡ run.old.steps_left }
-    ensures no_growth { result ≢ Err Stop.Memory }
+    ensures kept { (p : Points) → ShowsViews p scene.new.views → IfOk result (KeepsSlots p) }
 {
-    let active = run.active as usize;
-    match run.views.raise(active) {
-        Ok(()) => {}
-        Err(kind) => return Err(failed(kind)),
+    scene.raise()?;
+    scene.atomic(number)?;
+    let readable = scene.readable(number, reader)?;
+    if !readable.contains(&true) {
+        return Err(FailureKind::Misuse);
     }
-    let Some(_) = atomic_at(run, number) else {
-        return Err(failed(FailureKind::Misuse));
-    };
-    match run.views.readable(active, number, reader) {
-        Err(kind) => Err(failed(kind)),
-        Ok(readable) => {
-            if !readable.contains(&true) {
-                return Err(failed(FailureKind::Misuse));
-            }
-            Ok(Resumed::Load(Loading { access, readable }))
-        }
-    }
+    Ok(Resumed::Load(Loading { access, readable }))
 }
 
 /// An access goes on by the slot that was chosen, in which a store is kept.
-pub fn read<D: Drop>(run: &mut RunState<D>, load: &Loading, slot: u8) -> Result<Turn<D>, Stop>
-    requires { IsSound run.old }
-    ensures does { (w : World D) → Shows w run.old → KeepsAt w (accessed load.now.access) slot →
-        Comes (read_by load.now w (Choice.Load slot)) result run.new }
-    ensures sound { IsSound run.new }
-    ensures steps { run.new.steps_left ≡ run.old.steps_left }
-    ensures no_growth { result ≢ Err Stop.Memory }
-{
-    let active = run.active;
-    match read_slot(run, load.access, slot) {
-        Ok(reply) => Ok(Turn::Reply(active, reply)),
-        Err(stop) => Err(stop),
-    }
-}
-
-/// The access goes on by the store in the slot.
-fn read_slot<D: Drop>(run: &mut RunState<D>, access: AtomicOp, slot: u8) -> Result<Reply<D>, Stop>
-    requires { IsSound run.old }
-    ensures does { DoesAt access slot (λ w. rules.reads access w slot) run.old result run.new }
-    ensures active { run.new.active ≡ run.old.active }
-    ensures sound { IsSound run.new }
-    ensures steps { run.new.steps_left ≡ run.old.steps_left }
-    ensures no_growth { result ≢ Err Stop.Memory }
+pub fn read<D: Drop>(
+    scene: &mut Scene<D>,
+    access: AtomicOp,
+    slot: usize,
+) -> Result<Reply<D>, FailureKind>
+    ensures { DoesAt access slot (λ w. rules.reads access w slot) scene.old result scene.new }
 {
     match access {
-        AtomicOp::Load(number, order) => load(run, number, order, slot),
-        AtomicOp::Update(number, change, order) => update(run, number, change, order, slot),
+        AtomicOp::Load(number, order) => load(scene, number, order, slot),
+        AtomicOp::Update(number, change, order) => update(scene, number, change, order, slot),
         AtomicOp::CompareExchange(number, attempt) => {
-            match exchange(run, number, attempt, slot) {
-                Ok(answer) => Ok(Reply::Exchanged(answer)),
-                Err(stop) => Err(stop),
-            }
+            let answer = exchange(scene, number, attempt, slot)?;
+            Ok(Reply::Exchanged(answer))
         }
         AtomicOp::CompareAndSwap(number, expected, new, order) => {
-            let attempt = Exchange {
-                expected,
-                new,
-                success: order,
-                failure: where_not_swapped(order),
-            };
-            match exchange(run, number, attempt, slot) {
-                Ok(Ok(value) | Err(value)) => Ok(Reply::Value(value)),
-                Err(stop) => Err(stop),
-            }
+            let answer = exchange(scene, number, swap_of(expected, new, order), slot)?;
+            Ok(Reply::Value(either_way(answer)))
         }
         AtomicOp::New(..)
         | AtomicOp::Store(..)
         | AtomicOp::UnsyncLoad(_)
         | AtomicOp::IntoInner(_)
         | AtomicOp::WithMut(_)
-        | AtomicOp::WithMutEnd(..) => Err(failed(FailureKind::Misuse)),
+        | AtomicOp::WithMutEnd(..) => Err(FailureKind::Misuse),
     }
 }
 
 /// A load of the store in the slot.
 fn load<D: Drop>(
-    run: &mut RunState<D>,
+    scene: &mut Scene<D>,
     number: usize,
     order: Ordering,
-    slot: u8,
-) -> Result<Reply<D>, Stop>
-    requires { IsSound run.old }
-    ensures does { DoesAt (AtomicOp.Load number order) slot (rules.loads number order slot) run.old result run.new }
-    ensures active { run.new.active ≡ run.old.active }
-    ensures sound { IsSound run.new }
-    ensures steps { run.new.steps_left ≡ run.old.steps_left }
-    ensures no_growth { result ≢ Err Stop.Memory }
+    slot: usize,
+) -> Result<Reply<D>, FailureKind>
+    ensures { DoesAt (AtomicOp.Load number order) slot (rules.loads number order slot) scene.old result scene.new }
 {
-    let active = run.active as usize;
-    match run.views.load(active, number, slot as usize, order) {
-        Ok(value) => Ok(Reply::Value(value)),
-        Err(kind) => Err(failed(kind)),
-    }
+    let value = scene.load(number, slot, order)?;
+    Ok(Reply::Value(value))
 }
 
 /// A read-modify-write of the store in the slot.
 fn update<D: Drop>(
-    run: &mut RunState<D>,
+    scene: &mut Scene<D>,
     number: usize,
     change: Change,
     order: Ordering,
-    slot: u8,
-) -> Result<Reply<D>, Stop>
-    requires { IsSound run.old }
-    ensures does { DoesAt (AtomicOp.Update number change order) slot (rules.updates number change order slot) run.old result run.new }
-    ensures active { run.new.active ≡ run.old.active }
-    ensures sound { IsSound run.new }
-    ensures steps { run.new.steps_left ≡ run.old.steps_left }
-    ensures no_growth { result ≢ Err Stop.Memory }
+    slot: usize,
+) -> Result<Reply<D>, FailureKind>
+    ensures { DoesAt (AtomicOp.Update number change order) slot (rules.updates number change order slot) scene.old result scene.new }
 {
-    let Some(atomic) = atomic_at(run, number) else {
-        return Err(failed(FailureKind::Misuse));
-    };
-    let active = run.active as usize;
-    let slot = slot as usize;
-    let read = match run.views.update_read(active, number, slot) {
-        Ok(read) => read,
-        Err(kind) => return Err(failed(kind)),
-    };
-    let value = atomic.numbers.fit(change.apply(atomic.numbers, read));
-    match run.views.update_write(active, number, slot, value, order) {
-        Ok(()) => Ok(Reply::Value(read)),
-        Err(kind) => Err(failed(kind)),
-    }
+    let numbers = scene.atomic(number)?.numbers;
+    let read = scene.update_read(number, slot)?;
+    let value = numbers.fit(change.apply(numbers, read));
+    scene.update_write(number, slot, value, order)?;
+    Ok(Reply::Value(read))
 }
 
 /// A compare-exchange of the store in the slot: Ok of the value that was read where it was the expected one, and else Err
 /// of it.
 fn exchange<D: Drop>(
-    run: &mut RunState<D>,
+    scene: &mut Scene<D>,
     number: usize,
     exchange: Exchange,
-    slot: u8,
-) -> Result<Result<u64, u64>, Stop>
-    requires { IsSound run.old }
-    ensures does { DoesAt (AtomicOp.CompareExchange number exchange) slot (rules.exchanges number exchange slot) run.old result run.new }
-    ensures active { run.new.active ≡ run.old.active }
-    ensures sound { IsSound run.new }
-    ensures steps { run.new.steps_left ≡ run.old.steps_left }
-    ensures no_growth { result ≢ Err Stop.Memory }
+    slot: usize,
+) -> Result<Result<u64, u64>, FailureKind>
+    ensures { DoesAt (AtomicOp.CompareExchange number exchange) slot (rules.exchanges number exchange slot) scene.old result scene.new }
 {
-    let Some(atomic) = atomic_at(run, number) else {
-        return Err(failed(FailureKind::Misuse));
-    };
-    let active = run.active as usize;
-    let slot = slot as usize;
-    let read = match run.views.update_read(active, number, slot) {
-        Ok(read) => read,
-        Err(kind) => return Err(failed(kind)),
-    };
-    if read != atomic.numbers.fit(exchange.expected) {
-        run.views
-            .update_fail(active, number, slot, exchange.failure);
+    let numbers = scene.atomic(number)?.numbers;
+    let read = scene.update_read(number, slot)?;
+    if read != numbers.fit(exchange.expected) {
+        scene.update_fail(number, slot, exchange.failure);
         return Ok(Err(read));
     }
-    let new = atomic.numbers.fit(exchange.new);
-    match run
-        .views
-        .update_write(active, number, slot, new, exchange.success)
-    {
-        Ok(()) => Ok(Ok(read)),
-        Err(kind) => Err(failed(kind)),
-    }
+    let new = numbers.fit(exchange.new);
+    scene.update_write(number, slot, new, exchange.success)?;
+    Ok(Ok(read))
 }

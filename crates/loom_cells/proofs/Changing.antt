@@ -1,96 +1,65 @@
--- How cells change: an object that is no cell stays as it is, and two cells exchange their data.
+-- Two cells exchange their data: the one's is taken out and put into the other, whose own goes into the one.
 use Rattle.std.proofs.Common.{◌≡◌, ◌≢◌, ◌<◌, ℕ, length, refl, ap, sym, ◌∙◌}
 use Rattle.std.proofs.lemmas.List.{set_comm, set-set}
-use Rattle.std.specs.Prelude.{List, false, is_none, slice_get, slice_set, Option, Some, None}
+use Rattle.std.proofs.lemmas.Option.{slice_get_within}
+use Rattle.std.specs.Prelude.{Bool, true, false, List, cond, is_none, slice_get, slice_set, Option, Some, None, Ok, Err}
 use Rattle.loom_views.proofs.Table.Lists.{get-set_other, get-set_same}
+use Rattle.loom_views.specs.declared.rt.failure.FailureKind.TheVariants.{Misuse}
 use Rattle.loom_objects.specs.declared.rt.object.Object.{Object}
 use Rattle.loom_objects.specs.declared.rt.object.Object.TheVariants as object
-use Rattle.loom_objects.specs.declared.rt.run.RunState.{RunState}
 use Rattle.loom_objects.specs.declared.rt.sync.Cell.{Cell}
-use Rattle.loom_objects.specs.Cells.{changed_as, held, holding, on_cell, with_changed}
+use Rattle.loom_objects.specs.Cells.{holding}
+use Rattle.loom_objects.specs.Lookup.{cell_at, cell_in, looked_up}
 
 module _ {D : Type 0} where
-  stays : (change : Cell D → Cell D) (o : Object D) → ((cell : Cell D) → o ≡ object.Cell cell → ⊥) → o ≡ on_cell change o
-  stays change (object.Cell cell) h = absurd (h cell refl)
-  stays change (object.Atomic atomic) h = refl
-  stays change (object.Mutex mutex) h = refl
-  stays change (object.RwLock lock) h = refl
-  stays change (object.Condvar condvar) h = refl
-  stays change (object.Notify notify) h = refl
-  stays change (object.Arc arc) h = refl
-  stays change (object.Track track) h = refl
+  whole : (cell c : Cell D) (taken : Bool) → cell.content.is_taken ≡ taken → cond taken (Err Misuse) (Ok cell) ≡ Ok c → (Some (object.Cell cell) ≡ Some (object.Cell c)) × (c.content.is_taken ≡ false)
+  whole cell c true is e = absurd (cc)
+  whole cell c false is e = let same : cell ≡ c = cc in (ap (λ (x : Cell D). Some (object.Cell x)) same, ap (λ (x : Cell D). x.content.is_taken) (sym same) ∙ is)
 
-  holds_none : (o : Object D) → ((cell : Cell D) → o ≡ object.Cell cell → ⊥) → None ≡ held (Some o)
-  holds_none (object.Cell cell) h = absurd (h cell refl)
-  holds_none (object.Atomic atomic) h = refl
-  holds_none (object.Mutex mutex) h = refl
-  holds_none (object.RwLock lock) h = refl
-  holds_none (object.Condvar condvar) h = refl
-  holds_none (object.Notify notify) h = refl
-  holds_none (object.Arc arc) h = refl
-  holds_none (object.Track track) h = refl
+  -- a cell that is found stands there, and wasn't taken apart
+  stands : (o : Option (Object D)) (c : Cell D) → looked_up cell_in o ≡ Ok c → (o ≡ Some (object.Cell c)) × (c.content.is_taken ≡ false)
+  stands None c e = absurd (cc)
+  stands (Some (object.Cell cell)) c e = whole cell c cell.content.is_taken refl e
+  stands (Some (object.Atomic atomic)) c e = absurd (cc)
+  stands (Some (object.Mutex mutex)) c e = absurd (cc)
+  stands (Some (object.RwLock lock)) c e = absurd (cc)
+  stands (Some (object.Condvar condvar)) c e = absurd (cc)
+  stands (Some (object.Notify notifier)) c e = absurd (cc)
+  stands (Some (object.Arc arc)) c e = absurd (cc)
+  stands (Some (object.Track track)) c e = absurd (cc)
 
-  module _ (n : ℕ) (objects : List (Object D)) (o : Object D) (at : slice_get objects n ≡ Some o) (other : (cell : Cell D) → o ≡ object.Cell cell → ⊥) where
-    pub unchanged : (change : Cell D → Cell D) → slice_set objects n o ≡ with_changed n change objects
-    unchanged change =
-        ap (λ (same : Object D). slice_set objects n same) (stays change o other) ∙ sym (ap (λ (found : Option (Object D)). changed_as n change found objects) at)
+  module _ (objects : List (Object D)) (n m : ℕ) (apart : n ≢ m) (one : Cell D) (at : cell_at n objects ≡ Ok one) where
+    abbrev emptied : Object D
+    emptied = object.Cell (holding None None one)
 
-    pub holds_nothing : None ≡ held (slice_get objects n)
-    holds_nothing = holds_none o other ∙ sym (ap held at)
+    -- the other object is as it was
+    pub other_found : cell_at m (slice_set objects n emptied) ≡ cell_at m objects
+    other_found = ap (looked_up cell_in) (get-set_other objects n m emptied (λ e. apart (sym e)))
 
-  -- a cell that is there changes
-  changes : (n : ℕ) (objects : List (Object D)) (cell : Cell D) → slice_get objects n ≡ Some (object.Cell cell) → (change : Cell D → Cell D)
-      → with_changed n change objects ≡ slice_set objects n (object.Cell (change cell))
-  changes n objects cell at change = ap (λ (found : Option (Object D)). changed_as n change found objects) at
+    within : n < length objects
+    within = slice_get_within objects n (object.Cell one) (stands (slice_get objects n) one at).0
 
-  -- Two cells exchange their data: the one's is taken out and put into the other, whose own goes into the one.
-  module _ (n m : ℕ) (apart : n ≢ m) (one two : Cell D) (of_one of_two : D) (has : one.value ≡ Some of_one) (has_too : two.value ≡ Some of_two) where
-    abbrev empty : Object D
-    empty = object.Cell (holding None None one)
+    -- the one stands there without its data
+    pub one_found : (other : Object D) → cell_at n (slice_set (slice_set objects n emptied) m other) ≡ Ok (holding None None one)
+    one_found other =
+        ap (looked_up cell_in) (get-set_other (slice_set objects n emptied) m n other apart ∙ get-set_same objects n emptied within)
+        ∙ ap (λ (taken : Bool). cond taken (Err Misuse) (Ok (holding None None one))) (stands (slice_get objects n) one at).1
 
-    abbrev other_after : Object D
-    other_after = object.Cell (holding (Some of_one) None two)
+  pub value_there : (objects : List (Object D)) (n : ℕ) (c : Cell D) → cell_at n objects ≡ Ok c → c.content.is_taken ≡ false
+  value_there objects n c at = (stands (slice_get objects n) c at).1
 
-    abbrev one_after : Object D
-    one_after = object.Cell (holding (Some of_two) None one)
-
-    module _ (objects : List (Object D)) (within : n < length objects) (at : slice_get objects n ≡ Some (object.Cell one)) (at_too : slice_get objects m ≡ Some (object.Cell two)) where
-      abbrev taken : List (Object D)
-      taken = with_changed n (holding None None) objects
-
-      taken-is : taken ≡ slice_set objects n empty
-      taken-is = changes n objects one at (holding None None)
-
-      other_stays : slice_get taken m ≡ Some (object.Cell two)
-      other_stays = ap (λ (os : List (Object D)). slice_get os m) taken-is ∙ get-set_other objects n m empty (λ e. apart (sym e)) ∙ at_too
-
-      put-is : with_changed m (holding (Some of_one) None) taken ≡ slice_set (slice_set objects n empty) m other_after
-      put-is = changes m taken two other_stays (holding (Some of_one) None) ∙ ap (λ (os : List (Object D)). slice_set os m other_after) taken-is
-
-      one_stays : slice_get (slice_set (slice_set objects n empty) m other_after) n ≡ Some empty
-      one_stays = get-set_other (slice_set objects n empty) m n other_after apart ∙ get-set_same objects n empty within
-
-      pub exchanged : (first second : Option D) → first ≡ held (slice_get objects n) → second ≡ held (slice_get taken m)
-          → with_changed n (holding second None) (with_changed m (holding first None) taken) ≡ slice_set (slice_set objects m other_after) n one_after
-      exchanged first second is is_too =
-          ap (λ (v : Option D). with_changed n (holding v None) (with_changed m (holding first None) taken)) (is_too ∙ ap held other_stays ∙ has_too)
-          ∙ ap (λ (v : Option D). with_changed n (holding (Some of_two) None) (with_changed m (holding v None) taken)) (is ∙ ap held at ∙ has)
-          ∙ ap (λ (os : List (Object D)). with_changed n (holding (Some of_two) None) os) put-is
-          ∙ changes n _ (holding None None one) one_stays (holding (Some of_two) None)
-          ∙ ap (λ (os : List (Object D)). slice_set os n one_after) (set_comm objects n m empty other_after apart)
-          ∙ set-set (slice_set objects m other_after) n empty one_after
-
-    -- the same of the code's states: before, and after each change
-    pub exchanges : (old first second new : RunState D) (got put : Option D) → n < length old.objects → slice_get old.objects n ≡ Some (object.Cell one) → slice_get old.objects m ≡ Some (object.Cell two)
-        → got ≡ held (slice_get old.objects n) → first ≡ record old { objects = with_changed n (holding None None) old.objects }
-        → put ≡ held (slice_get first.objects m) → second ≡ record first { objects = with_changed m (holding got None) first.objects }
-        → new ≡ record second { objects = with_changed n (holding put None) second.objects }
-        → new ≡ record old { objects = slice_set (slice_set old.objects m other_after) n one_after }
-    exchanges old first second new got put within at at_too is to_first is_too to_second to_new =
-        to_new
-        ∙ ap (λ (r : RunState D). record r { objects = with_changed n (holding put None) r.objects }) to_second
-        ∙ ap (λ (r : RunState D). record r { objects = with_changed n (holding put None) (with_changed m (holding got None) r.objects) }) to_first
-        ∙ ap (λ (os : List (Object D)). record old { objects = os }) (exchanged old.objects within at at_too got put is (is_too ∙ ap (λ (r : RunState D). held (slice_get r.objects m)) to_first))
+  -- the objects after each change are those after two
+  pub exchanged : (objects : List (Object D)) (n m : ℕ) → n ≢ m → (one two again : Cell D) (of_one of_two : Option D)
+      → Ok one ≡ cell_at n objects → Ok two ≡ cell_at m (slice_set objects n (object.Cell (holding None None one)))
+      → Ok again ≡ cell_at n (slice_set (slice_set objects n (object.Cell (holding None None one))) m (object.Cell (holding of_one None two)))
+      → slice_set (slice_set (slice_set objects n (object.Cell (holding None None one))) m (object.Cell (holding of_one None two))) n (object.Cell (holding of_two None again))
+      ≡ slice_set (slice_set objects m (object.Cell (holding of_one None two))) n (object.Cell (holding of_two None one))
+  exchanged objects n m apart one two again of_one of_two at at_too at_again =
+      let found = one_found objects n m apart one (sym at) (object.Cell (holding of_one None two)) in
+      let same : again ≡ holding None None one = cc in
+      ap (λ (os : List (Object D)). slice_set os n (object.Cell (holding of_two None again))) (set_comm objects n m (object.Cell (holding None None one)) (object.Cell (holding of_one None two)) apart)
+      ∙ set-set (slice_set objects m (object.Cell (holding of_one None two))) n (object.Cell (holding None None one)) (object.Cell (holding of_two None again))
+      ∙ ap (λ (c : Cell D). slice_set (slice_set objects m (object.Cell (holding of_one None two))) n (object.Cell (holding of_two None c))) same
 
 -- a value that isn't missing
 pub is_there : {A : Type 0} (o : Option A) → is_none o ≡ false → (a : A) × (o ≡ Some a)

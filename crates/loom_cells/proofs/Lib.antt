@@ -1,2 +1,3 @@
-mod Leading
+mod Going
+mod Opening
 mod Changing

@@ -3,4 +3,5 @@
 
 pub mod cells;
 pub mod counts;
+mod memory;
 pub mod tracks;

@@ -14,8 +14,10 @@ use Rattle.loom_objects.specs.declared.rt.run.Passed.TheVariants as passed
 use Rattle.loom_objects.specs.declared.rt.run.RunState.{RunState}
 use Rattle.loom_objects.specs.declared.rt.thread.Offers.{Offers}
 use Rattle.loom_objects.specs.Question.{Question}
-use Rattle.loom_objects.specs.Shown.{world_of, Shows}
-use Rattle.loom_objects.specs.Steps.{turned, resumes, offers}
+use Rattle.loom_objects.specs.Scene.{world_of}
+use Rattle.loom_objects.specs.Schedules.{offers}
+use Rattle.loom_objects.specs.Shown.{Shows}
+use Rattle.loom_objects.specs.Steps.{turned, resumes}
 use Rattle.loom_objects.specs.Tree.{Tree, Fails, Asks, ◌>>=◌}
 use Rattle.loom_objects.specs.World.{World}
 use Rattle.loom_engine.specs.Execution.{Comes, Along}
@@ -61,10 +63,10 @@ module _ {D : Type 0} where
 
   -- ---- one schedule
 
-  module _ (old : RunState D) (offered : Offers) (is : (points : Points) → offered ≡ offers (world_of points old)) (path mid : Route) (same : mid.max_branches ≡ path.max_branches) where
+  module _ (old : RunState D) (offered : Offers) (is : (points : Points) (left : ℕ) → offered ≡ offers (world_of points left old.scene)) (path mid : Route) (same : mid.max_branches ≡ path.max_branches) where
     -- the schedule as the code asks it
     scheduled : (w : World D) → Shows w old → drives (passes w) path ≡ drives (Asks (which_thread offered) (chooses w)) path
-    scheduled w shown = ap (λ (o : Offers). drives (Asks (which_thread o) (chooses w)) path) (ap offers shown.rest ∙ sym (is w.points))
+    scheduled w shown = ap (λ (o : Offers). drives (Asks (which_thread o) (chooses w)) path) (ap offers shown.rest ∙ sym (is w.points old.steps_left))
 
     pub schedule_refused : (stop : Stop) → Says Thread path (which_thread offered) (Err stop) mid → Along passes old path (Err stop) old mid
     schedule_refused (Failure failure) says w shown =

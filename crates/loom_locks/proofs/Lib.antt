@@ -1,1 +1,2 @@
-mod Rousing
+pub mod Rousing
+pub mod Claiming

@@ -1,15 +1,15 @@
-ghost use Rattle.std.specs.Prelude.{◌≡◌, ◌≢◌, Err, ◌+◌, true};
+ghost use Rattle.std.specs.Prelude.{◌≡◌, IfOk, OnErr, true};
 ghost use Rattle.loom_objects.specs.Locks as rules;
-ghost use Rattle.loom_objects.specs.Shown.{Does, IsSound};
+ghost use Rattle.loom_objects.specs.Scene.{Does, DoesIfOk};
 
-use loom_objects::failure::{Stop, failed};
 use loom_objects::operation::{MutexOp, Reply};
 use loom_objects::rt::object::Object;
-use loom_objects::rt::run::{Entry, RunState};
-use loom_objects::rt::sync::Mutex;
+use loom_objects::rt::run::Entry;
+use loom_objects::rt::scene::Scene;
+use loom_objects::rt::sync::{Lent, Mutex};
 use loom_objects::rt::thread::{Locking, Task};
 use loom_views::rt::failure::FailureKind;
-use std::sync::atomic::Ordering;
+use std::alloc::AllocError;
 
 /// What a thread that holds the mutex now is told: no time of a wait runs out.
 fn locked_reply<D>(locking: Locking, number: usize, value: D) -> Reply<D>
@@ -21,240 +21,144 @@ fn locked_reply<D>(locking: Locking, number: usize, value: D) -> Reply<D>
     }
 }
 
-/// What an operation on a mutex does up to its branch point, or all of it.
-pub fn mutex_begins<D: Drop>(run: &mut RunState<D>, op: MutexOp<D>) -> Result<Entry<D>, Stop>
-    requires { IsSound run.old }
-    ensures does { Does (rules.mutex_begins op) run.old result run.new }
-    ensures sound { IsSound run.new }
-    ensures steps { run.new.steps_left ≡ run.old.steps_left }
-    ensures growth { result ≡ Err Stop.Memory → rules.needs_memory op ≡ true }
+/// What an operation on a mutex does up to its branch point, or all of it. The outer error only where memory is refused.
+pub fn mutex_begins<D: Drop>(
+    scene: &mut Scene<D>,
+    op: MutexOp<D>,
+) -> Result<Result<Entry<D>, FailureKind>, AllocError>
+    ensures does { IfOk result (λ answer. Does (rules.mutex_begins op) scene.old answer scene.new) }
+    ensures growth { OnErr result (rules.needs_memory op ≡ true) }
 {
     match op {
-        MutexOp::New(value) => mutex_new(run, value),
-        MutexOp::Lock(number) => lock_begins(run, number),
-        MutexOp::TryLock(number) => try_lock_begins(run, number),
-        MutexOp::Release(number, value) => release(run, number, value),
-        MutexOp::GetMut(number) => mutex_get_mut(run, number),
-        MutexOp::Put(number, value) => mutex_put(run, number, value),
-        MutexOp::IntoInner(number) => mutex_into_inner(run, number),
+        MutexOp::New(value) => Ok(Ok(mutex_new(scene, value)?)),
+        MutexOp::Lock(number) => Ok(lock_begins(scene, number)),
+        MutexOp::TryLock(number) => Ok(try_lock_begins(scene, number)),
+        MutexOp::Release(number, value) => Ok(release(scene, number, value)),
+        MutexOp::GetMut(number) => Ok(mutex_get_mut(scene, number)),
+        MutexOp::Put(number, value) => Ok(mutex_put(scene, number, value)),
+        MutexOp::IntoInner(number) => Ok(mutex_into_inner(scene, number)),
     }
 }
 
-fn mutex_new<D: Drop>(run: &mut RunState<D>, value: D) -> Result<Entry<D>, Stop>
-    requires { IsSound run.old }
-    ensures does { Does (rules.mutex_new value) run.old result run.new }
-    ensures sound { IsSound run.new }
-    ensures steps { run.new.steps_left ≡ run.old.steps_left }
+fn mutex_new<D: Drop>(scene: &mut Scene<D>, value: D) -> Result<Entry<D>, AllocError>
+    ensures { DoesIfOk (rules.mutex_new value) scene.old result scene.new }
 {
-    let number = run.objects.len();
     let mutex = Mutex {
         holder: None,
-        value: Some(value),
-        lent: None,
-        is_taken: false,
+        content: Lent::new(value),
     };
-    run.add_object(Object::Mutex(mutex))?;
+    let number = scene.add(Object::Mutex(mutex))?;
     Ok(Entry::Answered(Reply::Mutex(number)))
 }
 
 /// The thread comes to a branch point, and is blocked there while the mutex is held.
-fn lock_begins<D: Drop>(run: &mut RunState<D>, number: usize) -> Result<Entry<D>, Stop>
-    requires { IsSound run.old }
-    ensures does { Does (rules.lock_begins number) run.old result run.new }
-    ensures sound { IsSound run.new }
-    ensures steps { run.new.steps_left ≡ run.old.steps_left }
-    ensures no_growth { result ≢ Err Stop.Memory }
+fn lock_begins<D: Drop>(scene: &mut Scene<D>, number: usize) -> Result<Entry<D>, FailureKind>
+    ensures { Does (rules.lock_begins number) scene.old result scene.new }
 {
-    if number >= run.objects.len() {
-        return Err(failed(FailureKind::Misuse));
-    }
-    let Object::Mutex(mutex) = run.objects.at(number) else {
-        return Err(failed(FailureKind::Misuse));
-    };
-    if mutex.is_taken {
-        return Err(failed(FailureKind::Misuse));
-    }
+    let mutex = scene.mutex(number)?;
     let is_held = mutex.holder.is_some();
-    let thread = run.threads.at_mut(run.active as usize);
-    thread.pend(Task::Lock(Locking::Untimed, number), is_held);
+    scene.pend(Task::Lock(Locking::Untimed, number), is_held);
     Ok(Entry::AtBranch)
 }
 
 /// The thread comes to a branch point, at which it is blocked only where another thread comes first.
-fn try_lock_begins<D: Drop>(run: &mut RunState<D>, number: usize) -> Result<Entry<D>, Stop>
-    requires { IsSound run.old }
-    ensures does { Does (rules.try_lock_begins number) run.old result run.new }
-    ensures sound { IsSound run.new }
-    ensures steps { run.new.steps_left ≡ run.old.steps_left }
-    ensures no_growth { result ≢ Err Stop.Memory }
+fn try_lock_begins<D: Drop>(scene: &mut Scene<D>, number: usize) -> Result<Entry<D>, FailureKind>
+    ensures { Does (rules.try_lock_begins number) scene.old result scene.new }
 {
-    if number >= run.objects.len() {
-        return Err(failed(FailureKind::Misuse));
-    }
-    let Object::Mutex(mutex) = run.objects.at(number) else {
-        return Err(failed(FailureKind::Misuse));
-    };
-    if mutex.is_taken {
-        return Err(failed(FailureKind::Misuse));
-    }
-    let thread = run.threads.at_mut(run.active as usize);
-    thread.pend(Task::TryLock(number), false);
+    scene.mutex(number)?;
+    scene.pend(Task::TryLock(number), false);
     Ok(Entry::AtBranch)
 }
 
 /// The active thread holds the mutex from now on and acquires, and who is pending on it is blocked.
 pub fn lock<D: Drop>(
-    run: &mut RunState<D>,
+    scene: &mut Scene<D>,
     locking: Locking,
     number: usize,
-) -> Result<Reply<D>, Stop>
-    requires { IsSound run.old }
-    ensures does { Does (rules.lock locking number) run.old result run.new }
-    ensures sound { IsSound run.new }
-    ensures steps { run.new.steps_left ≡ run.old.steps_left }
-    ensures no_growth { result ≢ Err Stop.Memory }
+) -> Result<Reply<D>, FailureKind>
+    ensures { Does (rules.lock locking number) scene.old result scene.new }
 {
-    if number >= run.objects.len() {
-        return Err(failed(FailureKind::Misuse));
-    }
-    let active = run.active;
-    let Object::Mutex(mutex) = run.objects.at_mut(number) else {
-        return Err(failed(FailureKind::Misuse));
-    };
-    match mutex.hold(active) {
-        None => Err(failed(FailureKind::Misuse)),
-        Some(value) => {
-            run.views.acquire(active as usize, number);
-            run.block_pending(number);
-            Ok(locked_reply(locking, number, value))
-        }
-    }
+    let active = scene.active();
+    let mutex = scene.mutex_mut(number)?;
+    let value = mutex.hold(active).ok_or(FailureKind::Misuse)?;
+    scene.acquire(number);
+    scene.block_pending(number);
+    Ok(locked_reply(locking, number, value))
 }
 
 /// The active thread holds the mutex from now on, unless one does already.
-pub fn try_lock<D: Drop>(run: &mut RunState<D>, number: usize) -> Result<Reply<D>, Stop>
-    requires { IsSound run.old }
-    ensures does { Does (rules.try_lock number) run.old result run.new }
-    ensures sound { IsSound run.new }
-    ensures steps { run.new.steps_left ≡ run.old.steps_left }
-    ensures no_growth { result ≢ Err Stop.Memory }
+pub fn try_lock<D: Drop>(scene: &mut Scene<D>, number: usize) -> Result<Reply<D>, FailureKind>
+    ensures { Does (rules.try_lock number) scene.old result scene.new }
 {
-    if number >= run.objects.len() {
-        return Err(failed(FailureKind::Misuse));
-    }
-    let Object::Mutex(mutex) = run.objects.at(number) else {
-        return Err(failed(FailureKind::Misuse));
-    };
-    if mutex.is_taken || mutex.lent.is_some() {
-        return Err(failed(FailureKind::Misuse));
+    let mutex = scene.mutex(number)?;
+    if mutex.content.lent.is_some() {
+        return Err(FailureKind::Misuse);
     }
     if mutex.holder.is_some() {
         return Ok(Reply::WouldBlock);
     }
-    lock(run, Locking::Untimed, number)
+    lock(scene, Locking::Untimed, number)
 }
 
 /// The active thread releases, the mutex is free and has its data back, and who is pending on it is woken.
-pub(crate) fn set_free<D: Drop>(run: &mut RunState<D>, number: usize, value: D) -> Result<(), Stop>
-    requires { IsSound run.old }
-    ensures does { Does (rules.frees number value) run.old result run.new }
-    ensures sound { IsSound run.new }
-    ensures steps { run.new.steps_left ≡ run.old.steps_left }
-    ensures no_growth { result ≢ Err Stop.Memory }
+pub(crate) fn set_free<D: Drop>(
+    scene: &mut Scene<D>,
+    number: usize,
+    value: D,
+) -> Result<(), FailureKind>
+    ensures { Does (rules.frees number value) scene.old result scene.new }
 {
-    if number >= run.objects.len() {
-        return Err(failed(FailureKind::Misuse));
-    }
-    let active = run.active;
-    let Object::Mutex(mutex) = run.objects.at_mut(number) else {
-        return Err(failed(FailureKind::Misuse));
-    };
-    if mutex.is_taken {
-        return Err(failed(FailureKind::Misuse));
-    }
+    let active = scene.active();
+    let mutex = scene.mutex_mut(number)?;
     match mutex.holder {
         Some(holder) if holder == active => {}
-        _ => return Err(failed(FailureKind::Misuse)),
+        _ => return Err(FailureKind::Misuse),
     }
     mutex.holder = None;
-    mutex.value = Some(value);
-    run.views
-        .release(active as usize, number, Ordering::Release);
-    run.wake_pending(number);
+    mutex.content.value = Some(value);
+    scene.release(number);
+    scene.wake_pending(number);
     Ok(())
 }
 
-fn release<D: Drop>(run: &mut RunState<D>, number: usize, value: D) -> Result<Entry<D>, Stop>
-    requires { IsSound run.old }
-    ensures does { Does (rules.release number value) run.old result run.new }
-    ensures sound { IsSound run.new }
-    ensures steps { run.new.steps_left ≡ run.old.steps_left }
-    ensures no_growth { result ≢ Err Stop.Memory }
+fn release<D: Drop>(scene: &mut Scene<D>, number: usize, value: D) -> Result<Entry<D>, FailureKind>
+    ensures { Does (rules.release number value) scene.old result scene.new }
 {
-    match set_free(run, number, value) {
-        Ok(()) => Ok(Entry::Answered(Reply::Done)),
-        Err(stop) => Err(stop),
-    }
+    set_free(scene, number, value)?;
+    Ok(Entry::Answered(Reply::Done))
 }
 
 /// The data of a mutex that nobody holds goes out.
-fn mutex_get_mut<D: Drop>(run: &mut RunState<D>, number: usize) -> Result<Entry<D>, Stop>
-    requires { IsSound run.old }
-    ensures does { Does (rules.mutex_get_mut number) run.old result run.new }
-    ensures sound { IsSound run.new }
-    ensures steps { run.new.steps_left ≡ run.old.steps_left }
-    ensures no_growth { result ≢ Err Stop.Memory }
+fn mutex_get_mut<D: Drop>(scene: &mut Scene<D>, number: usize) -> Result<Entry<D>, FailureKind>
+    ensures { Does (rules.mutex_get_mut number) scene.old result scene.new }
 {
-    if number >= run.objects.len() {
-        return Err(failed(FailureKind::Misuse));
-    }
-    let active = run.active;
-    let Object::Mutex(mutex) = run.objects.at_mut(number) else {
-        return Err(failed(FailureKind::Misuse));
-    };
-    match mutex.lend(active) {
-        Some(value) => Ok(Entry::Answered(Reply::Data(value))),
-        None => Err(failed(FailureKind::Misuse)),
-    }
+    let active = scene.active();
+    let mutex = scene.mutex_mut(number)?;
+    let value = mutex.lend(active).ok_or(FailureKind::Misuse)?;
+    Ok(Entry::Answered(Reply::Data(value)))
 }
 
 /// The thread that has the data out puts some back.
-fn mutex_put<D: Drop>(run: &mut RunState<D>, number: usize, value: D) -> Result<Entry<D>, Stop>
-    requires { IsSound run.old }
-    ensures does { Does (rules.mutex_put number value) run.old result run.new }
-    ensures sound { IsSound run.new }
-    ensures steps { run.new.steps_left ≡ run.old.steps_left }
-    ensures no_growth { result ≢ Err Stop.Memory }
+fn mutex_put<D: Drop>(
+    scene: &mut Scene<D>,
+    number: usize,
+    value: D,
+) -> Result<Entry<D>, FailureKind>
+    ensures { Does (rules.mutex_put number value) scene.old result scene.new }
 {
-    if number >= run.objects.len() {
-        return Err(failed(FailureKind::Misuse));
-    }
-    let active = run.active;
-    let Object::Mutex(mutex) = run.objects.at_mut(number) else {
-        return Err(failed(FailureKind::Misuse));
-    };
-    if mutex.is_taken || !mutex.put(active, value) {
-        return Err(failed(FailureKind::Misuse));
+    let active = scene.active();
+    let mutex = scene.mutex_mut(number)?;
+    if !mutex.content.put(active, value) {
+        return Err(FailureKind::Misuse);
     }
     Ok(Entry::Answered(Reply::Done))
 }
 
 /// The data of a mutex that nobody holds, after which it is taken apart.
-fn mutex_into_inner<D: Drop>(run: &mut RunState<D>, number: usize) -> Result<Entry<D>, Stop>
-    requires { IsSound run.old }
-    ensures does { Does (rules.mutex_into_inner number) run.old result run.new }
-    ensures sound { IsSound run.new }
-    ensures steps { run.new.steps_left ≡ run.old.steps_left }
-    ensures no_growth { result ≢ Err Stop.Memory }
+fn mutex_into_inner<D: Drop>(scene: &mut Scene<D>, number: usize) -> Result<Entry<D>, FailureKind>
+    ensures { Does (rules.mutex_into_inner number) scene.old result scene.new }
 {
-    if number >= run.objects.len() {
-        return Err(failed(FailureKind::Misuse));
-    }
-    let Object::Mutex(mutex) = run.objects.at_mut(number) else {
-        return Err(failed(FailureKind::Misuse));
-    };
-    match mutex.take_apart() {
-        Some(value) => Ok(Entry::Answered(Reply::Data(value))),
-        None => Err(failed(FailureKind::Misuse)),
-    }
+    let mutex = scene.mutex_mut(number)?;
+    let value = mutex.take_apart().ok_or(FailureKind::Misuse)?;
+    Ok(Entry::Answered(Reply::Data(value)))
 }

@@ -1,1 +1,2 @@
-mod Resuming
+mod Replying
+mod Stepping

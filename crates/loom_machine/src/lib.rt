@@ -1,4 +1,5 @@
-//! What an operation does up to its branch point, and what the thread that is chosen there does.
+//! What a run does at each operation: up to its branch point, and what the chosen thread has pending.
 #![tactic(auto)]
 
+mod effects;
 pub mod steps;

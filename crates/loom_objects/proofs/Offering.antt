@@ -6,7 +6,7 @@ use Rattle.loom_objects.specs.declared.rt.thread.Ability.{Ability}
 use Rattle.loom_objects.specs.declared.rt.thread.Ability.TheVariants.{Able, Yielding, Unable}
 use Rattle.loom_objects.specs.declared.rt.thread.Offers.{Offers}
 use Rattle.loom_objects.specs.Question.{AreSoundOffers}
-use Rattle.loom_objects.specs.Steps.{is_able, is_yielding, better, fewest, or_else, default_thread, ability_in, with_able, offers_of}
+use Rattle.loom_objects.specs.Schedules.{is_able, is_yielding, better, fewest, or_else, default_thread, ability_in, with_able, offers_of}
 
 -- ---- what is found stands in the list
 

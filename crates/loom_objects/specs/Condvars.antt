@@ -1,11 +1,11 @@
 -- What condition variables do.
-use Rattle.std.specs.Prelude.{ℕ, Bool, false, nat_lt, List, [], ◌∷◌, ◌++◌, length, take, drop, is_some, slice_get, Option, Some, None, true}
+use Rattle.std.specs.Prelude.{ℕ, Bool, false, nat_lt, List, [], ◌∷◌, ◌++◌, length, take, drop, is_some, true, Result, Ok, Err, ⊤}
+use Rattle.loom_views.specs.declared.rt.failure.FailureKind.{FailureKind}
 use Rattle.loom_views.specs.declared.rt.failure.FailureKind.TheVariants.{Misuse}
 use Rattle.loom_objects.specs.declared.operation.CondvarOp.{CondvarOp}
 use Rattle.loom_objects.specs.declared.operation.CondvarOp.TheVariants.{New, Wait, WaitTimeout, NotifyOne, NotifyAll}
 use Rattle.loom_objects.specs.declared.operation.Reply.{Reply}
 use Rattle.loom_objects.specs.declared.operation.Reply.TheVariants as reply
-use Rattle.loom_objects.specs.declared.rt.object.Object.{Object}
 use Rattle.loom_objects.specs.declared.rt.object.Object.TheVariants as object
 use Rattle.loom_objects.specs.declared.rt.run.Entry.{Entry}
 use Rattle.loom_objects.specs.declared.rt.run.Entry.TheVariants.{Answered, AtBranch}
@@ -17,10 +17,12 @@ use Rattle.loom_objects.specs.declared.rt.thread.State.TheVariants.{Sleeping}
 use Rattle.loom_objects.specs.declared.rt.thread.Task.TheVariants as task
 use Rattle.loom_objects.specs.declared.rt.thread.Waking.{Waking}
 use Rattle.loom_objects.specs.declared.rt.thread.Waking.TheVariants.{One, All}
-use Rattle.loom_objects.specs.Locks.{sets_free}
-use Rattle.loom_objects.specs.Tree.{Tree, Gives, ◌>>=◌, check, found}
-use Rattle.loom_objects.specs.World.{World}
-use Rattle.loom_objects.specs.Moves.{active_thread, a_mutex, is_number, pends, rouses_all, with_active, with_new, with_object}
+use Rattle.loom_objects.specs.declared.rt.sync.Condvar.{Condvar}
+use Rattle.loom_objects.specs.declared.rt.sync.Mutex.{Mutex}
+use Rattle.loom_objects.specs.Locks.{frees}
+use Rattle.loom_objects.specs.Rule.{◌>>=◌, check}
+use Rattle.loom_objects.specs.World.{World, MAX_THREADS}
+use Rattle.loom_objects.specs.Moves.{a_condvar, a_mutex, is_number, pends, rouses, rests, rouses_all, with_new, with_object}
 
 -- who is woken, and who waits on
 abbrev pub woken_by : Waking → List ℕ → List ℕ
@@ -31,39 +33,33 @@ abbrev pub left_by : Waking → List ℕ → List ℕ
 left_by One waiters = drop 1 waiters
 left_by All waiters = []
 
+-- a condition variable on which these threads wait, the one that came first first
+abbrev pub waited_on_by : List ℕ → Condvar
+waited_on_by waiters = record { waiters = record { items = waiters } }
+
 module _ {D : Type 0} where
-  -- a condition variable on which these threads wait, the one that came first first
-  abbrev pub with_waiters : List ℕ → Object D
-  with_waiters waiters = object.Condvar (record { waiters = record { items = waiters } })
-
-  abbrev pub as_condvar : Option (Object D) → Option (List ℕ)
-  as_condvar (Some (object.Condvar condvar)) = Some condvar.waiters.items
-  as_condvar _ = None
-
-  -- the threads that wait on the condition variable of this number; any other number is a misuse
-  abbrev pub waiters_of : ℕ → World D → Tree (List ℕ)
-  waiters_of n w = found (as_condvar (slice_get w.objects n)) Misuse
+  -- on the condition variable of this number these threads wait now
+  abbrev pub with_waiters : ℕ → List ℕ → World D → World D
+  with_waiters n waiters w = with_object n (object.Condvar (waited_on_by waiters)) w
 
   -- a condition variable on which no thread waits
-  abbrev pub condvar_new : World D → Tree (Entry D × World D)
-  condvar_new w = Gives (Answered (reply.Condvar (length w.objects)), with_new (with_waiters []) w)
+  abbrev pub condvar_new : World D → Result (Entry D × World D) FailureKind
+  condvar_new w = Ok (Answered (reply.Condvar (length w.objects)), with_new (object.Condvar (waited_on_by [])) w)
 
   -- a thread that holds the mutex comes to a branch point
-  abbrev pub wait_begins : Locking → ℕ → ℕ → D → World D → Tree (Entry D × World D)
+  abbrev pub wait_begins : Locking → ℕ → ℕ → D → World D → Result (Entry D × World D) FailureKind
   wait_begins locking n m value w = do
-    _ ← waiters_of n w
+    _ ← a_condvar n w
     mutex ← a_mutex m w
     _ ← check (is_number mutex.holder w.active) Misuse
-    thread ← active_thread w
-    Gives (AtBranch, pends thread (task.Wait locking n m value) false w)
+    Ok (AtBranch, pends (task.Wait locking n m value) false w)
 
-  abbrev pub wake_begins : Waking → ℕ → World D → Tree (Entry D × World D)
+  abbrev pub wake_begins : Waking → ℕ → World D → Result (Entry D × World D) FailureKind
   wake_begins waking n w = do
-    _ ← waiters_of n w
-    thread ← active_thread w
-    Gives (AtBranch, pends thread (task.Wake waking n) false w)
+    _ ← a_condvar n w
+    Ok (AtBranch, pends (task.Wake waking n) false w)
 
-  abbrev pub condvar_begins : CondvarOp D → World D → Tree (Entry D × World D)
+  abbrev pub condvar_begins : CondvarOp D → World D → Result (Entry D × World D) FailureKind
   condvar_begins New w = condvar_new w
   condvar_begins (Wait n m value) w = wait_begins Untimed n m value w
   condvar_begins (WaitTimeout n m value) w = wait_begins Timed n m value w
@@ -74,32 +70,42 @@ module _ {D : Type 0} where
 
   -- The first stage of a wait: the thread is the last waiter, gives the mutex free, and sleeps. No more threads wait than there
   -- are, five.
-  abbrev pub falls_asleep : Locking → ℕ → ℕ → D → World D → Tree (Passed D × World D)
+  abbrev pub falls_asleep : Locking → ℕ → ℕ → D → World D → Result (Passed D × World D) FailureKind
   falls_asleep locking n m value w = do
-    waiters ← waiters_of n w
-    _ ← check (nat_lt (length waiters) 5) Misuse
-    freed ← sets_free m value (with_object n (with_waiters (waiters ++ w.active ∷ [])) w)
-    thread ← active_thread freed
-    Gives (passed.AtBranch, with_active (record thread { state = Sleeping; task = task.Relock locking m }) freed)
+    condvar ← a_condvar n w
+    _ ← check (nat_lt (length condvar.waiters.items) MAX_THREADS) Misuse
+    freed ← frees m value (with_waiters n (condvar.waiters.items ++ w.active ∷ []) w)
+    Ok (passed.AtBranch, rests Sleeping (task.Relock locking m) freed.1)
 
-  -- a thread holds the mutex
-  abbrev pub is_locked : Option (Object D) → Bool
-  is_locked (Some (object.Mutex mutex)) = is_some mutex.holder
-  is_locked _ = false
+  -- it is a mutex, which a thread holds
+  abbrev pub is_locked : Result (Mutex D) FailureKind → Bool
+  is_locked (Ok mutex) = is_some mutex.holder
+  is_locked (Err kind) = false
 
   -- the second one: it was woken, and comes to the mutex, as a thread that locks it
-  abbrev pub relocks : Locking → ℕ → World D → Tree (Passed D × World D)
+  abbrev pub relocks : Locking → ℕ → World D → Result (Passed D × World D) FailureKind
   relocks locking m w = do
-    thread ← active_thread w
-    Gives (passed.AtBranch, pends thread (task.Lock locking m) (is_locked (slice_get w.objects m)) w)
+    Ok (passed.AtBranch, pends (task.Lock locking m) (is_locked (a_mutex m w)) w)
 
   -- the first waiter, or all of them, leave and are woken, in order
-  abbrev pub wakes : Waking → ℕ → World D → Tree (Reply D × World D)
+  abbrev pub wakes : Waking → ℕ → World D → Result (Reply D × World D) FailureKind
   wakes waking n w = do
-    waiters ← waiters_of n w
-    Gives (reply.Done, rouses_all (woken_by waking waiters) (with_object n (with_waiters (left_by waking waiters)) w))
+    condvar ← a_condvar n w
+    Ok (reply.Done, rouses_all (woken_by waking condvar.waiters.items) (with_waiters n (left_by waking condvar.waiters.items) w))
+
+  -- ---- what the code calls
+
+  -- one thread goes on
+  abbrev pub rouse : ℕ → World D → Result (⊤ × World D) FailureKind
+  rouse t w = Ok (tt, rouses t w)
+
+  abbrev pub rouse_all : List ℕ → World D → Result (⊤ × World D) FailureKind
+  rouse_all threads w = Ok (tt, rouses_all threads w)
 
   -- memory may be refused where a condition variable is made
   abbrev pub needs_memory : CondvarOp D → Bool
   needs_memory New = true
-  needs_memory _ = false
+  needs_memory (Wait n m value) = false
+  needs_memory (WaitTimeout n m value) = false
+  needs_memory (NotifyOne n) = false
+  needs_memory (NotifyAll n) = false

@@ -1,15 +1,14 @@
 -- What may not be left at a run's end.
-use Rattle.std.specs.Prelude.{nat_lt, List, [], ◌∷◌, if◌then◌else◌, Option, Some, None, ⊤}
+use Rattle.std.specs.Prelude.{nat_lt, List, [], ◌∷◌, if◌then◌else◌, Option, Some, None, Result, Ok, Err, ⊤}
 use Rattle.loom_views.specs.declared.rt.failure.FailureKind.{FailureKind}
 use Rattle.loom_views.specs.declared.rt.failure.FailureKind.TheVariants.{LeakArc, LeakTrack}
 use Rattle.loom_objects.specs.declared.rt.object.Object.{Object}
-use Rattle.loom_objects.specs.declared.rt.object.Object.TheVariants.{Arc, Track}
-use Rattle.loom_objects.specs.Tree.{Tree, Gives, Fails}
+use Rattle.loom_objects.specs.declared.rt.object.Object.TheVariants.{Arc, Atomic, Cell, Condvar, Mutex, Notify, RwLock, Track}
 
 -- it goes on where there is no leak
-abbrev pub check_leak : Option FailureKind → Tree ⊤
-check_leak None = Gives tt
-check_leak (Some kind) = Fails kind
+abbrev pub check_leak : Option FailureKind → Result ⊤ FailureKind
+check_leak None = Ok tt
+check_leak (Some kind) = Err kind
 
 abbrev pub first_of : Option FailureKind → Option FailureKind → Option FailureKind
 first_of None next = next
@@ -19,8 +18,13 @@ module _ {D : Type 0} where
   -- the leak of an object that is left: a reference that wasn't dropped, or a value that wasn't given back
   abbrev pub leak_of : Object D → Option FailureKind
   leak_of (Arc arc) = if nat_lt 0 arc.count then Some LeakArc else None
-  leak_of (Track track) = if track.is_taken then None else Some LeakTrack
-  leak_of _ = None
+  leak_of (Track track) = if track.content.is_taken then None else Some LeakTrack
+  leak_of (Atomic atomic) = None
+  leak_of (Mutex mutex) = None
+  leak_of (RwLock lock) = None
+  leak_of (Condvar condvar) = None
+  leak_of (Notify notifier) = None
+  leak_of (Cell cell) = None
 
   -- the first leak, in the order in which objects were made
   abbrev pub first_leak : List (Object D) → Option FailureKind

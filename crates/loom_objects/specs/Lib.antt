@@ -1,9 +1,16 @@
 pub mod Question
 pub mod Tree
+pub mod Rule
 pub mod Failing
 pub mod Operation
 pub mod World
+pub mod Lent
+pub mod Lookup
+pub mod Borrowing
 pub mod Moves
+pub mod Scene
+pub mod SceneBorrowing
+pub mod Turns
 pub mod Locks
 pub mod RwLocks
 pub mod Condvars
@@ -13,6 +20,9 @@ pub mod Cells
 pub mod Counts
 pub mod Tracks
 pub mod Leaks
+pub mod Ending
 pub mod Threads
+pub mod Schedules
+pub mod Effects
 pub mod Steps
 pub mod Shown

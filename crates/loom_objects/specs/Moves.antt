@@ -1,20 +1,28 @@
 -- Threads and objects by number, and how threads wait for objects.
-use Rattle.std.specs.Prelude.{ℕ, ◌+◌, ◌-◌, ◌^◌, ◌==◌, Bool, true, false, [], ◌∷◌, List, ◌++◌, map, cond, is_none, nat_lt, slice_get, slice_set, Option, Some, None, Result, Ok, Err, ⊤}
+use Rattle.std.specs.Prelude.{ℕ, ◌+◌, ◌-◌, ◌^◌, ◌==◌, Bool, true, false, [], ◌∷◌, List, ◌++◌, map, cond, nat_lt, slice_get, slice_set, Option, Some, None, Result, Ok, ⊤}
 use Rattle.std.specs.declared.sync.atomic.Ordering.TheVariants.{Release}
 use Rattle.loom_views.specs.declared.rt.failure.FailureKind.{FailureKind}
 use Rattle.loom_views.specs.declared.rt.failure.FailureKind.TheVariants.{Misuse, TooManySteps}
 use Rattle.loom_views.specs.Table.{Points, points_after_raise, points_after_acquire, points_after_release, points_after_join, points_after_yield, points_with_point}
 use Rattle.loom_objects.specs.declared.rt.object.Object.{Object}
-use Rattle.loom_objects.specs.declared.rt.object.Object.TheVariants as object
+use Rattle.loom_objects.specs.declared.rt.sync.Arc.{Arc}
+use Rattle.loom_objects.specs.declared.rt.sync.Atomic.{Atomic}
+use Rattle.loom_objects.specs.declared.rt.sync.Cell.{Cell}
+use Rattle.loom_objects.specs.declared.rt.sync.Condvar.{Condvar}
 use Rattle.loom_objects.specs.declared.rt.sync.Mutex.{Mutex}
+use Rattle.loom_objects.specs.declared.rt.sync.Notify.{Notify}
+use Rattle.loom_objects.specs.declared.rt.sync.RwLock.{RwLock}
+use Rattle.loom_objects.specs.declared.rt.sync.Track.{Track}
 use Rattle.loom_objects.specs.declared.rt.thread.Thread.{Thread}
 use Rattle.loom_objects.specs.declared.rt.thread.State.{State}
-use Rattle.loom_objects.specs.declared.rt.thread.State.TheVariants.{Runnable, Blocked, Yielding}
-use Rattle.loom_objects.specs.declared.rt.thread.Claim.TheVariants.{Write, TryWrite}
+use Rattle.loom_objects.specs.declared.rt.thread.State.TheVariants.{Runnable, Blocked, Parked, Sleeping, Yielding, Ended}
+use Rattle.loom_objects.specs.declared.rt.thread.Phase.{Phase}
+use Rattle.loom_objects.specs.declared.rt.thread.Claim.TheVariants.{Read, TryRead, Write, TryWrite}
 use Rattle.loom_objects.specs.declared.rt.thread.Task.{Task}
 use Rattle.loom_objects.specs.declared.rt.thread.Task.TheVariants as task
+use Rattle.loom_objects.specs.Lookup.{atomic_at, mutex_at, rwlock_at, condvar_at, notifier_at, cell_at, arc_at, track_at}
 use Rattle.loom_objects.specs.Operation.{accessed}
-use Rattle.loom_objects.specs.Tree.{Tree, Gives, Fails, ◌>>=◌, check, found}
+use Rattle.loom_objects.specs.Rule.{◌>>=◌, check, found}
 use Rattle.loom_objects.specs.World.{World}
 
 -- the option is this number
@@ -27,10 +35,121 @@ abbrev pub blocked_if : Bool → State → State
 blocked_if true state = Blocked
 blocked_if false state = state
 
--- it comes to what a rule of views answers, or fails as that does
-abbrev pub came : {A : Type 0} → Result A FailureKind → Tree A
-came (Ok a) = Gives a
-came (Err kind) = Fails kind
+-- the first thread, if there is one, takes in the view of the other
+abbrev pub told_points : Option ℕ → ℕ → Points → Points
+told_points None active p = p
+told_points (Some t) active p = points_after_join p t active
+
+-- ---- a list of threads
+
+module _ {D : Type 0} where
+  -- the thread of this number; any other number is a misuse
+  abbrev pub a_thread : ℕ → List (Thread D) → Result (Thread D) FailureKind
+  a_thread t threads = found (slice_get threads t) Misuse
+
+  abbrev pub changed_at : (Thread D → Thread D) → ℕ → Option (Thread D) → List (Thread D) → List (Thread D)
+  changed_at change t None threads = threads
+  changed_at change t (Some thread) threads = slice_set threads t (change thread)
+
+  -- thread t, if there is one, is changed so
+  abbrev pub with_thread : (Thread D → Thread D) → ℕ → List (Thread D) → List (Thread D)
+  with_thread change t threads = changed_at change t (slice_get threads t) threads
+
+  -- the thread has this pending, and can't go on while it is blocked
+  abbrev pub pending : Task D → Bool → Thread D → Thread D
+  pending todo is_blocked thread = record thread { state = blocked_if is_blocked thread.state; task = todo }
+
+  -- it rests in this state, and then has this pending
+  abbrev pub resting : State → Task D → Thread D → Thread D
+  resting state todo thread = record thread { state = state; task = todo }
+
+  -- it can go on
+  abbrev pub running : Thread D → Thread D
+  running thread = record thread { state = Runnable }
+
+  -- its end has come so far
+  abbrev pub at_phase : Phase → Thread D → Thread D
+  at_phase phase thread = record thread { phase = phase }
+
+  -- it is in this state
+  abbrev pub in_state : State → Thread D → Thread D
+  in_state state thread = record thread { state = state }
+
+  -- it has this result
+  abbrev pub having : D → Thread D → Thread D
+  having value thread = record thread { result = Some value }
+
+  -- it has a token or none
+  abbrev pub with_token : Bool → Thread D → Thread D
+  with_token has_token thread = record thread { has_token = has_token }
+
+  abbrev pub unparked_from : State → Thread D → Thread D
+  unparked_from Parked thread = record thread { state = Runnable }
+  unparked_from Ended thread = thread
+  unparked_from Runnable thread = record thread { has_token = true }
+  unparked_from Blocked thread = record thread { has_token = true }
+  unparked_from Sleeping thread = record thread { has_token = true }
+  unparked_from Yielding thread = record thread { has_token = true }
+
+  -- one that is parked can go on, one that has ended stays so, and any other has a token, one at most
+  abbrev pub unparked : Thread D → Thread D
+  unparked thread = unparked_from thread.state thread
+
+  -- it is in the yield state, once more, and has this pending
+  abbrev pub yielded : Task D → Thread D → Thread D
+  yielded todo thread = record thread { state = Yielding; yields = thread.yields + 1; task = todo }
+
+  -- the object that the thread's pending operation is on
+  abbrev pub target : Task D → Option ℕ
+  target task.Start = None
+  target task.Body = None
+  target (task.Access access) = accessed access
+  target task.Continue = None
+  target (task.Lock locking n) = Some n
+  target (task.TryLock n) = Some n
+  target (task.Claim claim n) = Some n
+  target (task.Wait locking n m value) = Some n
+  target (task.Relock locking m) = None
+  target (task.Wake waking n) = Some n
+  target (task.Notify n) = Some n
+  target (task.Await n) = Some n
+  target (task.Rouse n) = None
+  target (task.Count counting n) = Some n
+  target (task.TryUnwrap n) = Some n
+  target (task.Join t n) = Some n
+  target (task.Finish n value) = Some n
+
+  -- a thread that is pending on object n gets the state
+  abbrev pub pending_with : ℕ → State → Thread D → Thread D
+  pending_with n state thread = cond (is_number (target thread.task) n) (record thread { state = state }) thread
+
+  -- the read-write lock that it is about to take for writing
+  abbrev pub written : Task D → Option ℕ
+  written task.Start = None
+  written task.Body = None
+  written (task.Access access) = None
+  written task.Continue = None
+  written (task.Lock locking n) = None
+  written (task.TryLock n) = None
+  written (task.Claim Read n) = None
+  written (task.Claim TryRead n) = None
+  written (task.Claim Write n) = Some n
+  written (task.Claim TryWrite n) = Some n
+  written (task.Wait locking n m value) = None
+  written (task.Relock locking m) = None
+  written (task.Wake waking n) = None
+  written (task.Notify n) = None
+  written (task.Await n) = None
+  written (task.Rouse n) = None
+  written (task.Count counting n) = None
+  written (task.TryUnwrap n) = None
+  written (task.Join t n) = None
+  written (task.Finish n value) = None
+
+  abbrev pub writing_with : ℕ → State → Thread D → Thread D
+  writing_with n state thread = cond (is_number (written thread.task) n) (record thread { state = state }) thread
+
+-- ---- moves of the machine
 
 module _ {D : Type 0} where
   -- the points are now these
@@ -38,10 +157,10 @@ module _ {D : Type 0} where
   with_points points w = record w { points = points }
 
   -- the active thread raises its version
-  abbrev pub raises : World D → Tree (World D)
+  abbrev pub raises : World D → Result (World D) FailureKind
   raises w = do
-    points ← came (points_after_raise w.points w.active)
-    Gives (with_points points w)
+    points ← points_after_raise w.points w.active
+    Ok (with_points points w)
 
   -- it acquires what object n has
   abbrev pub acquires : ℕ → World D → World D
@@ -53,28 +172,44 @@ module _ {D : Type 0} where
 
   -- the thread of this number, if there is one, takes in the active thread's view
   abbrev pub tells : Option ℕ → World D → World D
-  tells None w = w
-  tells (Some t) w = with_points (points_after_join w.points t w.active) w
+  tells thread w = with_points (told_points thread w.active w.points) w
 
   -- the thread whose turn it is
-  abbrev pub active_thread : World D → Tree (Thread D)
+  abbrev pub active_thread : World D → Result (Thread D) FailureKind
   active_thread w = found (slice_get w.threads w.active) Misuse
 
   -- that thread is now so
   abbrev pub with_active : Thread D → World D → World D
   with_active thread w = record w { threads = slice_set w.threads w.active thread }
 
-  abbrev pub as_mutex : Option (Object D) → Option (Mutex D)
-  as_mutex (Some (object.Mutex mutex)) = cond mutex.is_taken None (Some mutex)
-  as_mutex _ = None
+  -- that thread is changed so
+  abbrev pub changes_active : (Thread D → Thread D) → World D → World D
+  changes_active change w = record w { threads = with_thread change w.active w.threads }
 
-  -- the mutex of this number, while it wasn't taken apart; any other number is a misuse
-  abbrev pub a_mutex : ℕ → World D → Tree (Mutex D)
-  a_mutex n w = found (as_mutex (slice_get w.objects n)) Misuse
+  -- the object of this number, of its kind; any other number is a misuse
+  abbrev pub an_atomic : ℕ → World D → Result Atomic FailureKind
+  an_atomic n w = atomic_at n w.objects
 
-  -- the data of a mutex that nobody holds, unless it is out or was taken apart
-  abbrev pub free_value : Mutex D → Option D
-  free_value mutex = cond mutex.is_taken None (cond (is_none mutex.holder) mutex.value None)
+  abbrev pub a_mutex : ℕ → World D → Result (Mutex D) FailureKind
+  a_mutex n w = mutex_at n w.objects
+
+  abbrev pub a_rwlock : ℕ → World D → Result (RwLock D) FailureKind
+  a_rwlock n w = rwlock_at n w.objects
+
+  abbrev pub a_condvar : ℕ → World D → Result Condvar FailureKind
+  a_condvar n w = condvar_at n w.objects
+
+  abbrev pub a_notifier : ℕ → World D → Result Notify FailureKind
+  a_notifier n w = notifier_at n w.objects
+
+  abbrev pub a_cell : ℕ → World D → Result (Cell D) FailureKind
+  a_cell n w = cell_at n w.objects
+
+  abbrev pub an_arc : ℕ → World D → Result (Arc D) FailureKind
+  an_arc n w = arc_at n w.objects
+
+  abbrev pub a_track : ℕ → World D → Result (Track D) FailureKind
+  a_track n w = track_at n w.objects
 
   -- the object of this number is now so
   abbrev pub with_object : ℕ → Object D → World D → World D
@@ -84,26 +219,6 @@ module _ {D : Type 0} where
   abbrev pub with_new : Object D → World D → World D
   with_new object w = record w { objects = w.objects ++ object ∷ []; points = points_with_point w.points }
 
-  -- the object that the thread's pending operation is on
-  abbrev pub target : Task D → Option ℕ
-  target (task.Access access) = accessed access
-  target (task.Lock locking n) = Some n
-  target (task.TryLock n) = Some n
-  target (task.Claim claim n) = Some n
-  target (task.Wait locking n m value) = Some n
-  target (task.Wake waking n) = Some n
-  target (task.Notify n) = Some n
-  target (task.Await n) = Some n
-  target (task.Count counting n) = Some n
-  target (task.TryUnwrap n) = Some n
-  target (task.Join t n) = Some n
-  target (task.Finish n value) = Some n
-  target _ = None
-
-  -- a thread that is pending on object n gets the state
-  abbrev pub pending_with : ℕ → State → Thread D → Thread D
-  pending_with n state thread = cond (is_number (target thread.task) n) (record thread { state = state }) thread
-
   -- Wake the pending, block the pending. The active thread has nothing pending when this happens, so it stays as it is.
   abbrev pub wakes_pending : ℕ → World D → World D
   wakes_pending n w = record w { threads = map (pending_with n Runnable) w.threads }
@@ -111,30 +226,34 @@ module _ {D : Type 0} where
   abbrev pub blocks_pending : ℕ → World D → World D
   blocks_pending n w = record w { threads = map (pending_with n Blocked) w.threads }
 
-  -- the read-write lock that it is about to take for writing
-  abbrev pub written : Task D → Option ℕ
-  written (task.Claim Write n) = Some n
-  written (task.Claim TryWrite n) = Some n
-  written _ = None
-
-  abbrev pub writing_with : ℕ → State → Thread D → Thread D
-  writing_with n state thread = cond (is_number (written thread.task) n) (record thread { state = state }) thread
-
   -- who is pending to write lock n can't go on
   abbrev pub blocks_writers : ℕ → World D → World D
   blocks_writers n w = record w { threads = map (writing_with n Blocked) w.threads }
 
   -- the active thread has this pending, and can't go on while it is blocked
-  abbrev pub pends : Thread D → Task D → Bool → World D → World D
-  pends thread todo is_blocked w = with_active (record thread { state = blocked_if is_blocked thread.state; task = todo }) w
+  abbrev pub pends : Task D → Bool → World D → World D
+  pends todo is_blocked w = changes_active (pending todo is_blocked) w
 
-  abbrev pub runs_on : ℕ → Option (Thread D) → List (Thread D) → List (Thread D)
-  runs_on t None threads = threads
-  runs_on t (Some thread) threads = slice_set threads t (record thread { state = Runnable })
+  -- it rests in this state, and then has this pending
+  abbrev pub rests : State → Task D → World D → World D
+  rests state todo w = changes_active (resting state todo) w
+
+  -- the result of this thread is taken out; a misuse where there is none
+  abbrev pub takes_result : ℕ → World D → Result (D × World D) FailureKind
+  takes_result t w = do
+    thread ← found (slice_get w.threads t) Misuse
+    value ← found thread.result Misuse
+    Ok (value, record w { threads = slice_set w.threads t (record thread { result = None }) })
+
+  -- the thread of this number can go on if it is parked, and has a token unless it has ended; a misuse where there is none
+  abbrev pub unparks : ℕ → World D → Result (⊤ × World D) FailureKind
+  unparks t w = do
+    _ ← found (slice_get w.threads t) Misuse
+    Ok (tt, record w { threads = with_thread unparked t w.threads })
 
   -- the thread of this number takes in the active thread's view, and can go on
   abbrev pub rouses : ℕ → World D → World D
-  rouses t w = tells (Some t) (record w { threads = runs_on t (slice_get w.threads t) w.threads })
+  rouses t w = tells (Some t) (record w { threads = with_thread running t w.threads })
 
   -- these threads, one after the other
   abbrev pub rouses_all : List ℕ → World D → World D
@@ -143,14 +262,8 @@ module _ {D : Type 0} where
 
   -- the active thread is in the yield state and has this pending: its own version is kept as that of its last yield. A run ends
   -- before a thread has yielded 2^64 times, since each is an operation
-  abbrev pub yields : Task D → World D → Tree (World D)
+  abbrev pub yields : Task D → World D → Result (⊤ × World D) FailureKind
   yields todo w = do
     thread ← active_thread w
     _ ← check (nat_lt thread.yields (2 ^ 64 - 1)) TooManySteps
-    Gives (with_points (points_after_yield w.points w.active) (with_active (record thread { state = Yielding; yields = thread.yields + 1; task = todo }) w))
-
-  -- the same, with no answer
-  abbrev pub yields_so : Task D → World D → Tree (⊤ × World D)
-  yields_so todo w = do
-    yielded ← yields todo w
-    Gives (tt, yielded)
+    Ok (tt, with_points (points_after_yield w.points w.active) (changes_active (yielded todo) w))

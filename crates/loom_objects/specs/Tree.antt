@@ -1,5 +1,5 @@
 -- What a run may do, as a tree: where it has a choice, a branch for each option.
-use Rattle.std.specs.Prelude.{Bool, true, false, Option, Some, None, ⊤}
+use Rattle.std.specs.Prelude.{Bool, true, false, Option, Some, None, Result, Ok, Err, ⊤}
 use Rattle.loom_views.specs.declared.rt.failure.FailureKind.{FailureKind}
 use Rattle.loom_objects.specs.declared.choice.Choice.{Choice}
 use Rattle.loom_objects.specs.Question.{Question}
@@ -30,3 +30,8 @@ check false kind = Fails kind
 abbrev pub found : {A : Type 0} → Option A → FailureKind → Tree A
 found (Some a) kind = Gives a
 found None kind = Fails kind
+
+-- a rule without a choice is a leaf
+abbrev pub came : {A : Type 0} → Result A FailureKind → Tree A
+came (Ok a) = Gives a
+came (Err kind) = Fails kind

@@ -8,6 +8,10 @@ use Rattle.loom_objects.specs.declared.rt.thread.State.TheVariants.{Runnable}
 use Rattle.loom_objects.specs.declared.rt.thread.Phase.TheVariants.{Working}
 use Rattle.loom_objects.specs.declared.rt.thread.Task.TheVariants.{Body, Start}
 
+-- the most threads that a run may have, main included
+abbrev pub MAX_THREADS : ℕ
+MAX_THREADS = 5
+
 -- the threads, main first, and the objects, both in order of creation; the points of views, of each thread and of each
 -- object by its number; the thread whose turn it is; how many operations may still be handed over, and how many threads there
 -- may be

@@ -1,9 +1,12 @@
 //! The state of a run.
 pub mod ending;
 pub mod location;
+mod lookup;
+mod moves;
 pub mod object;
 pub mod offers;
 pub mod pending;
 pub mod run;
+pub mod scene;
 pub mod sync;
 pub mod thread;

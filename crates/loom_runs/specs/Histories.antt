@@ -27,8 +27,8 @@ module _ {D : Type 0} where
   -- A mutex that a thread holds keeps no data that another could have; a read-write lock has a writer or readers, and with a
   -- writer no data.
   abbrev pub is_exclusive : Object D → Bool
-  is_exclusive (Mutex mutex) = not (is_some mutex.holder && is_some mutex.value)
-  is_exclusive (RwLock lock) = not (is_some lock.writer && not (is_unread lock)) && not (is_some lock.writer && is_some lock.value)
+  is_exclusive (Mutex mutex) = not (is_some mutex.holder && is_some mutex.content.value)
+  is_exclusive (RwLock lock) = not (is_some lock.writer && not (is_unread lock)) && not (is_some lock.writer && is_some lock.content.value)
   is_exclusive (Atomic atomic) = true
   is_exclusive (Condvar condvar) = true
   is_exclusive (Notify notifier) = true

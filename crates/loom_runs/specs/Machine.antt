@@ -11,8 +11,9 @@ use Rattle.loom_objects.specs.declared.rt.run.Passed.{Passed}
 use Rattle.loom_objects.specs.declared.rt.run.Passed.TheVariants as passed
 use Rattle.loom_objects.specs.Tree.{Tree, Gives, Fails, Closes, Asks, ◌>>=◌, check}
 use Rattle.loom_objects.specs.World.{World}
-use Rattle.loom_objects.specs.Notifiers.{enters_wait}
-use Rattle.loom_objects.specs.Steps.{begins, told, turned, resumes, ends, all_ended, offers}
+use Rattle.loom_objects.specs.Ending.{all_ended}
+use Rattle.loom_objects.specs.Schedules.{offers}
+use Rattle.loom_objects.specs.Steps.{begins, ends, enters_wait, resumes, told, turned}
 use Rattle.loom_runs.specs.Asking.{which_thread, whether_spurious}
 
 -- A thread comes to three further branch points at most before it is told something, and there are five threads.

@@ -1,202 +1,135 @@
-ghost use Rattle.std.specs.Prelude.{◌≡◌, ◌≢◌, Err, ◌+◌, true};
+ghost use Rattle.std.specs.Prelude.{◌≡◌, IfOk, OnErr, true};
 ghost use Rattle.loom_objects.specs.Notifiers as rules;
-ghost use Rattle.loom_objects.specs.Shown.{Does, IsSound};
+ghost use Rattle.loom_objects.specs.Scene.{Does, DoesIfOk};
 
-use crate::parking;
-use loom_objects::failure::{Stop, failed};
 use loom_objects::operation::{NotifyOp, Reply};
 use loom_objects::rt::object::Object;
-use loom_objects::rt::run::{Entry, RunState};
+use loom_objects::rt::run::Entry;
+use loom_objects::rt::scene::Scene;
 use loom_objects::rt::sync::{Notify, Spurious};
 use loom_objects::rt::thread::Task;
 use loom_views::rt::failure::FailureKind;
-use std::sync::atomic::Ordering;
+use std::alloc::AllocError;
 
 /// What an operation on a notifier does up to its branch point, or up to the question whether the thread wakes without a
-/// notification.
-pub fn notifier_begins<D: Drop>(run: &mut RunState<D>, op: NotifyOp) -> Result<Entry<D>, Stop>
-    requires { IsSound run.old }
-    ensures does { Does (rules.notifier_begins op) run.old result run.new }
-    ensures sound { IsSound run.new }
-    ensures steps { run.new.steps_left ≡ run.old.steps_left }
-    ensures growth { result ≡ Err Stop.Memory → rules.needs_memory op ≡ true }
+/// notification. An error of the outer result only where memory is refused.
+pub fn notifier_begins<D: Drop>(
+    scene: &mut Scene<D>,
+    op: NotifyOp,
+) -> Result<Result<Entry<D>, FailureKind>, AllocError>
+    ensures does { IfOk result (λ answer. Does (rules.notifier_begins op) scene.old answer scene.new) }
+    ensures growth { OnErr result (rules.needs_memory op ≡ true) }
 {
     match op {
-        NotifyOp::New => notify_new(run),
-        NotifyOp::Notify(number) => notify_begins(run, number),
-        NotifyOp::Wait(number) => wait_begins(run, number),
+        NotifyOp::New => Ok(Ok(notify_new(scene)?)),
+        NotifyOp::Notify(number) => Ok(notify_begins(scene, number)),
+        NotifyOp::Wait(number) => Ok(wait_begins(scene, number)),
     }
 }
 
 /// A notifier on which bodies wait.
-fn notify_new<D: Drop>(run: &mut RunState<D>) -> Result<Entry<D>, Stop>
-    requires { IsSound run.old }
-    ensures does { Does rules.notify_new run.old result run.new }
-    ensures sound { IsSound run.new }
-    ensures steps { run.new.steps_left ≡ run.old.steps_left }
+fn notify_new<D: Drop>(scene: &mut Scene<D>) -> Result<Entry<D>, AllocError>
+    ensures { DoesIfOk rules.notify_new scene.old result scene.new }
 {
-    let number = run.objects.len();
     let notify = Notify {
         notified: false,
         waiter: None,
         spurious: Spurious::NotYet,
     };
-    run.add_object(Object::Notify(notify))?;
+    let number = scene.add(Object::Notify(notify))?;
     Ok(Entry::Answered(Reply::Notify(number)))
 }
 
-fn notify_begins<D: Drop>(run: &mut RunState<D>, number: usize) -> Result<Entry<D>, Stop>
-    requires { IsSound run.old }
-    ensures does { Does (rules.notify_begins number) run.old result run.new }
-    ensures sound { IsSound run.new }
-    ensures steps { run.new.steps_left ≡ run.old.steps_left }
-    ensures no_growth { result ≢ Err Stop.Memory }
+fn notify_begins<D: Drop>(scene: &mut Scene<D>, number: usize) -> Result<Entry<D>, FailureKind>
+    ensures { Does (rules.notify_begins number) scene.old result scene.new }
 {
-    if number >= run.objects.len() {
-        return Err(failed(FailureKind::Misuse));
-    }
-    let Object::Notify(notify) = run.objects.at(number) else {
-        return Err(failed(FailureKind::Misuse));
-    };
+    let notify = scene.notifier(number)?;
     if !notify.is_for_waits() {
-        return Err(failed(FailureKind::Misuse));
+        return Err(FailureKind::Misuse);
     }
-    let thread = run.threads.at_mut(run.active as usize);
-    thread.pend(Task::Notify(number), false);
+    scene.pend(Task::Notify(number), false);
     Ok(Entry::AtBranch)
 }
 
 /// The thread comes to a branch point, blocked until it is notified; where it may wake without that, whether it does is to
 /// be chosen first.
-fn wait_begins<D: Drop>(run: &mut RunState<D>, number: usize) -> Result<Entry<D>, Stop>
-    requires { IsSound run.old }
-    ensures does { Does (rules.wait_begins number) run.old result run.new }
-    ensures sound { IsSound run.new }
-    ensures steps { run.new.steps_left ≡ run.old.steps_left }
-    ensures no_growth { result ≢ Err Stop.Memory }
+fn wait_begins<D: Drop>(scene: &mut Scene<D>, number: usize) -> Result<Entry<D>, FailureKind>
+    ensures { Does (rules.wait_begins number) scene.old result scene.new }
 {
-    if number >= run.objects.len() {
-        return Err(failed(FailureKind::Misuse));
-    }
-    let Object::Notify(notify) = run.objects.at(number) else {
-        return Err(failed(FailureKind::Misuse));
-    };
+    let notify = scene.notifier(number)?;
     if !notify.is_for_waits() {
-        return Err(failed(FailureKind::Misuse));
+        return Err(FailureKind::Misuse);
     }
-    if !notify.is_alone(run.active) {
-        return Err(failed(FailureKind::SecondWaiter));
+    if !notify.is_alone(scene.active()) {
+        return Err(FailureKind::SecondWaiter);
     }
     if notify.may_be_spurious() {
         return Ok(Entry::Spurious(number));
     }
-    enter_wait(run, false, number)?;
+    enter_wait(scene, false, number)?;
     Ok(Entry::AtBranch)
 }
 
 /// It is known now whether the active thread wakes from the notifier without a notification: then it yields, and else it
 /// waits.
 pub fn enter_wait<D: Drop>(
-    run: &mut RunState<D>,
+    scene: &mut Scene<D>,
     is_spurious: bool,
     number: usize,
-) -> Result<(), Stop>
-    requires { IsSound run.old }
-    ensures does { Does (rules.enters_wait is_spurious number) run.old result run.new }
-    ensures sound { IsSound run.new }
-    ensures steps { run.new.steps_left ≡ run.old.steps_left }
-    ensures no_growth { result ≢ Err Stop.Memory }
+) -> Result<(), FailureKind>
+    ensures { Does (rules.enters_wait is_spurious number) scene.old result scene.new }
 {
-    if number >= run.objects.len() {
-        return Err(failed(FailureKind::Misuse));
-    }
-    let active = run.active;
-    let Object::Notify(notify) = run.objects.at_mut(number) else {
-        return Err(failed(FailureKind::Misuse));
-    };
+    let active = scene.active();
+    let notify = scene.notifier_mut(number)?;
     if is_spurious {
         notify.spurious = Spurious::Waking(active);
-        return parking::yield_by(run, Task::Rouse(number));
+        return scene.yield_by(Task::Rouse(number));
     }
     notify.waiter = Some(active);
     let is_notified = notify.notified;
-    let thread = run.threads.at_mut(active as usize);
-    thread.pend(Task::Await(number), !is_notified);
+    scene.pend(Task::Await(number), !is_notified);
     Ok(())
 }
 
 /// The active thread releases and notifies: who waits takes in its view, and is woken.
-pub(crate) fn notify_waiter<D: Drop>(run: &mut RunState<D>, number: usize) -> Result<(), Stop>
-    requires { IsSound run.old }
-    ensures does { Does (rules.notifies_so number) run.old result run.new }
-    ensures sound { IsSound run.new }
-    ensures steps { run.new.steps_left ≡ run.old.steps_left }
-    ensures no_growth { result ≢ Err Stop.Memory }
+pub(crate) fn notify_waiter<D: Drop>(scene: &mut Scene<D>, number: usize) -> Result<(), FailureKind>
+    ensures { Does (rules.notify number) scene.old result scene.new }
 {
-    if number >= run.objects.len() {
-        return Err(failed(FailureKind::Misuse));
-    }
-    let Object::Notify(notify) = run.objects.at_mut(number) else {
-        return Err(failed(FailureKind::Misuse));
-    };
+    let notify = scene.notifier_mut(number)?;
     notify.notified = true;
     let waiter = notify.waiter;
-    run.views
-        .release(run.active as usize, number, Ordering::Release);
-    run.tell(waiter);
-    run.wake_pending(number);
+    scene.release(number);
+    scene.tell_waiter(waiter);
+    scene.wake_pending(number);
     Ok(())
 }
 
 /// The active thread releases and notifies, and is told so.
-pub fn notify<D: Drop>(run: &mut RunState<D>, number: usize) -> Result<Reply<D>, Stop>
-    requires { IsSound run.old }
-    ensures does { Does (rules.notifies number) run.old result run.new }
-    ensures sound { IsSound run.new }
-    ensures steps { run.new.steps_left ≡ run.old.steps_left }
-    ensures no_growth { result ≢ Err Stop.Memory }
+pub fn notify<D: Drop>(scene: &mut Scene<D>, number: usize) -> Result<Reply<D>, FailureKind>
+    ensures { Does (rules.notifies number) scene.old result scene.new }
 {
-    notify_waiter(run, number)?;
+    notify_waiter(scene, number)?;
     Ok(Reply::Done)
 }
 
 /// The active thread was notified: it acquires, and waits no more.
-pub fn await_notified<D: Drop>(run: &mut RunState<D>, number: usize) -> Result<Reply<D>, Stop>
-    requires { IsSound run.old }
-    ensures does { Does (rules.awaits number) run.old result run.new }
-    ensures sound { IsSound run.new }
-    ensures steps { run.new.steps_left ≡ run.old.steps_left }
-    ensures no_growth { result ≢ Err Stop.Memory }
+pub fn await_notified<D: Drop>(scene: &mut Scene<D>, number: usize) -> Result<Reply<D>, FailureKind>
+    ensures { Does (rules.awaits number) scene.old result scene.new }
 {
-    if number >= run.objects.len() {
-        return Err(failed(FailureKind::Misuse));
-    }
-    let Object::Notify(notify) = run.objects.at_mut(number) else {
-        return Err(failed(FailureKind::Misuse));
-    };
+    let notify = scene.notifier_mut(number)?;
     if !notify.notified {
-        return Err(failed(FailureKind::Misuse));
+        return Err(FailureKind::Misuse);
     }
     notify.notified = false;
     notify.waiter = None;
-    run.views.acquire(run.active as usize, number);
+    scene.acquire(number);
     Ok(Reply::Done)
 }
 
 /// The active thread has woken without a notification, and no thread does so again.
-pub fn wake_early<D: Drop>(run: &mut RunState<D>, number: usize) -> Result<Reply<D>, Stop>
-    requires { IsSound run.old }
-    ensures does { Does (rules.wakes_early number) run.old result run.new }
-    ensures sound { IsSound run.new }
-    ensures steps { run.new.steps_left ≡ run.old.steps_left }
-    ensures no_growth { result ≢ Err Stop.Memory }
+pub fn wake_early<D: Drop>(scene: &mut Scene<D>, number: usize) -> Result<Reply<D>, FailureKind>
+    ensures { Does (rules.wakes_early number) scene.old result scene.new }
 {
-    if number >= run.objects.len() {
-        return Err(failed(FailureKind::Misuse));
-    }
-    let Object::Notify(notify) = run.objects.at_mut(number) else {
-        return Err(failed(FailureKind::Misuse));
-    };
-    notify.spurious = Spurious::Over;
+    scene.notifier_mut(number)?.spurious = Spurious::Over;
     Ok(Reply::Done)
 }

@@ -1,60 +1,59 @@
-ghost use Rattle.std.specs.Prelude.{◌≡◌, ◌≢◌, Err, slice_get, true};
+ghost use Rattle.std.specs.Prelude.{◌≡◌, IfOk, OnErr, true};
+ghost use Rattle.loom_objects.specs.Scene.{Does};
 ghost use Rattle.loom_objects.specs.Threads as rules;
-ghost use Rattle.loom_objects.specs.Shown.{Does, IsSound};
 
 use crate::{notifiers, parking};
-use loom_objects::failure::{Stop, failed};
 use loom_objects::operation::{Reply, ThreadOp};
 use loom_objects::rt::object::Object;
-use loom_objects::rt::run::{Entry, RunState};
+use loom_objects::rt::run::Entry;
+use loom_objects::rt::scene::Scene;
 use loom_objects::rt::sync::{Notify, Spurious};
 use loom_objects::rt::thread::{Name, Phase, State, Task, Thread};
 use loom_views::rt::failure::FailureKind;
+use std::alloc::AllocError;
 
-/// What an operation of threads does up to its branch point, or all of it.
-pub fn thread_begins<D: Drop>(run: &mut RunState<D>, op: ThreadOp<D, ()>) -> Result<Entry<D>, Stop>
-    requires { IsSound run.old }
-    ensures does { Does (rules.thread_begins op) run.old result run.new }
-    ensures sound { IsSound run.new }
-    ensures steps { run.new.steps_left ≡ run.old.steps_left }
-    ensures growth { result ≡ Err Stop.Memory → rules.needs_memory op ≡ true }
+/// What an operation of threads does up to its branch point, or all of it. An error of the outer result only where memory is
+/// refused.
+pub fn thread_begins<D: Drop>(
+    scene: &mut Scene<D>,
+    op: ThreadOp<D, ()>,
+) -> Result<Result<Entry<D>, FailureKind>, AllocError>
+    ensures does { IfOk result (λ answer. Does (rules.thread_begins op) scene.old answer scene.new) }
+    ensures growth { OnErr result (rules.needs_memory op ≡ true) }
 {
     match op {
-        ThreadOp::Spawn((), name) => spawn(run, name),
-        ThreadOp::Join(thread, notifier) => join_begins(run, thread, notifier),
-        ThreadOp::Finish(value) => finish(run, value),
-        ThreadOp::Exit => exit(run),
-        ThreadOp::End => end(run),
-        ThreadOp::Current => parking::current(run),
-        ThreadOp::Park => parking::park(run),
-        ThreadOp::Unpark(thread) => parking::unpark(run, thread),
-        ThreadOp::Yield => parking::yield_now(run),
+        ThreadOp::Spawn((), name) => spawn(scene, name),
+        ThreadOp::Join(thread, notifier) => Ok(join_begins(scene, thread, notifier)),
+        ThreadOp::Finish(value) => Ok(finish(scene, value)),
+        ThreadOp::Exit => Ok(exit(scene)),
+        ThreadOp::End => Ok(end(scene)),
+        ThreadOp::Current => Ok(Ok(parking::current(scene))),
+        ThreadOp::Park => Ok(Ok(parking::park(scene))),
+        ThreadOp::Unpark(thread) => Ok(parking::unpark(scene, thread)),
+        ThreadOp::Yield => Ok(parking::yield_now(scene)),
     }
 }
 
 /// A thread more, with its parent's view and a notifier of its own.
-fn spawn<D: Drop>(run: &mut RunState<D>, name: Option<Name>) -> Result<Entry<D>, Stop>
-    requires { IsSound run.old }
-    ensures does { Does (rules.spawn name) run.old result run.new }
-    ensures sound { IsSound run.new }
-    ensures steps { run.new.steps_left ≡ run.old.steps_left }
+fn spawn<D: Drop>(
+    scene: &mut Scene<D>,
+    name: Option<Name>,
+) -> Result<Result<Entry<D>, FailureKind>, AllocError>
+    ensures { IfOk result (λ answer. Does (rules.spawn name) scene.old answer scene.new) }
 {
-    let count = run.threads.len();
-    if count >= run.max_threads {
-        return Err(failed(FailureKind::TooManyThreads));
+    let count = scene.thread_count();
+    if count >= scene.max_threads() {
+        return Ok(Err(FailureKind::TooManyThreads));
     }
-    match run.views.spawn(run.active as usize) {
-        Ok(()) => {}
-        Err(kind) => return Err(failed(kind)),
+    if let Err(kind) = scene.spawn_view() {
+        return Ok(Err(kind));
     }
-    let notifier = run.objects.len();
-    let notify = Notify {
+    let notifier = scene.add(Object::Notify(Notify {
         notified: false,
         waiter: None,
         spurious: Spurious::Never,
-    };
-    run.add_object(Object::Notify(notify))?;
-    let child = Thread {
+    }))?;
+    scene.add_thread(Thread {
         state: State::Runnable,
         phase: Phase::Working,
         task: Task::Start,
@@ -63,152 +62,100 @@ fn spawn<D: Drop>(run: &mut RunState<D>, name: Option<Name>) -> Result<Entry<D>,
         yields: 0,
         has_token: false,
         name,
-    };
-    match run.threads.push(child) {
-        Ok(()) => Ok(Entry::Answered(Reply::Spawned(count as u8, name, notifier))),
-        Err(_) => Err(Stop::Memory),
-    }
+    })?;
+    Ok(Ok(Entry::Answered(Reply::Spawned(count as u8, name, notifier))))
 }
 
 /// The active thread is to wait for a thread's end, and comes to a branch point, blocked until it is notified.
 fn join_begins<D: Drop>(
-    run: &mut RunState<D>,
+    scene: &mut Scene<D>,
     thread: u8,
     notifier: usize,
-) -> Result<Entry<D>, Stop>
-    requires { IsSound run.old }
-    ensures does { Does (rules.join_begins thread notifier) run.old result run.new }
-    ensures sound { IsSound run.new }
-    ensures steps { run.new.steps_left ≡ run.old.steps_left }
-    ensures no_growth { result ≢ Err Stop.Memory }
+) -> Result<Entry<D>, FailureKind>
+    ensures { Does (rules.join_begins thread notifier) scene.old result scene.new }
 {
-    if !has_notifier(run, thread, notifier) || notifier >= run.objects.len() {
-        return Err(failed(FailureKind::Misuse));
+    if scene.thread(thread)?.notifier != Some(notifier) {
+        return Err(FailureKind::Misuse);
     }
-    let Object::Notify(notify) = run.objects.at_mut(notifier) else {
-        return Err(failed(FailureKind::Misuse));
-    };
+    let active = scene.active();
+    let notify = scene.notifier_mut(notifier)?;
     if notify.waiter.is_some() {
-        return Err(failed(FailureKind::Misuse));
+        return Err(FailureKind::Misuse);
     }
-    notify.waiter = Some(run.active);
+    notify.waiter = Some(active);
     let is_notified = notify.notified;
-    let waiting = run.threads.at_mut(run.active as usize);
-    waiting.pend(Task::Join(thread, notifier), !is_notified);
+    scene.pend(Task::Join(thread, notifier), !is_notified);
     Ok(Entry::AtBranch)
 }
 
-/// Whether the notifier is the thread's own.
-fn has_notifier<D: Drop>(run: &RunState<D>, thread: u8, notifier: usize) -> bool
-    ensures { result ≡ rules.has_own (slice_get run.now.threads thread) notifier }
-{
-    if thread as usize >= run.threads.len() {
-        return false;
-    }
-    match run.threads.at(thread as usize).notifier {
-        Some(own) => own == notifier,
-        None => false,
-    }
-}
-
 /// The active thread acquires from the notifier, and has the result of the thread that it joins.
-pub fn join<D: Drop>(run: &mut RunState<D>, thread: u8, notifier: usize) -> Result<Reply<D>, Stop>
-    requires { IsSound run.old }
-    ensures does { Does (rules.join thread notifier) run.old result run.new }
-    ensures sound { IsSound run.new }
-    ensures steps { run.new.steps_left ≡ run.old.steps_left }
-    ensures no_growth { result ≢ Err Stop.Memory }
+pub fn join<D: Drop>(
+    scene: &mut Scene<D>,
+    thread: u8,
+    notifier: usize,
+) -> Result<Reply<D>, FailureKind>
+    ensures { Does (rules.join thread notifier) scene.old result scene.new }
 {
-    if notifier >= run.objects.len() || thread as usize >= run.threads.len() {
-        return Err(failed(FailureKind::Misuse));
-    }
-    let Object::Notify(notify) = run.objects.at_mut(notifier) else {
-        return Err(failed(FailureKind::Misuse));
-    };
+    let notify = scene.notifier_mut(notifier)?;
     if !notify.notified {
-        return Err(failed(FailureKind::Misuse));
+        return Err(FailureKind::Misuse);
     }
     notify.notified = false;
-    match run.threads.at_mut(thread as usize).result.take() {
-        None => Err(failed(FailureKind::Misuse)),
-        Some(value) => {
-            run.views.acquire(run.active as usize, notifier);
-            Ok(Reply::Data(value))
-        }
-    }
+    let value = scene.take_result(thread)?;
+    scene.acquire(notifier);
+    Ok(Reply::Data(value))
 }
 
 /// Main has its result at once. Another thread comes to a branch point, at which it is to notify.
-fn finish<D: Drop>(run: &mut RunState<D>, value: D) -> Result<Entry<D>, Stop>
-    requires { IsSound run.old }
-    ensures does { Does (rules.finish value) run.old result run.new }
-    ensures sound { IsSound run.new }
-    ensures steps { run.new.steps_left ≡ run.old.steps_left }
-    ensures no_growth { result ≢ Err Stop.Memory }
+fn finish<D: Drop>(scene: &mut Scene<D>, value: D) -> Result<Entry<D>, FailureKind>
+    ensures { Does (rules.finish value) scene.old result scene.new }
 {
-    let thread = run.threads.at_mut(run.active as usize);
+    let thread = scene.active_thread();
     if !matches!(thread.phase, Phase::Working) {
-        return Err(failed(FailureKind::Misuse));
+        return Err(FailureKind::Misuse);
     }
-    thread.phase = Phase::Finished;
-    match thread.notifier {
-        None => {
-            thread.result = Some(value);
-            Ok(Entry::Answered(Reply::Done))
-        }
-        Some(notifier) => {
-            thread.pend(Task::Finish(notifier, value), false);
-            Ok(Entry::AtBranch)
-        }
-    }
+    let notifier = thread.notifier;
+    scene.set_phase(Phase::Finished);
+    let Some(notifier) = notifier else {
+        scene.set_result(value);
+        return Ok(Entry::Answered(Reply::Done));
+    };
+    scene.pend(Task::Finish(notifier, value), false);
+    Ok(Entry::AtBranch)
 }
 
 /// The active thread releases and notifies who joins it, and has its result.
 pub fn child_finish<D: Drop>(
-    run: &mut RunState<D>,
+    scene: &mut Scene<D>,
     notifier: usize,
     value: D,
-) -> Result<Reply<D>, Stop>
-    requires { IsSound run.old }
-    ensures does { Does (rules.child_finish notifier value) run.old result run.new }
-    ensures sound { IsSound run.new }
-    ensures steps { run.new.steps_left ≡ run.old.steps_left }
-    ensures no_growth { result ≢ Err Stop.Memory }
+) -> Result<Reply<D>, FailureKind>
+    ensures { Does (rules.child_finish notifier value) scene.old result scene.new }
 {
-    notifiers::notify_waiter(run, notifier)?;
-    let thread = run.threads.at_mut(run.active as usize);
-    thread.result = Some(value);
+    notifiers::notify_waiter(scene, notifier)?;
+    scene.set_result(value);
     Ok(Reply::Done)
 }
 
-fn exit<D: Drop>(run: &mut RunState<D>) -> Result<Entry<D>, Stop>
-    requires { IsSound run.old }
-    ensures does { Does rules.exit run.old result run.new }
-    ensures sound { IsSound run.new }
-    ensures steps { run.new.steps_left ≡ run.old.steps_left }
-    ensures no_growth { result ≢ Err Stop.Memory }
+/// What is left of the thread is dropped: its end is next.
+fn exit<D: Drop>(scene: &mut Scene<D>) -> Result<Entry<D>, FailureKind>
+    ensures { Does rules.exit scene.old result scene.new }
 {
-    let thread = run.threads.at_mut(run.active as usize);
-    if !matches!(thread.phase, Phase::Finished) {
-        return Err(failed(FailureKind::Misuse));
+    if !matches!(scene.active_thread().phase, Phase::Finished) {
+        return Err(FailureKind::Misuse);
     }
-    thread.phase = Phase::Exited;
+    scene.set_phase(Phase::Exited);
     Ok(Entry::Answered(Reply::Done))
 }
 
 /// The thread has ended before the branch point that it comes to.
-fn end<D: Drop>(run: &mut RunState<D>) -> Result<Entry<D>, Stop>
-    requires { IsSound run.old }
-    ensures does { Does rules.end run.old result run.new }
-    ensures sound { IsSound run.new }
-    ensures steps { run.new.steps_left ≡ run.old.steps_left }
-    ensures no_growth { result ≢ Err Stop.Memory }
+fn end<D: Drop>(scene: &mut Scene<D>) -> Result<Entry<D>, FailureKind>
+    ensures { Does rules.end scene.old result scene.new }
 {
-    let thread = run.threads.at_mut(run.active as usize);
-    if !matches!(thread.phase, Phase::Exited) {
-        return Err(failed(FailureKind::Misuse));
+    if !matches!(scene.active_thread().phase, Phase::Exited) {
+        return Err(FailureKind::Misuse);
     }
-    thread.phase = Phase::Over;
-    thread.state = State::Ended;
+    scene.set_phase(Phase::Over);
+    scene.set_state(State::Ended);
     Ok(Entry::AtBranch)
 }

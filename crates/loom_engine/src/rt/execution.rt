@@ -2,7 +2,7 @@ ghost use Rattle.std.specs.Prelude.{◌≡◌, ◌≤◌, ◌+◌, Some, None, t
 ghost use Rattle.std.specs.List.{Contains};
 ghost use Rattle.loom_objects.specs.declared.choice.Choice.{Choice};
 ghost use Rattle.loom_objects.specs.World.{opening};
-ghost use Rattle.loom_objects.specs.Shown.{Shows, IsSound};
+ghost use Rattle.loom_objects.specs.Shown.{Shows};
 ghost use Rattle.loom_engine.specs.Execution.{Along, Submits, over_after as answered_after};
 ghost use Rattle.loom_objects.specs.Steps.{resumes};
 ghost use Rattle.loom_runs.specs.Machine as machine;
@@ -10,13 +10,11 @@ ghost use Rattle.loom_engine.specs.Routes.{Says};
 ghost use Rattle.loom_runs.specs.Asking.{which_store};
 
 use crate::rt::path::Path;
-use loom_atomics::atomics::read;
-use loom_machine::steps::{begin, resume};
+use loom_machine::steps::{begin, end_run, enter_wait, read, resume};
 use loom_objects::data::Data;
 use loom_objects::failure::{Failure, Stop, failed};
 use loom_objects::operation::{Op, Turn};
 use loom_objects::rt::run::{Entry, Passed, Resumed, RunState};
-use loom_threads::notifiers::enter_wait;
 use loom_views::rt::failure::FailureKind;
 use std::alloc::{AllocError, Global};
 use std::marker::Model;
@@ -42,14 +40,11 @@ pub struct Execution<D> {
 }
 
 impl<D> Model for Execution<D> {
-    ghost use Rattle.loom_objects.specs.Shown.{IsSound};
     ghost use Rattle.loom_engine.specs.Execution.{ExecutionState};
 
     ghost Value = { ExecutionState D };
 
     ghost view = { λ e. record { run = e.run; over = e.over } };
-
-    ghost invariant = { λ e. IsSound e.run };
 }
 
 impl<D: Data> Execution<D> {
@@ -104,15 +99,13 @@ fn hand_over<D: Data>(
     path: &mut Path,
     op: Op<D, ()>,
 ) -> Result<Turn<D>, Stop>
-    requires { IsSound run.old }
     ensures along { Along (machine.submit op) run.old path.old result run.new path.new }
-    ensures sound { IsSound run.new }
     ensures steps { OnOk result (run.old.steps_left ≡ run.new.steps_left + 1) }
     ensures same { (path.new.max_branches ≡ path.old.max_branches) × (path.new.given ≡ path.old.given) }
 {
     match begin(run, op) {
         Err(stop) => Err(stop),
-        Ok(Entry::Answered(reply)) => Ok(Turn::Reply(run.active, reply)),
+        Ok(Entry::Answered(reply)) => Ok(Turn::Reply(run.scene.active(), reply)),
         Ok(Entry::AtBranch) => schedule(run, path, FURTHER_BRANCHES),
         Ok(Entry::Spurious(notifier)) => wait(run, path, notifier),
     }
@@ -120,9 +113,7 @@ fn hand_over<D: Data>(
 
 /// Whether the active thread wakes from the notifier without a notification is chosen, and then it yields or waits.
 fn wait<D: Data>(run: &mut RunState<D>, path: &mut Path, notifier: usize) -> Result<Turn<D>, Stop>
-    requires { IsSound run.old }
     ensures along { Along (machine.is_asked notifier) run.old path.old result run.new path.new }
-    ensures sound { IsSound run.new }
     ensures steps { run.new.steps_left ≡ run.old.steps_left }
     ensures same { (path.new.max_branches ≡ path.old.max_branches) × (path.new.given ≡ path.old.given) }
 {
@@ -137,9 +128,7 @@ fn wait<D: Data>(run: &mut RunState<D>, path: &mut Path, notifier: usize) -> Res
 
 /// A schedule, and those after it, up to a turn. `Misuse` at one branch point more than there may be.
 fn schedule<D: Data>(run: &mut RunState<D>, path: &mut Path, more: u8) -> Result<Turn<D>, Stop>
-    requires { IsSound run.old }
     ensures along { Along (machine.schedule more) run.old path.old result run.new path.new }
-    ensures sound { IsSound run.new }
     ensures steps { run.new.steps_left ≡ run.old.steps_left }
     ensures same { (path.new.max_branches ≡ path.old.max_branches) × (path.new.given ≡ path.old.given) }
 {
@@ -157,13 +146,11 @@ fn schedule<D: Data>(run: &mut RunState<D>, path: &mut Path, more: u8) -> Result
 
 /// The path says which thread goes on, and what it has pending takes effect.
 fn pass<D: Data>(run: &mut RunState<D>, path: &mut Path) -> Result<Passed<D>, Stop>
-    requires { IsSound run.old }
     ensures along { Along machine.passes run.old path.old result run.new path.new }
-    ensures sound { IsSound run.new }
     ensures steps { run.new.steps_left ≡ run.old.steps_left }
     ensures same { (path.new.max_branches ≡ path.old.max_branches) × (path.new.given ≡ path.old.given) }
 {
-    match path.branch_thread(&run.offers()) {
+    match path.branch_thread(&run.scene.offers()) {
         Err(stop) => Err(stop),
         Ok(Some(thread)) => go_on(run, path, thread),
         Ok(None) => match close(run, path) {
@@ -175,9 +162,7 @@ fn pass<D: Data>(run: &mut RunState<D>, path: &mut Path) -> Result<Passed<D>, St
 
 /// The chosen thread goes on. A load asks the path which store it reads.
 fn go_on<D: Data>(run: &mut RunState<D>, path: &mut Path, thread: u8) -> Result<Passed<D>, Stop>
-    requires { IsSound run.old }
     ensures along { Along (resumes thread) run.old path.old result run.new path.new }
-    ensures sound { IsSound run.new }
     ensures steps { run.new.steps_left ≡ run.old.steps_left }
     ensures same { (path.new.max_branches ≡ path.old.max_branches) × (path.new.given ≡ path.old.given) }
 {
@@ -207,16 +192,14 @@ fn choose_slot(path: &mut Path, readable: &[bool; 7]) -> Result<u8, Stop>
 
 /// No thread can go on: the run is over, if all threads have ended and the path is used up.
 fn close<D: Drop>(run: &mut RunState<D>, path: &Path) -> Result<Turn<D>, Stop>
-    requires { IsSound run.old }
     ensures along { Along machine.closes run.old path.now result run.new path.now }
-    ensures sound { IsSound run.new }
     ensures steps { run.new.steps_left ≡ run.old.steps_left }
 {
-    if !run.all_ended() {
+    if !run.scene.all_ended() {
         return Err(failed(FailureKind::Deadlock));
     }
     if !path.is_used_up() {
         return Err(failed(FailureKind::NotDeterministic));
     }
-    run.end_run()
+    end_run(run)
 }

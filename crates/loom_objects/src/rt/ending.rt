@@ -1,13 +1,12 @@
-ghost use Rattle.std.specs.Prelude.{◌≡◌, ◌≢◌, Err};
+ghost use Rattle.std.specs.Prelude.{◌≡◌};
 ghost use Rattle.std.specs.List.{list_all};
 ghost use Rattle.loom_objects.specs.Leaks as leaks;
-ghost use Rattle.loom_objects.specs.Steps as rules;
-ghost use Rattle.loom_objects.specs.Shown.{Does, IsSound};
+ghost use Rattle.loom_objects.specs.Ending as rules;
+ghost use Rattle.loom_objects.specs.Scene.{Does};
 
-use crate::failure::{Stop, failed};
 use crate::operation::Turn;
 use crate::rt::object::Object;
-use crate::rt::run::RunState;
+use crate::rt::scene::Scene;
 use crate::rt::thread::{State, Thread};
 use loom_views::rt::failure::FailureKind;
 use loom_views::sequence::Sequence;
@@ -24,8 +23,11 @@ fn leak_of<D>(object: &Object<D>) -> Option<FailureKind>
 {
     match object {
         Object::Arc(arc) if arc.count > 0 => Some(FailureKind::LeakArc),
-        Object::Track(track) if !track.is_taken => Some(FailureKind::LeakTrack),
-        _ => None,
+        Object::Arc(_) => None,
+        Object::Track(track) if !track.content.is_taken => Some(FailureKind::LeakTrack),
+        Object::Track(_) => None,
+        Object::Atomic(_) | Object::Mutex(_) | Object::RwLock(_) => None,
+        Object::Condvar(_) | Object::Notify(_) | Object::Cell(_) => None,
     }
 }
 
@@ -41,7 +43,7 @@ fn first_leak<D>(objects: &Sequence<Object<D>>) -> Option<FailureKind>
     None
 }
 
-impl<D: Drop> RunState<D> {
+impl<D: Drop> Scene<D> {
     /// Whether every thread has ended.
     pub fn all_ended(&self) -> bool
         ensures { result ≡ list_all rules.has_ended self.now.threads }
@@ -50,20 +52,12 @@ impl<D: Drop> RunState<D> {
     }
 
     /// The run ends with main's result. The first object that is left, and must not be, is a leak.
-    pub fn end_run(&mut self) -> Result<Turn<D>, Stop>
-        requires { IsSound self.old }
-        ensures does { Does rules.ends self.old result self.new }
-        ensures sound { IsSound self.new }
-        ensures steps { self.new.steps_left ≡ self.old.steps_left }
-        ensures no_growth { result ≢ Err Stop.Memory }
+    pub fn end(&mut self) -> Result<Turn<D>, FailureKind>
+        ensures { Does rules.end_of self.old result self.new }
     {
         if let Some(kind) = first_leak(&self.objects) {
-            return Err(failed(kind));
+            return Err(kind);
         }
-        let main = self.threads.at_mut(0);
-        match main.result.take() {
-            None => Err(failed(FailureKind::Misuse)),
-            Some(value) => Ok(Turn::Ended(value)),
-        }
+        Ok(Turn::Ended(self.take_result(0)?))
     }
 }

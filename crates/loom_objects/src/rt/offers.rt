@@ -1,13 +1,16 @@
-ghost use Rattle.std.specs.Prelude.{◌≡◌, None, Some, ◌<◌, map, IfSome};
+ghost use Rattle.std.specs.Prelude.{ℕ, ◌≡◌, None, Some, ◌<◌, map, option_map, slice_get, IfOk, IfSome};
 ghost use Rattle.std.specs.List.{position_from};
 ghost use Rattle.loom_objects.specs.Question.{AreSoundOffers};
-ghost use Rattle.loom_objects.specs.Steps as rules;
-ghost use Rattle.loom_objects.specs.Shown.{world_of};
+ghost use Rattle.loom_objects.specs.Schedules as rules;
+ghost use Rattle.loom_objects.specs.Scene.{world_of, Does};
 ghost use Rattle.loom_views.specs.Table.{Points};
 
-use crate::rt::run::RunState;
-use crate::rt::thread::{Ability, Offers, State, Thread};
+use crate::rt::scene::Scene;
+use crate::rt::thread::{Ability, Offers, State, Task, Thread};
+use loom_views::rt::MAX_THREADS;
+use loom_views::rt::failure::FailureKind;
 use loom_views::sequence::Sequence;
+use std::mem;
 
 fn ability_of(state: State) -> Ability
     ensures { result ≡ rules.ability_of state }
@@ -56,11 +59,11 @@ fn better(best: Option<(u8, u64)>, thread: u8, standing: (Ability, u64)) -> Opti
 }
 
 /// Of the threads that can go on, the one with the fewest yields, the first on ties.
-fn fewest(standings: &[(Ability, u64); 5]) -> Option<u8>
+fn fewest(standings: &[(Ability, u64); MAX_THREADS]) -> Option<u8>
     ensures { result ≡ rules.fewest None 0 standings.now }
 {
     let mut best = None;
-    for place in 0..5 {
+    for place in 0..MAX_THREADS {
         best = better(best, place as u8, standings[place]);
     }
     match best {
@@ -70,7 +73,7 @@ fn fewest(standings: &[(Ability, u64); 5]) -> Option<u8>
 }
 
 /// The place of the first thread that has yielded.
-fn yielding_place(standings: &[(Ability, u64); 5]) -> Option<usize>
+fn yielding_place(standings: &[(Ability, u64); MAX_THREADS]) -> Option<usize>
     ensures first { result ≡ position_from rules.is_yielding 0 standings.now }
     ensures within { IfSome result (λ thread. thread < 5) }
 {
@@ -78,10 +81,10 @@ fn yielding_place(standings: &[(Ability, u64); 5]) -> Option<usize>
 }
 
 /// The active thread if it can go on, or else the one with the fewest yields that can, or else the first that has yielded.
-fn default_thread(active: u8, standings: &[(Ability, u64); 5]) -> Option<u8>
+fn default_thread(active: u8, standings: &[(Ability, u64); MAX_THREADS]) -> Option<u8>
     ensures { result ≡ rules.default_thread active standings.now }
 {
-    if active < 5 && is_able(standings[active as usize]) {
+    if (active as usize) < MAX_THREADS && is_able(standings[active as usize]) {
         return Some(active);
     }
     if let Some(thread) = fewest(standings) {
@@ -99,28 +102,46 @@ fn ability_in(standing: (Ability, u64)) -> Ability
     standing.0
 }
 
-fn abilities(standings: &[(Ability, u64); 5]) -> [Ability; 5]
+fn abilities(standings: &[(Ability, u64); MAX_THREADS]) -> [Ability; MAX_THREADS]
     ensures { result ≡ map rules.ability_in standings.now }
 {
     standings.map(ability_in)
 }
 
 /// The thread, if there is one, can go on.
-fn with_able(mut abilities: [Ability; 5], thread: Option<u8>) -> [Ability; 5]
+fn with_able(mut abilities: [Ability; MAX_THREADS], thread: Option<u8>) -> [Ability; MAX_THREADS]
     ensures { result ≡ rules.with_able thread abilities }
 {
     if let Some(thread) = thread {
-        if thread < 5 {
+        if (thread as usize) < MAX_THREADS {
             abilities[thread as usize] = Ability::Able;
         }
     }
     abilities
 }
 
-impl<D: Drop> RunState<D> {
+/// A thread that has yielded can go on again.
+fn run_again<D>(thread: &mut Thread<D>)
+    ensures { thread.new ≡ rules.runs_again thread.old }
+{
+    if matches!(thread.state, State::Yielding) {
+        thread.state = State::Runnable;
+    }
+}
+
+/// Each thread that has yielded can go on again.
+fn run_all_again<D>(threads: &mut Sequence<Thread<D>>)
+    ensures { threads.new ≡ map rules.runs_again threads.old }
+{
+    for i in 0..threads.len() {
+        run_again(threads.at_mut(i));
+    }
+}
+
+impl<D: Drop> Scene<D> {
     /// The five threads, as a schedule sees them.
-    fn standings(&self) -> [(Ability, u64); 5]
-        ensures { (points : Points) → result ≡ rules.standings (world_of points self.now) }
+    fn standings(&self) -> [(Ability, u64); MAX_THREADS]
+        ensures { (points : Points) → (left : ℕ) → result ≡ rules.standings (world_of points left self.now) }
     {
         [
             standing_at(&self.threads, 0),
@@ -133,14 +154,30 @@ impl<D: Drop> RunState<D> {
 
     /// What the threads offer to a schedule, and which one goes on by itself.
     pub fn offers(&self) -> Offers
-        ensures offers { (points : Points) → result ≡ rules.offers (world_of points self.now) }
+        ensures offers { (points : Points) → (left : ℕ) → result ≡ rules.offers (world_of points left self.now) }
         ensures sound { AreSoundOffers result.default result.abilities }
     {
         let standings = self.standings();
-        let default = default_thread(self.active, &standings);
+        let default = default_thread(self.active(), &standings);
         Offers {
             default,
             abilities: with_able(abilities(&standings), default),
         }
+    }
+    /// The thread of this number is chosen: it is active, and each other one that has yielded can go on again. It has nothing
+    /// pending any more; answers what it had. Misuse where there is no such thread.
+    pub fn choose(&mut self, thread: u8) -> Result<Task<D>, FailureKind>
+        ensures does { Does (rules.chooses thread) self.old result self.new }
+        ensures had { IfOk result (λ task. option_map (λ chosen. chosen.task) (slice_get self.old.threads thread) ≡ Some task) }
+    {
+        if thread as usize >= self.threads.len() {
+            return Err(FailureKind::Misuse);
+        }
+        self.active = thread;
+        let state = self.threads.at(thread as usize).state;
+        run_all_again(&mut self.threads);
+        let chosen = self.threads.at_mut(thread as usize);
+        chosen.state = state;
+        Ok(mem::replace(&mut chosen.task, Task::Body))
     }
 }

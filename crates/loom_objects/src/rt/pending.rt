@@ -1,14 +1,17 @@
 ghost use Rattle.std.specs.Prelude.{◌≡◌, map};
-ghost use Rattle.loom_objects.specs.Moves.{pending_with, target as target_of, is_number, blocked_if, written, writing_with};
+ghost use Rattle.loom_objects.specs.Scene.{Does};
+ghost use Rattle.loom_objects.specs.Moves as moves;
+ghost use Rattle.loom_objects.specs.Moves.{pending_with, target as target_of, is_number, written, writing_with};
 
-use crate::rt::run::RunState;
-use crate::rt::thread::{Claim, State, Task, Thread};
+use crate::rt::scene::Scene;
+use crate::rt::thread::{Claim, Phase, State, Task, Thread};
+use loom_views::rt::failure::FailureKind;
 use loom_views::sequence::Sequence;
 
 impl<D: Drop> Thread<D> {
     /// The thread has this pending, and can't go on while it is blocked.
     pub fn pend(&mut self, task: Task<D>, is_blocked: bool)
-        ensures { self.new ≡ record self.old { state = blocked_if is_blocked self.old.state; task = task } }
+        ensures { self.new ≡ moves.pending task is_blocked self.old }
     {
         if is_blocked {
             self.state = State::Blocked;
@@ -58,9 +61,14 @@ fn is_writing<D>(task: &Task<D>, number: usize) -> bool
     ensures { result ≡ is_number (written task.now) number }
 {
     match task {
-        Task::Claim(Claim::Write, target) => *target == number,
-        Task::Claim(Claim::TryWrite, target) => *target == number,
-        _ => false,
+        Task::Claim(Claim::Write | Claim::TryWrite, target) => *target == number,
+        Task::Claim(Claim::Read | Claim::TryRead, _) => false,
+        Task::Start | Task::Body | Task::Continue | Task::Access(_) => false,
+        Task::Lock(_, _) | Task::TryLock(_) | Task::Relock(_, _) => false,
+        Task::Wait(_, _, _, _) | Task::Wake(_, _) => false,
+        Task::Notify(_) | Task::Await(_) | Task::Rouse(_) => false,
+        Task::Count(_, _) | Task::TryUnwrap(_) => false,
+        Task::Join(_, _) | Task::Finish(_, _) => false,
     }
 }
 
@@ -82,24 +90,128 @@ fn block_writing<D>(threads: &mut Sequence<Thread<D>>, number: usize)
     }
 }
 
-impl<D: Drop> RunState<D> {
+/// The thread can go on if it is parked, and has a token unless it has ended.
+fn give_token<D>(thread: &mut Thread<D>)
+    ensures { thread.new ≡ moves.unparked thread.old }
+{
+    match thread.state {
+        State::Parked => thread.state = State::Runnable,
+        State::Ended => {}
+        State::Runnable | State::Blocked | State::Sleeping | State::Yielding => {
+            thread.has_token = true;
+        }
+    }
+}
+
+impl<D: Drop> Scene<D> {
+    /// The active thread has this pending, and can't go on while it is blocked.
+    pub fn pend(&mut self, task: Task<D>, is_blocked: bool)
+        ensures { self.new ≡ record self.old { threads = moves.with_thread (moves.pending task is_blocked) self.old.active self.old.threads } }
+    {
+        let thread = self.threads.at_mut(self.active as usize);
+        thread.pend(task, is_blocked);
+    }
+
+    /// The active thread rests in this state, and then has this pending.
+    pub fn rest(&mut self, state: State, task: Task<D>)
+        ensures { self.new ≡ record self.old { threads = moves.with_thread (moves.resting state task) self.old.active self.old.threads } }
+    {
+        let thread = self.threads.at_mut(self.active as usize);
+        thread.state = state;
+        thread.task = task;
+    }
+
+    /// The active thread is in the yield state and has this pending. `TooManySteps` where it has yielded 2^64 - 1 times.
+    pub fn yield_by(&mut self, task: Task<D>) -> Result<(), FailureKind>
+        ensures { Does (moves.yields task) self.old result self.new }
+    {
+        let thread = self.threads.at_mut(self.active as usize);
+        if thread.yields == u64::MAX {
+            return Err(FailureKind::TooManySteps);
+        }
+        thread.yields += 1;
+        thread.state = State::Yielding;
+        thread.task = task;
+        self.views.mark_yield(self.active as usize);
+        Ok(())
+    }
+
+    /// The end of the active thread has come so far.
+    pub fn set_phase(&mut self, phase: Phase)
+        ensures { self.new ≡ record self.old { threads = moves.with_thread (moves.at_phase phase) self.old.active self.old.threads } }
+    {
+        self.threads.at_mut(self.active as usize).phase = phase;
+    }
+
+    /// The active thread is in this state.
+    pub fn set_state(&mut self, state: State)
+        ensures { self.new ≡ record self.old { threads = moves.with_thread (moves.in_state state) self.old.active self.old.threads } }
+    {
+        self.threads.at_mut(self.active as usize).state = state;
+    }
+
+    /// The active thread has this result.
+    pub fn set_result(&mut self, value: D)
+        ensures { self.new ≡ record self.old { threads = moves.with_thread (moves.having value) self.old.active self.old.threads } }
+    {
+        self.threads.at_mut(self.active as usize).result = Some(value);
+    }
+
+    /// The active thread has a token, or none.
+    pub fn set_token(&mut self, has_token: bool)
+        ensures { self.new ≡ record self.old { threads = moves.with_thread (moves.with_token has_token) self.old.active self.old.threads } }
+    {
+        self.threads.at_mut(self.active as usize).has_token = has_token;
+    }
+
+    /// The thread of this number can go on if it is parked, and has a token unless it has ended. Misuse where there is none.
+    pub fn unpark(&mut self, thread: u8) -> Result<(), FailureKind>
+        ensures { Does (moves.unparks thread) self.old result self.new }
+    {
+        if thread as usize >= self.threads.len() {
+            return Err(FailureKind::Misuse);
+        }
+        give_token(self.threads.at_mut(thread as usize));
+        Ok(())
+    }
+
+    /// The result of the thread of this number. Misuse where there is none; then nothing changes.
+    pub fn take_result(&mut self, thread: u8) -> Result<D, FailureKind>
+        ensures { Does (moves.takes_result thread) self.old result self.new }
+    {
+        if thread as usize >= self.threads.len() {
+            return Err(FailureKind::Misuse);
+        }
+        let thread = self.threads.at_mut(thread as usize);
+        thread.result.take().ok_or(FailureKind::Misuse)
+    }
+
+    /// The thread of this number, if there is one, can go on.
+    pub fn run_on(&mut self, thread: u8)
+        ensures { self.new ≡ record self.old { threads = moves.with_thread moves.running thread self.old.threads } }
+    {
+        if (thread as usize) < self.threads.len() {
+            self.threads.at_mut(thread as usize).state = State::Runnable;
+        }
+    }
+
     /// Who is pending to write the lock can't go on.
     pub fn block_writers(&mut self, number: usize)
-        ensures { self.new ≡ record self.old { threads = map (writing_with number State.Blocked) self.old.threads } }
+        ensures { self.new ≡ record self.old { threads = map (moves.writing_with number State.Blocked) self.old.threads } }
     {
         block_writing(&mut self.threads, number);
     }
 
     /// Who is pending on the object can't go on.
     pub fn block_pending(&mut self, number: usize)
-        ensures { self.new ≡ record self.old { threads = map (pending_with number State.Blocked) self.old.threads } }
+        ensures { self.new ≡ record self.old { threads = map (moves.pending_with number State.Blocked) self.old.threads } }
     {
         give_pending(&mut self.threads, number, State::Blocked);
     }
 
     /// Who is pending on the object can go on.
     pub fn wake_pending(&mut self, number: usize)
-        ensures { self.new ≡ record self.old { threads = map (pending_with number State.Runnable) self.old.threads } }
+        ensures { self.new ≡ record self.old { threads = map (moves.pending_with number State.Runnable) self.old.threads } }
     {
         give_pending(&mut self.threads, number, State::Runnable);
     }

@@ -1,16 +1,11 @@
-ghost use Rattle.std.specs.Prelude.{◌≡◌, ◌++◌, ◌∷◌, [], Err, ◌≤◌, OnOk, IfOk, IfErr};
-ghost use Rattle.loom_objects.specs.Moves.{with_new, tells};
-ghost use Rattle.loom_objects.specs.Shown.{Shows, IsSound, turn_of};
-ghost use Rattle.loom_objects.specs.World.{World, opening};
+ghost use Rattle.std.specs.Prelude.{◌≡◌, ◌≤◌, IfOk};
+ghost use Rattle.loom_objects.specs.Shown.{Shows};
+ghost use Rattle.loom_objects.specs.World.{MAX_THREADS, opening};
 
 use crate::data::Data;
-use crate::failure::Stop;
 use crate::operation::{AtomicOp, Reply, Turn};
-use crate::rt::object::Object;
-use crate::rt::thread::{Phase, State, Task, Thread};
+use crate::rt::scene::Scene;
 use loom_views::rt::MAX_ATOMIC_HISTORY;
-use loom_views::rt::table::Views;
-use loom_views::sequence::Sequence;
 use std::alloc::{AllocError, Global};
 
 /// What comes of an operation when it is handed over.
@@ -54,18 +49,10 @@ pub enum Resumed<D> {
 /// The state of a run (loom's `rt/execution.rs`).
 #[derive(Drop)]
 pub struct RunState<D> {
-    /// The threads, main first.
-    pub threads: Sequence<Thread<D>>,
-    /// The objects, in order of creation.
-    pub objects: Sequence<Object<D>>,
-    /// The views of the threads, and of each object by its number.
-    pub views: Views,
-    /// The thread whose turn it is.
-    pub active: u8,
+    /// Its threads, objects and views, and whose turn it is.
+    pub scene: Scene<D>,
     /// How many operations may still be handed over.
     pub steps_left: usize,
-    /// How many threads there may be, those that have ended counted.
-    pub max_threads: usize,
 }
 
 impl<D: Drop> RunState<D> {
@@ -76,79 +63,20 @@ impl<D: Drop> RunState<D> {
         max_steps: usize,
     ) -> Result<RunState<D>, AllocError>
         requires some { 1 ≤ max_threads }
-        requires few { max_threads ≤ 5 }
+        requires few { max_threads ≤ MAX_THREADS }
         ensures opens { IfOk result (Shows (opening max_threads max_steps)) }
         ensures limit { IfOk result (λ run. run.steps_left ≡ max_steps) }
-        ensures sound { IfOk result (λ run. IsSound run) }
     {
-        let mut threads = Sequence::new(alloc);
-        threads.push(Thread {
-            state: State::Runnable,
-            phase: Phase::Working,
-            task: Task::Body,
-            notifier: None,
-            result: None,
-            yields: 0,
-            has_token: false,
-            name: None,
-        })?;
         Ok(RunState {
-            threads,
-            objects: Sequence::new(alloc),
-            views: Views::new(alloc),
-            active: 0,
+            scene: Scene::new(alloc, max_threads)?,
             steps_left: max_steps,
-            max_threads,
         })
-    }
-
-    /// A new object, at which no thread has synchronized.
-    pub fn add_object(&mut self, object: Object<D>) -> Result<(), Stop>
-        ensures shown { (w : World D) → Shows w self.old → OnOk result (Shows (with_new object w) self.new) }
-        ensures object { OnOk result (self.new.objects ≡ self.old.objects ++ object ∷ []) }
-        ensures rest { self.new ≡ record self.old { objects = self.new.objects; views = self.new.views } }
-        ensures memory { IfErr result (λ stop. stop ≡ Stop.Memory) }
-    {
-        match self.views.add_point() {
-            Ok(()) => {}
-            Err(_) => return Err(Stop::Memory),
-        }
-        match self.objects.push(object) {
-            Ok(()) => Ok(()),
-            Err(_) => Err(Stop::Memory),
-        }
-    }
-
-    /// Who waits, if any thread does, takes in the active thread's view.
-    pub fn tell(&mut self, waiter: Option<u8>)
-        ensures shown { (w : World D) → Shows w self.old → Shows (tells waiter w) self.new }
-        ensures rest { self.new ≡ record self.old { views = self.new.views } }
-    {
-        if let Some(waiter) = waiter {
-            self.views
-                .join_thread(waiter as usize, self.active as usize);
-        }
-    }
-
-    /// The active thread is told the reply.
-    pub fn told(&self, answer: Result<Reply<D>, Stop>) -> Result<Resumed<D>, Stop>
-        ensures turn { result ≡ turn_of self.now.active answer }
-        ensures memory { result ≡ Err Stop.Memory → answer ≡ Err Stop.Memory }
-    {
-        match answer {
-            Ok(reply) => Ok(Resumed::Passed(Passed::Turn(Turn::Reply(self.active, reply)))),
-            Err(stop) => Err(stop),
-        }
     }
 }
 
 /// Answers a copy of the value.
-pub fn copied<D: Data>(value: &D) -> Result<Entry<D>, Stop>
-    ensures ok { IfOk result (λ entry. entry ≡ Entry.Answered (Reply.Data value.now)) }
-    ensures memory { IfErr result (λ stop. stop ≡ Stop.Memory) }
+pub fn copied<D: Data>(value: &D) -> Result<Entry<D>, AllocError>
+    ensures { IfOk result (λ entry. entry ≡ Entry.Answered (Reply.Data value.now)) }
 {
-    match value.try_clone() {
-        Ok(copy) => Ok(Entry::Answered(Reply::Data(copy))),
-        Err(_) => Err(Stop::Memory),
-    }
+    Ok(Entry::Answered(Reply::Data(value.try_clone()?)))
 }

@@ -2,10 +2,10 @@
 mod arcs;
 mod cells;
 mod condvars;
+mod lending;
 mod mutexes;
 mod notifiers;
 mod rwlocks;
-mod tracks;
 
 use arrayvec::ArrayVec;
 use loom_views::rt::MAX_THREADS;
@@ -22,32 +22,35 @@ pub struct Atomic {
     pub opened: Option<u8>,
 }
 
-/// A mutex (loom's `rt/mutex.rs`).
+/// Data that an object hands out and takes back.
 #[derive(Drop)]
-pub struct Mutex<D> {
-    /// The thread that holds it.
-    pub holder: Option<u8>,
-    /// Its data, while nobody has it.
+pub struct Lent<D> {
+    /// The data, while nobody has it.
     pub value: Option<D>,
-    /// The thread that has the data out without holding it.
+    /// The thread that has the data out, without holding the object.
     pub lent: Option<u8>,
     /// Whether it was taken apart.
     pub is_taken: bool,
 }
 
+/// A mutex (loom's `rt/mutex.rs`).
+#[derive(Drop)]
+pub struct Mutex<D> {
+    /// The thread that holds it, and has its data.
+    pub holder: Option<u8>,
+    /// Its data.
+    pub content: Lent<D>,
+}
+
 /// A read-write lock (loom's `rt/rwlock.rs`).
 #[derive(Drop)]
 pub struct RwLock<D> {
-    /// Its data, while nobody has it.
-    pub value: Option<D>,
+    /// Its data.
+    pub content: Lent<D>,
     /// How many guards for reading each thread has.
     pub readers: [u64; MAX_THREADS],
-    /// The thread that has it for writing.
+    /// The thread that has it for writing, and has its data.
     pub writer: Option<u8>,
-    /// The thread that has the data out without holding it.
-    pub lent: Option<u8>,
-    /// Whether it was taken apart.
-    pub is_taken: bool,
 }
 
 /// A condition variable (loom's `rt/condvar.rs`).
@@ -62,34 +65,24 @@ pub struct Condvar {
 pub struct Arc<D> {
     /// How many references there are.
     pub count: u64,
-    /// Its value, while it isn't out and a reference is left.
-    pub value: Option<D>,
-    /// The thread that has the value out.
-    pub lent: Option<u8>,
+    /// Its value, while a reference is left.
+    pub content: Lent<D>,
 }
 
 /// A value that is to be given back before the run ends (loom's `rt/alloc.rs`).
 #[derive(Drop)]
 pub struct Track<D> {
-    /// The value, while it isn't out.
-    pub value: Option<D>,
-    /// The thread that has it out.
-    pub lent: Option<u8>,
-    /// Whether it was given back.
-    pub is_taken: bool,
+    /// The value, which is taken apart where it is given back.
+    pub content: Lent<D>,
 }
 
 /// A cell (loom's `rt/cell.rs`).
 #[derive(Drop)]
 pub struct Cell<D> {
-    /// Its data, while it isn't out.
-    pub value: Option<D>,
+    /// Its data, which is lent to the thread that has it open for writing.
+    pub content: Lent<D>,
     /// How many reads each thread has open.
     pub readers: [u64; MAX_THREADS],
-    /// The thread that has it open for writing.
-    pub writer: Option<u8>,
-    /// Whether it was taken apart.
-    pub is_taken: bool,
 }
 
 /// Whether a thread has woken from a notifier without a notification (loom's `rt/notify.rs`).

@@ -1,4 +1,5 @@
 use crate::operation::AtomicOp;
+use loom_views::rt::MAX_THREADS;
 
 /// Whether a thread may be chosen (loom's `rt/thread.rs`).
 #[derive(Clone, Copy, Debug, PartialEq, Eq)]
@@ -149,5 +150,5 @@ pub struct Offers {
     /// The thread that goes on by itself; none where no thread can go on.
     pub default: Option<u8>,
     /// What each thread offers; the default one is able.
-    pub abilities: [Ability; 5],
+    pub abilities: [Ability; MAX_THREADS],
 }

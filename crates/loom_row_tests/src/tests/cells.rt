@@ -1,6 +1,6 @@
 //! Cells, counted references and tracked values: what their rows print and find.
+use super::replays::finds;
 use super::{NONE, ZERO, runs_of};
-use loom::model::{Builder, Report};
 use loom::{Choice, FailureKind};
 use loom_objects::operation::{CellOp, Op, ThreadOp};
 use loom_row_bodies::bodies::cells::{ARC_COUNT, ARC_UNWRAP};
@@ -65,13 +65,7 @@ fn counting_has_branch_points(rt: HostRuntime) -> Result<(), Fail> {
 
 #[test]
 fn a_swap_writes_the_second_cell(rt: HostRuntime) -> Result<(), Fail> {
-    match Builder::new().check(rt.alloc(), &Script::new(rt.alloc(), &SWAP_BESIDE_A_WRITE)?)? {
-        Report::Failed { failure, .. } => {
-            assert_eq!(rt; failure.kind, FailureKind::Race);
-            Ok(())
-        }
-        _ => Err(Fail::from("it doesn't fail")),
-    }
+    finds(&rt, &SWAP_BESIDE_A_WRITE, FailureKind::Race)
 }
 
 #[test]

@@ -60,8 +60,8 @@ fn a_failure_keeps_its_kind(rt: HostRuntime) -> Result<(), Fail> {
     fails(&rt, &FAIL_AFTER_A_LOCK, &[], assertion, &[ZERO])
 }
 
-// A check finds a failure of this kind, whose choices lead to it again.
-fn finds(
+/// A check finds a failure of this kind, whose choices lead to it again.
+pub fn finds(
     rt: &(impl Abort + AllocGlobal),
     steps: &'static [Step],
     kind: FailureKind,

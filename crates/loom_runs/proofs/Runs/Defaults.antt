@@ -7,7 +7,7 @@ use Rattle.loom_objects.specs.declared.choice.Choice.{Choice}
 use Rattle.loom_objects.specs.declared.choice.Choice.TheVariants.{Thread, Load, Spurious}
 use Rattle.loom_objects.specs.declared.rt.thread.Offers.{Offers}
 use Rattle.loom_objects.specs.Question.{Among, made_of, IsSound, able_threads, thread_options, slots_from}
-use Rattle.loom_objects.specs.Steps.{ability_in, offers, standings, with_able}
+use Rattle.loom_objects.specs.Schedules.{ability_in, offers, standings, with_able}
 use Rattle.loom_objects.specs.World.{World}
 use Rattle.loom_objects.proofs.Offering.{offers_sound}
 use Rattle.loom_runs.specs.Asking.{which_thread, whether_spurious}

@@ -1,79 +1,40 @@
 -- Each operation keeps locks sound, so every history does.
-use Rattle.std.proofs.Common.{ℕ, zero, suc, Option, Some, None}
-use Rattle.std.specs.Prelude.{nat_lt, slice_get, ⊤}
+use Rattle.std.proofs.Common.{◌≡◌, ◌≢◌, ◌≤◌, ℕ, zero, suc, Bool, List, [], ◌∷◌, ◌++◌, length, Option, Some, None, arith, refl}
+use Rattle.std.specs.Prelude.{◌==◌, ◌-◌, ◌^◌, ◌+◌, ◌||◌, true, false, not, cond, if◌then◌else◌, slice_get, slice_set, nat_lt, is_none, is_some, Result, Ok, Err, ⊤}
 use Rattle.loom_views.specs.declared.rt.failure.FailureKind.{FailureKind}
+use Rattle.loom_views.specs.declared.rt.failure.FailureKind.TheVariants.{Misuse}
 use Rattle.loom_objects.specs.declared.choice.Choice.{Choice}
 use Rattle.loom_objects.specs.declared.choice.Choice.TheVariants as choice
-use Rattle.loom_objects.specs.declared.operation.MutexOp.{MutexOp}
-use Rattle.loom_objects.specs.declared.operation.MutexOp.TheVariants as mutex_op
 use Rattle.loom_objects.specs.declared.operation.Op.{Op}
-use Rattle.loom_objects.specs.declared.operation.Op.TheVariants as op
 use Rattle.loom_objects.specs.declared.operation.Reply.{Reply}
-use Rattle.loom_objects.specs.declared.operation.ThreadOp.{ThreadOp}
-use Rattle.loom_objects.specs.declared.operation.ThreadOp.TheVariants as thread_op
 use Rattle.loom_objects.specs.declared.operation.Turn.{Turn}
 use Rattle.loom_objects.specs.declared.rt.run.Entry.{Entry}
 use Rattle.loom_objects.specs.declared.rt.run.Entry.TheVariants.{Answered, AtBranch, Spurious as AtSpurious}
+use Rattle.loom_objects.specs.declared.rt.run.Loading.{Loading}
 use Rattle.loom_objects.specs.declared.rt.run.Passed.{Passed}
 use Rattle.loom_objects.specs.declared.rt.run.Passed.TheVariants as passed
-use Rattle.loom_objects.specs.declared.rt.thread.Task.{Task}
-use Rattle.loom_objects.specs.declared.rt.thread.Task.TheVariants as task
-use Rattle.loom_objects.specs.Leaks.{check_leak, first_leak}
-use Rattle.loom_objects.specs.Locks.{mutex_begins}
-use Rattle.loom_objects.specs.Steps.{all_ended, begins, ends, op_begins, resumes, takes_effect, told, turned}
-use Rattle.loom_objects.specs.Threads.{thread_begins}
-use Rattle.loom_objects.specs.Tree.{Tree, ◌>>=◌}
+use Rattle.loom_objects.specs.declared.rt.run.Resumed.{Resumed}
+use Rattle.loom_objects.specs.declared.rt.run.Resumed.TheVariants as resumed
+use Rattle.loom_objects.specs.Atomics.{reads}
+use Rattle.loom_objects.specs.Effects.{chosen, counted}
+use Rattle.loom_objects.specs.Ending.{all_ended, end_of}
+use Rattle.loom_objects.specs.Notifiers.{enters_wait as entered}
+use Rattle.loom_objects.specs.Question.{slots}
+use Rattle.loom_objects.specs.Steps.{asked, asks_slot, begins, ends, enters_wait, read_slot, resumes, slot_of, told, turned}
+use Rattle.loom_objects.specs.Tree.{Tree, ◌>>=◌, came}
 use Rattle.loom_objects.specs.World.{World}
 use Rattle.loom_runs.specs.Histories.{IsReached, at_first, later, LocksLaw}
-use Rattle.loom_objects.specs.Notifiers.{enters_wait}
 use Rattle.loom_runs.specs.Machine.{chooses, closes as closes_run, further, further_branches, goes_on, passes, schedule, submit, waits}
-use Rattle.loom_runs.proofs.Runs.Keeping.{Keeps, gives, fails, closes, asks as questions, kept_value, then_keeps, found_keeps, check_keeps, all_exclusive, IsKept, Kept}
-use Rattle.loom_runs.proofs.Runs.LocksKept.{awaits_kept, claims_kept, condvar_begins_kept, enters_wait_kept, falls_asleep_kept, lock_begins_kept, lock_kept, mutex_get_mut_kept, mutex_into_inner_kept, mutex_new_kept, mutex_put_kept, notifier_begins_kept, notifies_kept, release_kept, relocks_kept, rwlock_begins_kept, try_lock_begins_kept, try_lock_kept, wakes_early_kept, wakes_kept}
-use Rattle.loom_runs.proofs.Runs.Others.{arc_begins_kept, atomic_begins_kept, cell_begins_kept, child_finish_kept, counts_kept, current_kept, end_kept, exit_kept, fence_kept, finish_kept, join_begins_kept, join_kept, park_kept, spawn_kept, takes_place_kept, track_begins_kept, tries_unwrap_kept, unpark_kept, yield_now_kept}
-
-leak_keeps : {B : Type 0} {P : B → Type 0} (leak : Option FailureKind) (next : ⊤ → Tree B) → Keeps P (next tt) → Keeps P (check_leak leak >>= next)
-leak_keeps None next h = h
-leak_keeps (Some kind) next h = fails kind
+use Rattle.loom_runs.proofs.Runs.Atomics.{reads_keeping}
+use Rattle.loom_runs.proofs.Runs.Keeping.{Keeps, gives, fails, closes, asks as questions, kept_value, then_keeps, check_keeps, all_exclusive, IsKept, Kept}
+use Rattle.loom_runs.proofs.Runs.Ruling.{Keeping}
+use Rattle.loom_runs.proofs.Runs.Tables.{chosen_keeping, counted_keeping, end_keeping}
+use Rattle.loom_runs.proofs.Runs.Notifiers.{enters_wait_keeping}
 
 module _ {D : Type 0} where
-  -- ---- the tables
-
-  mutex_begins_kept : (todo : MutexOp D) (w : World D) → IsKept w → Keeps Kept (mutex_begins todo w)
-  mutex_begins_kept (mutex_op.New value) w k = mutex_new_kept value w k
-  mutex_begins_kept (mutex_op.Lock n) w k = lock_begins_kept n w k
-  mutex_begins_kept (mutex_op.TryLock n) w k = try_lock_begins_kept n w k
-  mutex_begins_kept (mutex_op.Release n value) w k = release_kept n value w k
-  mutex_begins_kept (mutex_op.GetMut n) w k = mutex_get_mut_kept n w k
-  mutex_begins_kept (mutex_op.Put n value) w k = mutex_put_kept n value w k
-  mutex_begins_kept (mutex_op.IntoInner n) w k = mutex_into_inner_kept n w k
-
-  thread_begins_kept : (todo : ThreadOp D ⊤) (w : World D) → IsKept w → Keeps Kept (thread_begins todo w)
-  thread_begins_kept (thread_op.Spawn body name) w k = spawn_kept name w k
-  thread_begins_kept (thread_op.Join t n) w k = join_begins_kept t n w k
-  thread_begins_kept thread_op.Current w k = current_kept w k
-  thread_begins_kept thread_op.Park w k = park_kept w k
-  thread_begins_kept (thread_op.Unpark t) w k = unpark_kept t w k
-  thread_begins_kept thread_op.Yield w k = yield_now_kept w k
-  thread_begins_kept (thread_op.Finish value) w k = finish_kept value w k
-  thread_begins_kept thread_op.Exit w k = exit_kept w k
-  thread_begins_kept thread_op.End w k = end_kept w k
-
-  op_begins_kept : (todo : Op D ⊤) (w : World D) → IsKept w → Keeps Kept (op_begins todo w)
-  op_begins_kept (op.Atomic todo place) w k = atomic_begins_kept todo w k
-  op_begins_kept (op.Fence order place) w k = fence_kept order w k
-  op_begins_kept (op.Cell todo place) w k = cell_begins_kept todo w k
-  op_begins_kept (op.Arc todo place) w k = arc_begins_kept todo w k
-  op_begins_kept (op.Track todo place) w k = track_begins_kept todo w k
-  op_begins_kept (op.Mutex todo place) w k = mutex_begins_kept todo w k
-  op_begins_kept (op.RwLock todo place) w k = rwlock_begins_kept todo w k
-  op_begins_kept (op.Condvar todo place) w k = condvar_begins_kept todo w k
-  op_begins_kept (op.Notify todo place) w k = notifier_begins_kept todo w k
-  op_begins_kept (op.Thread todo place) w k = thread_begins_kept todo w k
-  op_begins_kept (op.Fail place) w k = fails _
-  op_begins_kept (op.Unreachable place) w k = fails _
-
-  begins_kept : (todo : Op D ⊤) (w : World D) → IsKept w → Keeps Kept (begins todo w)
-  begins_kept todo w k = check_keeps (nat_lt 0 w.steps_left) _ _ (λ e. op_begins_kept todo _ k)
+  came_kept : {A : Type 0} (w : World D) (r : Result (A × World D) FailureKind) → Keeping w r → IsKept w → Keeps Kept (came r)
+  came_kept w (Ok answered) kept k = gives answered (kept k)
+  came_kept w (Err kind) fair k = fails kind
 
   told_kept : (answered : Reply D × World D) → Kept answered → Keeps Kept (told answered)
   told_kept (reply, w) k = gives _ k
@@ -81,38 +42,32 @@ module _ {D : Type 0} where
   turned_kept : (tree : Tree (Turn D × World D)) → Keeps Kept tree → Keeps Kept (tree >>= turned)
   turned_kept tree h = then_keeps {Q = Kept} tree turned h (λ (turn, w) q. gives _ q)
 
-  turns_kept : (effect : Tree (Reply D × World D)) → Keeps Kept effect → Keeps Kept ((effect >>= told) >>= turned)
-  turns_kept effect h = turned_kept (effect >>= told) (then_keeps {Q = Kept} effect told h told_kept)
+  -- ---- an access that reads
 
-  takes_effect_kept : (todo : Task D) (w : World D) → IsKept w → Keeps Kept (takes_effect todo w)
-  takes_effect_kept task.Start w k = gives _ k
-  takes_effect_kept task.Body w k = fails _
-  takes_effect_kept task.Continue w k = gives _ k
-  takes_effect_kept (task.Access access) w k = turns_kept _ (takes_place_kept access w k)
-  takes_effect_kept (task.Lock locking n) w k = turns_kept _ (lock_kept locking n w k)
-  takes_effect_kept (task.TryLock n) w k = turns_kept _ (try_lock_kept n w k)
-  takes_effect_kept (task.Claim claim n) w k = turns_kept _ (claims_kept claim n w k)
-  takes_effect_kept (task.Wait locking n m value) w k = falls_asleep_kept locking n m value w k
-  takes_effect_kept (task.Relock locking m) w k = relocks_kept locking m w k
-  takes_effect_kept (task.Wake waking n) w k = turns_kept _ (wakes_kept waking n w k)
-  takes_effect_kept (task.Notify n) w k = turns_kept _ (notifies_kept n w k)
-  takes_effect_kept (task.Await n) w k = turns_kept _ (awaits_kept n w k)
-  takes_effect_kept (task.Rouse n) w k = turns_kept _ (wakes_early_kept n w k)
-  takes_effect_kept (task.Count todo n) w k = turns_kept _ (counts_kept todo n w k)
-  takes_effect_kept (task.TryUnwrap n) w k = tries_unwrap_kept n w k
-  takes_effect_kept (task.Join t n) w k = turns_kept _ (join_kept t n w k)
-  takes_effect_kept (task.Finish n value) w k = turns_kept _ (child_finish_kept n value w k)
+  module _ (load : Loading) (w : World D) (k : IsKept w) where
+    read_kept : (slot : ℕ) → Keeps Kept (read_slot load w slot >>= turned)
+    read_kept slot = turned_kept _ (then_keeps {Q = Kept} (came (reads load.access w slot)) told (came_kept w (reads load.access w slot) (reads_keeping load.access w slot) k) told_kept)
+
+    slot_kept : (o : Choice) → Keeps Kept (slot_of o >>= (λ slot. read_slot load w slot >>= turned))
+    slot_kept (choice.Load slot) = read_kept slot
+    slot_kept (choice.Thread t) = fails _
+    slot_kept (choice.Spurious answer) = fails _
+
+    slots_kept : (numbers : List ℕ) → Keeps Kept (asks_slot numbers >>= (λ slot. read_slot load w slot >>= turned))
+    slots_kept [] = fails _
+    slots_kept (lowest ∷ others) = questions _ _ slot_kept
+
+  asked_kept : (answered : Resumed D × World D) → Kept answered → Keeps Kept (asked answered)
+  asked_kept (resumed.Passed passed, w) k = gives _ k
+  asked_kept (resumed.Load load, w) k = slots_kept load w k (slots load.readable)
 
   resumes_kept : (t : ℕ) (w : World D) → IsKept w → Keeps Kept (resumes t w)
-  resumes_kept t w k = found_keeps (slice_get w.threads t) _ _ (λ thread e. takes_effect_kept thread.task _ k)
-
-  ends_kept : (w : World D) → IsKept w → Keeps Kept (ends w)
-  ends_kept w k = leak_keeps (first_leak w.objects) _ (found_keeps (slice_get w.threads 0) _ _ (λ main e. found_keeps main.result _ _ (λ value f. gives _ k)))
+  resumes_kept t w k = then_keeps {Q = Kept} (came (chosen t w)) asked (came_kept w (chosen t w) (chosen_keeping t w) k) asked_kept
 
   -- ---- schedules, events, and histories
 
   closes_kept : (w : World D) → IsKept w → Keeps Kept (closes_run w)
-  closes_kept w k = check_keeps (all_ended w) _ _ (λ e. closes _ (ends_kept w k))
+  closes_kept w k = check_keeps (all_ended w) _ _ (λ e. closes _ (came_kept w (end_of w) (end_keeping w) k))
 
   chooses_kept : (w : World D) (o : Choice) → IsKept w → Keeps Kept (chooses w o)
   chooses_kept w (choice.Thread (Some t)) k = resumes_kept t w k
@@ -136,7 +91,7 @@ module _ {D : Type 0} where
   schedule_kept (suc more) w k = further_kept (schedule more) (schedule_kept more) w k
 
   waits_kept : (n : ℕ) (w : World D) (o : Choice) → IsKept w → Keeps Kept (waits n w o)
-  waits_kept n w (choice.Spurious answer) k = then_keeps {Q = Kept} (enters_wait answer n w) _ (enters_wait_kept answer n w k) (λ (_, v) q. schedule_kept further_branches v q)
+  waits_kept n w (choice.Spurious answer) k = then_keeps {Q = Kept} (enters_wait answer n w) _ (came_kept w (entered answer n w) (enters_wait_keeping answer n w) k) (λ (_, v) q. schedule_kept further_branches v q)
   waits_kept n w (choice.Thread t) k = fails _
   waits_kept n w (choice.Load slot) k = fails _
 
@@ -146,7 +101,7 @@ module _ {D : Type 0} where
   goes_on_kept (AtSpurious n, w) k = questions _ _ (λ o. waits_kept n w o k)
 
   submit_kept : (todo : Op D ⊤) (w : World D) → IsKept w → Keeps Kept (submit todo w)
-  submit_kept todo w k = then_keeps {Q = Kept} (begins todo w) goes_on (begins_kept todo w k) goes_on_kept
+  submit_kept todo w k = then_keeps {Q = Kept} (begins todo w) goes_on (came_kept w (counted todo w) (counted_keeping todo w) k) goes_on_kept
 
   reached_kept : (max_threads max_steps : ℕ) (w : World D) → IsReached max_threads max_steps w → IsKept w
   reached_kept max_threads max_steps w at_first = tt

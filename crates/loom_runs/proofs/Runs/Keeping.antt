@@ -8,9 +8,8 @@ use Rattle.loom_objects.specs.declared.rt.object.Object.{Object}
 use Rattle.loom_objects.specs.declared.rt.object.Object.TheVariants as object
 use Rattle.loom_objects.specs.declared.rt.sync.Mutex.{Mutex}
 use Rattle.loom_objects.specs.declared.rt.sync.RwLock.{RwLock}
-use Rattle.loom_objects.specs.Moves.{a_mutex, as_mutex, came}
 use Rattle.loom_objects.specs.Question.{Question}
-use Rattle.loom_objects.specs.RwLocks.{a_rwlock, as_rwlock, is_unread}
+use Rattle.loom_objects.specs.RwLocks.{is_unread}
 use Rattle.loom_objects.specs.Tree.{Tree, Gives, Fails, Closes, Asks, ◌>>=◌, check, found}
 use Rattle.loom_objects.specs.World.{World}
 use Rattle.loom_runs.specs.Histories.{ComesTo, is_exclusive}
@@ -43,10 +42,6 @@ module _ {A B : Type 0} {P : B → Type 0} where
   found_keeps None kind next h = fails kind
   found_keeps (Some a) kind next h = h a refl
 
-  pub came_keeps : (r : Result A FailureKind) (next : A → Tree B) → ((a : A) → Keeps P (next a)) → Keeps P (came r >>= next)
-  came_keeps (Ok a) next h = h a
-  came_keeps (Err kind) next h = fails kind
-
 pub check_keeps : {B : Type 0} {P : B → Type 0} (passes : Bool) (kind : FailureKind) (next : ⊤ → Tree B) → (passes ≡ true → Keeps P (next tt)) → Keeps P (check passes kind >>= next)
 check_keeps true kind next h = h refl
 check_keeps false kind next h = fails kind
@@ -72,33 +67,34 @@ WritesAlone (Some t) is_unread (Some v) lent = ⊥
 both_true : (b c : Bool) → b ≡ true → c ≡ true → (b && c) ≡ true
 both_true b c h i = cc (h, i)
 
-whole_is : {X : Type 0} (is_taken : Bool) (x y : X) → cond is_taken None (Some x) ≡ Some y → x ≡ y
-whole_is true x y h = absurd (cc h)
-whole_is false x y h = cc h
-
 module _ {D : Type 0} where
   abbrev pub IsSoundMutex : Mutex D → Type 0
-  IsSoundMutex mutex = OneAtMost mutex.holder mutex.value mutex.lent
+  IsSoundMutex mutex = OneAtMost mutex.holder mutex.content.value mutex.content.lent
 
   abbrev pub IsSoundRwLock : RwLock D → Type 0
-  IsSoundRwLock lock = WritesAlone lock.writer (is_unread lock) lock.value lock.lent
+  IsSoundRwLock lock = WritesAlone lock.writer (is_unread lock) lock.content.value lock.content.lent
 
   abbrev pub IsSoundLock : Object D → Type 0
   IsSoundLock (object.Mutex mutex) = IsSoundMutex mutex
   IsSoundLock (object.RwLock lock) = IsSoundRwLock lock
-  IsSoundLock _ = Unit {0}
+  IsSoundLock (object.Atomic atomic) = Unit {0}
+  IsSoundLock (object.Cell cell) = Unit {0}
+  IsSoundLock (object.Arc arc) = Unit {0}
+  IsSoundLock (object.Track track) = Unit {0}
+  IsSoundLock (object.Condvar condvar) = Unit {0}
+  IsSoundLock (object.Notify notifier) = Unit {0}
 
   abbrev pub AreSound : List (Object D) → Type 0
   AreSound [] = Unit {0}
   AreSound (x ∷ objects) = IsSoundLock x × AreSound objects
 
-  abbrev SoundAt : Option (Object D) → Type 0
+  abbrev pub SoundAt : Option (Object D) → Type 0
   SoundAt None = Unit {0}
   SoundAt (Some x) = IsSoundLock x
 
   -- ---- in a list
 
-  get_sound : (objects : List (Object D)) (n : ℕ) → AreSound objects → SoundAt (slice_get objects n)
+  pub get_sound : (objects : List (Object D)) (n : ℕ) → AreSound objects → SoundAt (slice_get objects n)
   get_sound [] n k = tt
   get_sound (x ∷ objects) zero k = k.0
   get_sound (x ∷ objects) (suc n) k = get_sound objects n k.1
@@ -128,8 +124,8 @@ module _ {D : Type 0} where
   rwlock_exclusive (Some t) unread (Some v) lent s = absurd s
 
   sound_exclusive : (x : Object D) → IsSoundLock x → is_exclusive x ≡ true
-  sound_exclusive (object.Mutex mutex) s = mutex_exclusive mutex.holder mutex.value mutex.lent s
-  sound_exclusive (object.RwLock lock) s = rwlock_exclusive lock.writer (is_unread lock) lock.value lock.lent s
+  sound_exclusive (object.Mutex mutex) s = mutex_exclusive mutex.holder mutex.content.value mutex.content.lent s
+  sound_exclusive (object.RwLock lock) s = rwlock_exclusive lock.writer (is_unread lock) lock.content.value lock.content.lent s
   sound_exclusive (object.Atomic atomic) s = refl
   sound_exclusive (object.Cell cell) s = refl
   sound_exclusive (object.Arc arc) s = refl
@@ -141,30 +137,6 @@ module _ {D : Type 0} where
   all_exclusive [] k = refl
   all_exclusive (x ∷ objects) k = both_true _ _ (sound_exclusive x k.0) (all_exclusive objects k.1)
 
-  -- ---- a lock of a state
-
-  mutex_of : (o : Option (Object D)) (mutex : Mutex D) → SoundAt o → as_mutex o ≡ Some mutex → IsSoundMutex mutex
-  mutex_of None mutex s h = absurd (cc h)
-  mutex_of (Some (object.Mutex there)) mutex s h = subst (λ m. IsSoundMutex m) (whole_is there.is_taken there mutex h) s
-  mutex_of (Some (object.RwLock lock)) mutex s h = absurd (cc h)
-  mutex_of (Some (object.Atomic atomic)) mutex s h = absurd (cc h)
-  mutex_of (Some (object.Cell cell)) mutex s h = absurd (cc h)
-  mutex_of (Some (object.Arc arc)) mutex s h = absurd (cc h)
-  mutex_of (Some (object.Track track)) mutex s h = absurd (cc h)
-  mutex_of (Some (object.Condvar condvar)) mutex s h = absurd (cc h)
-  mutex_of (Some (object.Notify notifier)) mutex s h = absurd (cc h)
-
-  rwlock_of : (o : Option (Object D)) (lock : RwLock D) → SoundAt o → as_rwlock o ≡ Some lock → IsSoundRwLock lock
-  rwlock_of None lock s h = absurd (cc h)
-  rwlock_of (Some (object.RwLock there)) lock s h = subst (λ l. IsSoundRwLock l) (whole_is there.is_taken there lock h) s
-  rwlock_of (Some (object.Mutex mutex)) lock s h = absurd (cc h)
-  rwlock_of (Some (object.Atomic atomic)) lock s h = absurd (cc h)
-  rwlock_of (Some (object.Cell cell)) lock s h = absurd (cc h)
-  rwlock_of (Some (object.Arc arc)) lock s h = absurd (cc h)
-  rwlock_of (Some (object.Track track)) lock s h = absurd (cc h)
-  rwlock_of (Some (object.Condvar condvar)) lock s h = absurd (cc h)
-  rwlock_of (Some (object.Notify notifier)) lock s h = absurd (cc h)
-
   -- the locks of a state are sound
   abbrev pub IsKept : World D → Type 0
   IsKept w = AreSound w.objects
@@ -172,11 +144,3 @@ module _ {D : Type 0} where
   -- and of the state beside an answer
   abbrev pub Kept : {X : Type 0} → X × World D → Type 0
   Kept answered = AreSound answered.1.objects
-
-  pub mutex_keeps : {B : Type 0} {P : B → Type 0} (n : ℕ) (w : World D) (next : Mutex D → Tree B) → IsKept w → ((mutex : Mutex D) → IsSoundMutex mutex → Keeps P (next mutex))
-      → Keeps P (a_mutex n w >>= next)
-  mutex_keeps n w next k h = found_keeps (as_mutex (slice_get w.objects n)) _ next (λ mutex e. h mutex (mutex_of (slice_get w.objects n) mutex (get_sound w.objects n k) e))
-
-  pub rwlock_keeps : {B : Type 0} {P : B → Type 0} (n : ℕ) (w : World D) (next : RwLock D → Tree B) → IsKept w → ((lock : RwLock D) → IsSoundRwLock lock → Keeps P (next lock))
-      → Keeps P (a_rwlock n w >>= next)
-  rwlock_keeps n w next k h = found_keeps (as_rwlock (slice_get w.objects n)) _ next (λ lock e. h lock (rwlock_of (slice_get w.objects n) lock (get_sound w.objects n k) e))

@@ -1,19 +1,34 @@
-use Rattle.std.proofs.Common.{refl, rules}
-use Rattle.loom_views.specs.Table.{points_after_raise, points_after_read}
+use Rattle.std.proofs.Common.{rules, ◌∙◌}
+use Rattle.loom_views.specs.Table.{points_after_read}
+use Rattle.loom_views.specs.declared.rt.failure.FailureKind.TheVariants.{Misuse}
 use Rattle.loom_objects.specs.Cells.{cell_get}
-use Rattle.loom_cells.proofs.Leading.{gives_by, leads_by, leads_on, stops_by}
+use Rattle.loom_objects.proofs.Showing.{leads_by, stops}
+use Rattle.loom_cells.proofs.Going.{copies, fails_outside}
+use Rattle.loom_cells.proofs.Opening.{gets_out, goes_on, read_opened, read_refused}
 use Rattle.loom_cells.proofs.cells.cell_get.Goals as goal
 
-pub returns-in-Ok-read-2-clause-does : goal.returns-in-Ok-read-2-clause-does
-returns-in-Ok-read-2-clause-does g c =
-    gives_by (cell_get c.args.number) c.args.run.now _ c.read-2.new.self _
-    (leads_on (λ p. points_after_read p c.args.run.now.active c.args.number) _ c.read.new.self _ (leads_on (λ p. points_after_read p c.args.run.now.active c.args.number) _ c.raise.new.self _ (leads_by (λ p. points_after_raise p c.args.run.now.active) _ _ c.in-Ok.ensures.shown) c.in-Ok-read.ensures.shown) c.in-Ok-read-2.ensures.shown) _
-    refl (λ p r way. let d = way.1.1 in let e = way.1.2 in let f = way.2 in search rules)
+pub returns-in_err-open_read : goal.returns-in_err-open_read
+returns-in_err-open_read g c =
+    fails_outside (cell_get c.args.number) _ _ c.in_err-open_read.field-0.0 _ (search rules)
+    (read_refused c.args.number (gets_out c.args.number) c.args.scene.now c.open_read.new.scene c.in_err-open_read.field-0.0 c.in_err-open_read.ensures.does)
 
-pub returns-in-Err-read-2-clause-does : goal.returns-in-Err-read-2-clause-does
-returns-in-Err-read-2-clause-does g c =
-    rw c.failed-in-Err-read-2.ensures
-    (stops_by (cell_get c.args.number) c.args.run.now c.args.run.now c.read.new.self _
-    (leads_on (λ p. points_after_read p c.args.run.now.active c.args.number) _ c.raise.new.self _ (leads_by (λ p. points_after_raise p c.args.run.now.active) _ _ c.in-Ok.ensures.shown) c.in-Ok-read.ensures.shown)
-    (λ p. points_after_read p c.args.run.now.active c.args.number) c.read-2.new.self c.in-Err-read-2.kind c.in-Err-read-2.ensures.shown
-    (λ p r way stop. let e = way.1 in let f = way.2 in search rules))
+pub returns-in_err-value : goal.returns-in_err-value
+returns-in_err-value g c =
+    fails_outside (cell_get c.args.number) _ _ Misuse _ (search rules)
+    (λ p left shown. let o = read_opened c.args.number (gets_out c.args.number) c.args.scene.now c.open_read.new.scene c.in_ok-open_read.ensures.does c.open_read.ensures.rest p left shown in rw o.1 (search rules))
+
+pub returns-in_err-read_cell : goal.returns-in_err-read_cell
+returns-in_err-read_cell g c =
+    fails_outside (cell_get c.args.number) _ _ c.in_err-read_cell.field-0.0 _ (search rules)
+    (λ p left shown.
+    let o = read_opened c.args.number (gets_out c.args.number) c.args.scene.now c.open_read.new.scene c.in_ok-open_read.ensures.does c.open_read.ensures.rest p left shown in
+    o.1 ∙ stops (goes_on c.args.number (gets_out c.args.number)) c.open_read.new.scene c.open_read.new.scene (λ q. points_after_read q c.open_read.new.scene.active c.args.number) c.read_cell.new.self.views
+    c.in_err-read_cell.field-0.0 c.in_err-read_cell.ensures.shown (λ q left e. search rules) o.0 left o.2)
+
+pub returns : goal.returns
+returns g c =
+    copies (cell_get c.args.number) _ _ c.copied-entry.result _ c.copied-entry.ensures
+    (λ p left shown.
+    let o = read_opened c.args.number (gets_out c.args.number) c.args.scene.now c.open_read.new.scene c.in_ok-open_read.ensures.does c.open_read.ensures.rest p left shown in
+    let m = leads_by (λ q. points_after_read q c.open_read.new.scene.active c.args.number) c.open_read.new.scene.views c.read_cell.new.self.views c.in_ok-read_cell.ensures.shown o.0 o.2 in
+    rw o.1 (search rules))

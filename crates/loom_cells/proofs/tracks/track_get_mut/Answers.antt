@@ -3,6 +3,5 @@ use Rattle.loom_objects.specs.Tracks.{track_get_mut}
 use Rattle.loom_objects.proofs.Showing.{keeps}
 use Rattle.loom_cells.proofs.tracks.track_get_mut.Goals as goal
 
-pub returns-in-Some-clause-does : goal.returns-in-Some-clause-does
-returns-in-Some-clause-does g c =
-    keeps (track_get_mut c.args.number) _ _ _ refl (λ p. search rules)
+pub returns : goal.returns
+returns g c = keeps (track_get_mut c.args.number) _ _ _ refl (λ p left. search rules)

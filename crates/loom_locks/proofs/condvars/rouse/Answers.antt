@@ -1,6 +1,9 @@
-use Rattle.loom_locks.proofs.Rousing.{roused}
+use Rattle.std.proofs.Common.{refl, rules}
+use Rattle.loom_views.specs.Table.{points_after_join}
+use Rattle.loom_objects.specs.Condvars.{rouse}
+use Rattle.loom_objects.proofs.Showing.{gives}
 use Rattle.loom_locks.proofs.condvars.rouse.Goals as goal
 
-pub returns-clause-shown : goal.returns-clause-shown
-returns-clause-shown g c =
-    roused c.args.run.now c.run_on.new.run c.tell.new.self c.args.thread c.run_on.ensures c.tell.ensures.shown
+pub returns : goal.returns
+returns g c =
+    gives (rouse c.args.thread) c.args.scene.now c.tell.new.self tt c.tell.new.self.views (λ p. points_after_join p c.args.thread c.args.scene.now.active) refl (λ p shown. search rules) (λ p left. search rules)

@@ -1,10 +1,10 @@
 use Rattle.std.proofs.Common.{ap, rules}
-use Rattle.loom_objects.specs.Locks.{lock}
 use Rattle.loom_views.specs.Table.{points_after_acquire}
-use Rattle.loom_objects.specs.declared.rt.run.RunState.{RunState}
+use Rattle.loom_objects.specs.Locks.{lock}
+use Rattle.loom_objects.specs.Scene.{Stage}
 use Rattle.loom_objects.proofs.Showing.{gives}
 use Rattle.loom_locks.proofs.locks.lock.Goals as goal
 
-pub returns-in-Some-clause-does : goal.returns-in-Some-clause-does
-returns-in-Some-clause-does g c =
-    gives (lock c.args.locking c.args.number) _ _ _ c.acquire.new.self (λ p. points_after_acquire p c.args.run.now.active c.args.number) (ap (λ (r : RunState g.row.D.Denot). r.views) c.block_pending.ensures) c.acquire.ensures (λ p. search rules)
+pub returns : goal.returns
+returns g c =
+    gives (lock c.args.locking c.args.number) _ _ _ c.acquire.new.self.views (λ p. points_after_acquire p c.args.scene.now.active c.args.number) (ap (λ (s : Stage g.row.D.Denot). s.views) c.block_pending.ensures) c.acquire.ensures.views (λ p left. search rules)

@@ -3,5 +3,5 @@ use Rattle.loom_objects.specs.Locks.{mutex_get_mut}
 use Rattle.loom_objects.proofs.Showing.{keeps}
 use Rattle.loom_locks.proofs.locks.mutex_get_mut.Goals as goal
 
-pub returns-in-Some-clause-does : goal.returns-in-Some-clause-does
-returns-in-Some-clause-does g c = keeps (mutex_get_mut c.args.number) _ _ _ refl (λ p. search rules)
+pub returns : goal.returns
+returns g c = keeps (mutex_get_mut c.args.number) _ _ _ refl (λ p left. search rules)

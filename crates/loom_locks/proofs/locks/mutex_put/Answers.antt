@@ -3,5 +3,5 @@ use Rattle.loom_objects.specs.Locks.{mutex_put}
 use Rattle.loom_objects.proofs.Showing.{keeps}
 use Rattle.loom_locks.proofs.locks.mutex_put.Goals as goal
 
-pub returns-clause-does : goal.returns-clause-does
-returns-clause-does g c = keeps (mutex_put c.args.number c.args.value) _ _ _ refl (λ p. search rules)
+pub returns : goal.returns
+returns g c = keeps (mutex_put c.args.number c.args.value) _ _ _ refl (λ p left. search rules)

@@ -1,10 +1,5 @@
-use Rattle.std.proofs.Common.{ap, rules}
-use Rattle.loom_views.specs.Table.{points_after_acquire}
-use Rattle.loom_objects.specs.RwLocks.{reads_at}
-use Rattle.loom_objects.specs.declared.rt.run.RunState.{RunState}
-use Rattle.loom_objects.proofs.Showing.{gives}
+use Rattle.std.proofs.Common.{rules}
 use Rattle.loom_locks.proofs.rwlocks.read_lock.Goals as goal
 
-pub returns-clause-does : goal.returns-clause-does
-returns-clause-does g c =
-    gives (reads_at c.args.number) _ _ _ c.acquire.new.self (λ p. points_after_acquire p c.args.run.now.active c.args.number) (ap (λ (r : RunState g.row.D.Denot). r.views) c.block_writers.ensures) c.acquire.ensures (λ p. search rules)
+pub returns : goal.returns
+returns g c = λ p left shown. search (c.guard.ensures p left shown, rules)

@@ -3,5 +3,5 @@ use Rattle.loom_objects.specs.RwLocks.{rwlock_put}
 use Rattle.loom_objects.proofs.Showing.{keeps}
 use Rattle.loom_locks.proofs.rwlocks.rwlock_put.Goals as goal
 
-pub returns-clause-does : goal.returns-clause-does
-returns-clause-does g c = keeps (rwlock_put c.args.number c.args.value) _ _ _ refl (λ p. search rules)
+pub returns : goal.returns
+returns g c = keeps (rwlock_put c.args.number c.args.value) _ _ _ refl (λ p left. search rules)

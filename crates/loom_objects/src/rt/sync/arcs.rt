@@ -1,6 +1,5 @@
-ghost use Rattle.std.specs.Prelude.{false, ◌≡◌, ◌+◌, OnOk, OnErr, None, Some, true};
-ghost use Rattle.loom_objects.specs.Counts.{is_free, may_grow, sole_value, with_one_fewer, lent_to};
-ghost use Rattle.loom_objects.specs.Moves.{is_number};
+ghost use Rattle.std.specs.Prelude.{◌≡◌, ◌+◌, OnOk, OnErr};
+ghost use Rattle.loom_objects.specs.Counts.{is_free, may_grow, sole_value, with_one_fewer, lent_alone};
 
 use crate::rt::sync::Arc;
 use loom_views::rt::failure::FailureKind;
@@ -10,7 +9,7 @@ impl<D: Drop> Arc<D> {
     pub fn is_free(&self) -> bool
         ensures { result ≡ is_free self.now }
     {
-        self.count > 0 && self.lent.is_none()
+        self.count > 0 && self.content.lent.is_none()
     }
 
     /// One reference more.
@@ -42,13 +41,13 @@ impl<D: Drop> Arc<D> {
         if self.count > 0 {
             return Ok(None);
         }
-        Ok(self.value.take())
+        Ok(self.content.take())
     }
 
     /// The thread has the value, if there is one reference alone.
     pub fn lend(&mut self, thread: u8) -> Result<Option<D>, FailureKind>
         ensures result { result ≡ sole_value self.old }
-        ensures ok { OnOk result (self.new ≡ lent_to thread self.old) }
+        ensures ok { OnOk result (self.new ≡ lent_alone thread self.old) }
         ensures err { OnErr result (self.new ≡ self.old) }
     {
         if !self.is_free() {
@@ -57,22 +56,6 @@ impl<D: Drop> Arc<D> {
         if self.count > 1 {
             return Ok(None);
         }
-        self.lent = Some(thread);
-        Ok(self.value.take())
-    }
-
-    /// The thread that has the value out puts one back. False where it hasn't; then nothing changes.
-    pub fn put(&mut self, thread: u8, value: D) -> bool
-        ensures result { result ≡ is_number self.old.lent thread }
-        ensures put { result ≡ true → self.new ≡ record self.old { value = Some value; lent = None } }
-        ensures same { result ≡ false → self.new ≡ self.old }
-    {
-        match self.lent {
-            Some(holder) if holder == thread => {}
-            _ => return false,
-        }
-        self.value = Some(value);
-        self.lent = None;
-        true
+        Ok(self.content.lend(thread))
     }
 }

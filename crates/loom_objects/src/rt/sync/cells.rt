@@ -1,5 +1,6 @@
 ghost use Rattle.std.specs.Prelude.{◌≡◌, OnOk, OnErr};
 ghost use Rattle.loom_objects.specs.Cells as cells;
+ghost use Rattle.loom_objects.specs.Lent.{taken_apart};
 ghost use Rattle.loom_objects.specs.Moves.{is_number};
 
 use crate::rt::sync::Cell;
@@ -38,14 +39,14 @@ impl<D: Drop> Cell<D> {
     pub fn is_free(&self) -> bool
         ensures { result ≡ cells.is_free self.now }
     {
-        self.writer.is_none() && self.is_unread()
+        self.content.lent.is_none() && self.is_unread()
     }
 
     /// The thread has it open for writing.
     pub fn is_written_by(&self, thread: u8) -> bool
-        ensures { result ≡ is_number self.now.writer thread }
+        ensures { result ≡ is_number self.now.content.lent thread }
     {
-        match self.writer {
+        match self.content.lent {
             Some(writer) => writer == thread,
             None => false,
         }
@@ -53,26 +54,22 @@ impl<D: Drop> Cell<D> {
 
     /// It holds this now, and this thread has it open for writing. Answers what it held.
     pub fn exchange(&mut self, value: Option<D>, writer: Option<u8>) -> Option<D>
-        ensures held { result ≡ self.old.value }
+        ensures held { result ≡ self.old.content.value }
         ensures exchanged { self.new ≡ cells.holding value writer self.old }
     {
-        self.writer = writer;
-        mem::replace(&mut self.value, value)
+        self.content.lent = writer;
+        mem::replace(&mut self.content.value, value)
     }
 
     /// It is taken apart, if no thread has it open. An error where one has; then nothing changes.
     pub fn take_apart(&mut self) -> Result<D, FailureKind>
         ensures result { result ≡ cells.data_left self.old }
-        ensures ok { OnOk result (self.new ≡ cells.taken_apart self.old) }
+        ensures ok { OnOk result (self.new ≡ record self.old { content = taken_apart self.old.content }) }
         ensures err { OnErr result (self.new ≡ self.old) }
     {
         if !self.is_free() {
             return Err(FailureKind::OpenAccess);
         }
-        let Some(value) = self.value.take() else {
-            return Err(FailureKind::Misuse);
-        };
-        self.is_taken = true;
-        Ok(value)
+        self.content.take_apart().ok_or(FailureKind::Misuse)
     }
 }

@@ -1,5 +1,6 @@
-ghost use Rattle.std.specs.Prelude.{false, ◌≡◌, OnSome, IfNone, None, Some, true};
-ghost use Rattle.loom_objects.specs.Moves.{free_value, is_number};
+ghost use Rattle.loom_objects.specs.Lent.{handed_out, lent_to, taken_apart};
+ghost use Rattle.loom_objects.specs.Locks.{free_value};
+ghost use Rattle.std.specs.Prelude.{◌≡◌, OnSome, IfNone, None, Some};
 
 use crate::rt::sync::Mutex;
 
@@ -8,13 +9,13 @@ impl<D: Drop> Mutex<D> {
     /// nothing changes.
     pub fn hold(&mut self, thread: u8) -> Option<D>
         ensures value { result ≡ free_value self.old }
-        ensures held { OnSome result (self.new ≡ record self.old { holder = Some thread; value = None }) }
+        ensures held { OnSome result (self.new ≡ record self.old { holder = Some thread; content = handed_out self.old.content }) }
         ensures none { IfNone result (self.new ≡ self.old) }
     {
-        if self.is_taken || self.holder.is_some() {
+        if self.holder.is_some() {
             return None;
         }
-        let value = self.value.take()?;
+        let value = self.content.take()?;
         self.holder = Some(thread);
         Some(value)
     }
@@ -23,43 +24,24 @@ impl<D: Drop> Mutex<D> {
     /// changes.
     pub fn lend(&mut self, thread: u8) -> Option<D>
         ensures value { result ≡ free_value self.old }
-        ensures lent { OnSome result (self.new ≡ record self.old { value = None; lent = Some thread }) }
+        ensures lent { OnSome result (self.new ≡ record self.old { content = lent_to thread self.old.content }) }
         ensures none { IfNone result (self.new ≡ self.old) }
     {
-        if self.is_taken || self.holder.is_some() {
+        if self.holder.is_some() {
             return None;
         }
-        let value = self.value.take()?;
-        self.lent = Some(thread);
-        Some(value)
-    }
-
-    /// The thread that has the data out puts some back. False where it hasn't; then nothing changes.
-    pub fn put(&mut self, thread: u8, value: D) -> bool
-        ensures result { result ≡ is_number self.old.lent thread }
-        ensures put { result ≡ true → self.new ≡ record self.old { value = Some value; lent = None } }
-        ensures same { result ≡ false → self.new ≡ self.old }
-    {
-        match self.lent {
-            Some(holder) if holder == thread => {}
-            _ => return false,
-        }
-        self.value = Some(value);
-        self.lent = None;
-        true
+        self.content.lend(thread)
     }
 
     /// It is taken apart. None where it was before, is held or the data is out: then nothing changes.
     pub fn take_apart(&mut self) -> Option<D>
         ensures value { result ≡ free_value self.old }
-        ensures taken { OnSome result (self.new ≡ record self.old { value = None; is_taken = true }) }
+        ensures taken { OnSome result (self.new ≡ record self.old { content = taken_apart self.old.content }) }
         ensures none { IfNone result (self.new ≡ self.old) }
     {
-        if self.is_taken || self.holder.is_some() {
+        if self.holder.is_some() {
             return None;
         }
-        let value = self.value.take()?;
-        self.is_taken = true;
-        Some(value)
+        self.content.take_apart()
     }
 }

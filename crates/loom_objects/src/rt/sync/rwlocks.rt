@@ -1,5 +1,5 @@
-ghost use Rattle.std.specs.Prelude.{false, ◌≡◌, OnSome, IfNone, None, Some, true};
-ghost use Rattle.loom_objects.specs.Moves.{is_number};
+ghost use Rattle.std.specs.Prelude.{◌≡◌, OnSome, IfNone, None, Some};
+ghost use Rattle.loom_objects.specs.Lent.{handed_out, lent_to, taken_apart, value_in};
 ghost use Rattle.loom_objects.specs.RwLocks as rwlocks;
 
 use crate::rt::sync::RwLock;
@@ -69,11 +69,11 @@ impl<D: Drop> RwLock<D> {
 
     /// The thread writes from now on, and is given the data. None where that is out: then nothing changes.
     pub fn hold(&mut self, thread: u8) -> Option<D>
-        ensures value { result ≡ self.old.value }
-        ensures held { OnSome result (self.new ≡ record self.old { writer = Some thread; value = None }) }
+        ensures value { result ≡ value_in self.old.content }
+        ensures held { OnSome result (self.new ≡ record self.old { writer = Some thread; content = handed_out self.old.content }) }
         ensures none { IfNone result (self.new ≡ self.old) }
     {
-        let value = self.value.take()?;
+        let value = self.content.take()?;
         self.writer = Some(thread);
         Some(value)
     }
@@ -81,43 +81,24 @@ impl<D: Drop> RwLock<D> {
     /// The thread has the data without holding it. None where it is held or the data is out: then nothing changes.
     pub fn lend(&mut self, thread: u8) -> Option<D>
         ensures value { result ≡ rwlocks.unlocked_value self.old }
-        ensures lent { OnSome result (self.new ≡ record self.old { value = None; lent = Some thread }) }
+        ensures lent { OnSome result (self.new ≡ record self.old { content = lent_to thread self.old.content }) }
         ensures none { IfNone result (self.new ≡ self.old) }
     {
         if self.is_held() {
             return None;
         }
-        let value = self.value.take()?;
-        self.lent = Some(thread);
-        Some(value)
-    }
-
-    /// The thread that has the data out puts some back. False where it hasn't; then nothing changes.
-    pub fn put(&mut self, thread: u8, value: D) -> bool
-        ensures result { result ≡ is_number self.old.lent thread }
-        ensures put { result ≡ true → self.new ≡ record self.old { value = Some value; lent = None } }
-        ensures same { result ≡ false → self.new ≡ self.old }
-    {
-        match self.lent {
-            Some(holder) if holder == thread => {}
-            _ => return false,
-        }
-        self.value = Some(value);
-        self.lent = None;
-        true
+        self.content.lend(thread)
     }
 
     /// It is taken apart. None where it is held or the data is out: then nothing changes.
     pub fn take_apart(&mut self) -> Option<D>
         ensures value { result ≡ rwlocks.unlocked_value self.old }
-        ensures taken { OnSome result (self.new ≡ record self.old { value = None; is_taken = true }) }
+        ensures taken { OnSome result (self.new ≡ record self.old { content = taken_apart self.old.content }) }
         ensures none { IfNone result (self.new ≡ self.old) }
     {
         if self.is_held() {
             return None;
         }
-        let value = self.value.take()?;
-        self.is_taken = true;
-        Some(value)
+        self.content.take_apart()
     }
 }

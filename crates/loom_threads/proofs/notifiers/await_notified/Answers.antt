@@ -4,6 +4,6 @@ use Rattle.loom_objects.specs.Notifiers.{awaits}
 use Rattle.loom_objects.proofs.Showing.{gives}
 use Rattle.loom_threads.proofs.notifiers.await_notified.Goals as goal
 
-pub returns-clause-does : goal.returns-clause-does
-returns-clause-does g c =
-    gives (awaits c.args.number) _ _ _ c.acquire.new.self (λ p. points_after_acquire p c.args.run.now.active c.args.number) refl c.acquire.ensures (λ p. search rules)
+pub returns : goal.returns
+returns g c =
+    gives (awaits c.args.number) c.args.scene.now c.acquire.new.self _ c.acquire.new.self.views (λ p. points_after_acquire p c.args.scene.now.active c.args.number) refl c.acquire.ensures.views (λ p left. search rules)

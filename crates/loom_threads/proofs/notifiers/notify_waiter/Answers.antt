@@ -1,7 +1,14 @@
-use Rattle.std.proofs.Common.{rules}
-use Rattle.loom_threads.proofs.Telling.{notifies_then}
+use Rattle.std.proofs.Common.{ap, rules}
+use Rattle.std.specs.declared.sync.atomic.Ordering.TheVariants.{Release}
+use Rattle.loom_views.specs.Table.{points_after_release}
+use Rattle.loom_objects.specs.Moves.{told_points}
+use Rattle.loom_objects.specs.Notifiers.{notify}
+use Rattle.loom_objects.specs.Scene.{Stage}
+use Rattle.loom_objects.proofs.Showing.{gives}
 use Rattle.loom_threads.proofs.notifiers.notify_waiter.Goals as goal
 
-pub returns-clause-does : goal.returns-clause-does
-returns-clause-does g c =
-    notifies_then c.args.run.now c.args.number c.in-Notify.notify (search rules) c.release.new.self c.release.ensures c.tell.new.self c.wake_pending.new.self c.tell.ensures.shown c.wake_pending.ensures
+pub returns : goal.returns
+returns g c =
+    gives (notify c.args.number) c.args.scene.now c.wake_pending.new.self _ c.tell_waiter.new.self.views
+    (λ p. told_points c.in_ok-notify.notify.now.waiter c.release.new.self.active (points_after_release p c.args.scene.now.active c.args.number Release))
+    (ap (λ (s : Stage g.row.D.Denot). s.views) c.wake_pending.ensures) (λ p shown. c.tell_waiter.ensures.views _ (c.release.ensures.views p shown)) (λ p left. search rules)

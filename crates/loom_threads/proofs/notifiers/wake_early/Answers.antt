@@ -3,5 +3,5 @@ use Rattle.loom_objects.specs.Notifiers.{wakes_early}
 use Rattle.loom_objects.proofs.Showing.{keeps}
 use Rattle.loom_threads.proofs.notifiers.wake_early.Goals as goal
 
-pub returns-clause-does : goal.returns-clause-does
-returns-clause-does g c = keeps (wakes_early c.args.number) _ _ _ refl (λ p. search rules)
+pub returns : goal.returns
+returns g c = keeps (wakes_early c.args.number) _ _ _ refl (λ p left. search rules)

@@ -1,5 +1,5 @@
 use Rattle.std.proofs.Common.{◌≡◌, drop, None}
-use Rattle.loom_objects.specs.Steps.{fewest}
+use Rattle.loom_objects.specs.Schedules.{fewest}
 use Rattle.loom_objects.proofs.rt.offers.fewest.Given as goal
 
 -- the best so far, and those that are left

@@ -1,8 +1,0 @@
-use Rattle.std.proofs.Common.{refl, rules}
-use Rattle.loom_objects.specs.Counts.{arc_put}
-use Rattle.loom_objects.proofs.Showing.{keeps}
-use Rattle.loom_cells.proofs.counts.arc_put.Goals as goal
-
-pub returns-clause-does : goal.returns-clause-does
-returns-clause-does g c =
-    keeps (arc_put c.args.number c.args.value) _ _ _ refl (λ p. search rules)

@@ -1,8 +1,0 @@
-use Rattle.std.proofs.Common.{refl, rules}
-use Rattle.loom_objects.specs.Tracks.{track_put}
-use Rattle.loom_objects.proofs.Showing.{keeps}
-use Rattle.loom_cells.proofs.tracks.track_put.Goals as goal
-
-pub returns-clause-does : goal.returns-clause-does
-returns-clause-does g c =
-    keeps (track_put c.args.number c.args.value) _ _ _ refl (λ p. search rules)

@@ -1,0 +1,114 @@
+//! The tables of the machine: which effect an operation has when it begins, and which one what a thread has pending.
+ghost use Rattle.std.specs.Prelude.{◌≡◌, slice_get, true, IfOk, OnErr};
+ghost use Rattle.loom_machine.specs.Replies.{replied_by, passed_by};
+ghost use Rattle.loom_objects.specs.Effects as rules;
+ghost use Rattle.loom_objects.specs.Scene.{Does, HasSlot, KeepsSlots};
+ghost use Rattle.loom_views.specs.Table.{Points, ShowsViews};
+
+use loom_atomics::atomics;
+use loom_cells::{cells, counts, tracks};
+use loom_locks::{condvars, locks, rwlocks};
+use loom_objects::data::Data;
+use loom_objects::operation::{Op, Reply, Turn};
+use loom_objects::rt::run::{Entry, Passed, Resumed};
+use loom_objects::rt::scene::Scene;
+use loom_objects::rt::thread::Task;
+use loom_threads::{notifiers, threads};
+use loom_views::rt::failure::FailureKind;
+use std::alloc::AllocError;
+
+/// What the active thread's operation does up to its branch point, or all of it, where it has none. An outer error only where
+/// memory is refused.
+pub(crate) fn begin_op<D: Data>(
+    scene: &mut Scene<D>,
+    op: Op<D, ()>,
+) -> Result<Result<Entry<D>, FailureKind>, AllocError>
+    ensures does { IfOk result (λ answer. Does (rules.op_begins op) scene.old answer scene.new) }
+    ensures growth { OnErr result (rules.needs_memory op ≡ true) }
+{
+    match op {
+        Op::Atomic(op, _) => atomics::atomic_begins(scene, op),
+        Op::Fence(order, _) => Ok(atomics::fence(scene, order)),
+        Op::Cell(op, _) => cells::cell_begins(scene, op),
+        Op::Arc(op, _) => counts::arc_begins(scene, op),
+        Op::Track(op, _) => tracks::track_begins(scene, op),
+        Op::Mutex(op, _) => locks::mutex_begins(scene, op),
+        Op::RwLock(op, _) => rwlocks::rwlock_begins(scene, op),
+        Op::Condvar(op, _) => condvars::condvar_begins(scene, op),
+        Op::Notify(op, _) => notifiers::notifier_begins(scene, op),
+        Op::Thread(op, _) => threads::thread_begins(scene, op),
+        Op::Fail(_) => Ok(Err(FailureKind::Assertion)),
+        Op::Unreachable(_) => Ok(Err(FailureKind::Unreachable)),
+    }
+}
+
+/// The active thread is told the reply of an effect.
+fn told<D: Drop>(
+    answer: Result<Reply<D>, FailureKind>,
+    scene: &Scene<D>,
+) -> Result<Resumed<D>, FailureKind>
+    ensures { result ≡ replied_by scene.now.active answer }
+{
+    let reply = answer?;
+    Ok(scene.told(reply))
+}
+
+/// It has passed as an effect says.
+fn gone<D>(answer: Result<Passed<D>, FailureKind>) -> Result<Resumed<D>, FailureKind>
+    ensures { result ≡ passed_by answer }
+{
+    let passed = answer?;
+    Ok(Resumed::Passed(passed))
+}
+
+/// The thread is chosen, and what it has pending takes effect; an access that reads from an atomic up to the choice of
+/// the store that it reads, of which there is one at least, and each of which is kept.
+pub(crate) fn go_on<D: Data>(
+    scene: &mut Scene<D>,
+    thread: u8,
+) -> Result<Result<Resumed<D>, FailureKind>, AllocError>
+    ensures does { IfOk result (λ answer. Does (rules.chosen thread) scene.old answer scene.new) }
+    ensures slot { IfOk result (λ answer. IfOk answer HasSlot) }
+    ensures kept { (p : Points) → ShowsViews p scene.new.views → IfOk result (λ answer. IfOk answer (KeepsSlots p)) }
+    ensures growth { OnErr result (rules.needs_copy_at (slice_get scene.old.threads thread) ≡ true) }
+{
+    match scene.choose(thread) {
+        Ok(task) => take_effect(scene, task),
+        Err(kind) => Ok(Err(kind)),
+    }
+}
+
+/// What the active thread had pending takes effect.
+fn take_effect<D: Data>(
+    scene: &mut Scene<D>,
+    task: Task<D>,
+) -> Result<Result<Resumed<D>, FailureKind>, AllocError>
+    ensures does { IfOk result (λ answer. Does (rules.takes_effect task) scene.old answer scene.new) }
+    ensures slot { IfOk result (λ answer. IfOk answer HasSlot) }
+    ensures kept { (p : Points) → ShowsViews p scene.new.views → IfOk result (λ answer. IfOk answer (KeepsSlots p)) }
+    ensures growth { OnErr result (rules.needs_copy task ≡ true) }
+{
+    match task {
+        Task::Start => Ok(gone(Ok(Passed::Turn(Turn::Start(scene.active()))))),
+        Task::Body => Ok(Err(FailureKind::Misuse)),
+        Task::Continue => Ok(told(Ok(Reply::Done), scene)),
+        Task::Access(access) => Ok(atomics::access(scene, access)),
+        Task::Lock(locking, mutex) => Ok(told(locks::lock(scene, locking, mutex), scene)),
+        Task::TryLock(mutex) => Ok(told(locks::try_lock(scene, mutex), scene)),
+        Task::Claim(claim, lock) => Ok(told(rwlocks::claim(scene, claim, lock)?, scene)),
+        Task::Wait(locking, condvar, mutex, value) => {
+            Ok(gone(condvars::fall_asleep(scene, locking, condvar, mutex, value)))
+        }
+        Task::Relock(locking, mutex) => Ok(gone(Ok(condvars::relock(scene, locking, mutex)))),
+        Task::Wake(waking, condvar) => Ok(told(condvars::wake(scene, waking, condvar), scene)),
+        Task::Notify(notifier) => Ok(told(notifiers::notify(scene, notifier), scene)),
+        Task::Await(notifier) => Ok(told(notifiers::await_notified(scene, notifier), scene)),
+        Task::Rouse(notifier) => Ok(told(notifiers::wake_early(scene, notifier), scene)),
+        Task::Count(counting, arc) => Ok(told(counts::count(scene, counting, arc), scene)),
+        Task::TryUnwrap(arc) => Ok(gone(counts::try_unwrap(scene, arc))),
+        Task::Join(thread, notifier) => Ok(told(threads::join(scene, thread, notifier), scene)),
+        Task::Finish(notifier, value) => {
+            Ok(told(threads::child_finish(scene, notifier, value), scene))
+        }
+    }
+}

@@ -1,0 +1,116 @@
+-- The tables of the machine: what an operation does up to its branch point, and what it does once its thread is chosen.
+use Rattle.std.specs.Prelude.{ℕ, ◌-◌, Bool, false, nat_lt, Option, Some, None, Result, Ok, Err, ⊤}
+use Rattle.loom_views.specs.declared.rt.failure.FailureKind.TheVariants.{Assertion, TooManySteps, Misuse, Unreachable}
+use Rattle.loom_objects.specs.declared.operation.Reply.TheVariants as reply
+use Rattle.loom_objects.specs.declared.operation.Turn.TheVariants as turn
+use Rattle.loom_objects.specs.Atomics.{atomic_begins, fence, accesses, needs_memory as atomic_needs_memory}
+use Rattle.loom_objects.specs.Rule.{◌>>=◌, check}
+use Rattle.loom_views.specs.declared.rt.failure.FailureKind.{FailureKind}
+use Rattle.loom_objects.specs.declared.operation.Op.{Op}
+use Rattle.loom_objects.specs.declared.operation.Op.TheVariants as op
+use Rattle.loom_objects.specs.declared.rt.run.Entry.{Entry}
+use Rattle.loom_objects.specs.declared.rt.run.Passed.TheVariants as passed
+use Rattle.loom_objects.specs.declared.rt.run.Resumed.{Resumed}
+use Rattle.loom_objects.specs.declared.rt.run.Resumed.TheVariants as resumed
+use Rattle.loom_objects.specs.declared.rt.thread.Task.{Task}
+use Rattle.loom_objects.specs.declared.rt.thread.Task.TheVariants.{Start, Body, Continue, Access, Count, TryUnwrap, Lock, TryLock, Claim, Wait, Relock, Wake, Notify, Await, Rouse, Join, Finish}
+use Rattle.loom_objects.specs.declared.rt.thread.Thread.{Thread}
+use Rattle.loom_objects.specs.Cells.{cell_begins, needs_memory as cell_needs_memory}
+use Rattle.loom_objects.specs.Condvars.{condvar_begins, falls_asleep, relocks, wakes, needs_memory as condvar_needs_memory}
+use Rattle.loom_objects.specs.Counts.{arc_begins, counts, tries_unwrap, needs_memory as arc_needs_memory}
+use Rattle.loom_objects.specs.Locks.{mutex_begins, lock, try_lock, needs_memory as mutex_needs_memory}
+use Rattle.loom_objects.specs.Notifiers.{notifier_begins, notifies, awaits, wakes_early, needs_memory as notifier_needs_memory}
+use Rattle.loom_objects.specs.RwLocks.{rwlock_begins, claims, is_reading, needs_memory as rwlock_needs_memory}
+use Rattle.loom_objects.specs.Schedules.{chooses}
+use Rattle.loom_objects.specs.Threads.{thread_begins, join, child_finish, needs_memory as thread_needs_memory}
+use Rattle.loom_objects.specs.Tracks.{track_begins, needs_memory as track_needs_memory}
+use Rattle.loom_objects.specs.Turns.{replied, gone}
+use Rattle.loom_objects.specs.World.{World}
+
+module _ {D : Type 0} where
+  -- what an operation does up to its branch point, or all of it, where it has none
+  abbrev pub op_begins : Op D ⊤ → World D → Result (Entry D × World D) FailureKind
+  op_begins (op.Atomic todo place) w = atomic_begins todo w
+  op_begins (op.Fence order place) w = fence order w
+  op_begins (op.Cell todo place) w = cell_begins todo w
+  op_begins (op.Arc todo place) w = arc_begins todo w
+  op_begins (op.Track todo place) w = track_begins todo w
+  op_begins (op.Mutex todo place) w = mutex_begins todo w
+  op_begins (op.RwLock todo place) w = rwlock_begins todo w
+  op_begins (op.Condvar todo place) w = condvar_begins todo w
+  op_begins (op.Notify todo place) w = notifier_begins todo w
+  op_begins (op.Thread todo place) w = thread_begins todo w
+  op_begins (op.Fail place) w = Err Assertion
+  op_begins (op.Unreachable place) w = Err Unreachable
+
+  -- memory may be refused: an object or a thread is made, or data is copied
+  abbrev pub needs_memory : Op D ⊤ → Bool
+  needs_memory (op.Atomic todo place) = atomic_needs_memory todo
+  needs_memory (op.Cell todo place) = cell_needs_memory todo
+  needs_memory (op.Arc todo place) = arc_needs_memory todo
+  needs_memory (op.Track todo place) = track_needs_memory todo
+  needs_memory (op.Mutex todo place) = mutex_needs_memory todo
+  needs_memory (op.RwLock todo place) = rwlock_needs_memory todo
+  needs_memory (op.Condvar todo place) = condvar_needs_memory todo
+  needs_memory (op.Notify todo place) = notifier_needs_memory todo
+  needs_memory (op.Thread todo place) = thread_needs_memory todo
+  needs_memory (op.Fence order place) = false
+  needs_memory (op.Fail place) = false
+  needs_memory (op.Unreachable place) = false
+
+  -- an operation that is handed over is counted before anything else
+  abbrev pub counted : Op D ⊤ → World D → Result (Entry D × World D) FailureKind
+  counted todo w = do
+    _ ← check (nat_lt 0 w.steps_left) TooManySteps
+    op_begins todo (record w { steps_left = w.steps_left - 1 })
+
+  -- what the active thread had pending takes effect: a thread has its turn, or it comes to another branch point, or which store
+  -- it reads is to be chosen
+  abbrev pub takes_effect : Task D → World D → Result (Resumed D × World D) FailureKind
+  takes_effect Start w = Ok (resumed.Passed (passed.Turn (turn.Start w.active)), w)
+  takes_effect Body w = Err Misuse
+  takes_effect Continue w = replied (reply.Done, w)
+  takes_effect (Access access) w = accesses access w
+  takes_effect (Lock locking n) w = lock locking n w >>= replied
+  takes_effect (TryLock n) w = try_lock n w >>= replied
+  takes_effect (Claim claim n) w = claims claim n w >>= replied
+  takes_effect (Wait locking n m value) w = falls_asleep locking n m value w >>= gone
+  takes_effect (Relock locking m) w = relocks locking m w >>= gone
+  takes_effect (Wake waking n) w = wakes waking n w >>= replied
+  takes_effect (Notify n) w = notifies n w >>= replied
+  takes_effect (Await n) w = awaits n w >>= replied
+  takes_effect (Rouse n) w = wakes_early n w >>= replied
+  takes_effect (Count todo n) w = counts todo n w >>= replied
+  takes_effect (TryUnwrap n) w = tries_unwrap n w >>= gone
+  takes_effect (Join t n) w = join t n w >>= replied
+  takes_effect (Finish n value) w = child_finish n value w >>= replied
+
+  -- thread t is chosen, and what it has pending takes effect
+  abbrev pub chosen : ℕ → World D → Result (Resumed D × World D) FailureKind
+  chosen t w = do
+    (todo, ready) ← chooses t w
+    takes_effect todo ready
+
+  -- what is pending needs a copy of data, for which memory may be refused: a lock that is taken to read
+  abbrev pub needs_copy : Task D → Bool
+  needs_copy Start = false
+  needs_copy Body = false
+  needs_copy Continue = false
+  needs_copy (Access access) = false
+  needs_copy (Lock locking n) = false
+  needs_copy (TryLock n) = false
+  needs_copy (Claim claim n) = is_reading claim
+  needs_copy (Wait locking n m value) = false
+  needs_copy (Relock locking m) = false
+  needs_copy (Wake waking n) = false
+  needs_copy (Notify n) = false
+  needs_copy (Await n) = false
+  needs_copy (Rouse n) = false
+  needs_copy (Count todo n) = false
+  needs_copy (TryUnwrap n) = false
+  needs_copy (Join t n) = false
+  needs_copy (Finish n value) = false
+
+  abbrev pub needs_copy_at : Option (Thread D) → Bool
+  needs_copy_at None = false
+  needs_copy_at (Some thread) = needs_copy thread.task

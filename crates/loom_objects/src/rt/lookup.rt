@@ -1,0 +1,491 @@
+//! The objects of a run by their numbers, each of its kind.
+ghost use Rattle.std.specs.Prelude.{◌≡◌, Ok, Err};
+ghost use Rattle.std.specs.Borrow.{sem};
+ghost use Rattle.loom_objects.specs.Lookup.{now_of, shown_of};
+ghost use Rattle.loom_objects.specs.Lookup as lookup;
+ghost use Rattle.loom_objects.specs.Borrowing.{lends_kind, lends_kind_at};
+ghost use Rattle.loom_objects.specs.contracts.rt.sync.Atomic as atomic_row;
+ghost use Rattle.loom_objects.specs.contracts.rt.sync.Mutex as mutex_row;
+ghost use Rattle.loom_objects.specs.contracts.rt.sync.RwLock as rwlock_row;
+ghost use Rattle.loom_objects.specs.contracts.rt.sync.Condvar as condvar_row;
+ghost use Rattle.loom_objects.specs.contracts.rt.sync.Notify as notifier_row;
+ghost use Rattle.loom_objects.specs.contracts.rt.sync.Cell as cell_row;
+ghost use Rattle.loom_objects.specs.contracts.rt.sync.Arc as arc_row;
+ghost use Rattle.loom_objects.specs.contracts.rt.sync.Track as track_row;
+
+use crate::rt::object::Object;
+use crate::rt::sync::{Arc, Atomic, Cell, Condvar, Mutex, Notify, RwLock, Track};
+use loom_views::rt::failure::FailureKind;
+use loom_views::sequence::Sequence;
+
+/// The atomic that the object is, unless it was taken apart.
+fn as_atomic_mut<D>(object: &mut Object<D>) -> Result<&mut Atomic, FailureKind>
+    ensures* writes_back { sem 𝓛 (lends_kind D.row (atomic_row.the_row) Object.Atomic object.entry result) }
+    ensures value { now_of result ≡ lookup.atomic_in object.old }
+{
+    match object {
+        Object::Atomic(atomic) => {
+            if atomic.is_taken {
+                Err(FailureKind::Misuse)
+            } else {
+                Ok(atomic)
+            }
+        }
+        Object::Mutex(_)
+        | Object::RwLock(_)
+        | Object::Condvar(_)
+        | Object::Notify(_)
+        | Object::Cell(_)
+        | Object::Arc(_)
+        | Object::Track(_) => Err(FailureKind::Misuse),
+    }
+}
+
+/// The atomic of this number, to change. Misuse where there is none, or it was taken apart.
+pub(crate) fn atomic_in_mut<D>(
+    objects: &mut Sequence<Object<D>>,
+    number: usize,
+) -> Result<&mut Atomic, FailureKind>
+    ensures* writes_back { sem 𝓛 (lends_kind_at D.row (atomic_row.the_row) Object.Atomic objects.entry number result) }
+    ensures value { now_of result ≡ lookup.atomic_at number objects.old }
+{
+    if number >= objects.len() {
+        return Err(FailureKind::Misuse);
+    }
+    as_atomic_mut(objects.at_mut(number))
+}
+
+/// The atomic of this number, to read. Misuse where there is none, or it was taken apart.
+pub(crate) fn atomic_of<D>(
+    objects: &Sequence<Object<D>>,
+    number: usize,
+) -> Result<&Atomic, FailureKind>
+    ensures { shown_of result ≡ lookup.atomic_at number objects.now }
+{
+    if number >= objects.len() {
+        return Err(FailureKind::Misuse);
+    }
+    match objects.at(number) {
+        Object::Atomic(atomic) => {
+            if atomic.is_taken {
+                Err(FailureKind::Misuse)
+            } else {
+                Ok(atomic)
+            }
+        }
+        Object::Mutex(_)
+        | Object::RwLock(_)
+        | Object::Condvar(_)
+        | Object::Notify(_)
+        | Object::Cell(_)
+        | Object::Arc(_)
+        | Object::Track(_) => Err(FailureKind::Misuse),
+    }
+}
+
+/// The mutex that the object is, unless it was taken apart.
+fn as_mutex_mut<D>(object: &mut Object<D>) -> Result<&mut Mutex<D>, FailureKind>
+    ensures* writes_back { sem 𝓛 (lends_kind D.row (mutex_row.the_row D.row) Object.Mutex object.entry result) }
+    ensures value { now_of result ≡ lookup.mutex_in object.old }
+{
+    match object {
+        Object::Mutex(mutex) => {
+            if mutex.content.is_taken {
+                Err(FailureKind::Misuse)
+            } else {
+                Ok(mutex)
+            }
+        }
+        Object::Atomic(_)
+        | Object::RwLock(_)
+        | Object::Condvar(_)
+        | Object::Notify(_)
+        | Object::Cell(_)
+        | Object::Arc(_)
+        | Object::Track(_) => Err(FailureKind::Misuse),
+    }
+}
+
+/// The mutex of this number, to change. Misuse where there is none, or it was taken apart.
+pub(crate) fn mutex_in_mut<D>(
+    objects: &mut Sequence<Object<D>>,
+    number: usize,
+) -> Result<&mut Mutex<D>, FailureKind>
+    ensures* writes_back { sem 𝓛 (lends_kind_at D.row (mutex_row.the_row D.row) Object.Mutex objects.entry number result) }
+    ensures value { now_of result ≡ lookup.mutex_at number objects.old }
+{
+    if number >= objects.len() {
+        return Err(FailureKind::Misuse);
+    }
+    as_mutex_mut(objects.at_mut(number))
+}
+
+/// The mutex of this number, to read. Misuse where there is none, or it was taken apart.
+pub(crate) fn mutex_of<D>(
+    objects: &Sequence<Object<D>>,
+    number: usize,
+) -> Result<&Mutex<D>, FailureKind>
+    ensures { shown_of result ≡ lookup.mutex_at number objects.now }
+{
+    if number >= objects.len() {
+        return Err(FailureKind::Misuse);
+    }
+    match objects.at(number) {
+        Object::Mutex(mutex) => {
+            if mutex.content.is_taken {
+                Err(FailureKind::Misuse)
+            } else {
+                Ok(mutex)
+            }
+        }
+        Object::Atomic(_)
+        | Object::RwLock(_)
+        | Object::Condvar(_)
+        | Object::Notify(_)
+        | Object::Cell(_)
+        | Object::Arc(_)
+        | Object::Track(_) => Err(FailureKind::Misuse),
+    }
+}
+
+/// The read-write lock that the object is, unless it was taken apart.
+fn as_rwlock_mut<D>(object: &mut Object<D>) -> Result<&mut RwLock<D>, FailureKind>
+    ensures* writes_back { sem 𝓛 (lends_kind D.row (rwlock_row.the_row D.row) Object.RwLock object.entry result) }
+    ensures value { now_of result ≡ lookup.rwlock_in object.old }
+{
+    match object {
+        Object::RwLock(lock) => {
+            if lock.content.is_taken {
+                Err(FailureKind::Misuse)
+            } else {
+                Ok(lock)
+            }
+        }
+        Object::Atomic(_)
+        | Object::Mutex(_)
+        | Object::Condvar(_)
+        | Object::Notify(_)
+        | Object::Cell(_)
+        | Object::Arc(_)
+        | Object::Track(_) => Err(FailureKind::Misuse),
+    }
+}
+
+/// The read-write lock of this number, to change. Misuse where there is none, or it was taken apart.
+pub(crate) fn rwlock_in_mut<D>(
+    objects: &mut Sequence<Object<D>>,
+    number: usize,
+) -> Result<&mut RwLock<D>, FailureKind>
+    ensures* writes_back { sem 𝓛 (lends_kind_at D.row (rwlock_row.the_row D.row) Object.RwLock objects.entry number result) }
+    ensures value { now_of result ≡ lookup.rwlock_at number objects.old }
+{
+    if number >= objects.len() {
+        return Err(FailureKind::Misuse);
+    }
+    as_rwlock_mut(objects.at_mut(number))
+}
+
+/// The read-write lock of this number, to read. Misuse where there is none, or it was taken apart.
+pub(crate) fn rwlock_of<D>(
+    objects: &Sequence<Object<D>>,
+    number: usize,
+) -> Result<&RwLock<D>, FailureKind>
+    ensures { shown_of result ≡ lookup.rwlock_at number objects.now }
+{
+    if number >= objects.len() {
+        return Err(FailureKind::Misuse);
+    }
+    match objects.at(number) {
+        Object::RwLock(lock) => {
+            if lock.content.is_taken {
+                Err(FailureKind::Misuse)
+            } else {
+                Ok(lock)
+            }
+        }
+        Object::Atomic(_)
+        | Object::Mutex(_)
+        | Object::Condvar(_)
+        | Object::Notify(_)
+        | Object::Cell(_)
+        | Object::Arc(_)
+        | Object::Track(_) => Err(FailureKind::Misuse),
+    }
+}
+
+/// The condition variable that the object is.
+fn as_condvar_mut<D>(object: &mut Object<D>) -> Result<&mut Condvar, FailureKind>
+    ensures* writes_back { sem 𝓛 (lends_kind D.row (condvar_row.the_row) Object.Condvar object.entry result) }
+    ensures value { now_of result ≡ lookup.condvar_in object.old }
+{
+    match object {
+        Object::Condvar(condvar) => Ok(condvar),
+        Object::Atomic(_)
+        | Object::Mutex(_)
+        | Object::RwLock(_)
+        | Object::Notify(_)
+        | Object::Cell(_)
+        | Object::Arc(_)
+        | Object::Track(_) => Err(FailureKind::Misuse),
+    }
+}
+
+/// The condition variable of this number, to change. Misuse where there is none.
+pub(crate) fn condvar_in_mut<D>(
+    objects: &mut Sequence<Object<D>>,
+    number: usize,
+) -> Result<&mut Condvar, FailureKind>
+    ensures* writes_back { sem 𝓛 (lends_kind_at D.row (condvar_row.the_row) Object.Condvar objects.entry number result) }
+    ensures value { now_of result ≡ lookup.condvar_at number objects.old }
+{
+    if number >= objects.len() {
+        return Err(FailureKind::Misuse);
+    }
+    as_condvar_mut(objects.at_mut(number))
+}
+
+/// The condition variable of this number, to read. Misuse where there is none.
+pub(crate) fn condvar_of<D>(
+    objects: &Sequence<Object<D>>,
+    number: usize,
+) -> Result<&Condvar, FailureKind>
+    ensures { shown_of result ≡ lookup.condvar_at number objects.now }
+{
+    if number >= objects.len() {
+        return Err(FailureKind::Misuse);
+    }
+    match objects.at(number) {
+        Object::Condvar(condvar) => Ok(condvar),
+        Object::Atomic(_)
+        | Object::Mutex(_)
+        | Object::RwLock(_)
+        | Object::Notify(_)
+        | Object::Cell(_)
+        | Object::Arc(_)
+        | Object::Track(_) => Err(FailureKind::Misuse),
+    }
+}
+
+/// The notifier that the object is.
+fn as_notifier_mut<D>(object: &mut Object<D>) -> Result<&mut Notify, FailureKind>
+    ensures* writes_back { sem 𝓛 (lends_kind D.row (notifier_row.the_row) Object.Notify object.entry result) }
+    ensures value { now_of result ≡ lookup.notifier_in object.old }
+{
+    match object {
+        Object::Notify(notifier) => Ok(notifier),
+        Object::Atomic(_)
+        | Object::Mutex(_)
+        | Object::RwLock(_)
+        | Object::Condvar(_)
+        | Object::Cell(_)
+        | Object::Arc(_)
+        | Object::Track(_) => Err(FailureKind::Misuse),
+    }
+}
+
+/// The notifier of this number, to change. Misuse where there is none.
+pub(crate) fn notifier_in_mut<D>(
+    objects: &mut Sequence<Object<D>>,
+    number: usize,
+) -> Result<&mut Notify, FailureKind>
+    ensures* writes_back { sem 𝓛 (lends_kind_at D.row (notifier_row.the_row) Object.Notify objects.entry number result) }
+    ensures value { now_of result ≡ lookup.notifier_at number objects.old }
+{
+    if number >= objects.len() {
+        return Err(FailureKind::Misuse);
+    }
+    as_notifier_mut(objects.at_mut(number))
+}
+
+/// The notifier of this number, to read. Misuse where there is none.
+pub(crate) fn notifier_of<D>(
+    objects: &Sequence<Object<D>>,
+    number: usize,
+) -> Result<&Notify, FailureKind>
+    ensures { shown_of result ≡ lookup.notifier_at number objects.now }
+{
+    if number >= objects.len() {
+        return Err(FailureKind::Misuse);
+    }
+    match objects.at(number) {
+        Object::Notify(notifier) => Ok(notifier),
+        Object::Atomic(_)
+        | Object::Mutex(_)
+        | Object::RwLock(_)
+        | Object::Condvar(_)
+        | Object::Cell(_)
+        | Object::Arc(_)
+        | Object::Track(_) => Err(FailureKind::Misuse),
+    }
+}
+
+/// The cell that the object is, unless it was taken apart.
+fn as_cell_mut<D>(object: &mut Object<D>) -> Result<&mut Cell<D>, FailureKind>
+    ensures* writes_back { sem 𝓛 (lends_kind D.row (cell_row.the_row D.row) Object.Cell object.entry result) }
+    ensures value { now_of result ≡ lookup.cell_in object.old }
+{
+    match object {
+        Object::Cell(cell) => {
+            if cell.content.is_taken {
+                Err(FailureKind::Misuse)
+            } else {
+                Ok(cell)
+            }
+        }
+        Object::Atomic(_)
+        | Object::Mutex(_)
+        | Object::RwLock(_)
+        | Object::Condvar(_)
+        | Object::Notify(_)
+        | Object::Arc(_)
+        | Object::Track(_) => Err(FailureKind::Misuse),
+    }
+}
+
+/// The cell of this number, to change. Misuse where there is none, or it was taken apart.
+pub(crate) fn cell_in_mut<D>(
+    objects: &mut Sequence<Object<D>>,
+    number: usize,
+) -> Result<&mut Cell<D>, FailureKind>
+    ensures* writes_back { sem 𝓛 (lends_kind_at D.row (cell_row.the_row D.row) Object.Cell objects.entry number result) }
+    ensures value { now_of result ≡ lookup.cell_at number objects.old }
+{
+    if number >= objects.len() {
+        return Err(FailureKind::Misuse);
+    }
+    as_cell_mut(objects.at_mut(number))
+}
+
+/// The cell of this number, to read. Misuse where there is none, or it was taken apart.
+pub(crate) fn cell_of<D>(
+    objects: &Sequence<Object<D>>,
+    number: usize,
+) -> Result<&Cell<D>, FailureKind>
+    ensures { shown_of result ≡ lookup.cell_at number objects.now }
+{
+    if number >= objects.len() {
+        return Err(FailureKind::Misuse);
+    }
+    match objects.at(number) {
+        Object::Cell(cell) => {
+            if cell.content.is_taken {
+                Err(FailureKind::Misuse)
+            } else {
+                Ok(cell)
+            }
+        }
+        Object::Atomic(_)
+        | Object::Mutex(_)
+        | Object::RwLock(_)
+        | Object::Condvar(_)
+        | Object::Notify(_)
+        | Object::Arc(_)
+        | Object::Track(_) => Err(FailureKind::Misuse),
+    }
+}
+
+/// The counted reference that the object is.
+fn as_arc_mut<D>(object: &mut Object<D>) -> Result<&mut Arc<D>, FailureKind>
+    ensures* writes_back { sem 𝓛 (lends_kind D.row (arc_row.the_row D.row) Object.Arc object.entry result) }
+    ensures value { now_of result ≡ lookup.arc_in object.old }
+{
+    match object {
+        Object::Arc(arc) => Ok(arc),
+        Object::Atomic(_)
+        | Object::Mutex(_)
+        | Object::RwLock(_)
+        | Object::Condvar(_)
+        | Object::Notify(_)
+        | Object::Cell(_)
+        | Object::Track(_) => Err(FailureKind::Misuse),
+    }
+}
+
+/// The counted reference of this number, to change. Misuse where there is none.
+pub(crate) fn arc_in_mut<D>(
+    objects: &mut Sequence<Object<D>>,
+    number: usize,
+) -> Result<&mut Arc<D>, FailureKind>
+    ensures* writes_back { sem 𝓛 (lends_kind_at D.row (arc_row.the_row D.row) Object.Arc objects.entry number result) }
+    ensures value { now_of result ≡ lookup.arc_at number objects.old }
+{
+    if number >= objects.len() {
+        return Err(FailureKind::Misuse);
+    }
+    as_arc_mut(objects.at_mut(number))
+}
+
+/// The counted reference of this number, to read. Misuse where there is none.
+pub(crate) fn arc_of<D>(
+    objects: &Sequence<Object<D>>,
+    number: usize,
+) -> Result<&Arc<D>, FailureKind>
+    ensures { shown_of result ≡ lookup.arc_at number objects.now }
+{
+    if number >= objects.len() {
+        return Err(FailureKind::Misuse);
+    }
+    match objects.at(number) {
+        Object::Arc(arc) => Ok(arc),
+        Object::Atomic(_)
+        | Object::Mutex(_)
+        | Object::RwLock(_)
+        | Object::Condvar(_)
+        | Object::Notify(_)
+        | Object::Cell(_)
+        | Object::Track(_) => Err(FailureKind::Misuse),
+    }
+}
+
+/// The tracked value that the object is.
+fn as_track_mut<D>(object: &mut Object<D>) -> Result<&mut Track<D>, FailureKind>
+    ensures* writes_back { sem 𝓛 (lends_kind D.row (track_row.the_row D.row) Object.Track object.entry result) }
+    ensures value { now_of result ≡ lookup.track_in object.old }
+{
+    match object {
+        Object::Track(track) => Ok(track),
+        Object::Atomic(_)
+        | Object::Mutex(_)
+        | Object::RwLock(_)
+        | Object::Condvar(_)
+        | Object::Notify(_)
+        | Object::Cell(_)
+        | Object::Arc(_) => Err(FailureKind::Misuse),
+    }
+}
+
+/// The tracked value of this number, to change. Misuse where there is none.
+pub(crate) fn track_in_mut<D>(
+    objects: &mut Sequence<Object<D>>,
+    number: usize,
+) -> Result<&mut Track<D>, FailureKind>
+    ensures* writes_back { sem 𝓛 (lends_kind_at D.row (track_row.the_row D.row) Object.Track objects.entry number result) }
+    ensures value { now_of result ≡ lookup.track_at number objects.old }
+{
+    if number >= objects.len() {
+        return Err(FailureKind::Misuse);
+    }
+    as_track_mut(objects.at_mut(number))
+}
+
+/// The tracked value of this number, to read. Misuse where there is none.
+pub(crate) fn track_of<D>(
+    objects: &Sequence<Object<D>>,
+    number: usize,
+) -> Result<&Track<D>, FailureKind>
+    ensures { shown_of result ≡ lookup.track_at number objects.now }
+{
+    if number >= objects.len() {
+        return Err(FailureKind::Misuse);
+    }
+    match objects.at(number) {
+        Object::Track(track) => Ok(track),
+        Object::Atomic(_)
+        | Object::Mutex(_)
+        | Object::RwLock(_)
+        | Object::Condvar(_)
+        | Object::Notify(_)
+        | Object::Cell(_)
+        | Object::Arc(_) => Err(FailureKind::Misuse),
+    }
+}

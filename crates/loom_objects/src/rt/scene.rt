@@ -1,0 +1,240 @@
+ghost use Rattle.std.specs.Prelude.{ℕ, ◌≡◌, ◌++◌, ◌∷◌, [], ◌<◌, ◌≤◌, None, Some, Ok, Err, IfOk, IfSome, OnOk, OnErr, length, map, slice_get};
+ghost use Rattle.std.specs.Borrow.{sem};
+ghost use Rattle.loom_objects.specs.Lookup.{now_of, shown_of};
+ghost use Rattle.loom_objects.specs.Lookup as lookup;
+ghost use Rattle.loom_objects.specs.Moves as moves;
+ghost use Rattle.loom_objects.specs.Scene.{world_of};
+ghost use Rattle.loom_objects.specs.SceneBorrowing.{lends_in_scene};
+ghost use Rattle.loom_objects.specs.World.{MAX_THREADS, opening};
+ghost use Rattle.loom_views.specs.Table.{Points, ShowsViews, opening as first_points};
+ghost use Rattle.loom_objects.specs.contracts.rt.sync.Atomic as atomic_row;
+ghost use Rattle.loom_objects.specs.contracts.rt.sync.Mutex as mutex_row;
+ghost use Rattle.loom_objects.specs.contracts.rt.sync.RwLock as rwlock_row;
+ghost use Rattle.loom_objects.specs.contracts.rt.sync.Condvar as condvar_row;
+ghost use Rattle.loom_objects.specs.contracts.rt.sync.Notify as notifier_row;
+ghost use Rattle.loom_objects.specs.contracts.rt.sync.Cell as cell_row;
+ghost use Rattle.loom_objects.specs.contracts.rt.sync.Arc as arc_row;
+ghost use Rattle.loom_objects.specs.contracts.rt.sync.Track as track_row;
+
+use crate::operation::{Reply, Turn};
+use crate::rt::lookup::{
+    arc_in_mut, arc_of, atomic_in_mut, atomic_of, cell_in_mut, cell_of, condvar_in_mut, condvar_of,
+    mutex_in_mut, mutex_of, notifier_in_mut, notifier_of, rwlock_in_mut, rwlock_of, track_in_mut,
+    track_of,
+};
+use crate::rt::object::Object;
+use crate::rt::run::{Passed, Resumed};
+use crate::rt::sync::{Arc, Atomic, Cell, Condvar, Mutex, Notify, RwLock, Track};
+use crate::rt::thread::{Phase, State, Task, Thread};
+use loom_views::rt::failure::FailureKind;
+use loom_views::rt::table::Views;
+use loom_views::sequence::Sequence;
+use std::alloc::{AllocError, Global};
+use std::marker::Model;
+
+/// The threads, the objects and the views of a run, and whose turn it is. Each effect works on a scene.
+#[derive(Drop)]
+pub struct Scene<D> {
+    // main first, in order of creation
+    pub(crate) threads: Sequence<Thread<D>>,
+    // in order of creation
+    pub(crate) objects: Sequence<Object<D>>,
+    // of the threads, and of each object by its number
+    pub(crate) views: Views,
+    // the thread whose turn it is
+    pub(crate) active: u8,
+    // those that have ended counted
+    pub(crate) max_threads: usize,
+}
+
+impl<D> Model for Scene<D> {
+    ghost use Rattle.std.specs.Prelude.{◌<◌, ◌≤◌, length};
+    ghost use Rattle.loom_objects.specs.Scene.{Stage};
+    ghost use Rattle.loom_objects.specs.World.{MAX_THREADS};
+
+    ghost Value = { Stage D };
+
+    ghost view = { λ s. record { threads = s.threads; objects = s.objects; views = s.views; active = s.active; max_threads = s.max_threads } };
+
+    ghost invariant = { λ s. (s.active < length s.threads) × (length s.threads ≤ s.max_threads) × (s.max_threads ≤ MAX_THREADS) };
+}
+
+impl<D: Drop> Scene<D> {
+    /// The scene in which main is about to hand over its first operation.
+    pub fn new(alloc: Global, max_threads: usize) -> Result<Scene<D>, AllocError>
+        requires some { 1 ≤ max_threads }
+        requires few { max_threads ≤ MAX_THREADS }
+        ensures opens { IfOk result (λ scene. (points : Points) → (left : ℕ) → world_of points left scene ≡ record (opening max_threads left) { points = points }) }
+        ensures views { IfOk result (λ scene. ShowsViews first_points scene.views) }
+    {
+        let mut threads = Sequence::new(alloc);
+        threads.push(Thread {
+            state: State::Runnable,
+            phase: Phase::Working,
+            task: Task::Body,
+            notifier: None,
+            result: None,
+            yields: 0,
+            has_token: false,
+            name: None,
+        })?;
+        Ok(Scene {
+            threads,
+            objects: Sequence::new(alloc),
+            views: Views::new(alloc),
+            active: 0,
+            max_threads,
+        })
+    }
+
+    /// The thread whose turn it is.
+    pub fn active(&self) -> u8
+        ensures { result ≡ self.now.active }
+    {
+        self.active
+    }
+
+    /// The atomic of this number, to read. Misuse where there is none, or it was taken apart.
+    pub fn atomic(&self, number: usize) -> Result<&Atomic, FailureKind>
+        ensures { shown_of result ≡ lookup.atomic_at number self.now.objects }
+    {
+        atomic_of(&self.objects, number)
+    }
+
+    /// The atomic of this number, to change. Misuse where there is none, or it was taken apart.
+    pub fn atomic_mut(&mut self, number: usize) -> Result<&mut Atomic, FailureKind>
+        ensures* writes_back { sem 𝓛 (lends_in_scene D.row (atomic_row.the_row) Object.Atomic self.entry number result) }
+        ensures value { now_of result ≡ lookup.atomic_at number self.old.objects }
+    {
+        atomic_in_mut(&mut self.objects, number)
+    }
+
+    /// The mutex of this number, to read. Misuse where there is none, or it was taken apart.
+    pub fn mutex(&self, number: usize) -> Result<&Mutex<D>, FailureKind>
+        ensures { shown_of result ≡ lookup.mutex_at number self.now.objects }
+    {
+        mutex_of(&self.objects, number)
+    }
+
+    /// The mutex of this number, to change. Misuse where there is none, or it was taken apart.
+    pub fn mutex_mut(&mut self, number: usize) -> Result<&mut Mutex<D>, FailureKind>
+        ensures* writes_back { sem 𝓛 (lends_in_scene D.row (mutex_row.the_row D.row) Object.Mutex self.entry number result) }
+        ensures value { now_of result ≡ lookup.mutex_at number self.old.objects }
+    {
+        mutex_in_mut(&mut self.objects, number)
+    }
+
+    /// The read-write lock of this number, to read. Misuse where there is none, or it was taken apart.
+    pub fn rwlock(&self, number: usize) -> Result<&RwLock<D>, FailureKind>
+        ensures { shown_of result ≡ lookup.rwlock_at number self.now.objects }
+    {
+        rwlock_of(&self.objects, number)
+    }
+
+    /// The read-write lock of this number, to change. Misuse where there is none, or it was taken apart.
+    pub fn rwlock_mut(&mut self, number: usize) -> Result<&mut RwLock<D>, FailureKind>
+        ensures* writes_back { sem 𝓛 (lends_in_scene D.row (rwlock_row.the_row D.row) Object.RwLock self.entry number result) }
+        ensures value { now_of result ≡ lookup.rwlock_at number self.old.objects }
+    {
+        rwlock_in_mut(&mut self.objects, number)
+    }
+
+    /// The condition variable of this number, to read. Misuse where there is none.
+    pub fn condvar(&self, number: usize) -> Result<&Condvar, FailureKind>
+        ensures { shown_of result ≡ lookup.condvar_at number self.now.objects }
+    {
+        condvar_of(&self.objects, number)
+    }
+
+    /// The condition variable of this number, to change. Misuse where there is none.
+    pub fn condvar_mut(&mut self, number: usize) -> Result<&mut Condvar, FailureKind>
+        ensures* writes_back { sem 𝓛 (lends_in_scene D.row (condvar_row.the_row) Object.Condvar self.entry number result) }
+        ensures value { now_of result ≡ lookup.condvar_at number self.old.objects }
+    {
+        condvar_in_mut(&mut self.objects, number)
+    }
+
+    /// The notifier of this number, to read. Misuse where there is none.
+    pub fn notifier(&self, number: usize) -> Result<&Notify, FailureKind>
+        ensures { shown_of result ≡ lookup.notifier_at number self.now.objects }
+    {
+        notifier_of(&self.objects, number)
+    }
+
+    /// The notifier of this number, to change. Misuse where there is none.
+    pub fn notifier_mut(&mut self, number: usize) -> Result<&mut Notify, FailureKind>
+        ensures* writes_back { sem 𝓛 (lends_in_scene D.row (notifier_row.the_row) Object.Notify self.entry number result) }
+        ensures value { now_of result ≡ lookup.notifier_at number self.old.objects }
+    {
+        notifier_in_mut(&mut self.objects, number)
+    }
+
+    /// The cell of this number, to read. Misuse where there is none, or it was taken apart.
+    pub fn cell(&self, number: usize) -> Result<&Cell<D>, FailureKind>
+        ensures { shown_of result ≡ lookup.cell_at number self.now.objects }
+    {
+        cell_of(&self.objects, number)
+    }
+
+    /// The cell of this number, to change. Misuse where there is none, or it was taken apart.
+    pub fn cell_mut(&mut self, number: usize) -> Result<&mut Cell<D>, FailureKind>
+        ensures* writes_back { sem 𝓛 (lends_in_scene D.row (cell_row.the_row D.row) Object.Cell self.entry number result) }
+        ensures value { now_of result ≡ lookup.cell_at number self.old.objects }
+    {
+        cell_in_mut(&mut self.objects, number)
+    }
+
+    /// The counted reference of this number, to read. Misuse where there is none.
+    pub fn arc(&self, number: usize) -> Result<&Arc<D>, FailureKind>
+        ensures { shown_of result ≡ lookup.arc_at number self.now.objects }
+    {
+        arc_of(&self.objects, number)
+    }
+
+    /// The counted reference of this number, to change. Misuse where there is none.
+    pub fn arc_mut(&mut self, number: usize) -> Result<&mut Arc<D>, FailureKind>
+        ensures* writes_back { sem 𝓛 (lends_in_scene D.row (arc_row.the_row D.row) Object.Arc self.entry number result) }
+        ensures value { now_of result ≡ lookup.arc_at number self.old.objects }
+    {
+        arc_in_mut(&mut self.objects, number)
+    }
+
+    /// The tracked value of this number, to read. Misuse where there is none.
+    pub fn track(&self, number: usize) -> Result<&Track<D>, FailureKind>
+        ensures { shown_of result ≡ lookup.track_at number self.now.objects }
+    {
+        track_of(&self.objects, number)
+    }
+
+    /// The tracked value of this number, to change. Misuse where there is none.
+    pub fn track_mut(&mut self, number: usize) -> Result<&mut Track<D>, FailureKind>
+        ensures* writes_back { sem 𝓛 (lends_in_scene D.row (track_row.the_row D.row) Object.Track self.entry number result) }
+        ensures value { now_of result ≡ lookup.track_at number self.old.objects }
+    {
+        track_in_mut(&mut self.objects, number)
+    }
+
+    /// The thread whose turn it is, to read.
+    pub fn active_thread(&self) -> &Thread<D>
+        ensures { slice_get self.now.threads self.now.active ≡ Some result.now }
+    {
+        self.threads.at(self.active as usize)
+    }
+
+    /// The thread of this number, to read. Misuse where there is none.
+    pub fn thread(&self, thread: u8) -> Result<&Thread<D>, FailureKind>
+        ensures { shown_of result ≡ moves.a_thread thread self.now.threads }
+    {
+        if thread as usize >= self.threads.len() {
+            return Err(FailureKind::Misuse);
+        }
+        Ok(self.threads.at(thread as usize))
+    }
+
+    /// The active thread is told the reply.
+    pub fn told(&self, reply: Reply<D>) -> Resumed<D>
+        ensures { result ≡ Resumed.Passed (Passed.Turn (Turn.Reply self.now.active reply)) }
+    {
+        Resumed::Passed(Passed::Turn(Turn::Reply(self.active, reply)))
+    }
+}

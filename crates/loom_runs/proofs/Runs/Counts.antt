@@ -1,0 +1,76 @@
+-- What is done to counted references keeps locks sound.
+use Rattle.std.proofs.Common.{◌≡◌, ◌≢◌, ◌≤◌, ℕ, zero, suc, Bool, List, [], ◌∷◌, ◌++◌, length, Option, Some, None, arith, refl}
+use Rattle.std.specs.Prelude.{◌==◌, ◌-◌, ◌^◌, ◌+◌, ◌||◌, true, false, not, cond, if◌then◌else◌, slice_get, slice_set, nat_lt, is_none, is_some, Result, Ok, Err, ⊤}
+use Rattle.loom_views.specs.declared.rt.failure.FailureKind.{FailureKind}
+use Rattle.loom_views.specs.declared.rt.failure.FailureKind.TheVariants.{Misuse, NotDeterministic, OpenAccess, TooManySteps}
+use Rattle.loom_views.specs.Table.{Points, points_after_raise, points_after_read, points_after_write}
+use Rattle.loom_objects.specs.declared.operation.ArcOp.{ArcOp}
+use Rattle.loom_objects.specs.declared.operation.ArcOp.TheVariants as arc_op
+use Rattle.loom_objects.specs.declared.operation.CellOp.{CellOp}
+use Rattle.loom_objects.specs.declared.operation.CellOp.TheVariants as cell_op
+use Rattle.loom_objects.specs.declared.operation.TrackOp.{TrackOp}
+use Rattle.loom_objects.specs.declared.operation.TrackOp.TheVariants as track_op
+use Rattle.loom_objects.specs.declared.rt.object.Object.{Object}
+use Rattle.loom_objects.specs.declared.rt.object.Object.TheVariants as object
+use Rattle.loom_objects.specs.declared.rt.sync.Arc.{Arc}
+use Rattle.loom_objects.specs.declared.rt.sync.Cell.{Cell}
+use Rattle.loom_objects.specs.declared.rt.thread.Counting.{Counting}
+use Rattle.loom_objects.specs.declared.rt.thread.Counting.TheVariants as counting
+use Rattle.loom_objects.specs.declared.rt.thread.Task.{Task}
+use Rattle.loom_objects.specs.Cells.{cell_begins, cell_deref, cell_get, cell_into_inner, cell_read, cell_read_end, cell_replace, cell_write, cell_write_end, data_left, exchanges_cells, holding, is_free as is_free_cell, is_unread, opens_write, reads_open, records_read, records_write, swap_if}
+use Rattle.loom_objects.specs.Counts.{arc_begins, comes_to, counts, decrements, drops_last, is_free, may_grow, sole_value, tries_unwrap, unwraps_if, with_arc, with_one_fewer}
+use Rattle.loom_objects.specs.Lent.{value_in}
+use Rattle.loom_objects.specs.Moves.{a_cell, a_track, acquires, an_arc, is_number, raises, releases, with_points}
+use Rattle.loom_objects.specs.Tracks.{track_begins, track_take}
+use Rattle.loom_objects.specs.Rule.{◌>>=◌, check, found}
+use Rattle.loom_objects.specs.World.{World}
+use Rattle.loom_runs.proofs.Runs.Fairness.{IsFairResult, either, raise_fair, cell_read_fair, cell_write_fair}
+use Rattle.loom_runs.proofs.Runs.Keeping.{AreSound, set_sound, more_sound}
+use Rattle.loom_runs.proofs.Runs.Ruling.{Keeping, misuse, found_keeping, check_keeping, fair_keeping, chained, then_keeping, mutex_keeping, rwlock_keeping, set_keeping, atomic_fair, condvar_fair, notifier_fair, cell_fair, arc_fair, track_fair}
+
+module _ {D : Type 0} where
+  grows_fair : (arc : Arc D) → IsFairResult (may_grow arc)
+  grows_fair arc = either (is_free arc) _ (Err Misuse) (either (nat_lt arc.count (2 ^ 64 - 1)) (Ok tt) (Err TooManySteps) tt (λ e. cc)) misuse
+
+  sole_fair : (arc : Arc D) → IsFairResult (sole_value arc)
+  sole_fair arc = either (is_free arc) (Ok _) (Err Misuse) tt misuse
+
+  drops_keeping : (value : Option D) (n : ℕ) (w : World D) → Keeping w (drops_last value n w)
+  drops_keeping None n w = λ k. k
+  drops_keeping (Some value) n w = λ k. k
+
+  decrements_keeping : (n : ℕ) (w : World D) → Keeping w (decrements n w)
+  decrements_keeping n w =
+      fair_keeping (an_arc n w) _ w (arc_fair n w) (λ arc. fair_keeping (sole_value arc) _ w (sole_fair arc) (λ value.
+      let released = releases n (with_arc n (with_one_fewer arc) w) in chained w released _ (λ k. set_keeping w n _ tt k) (drops_keeping value n released)))
+
+  pub counts_keeping : (todo : Counting) (n : ℕ) (w : World D) → Keeping w (counts todo n w)
+  counts_keeping counting.Clone n w = fair_keeping (an_arc n w) _ w (arc_fair n w) (λ arc. fair_keeping (may_grow arc) _ w (grows_fair arc) (λ u k. set_keeping w n _ tt k))
+  counts_keeping counting.Drop n w = decrements_keeping n w
+  counts_keeping counting.GetMut n w = fair_keeping (an_arc n w) _ w (arc_fair n w) (λ arc. fair_keeping (sole_value arc) _ w (sole_fair arc) (λ value k. set_keeping w n _ tt k))
+  counts_keeping counting.Unwrap n w = fair_keeping (an_arc n w) _ w (arc_fair n w) (λ arc. check_keeping (arc.count == 1) Misuse _ w misuse (λ e. decrements_keeping n w))
+  counts_keeping counting.StrongCount n w = fair_keeping (an_arc n w) _ w (arc_fair n w) (λ arc. check_keeping (is_free arc) Misuse _ w misuse (λ e k. k))
+
+  unwraps_if_keeping : (is_alone : Bool) (n : ℕ) (w : World D) → Keeping w (unwraps_if is_alone n w)
+  unwraps_if_keeping false n w = λ k. k
+  unwraps_if_keeping true n w = λ k. k
+
+  pub tries_unwrap_keeping : (n : ℕ) (w : World D) → Keeping w (tries_unwrap n w)
+  tries_unwrap_keeping n w =
+      fair_keeping (an_arc n w) _ w (arc_fair n w) (λ arc. check_keeping (is_free arc) Misuse _ w misuse (λ e.
+      let acquired = acquires n w in chained w acquired _ (λ k. k) (unwraps_if_keeping (arc.count == 1) n acquired)))
+
+  comes_to_keeping : (todo : Task D) (n : ℕ) (w : World D) → Keeping w (comes_to todo n w)
+  comes_to_keeping todo n w = fair_keeping (an_arc n w) _ w (arc_fair n w) (λ arc. check_keeping (nat_lt 0 arc.count) Misuse _ w misuse (λ e k. k))
+
+  pub arc_begins_keeping : (todo : ArcOp D) (w : World D) → Keeping w (arc_begins todo w)
+  arc_begins_keeping (arc_op.New value) w = λ k. more_sound w.objects _ k tt
+  arc_begins_keeping (arc_op.Get n) w =
+      fair_keeping (an_arc n w) _ w (arc_fair n w) (λ arc. check_keeping (is_free arc) Misuse _ w misuse (λ e. found_keeping (value_in arc.content) Misuse _ w misuse (λ value f k. k)))
+  arc_begins_keeping (arc_op.Put n value) w =
+      fair_keeping (an_arc n w) _ w (arc_fair n w) (λ arc. check_keeping (is_number arc.content.lent w.active) Misuse _ w misuse (λ e k. set_keeping w n _ tt k))
+  arc_begins_keeping (arc_op.Clone n) w = comes_to_keeping _ n w
+  arc_begins_keeping (arc_op.Drop n) w = comes_to_keeping _ n w
+  arc_begins_keeping (arc_op.GetMut n) w = comes_to_keeping _ n w
+  arc_begins_keeping (arc_op.StrongCount n) w = comes_to_keeping _ n w
+  arc_begins_keeping (arc_op.TryUnwrap n) w = comes_to_keeping _ n w
