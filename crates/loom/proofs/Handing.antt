@@ -24,15 +24,15 @@ use Rattle.loom_walks.specs.Trees.Marks.{marking}
 use Rattle.loom_walks.proofs.Trees.Binding.{drive_then, drive_fails}
 use Rattle.loom.specs.Ending.{Outcome, IsUnderWay, ComesToTurn}
 
-pub slice_get-is : {A : Type 0} (xs : List A) (i : ℕ) (x : A) → i < length xs → x ≡ get_or xs i x → slice_get xs i ≡ Some x
-slice_get-is [] i x l e = absurd (omega arith)
-slice_get-is (y ∷ ys) zero x l e = ap Some (sym e)
-slice_get-is (y ∷ ys) (suc i) x l e = slice_get-is ys i x (omega arith) e
+pub slice_get_is : {A : Type 0} (xs : List A) (i : ℕ) (x : A) → i < length xs → x ≡ get_or xs i x → slice_get xs i ≡ Some x
+slice_get_is [] i x l e = absurd (omega arith)
+slice_get_is (y ∷ ys) zero x l e = ap Some (sym e)
+slice_get_is (y ∷ ys) (suc i) x l e = slice_get_is ys i x (omega arith) e
 
-slice_get-past : {A : Type 0} (xs : List A) (i : ℕ) → length xs ≤ i → slice_get xs i ≡ None
-slice_get-past [] i p = refl
-slice_get-past (x ∷ xs) zero p = absurd (omega arith)
-slice_get-past (x ∷ xs) (suc i) p = slice_get-past xs i (omega arith)
+slice_get_past : {A : Type 0} (xs : List A) (i : ℕ) → length xs ≤ i → slice_get xs i ≡ None
+slice_get_past [] i p = refl
+slice_get_past (x ∷ xs) zero p = absurd (omega arith)
+slice_get_past (x ∷ xs) (suc i) p = slice_get_past xs i (omega arith)
 
 module _ {D S : Type 0} (next : Meaning D S) where
   opened : (left : ℕ) (bodies : List S) (w : World D) (thread : ℕ) (answer : Reply D) (body : S) (stepped : S × Op D S)
@@ -47,7 +47,7 @@ module _ {D S : Type 0} (next : Meaning D S) where
       → drives (play next (suc left) bodies w thread answer) path ≡ (Err Misuse, trail path)
   unfolding play
   nobody left bodies w thread answer path past =
-      ap (λ o. drives (found o Misuse >>= (λ b. handed (play next left) bodies w thread (next b answer))) path) (slice_get-past bodies thread past)
+      ap (λ o. drives (found o Misuse >>= (λ b. handed (play next left) bodies w thread (next b answer))) path) (slice_get_past bodies thread past)
 
   module _ (outcome : Outcome D) where
     -- a thread that has no body
@@ -65,7 +65,7 @@ module _ {D S : Type 0} (next : Meaning D S) where
         → IsHanded bodies thread answer body after op → (z : IsUnderWay next outcome bodies run path thread answer)
         → drives (handed (play next z.world.steps_left) bodies z.world thread (after, op)) path ≡ outcome
     left_is bodies run path thread answer body after op h z =
-        ap (λ t. drives t path) (sym (opened z.world.steps_left bodies z.world thread answer body (after, op) (slice_get-is bodies thread body h.within h.at) h.step))
+        ap (λ t. drives t path) (sym (opened z.world.steps_left bodies z.world thread answer body (after, op) (slice_get_is bodies thread body h.within h.at) h.step))
         ∙ z.left
 
     -- the operation stops the run

@@ -4,6 +4,7 @@
 use Rattle.std.specs.Prelude.{◌≡◌, ◌≢◌, ◌-◌, ◌^◌, ℕ, List, [], ◌∷◌, ◌++◌, Some, None, Result, Ok, Err, length, ◌↔◌}
 use Rattle.loom_views.specs.declared.rt.failure.FailureKind.{FailureKind}
 use Rattle.loom_views.specs.declared.rt.failure.FailureKind.TheVariants.{NotDeterministic}
+use Rattle.loom_views.specs.Limits.{highest_count}
 use Rattle.loom_objects.specs.declared.choice.Choice.{Choice}
 use Rattle.loom_objects.specs.Tree.{Tree}
 use Rattle.loom_walks.specs.Walk.Machine.{Machine, run}
@@ -78,7 +79,7 @@ module _ {V D : Type 0} (takes : V → List Choice → D → V → Type 0) (old 
     -- What a report says of the runs of a body, which are this tree, and of what the visitor was given.
     abbrev pub Reports : Report → Type 0
     Reports (Complete count) = (runs : List (List Choice × D)) × WasGiven runs count × IsCompleteReport max_branches tree runs
-    Reports (Stopped count limit) = (runs : List (List Choice × D)) × WasGiven runs count × IsStoppedReport max_branches tree runs × (count ≡ 2 ^ 64 - 1)
+    Reports (Stopped count limit) = (runs : List (List Choice × D)) × WasGiven runs count × IsStoppedReport max_branches tree runs × (count ≡ highest_count)
     Reports (Failed count failure choices) = (runs : List (List Choice × D)) × WasGiven runs count × IsFailedReport max_branches tree runs failure.kind choices.items
 
 -- what a report says where nobody is given the runs

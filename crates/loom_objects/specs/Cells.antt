@@ -4,6 +4,7 @@ use Rattle.std.specs.List.{list_all}
 use Rattle.loom_views.specs.Table.{points_with_cell, points_after_read, points_after_write}
 use Rattle.loom_views.specs.declared.rt.failure.FailureKind.{FailureKind}
 use Rattle.loom_views.specs.declared.rt.failure.FailureKind.TheVariants.{Misuse, OpenAccess, TooManySteps}
+use Rattle.loom_views.specs.Limits.{highest_count}
 use Rattle.loom_objects.specs.declared.operation.CellOp.{CellOp}
 use Rattle.loom_objects.specs.declared.operation.CellOp.TheVariants.{New, Read, ReadEnd, Deref, Write, WriteEnd, IntoInner, Get, Replace, Swap}
 use Rattle.loom_objects.specs.declared.operation.Reply.TheVariants as reply
@@ -79,7 +80,7 @@ module _ {D : Type 0} where
     _ ← check (is_none cell.content.lent) OpenAccess
     read ← records_read n raised
     value ← found (value_in cell.content) Misuse
-    _ ← check (nat_lt (reads_open w.active cell) (2 ^ 64 - 1)) TooManySteps
+    _ ← check (nat_lt (reads_open w.active cell) highest_count) TooManySteps
     Ok (Answered (reply.Reading n value), with_cell n (with_reads w.active (reads_open w.active cell + 1) cell) read)
 
   -- a read of the thread ends

@@ -2,6 +2,7 @@
 use Rattle.std.specs.Prelude.{ℕ, ◌+◌, ◌-◌, ◌^◌, ◌==◌, ◌&&◌, Bool, true, false, nat_lt, cond, if◌then◌else◌, length, is_none, Option, Some, None, Result, Ok, Err, ⊤}
 use Rattle.loom_views.specs.declared.rt.failure.FailureKind.{FailureKind}
 use Rattle.loom_views.specs.declared.rt.failure.FailureKind.TheVariants.{Misuse, TooManySteps}
+use Rattle.loom_views.specs.Limits.{highest_count}
 use Rattle.loom_objects.specs.declared.operation.ArcOp.{ArcOp}
 use Rattle.loom_objects.specs.declared.operation.ArcOp.TheVariants.{New, Clone, Drop, Get, GetMut, Put, TryUnwrap, StrongCount}
 use Rattle.loom_objects.specs.declared.operation.Reply.{Reply}
@@ -29,7 +30,7 @@ module _ {D : Type 0} where
 
   -- a run ends before there are 2^64 references, since each is an operation
   abbrev pub may_grow : Arc D → Result ⊤ FailureKind
-  may_grow arc = if is_free arc then (if nat_lt arc.count (2 ^ 64 - 1) then Ok tt else Err TooManySteps) else Err Misuse
+  may_grow arc = if is_free arc then (if nat_lt arc.count highest_count then Ok tt else Err TooManySteps) else Err Misuse
 
   -- the value, if there is one reference alone
   abbrev pub sole_value : Arc D → Result (Option D) FailureKind

@@ -64,7 +64,7 @@ module _ {D : Type 0} where
     _ ← check (is_none mutex.content.lent) Misuse
     locks_unless (is_some mutex.holder) n w
 
-  -- only its holder gives it free, with its data, and releases; who is pending on it is woken
+  -- only its holder frees it, with its data, and releases; who is pending on it is woken
   abbrev pub frees : ℕ → D → World D → Result (⊤ × World D) FailureKind
   frees n value w = do
     mutex ← a_mutex n w

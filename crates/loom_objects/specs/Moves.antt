@@ -4,6 +4,7 @@ use Rattle.std.specs.declared.sync.atomic.Ordering.TheVariants.{Release}
 use Rattle.loom_views.specs.declared.rt.failure.FailureKind.{FailureKind}
 use Rattle.loom_views.specs.declared.rt.failure.FailureKind.TheVariants.{Misuse, TooManySteps}
 use Rattle.loom_views.specs.Table.{Points, points_after_raise, points_after_acquire, points_after_release, points_after_join, points_after_yield, points_with_point}
+use Rattle.loom_views.specs.Limits.{highest_count}
 use Rattle.loom_objects.specs.declared.rt.object.Object.{Object}
 use Rattle.loom_objects.specs.declared.rt.sync.Arc.{Arc}
 use Rattle.loom_objects.specs.declared.rt.sync.Atomic.{Atomic}
@@ -265,5 +266,5 @@ module _ {D : Type 0} where
   abbrev pub yields : Task D → World D → Result (⊤ × World D) FailureKind
   yields todo w = do
     thread ← active_thread w
-    _ ← check (nat_lt thread.yields (2 ^ 64 - 1)) TooManySteps
+    _ ← check (nat_lt thread.yields highest_count) TooManySteps
     Ok (tt, with_points (points_after_yield w.points w.active) (changes_active (yielded todo) w))

@@ -3,6 +3,7 @@ use Rattle.std.specs.Prelude.{ℕ, List, ◌+◌, ◌-◌, ◌^◌, ◌&&◌, �
 use Rattle.std.specs.List.{list_all}
 use Rattle.loom_views.specs.declared.rt.failure.FailureKind.{FailureKind}
 use Rattle.loom_views.specs.declared.rt.failure.FailureKind.TheVariants.{Misuse, TooManySteps}
+use Rattle.loom_views.specs.Limits.{highest_count}
 use Rattle.loom_objects.specs.declared.operation.RwLockOp.{RwLockOp}
 use Rattle.loom_objects.specs.declared.operation.RwLockOp.TheVariants as lock_op
 use Rattle.loom_objects.specs.declared.operation.Reply.{Reply}
@@ -87,7 +88,7 @@ module _ {D : Type 0} where
   abbrev pub reads_lock : ℕ → RwLock D → World D → Result (Reply D × World D) FailureKind
   reads_lock n lock w = do
     value ← found (value_in lock.content) Misuse
-    _ ← check (nat_lt (guards_of w.active lock) (2 ^ 64 - 1)) TooManySteps
+    _ ← check (nat_lt (guards_of w.active lock) highest_count) TooManySteps
     Ok (reply.ReadLocked n value, blocks_writers n (acquires n (with_rwlock n (with_guards w.active (guards_of w.active lock + 1) lock) w)))
 
   -- the thread acquires and has the data; who is pending on the lock is blocked
@@ -137,7 +138,7 @@ module _ {D : Type 0} where
     let left = with_one_fewer w.active lock
     Ok (Answered reply.Done, wakes_if (is_unread left) n (releases n (with_rwlock n left w)))
 
-  -- only its writer gives it free, with its data, and releases; who is pending on it is woken
+  -- only its writer frees it, with its data, and releases; who is pending on it is woken
   abbrev pub write_release : ℕ → D → World D → Result (Entry D × World D) FailureKind
   write_release n value w = do
     lock ← a_rwlock n w

@@ -24,7 +24,7 @@ pub enum Op<D, S> {
     Thread(ThreadOp<D, S>, Option<Location>),
     /// The body's own assertion failed.
     Fail(Option<Location>),
-    /// Code was reached that never is.
+    /// Code was reached that is never to be.
     Unreachable(Option<Location>),
 }
 

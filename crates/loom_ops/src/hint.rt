@@ -12,7 +12,7 @@ pub fn spin_loop<D, S>() -> Op<D, S>
     thread::yield_now()
 }
 
-/// Code was reached that never is, which ends the run as `Unreachable` (loom's `hint.rs`).
+/// Code was reached that is never to be, which ends the run as `Unreachable` (loom's `hint.rs`).
 pub fn unreachable_unchecked<D, S>() -> Op<D, S>
     ensures { result ≡ Op.Unreachable None }
 {

@@ -13,6 +13,7 @@ use Rattle.loom_views.specs.Slots.{slots, is_left_out, number_in_slot, readable_
 use Rattle.loom_views.specs.Untouched.{untouched}
 use Rattle.loom_views.specs.Orderings.{is_seq_cst}
 use Rattle.loom_views.specs.Threads.{ThreadPoints, graph_after_load, thread_after_load, graph_after_store}
+use Rattle.loom_views.specs.Limits.{most_stores}
 
 -- a store: its order point, its synchronization point, and for each thread its present point when it first touched the store
 pub record StorePoints : Type 0 where
@@ -194,7 +195,7 @@ load_step t s slot order =
 
 -- there is no room for another store
 abbrev pub with_room : Scene → Result Answer FailureKind → Result Answer FailureKind
-with_room s made = if nat_lt (length s.history.stores) 65535 then made else Err TooManyStores
+with_room s made = if nat_lt (length s.history.stores) most_stores then made else Err TooManyStores
 
 -- a store, once the thread has raised
 abbrev pub store_step : ℕ → Scene → ℕ → Ordering → Result Answer FailureKind

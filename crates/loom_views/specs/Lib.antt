@@ -1,4 +1,5 @@
 pub mod Failures
+pub mod Limits
 pub mod Lends
 pub mod Graph
 pub mod Versions

@@ -15,6 +15,7 @@ use Rattle.loom_views.specs.Graph.{threads}
 use Rattle.loom_views.specs.Versions.{join_all, join, within, zeros}
 use Rattle.loom_views.specs.Slots.{slots, is_left_out, readable_slots, has_equal_orders}
 use Rattle.loom_views.specs.Orderings.{is_acquire, is_release, is_seq_cst}
+use Rattle.loom_views.specs.Limits.{most_stores}
 
 -- a kept version, if there is one, isn't above a view's
 abbrev pub is_version_seen : Option ℕ → ℕ → Bool
@@ -150,7 +151,7 @@ load_now state t views slot order = load_passed t views slot order (load_tracked
 
 -- a store
 abbrev pub with_room_now : State → Result Accessed FailureKind → Result Accessed FailureKind
-with_room_now state made = if nat_lt state.count 65535 then made else Err TooManyStores
+with_room_now state made = if nat_lt state.count most_stores then made else Err TooManyStores
 
 -- a store whose tests have passed
 abbrev pub store_passed : ℕ → ThreadViews → ℕ → Ordering → Result State FailureKind → Result Accessed FailureKind

@@ -16,6 +16,7 @@ use Rattle.loom_views.specs.Atomic.{History, StorePoints, Scene, Answer, readabl
 use Rattle.loom_views.specs.Fences.{after_stores, kept_stores}
 use Rattle.loom_views.specs.Cells.{Accesses, new_accesses, read_step, write_step, ShowsAccesses}
 use Rattle.loom_views.specs.Shown.{ShowsState}
+use Rattle.loom_views.specs.Limits.{highest_version}
 pub use Rattle.loom_views.specs.Slots.{has_slot, slot_set}
 
 -- what an object has: the number of the point at which threads synchronize, the history of an atomic, or the accesses of a cell
@@ -50,7 +51,7 @@ with_new_place p g place = record p { graph = g; places = p.places ++ place ∷ 
 -- thread t raises its version, at most 65,534 times
 abbrev pub raise_by : Points → ℕ → Option ThreadPoints → Result Points FailureKind
 raise_by p t None = Err Misuse
-raise_by p t (Some own) = if nat_lt (length (raised p.graph t)) 65534 then Ok (with_thread p t (graph_after_raise p.graph own t) (with_present p.graph own)) else Err TooManyVersions
+raise_by p t (Some own) = if nat_lt (length (raised p.graph t)) highest_version then Ok (with_thread p t (graph_after_raise p.graph own t) (with_present p.graph own)) else Err TooManyVersions
 
 abbrev pub points_after_raise : Points → ℕ → Result Points FailureKind
 points_after_raise p t = raise_by p t (slice_get p.threads t)
@@ -102,7 +103,7 @@ abbrev pub spawn_by : Points → ℕ → Option ThreadPoints → Result Points F
 spawn_by p t None = Err Misuse
 spawn_by p t (Some own) =
     if nat_le 5 (length p.threads) then Err TooManyThreads
-    else (if nat_lt (length (raised p.graph t)) 65534
+    else (if nat_lt (length (raised p.graph t)) highest_version
     then Ok (record p { graph = graph_after_spawn p.graph own t (length p.threads); threads = slice_set p.threads t (parent_points p.graph own) ++ child_points p.graph ∷ [] })
     else Err TooManyVersions)
 

@@ -2,6 +2,7 @@
 use Rattle.std.specs.Prelude.{ℕ, IsTrue, ◌≤◌, ◌+◌, ◌<◌, Bool, true, false, ◌&&◌, max, if◌then◌else◌, List, [], ◌∷◌, slice_index, slice_set, nat_le, Option, Some, None}
 use Rattle.std.specs.declared.cmp.Ordering.{Ordering}
 use Rattle.std.specs.declared.cmp.Ordering.TheVariants.{Less, Equal, Greater}
+use Rattle.loom_views.specs.Limits.{highest_version}
 
 -- no version raised
 abbrev pub zeros : List ℕ
@@ -9,7 +10,7 @@ zeros = 0 ∷ 0 ∷ 0 ∷ 0 ∷ 0 ∷ []
 
 -- no count is above the most that a vector counts
 abbrev pub IsCounted : List ℕ → Type 0
-IsCounted vs = (t : ℕ) → slice_index vs t ≤ 65534
+IsCounted vs = (t : ℕ) → slice_index vs t ≤ highest_version
 
 -- the larger version of each thread
 abbrev pub join : List ℕ → List ℕ → List ℕ

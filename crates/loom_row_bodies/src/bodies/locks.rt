@@ -253,5 +253,5 @@ pub static NAMED_CHILD: [Step; 8] = [
     END,
 ];
 
-/// Main reaches a place that never is reached.
+/// Main comes to code that is never to be reached.
 pub static UNREACHABLE: [Step; 1] = [Step::Do(0, Op::Unreachable(None))];

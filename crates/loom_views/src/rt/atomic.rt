@@ -6,6 +6,7 @@
 
 ghost use Rattle.std.specs.Prelude.{◌≡◌, ℕ, ◌+◌, ◌<◌, ◌≤◌, ◌==◌, ◌&&◌, not, min, IsTrue, None, slice_index_or, false, MatchResult, OnErr, Ok, Err, length};
 ghost use Rattle.std.specs.List.{list_any};
+ghost use Rattle.loom_views.specs.Limits.{most_stores};
 ghost use Rattle.loom_views.specs.Versions.{join, join_all};
 ghost use Rattle.loom_views.specs.Untouched.{untouched};
 ghost use Rattle.loom_views.specs.declared.rt.failure.FailureKind.TheVariants.{OrdersEqual, TooManyStores};
@@ -267,7 +268,7 @@ impl State {
         order: Ordering,
     )
         requires thread_in { thread < 5 }
-        requires room { self.old.count < 65535 }
+        requires room { self.old.count < most_stores }
         ensures { self.new ≡ state_made self.old thread views.now sync value order }
     {
         let mut sync = sync;
@@ -295,8 +296,8 @@ impl State {
         order: Ordering,
     ) -> Result<(), FailureKind>
         requires { thread < 5 }
-        ensures made { MatchResult result (λ _. (self.old.count < 65535) × (self.new ≡ state_made self.old thread views.now sync value order))
-            (λ kind. (self.old.count ≡ 65535) × (kind ≡ TooManyStores)) }
+        ensures made { MatchResult result (λ _. (self.old.count < most_stores) × (self.new ≡ state_made self.old thread views.now sync value order))
+            (λ kind. (self.old.count ≡ most_stores) × (kind ≡ TooManyStores)) }
         ensures err { OnErr result (self.new ≡ self.old) }
     {
         if self.count == u16::MAX {

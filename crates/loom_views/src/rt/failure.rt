@@ -34,7 +34,7 @@ pub enum FailureKind {
     OrdersEqual = 13,
     #[error("an operation was misused")]
     Misuse = 14,
-    #[error("a place was reached that never is")]
+    #[error("code was reached that is never to be")]
     Unreachable = 15,
     #[error("a fence with relaxed ordering")]
     RelaxedFence = 16,

@@ -2,6 +2,7 @@
 
 ghost use Rattle.std.specs.Prelude.{◌≡◌, ℕ, ◌<◌, ◌≤◌, ◌↔◌, ◌⊎◌, false, if◌then◌else◌, None, [], length, slice_index};
 ghost use Rattle.std.specs.Option.{IsNone, IfSome};
+ghost use Rattle.loom_views.specs.Limits.{highest_version};
 ghost use Rattle.loom_views.specs.Graph.{Graph, IsChained, IsPresent, Shows, raised};
 ghost use Rattle.loom_views.specs.Threads.{ThreadPoints, ShowsThread, with_present, graph_after_raise, graph_after_acquire, graph_after_release_fence, graph_after_spawn, child_points, parent_points, graph_after_load, thread_after_load, graph_after_store};
 ghost use Rattle.std.specs.Bool.{OnTrue, OnFalse};
@@ -40,14 +41,14 @@ impl ThreadViews {
     pub fn raise(&mut self, thread: usize) -> bool
         requires { thread < 5 }
         ensures raised { OnTrue result (self.new ≡ record self.old { present = raised_at self.old.present thread }) }
-        ensures full { (result ≡ false) ↔ (slice_index self.old.present thread ≡ 65534) }
+        ensures full { (result ≡ false) ↔ (slice_index self.old.present thread ≡ highest_version) }
         ensures unchanged { OnFalse result (self.new ≡ self.old) }
         ensures shown { (g : Graph) (p : ThreadPoints) → IsChained g → ShowsThread g thread p self.old →
             OnTrue result (ShowsThread (graph_after_raise g p thread) thread (with_present g p) self.new) }
         ensures room { (g : Graph) (p : ThreadPoints) → IsPresent g thread p.present → ShowsThread g thread p self.old →
-            ((result ≡ false) ↔ (length (raised g thread) ≡ 65534)) }
+            ((result ≡ false) ↔ (length (raised g thread) ≡ highest_version)) }
         ensures counted { (g : Graph) (p : ThreadPoints) → IsPresent g thread p.present → ShowsThread g thread p self.old →
-            length (raised g thread) ≤ 65534 }
+            length (raised g thread) ≤ highest_version }
     {
         self.present.inc(thread)
     }
@@ -75,13 +76,13 @@ impl ThreadViews {
     pub fn spawn(&mut self, thread: usize, child: usize) -> Option<ThreadViews>
         requires thread_in { thread < 5 }
         requires child_in { child < 5 }
-        ensures full { IsNone result ↔ ((slice_index self.old.present child ≡ 65534) ⊎ (slice_index self.old.present thread ≡ 65534)) }
+        ensures full { IsNone result ↔ ((slice_index self.old.present child ≡ highest_version) ⊎ (slice_index self.old.present thread ≡ highest_version)) }
         ensures raised { IfSome result (λ views. (views ≡ record { present = raised_at self.old.present child; released = zeros; last_yield = None }) × (self.new ≡ record self.old { present = raised_at self.old.present thread })) }
         ensures unchanged { IsNone result → self.new ≡ self.old }
         ensures room { (g : Graph) (p : ThreadPoints) → raised g child ≡ [] → IsPresent g thread p.present → ShowsThread g thread p self.old →
-            (IsNone result ↔ (length (raised g thread) ≡ 65534)) }
+            (IsNone result ↔ (length (raised g thread) ≡ highest_version)) }
         ensures counted { (g : Graph) (p : ThreadPoints) → raised g child ≡ [] → IsPresent g thread p.present → ShowsThread g thread p self.old →
-            length (raised g thread) ≤ 65534 }
+            length (raised g thread) ≤ highest_version }
         ensures shown { (g : Graph) (p : ThreadPoints) → IsChained g → raised g child ≡ [] → ShowsThread g thread p self.old →
             IfSome result (λ views. ShowsThread (graph_after_spawn g p thread child) child (child_points g) views × ShowsThread (graph_after_spawn g p thread child) thread (parent_points g p) self.new) }
     {

@@ -3,6 +3,7 @@
 
 ghost use Rattle.std.specs.Prelude.{◌≡◌, ℕ, ◌+◌, ◌<◌, ◌≤◌, ◌↔◌, false, IsTrue, slice_index, MatchOption};
 ghost use Rattle.std.specs.Bool.{OnTrue, OnFalse};
+ghost use Rattle.loom_views.specs.Limits.{highest_version};
 ghost use Rattle.loom_views.specs.Versions.{IsCounted, zeros, join, within, raised_at, versions_cmp, versions_eq, IsFirstAhead, IsLeastUpperBound};
 ghost use Rattle.loom_views.specs.VersionOrder.{versions_partial_equiv, versions_equiv, versions_order};
 
@@ -56,7 +57,7 @@ impl VersionVec {
     pub fn version(&self, thread: usize) -> u16
         requires { thread < 5 }
         ensures value { result ≡ slice_index self.now thread }
-        ensures counted { result ≤ 65534 }
+        ensures counted { result ≤ highest_version }
     {
         self.versions()[thread]
     }
@@ -66,9 +67,9 @@ impl VersionVec {
     pub fn inc(&mut self, thread: usize) -> bool
         requires { thread < 5 }
         ensures raised { OnTrue result (self.new ≡ raised_at self.old thread) }
-        ensures full { (result ≡ false) ↔ (slice_index self.old thread ≡ 65534) }
+        ensures full { (result ≡ false) ↔ (slice_index self.old thread ≡ highest_version) }
         ensures unchanged { OnFalse result (self.new ≡ self.old) }
-        ensures counted { slice_index self.old thread ≤ 65534 }
+        ensures counted { slice_index self.old thread ≤ highest_version }
     {
         if self.versions[thread] < MAX_VERSION {
             self.versions[thread] += 1;
