@@ -146,10 +146,10 @@ fn with_mut_end<D: Drop>(
 pub fn fence<D: Drop>(scene: &mut Scene<D>, order: Ordering) -> Result<Entry<D>, FailureKind>
     ensures { Does (rules.fence order) scene.old result scene.new }
 {
+    scene.raise()?;
     if is_relaxed(order) {
         return Err(FailureKind::RelaxedFence);
     }
-    scene.raise()?;
     scene.fence(order);
     Ok(Entry::Answered(Reply::Done))
 }

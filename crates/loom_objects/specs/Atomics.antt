@@ -97,11 +97,11 @@ module _ {D : Type 0} where
     stored ← points_after_with_mut_end w.points w.active n (fit atomic.numbers value)
     Ok (Answered reply.Done, with_points stored.points (with_atomic n (record atomic { opened = None }) w))
 
-  -- a fence has no branch point; none is relaxed
+  -- a fence has no branch point: its thread raises its version, whatever the ordering, and then none is relaxed
   abbrev pub fence : Ordering → World D → Result (Entry D × World D) FailureKind
   fence order w = do
-    _ ← check (not (is_relaxed order)) RelaxedFence
     raised ← raises w
+    _ ← check (not (is_relaxed order)) RelaxedFence
     Ok (Answered reply.Done, with_points (points_after_fence raised.points raised.active order) raised)
 
   -- at any other access the thread comes to a branch point

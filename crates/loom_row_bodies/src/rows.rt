@@ -67,6 +67,7 @@ fn atomic_row_of(name: &str) -> Option<Row> {
         "unsync_race" => Some(Row::new(&atomics::UNSYNC_RACE)),
         "load_in_with_mut" => Some(Row::new(&atomics::LOAD_IN_WITH_MUT)),
         "relaxed_fence" => Some(Row::new(&atomics::RELAXED_FENCE)),
+        "fences_then_relaxed" => Some(Row::new(&atomics::FENCES_THEN_RELAXED)),
         "unsync_load_forever" => {
             let mut row = Row::new(&atomics::UNSYNC_LOAD_FOREVER);
             row.builder.max_steps = 10;

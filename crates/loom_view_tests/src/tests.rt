@@ -1,6 +1,7 @@
 use loom_views::rt::atomic::Reader;
+use loom_views::rt::change::Change;
 use loom_views::rt::failure::FailureKind;
-use loom_views::rt::num::Numeric;
+use loom_views::rt::num::{Numbers, Numeric};
 use loom_views::rt::table::Views;
 use loom_views::rt::vv::VersionVec;
 use std::fmt::Debug;
@@ -245,4 +246,13 @@ fn numbers_keep_their_value(rt: HostRuntime) -> Result<(), Fail> {
     same(&rt, u64::from_u64(u64::MAX.into_u64()), u64::MAX);
     assert!(rt; bool::from_u64(true.into_u64()));
     Ok(())
+}
+
+#[test]
+fn a_change_compares_by_the_bits_of_the_type(rt: HostRuntime) {
+    same(&rt, Change::Max(256 + 3).apply(Numbers::U8, 5), 5);
+    same(&rt, Change::Max(256 + 7).apply(Numbers::U8, 5), 7);
+    same(&rt, Change::Min(256 + 3).apply(Numbers::U8, 5), 3);
+    same(&rt, Change::Max(128).apply(Numbers::I8, 5), 5);
+    same(&rt, Change::Min(2).apply(Numbers::Bool, 1), 1);
 }

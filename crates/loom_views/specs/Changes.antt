@@ -31,6 +31,14 @@ is_less of.I32 one other = int_lt (cast_signed w64 one) (cast_signed w64 other)
 is_less of.I64 one other = int_lt (cast_signed w64 one) (cast_signed w64 other)
 is_less _ one other = nat_lt one other
 
+-- the larger one of the two
+abbrev pub larger : Numbers → ℕ → ℕ → ℕ
+larger numbers one other = if is_less numbers one other then other else one
+
+-- the smaller one of the two
+abbrev pub smaller : Numbers → ℕ → ℕ → ℕ
+smaller numbers one other = if is_less numbers other one then other else one
+
 -- the number that takes the place of the one that was read
 abbrev pub changed : Numbers → Change → ℕ → ℕ
 changed numbers (Swap number) read = fit numbers number
@@ -40,5 +48,5 @@ changed numbers (And number) read = fit numbers (bit_and read number)
 changed numbers (Nand number) read = complement numbers (bit_and read number)
 changed numbers (Or number) read = fit numbers (bit_or read number)
 changed numbers (Xor number) read = fit numbers (bit_xor read number)
-changed numbers (Max number) read = if is_less numbers read number then number else read
-changed numbers (Min number) read = if is_less numbers number read then number else read
+changed numbers (Max number) read = larger numbers read (fit numbers number)
+changed numbers (Min number) read = smaller numbers read (fit numbers number)

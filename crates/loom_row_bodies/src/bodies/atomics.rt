@@ -1,6 +1,6 @@
 //! The scripts of the rows about atomics and fences.
-use loom::sync::atomic::Ordering::{Relaxed, SeqCst};
-use loom_objects::operation::{AtomicOp, Exchange, Op, ThreadOp};
+use loom::sync::atomic::Ordering::{Relaxed, Release, SeqCst};
+use loom_objects::operation::{AtomicOp, Exchange, MutexOp, Op, ThreadOp};
 use loom_scripts::step::{END, EXIT, FAIL, Step, Value};
 use loom_views::rt::change::Change::{Add, Max, Min, Nand, Xor};
 use loom_views::rt::num::Numbers;
@@ -146,6 +146,19 @@ pub static LOAD_IN_WITH_MUT: [Step; 7] = [
 
 /// Main makes a relaxed fence, which fails.
 pub static RELAXED_FENCE: [Step; 4] = [
+    Step::Do(0, Op::Fence(Relaxed, None)),
+    Step::Do(0, Op::Thread(ThreadOp::Finish(Value::Plain(0)), None)),
+    EXIT,
+    END,
+];
+
+/// Main makes as many fences as a thread may raise its version, and then a relaxed one. It counts them in a mutex.
+pub static FENCES_THEN_RELAXED: [Step; 9] = [
+    Step::Do(0, Op::Mutex(MutexOp::New(Value::Plain(0)), None)),
+    Step::Do(0, Op::Fence(Release, None)),
+    Step::Do(0, Op::Mutex(MutexOp::GetMut(0), None)),
+    Step::Do(0, Op::Mutex(MutexOp::Put(0, Value::Next(0)), None)),
+    Step::Unless(0, 65_533, 1),
     Step::Do(0, Op::Fence(Relaxed, None)),
     Step::Do(0, Op::Thread(ThreadOp::Finish(Value::Plain(0)), None)),
     EXIT,

@@ -8,7 +8,7 @@ use std::process::Abort;
 use std::test::Fail;
 
 // Each row's line and status.
-static LINES: [(&str, &str, u8); 41] = [
+static LINES: [(&str, &str, u8); 42] = [
     ("finish_only", "complete 1\n", 0),
     ("spawn_only", "complete 1\n", 0),
     ("lock_beside", "complete 3\n", 0),
@@ -26,6 +26,7 @@ static LINES: [(&str, &str, u8); 41] = [
     ("unsync_race", "failed 3 0 t0 t1\n", 1),
     ("load_in_with_mut", "failed 4 0 t0 l0\n", 1),
     ("relaxed_fence", "failed 16 0\n", 1),
+    ("fences_then_relaxed", "failed 10 0\n", 1),
     ("unsync_load_forever", "failed 12 0\n", 1),
     (
         "orders_equal",

@@ -30,7 +30,7 @@ module _ {D : Type 0} where
   access_begins_keeping access w = found_keeping (accessed access) Misuse _ w misuse (λ n e. fair_keeping (an_atomic n w) _ w (atomic_fair n w) (λ atomic k. k))
 
   pub fence_keeping : (order : Ordering) (w : World D) → Keeping w (fence order w)
-  fence_keeping order w = check_keeping (not (is_relaxed order)) RelaxedFence _ w (λ e. cc) (λ e. raises_keeping w _ (λ p k. k))
+  fence_keeping order w = raises_keeping w _ (λ p. check_keeping (not (is_relaxed order)) RelaxedFence _ (with_points p w) (λ e. cc) (λ e k. k))
 
   pub atomic_begins_keeping : (todo : AtomicOp) (w : World D) → Keeping w (atomic_begins todo w)
   atomic_begins_keeping (atomic_op.New numbers value) w = λ k. more_sound w.objects _ k tt

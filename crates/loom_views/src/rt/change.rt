@@ -1,7 +1,7 @@
 //! What read-modify-writes make of the number that they read. No call here takes memory.
 
 ghost use Rattle.std.specs.Prelude.{◌≡◌};
-ghost use Rattle.loom_views.specs.Changes.{fit, complement, is_less, changed};
+ghost use Rattle.loom_views.specs.Changes.{fit, complement, is_less, larger, smaller, changed};
 
 use crate::rt::num::{Numbers, Numeric};
 
@@ -19,9 +19,9 @@ pub enum Change {
     Nand(u64),
     Or(u64),
     Xor(u64),
-    /// The larger one, by the order of the type.
+    /// The larger one, by the order of the type; the other number is cast to the type before.
     Max(u64),
-    /// The smaller one, by the order of the type.
+    /// The smaller one, in the same way.
     Min(u64),
 }
 
@@ -64,6 +64,20 @@ impl Numbers {
             _ => one < other,
         }
     }
+
+    /// The larger one of the two, by the order of the type.
+    fn larger(self, one: u64, other: u64) -> u64
+        ensures { result ≡ larger self one other }
+    {
+        if self.is_less(one, other) { other } else { one }
+    }
+
+    /// The smaller one of the two, by the order of the type.
+    fn smaller(self, one: u64, other: u64) -> u64
+        ensures { result ≡ smaller self one other }
+    {
+        if self.is_less(other, one) { other } else { one }
+    }
 }
 
 impl Change {
@@ -79,9 +93,8 @@ impl Change {
             Change::Nand(number) => numbers.complement(read & number),
             Change::Or(number) => numbers.fit(read | number),
             Change::Xor(number) => numbers.fit(read ^ number),
-            Change::Max(number) if numbers.is_less(read, number) => number,
-            Change::Min(number) if numbers.is_less(number, read) => number,
-            Change::Max(_) | Change::Min(_) => read,
+            Change::Max(number) => numbers.larger(read, numbers.fit(number)),
+            Change::Min(number) => numbers.smaller(read, numbers.fit(number)),
         }
     }
 }
