@@ -5,6 +5,7 @@ mod litmus;
 mod locks;
 mod printed;
 mod replays;
+mod sizes;
 mod slow;
 
 use loom::model::{Builder, Report};
