@@ -2,3 +2,4 @@ pub mod Sweeping
 pub mod Rows
 pub mod SomeReadable
 pub mod Table
+pub mod Reaching

@@ -5,6 +5,7 @@
 
 ghost use Rattle.loom_view_laws.specs.Examples.{ExampleLaw};
 ghost use Rattle.loom_views.specs.Kept.{KeepingLaw, SlotsStayLaw};
+ghost use Rattle.loom_view_laws.specs.Reaching.{StayingLaw, BeginningLaw, UnreachedLaw};
 ghost use Rattle.loom_view_laws.specs.Laws.{PastLaw, ReachingLaw, CountLaw, ComparingLaw, EqualLaw, StandingLaw, ReadableLaw, OfferingLaw, LoadingLaw, UpdatingLaw, RacingLaw, FencingLaw, MovesAsAcqRel, GlobalLaw};
 
 /// That a chain of edges leads from one point to another can be found by one sweep from the newest point down (own).
@@ -75,6 +76,25 @@ pub fn reading_keeps_slots()
 /// read hasn't (own).
 pub fn accesses_out_of_view_race()
     ensures { RacingLaw }
+{}
+
+/// In a run's graph and each later one, a point that raises a version has its view inside another's just where it reaches that
+/// point (own).
+pub fn raising_points_are_known_by_reaching()
+    ensures { StayingLaw }
+{}
+
+/// Where a thread has raised, the point that this made is what is recorded of the access that it begins: of a read or write of a
+/// cell, and of a load, a store and a read-modify-write of an atomic (own).
+pub fn accesses_begin_at_raising_points()
+    ensures { BeginningLaw }
+{}
+
+/// A read of a cell is a data race just where some write of it hasn't come to the thread, and a write just where some write or
+/// read hasn't. A recorded point that raises has come to each point that it reaches, and any other to each point whose view has
+/// its own inside (own).
+pub fn accesses_race_where_unreached()
+    ensures { UnreachedLaw }
 {}
 
 /// A sequentially consistent fence brings its thread what the earlier ones left at the global point, and leaves there what has

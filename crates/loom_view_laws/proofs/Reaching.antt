@@ -1,0 +1,3 @@
+pub mod Raising
+pub mod Beginning
+pub mod Missing
