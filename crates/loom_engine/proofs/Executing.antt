@@ -1,6 +1,6 @@
 -- Schedules along a path, from what the chosen threads come to.
-use Rattle.std.proofs.Common.{◌≡◌, ℕ, zero, suc, ap, refl, sym, ◌∙◌}
-use Rattle.std.specs.Prelude.{Some, None, Result, Ok, Err}
+use Rattle.std.proofs.Common.{◌≡◌, ℕ, zero, suc, ap, refl, sym, ◌∙◌, subst}
+use Rattle.std.specs.Prelude.{Option, Some, None, Result, Ok, Err, ⊤}
 use Rattle.loom_views.specs.Table.{Points}
 use Rattle.loom_views.specs.declared.rt.failure.FailureKind.{FailureKind}
 use Rattle.loom_views.specs.declared.rt.failure.FailureKind.TheVariants.{Misuse}
@@ -8,6 +8,7 @@ use Rattle.loom_objects.specs.declared.choice.Choice.{Choice}
 use Rattle.loom_objects.specs.declared.choice.Choice.TheVariants.{Thread}
 use Rattle.loom_objects.specs.declared.failure.Stop.{Stop}
 use Rattle.loom_objects.specs.declared.failure.Stop.TheVariants.{Failure, Memory}
+use Rattle.loom_objects.specs.declared.operation.Op.{Op}
 use Rattle.loom_objects.specs.declared.operation.Turn.{Turn}
 use Rattle.loom_objects.specs.declared.rt.run.Passed.{Passed}
 use Rattle.loom_objects.specs.declared.rt.run.Passed.TheVariants as passed
@@ -20,8 +21,8 @@ use Rattle.loom_objects.specs.Shown.{Shows}
 use Rattle.loom_objects.specs.Steps.{turned, resumes}
 use Rattle.loom_objects.specs.Tree.{Tree, Fails, Asks, ◌>>=◌}
 use Rattle.loom_objects.specs.World.{World}
-use Rattle.loom_engine.specs.Execution.{Comes, Along}
-use Rattle.loom_runs.specs.Machine.{closes, chooses, passes, further, schedule}
+use Rattle.loom_engine.specs.Execution.{ExecutionState, Comes, Along, MayBeRefused, Submits, SubmitsAt, over_after}
+use Rattle.loom_runs.specs.Machine.{closes, chooses, passes, further, schedule, submit}
 use Rattle.loom_engine.specs.Routes.{Route, trail, settings_of, Says, drives}
 use Rattle.loom_walks.specs.Trees.Meeting.{whole_search}
 use Rattle.loom_runs.specs.Asking.{which_thread}
@@ -31,7 +32,7 @@ use Rattle.loom_walks.proofs.Trees.Binding.{drive_then, drive_fails}
 
 module _ {A : Type 0} (question : Question) (branches : Choice → Tree A) (path : Route) where
   -- the path answers a question, and the tree goes on
-  asked : (after : Route) (choice : Choice) → after.max_branches ≡ path.max_branches → branch (settings_of path) (trail path) question ≡ (Ok choice, trail after)
+  pub asked : (after : Route) (choice : Choice) → after.max_branches ≡ path.max_branches → branch (settings_of path) (trail path) question ≡ (Ok choice, trail after)
       → drives (Asks question branches) path ≡ drives (branches choice) after
   asked after choice same e =
       ap (drive_on (λ (o : Choice) left. drive (settings_of path) (marking None) (branches o) left)) e
@@ -65,7 +66,7 @@ module _ {D : Type 0} where
 
   module _ (old : RunState D) (offered : Offers) (is : (points : Points) (left : ℕ) → offered ≡ offers (world_of points left old.scene)) (path mid : Route) (same : mid.max_branches ≡ path.max_branches) where
     -- the schedule as the code asks it
-    scheduled : (w : World D) → Shows w old → drives (passes w) path ≡ drives (Asks (which_thread offered) (chooses w)) path
+    pub scheduled : (w : World D) → Shows w old → drives (passes w) path ≡ drives (Asks (which_thread offered) (chooses w)) path
     scheduled w shown = ap (λ (o : Offers). drives (Asks (which_thread o) (chooses w)) path) (ap offers shown.rest ∙ sym (is w.points old.steps_left))
 
     pub schedule_refused : (stop : Stop) → Says Thread path (which_thread offered) (Err stop) mid → Along passes old path (Err stop) old mid
@@ -88,10 +89,19 @@ module _ {D : Type 0} where
   -- ---- schedules up to a turn
 
   -- the first of them, and how it goes on
-  first_of : (more : ℕ) (w : World D) → (again : World D → Tree (Turn D × World D)) × (schedule more w ≡ (passes w >>= further again))
+  pub first_of : (more : ℕ) (w : World D) → (again : World D → Tree (Turn D × World D)) × (schedule more w ≡ (passes w >>= further again))
   unfolding schedule
   first_of zero w = (λ v. Fails Misuse, refl)
   first_of (suc more) w = (schedule more, refl)
+
+  -- at another branch point they go on from there
+  pub goes_on_by : (more left : ℕ) → more ≡ suc left → (w after : World D) (path via : Route) → drives (passes w) path ≡ (Ok (passed.AtBranch, after), trail via)
+      → via.max_branches ≡ path.max_branches → drives (schedule more w) path ≡ drives (schedule left after) via
+  unfolding schedule
+  goes_on_by more left e w after path via come same =
+      ap (λ (k : ℕ). drives (schedule k w) path) e
+      ∙ drive_then (settings_of path) (marking None) (passes w) (further (schedule left)) (trail path) (trail via) (passed.AtBranch, after) come
+      ∙ ap (λ (k : ℕ). drive (whole_search k) (marking None) (schedule left after) (trail via)) (sym same)
 
   module _ (old mid : RunState D) (path via : Route) where
     pub pass_stops : (more : ℕ) (stop : Stop) → Along passes old path (Err stop) mid via → Along (schedule more) old path (Err stop) mid via
@@ -122,10 +132,13 @@ module _ {D : Type 0} where
 
     pub goes_further : (more left : ℕ) → more ≡ suc left → Along passes old path (Ok passed.AtBranch) mid via → via.max_branches ≡ path.max_branches
         → (result : Result (Turn D) Stop) (new : RunState D) (after : Route) → Along (schedule left) mid via result new after → Along (schedule more) old path result new after
-    unfolding schedule
     goes_further more left e along same result new after onward w shown =
         let come = along w shown in
-        same_way (schedule more w) (schedule left come.0) path via result new after
-        (ap (λ (k : ℕ). drives (schedule k w) path) e
-        ∙ drive_then (settings_of path) (marking None) (passes w) (further (schedule left)) (trail path) (trail via) (passed.AtBranch, come.0) come.2
-        ∙ ap (λ (k : ℕ). drive (whole_search k) (marking None) (schedule left come.0) (trail via)) (sym same)) (onward come.0 come.1)
+        same_way (schedule more w) (schedule left come.0) path via result new after (goes_on_by more left e w come.0 path via come.2 same) (onward come.0 come.1)
+
+  -- ---- one event
+
+  -- a run that isn't over does it
+  pub submits_by : (old new : ExecutionState D) (op : Op D ⊤) (path after : Route) (answer : Result (Turn D) Stop) → old.over ≡ None → Along (submit op) old.run path answer new.run after
+      → new.over ≡ over_after answer → (answer ≡ Err Memory → MayBeRefused op old.run path) → Submits old op path answer new after
+  submits_by old new op path after answer going along over growth = subst (λ (o : Option Stop). SubmitsAt o old op path answer new after) (sym going) (along, over, growth)

@@ -1,2 +1,3 @@
 pub mod Executing
+pub mod Growing
 pub mod Nodes

@@ -1,5 +1,5 @@
 -- A path as its callers see it, and what it says to a run.
-use Rattle.std.specs.Prelude.{ℕ, ◌≡◌, ◌≢◌, ◌+◌, Bool, true, false, List, [], map, take, Option, Some, None, slice_get, Result, Ok, Err, ⊤}
+use Rattle.std.specs.Prelude.{ℕ, ◌≡◌, ◌≢◌, ◌<◌, ◌+◌, Bool, true, false, List, [], length, map, take, Option, Some, None, slice_get, Result, Ok, Err, ⊤}
 use Rattle.std.specs.Option.{option_map}
 use Rattle.loom_views.specs.declared.rt.failure.FailureKind.{FailureKind}
 use Rattle.loom_views.specs.declared.rt.failure.FailureKind.TheVariants.{NotDeterministic}
@@ -42,12 +42,20 @@ trail route = record { nodes = stored route.nodes; position = route.position; gi
 abbrev pub chosen : Route → List Choice
 chosen route = choices (take route.position (stored route.nodes))
 
+-- a node is made on the way, for which memory may be refused
+abbrev pub Grows : Route → Trail → Type 0
+Grows old after = length old.nodes < length after.nodes
+
+-- memory was refused for the node that answers the question: the path stays as it was
+abbrev pub IsShort : Route → Question → Route → Type 0
+IsShort old question new = (new ≡ old) × Grows old (branch (settings_of old) (trail old) question).1
+
 module _ {A : Type 0} (choice : A → Choice) where
   -- The path answers the question by what stands for a choice, and passes the node; or it refuses, and stays as it was.
   abbrev pub Says : Route → Question → Result A Stop → Route → Type 0
   Says old question (Ok answer) new = branch (settings_of old) (trail old) question ≡ (Ok (choice answer), trail new)
   Says old question (Err (Failure failure)) new = (branch (settings_of old) (trail old) question ≡ (Err failure.kind, trail old)) × (new ≡ old)
-  Says old question (Err Memory) new = new ≡ old
+  Says old question (Err Memory) new = IsShort old question new
 
 -- the choice at the position, if a node stands there
 abbrev pub choice_here : Route → Option Choice
@@ -62,7 +70,7 @@ abbrev pub Pushes : Route → Question → Result ⊤ Stop → Route → Type 0
 Pushes old question (Ok done) new =
     (choice : Choice) × (choice_here new ≡ Some choice) × (branch (settings_of old) (trail old) question ≡ (Ok choice, passed (trail new)))
 Pushes old question (Err (Failure failure)) new = (branch (settings_of old) (trail old) question ≡ (Err failure.kind, trail old)) × (new ≡ old)
-Pushes old question (Err Memory) new = new ≡ old
+Pushes old question (Err Memory) new = IsShort old question new
 
 -- a load stands at the position, and its choice is one of the slots that may be read
 abbrev pub IsAtLoad : List Bool → Route → Type 0

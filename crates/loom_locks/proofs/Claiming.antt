@@ -1,6 +1,6 @@
 -- A read-write lock that isn't refused is taken.
-use Rattle.std.proofs.Common.{◌≡◌, ℕ, refl}
-use Rattle.std.specs.Prelude.{Bool, true, false, is_none, Result, Ok, Err, IfOk}
+use Rattle.std.proofs.Common.{◌≡◌, ◌∙◌, ℕ, ap, refl}
+use Rattle.std.specs.Prelude.{Bool, true, false, is_none, Result, Ok, Err, IfOk, OnErr}
 use Rattle.loom_views.specs.declared.rt.failure.FailureKind.{FailureKind}
 use Rattle.loom_views.specs.declared.rt.failure.FailureKind.TheVariants.{Misuse}
 use Rattle.loom_objects.specs.declared.operation.Reply.{Reply}
@@ -10,7 +10,9 @@ use Rattle.loom_objects.specs.declared.rt.thread.Claim.TheVariants.{Read, TryRea
 use Rattle.loom_objects.specs.Moves.{a_rwlock}
 use Rattle.loom_objects.specs.Rule.{◌>>=◌, check}
 use Rattle.loom_objects.specs.RwLocks.{claims, is_reading, is_refused, reads_at, refused_at, takes, takes_unless, writes_at}
+use Rattle.loom_objects.specs.Scene.{Stage, world_of}
 use Rattle.loom_objects.specs.World.{World}
+use Rattle.loom_locks.specs.Copies.{answer_of, Copies}
 
 -- what holds of a result where it is Ok
 pub if_ok : {A E : Type 0} {P Q : A → Type 0} (r : Result A E) → ((a : A) → P a → Q a) → IfOk r P → IfOk r Q
@@ -43,3 +45,9 @@ written_by Read n w is e = absurd (cc)
 written_by TryRead n w is e = absurd (cc)
 written_by Write n w is e = taken Write n w e
 written_by TryWrite n w is e = taken TryWrite n w e
+
+-- a lock that isn't refused is taken to read by a copy, as the rule of readers says
+pub copies_by : {D R E : Type 0} (claim : Claim) (n : ℕ) (old : Stage D) (r : Result R E) → is_reading claim ≡ true → refused_at claim n old.objects ≡ Ok false
+    → OnErr r (Copies n (reads_at n) old) → OnErr r (Copies n (claims claim n) old)
+copies_by claim n old (Ok a) is free h = h
+copies_by claim n old (Err e) is free h = (h.0, λ p left. ap answer_of (read_by claim n (world_of p left old) is free) ∙ h.1 p left)

@@ -1,4 +1,5 @@
 ghost use Rattle.std.specs.Prelude.{◌≡◌, IfOk, OnErr, true};
+ghost use Rattle.loom_locks.specs.Copies.{Copies};
 ghost use Rattle.loom_objects.specs.RwLocks as rules;
 ghost use Rattle.loom_objects.specs.Scene.{Does, DoesIfOk};
 
@@ -54,14 +55,14 @@ fn is_refused<D: Drop>(scene: &Scene<D>, claim: Claim, number: usize) -> Result<
     Ok(lock.is_refused(claim))
 }
 
-/// The thread takes the lock so. The outer error only where memory is refused.
+/// The thread takes the lock so. The outer error only where it gets a copy of the data, and memory for it is refused.
 pub fn claim<D: Data>(
     scene: &mut Scene<D>,
     claim: Claim,
     number: usize,
 ) -> Result<Result<Reply<D>, FailureKind>, AllocError>
     ensures does { IfOk result (λ answer. Does (rules.claims claim number) scene.old answer scene.new) }
-    ensures growth { OnErr result (rules.is_reading claim ≡ true) }
+    ensures growth { OnErr result (Copies number (rules.claims claim number) scene.old) }
 {
     match is_refused(scene, claim, number) {
         Err(kind) => Ok(Err(kind)),
@@ -77,12 +78,13 @@ pub fn claim<D: Data>(
 }
 
 /// The active thread has one guard more, acquires and has a copy, and who is pending to write is blocked. The outer error only
-/// where memory is refused.
+/// where memory for the copy is refused.
 fn read_lock<D: Data>(
     scene: &mut Scene<D>,
     number: usize,
 ) -> Result<Result<Reply<D>, FailureKind>, AllocError>
-    ensures { IfOk result (λ answer. Does (rules.reads_at number) scene.old answer scene.new) }
+    ensures does { IfOk result (λ answer. Does (rules.reads_at number) scene.old answer scene.new) }
+    ensures growth { OnErr result (Copies number (rules.reads_at number) scene.old) }
 {
     let lock = match scene.rwlock(number) {
         Ok(lock) => lock,

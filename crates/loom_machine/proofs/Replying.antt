@@ -1,17 +1,23 @@
 -- What a thread is told of an effect, once it was chosen.
-use Rattle.std.proofs.Common.{◌≡◌, ℕ, ap}
-use Rattle.std.specs.Prelude.{true, Option, Some, None, option_map, Result, Ok, Err, IfOk, OnErr}
+use Rattle.std.proofs.Common.{◌≡◌, ◌∙◌, ℕ, ap}
+use Rattle.std.specs.Prelude.{Result, Ok, Err, IfOk, OnErr}
 use Rattle.loom_views.specs.Table.{Points}
 use Rattle.loom_views.specs.declared.rt.failure.FailureKind.{FailureKind}
 use Rattle.loom_objects.specs.declared.operation.Reply.{Reply}
+use Rattle.loom_objects.specs.declared.operation.Reply.TheVariants as reply
+use Rattle.loom_objects.specs.declared.operation.Turn.TheVariants as turn
 use Rattle.loom_objects.specs.declared.rt.run.Passed.{Passed}
+use Rattle.loom_objects.specs.declared.rt.run.Passed.TheVariants as passed
+use Rattle.loom_objects.specs.declared.rt.run.Resumed.TheVariants as resumed
 use Rattle.loom_objects.specs.declared.rt.thread.Task.{Task}
-use Rattle.loom_objects.specs.declared.rt.thread.Thread.{Thread}
-use Rattle.loom_objects.specs.Effects.{needs_copy, needs_copy_at}
+use Rattle.loom_objects.specs.Effects.{chosen, takes_effect}
 use Rattle.loom_objects.specs.Rule.{◌>>=◌}
-use Rattle.loom_objects.specs.Scene.{Stage, world_of, Comes, Does, HasSlot, KeepsSlots}
+use Rattle.loom_objects.specs.Scene.{Stage, world_of, points_of, Comes, Does, HasSlot, KeepsSlots}
+use Rattle.loom_objects.specs.Schedules.{chooses}
 use Rattle.loom_objects.specs.Turns.{replied, gone}
 use Rattle.loom_objects.specs.World.{World}
+use Rattle.loom_locks.specs.Copies.{answer_of, Copies}
+use Rattle.loom_machine.specs.Copies.{TellsCopy}
 use Rattle.loom_machine.specs.Replies.{replied_by, passed_by}
 
 module _ {D : Type 0} where
@@ -63,13 +69,30 @@ module _ {D : Type 0} where
 
 -- ---- memory
 
-module _ {D : Type 0} where
-  needs : (chosen : Option (Thread D)) (todo : Task D) → option_map (λ thread. thread.task) chosen ≡ Some todo → needs_copy todo ≡ true → needs_copy_at chosen ≡ true
-  needs None todo e h = absurd (cc)
-  needs (Some thread) todo e h = let is : thread.task ≡ todo = cc in rw is h
+pub on_err : {T E : Type 0} {P : Type 0} (r : Result T E) → P → OnErr r P
+on_err (Ok value) p = tt
+on_err (Err refused) p = p
 
-  -- it is refused only where what the chosen thread had pending needs a copy
-  pub needed : {T E : Type 0} (chosen : Option (Thread D)) (todo : Task D) → option_map (λ thread. thread.task) chosen ≡ Some todo → (r : Result T E)
-      → OnErr r (needs_copy todo ≡ true) → OnErr r (needs_copy_at chosen ≡ true)
-  needed chosen todo e (Ok value) h = h
-  needed chosen todo e (Err refused) h = needs chosen todo e h
+module _ {D : Type 0} where
+  -- the reader is told of the copy
+  told_copy : (n : ℕ) (copy : D) (answer : Result (Reply D × World D) FailureKind) → answer_of answer ≡ Ok (reply.ReadLocked n copy)
+      → (reader m : ℕ) × (value : D) × (answer_of (answer >>= replied) ≡ Ok (resumed.Passed (passed.Turn (turn.Reply reader (reply.ReadLocked m value)))))
+  told_copy n copy (Ok x) e =
+      let is : x.0 ≡ reply.ReadLocked n copy = cc in
+      (x.1.active, n, copy, ap (λ (r : Reply D). Ok (resumed.Passed (passed.Turn (turn.Reply x.1.active r)))) is)
+  told_copy n copy (Err kind) e = absurd (cc)
+
+  pub tells_copy : (n : ℕ) (effect : World D → Result (Reply D × World D) FailureKind) (old : Stage D) → Copies n effect old → TellsCopy (λ w. effect w >>= replied) old
+  tells_copy n effect old h = λ p left shown. told_copy n h.0 (effect (world_of p left old)) (h.1 p left)
+
+  -- what the chosen thread had pending is told of the copy
+  copy_after : (p : Points) (left : ℕ) (todo : Task D) (mid : Stage D) (answer : Result (Task D × World D) FailureKind) → Comes p left answer (Ok todo) mid → TellsCopy (takes_effect todo) mid
+      → (reader n : ℕ) × (copy : D) × (answer_of (answer >>= (λ x. takes_effect x.0 x.1)) ≡ Ok (resumed.Passed (passed.Turn (turn.Reply reader (reply.ReadLocked n copy)))))
+  copy_after p left todo mid answer comes h =
+      let told = h (points_of p answer) left comes.1 in
+      (told.0, told.1, told.2, ap (λ (a : Result (Task D × World D) FailureKind). answer_of (a >>= (λ x. takes_effect x.0 x.1))) comes.0 ∙ told.3)
+
+  pub chosen_copy : {T E : Type 0} (t : ℕ) (todo : Task D) (old mid : Stage D) (r : Result T E) → Does (chooses t) old (Ok todo) mid
+      → OnErr r (TellsCopy (takes_effect todo) mid) → OnErr r (TellsCopy (chosen t) old)
+  chosen_copy t todo old mid (Ok value) does h = tt
+  chosen_copy t todo old mid (Err refused) does h = λ p left shown. copy_after p left todo mid (chooses t (world_of p left old)) (does p left shown) h

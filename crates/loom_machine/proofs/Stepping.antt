@@ -12,9 +12,11 @@ use Rattle.loom_objects.specs.declared.failure.Stop.{Stop}
 use Rattle.loom_objects.specs.declared.failure.Stop.TheVariants.{Memory}
 use Rattle.loom_objects.specs.declared.operation.Op.{Op}
 use Rattle.loom_objects.specs.declared.operation.Reply.{Reply}
+use Rattle.loom_objects.specs.declared.operation.Reply.TheVariants as reply
 use Rattle.loom_objects.specs.declared.operation.Turn.TheVariants as turn
 use Rattle.loom_objects.specs.declared.rt.run.Entry.{Entry}
 use Rattle.loom_objects.specs.declared.rt.run.Loading.{Loading}
+use Rattle.loom_objects.specs.declared.rt.run.Passed.TheVariants as passed
 use Rattle.loom_objects.specs.declared.rt.run.Resumed.{Resumed}
 use Rattle.loom_objects.specs.declared.rt.run.Resumed.TheVariants.{Passed as ThatPassed, Load}
 use Rattle.loom_objects.specs.declared.rt.run.RunState.{RunState}
@@ -31,6 +33,8 @@ use Rattle.loom_objects.specs.Shown.{Shows, Comes, Does, Resumes}
 use Rattle.loom_objects.specs.Steps.{asked, asks_slot, begins, read_by, read_slot, resumes, slot_of, told, turned}
 use Rattle.loom_objects.specs.Tree.{Gives, Fails, Asks, ◌>>=◌, came}
 use Rattle.loom_objects.specs.World.{World}
+use Rattle.loom_locks.specs.Copies.{answer_of}
+use Rattle.loom_machine.specs.Copies.{TellsCopy, GivesCopy}
 
 -- a failure stops the run
 abbrev pub failing : {T : Type 0} → Result T FailureKind → Result T Stop
@@ -159,3 +163,18 @@ module _ {D : Type 0} where
   reads_fail load slot old new kind does = λ w shown kept.
       ap (λ (v : World D). read_by load v (choice.Load slot)) shown.rest
       ∙ ap (λ (answer : Result (Reply D × World D) FailureKind). came answer >>= told) (does w.points old.steps_left shown.views kept)
+
+  -- ---- a copy
+
+  copy_at : (answer : Result (Resumed D × World D) FailureKind) (reader n : ℕ) (copy : D) → answer_of answer ≡ Ok (ThatPassed (passed.Turn (turn.Reply reader (reply.ReadLocked n copy))))
+      → GivesCopy (came answer >>= asked)
+  copy_at (Ok x) reader n copy e =
+      let is : x.0 ≡ ThatPassed (passed.Turn (turn.Reply reader (reply.ReadLocked n copy))) = cc in
+      (reader, n, copy, x.1, ap (λ (r : Resumed D). asked (r, x.1)) is)
+  copy_at (Err kind) reader n copy e = absurd (cc)
+
+  -- the chosen thread is a reader who is told of a copy
+  pub gives_copy : (t : ℕ) (old : RunState D) → TellsCopy (chosen t) old.scene → (w : World D) → Shows w old → GivesCopy (resumes t w)
+  gives_copy t old tells = λ w shown.
+      let said = tells w.points old.steps_left shown.views in
+      copy_at (chosen t w) said.0 said.1 said.2 (ap (λ (v : World D). answer_of (chosen t v)) shown.rest ∙ said.3)

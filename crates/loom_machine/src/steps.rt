@@ -1,5 +1,6 @@
 //! The steps of a run. Here failures of effects, and memory that is refused, stop it.
-ghost use Rattle.std.specs.Prelude.{◌≡◌, ◌≢◌, Err, ◌+◌, slice_get, true, IfOk, OnOk};
+ghost use Rattle.std.specs.Prelude.{◌≡◌, ◌≢◌, Err, ◌+◌, true, IfOk, OnOk};
+ghost use Rattle.loom_machine.specs.Copies.{GivesCopy};
 ghost use Rattle.loom_objects.specs.Effects as effects;
 ghost use Rattle.loom_objects.specs.Operation.{accessed};
 ghost use Rattle.loom_objects.specs.Scene.{HasSlot, KeepsAt};
@@ -35,12 +36,12 @@ pub fn begin<D: Data>(run: &mut RunState<D>, op: Op<D, ()>) -> Result<Entry<D>, 
 }
 
 /// The thread is chosen, and what it has pending takes effect; an access that reads from an atomic up to the choice of
-/// the store that it reads.
+/// the store that it reads. `Memory` only where a reader gets a copy of a lock's data.
 pub fn resume<D: Data>(run: &mut RunState<D>, thread: u8) -> Result<Resumed<D>, Stop>
     ensures does { (w : World D) → Shows w run.old → Resumes (rules.resumes thread w) result run.new }
     ensures slot { IfOk result HasSlot }
     ensures steps { run.new.steps_left ≡ run.old.steps_left }
-    ensures growth { result ≡ Err Stop.Memory → effects.needs_copy_at (slice_get run.old.scene.threads thread) ≡ true }
+    ensures growth { result ≡ Err Stop.Memory → (w : World D) → Shows w run.old → GivesCopy (rules.resumes thread w) }
 {
     match go_on(&mut run.scene, thread) {
         Ok(answer) => answer.map_err(failed),

@@ -1,7 +1,8 @@
 -- What a path says of its nodes, as a walk sees it.
-use Rattle.std.proofs.Common.{◌≡◌, ◌≤◌, ◌<◌, ◌+◌, ℕ, zero, suc, true, false, List, [], ◌∷◌, ◌++◌, length, map, take, get_or, Option, Some, None, refl, ap, ap₂, sym, ◌∙◌, subst, arith}
+use Rattle.std.proofs.Common.{◌≡◌, ◌≤◌, ◌<◌, ◌+◌, ℕ, zero, suc, true, false, List, [], ◌∷◌, ◌++◌, length, map, take, get_or, Option, Some, None, refl, ap, ap₂, sym, ◌∙◌, subst, arith, length-append}
 use Rattle.std.specs.Prelude.{slice_get, nat_lt, cond, Ok, Err}
 use Rattle.std.specs.Option.{option_map}
+use Rattle.std.proofs.lemmas.List.{length-map}
 use Rattle.loom_views.specs.declared.rt.failure.FailureKind.TheVariants.{NotDeterministic, TooManyBranches}
 use Rattle.loom_objects.specs.declared.choice.Choice.{Choice}
 use Rattle.loom_objects.specs.Question.{Question, made_of}
@@ -11,7 +12,7 @@ use Rattle.loom_walks.specs.Trees.Meeting.{every_at}
 use Rattle.loom_walks.specs.Trees.Drive.{Answer, passes_of, branch, branch_at, lengthen, new_node}
 use Rattle.loom_engine.specs.declared.rt.node.Node.{Node}
 use Rattle.loom_engine.specs.Nodes.{seen, IsWell, AreWell}
-use Rattle.loom_engine.specs.Routes.{Route, stored, trail, settings_of, choice_here, passed}
+use Rattle.loom_engine.specs.Routes.{Route, stored, trail, settings_of, choice_here, passed, Grows}
 use Rattle.loom_engine.proofs.Nodes.Making.{pick_yes, pick_no}
 
 -- the choices at the first nodes
@@ -107,6 +108,11 @@ module _ (path : Route) (question : Question) where
     -- the choice that was given is no option
     pub refuses : None ≡ new_node true (made_of question) (slice_get path.given path.position) → Branches (Err NotDeterministic, trail path)
     refuses made = at_end None made
+
+    -- memory is asked for where the path makes a node
+    pub grows : (n : Node) → Some (seen n) ≡ new_node true (made_of question) (slice_get path.given path.position) → Grows path (branch (settings_of path) (trail path) question).1
+    grows n made =
+        subst (λ (answer : Answer). Grows path answer.1) (sym (at_end (Some (seen n)) made)) (omega (arith, length-append (stored path.nodes) (seen n ∷ []), length-map path.nodes seen))
 
     -- the path makes a node
     pub makes : (n : Node) (o : Choice) (after : Route) → Some (seen n) ≡ new_node true (made_of question) (slice_get path.given path.position) → o ≡ (seen n).present

@@ -1,9 +1,9 @@
-ghost use Rattle.std.specs.Prelude.{◌≡◌, ◌≤◌, ◌+◌, Some, None, true, slice_get, IfOk, OnOk};
+ghost use Rattle.std.specs.Prelude.{◌≡◌, ◌≢◌, ◌≤◌, ◌+◌, Err, Some, None, true, slice_get, IfOk, OnOk};
 ghost use Rattle.std.specs.List.{Contains};
 ghost use Rattle.loom_objects.specs.declared.choice.Choice.{Choice};
 ghost use Rattle.loom_objects.specs.World.{opening};
 ghost use Rattle.loom_objects.specs.Shown.{Shows};
-ghost use Rattle.loom_engine.specs.Execution.{Along, Submits, over_after as answered_after};
+ghost use Rattle.loom_engine.specs.Execution.{Along, AllNeedMemory, MayBeRefused, Submits, itself, over_after as answered_after};
 ghost use Rattle.loom_objects.specs.Steps.{resumes};
 ghost use Rattle.loom_runs.specs.Machine as machine;
 ghost use Rattle.loom_engine.specs.Routes.{Says};
@@ -63,8 +63,9 @@ impl<D: Data> Execution<D> {
     }
 
     /// The active thread hands over an operation, which is done up to the next turn: the path says who goes on at a branch
-    /// point. It is one event of the machine. After a `Stop` each later call answers the same, and after `Turn::Ended`
-    /// `Misuse` without a location; then nothing changes.
+    /// point. It is one event of the machine. `Memory` only where an object, a thread or a node is made, or data is copied.
+    /// After a `Stop` each later call answers the same, and after `Turn::Ended` `Misuse` without a location; then nothing
+    /// changes.
     pub fn submit(&mut self, path: &mut Path, op: Op<D, ()>) -> Result<Turn<D>, Stop>
         ensures event { Submits self.old op path.old result self.new path.new }
         ensures steps { OnOk result (self.old.run.steps_left ≡ self.new.run.steps_left + 1) }
@@ -100,6 +101,7 @@ fn hand_over<D: Data>(
     op: Op<D, ()>,
 ) -> Result<Turn<D>, Stop>
     ensures along { Along (machine.submit op) run.old path.old result run.new path.new }
+    ensures growth { result ≡ Err Stop.Memory → MayBeRefused op run.old path.old }
     ensures steps { OnOk result (run.old.steps_left ≡ run.new.steps_left + 1) }
     ensures same { (path.new.max_branches ≡ path.old.max_branches) × (path.new.given ≡ path.old.given) }
 {
@@ -114,6 +116,7 @@ fn hand_over<D: Data>(
 /// Whether the active thread wakes from the notifier without a notification is chosen, and then it yields or waits.
 fn wait<D: Data>(run: &mut RunState<D>, path: &mut Path, notifier: usize) -> Result<Turn<D>, Stop>
     ensures along { Along (machine.is_asked notifier) run.old path.old result run.new path.new }
+    ensures growth { result ≡ Err Stop.Memory → AllNeedMemory itself (machine.is_asked notifier) run.old path.old }
     ensures steps { run.new.steps_left ≡ run.old.steps_left }
     ensures same { (path.new.max_branches ≡ path.old.max_branches) × (path.new.given ≡ path.old.given) }
 {
@@ -129,6 +132,7 @@ fn wait<D: Data>(run: &mut RunState<D>, path: &mut Path, notifier: usize) -> Res
 /// A schedule, and those after it, up to a turn. `Misuse` at one branch point more than there may be.
 fn schedule<D: Data>(run: &mut RunState<D>, path: &mut Path, more: u8) -> Result<Turn<D>, Stop>
     ensures along { Along (machine.schedule more) run.old path.old result run.new path.new }
+    ensures growth { result ≡ Err Stop.Memory → AllNeedMemory itself (machine.schedule more) run.old path.old }
     ensures steps { run.new.steps_left ≡ run.old.steps_left }
     ensures same { (path.new.max_branches ≡ path.old.max_branches) × (path.new.given ≡ path.old.given) }
 {
@@ -147,6 +151,7 @@ fn schedule<D: Data>(run: &mut RunState<D>, path: &mut Path, more: u8) -> Result
 /// The path says which thread goes on, and what it has pending takes effect.
 fn pass<D: Data>(run: &mut RunState<D>, path: &mut Path) -> Result<Passed<D>, Stop>
     ensures along { Along machine.passes run.old path.old result run.new path.new }
+    ensures growth { result ≡ Err Stop.Memory → AllNeedMemory Passed.Turn machine.passes run.old path.old }
     ensures steps { run.new.steps_left ≡ run.old.steps_left }
     ensures same { (path.new.max_branches ≡ path.old.max_branches) × (path.new.given ≡ path.old.given) }
 {
@@ -163,6 +168,7 @@ fn pass<D: Data>(run: &mut RunState<D>, path: &mut Path) -> Result<Passed<D>, St
 /// The chosen thread goes on. A load asks the path which store it reads.
 fn go_on<D: Data>(run: &mut RunState<D>, path: &mut Path, thread: u8) -> Result<Passed<D>, Stop>
     ensures along { Along (resumes thread) run.old path.old result run.new path.new }
+    ensures growth { result ≡ Err Stop.Memory → AllNeedMemory Passed.Turn (resumes thread) run.old path.old }
     ensures steps { run.new.steps_left ≡ run.old.steps_left }
     ensures same { (path.new.max_branches ≡ path.old.max_branches) × (path.new.given ≡ path.old.given) }
 {
@@ -193,6 +199,7 @@ fn choose_slot(path: &mut Path, readable: &[bool; 7]) -> Result<u8, Stop>
 /// No thread can go on: the run is over, if all threads have ended and the path is used up.
 fn close<D: Drop>(run: &mut RunState<D>, path: &Path) -> Result<Turn<D>, Stop>
     ensures along { Along machine.closes run.old path.now result run.new path.now }
+    ensures no_growth { result ≢ Err Stop.Memory }
     ensures steps { run.new.steps_left ≡ run.old.steps_left }
 {
     if !run.scene.all_ended() {

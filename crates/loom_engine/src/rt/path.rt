@@ -1,4 +1,4 @@
-ghost use Rattle.std.specs.Prelude.{◌≡◌, ◌≤◌, ◌<◌, ◌+◌, ◌↔◌, [], ◌∷◌, ◌++◌, IfOk, IfErr, IfSome, IsTrue, slice_get, map, length, true};
+ghost use Rattle.std.specs.Prelude.{◌≡◌, ◌≢◌, ◌≤◌, ◌<◌, ◌+◌, ◌↔◌, [], ◌∷◌, ◌++◌, IfOk, IfErr, IfSome, IsTrue, slice_get, map, length, true};
 ghost use Rattle.std.specs.List.{Contains};
 ghost use Rattle.std.specs.Option.{option_map};
 ghost use Rattle.loom_objects.specs.Question.{made_of, AreSoundOffers};
@@ -101,8 +101,9 @@ impl Path {
         ensures made { IfOk result (λ _. self.new ≡ record self.old { nodes = self.old.nodes ++ node ∷ []; position = self.old.position + 1 }) }
         ensures same { IfErr result (λ _. self.new ≡ self.old) }
     {
-        self.nodes.push(node)?;
-        self.position += 1;
+        let passed = self.position + 1;
+        self.push(node)?;
+        self.position = passed;
         Ok(())
     }
 
@@ -215,10 +216,14 @@ impl Path {
         self.nodes.len() <= self.position && self.given.len() <= self.position
     }
 
-    /// The choices at the nodes that the run has passed.
+    /// The choices at the nodes that the run has passed. An error only where there are some, and memory for them is refused.
     pub fn choices(&self, alloc: Global) -> Result<Vec<Choice>, AllocError>
-        ensures { IfOk result (λ list. list.items ≡ chosen self.now) }
+        ensures list { IfOk result (λ list. list.items ≡ chosen self.now) }
+        ensures growth { IfErr result (λ _. chosen self.now ≢ []) }
     {
+        if self.position == 0 {
+            return Ok(Vec::new(alloc));
+        }
         choices_at(alloc, &self.nodes[..self.position])
     }
 

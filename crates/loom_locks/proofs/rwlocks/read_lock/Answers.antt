@@ -1,5 +1,5 @@
 use Rattle.std.proofs.Common.{rules}
 use Rattle.loom_locks.proofs.rwlocks.read_lock.Goals as goal
 
-pub returns : goal.returns
-returns g c = λ p left shown. search (c.guard.ensures p left shown, rules)
+pub returns-clause-does : goal.returns-clause-does
+returns-clause-does g c = λ p left shown. search (c.guard.ensures p left shown, rules)

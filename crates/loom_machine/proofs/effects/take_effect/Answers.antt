@@ -4,7 +4,7 @@ use Rattle.loom_objects.specs.Locks.{lock, try_lock}
 use Rattle.loom_objects.specs.Notifiers.{notifies, awaits, wakes_early}
 use Rattle.loom_objects.specs.RwLocks.{claims}
 use Rattle.loom_objects.specs.Threads.{join, child_finish}
-use Rattle.loom_machine.proofs.Replying.{passes, tells}
+use Rattle.loom_machine.proofs.Replying.{on_err, passes, tells, tells_copy}
 use Rattle.loom_machine.proofs.effects.take_effect.Goals as goal
 
 pub returns-in-Lock-clause-does : goal.returns-in-Lock-clause-does
@@ -42,3 +42,7 @@ returns-in-Join-clause-does g c = rw (c.in-Join.is, c.told-in-Join.ensures) (tel
 
 pub returns-in-Finish-clause-does : goal.returns-in-Finish-clause-does
 returns-in-Finish-clause-does g c = rw (c.in-Finish.is, c.told-in-Finish.ensures) (tells (child_finish c.in-Finish.notifier c.in-Finish.value) c.args.scene.now c.child_finish.new.scene c.child_finish.result c.child_finish.ensures)
+
+pub returns-in_err-claim-in-Claim-clause-growth : goal.returns-in_err-claim-in-Claim-clause-growth
+returns-in_err-claim-in-Claim-clause-growth g c =
+    rw c.in-Claim.is (on_err c.from_residual.result (tells_copy c.in-Claim.lock (claims c.in-Claim.claim c.in-Claim.lock) c.args.scene.now c.in_err-claim-in-Claim.ensures.growth))

@@ -17,7 +17,7 @@ returns-in-Failed-clause-reports g c =
     let sound = run_tree_law g.B.Body.next c.args.self.now.max_threads c.args.self.now.max_steps c.args.body.now in
     let e = rw c.in-Failed.is at c.in_ok-failure.ensures.along in
     walking_fails c.args.self.now.max_branches tree g.V.Visitor.takes c.args.visitor.now sound c.loop-runs.path c.run.new.path c.loop-runs.visitor c.loop-runs.runs
-    c.in-Failed.failure.kind c.in_ok-choices-in-Failed.choices.items c.loop-runs.invariant e c.in_ok-choices-in-Failed.ensures
+    c.in-Failed.failure.kind c.in_ok-choices-in-Failed.choices.items c.loop-runs.invariant e c.in_ok-choices-in-Failed.ensures.list
 
 pub returns-then-not-step-clause-reports : goal.returns-then-not-step-clause-reports
 returns-then-not-step-clause-reports g c =
@@ -27,7 +27,7 @@ returns-then-not-step-clause-reports g c =
     let steps = rw c.if-not-step.true at c.step.ensures.steps in
     walking_ends c.args.self.now.max_branches tree g.V.Visitor.takes c.args.visitor.now sound c.loop-runs.path c.run.new.path c.loop-runs.visitor c.run-in-Ended.new.self
     c.loop-runs.runs c.in-Ended.value c.as_slice.result.now c.step.new.self.nodes c.loop-runs.invariant e
-    (c.as_slice.ensures.value ∙ c.in_ok-choices-in-Ended.ensures) c.in_ok-run-in-Ended.ensures steps
+    (c.as_slice.ensures.value ∙ c.in_ok-choices-in-Ended.ensures.list) c.in_ok-run-in-Ended.ensures steps
 
 pub loop-runs-preserved : goal.loop-runs-preserved
 loop-runs-preserved g c =
@@ -37,7 +37,7 @@ loop-runs-preserved g c =
     let steps = rw c.if-not-step.false at c.step.ensures.steps in
     walking_on c.args.self.now.max_branches tree g.V.Visitor.takes c.args.visitor.now sound c.loop-runs.path c.run.new.path c.step.new.self c.loop-runs.visitor c.run-in-Ended.new.self
     c.loop-runs.runs c.in-Ended.value c.as_slice.result.now c.loop-runs.invariant e
-    (c.as_slice.ensures.value ∙ c.in_ok-choices-in-Ended.ensures) c.in_ok-run-in-Ended.ensures steps
+    (c.as_slice.ensures.value ∙ c.in_ok-choices-in-Ended.ensures.list) c.in_ok-run-in-Ended.ensures steps
     (c.step.ensures.rest ∙ ap (λ k. at_rest k c.step.new.self.nodes) (c.in_ok-failure.ensures.same ∙ ap (λ (p : Route). p.max_branches) c.loop-runs.invariant.rests))
 
 pub returns-clause-reports : goal.returns-clause-reports

@@ -10,7 +10,7 @@ returns-in-Failed-clause-replays g c =
     let sound = run_tree_law g.B.Body.next c.args.self.now.max_threads c.args.self.now.max_steps c.args.body.now in
     let e = rw c.in-Failed.is at c.in_ok-ending.ensures.along in
     replays c.args.self.now.max_branches tree c.args.choices.now _ c.run.new.path c.in_ok-choices.choices.items (Err c.in-Failed.failure.kind) sound
-    c.in_ok-path.ensures e c.in_ok-choices.ensures
+    c.in_ok-path.ensures e c.in_ok-choices.ensures.list
 
 pub returns-clause-replays : goal.returns-clause-replays
 returns-clause-replays g c =
@@ -18,4 +18,4 @@ returns-clause-replays g c =
     let sound = run_tree_law g.B.Body.next c.args.self.now.max_threads c.args.self.now.max_steps c.args.body.now in
     let e = rw c.in-Ended.is at c.in_ok-ending.ensures.along in
     replays c.args.self.now.max_branches tree c.args.choices.now _ c.run.new.path c.in_ok-choices.choices.items (Ok c.in-Ended.value) sound
-    c.in_ok-path.ensures e c.in_ok-choices.ensures
+    c.in_ok-path.ensures e c.in_ok-choices.ensures.list

@@ -9,7 +9,7 @@ use Rattle.loom_engine.specs.Nodes.{seen}
 use Rattle.loom_engine.specs.Routes.{Route}
 use Rattle.loom_runs.specs.Asking.{whether_spurious}
 use Rattle.loom_engine.specs.contracts.rt.path.Path.{the_view}
-use Rattle.loom_engine.proofs.Nodes.Paths.{past_end, follows, full, refuses, makes}
+use Rattle.loom_engine.proofs.Nodes.Paths.{past_end, follows, full, refuses, makes, grows}
 use Rattle.loom_engine.proofs.rt.path.Path.branch_spurious.Goals as goal
 
 pub returns-in-Ok-clause-says : goal.returns-in-Ok-clause-says
@@ -43,3 +43,11 @@ returns-in_default-new_spurious-clause-says c =
     let room : p.position < p.max_branches = search rules in
     rw c.failed-in_default-new_spurious.ensures
     (refuses p whether_spurious past room refl (c.in_default-new_spurious.ensures ∙ ap (new_node true (made_of whether_spurious)) c.given_here.ensures), refl)
+
+pub returns-in-Err-clause-says : goal.returns-in-Err-clause-says
+returns-in-Err-clause-says c =
+    let p : Route = c.args.self.now in
+    let held : length (the_view c.self.inside).nodes ≤ (the_view c.self.inside).position = omega (arith, c.self.inside.nodes.ok.0) in
+    let past : length p.nodes ≤ p.position = past_end (the_view c.self.inside) p c.self.view_is held in
+    let room : p.position < p.max_branches = search rules in
+    (c.in-Err.ensures.same, grows p whether_spurious past room refl (node.Spurious c.in-Some.spurious) (c.in-Some.ensures ∙ ap (new_node true (made_of whether_spurious)) c.given_here.ensures))

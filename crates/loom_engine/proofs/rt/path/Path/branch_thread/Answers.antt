@@ -9,7 +9,7 @@ use Rattle.loom_engine.specs.Nodes.{seen}
 use Rattle.loom_engine.specs.Routes.{Route}
 use Rattle.loom_runs.specs.Asking.{which_thread}
 use Rattle.loom_engine.specs.contracts.rt.path.Path.{the_view}
-use Rattle.loom_engine.proofs.Nodes.Paths.{past_end, follows, full, refuses, makes}
+use Rattle.loom_engine.proofs.Nodes.Paths.{past_end, follows, full, refuses, makes, grows}
 use Rattle.loom_engine.proofs.rt.path.Path.branch_thread.Goals as goal
 
 pub returns-in-Ok-clause-says : goal.returns-in-Ok-clause-says
@@ -46,3 +46,12 @@ returns-in_default-new_schedule-clause-says c =
     let room : p.position < p.max_branches = search rules in
     rw c.failed-in_default-new_schedule.ensures
     (refuses p question past room refl (c.in_default-new_schedule.ensures.made ∙ ap (new_node true (made_of question)) c.given_here.ensures), refl)
+
+pub returns-in-Err-clause-says : goal.returns-in-Err-clause-says
+returns-in-Err-clause-says c =
+    let p : Route = c.args.self.now in
+    let question : Question = which_thread c.args.offers.now in
+    let held : length (the_view c.self.inside).nodes ≤ (the_view c.self.inside).position = omega (arith, c.self.inside.nodes.ok.0) in
+    let past : length p.nodes ≤ p.position = past_end (the_view c.self.inside) p c.self.view_is held in
+    let room : p.position < p.max_branches = search rules in
+    (c.in-Err.ensures.same, grows p question past room refl (node.Schedule c.in-Some.schedule) (c.in-Some.ensures.made ∙ ap (new_node true (made_of question)) c.given_here.ensures))

@@ -7,8 +7,8 @@ use Rattle.loom_engine.specs.Routes.{chosen}
 use Rattle.loom_engine.proofs.Nodes.Paths.{taken}
 use Rattle.loom_engine.proofs.rt.path.Path.choices.Goals as goal
 
-pub returns : goal.returns
-returns c =
+pub returns-clause-list : goal.returns-clause-list
+returns-clause-list c =
     let p = c.self.inside in
     let same : map (λ (n : Node). (seen n).present) (take p.position c.deref.result.now) ≡ chosen c.args.self.now =
     ap (λ l. map (λ (n : Node). (seen n).present) (take p.position l)) c.deref.ensures.value ∙ sym (taken p.position p.nodes.items) ∙ ap chosen c.self.view_is in

@@ -11,7 +11,7 @@ use Rattle.loom_runs.specs.Asking.{which_store}
 use Rattle.loom_engine.specs.contracts.rt.path.Path.{the_view}
 use Rattle.loom_engine.proofs.Nodes.Slots.{some_slot, every_load, load_readable}
 use Rattle.loom_engine.proofs.Nodes.Turns.{new_is_made}
-use Rattle.loom_engine.proofs.Nodes.Paths.{well_at, past_end, end_of, follows, differs, full, refuses, pushes, choice_stored, choice_made}
+use Rattle.loom_engine.proofs.Nodes.Paths.{well_at, past_end, end_of, follows, differs, full, refuses, pushes, grows, choice_stored, choice_made}
 use Rattle.loom_engine.proofs.rt.path.Path.push_load.Goals as goal
 
 pub meets-requires-clause-well : goal.meets-requires-clause-well
@@ -103,3 +103,14 @@ returns-in-Ok-clause-same c = (
   ap (λ (r : Route). r.position) c.in-Ok.ensures.made,
   ap (λ (r : Route). r.given) c.in-Ok.ensures.made,
 )
+
+pub returns-in-Err-clause-pushes : goal.returns-in-Err-clause-pushes
+returns-in-Err-clause-pushes c =
+    let p : Route = c.args.self.now in
+    let question : Question = which_store c.args.readable.now in
+    let held : length (the_view c.self.inside).nodes ≤ (the_view c.self.inside).position = omega (arith, c.self.inside.nodes.ok.0) in
+    let past : length p.nodes ≤ p.position = past_end (the_view c.self.inside) p c.self.view_is held in
+    let room : p.position < p.max_branches = search rules in (
+      c.in-Err.ensures.same,
+      grows p question past room (every_load (slots c.args.readable.now) p) (node.Load c.in-Some.load) (c.in-Some.ensures.made ∙ ap (new_node true (made_of question)) c.given_here.ensures),
+    )

@@ -1,0 +1,25 @@
+-- When the chosen thread gets a copy of data, for which memory may be refused: it takes a read-write lock to read.
+use Rattle.std.specs.Prelude.{ℕ, ◌≡◌, Result, Ok}
+use Rattle.loom_views.specs.Table.{Points, ShowsViews}
+use Rattle.loom_views.specs.declared.rt.failure.FailureKind.{FailureKind}
+use Rattle.loom_objects.specs.declared.operation.Reply.TheVariants.{ReadLocked}
+use Rattle.loom_objects.specs.declared.operation.Turn.TheVariants as turn
+use Rattle.loom_objects.specs.declared.rt.run.Passed.{Passed}
+use Rattle.loom_objects.specs.declared.rt.run.Passed.TheVariants as passed
+use Rattle.loom_objects.specs.declared.rt.run.Resumed.{Resumed}
+use Rattle.loom_objects.specs.declared.rt.run.Resumed.TheVariants as resumed
+use Rattle.loom_objects.specs.Scene.{Stage, world_of}
+use Rattle.loom_objects.specs.Tree.{Tree, Gives}
+use Rattle.loom_objects.specs.World.{World}
+use Rattle.loom_locks.specs.Copies.{answer_of}
+
+module _ {D : Type 0} where
+  -- from each state that the scene shows, the rule answers that a reader is told of a copy of a lock's data
+  abbrev pub TellsCopy : (World D → Result (Resumed D × World D) FailureKind) → Stage D → Type 0
+  TellsCopy rule old =
+      (p : Points) → (left : ℕ) → ShowsViews p old.views
+      → (reader n : ℕ) × (copy : D) × (answer_of (rule (world_of p left old)) ≡ Ok (resumed.Passed (passed.Turn (turn.Reply reader (ReadLocked n copy)))))
+
+  -- the tree comes to a reader who is told of a copy of a lock's data
+  abbrev pub GivesCopy : Tree (Passed D × World D) → Type 0
+  GivesCopy tree = (reader n : ℕ) × (copy : D) × (after : World D) × (tree ≡ Gives (passed.Turn (turn.Reply reader (ReadLocked n copy)), after))
