@@ -1,11 +1,12 @@
 //! Laws of views, of the vectors that show them, and of the choice of a store. A law is the contract of a function that does
-//! nothing; it is stated in `specs/Laws`, and what the layers above need too in `specs/Kept` of `loom_views`. No crate stands on
-//! this one.
+//! nothing; it is stated in `specs/Laws`, `specs/Reaching` or `specs/Moves`, and what the layers above need too in `specs/Kept` of
+//! `loom_views`. No crate stands on this one.
 #![tactic(auto)]
 
 ghost use Rattle.loom_view_laws.specs.Examples.{ExampleLaw};
 ghost use Rattle.loom_views.specs.Kept.{KeepingLaw, SlotsStayLaw};
 ghost use Rattle.loom_view_laws.specs.Reaching.{StayingLaw, BeginningLaw, UnreachedLaw};
+ghost use Rattle.loom_view_laws.specs.Moves.{AddingLaw, RecordedLaw, BesideLaw, OrderLaw};
 ghost use Rattle.loom_view_laws.specs.Laws.{PastLaw, ReachingLaw, CountLaw, ComparingLaw, EqualLaw, StandingLaw, ReadableLaw, OfferingLaw, LoadingLaw, UpdatingLaw, RacingLaw, FencingLaw, MovesAsAcqRel, GlobalLaw};
 
 /// That a chain of edges leads from one point to another can be found by one sweep from the newest point down (own).
@@ -78,23 +79,46 @@ pub fn accesses_out_of_view_race()
     ensures { RacingLaw }
 {}
 
-/// In a run's graph and each later one, a point that raises a version has its view inside another's just where it reaches that
+/// In its graph and in each later one, a point that raises a version has its view inside another's just where it reaches that
 /// point (own).
 pub fn raising_points_are_known_by_reaching()
     ensures { StayingLaw }
 {}
 
-/// Where a thread has raised, the point that this made is what is recorded of the access that it begins: of a read or write of a
-/// cell, and of a load, a store and a read-modify-write of an atomic (own).
+/// Where a thread has raised, the point that this made is what is recorded of the access that it begins: of a read or a write of
+/// a cell, and of a load, a store or a read-modify-write of an atomic (own).
 pub fn accesses_begin_at_raising_points()
     ensures { BeginningLaw }
 {}
 
 /// A read of a cell is a data race just where some write of it hasn't come to the thread, and a write just where some write or
-/// read hasn't. A recorded point that raises has come to each point that it reaches, and any other to each point whose view has
-/// its own inside (own).
+/// read hasn't. A recorded point that raises, as that of a begin, has come to a point just where it reaches it. Any other, as that
+/// of an end or of the cell's making, has come where its view is inside (own).
 pub fn accesses_race_where_unreached()
     ensures { UnreachedLaw }
+{}
+
+/// Moves take no point away and forget no access that is recorded (own).
+pub fn moves_keep_points_and_records()
+    ensures { AddingLaw }
+{}
+
+/// In a run each point that is recorded of an atomic's load or store raises, also those of a read-modify-write (own).
+pub fn recorded_loads_and_stores_raise()
+    ensures { RecordedLaw }
+{}
+
+/// In a run an `unsync_load` is a data race just where some store doesn't reach the thread's present point, or the view of some
+/// mutation isn't inside its view. A `with_mut` is one just where that is so, or some load doesn't reach it, or the view of some
+/// `unsync_load` isn't inside (own).
+pub fn unsynchronized_accesses_race_where_unreached()
+    ensures { BesideLaw }
+{}
+
+/// Where an access is recorded at a point that raises, that point reaches each later access that conflicts with it and passes,
+/// whatever moves come between (own).
+pub fn raising_accesses_reach_later_ones()
+    ensures { OrderLaw }
 {}
 
 /// A sequentially consistent fence brings its thread what the earlier ones left at the global point, and leaves there what has

@@ -58,7 +58,7 @@ member-passes p (x ∷ xs) h = ⊎_elim
     (λ e. let m = member-passes p xs e in (m.0, or_right (x == m.0) (is_among m.0 xs) m.1, m.2))
     (or_cases (p x) (list_any p xs) h)
 
-passes-member : (p : ℕ → Bool) (xs : List ℕ) (x : ℕ) → is_among x xs ≡ true → p x ≡ true → list_any p xs ≡ true
+pub passes-member : (p : ℕ → Bool) (xs : List ℕ) (x : ℕ) → is_among x xs ≡ true → p x ≡ true → list_any p xs ≡ true
 passes-member p [] x h e = absurd (false≢true h)
 passes-member p (y ∷ xs) x h e = ⊎_elim
     (λ q. or_left (p y) (list_any p xs) (subst (λ z. p z ≡ true) (sym (eqb-true y x q)) e))

@@ -10,19 +10,19 @@ use Rattle.loom_views.specs.Cells.{Accesses}
 use Rattle.loom_views.specs.Table.{Points, recorded}
 use Rattle.loom_view_laws.specs.Laws.{HasOutside, RacingLaw}
 
-not-is : (a b : Bool) → not a ≡ not b → a ≡ b
+pub not-is : (a b : Bool) → not a ≡ not b → a ≡ b
 not-is true true e = refl
 not-is true false e = sym e
 not-is false true e = sym e
 not-is false false e = refl
 
-races-outside : (g : Graph) (points : List ℕ) (a : ℕ) → races g points a ≡ true → HasOutside g points a
+pub races-outside : (g : Graph) (points : List ℕ) (a : ℕ) → races g points a ≡ true → HasOutside g points a
 unfolding races
 races-outside g points a e =
     let found = Any-from_list_any (λ k. not (inside g k a)) points e in
     (found.0, found.1, found.2, found.3, not-is (inside g found.1 a) false found.4)
 
-outside-races : (g : Graph) (points : List ℕ) (a : ℕ) → HasOutside g points a → races g points a ≡ true
+pub outside-races : (g : Graph) (points : List ℕ) (a : ℕ) → HasOutside g points a → races g points a ≡ true
 unfolding races
 outside-races g points a h = list_any-from_Any (λ k. not (inside g k a)) points (h.0, h.1, h.2, h.3, ap not h.4)
 
