@@ -9,13 +9,12 @@ use Rattle.loom_walks.specs.Trees.Meeting.{Settings}
 use Rattle.loom_walks.specs.Trees.Drive.{Trail, drive, at_start}
 use Rattle.loom_walks.specs.Trees.Check.{Makes, makes_none}
 use Rattle.loom_walks.specs.Trees.Marks.{marking}
-use Rattle.loom_walks.specs.Trees.Reports.{IsWholeSearch}
+use Rattle.loom_walks.specs.Trees.Reports.{IsWholeSearch, IsSearch}
 use Rattle.loom_engine.specs.Routes.{Route, at_rest, stored, trail, chosen, Steps, drives}
 use Rattle.loom_walks.specs.Trees.Meeting.{whole_search}
 use Rattle.loom_runs.specs.Trees.{IsRunTree}
-use Rattle.loom_walks.proofs.Trees.Marks.{marking_law}
 use Rattle.loom_walks.proofs.Trees.Rounds.{another_round, final_round, next_driven}
-use Rattle.loom_walks.proofs.Trees.Reporting.{complete_report_law, stopped_report_law, failed_report_law}
+use Rattle.loom_walks.proofs.Trees.Reporting.{search_law, complete_report_law, stopped_report_law, failed_report_law}
 use Rattle.loom.specs.Check.{Given, WasGiven, IsFailedReport, Reports, ReportsAlone}
 use Rattle.loom.specs.declared.error.CheckError.{CheckError}
 use Rattle.loom.specs.declared.model.Limit.{Limit}
@@ -43,15 +42,12 @@ module _ {D : Type 0} (max_branches : ℕ) (tree : Tree D) where
   abbrev search : Settings
   search = whole_search max_branches
 
-  whole : IsRunTree tree → IsWholeSearch search (marking None) tree
-  whole sound = record {
-    whole = refl;
-    unbounded = refl;
-    marking = (marking_law None).0;
-    sound = sound.sound;
-    closing = sound.closing;
-    exploring = sound.exploring;
-  }
+  searches : IsRunTree tree → IsSearch search (marking None) tree
+  searches sound = search_law search tree sound.sound
+
+  -- it leaves no run out
+  whole : IsRunTree tree → IsWholeSearch search tree
+  whole sound = record { unreduced = refl; unbounded = refl; exploring = sound.exploring }
 
   module _ {V : Type 0} (takes : V → List Choice → D → V → Type 0) (old : V) where
     -- the rounds so far, with the runs that the visitor was given
@@ -80,7 +76,7 @@ module _ {D : Type 0} (max_branches : ℕ) (tree : Tree D) where
     all_chosen : IsRunTree tree → (path after : Route) (visitor : V) (count : ℕ) (comes : Result D FailureKind) → IsWalking path visitor count → drives tree path ≡ (comes, trail after)
         → chosen after ≡ choices (stored after.nodes)
     all_chosen sound path after visitor count comes z e =
-        let w = whole sound in
+        let w = searches sound in
         let d = next_driven search (marking None) tree w.sound w.marking (stored path.nodes) z.runs comes (trail after) z.makes (driven path after comes z.rests e) in
         let size : after.position ≡ length (stored after.nodes) = ap (λ (t : Trail). t.position) d.all_passed in
         ap choices (take_all (stored after.nodes) after.position size)
@@ -106,14 +102,20 @@ module _ {D : Type 0} (max_branches : ℕ) (tree : Tree D) where
     walking_ends sound path after visitor new count value list nodes z e same gave steps =
         let c : choices (stored after.nodes) ≡ list = sym (all_chosen sound path after visitor count (Ok value) z e) ∙ sym same in
         let runs = z.runs ++ (choices (stored after.nodes), value) ∷ [] in
-        let law = complete_report_law search (marking None) tree runs (whole sound)
+        let law = complete_report_law search (marking None) tree runs (searches sound)
         (final_round search (marking None) tree [] (stored path.nodes) z.runs value (trail after) z.makes (driven path after (Ok value) z.rests e) steps) in (
           runs,
           record {
             given = given_more takes old z.runs visitor new (choices (stored after.nodes)) value z.given (subst (λ l. takes visitor l value new) (sym c) gave);
             counted = one_longer z.runs (choices (stored after.nodes), value) count z.counted;
           },
-          record { are_runs = law.0; walk = law.1; in_order = law.2; none_fails = law.3; every_run = law.4 },
+          record {
+            are_runs = law.are_runs;
+            walk = law.all_runs.walk;
+            in_order = law.all_runs.in_order refl;
+            none_fails = law.none_fails;
+            every_run = law.all_runs.every_run (whole sound);
+          },
         )
 
     -- a run that fails
@@ -121,21 +123,36 @@ module _ {D : Type 0} (max_branches : ℕ) (tree : Tree D) where
         → drives tree path ≡ (Err kind, trail after) → list ≡ chosen after
         → (runs : List (List Choice × D)) × WasGiven takes old visitor runs count × IsFailedReport max_branches tree runs kind list
     walking_fails sound path after visitor count kind list z e same =
-        let law = failed_report_law search (marking None) tree z.runs (stored path.nodes) kind (trail after) (whole sound) sound.fair z.makes (driven path after (Err kind) z.rests e) in (
+        let law = failed_report_law search (marking None) tree z.runs (stored path.nodes) kind (trail after) (searches sound) sound.fair z.makes (driven path after (Err kind) z.rests e) in (
           z.runs,
           record { given = z.given; counted = z.counted },
           subst (IsFailedReport max_branches tree z.runs kind) (sym (all_chosen sound path after visitor count (Err kind) z e) ∙ sym same)
-              (record { are_runs = law.0; more = law.1.0; walk = law.1.1; in_order = law.1.2; reachable = law.2; fails = law.3; own = law.4; replays = law.5 }),
+              (record {
+                are_runs = law.are_runs;
+                more = law.more;
+                walk = law.all_runs.walk;
+                in_order = law.all_runs.in_order refl;
+                reachable = law.reachable;
+                fails = law.fails;
+                own = law.own;
+                replays = law.replays;
+              }),
         )
 
     -- no more runs are made
     pub walking_stops : IsRunTree tree → (path : Route) (visitor : V) (count : ℕ) (limit : Limit) → IsWalking path visitor count → count ≡ 2 ^ 64 - 1
         → Reports takes old visitor max_branches tree (Stopped count limit)
     walking_stops sound path visitor count limit z full =
-        let law = stopped_report_law search (marking None) tree z.runs (stored path.nodes) (whole sound) z.makes in (
+        let law = stopped_report_law search (marking None) tree z.runs (stored path.nodes) (searches sound) z.makes in (
           z.runs,
           record { given = z.given; counted = z.counted },
-          record { are_runs = law.0; more = law.1.0; unfinished = law.1.1; walk = law.1.2; in_order = law.1.3 },
+          record {
+            are_runs = law.are_runs;
+            more = law.more;
+            unfinished = law.unfinished;
+            walk = law.all_runs.walk;
+            in_order = law.all_runs.in_order refl;
+          },
           full,
         )
 

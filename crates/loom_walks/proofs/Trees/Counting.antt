@@ -24,7 +24,7 @@ use Rattle.loom_walks.proofs.Trees.Checking.{allowed_by}
 
 -- ---- one node more
 
-tally_more : (t : Tally) (passes : List (Made × Choice)) (pass : Made × Choice) → tally t (passes ++ pass ∷ []) ≡ tally_one (tally t passes) pass
+pub tally_more : (t : Tally) (passes : List (Made × Choice)) (pass : Made × Choice) → tally t (passes ++ pass ∷ []) ≡ tally_one (tally t passes) pass
 tally_more t [] pass = refl
 tally_more t (x ∷ passes) pass = tally_more (tally_one t x) passes pass
 

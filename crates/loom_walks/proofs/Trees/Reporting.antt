@@ -15,16 +15,18 @@ use Rattle.loom_walks.specs.Walk.Walks.{run_of, Rounds, stay, go_on, Completes, 
 use Rattle.loom_walks.specs.Walk.Lists.{Each, IsWalkList, Precedes, IsInOrder}
 use Rattle.loom_walks.specs.Trees.Outcomes.{outcome}
 use Rattle.loom_walks.specs.Trees.Meeting.{Settings, Marking, machine_of}
-use Rattle.loom_walks.specs.Trees.Check.{Makes}
+use Rattle.loom_walks.specs.Trees.Check.{Makes, MakesAll}
+use Rattle.loom_walks.specs.Trees.Drive.{Trail, drive, at_start}
 use Rattle.loom_walks.specs.Trees.Outcomes.{choices_made}
-use Rattle.loom_walks.specs.Trees.Reports.{IsWholeSearch, CompleteReportLaw, StoppedReportLaw, FailedReportLaw}
+use Rattle.loom_walks.specs.Trees.Reports.{IsSearch, AreReachable, HasCompleted, WasStopped, HasFailed, SearchLaw, CompleteReportLaw, StoppedReportLaw, FailedReportLaw}
 use Rattle.loom_walks.specs.Trees.Sound.{IsFair}
 use Rattle.loom_walks.proofs.Walk.Together.{complete_law as walk_complete, resumed}
 use Rattle.loom_walks.proofs.Walk.Round.{fresh_law as walk_fresh}
 use Rattle.loom_walks.proofs.Walk.Ends.{ends_law as walk_ends}
 use Rattle.loom_walks.proofs.Walk.Order.{order_law as walk_order}
 use Rattle.loom_walks.proofs.Trees.Machines.{machine_law}
-use Rattle.loom_walks.proofs.Trees.Counting.{every_run_law}
+use Rattle.loom_walks.proofs.Trees.Counting.{every_run_law, bound_law}
+use Rattle.loom_walks.proofs.Trees.Marks.{marking_law}
 use Rattle.loom_walks.proofs.Trees.Checking.{Part, part_of, complete_at, fresh_at, failure_at}
 use Rattle.loom_walks.proofs.Trees.Replays.{whole_replay}
 use Rattle.loom_walks.proofs.Trees.Rounds.{empty_rests, driven}
@@ -151,7 +153,7 @@ back_order m (x ∷ list) h = (back_each m x list h.0, back_order m list h.1)
 pub record Goes (m : Machine) (list : List (List Choice)) (last : List Stored) : Type 0 where
   pub more : List (List Choice)
   pub walk : IsWalkList (Reachable m) (list ++ run_of m last ∷ more)
-  pub in_order : IsInOrder m (list ++ run_of m last ∷ more)
+  pub in_order : m.reduce ≡ false → IsInOrder m (list ++ run_of m last ∷ more)
 
 -- the first of them is the path's run
 first_of : (m : Machine) (p : List Stored) (list : List (List Choice)) → Completes (calm m) p list → (more : List (List Choice)) × (list ≡ run_of m p ∷ more)
@@ -159,8 +161,8 @@ first_of m p list (last_round _ f e) = ([], ap (λ r. r ∷ []) (calm_run m (cho
 first_of m p list (one_round _ later others f e c) = (others, ap (λ r. r ∷ others) (calm_run m (choices p)))
 
 -- all the walk's runs are all that are reachable
-all_made : (m : Machine) → IsMachine m → m.reduce ≡ false → (list : List (List Choice)) → Completes (calm m) [] list → IsWalkList (Reachable m) list × IsInOrder m list
-all_made m is whole list made =
+all_made : (m : Machine) → IsMachine m → (list : List (List Choice)) → Completes (calm m) [] list → IsWalkList (Reachable m) list × (m.reduce ≡ false → IsInOrder m list)
+all_made m is list made =
     let k = calm_machine m is in
     let f = walk_fresh (calm m) k in
     let w = (walk_complete (calm m) [] list k f.0 made).0 in (
@@ -169,21 +171,21 @@ all_made m is whole list made =
         once = w.once;
         together = w.together;
       },
-      back_order m list (walk_order (calm m) list k whole made),
+      λ unreduced. back_order m list (walk_order (calm m) list k unreduced made),
     )
 
 -- rounds come to such a place
-goes_from : (m : Machine) → IsMachine m → m.reduce ≡ false → (list : List (List Choice)) (last : List Stored) → IsResting m last → Rounds m [] list last → Goes m list last
-goes_from m is whole list last rests rounds = elim (walk_ends (calm m) last (calm_machine m is) (calm_rests m last rests)).2 [
+goes_from : (m : Machine) → IsMachine m → (list : List (List Choice)) (last : List Stored) → IsResting m last → Rounds m [] list last → Goes m list last
+goes_from m is list last rests rounds = elim (walk_ends (calm m) last (calm_machine m is) (calm_rests m last rests)).2 [
   | inl z ↦ joined z.0 z.1 (first_of m last z.0 z.1)
   | inr z ↦ absurd (cc z.3)
 ]
   where
     joined : (others : List (List Choice)) → Completes (calm m) last others → ((more : List (List Choice)) × (others ≡ run_of m last ∷ more)) → Goes m list last
     joined others ends f =
-        let a = all_made m is whole (list ++ others) (resumed (calm m) [] last list others (calm_rounds m [] list last rounds) ends) in
+        let a = all_made m is (list ++ others) (resumed (calm m) [] last list others (calm_rounds m [] list last rounds) ends) in
         let e : list ++ others ≡ list ++ run_of m last ∷ f.0 = ap (λ l. list ++ l) f.1 in
-        record { more = f.0; walk = subst (IsWalkList (Reachable m)) e a.0; in_order = subst (IsInOrder m) e a.1 }
+        record { more = f.0; walk = subst (IsWalkList (Reachable m)) e a.0; in_order = λ unreduced. subst (IsInOrder m) e (a.1 unreduced) }
 
 -- ---- reports
 
@@ -206,52 +208,76 @@ module _ {A : Type 0} where
       go (yes a) e ih = ih a e
       go (no f) e ih = absurd (cc e)
 
-  pub complete_report_law : CompleteReportLaw A
-  complete_report_law s adds tree runs search made =
-      let m : Machine = machine_of s adds tree in
-      let k = machine_law s adds tree search.sound search.marking in
-      let f = walk_fresh m k in
+-- schedules mark as a search is to
+pub search_law : {A : Type 0} → SearchLaw A
+search_law s tree sound = record { marking = (marking_law s.bound).0; below = (marking_law s.bound).1; sound = sound }
+
+module _ {A : Type 0} (s : Settings) (adds : Marking) (tree : Tree A) (search : IsSearch s adds tree) where
+  abbrev m : Machine
+  m = machine_of s adds tree
+
+  -- a walk list of the reachable runs is as a report says
+  are_reachable : (list : List (List Choice)) → IsWalkList (Reachable m) list → (m.reduce ≡ false → IsInOrder m list) → AreReachable s adds tree list
+  are_reachable list walk in_order = record {
+    walk = walk;
+    in_order = in_order;
+    every_run = λ whole. every_run_law s adds tree search.sound search.marking whole.unreduced whole.unbounded whole.exploring;
+    within_bound = λ bound e. bound_law s adds tree bound search.sound search.marking e (search.below bound e);
+  }
+
+  complete_at_end : (runs : List (List Choice × A)) → MakesAll s adds tree [] runs → HasCompleted s adds tree runs
+  complete_at_end runs made =
+      let f = walk_fresh m (machine_law s adds tree search.sound search.marking) in
       let z = complete_at s adds tree search.sound search.marking [] runs f.0 made in
-      let w = fresh_at s adds tree search.sound search.marking runs made in (
-        z.are_runs,
-        w.0,
-        w.1 search.whole,
-        λ x h. z.none_fails x ((f.1 x).1 h),
-        λ x. every_run_law s adds tree search.sound search.marking search.whole search.unbounded search.exploring x,
-      )
+      let w = fresh_at s adds tree search.sound search.marking runs made in
+      record {
+        are_runs = z.are_runs;
+        all_runs = are_reachable (choices_made runs) w.0 w.1;
+        none_fails = λ x h. z.none_fails x ((f.1 x).1 h);
+      }
 
-  part : (s : Settings) (adds : Marking) (tree : Tree A) (runs : List (List Choice × A)) (last : List Stored) (search : IsWholeSearch s adds tree) → Makes s adds tree [] runs last
-      → Part s adds tree search.sound search.marking [] runs last
-  part s adds tree runs last search made = part_of s adds tree search.sound search.marking [] runs last (empty_rests (machine_of s adds tree)) made
+  part : (runs : List (List Choice × A)) (last : List Stored) → Makes s adds tree [] runs last → Part s adds tree search.sound search.marking [] runs last
+  part runs last made = part_of s adds tree search.sound search.marking [] runs last (empty_rests m) made
 
-  goes : (s : Settings) (adds : Marking) (tree : Tree A) (runs : List (List Choice × A)) (last : List Stored) (search : IsWholeSearch s adds tree) → Makes s adds tree [] runs last
-      → Goes (machine_of s adds tree) (choices_made runs) last
-  goes s adds tree runs last search made =
-      let z = part s adds tree runs last search made in
-      goes_from (machine_of s adds tree) (machine_law s adds tree search.sound search.marking) search.whole (choices_made runs) last z.rests z.rounds
+  goes : (runs : List (List Choice × A)) (last : List Stored) → Makes s adds tree [] runs last → Goes m (choices_made runs) last
+  goes runs last made =
+      let z = part runs last made in
+      goes_from m (machine_law s adds tree search.sound search.marking) (choices_made runs) last z.rests z.rounds
+
+  stopped_at : (runs : List (List Choice × A)) (last : List Stored) → Makes s adds tree [] runs last → WasStopped s adds tree runs
+  stopped_at runs last made =
+      let g = goes runs last made in
+      record {
+        are_runs = (part runs last made).are_runs;
+        more = run_of m last ∷ g.more;
+        unfinished = λ e. cc e;
+        all_runs = are_reachable (choices_made runs ++ run_of m last ∷ g.more) g.walk g.in_order;
+      }
+
+  failed_at : (runs : List (List Choice × A)) (last : List Stored) (failure : FailureKind) (path : Trail) → IsFair tree → Makes s adds tree [] runs last
+      → drive s adds tree (at_start last) ≡ (Err failure, path) → HasFailed s adds tree runs failure (choices path.nodes)
+  failed_at runs last failure path fair made h =
+      let z = part runs last made in
+      let g = goes runs last made in
+      let d = driven s adds tree search.sound search.marking last (Err failure) path z.rests h in
+      let f = failure_at s adds tree search.sound search.marking [] last runs failure path (empty_rests m) made h in
+      record {
+        are_runs = z.are_runs;
+        more = g.more;
+        all_runs = subst (λ r. AreReachable s adds tree (choices_made runs ++ r ∷ g.more)) (sym d.is_run)
+            (are_reachable (choices_made runs ++ run_of m last ∷ g.more) g.walk g.in_order);
+        reachable = ((walk_fresh m (machine_law s adds tree search.sound search.marking)).1 (choices path.nodes)).0 f.left;
+        fails = f.outcome;
+        own = fails_fair tree s.max_branches (choices path.nodes) failure fair f.outcome;
+        replays = whole_replay tree s.max_branches (choices path.nodes) (Err failure) search.sound f.outcome;
+      }
+
+module _ {A : Type 0} where
+  pub complete_report_law : CompleteReportLaw A
+  complete_report_law s adds tree runs search made = complete_at_end s adds tree search runs made
 
   pub stopped_report_law : StoppedReportLaw A
-  stopped_report_law s adds tree runs last search made =
-      let z = part s adds tree runs last search made in
-      let g = goes s adds tree runs last search made in
-      (z.are_runs, (run_of (machine_of s adds tree) last ∷ g.more, λ e. cc e, g.walk, g.in_order))
+  stopped_report_law s adds tree runs last search made = stopped_at s adds tree search runs last made
 
   pub failed_report_law : FailedReportLaw A
-  failed_report_law s adds tree runs last failure path search fair made h =
-      let m : Machine = machine_of s adds tree in
-      let list = choices_made runs in
-      let z = part s adds tree runs last search made in
-      let g = goes s adds tree runs last search made in
-      let d = driven s adds tree search.sound search.marking last (Err failure) path z.rests h in
-      let f = failure_at s adds tree search.sound search.marking [] last runs failure path (empty_rests m) made h in (
-        z.are_runs,
-        (
-          g.more,
-          subst (λ r. IsWalkList (Reachable m) (list ++ r ∷ g.more)) (sym d.is_run) g.walk,
-          subst (λ r. IsInOrder m (list ++ r ∷ g.more)) (sym d.is_run) g.in_order,
-        ),
-        ((walk_fresh m (machine_law s adds tree search.sound search.marking)).1 (choices path.nodes)).0 f.left,
-        f.outcome,
-        fails_fair tree s.max_branches (choices path.nodes) failure fair f.outcome,
-        whole_replay tree s.max_branches (choices path.nodes) (Err failure) search.sound f.outcome,
-      )
+  failed_report_law s adds tree runs last failure path search fair made h = failed_at s adds tree search runs last failure path fair made h

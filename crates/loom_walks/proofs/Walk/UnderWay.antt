@@ -34,7 +34,6 @@ with_choices : (marks : ℕ → Choice → Bool) (k : ℕ) (u : List Stored) →
 with_choices marks k [] = refl
 with_choices marks k (x ∷ u) = ap (λ t. x.present ∷ t) (with_choices marks (suc k) u)
 
--- marks on marks
 twice : (a b : Bool) (s : Status) → mark_status a (mark_status b s) ≡ mark_status (a || b) s
 twice true true Closed = refl
 twice true false Closed = refl
@@ -47,7 +46,8 @@ twice a b Pending = refl
 twice a b Active = refl
 twice a b Visited = refl
 
-with_twice : (more old : ℕ → Choice → Bool) (k : ℕ) (u : List Stored) → mark_with more k (mark_with old k u) ≡ mark_with (λ i o. more i o || old i o) k u
+-- marks that are made after others are made as one
+pub with_twice : (more old : ℕ → Choice → Bool) (k : ℕ) (u : List Stored) → mark_with more k (mark_with old k u) ≡ mark_with (λ i o. more i o || old i o) k u
 with_twice more old k [] = refl
 with_twice more old k (x ∷ u) =
     ap₂ (λ (s : Choice → Status) (t : List Stored). record x { status = s } ∷ t) (fun_ext (λ o. twice (more k o) (old k o) (x.status o))) (with_twice more old (suc k) u)
@@ -59,17 +59,20 @@ none_status Pending = refl
 none_status Active = refl
 none_status Visited = refl
 
-with_none : (k : ℕ) (u : List Stored) → u ≡ mark_with (λ i o. false) k u
+-- no marks change nothing
+pub with_none : (k : ℕ) (u : List Stored) → u ≡ mark_with (λ i o. false) k u
 with_none k [] = refl
 with_none k (x ∷ u) = ap₂ (λ (s : Choice → Status) (t : List Stored). record x { status = s } ∷ t) (fun_ext (λ o. none_status (x.status o))) (with_none (suc k) u)
 
-with_same : (a b : ℕ → Choice → Bool) (k : ℕ) (u : List Stored) → ((i : ℕ) (o : Choice) → i < k + length u → a i o ≡ b i o) → mark_with a k u ≡ mark_with b k u
+-- marks that agree at the nodes are the same
+pub with_same : (a b : ℕ → Choice → Bool) (k : ℕ) (u : List Stored) → ((i : ℕ) (o : Choice) → i < k + length u → a i o ≡ b i o) → mark_with a k u ≡ mark_with b k u
 with_same a b k [] h = refl
 with_same a b k (x ∷ u) h =
     ap₂ (λ (s : Choice → Status) (t : List Stored). record x { status = s } ∷ t) (fun_ext (λ o. ap (λ f. mark_status f (x.status o)) (h k o (omega arith))))
     (with_same a b (suc k) u (λ i o l. h i o (omega arith)))
 
-with_append : (a : ℕ → Choice → Bool) (k i : ℕ) (u : List Stored) (x : Stored) → i ≡ k + length u → ((o : Choice) → a i o ≡ false) → mark_with a k (u ++ x ∷ []) ≡ mark_with a k u ++ x ∷ []
+-- a new node that has no marks is added after the marks are made
+pub with_append : (a : ℕ → Choice → Bool) (k i : ℕ) (u : List Stored) (x : Stored) → i ≡ k + length u → ((o : Choice) → a i o ≡ false) → mark_with a k (u ++ x ∷ []) ≡ mark_with a k u ++ x ∷ []
 with_append a k i [] x e h =
     let g : i ≡ k = omega arith in
     ap (λ (s : Choice → Status). record x { status = s } ∷ []) (fun_ext (λ o. ap (λ f. mark_status f (x.status o)) (sym (ap (λ j. a j o) g) ∙ h o) ∙ sym (none_status (x.status o))))

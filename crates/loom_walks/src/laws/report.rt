@@ -1,9 +1,14 @@
 //! Laws of what a check reports, and of runs that are replayed. The definitions stand in `specs/Trees/Reports.antt` and
 //! `specs/Trees/Replay.antt`.
 ghost use Rattle.loom_walks.specs.Trees.Replays.{AllowedReplayLaw, ReplayFollowsLaw};
-ghost use Rattle.loom_walks.specs.Trees.Reports.{CompleteReportLaw, FailedReportLaw, RefusedReplayLaw, StoppedReportLaw};
+ghost use Rattle.loom_walks.specs.Trees.Reports.{CompleteReportLaw, FailedReportLaw, RefusedReplayLaw, SearchLaw, StoppedReportLaw};
 
-/// A complete check has made each reachable run once and in order, and none of them fails.
+/// With the marks that schedules make each setting, reduced or not and bounded or not, gives a search.
+pub fn marks_search<A>()
+    ensures { SearchLaw A }
+{}
+
+/// A complete check has made each reachable run once, and none of them fails.
 pub fn complete_report<A>()
     ensures { CompleteReportLaw A }
 {}
