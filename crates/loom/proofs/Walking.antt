@@ -42,6 +42,7 @@ module _ {D : Type 0} (max_branches : ℕ) (tree : Tree D) where
   abbrev search : Settings
   search = whole_search max_branches
 
+  -- what the laws of reports rest on
   searches : IsRunTree tree → IsSearch search (marking None) tree
   searches sound = search_law search tree sound.sound
 

@@ -48,6 +48,7 @@ module _ {A : Type 0} (s : Settings) (adds : Marking) (tree : Tree A) where
   pub record HasCompleted (runs : List (List Choice × A)) : Type 0 where
     pub are_runs : AreRuns s.max_branches tree runs
     pub all_runs : AreReachable (choices_made runs)
+    -- no reachable run fails
     pub none_fails : (x : List Choice) → Reachable (machine_of s adds tree) x → (value : A) × (outcome s.max_branches tree x ≡ Some (Ok value))
 
   -- what is known of a check that was stopped before another run
@@ -71,7 +72,7 @@ module _ {A : Type 0} (s : Settings) (adds : Marking) (tree : Tree A) where
     -- its choices lead to the failure again
     pub replays : replayed s.max_branches tree failing ≡ (failing, Err failure)
 
--- With the marks that schedules make each setting gives a search.
+-- With the marks that schedules make any settings give a search, reduced or not and bounded or not.
 abbrev pub SearchLaw : Type 0 → Type 0
 SearchLaw A = (s : Settings) (tree : Tree A) → IsSoundTree tree → IsSearch s (marking s.bound) tree
 

@@ -3,7 +3,7 @@
 ghost use Rattle.loom_walks.specs.Trees.Replays.{AllowedReplayLaw, ReplayFollowsLaw};
 ghost use Rattle.loom_walks.specs.Trees.Reports.{CompleteReportLaw, FailedReportLaw, RefusedReplayLaw, SearchLaw, StoppedReportLaw};
 
-/// With the marks that schedules make each setting, reduced or not and bounded or not, gives a search.
+/// With the marks that schedules make any settings give a search, reduced or not and bounded or not.
 pub fn marks_search<A>()
     ensures { SearchLaw A }
 {}
