@@ -4,3 +4,4 @@ pub mod Missing
 pub mod Adding
 pub mod Moving
 pub mod Order
+pub mod Ends

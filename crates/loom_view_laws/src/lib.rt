@@ -3,6 +3,7 @@
 //! `loom_views`. No crate stands on this one.
 #![tactic(auto)]
 
+ghost use Rattle.loom_view_laws.specs.Ends.{EndLaw};
 ghost use Rattle.loom_view_laws.specs.Examples.{ExampleLaw};
 ghost use Rattle.loom_views.specs.Kept.{KeepingLaw, SlotsStayLaw};
 ghost use Rattle.loom_view_laws.specs.Reaching.{StayingLaw, BeginningLaw, UnreachedLaw};
@@ -119,6 +120,12 @@ pub fn unsynchronized_accesses_race_where_unreached()
 /// whatever moves come between (own).
 pub fn raising_accesses_reach_later_ones()
     ensures { OrderLaw }
+{}
+
+/// Of the end of a read only containment is said: in a small history its point doesn't reach the point of another thread's write,
+/// which passes, since its view is inside (own).
+pub fn ends_may_pass_unreached()
+    ensures { EndLaw }
 {}
 
 /// A sequentially consistent fence brings its thread what the earlier ones left at the global point, and leaves there what has
