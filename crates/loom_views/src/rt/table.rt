@@ -183,6 +183,8 @@ impl Views {
     }
 
     /// Adds an object with what is kept of it. An error where a growth was refused; then nothing changes.
+    // each caller knows the variant, so that it moves just what that holds
+    #[inline(always)]
     fn add(&mut self, kept: Kept) -> Result<(), AllocError>
         ensures ok { OnOk result (self.new ≡ record self.old { places = self.old.places ++ kept ∷ [] }) }
         ensures err { OnErr result (self.new ≡ self.old) }
