@@ -249,10 +249,12 @@ fn numbers_keep_their_value(rt: HostRuntime) -> Result<(), Fail> {
 }
 
 #[test]
-fn a_change_compares_by_the_bits_of_the_type(rt: HostRuntime) {
+fn a_change_is_by_a_number_of_the_type(rt: HostRuntime) {
     same(&rt, Change::Max(256 + 3).apply(Numbers::U8, 5), 5);
     same(&rt, Change::Max(256 + 7).apply(Numbers::U8, 5), 7);
     same(&rt, Change::Min(256 + 3).apply(Numbers::U8, 5), 3);
     same(&rt, Change::Max(128).apply(Numbers::I8, 5), 5);
     same(&rt, Change::Min(2).apply(Numbers::Bool, 1), 1);
+    same(&rt, Change::And(2).apply(Numbers::Bool, 1), 1);
+    same(&rt, Change::Xor(2).apply(Numbers::Bool, 1), 0);
 }

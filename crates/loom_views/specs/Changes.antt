@@ -39,14 +39,14 @@ larger numbers one other = if is_less numbers one other then other else one
 abbrev pub smaller : Numbers → ℕ → ℕ → ℕ
 smaller numbers one other = if is_less numbers other one then other else one
 
--- the number that takes the place of the one that was read
+-- the number that takes the place of the one that was read. The other number is cast to the type first
 abbrev pub changed : Numbers → Change → ℕ → ℕ
 changed numbers (Swap number) read = fit numbers number
-changed numbers (Add number) read = fit numbers ((read + number) % 2 ^ 64)
-changed numbers (Sub number) read = fit numbers ((read + 2 ^ 64 - number) % 2 ^ 64)
-changed numbers (And number) read = fit numbers (bit_and read number)
-changed numbers (Nand number) read = complement numbers (bit_and read number)
-changed numbers (Or number) read = fit numbers (bit_or read number)
-changed numbers (Xor number) read = fit numbers (bit_xor read number)
+changed numbers (Add number) read = fit numbers ((read + fit numbers number) % 2 ^ 64)
+changed numbers (Sub number) read = fit numbers ((read + 2 ^ 64 - fit numbers number) % 2 ^ 64)
+changed numbers (And number) read = fit numbers (bit_and read (fit numbers number))
+changed numbers (Nand number) read = complement numbers (bit_and read (fit numbers number))
+changed numbers (Or number) read = fit numbers (bit_or read (fit numbers number))
+changed numbers (Xor number) read = fit numbers (bit_xor read (fit numbers number))
 changed numbers (Max number) read = larger numbers read (fit numbers number)
 changed numbers (Min number) read = smaller numbers read (fit numbers number)

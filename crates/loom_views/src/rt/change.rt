@@ -5,7 +5,8 @@ ghost use Rattle.loom_views.specs.Changes.{fit, complement, is_less, larger, sma
 
 use crate::rt::num::{Numbers, Numeric};
 
-/// What a read-modify-write makes of the number that it reads, with a number of its own (loom's `sync/atomic/int.rs`).
+/// What a read-modify-write makes of the number that it reads, with a number of its own, which is cast to the type first
+/// (loom's `sync/atomic/int.rs`).
 #[derive(Clone, Copy, Debug, PartialEq, Eq)]
 pub enum Change {
     /// The other number.
@@ -19,9 +20,9 @@ pub enum Change {
     Nand(u64),
     Or(u64),
     Xor(u64),
-    /// The larger one, by the order of the type; the other number is cast to the type before.
+    /// The larger one, by the order of the type.
     Max(u64),
-    /// The smaller one, in the same way.
+    /// The smaller one, by the order of the type.
     Min(u64),
 }
 
@@ -87,12 +88,12 @@ impl Change {
     {
         match self {
             Change::Swap(number) => numbers.fit(number),
-            Change::Add(number) => numbers.fit(read.wrapping_add(number)),
-            Change::Sub(number) => numbers.fit(read.wrapping_sub(number)),
-            Change::And(number) => numbers.fit(read & number),
-            Change::Nand(number) => numbers.complement(read & number),
-            Change::Or(number) => numbers.fit(read | number),
-            Change::Xor(number) => numbers.fit(read ^ number),
+            Change::Add(number) => numbers.fit(read.wrapping_add(numbers.fit(number))),
+            Change::Sub(number) => numbers.fit(read.wrapping_sub(numbers.fit(number))),
+            Change::And(number) => numbers.fit(read & numbers.fit(number)),
+            Change::Nand(number) => numbers.complement(read & numbers.fit(number)),
+            Change::Or(number) => numbers.fit(read | numbers.fit(number)),
+            Change::Xor(number) => numbers.fit(read ^ numbers.fit(number)),
             Change::Max(number) => numbers.larger(read, numbers.fit(number)),
             Change::Min(number) => numbers.smaller(read, numbers.fit(number)),
         }
