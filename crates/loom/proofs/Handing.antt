@@ -1,6 +1,6 @@
 -- One operation more of a run.
-use Rattle.std.proofs.Common.{◌≡◌, ◌<◌, ◌≤◌, ◌+◌, ℕ, zero, suc, List, [], ◌∷◌, length, get_or, sym, ◌∙◌, ap, refl, arith}
-use Rattle.std.specs.Prelude.{Ok, Err, Option, Some, None, slice_get, slice_set, ⊤}
+use Rattle.std.proofs.Common.{◌≡◌, ◌<◌, ◌≤◌, ◌+◌, ℕ, zero, suc, List, [], ◌∷◌, length, get_or, sym, ◌∙◌, ap, refl, subst, arith}
+use Rattle.std.specs.Prelude.{◌≢◌, ◌⊎◌, OnOk, Result, Ok, Err, Option, Some, None, slice_get, slice_set, ⊤}
 use Rattle.loom_views.specs.declared.rt.failure.FailureKind.TheVariants.{Misuse}
 use Rattle.loom_objects.specs.declared.failure.Stop.{Stop}
 use Rattle.loom_objects.specs.declared.failure.Stop.TheVariants.{Failure as Because, Memory}
@@ -14,7 +14,7 @@ use Rattle.loom_objects.specs.Operation.{plain, started}
 use Rattle.loom_objects.specs.Shown.{Shows}
 use Rattle.loom_objects.specs.Tree.{Gives, ◌>>=◌, found}
 use Rattle.loom_objects.specs.World.{World}
-use Rattle.loom_engine.specs.Execution.{Comes}
+use Rattle.loom_engine.specs.Execution.{Comes, MayBeRefused}
 use Rattle.loom_runs.specs.Machine.{submit}
 use Rattle.loom_engine.specs.Routes.{Route, trail, settings_of, drives}
 use Rattle.loom_walks.specs.Trees.Meeting.{whole_search}
@@ -22,7 +22,7 @@ use Rattle.loom_runs.specs.Runs.{Meaning, with_child, at_turn, handed, play}
 use Rattle.loom_walks.specs.Trees.Drive.{drive}
 use Rattle.loom_walks.specs.Trees.Marks.{marking}
 use Rattle.loom_walks.proofs.Trees.Binding.{drive_then, drive_fails}
-use Rattle.loom.specs.Ending.{Outcome, IsUnderWay, ComesToTurn}
+use Rattle.loom.specs.Ending.{Outcome, IsUnderWay, ComesToTurn, MayBeRefusedBy}
 
 pub slice_get_is : {A : Type 0} (xs : List A) (i : ℕ) (x : A) → i < length xs → x ≡ get_or xs i x → slice_get xs i ≡ Some x
 slice_get_is [] i x l e = absurd (omega arith)
@@ -49,17 +49,29 @@ module _ {D S : Type 0} (next : Meaning D S) where
   nobody left bodies w thread answer path past =
       ap (λ o. drives (found o Misuse >>= (λ b. handed (play next left) bodies w thread (next b answer))) path) (slice_get_past bodies thread past)
 
+  -- the operation that the thread's body hands over
+  pub record IsHanded (bodies : List S) (thread : ℕ) (answer : Reply D) (body after : S) (op : Op D S) : Type 0 where
+    pub within : thread < length bodies
+    pub at : body ≡ get_or bodies thread body
+    pub step : (after, op) ≡ next body answer
+
+  -- memory may be refused at the operation that the thread's body hands over
+  pub refused_by : (bodies : List S) (run : RunState D) (path : Route) (thread : ℕ) (answer : Reply D) (body after : S) (op : Op D S) (todo : Op D ⊤) (child : Option S)
+      → IsHanded bodies thread answer body after op → todo ≡ plain op → child ≡ started op → (MayBeRefused todo run path ⊎ (child ≢ None))
+      → (own : S) → slice_get bodies thread ≡ Some own → MayBeRefusedBy (next own answer).1 run path
+  refused_by bodies run path thread answer body after op todo child h same_op same_child refused own at =
+      let there : slice_get bodies thread ≡ Some body = slice_get_is bodies thread body h.within h.at in
+      let same : body ≡ own = cc in
+      subst (λ (b : S). MayBeRefusedBy (next b answer).1 run path) same
+      (subst (λ (stepped : S × Op D S). MayBeRefusedBy stepped.1 run path) h.step
+      (subst (λ (o : Op D ⊤). MayBeRefused o run path ⊎ (started op ≢ None)) same_op
+      (subst (λ (c : Option S). MayBeRefused todo run path ⊎ (c ≢ None)) same_child refused)))
+
   module _ (outcome : Outcome D) where
     -- a thread that has no body
     pub no_body : (bodies : List S) (run : RunState D) (path : Route) (thread : ℕ) (answer : Reply D) → length bodies ≤ thread
         → IsUnderWay next outcome bodies run path thread answer → outcome ≡ (Err Misuse, trail path)
     no_body bodies run path thread answer past z = sym z.left ∙ nobody z.world.steps_left bodies z.world thread answer path past
-
-    -- the operation that the thread's body hands over
-    pub record IsHanded (bodies : List S) (thread : ℕ) (answer : Reply D) (body after : S) (op : Op D S) : Type 0 where
-      pub within : thread < length bodies
-      pub at : body ≡ get_or bodies thread body
-      pub step : (after, op) ≡ next body answer
 
     left_is : (bodies : List S) (run : RunState D) (path : Route) (thread : ℕ) (answer : Reply D) (body after : S) (op : Op D S)
         → IsHanded bodies thread answer body after op → (z : IsUnderWay next outcome bodies run path thread answer)
@@ -114,3 +126,16 @@ module _ {D S : Type 0} (next : Meaning D S) where
         ∙ sym (drive_then (settings_of path) (marking None) (submit (plain op) z.world) _ (trail path) (trail path') (turned, come.0)
         (ap (λ (o : Op D ⊤). drives (submit o z.world) path) (sym same_op) ∙ come.2))
         ∙ left_is bodies run path thread answer body after op h z)
+
+    -- the operation leads to a turn or stops the run
+    pub comes : (bodies : List S) (run run' : RunState D) (path path' : Route) (thread : ℕ) (answer : Reply D) (body after : S) (op : Op D S) (todo : Op D ⊤) (child : Option S) (result : Result (Turn D) Stop)
+        → IsHanded bodies thread answer body after op → todo ≡ plain op → child ≡ started op
+        → ((w : World D) → Shows w run → Comes (submit todo w) path result run' path')
+        → OnOk result (run.steps_left ≡ run'.steps_left + 1) → path'.max_branches ≡ path.max_branches
+        → IsUnderWay next outcome bodies run path thread answer
+        → (bodies' : List S) → OnOk result (bodies' ≡ with_child (slice_set bodies thread after) child)
+        → ComesToTurn next outcome result bodies' run' path'
+    comes bodies run run' path path' thread answer body after op todo child (Ok turned) h same_op same_child event steps same z bodies' more =
+        turns bodies run run' path path' thread answer body after op todo child turned h same_op same_child event steps same z bodies' more
+    comes bodies run run' path path' thread answer body after op todo child (Err stop) h same_op same_child event steps same z bodies' more =
+        stops bodies run run' path path' thread answer body after op todo stop h same_op event z bodies'

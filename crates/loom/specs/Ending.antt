@@ -1,16 +1,19 @@
 -- One run along a path, an operation after another.
-use Rattle.std.specs.Prelude.{◌≡◌, ℕ, suc, List, Result, Ok, Err}
+use Rattle.std.specs.Prelude.{◌≡◌, ◌≢◌, ◌⊎◌, ℕ, suc, List, None, Result, Ok, Err}
 use Rattle.loom_views.specs.declared.rt.failure.FailureKind.{FailureKind}
 use Rattle.loom_objects.specs.declared.failure.Stop.{Stop}
 use Rattle.loom_objects.specs.declared.failure.Stop.TheVariants.{Failure as Because, Memory}
+use Rattle.loom_objects.specs.declared.operation.Op.{Op}
 use Rattle.loom_objects.specs.declared.operation.Reply.{Reply}
 use Rattle.loom_objects.specs.declared.operation.Reply.TheVariants as reply
 use Rattle.loom_objects.specs.declared.operation.Turn.{Turn}
 use Rattle.loom_objects.specs.declared.operation.Turn.TheVariants as turn
 use Rattle.loom_objects.specs.declared.rt.run.RunState.{RunState}
+use Rattle.loom_objects.specs.Operation.{plain, started}
 use Rattle.loom_objects.specs.Tree.{Tree}
 use Rattle.loom_objects.specs.World.{World}
 use Rattle.loom_objects.specs.Shown.{Shows}
+use Rattle.loom_engine.specs.Execution.{MayBeRefused}
 use Rattle.loom_engine.specs.Routes.{Route, trail, drives}
 use Rattle.loom_runs.specs.Runs.{Meaning, play}
 use Rattle.loom_walks.specs.Trees.Drive.{Trail}
@@ -41,3 +44,7 @@ module _ {D S : Type 0} (next : Meaning D S) (outcome : Outcome D) where
   ComesToTurn (Ok (turn.Ended value)) bodies run path = outcome ≡ (Ok value, trail path)
   ComesToTurn (Err (Because failure)) bodies run path = outcome ≡ (Err failure.kind, trail path)
   ComesToTurn (Err Memory) bodies run path = Unit {0}
+
+-- memory may be refused at an operation that a body hands over: the event needs it, or what it starts is a body more
+abbrev pub MayBeRefusedBy : {D S : Type 0} → Op D S → RunState D → Route → Type 0
+MayBeRefusedBy op run path = MayBeRefused (plain op) run path ⊎ (started op ≢ None)

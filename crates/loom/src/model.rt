@@ -1,8 +1,9 @@
-ghost use Rattle.std.specs.Prelude.{◌≡◌, ◌<◌, ◌≤◌, ◌+◌, ◌⊎◌, None, OnOk, IfOk, IfErr, vec_len};
-ghost use Rattle.loom_engine.specs.Execution.{over_after};
+ghost use Rattle.std.specs.Prelude.{◌≡◌, ◌≢◌, ◌<◌, ◌≤◌, ◌+◌, ◌⊎◌, None, Some, Err, OnOk, OnErr, IfOk, IfErr, slice_get, vec_len};
+ghost use Rattle.loom_engine.specs.Execution.{Along, MayBeRefused, over_after};
+ghost use Rattle.loom_runs.specs.Machine as machine;
 ghost use Rattle.loom_runs.specs.Runs.{runs as runs_of, with_child};
 ghost use Rattle.loom.specs.Check.{Reports, ReportsAlone, Replays};
-ghost use Rattle.loom.specs.Ending.{Outcome, RunsAlong, IsUnderWay, ComesToTurn};
+ghost use Rattle.loom.specs.Ending.{Outcome, RunsAlong, IsUnderWay, ComesToTurn, MayBeRefusedBy};
 ghost use Rattle.loom.specs.Settings.{defaults, tested};
 
 use crate::error::CheckError;
@@ -11,8 +12,8 @@ use loom_engine::rt::execution::{Execution, Limits};
 use loom_engine::rt::path::Path;
 use loom_objects::body::Body;
 use loom_objects::choice::Choice;
-use loom_objects::failure::{Failure, Stop};
-use loom_objects::operation::{Reply, Turn};
+use loom_objects::failure::{Failure, Stop, failed};
+use loom_objects::operation::{Op, Reply, Turn};
 use loom_views::rt::failure::FailureKind;
 use std::alloc::{AllocError, Global};
 
@@ -222,13 +223,16 @@ impl Builder {
         let mut thread = 0usize;
         let mut reply = Reply::Start;
         loop {
-            match hand_over(&mut execution, &mut bodies, path, thread, reply) {
-                Err(Stop::Memory) => return Err(AllocError),
-                Err(Stop::Failure(failure)) => return Ok(Ending::Failed(failure)),
+            let answer = hand_over(&mut execution, &mut bodies, path, thread, reply)?;
+            match answer {
+                Err(stop) => match stop {
+                    Stop::Memory => return Err(AllocError),
+                    Stop::Failure(failure) => return Ok(Ending::Failed(failure)),
+                },
                 Ok(Turn::Ended(value)) => return Ok(Ending::Ended(value)),
-                Ok(Turn::Reply(next, answer)) => {
+                Ok(Turn::Reply(next, told)) => {
                     thread = next as usize;
-                    reply = answer;
+                    reply = told;
                 }
                 Ok(Turn::Start(next)) => {
                     thread = next as usize;
@@ -239,44 +243,59 @@ impl Builder {
     }
 }
 
-/// The thread is told the reply, and what its body hands over is submitted. What that starts is a body more.
+/// The thread is told the reply, and what its body hands over is submitted. What that starts is a body more. The outer error is
+/// the body's own: memory was refused to it.
 fn hand_over<B: Body>(
     execution: &mut Execution<B::Data>,
     bodies: &mut Vec<B>,
     path: &mut Path,
     thread: usize,
     reply: Reply<B::Data>,
-) -> Result<Turn<B::Data>, Stop>
+) -> Result<Result<Turn<B::Data>, Stop>, AllocError>
     requires { execution.old.over ≡ None }
     ensures turn { (outcome : Outcome B.Data) → IsUnderWay B.next outcome bodies.old.items execution.old.run path.old thread reply
-        → ComesToTurn B.next outcome result bodies.new.items execution.new.run path.new }
-    ensures over { OnOk result (execution.new.over ≡ over_after result) }
-    ensures steps { OnOk result (execution.old.run.steps_left ≡ execution.new.run.steps_left + 1) }
+        → IfOk result (λ answer. ComesToTurn B.next outcome answer bodies.new.items execution.new.run path.new) }
+    ensures over { IfOk result (λ answer. OnOk answer (execution.new.over ≡ over_after answer)) }
+    ensures steps { IfOk result (λ answer. OnOk answer (execution.old.run.steps_left ≡ execution.new.run.steps_left + 1)) }
+    ensures growth { IfOk result (λ answer. answer ≡ Err Stop.Memory → (body : B) → slice_get bodies.old.items thread ≡ Some body
+        → MayBeRefusedBy (B.next body reply).1 execution.old.run path.old) }
     ensures same { path.new.max_branches ≡ path.old.max_branches }
 {
     if thread >= bodies.len() {
-        return Err(Stop::Failure(Failure {
-            kind: FailureKind::Misuse,
-            location: None,
-        }));
+        return Ok(Err(failed(FailureKind::Misuse)));
     }
     let body = &mut bodies[thread];
-    let (op, started) = match body.resume(reply) {
-        Ok(op) => op.split(),
-        Err(_) => return Err(Stop::Memory),
-    };
-    match execution.submit(path, op) {
-        Err(stop) => Err(stop),
-        Ok(turn) => match add_child(bodies, started) {
-            Ok(()) => Ok(turn),
-            Err(_) => Err(Stop::Memory),
-        },
+    let (op, started) = body.resume(reply)?.split();
+    Ok(submit(execution, bodies, path, op, started))
+}
+
+/// The operation is submitted, and what it starts is a body more. `Memory` only where the event needs it, or a body is added.
+fn submit<B: Body>(
+    execution: &mut Execution<B::Data>,
+    bodies: &mut Vec<B>,
+    path: &mut Path,
+    op: Op<B::Data, ()>,
+    started: Option<B>,
+) -> Result<Turn<B::Data>, Stop>
+    requires { execution.old.over ≡ None }
+    ensures event { Along (machine.submit op) execution.old.run path.old result execution.new.run path.new }
+    ensures child { OnOk result (bodies.new.items ≡ with_child bodies.old.items started) }
+    ensures over { OnOk result (execution.new.over ≡ over_after result) }
+    ensures steps { OnOk result (execution.old.run.steps_left ≡ execution.new.run.steps_left + 1) }
+    ensures growth { result ≡ Err Stop.Memory → (MayBeRefused op execution.old.run path.old) ⊎ (started ≢ None) }
+    ensures same { path.new.max_branches ≡ path.old.max_branches }
+{
+    let turn = execution.submit(path, op)?;
+    match add_child(bodies, started) {
+        Ok(()) => Ok(turn),
+        Err(_) => Err(Stop::Memory),
     }
 }
 
 /// What a spawn started is a body more.
 fn add_child<B: Drop>(bodies: &mut Vec<B>, started: Option<B>) -> Result<(), AllocError>
-    ensures { OnOk result (bodies.new.items ≡ with_child bodies.old.items started) }
+    ensures more { OnOk result (bodies.new.items ≡ with_child bodies.old.items started) }
+    ensures growth { OnErr result (started ≢ None) }
 {
     if let Some(child) = started {
         bodies.push(child)?;

@@ -15,30 +15,30 @@ loop-bodies-init g c = record {
 
 pub loop-bodies-preserved-in-Ok-Reply : goal.loop-bodies-preserved-in-Ok-Reply
 loop-bodies-preserved-in-Ok-Reply g c =
-    let e = rw c.in-Ok-Reply.field-0-is at c.in-Ok-Reply.ensures.turn in
-    let o = rw c.in-Ok-Reply.field-0-is at c.in-Ok-Reply.ensures.over in
+    let e = rw (c.in-Ok-Reply.is, c.in-Ok-Reply.field-0-is) at c.in_ok-answer.ensures.turn in
+    let o = rw (c.in-Ok-Reply.is, c.in-Ok-Reply.field-0-is) at c.in_ok-answer.ensures.over in
     record {
       under_way = e _ c.loop-bodies.invariant.under_way;
       going = o;
-      same = c.in-Ok-Reply.ensures.same ∙ c.loop-bodies.invariant.same;
+      same = c.hand_over.ensures.same ∙ c.loop-bodies.invariant.same;
     }
 
 pub loop-bodies-preserved : goal.loop-bodies-preserved
 loop-bodies-preserved g c =
-    let e = rw c.in-Ok-Start.field-0-is at c.in-Ok-Start.ensures.turn in
-    let o = rw c.in-Ok-Start.field-0-is at c.in-Ok-Start.ensures.over in
+    let e = rw (c.in-Ok-Start.is, c.in-Ok-Start.field-0-is) at c.in_ok-answer.ensures.turn in
+    let o = rw (c.in-Ok-Start.is, c.in-Ok-Start.field-0-is) at c.in_ok-answer.ensures.over in
     record {
       under_way = e _ c.loop-bodies.invariant.under_way;
       going = o;
-      same = c.in-Ok-Start.ensures.same ∙ c.loop-bodies.invariant.same;
+      same = c.hand_over.ensures.same ∙ c.loop-bodies.invariant.same;
     }
 
-pub returns-in-Err-Failure-clause-along : goal.returns-in-Err-Failure-clause-along
-returns-in-Err-Failure-clause-along g c =
-    let e = rw c.in-Err-Failure.field-0-is at c.in-Err-Failure.ensures.turn in
+pub returns-in-Failure-clause-along : goal.returns-in-Failure-clause-along
+returns-in-Failure-clause-along g c =
+    let e = rw (c.in-Err.is, c.in-Failure.is) at c.in_ok-answer.ensures.turn in
     e _ c.loop-bodies.invariant.under_way
 
 pub returns-in-Ok-Ended-clause-along : goal.returns-in-Ok-Ended-clause-along
 returns-in-Ok-Ended-clause-along g c =
-    let e = rw c.in-Ok-Ended.field-0-is at c.in-Ok-Ended.ensures.turn in
+    let e = rw (c.in-Ok-Ended.is, c.in-Ok-Ended.field-0-is) at c.in_ok-answer.ensures.turn in
     e _ c.loop-bodies.invariant.under_way
