@@ -1,5 +1,7 @@
-ghost use Rattle.std.specs.Prelude.{◌≡◌, ◌≢◌, ◌<◌, ◌≤◌, ◌+◌, ◌⊎◌, None, Some, Err, OnOk, OnErr, IfOk, IfErr, slice_get, vec_len};
+ghost use Rattle.std.specs.Prelude.{List, ◌≡◌, ◌≢◌, ◌<◌, ◌≤◌, ◌+◌, ◌⊎◌, None, Some, Err, OnOk, OnErr, IfOk, IfErr, slice_get, vec_len};
 ghost use Rattle.loom_engine.specs.Execution.{Along, MayBeRefused, over_after};
+ghost use Rattle.loom_engine.specs.Routes.{chosen};
+ghost use Rattle.loom_objects.specs.declared.choice.Choice.{Choice};
 ghost use Rattle.loom_runs.specs.Machine as machine;
 ghost use Rattle.loom_runs.specs.Runs.{runs as runs_of, with_child};
 ghost use Rattle.loom.specs.Check.{Reports, ReportsAlone, Replays};
@@ -68,13 +70,38 @@ pub enum Replay<D> {
     },
 }
 
-// A visitor that keeps nothing.
+// The choices of a run are listed for a visitor.
+struct Listed;
+
+// Nobody takes the choices of a run.
+struct Unlisted;
+
+// Is given each run that ended without a failure, with the path that has made it. The choices are listed or not.
+trait Receiver<D, Choices> {
+    // What a call does: the receiver before it, the run's choices, main's result, and the receiver after it.
+    ghost receives: { Self → List Choice → D → Self → Type 0 };
+
+    // It fails only where a growth is refused, which ends the check.
+    fn receive(&mut self, alloc: Global, path: &Path, value: D) -> Result<(), AllocError>
+        ensures { OnOk result (receives self.old (chosen path.now) value self.new) };
+}
+
+impl<D: Drop, V: Visitor<D>> Receiver<D, Listed> for V {
+    ghost receives = { V.takes };
+
+    fn receive(&mut self, alloc: Global, path: &Path, value: D) -> Result<(), AllocError> {
+        let choices = path.choices(alloc)?;
+        self.run(choices.as_slice(), value)
+    }
+}
+
+// A receiver that keeps nothing.
 struct Nobody;
 
-impl<D: Drop> Visitor<D> for Nobody {
-    ghost takes = { λ old choices value new. Unit {0} };
+impl<D: Drop> Receiver<D, Unlisted> for Nobody {
+    ghost receives = { λ old choices value new. Unit {0} };
 
-    fn run(&mut self, _choices: &[Choice], _value: D) -> Result<(), AllocError> {
+    fn receive(&mut self, _alloc: Global, _path: &Path, _value: D) -> Result<(), AllocError> {
         Ok(())
     }
 }
@@ -131,7 +158,7 @@ impl Builder {
         ensures errors { IfErr result (λ e. (e ≡ CheckError.Memory) ⊎ (tested self.now ≡ Err e)) }
     {
         let mut nobody = Nobody;
-        let report = self.check_with(alloc, body, &mut nobody);
+        let report = self.search::<B, Unlisted, Nobody>(alloc, body, &mut nobody);
         let Nobody = nobody;
         report
     }
@@ -149,6 +176,20 @@ impl Builder {
         ensures refused { IfErr (tested self.now) (λ e. (result ≡ Err e) × (visitor.new ≡ visitor.old)) }
         ensures errors { IfErr result (λ e. (e ≡ CheckError.Memory) ⊎ (tested self.now ≡ Err e)) }
     {
+        self.search::<B, Listed, V>(alloc, body, visitor)
+    }
+
+    // The runs of a check, which a receiver is given.
+    fn search<B: Body, Choices, R: Receiver<B::Data, Choices>>(
+        &self,
+        alloc: Global,
+        body: &B,
+        receiver: &mut R,
+    ) -> Result<Report, CheckError>
+        ensures reports { IfOk result (Reports R.receives receiver.old receiver.new self.now.max_branches (runs_of B.next self.now.max_threads self.now.max_steps body.now)) }
+        ensures refused { IfErr (tested self.now) (λ e. (result ≡ Err e) × (receiver.new ≡ receiver.old)) }
+        ensures errors { IfErr result (λ e. (e ≡ CheckError.Memory) ⊎ (tested self.now ≡ Err e)) }
+    {
         self.test()?;
         let mut path = Path::new(alloc, self.max_branches);
         let mut runs = 0u64;
@@ -163,8 +204,7 @@ impl Builder {
                     });
                 }
                 Ending::Ended(value) => {
-                    let choices = path.choices(alloc)?;
-                    visitor.run(choices.as_slice(), value)?;
+                    receiver.receive(alloc, &path, value)?;
                     runs += 1;
                     if !path.step() {
                         return Ok(Report::Complete { runs });

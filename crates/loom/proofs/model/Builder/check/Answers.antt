@@ -6,5 +6,5 @@ use Rattle.loom.proofs.model.Builder.check.Goals as goal
 pub returns-clause-reports : goal.returns-clause-reports
 returns-clause-reports g c =
     let tree = runs g.B.Body.next c.args.self.now.max_threads c.args.self.now.max_steps c.args.body.now in
-    reports_alone_ok {V = Nobody} (λ old choices value new. Unit {0}) (record {}) c.check_with-report.new.visitor c.args.self.now.max_branches tree
-    c.check_with-report.result c.check_with-report.ensures.reports
+    reports_alone_ok {V = Nobody} (λ old choices value new. Unit {0}) (record {}) c.search-report.new.receiver c.args.self.now.max_branches tree
+    c.search-report.result c.search-report.ensures.reports
