@@ -46,7 +46,7 @@ def apply(edit, copy):
 
 
 def failing(edit):
-    """The names of the tests that fail under the edit, or nothing where they didn't run to their end."""
+    """The names of the tests that fail under the edit. Where they didn't run, what was said instead is printed."""
     with tempfile.TemporaryDirectory(prefix="wrong-bodies-") as folder:
         copy = Path(folder) / "copy"
         shutil.copytree(TOP, copy, ignore=shutil.ignore_patterns("out", ".git"))
@@ -55,7 +55,7 @@ def failing(edit):
             ["rt", "try", "--test"], cwd=copy / "crates" / TESTS, capture_output=True, text=True
         )
     if "test result: " not in tried.stdout:
-        return None
+        print(tried.stdout[-2000:] + tried.stderr[-2000:], file=sys.stderr)
     return re.findall(r"^test (\S+) \.\.\. FAILED", tried.stdout, re.MULTILINE)
 
 
@@ -68,7 +68,7 @@ def main():
             print(f"{name}: fails {', '.join(tests)}", flush=True)
         else:
             unseen += 1
-            print(f"{name}: {'the tests did not run' if tests is None else 'NO TEST FAILS'}", flush=True)
+            print(f"{name}: NO TEST FAILS", flush=True)
     sys.exit(1 if unseen else 0)
 
 

@@ -3,10 +3,10 @@ mod guide;
 mod lists;
 mod litmus;
 mod locks;
+mod plain;
 mod printed;
 mod replays;
 mod sizes;
-mod slow;
 
 use loom::model::{Builder, Report};
 use loom::visitor::Visitor;

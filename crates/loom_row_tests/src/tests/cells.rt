@@ -10,8 +10,8 @@ use loom_scripts::step::{END, EXIT, Step, Value};
 use std::process::Abort;
 use std::test::Fail;
 
-// Main exchanges the data of two cells, the second of which a thread writes.
-static SWAP_BESIDE_A_WRITE: [Step; 12] = [
+/// Main exchanges the data of two cells, the second of which a thread writes.
+pub static SWAP_BESIDE_A_WRITE: [Step; 12] = [
     Step::Do(0, Op::Cell(CellOp::New(Value::Plain(1)), None)),
     Step::Do(1, Op::Cell(CellOp::New(Value::Plain(2)), None)),
     Step::Do(2, Op::Thread(ThreadOp::Spawn(8, None), None)),
@@ -26,8 +26,8 @@ static SWAP_BESIDE_A_WRITE: [Step; 12] = [
     END,
 ];
 
-// Main exchanges the data of a cell and itself, which a thread writes, and finishes with what the cell holds then.
-static SWAP_WITH_ITSELF: [Step; 12] = [
+/// Main exchanges the data of a cell and itself, which a thread writes, and finishes with what the cell holds then.
+pub static SWAP_WITH_ITSELF: [Step; 12] = [
     Step::Do(0, Op::Cell(CellOp::New(Value::Plain(7)), None)),
     Step::Do(1, Op::Thread(ThreadOp::Spawn(8, None), None)),
     Step::Do(0, Op::Cell(CellOp::Swap(0, 0), None)),

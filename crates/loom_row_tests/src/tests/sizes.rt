@@ -13,9 +13,9 @@ use std::test::Fail;
 
 const FINISH: Step = Step::Do(0, Op::Thread(ThreadOp::Finish(Value::Plain(7)), None));
 
-// Main and three threads each spawn the next thread. The first three of these join it, so the last thread runs beside the
-// ends of the others alone.
-static FIVE_THREADS: [Step; 22] = [
+/// Main and three threads each spawn the next thread. The first three of these join it, so the last thread runs beside the
+/// ends of the others alone.
+pub static FIVE_THREADS: [Step; 22] = [
     Step::Do(0, Op::Thread(ThreadOp::Spawn(5, None), None)),
     Step::Do(0, Op::Thread(ThreadOp::Join(0, 0), None)),
     FINISH,
@@ -40,8 +40,8 @@ static FIVE_THREADS: [Step; 22] = [
     END,
 ];
 
-// Main takes three guards for reading of a lock, and ends them.
-static READ_THREE_TIMES: [Step; 10] = [
+/// Main takes three guards for reading of a lock, and ends them.
+pub static READ_THREE_TIMES: [Step; 10] = [
     Step::Do(0, Op::RwLock(RwLockOp::New(Value::Plain(1)), None)),
     Step::Do(0, Op::RwLock(RwLockOp::Read(0), None)),
     Step::Do(0, Op::RwLock(RwLockOp::Read(0), None)),

@@ -1,0 +1,288 @@
+//! Bodies that aren't rows, for what rows leave out: main is the one thread, and mostly spawns the other.
+use loom::sync::atomic::Ordering::{AcqRel, Acquire, Relaxed, Release, SeqCst};
+use loom_objects::operation::{
+    ArcOp, AtomicOp, CellOp, CondvarOp, Exchange, MutexOp, NotifyOp, Op, RwLockOp, ThreadOp,
+    TrackOp,
+};
+use loom_scripts::step::{END, EXIT, Step, Value, YIELD};
+use loom_views::rt::change::Change::Add;
+use loom_views::rt::num::Numbers;
+
+const FINISH: Step = Step::Do(0, Op::Thread(ThreadOp::Finish(Value::Held(0)), None));
+
+const NEW: Step = Step::Do(0, Op::Atomic(AtomicOp::New(Numbers::U64, 0), None));
+
+const NEW_CELL: Step = Step::Do(1, Op::Cell(CellOp::New(Value::Plain(0)), None));
+
+const GET: Step = Step::Do(0, Op::Cell(CellOp::Get(1), None));
+
+const REPLACE: Step = Step::Do(0, Op::Cell(CellOp::Replace(1, Value::Plain(3)), None));
+
+/// A thread writes a cell and hands it on by fences: main reads it where it loads the flag, behind a fence.
+pub static FENCES_HAND_ON: [Step; 14] = [
+    NEW,
+    NEW_CELL,
+    Step::Do(2, Op::Thread(ThreadOp::Spawn(10, None), None)),
+    Step::Do(0, Op::Atomic(AtomicOp::Load(0, Relaxed), None)),
+    Step::Unless(0, 1, 7),
+    Step::Do(0, Op::Fence(Acquire, None)),
+    GET,
+    FINISH,
+    EXIT,
+    END,
+    REPLACE,
+    Step::Do(0, Op::Fence(Release, None)),
+    Step::Do(0, Op::Atomic(AtomicOp::Store(0, 1, Relaxed), None)),
+    Step::Jump(7),
+];
+
+/// A thread writes a cell and releases a number, to which main adds. Main reads the cell where it acquires the sum.
+pub static UPDATES_PASS_ON: [Step; 13] = [
+    NEW,
+    NEW_CELL,
+    Step::Do(2, Op::Thread(ThreadOp::Spawn(10, None), None)),
+    Step::Do(1, Op::Atomic(AtomicOp::Update(0, Add(1), Relaxed), None)),
+    Step::Do(0, Op::Atomic(AtomicOp::Load(0, Acquire), None)),
+    Step::Unless(0, 2, 7),
+    GET,
+    FINISH,
+    EXIT,
+    END,
+    REPLACE,
+    Step::Do(0, Op::Atomic(AtomicOp::Store(0, 1, Release), None)),
+    Step::Jump(7),
+];
+
+/// A thread writes a cell and releases a number. Main finds the number by an exchange that fails and acquires, and reads the cell.
+pub static FAILING_ACQUIRES: [Step; 12] = [
+    NEW,
+    NEW_CELL,
+    Step::Do(2, Op::Thread(ThreadOp::Spawn(9, None), None)),
+    Step::Do(0, Op::Atomic(AtomicOp::CompareExchange(0, FIVE), None)),
+    Step::Unless(3, 1, 6),
+    GET,
+    FINISH,
+    EXIT,
+    END,
+    REPLACE,
+    Step::Do(0, Op::Atomic(AtomicOp::Store(0, 1, Release), None)),
+    Step::Jump(6),
+];
+
+const FIVE: Exchange = Exchange {
+    expected: 5,
+    new: 6,
+    success: Relaxed,
+    failure: Acquire,
+};
+
+/// Main yields between two loads, beside two stores.
+pub static YIELD_BETWEEN_LOADS: [Step; 11] = [
+    NEW,
+    Step::Do(1, Op::Thread(ThreadOp::Spawn(8, None), None)),
+    Step::Do(1, Op::Atomic(AtomicOp::Load(0, Relaxed), None)),
+    YIELD,
+    Step::Do(0, Op::Atomic(AtomicOp::Load(0, Relaxed), None)),
+    FINISH,
+    EXIT,
+    END,
+    Step::Do(0, Op::Atomic(AtomicOp::Store(0, 1, Relaxed), None)),
+    Step::Do(0, Op::Atomic(AtomicOp::Store(0, 2, Relaxed), None)),
+    Step::Jump(5),
+];
+
+/// Two threads each store and load, all sequentially consistent.
+pub static SEQ_CST_BUFFERING: [Step; 13] = [
+    NEW,
+    Step::Do(1, Op::Atomic(AtomicOp::New(Numbers::U64, 0), None)),
+    Step::Do(2, Op::Thread(ThreadOp::Spawn(10, None), None)),
+    Step::Do(0, Op::Atomic(AtomicOp::Store(1, 1, SeqCst), None)),
+    Step::Do(1, Op::Atomic(AtomicOp::Load(0, SeqCst), None)),
+    Step::Do(0, Op::Thread(ThreadOp::Join(2, 2), None)),
+    Step::Do(0, Op::Thread(ThreadOp::Finish(Value::Both(0, 1)), None)),
+    FINISH,
+    EXIT,
+    END,
+    Step::Do(0, Op::Atomic(AtomicOp::Store(0, 1, SeqCst), None)),
+    Step::Do(0, Op::Atomic(AtomicOp::Load(1, SeqCst), None)),
+    Step::Jump(7),
+];
+
+/// Main loads twice beside a thread that stores eight times, so that slots are used again.
+pub static STORES_WRAP: [Step; 15] = [
+    NEW,
+    Step::Do(1, Op::Thread(ThreadOp::Spawn(6, None), None)),
+    Step::Do(0, Op::Atomic(AtomicOp::Load(0, Relaxed), None)),
+    FINISH,
+    EXIT,
+    END,
+    Step::Do(0, Op::Atomic(AtomicOp::Store(0, 1, Relaxed), None)),
+    Step::Do(0, Op::Atomic(AtomicOp::Store(0, 2, Relaxed), None)),
+    Step::Do(0, Op::Atomic(AtomicOp::Store(0, 3, Relaxed), None)),
+    Step::Do(0, Op::Atomic(AtomicOp::Store(0, 4, Relaxed), None)),
+    Step::Do(0, Op::Atomic(AtomicOp::Store(0, 5, Relaxed), None)),
+    Step::Do(0, Op::Atomic(AtomicOp::Store(0, 6, Relaxed), None)),
+    Step::Do(0, Op::Atomic(AtomicOp::Store(0, 7, Relaxed), None)),
+    Step::Do(0, Op::Atomic(AtomicOp::Store(0, 8, Relaxed), None)),
+    Step::Jump(3),
+];
+
+/// Two threads swap where they find 0. Main joins the other, opens a mutation and ends it, and takes the atomic apart.
+pub static SWAPS_THEN_MUTATION: [Step; 12] = [
+    NEW,
+    Step::Do(1, Op::Thread(ThreadOp::Spawn(10, None), None)),
+    Step::Do(
+        1,
+        Op::Atomic(AtomicOp::CompareAndSwap(0, 0, 1, AcqRel), None),
+    ),
+    Step::Do(1, Op::Thread(ThreadOp::Join(1, 1), None)),
+    Step::Do(1, Op::Atomic(AtomicOp::WithMut(0), None)),
+    Step::Do(0, Op::Atomic(AtomicOp::WithMutEnd(0, 9), None)),
+    Step::Do(0, Op::Atomic(AtomicOp::IntoInner(0), None)),
+    FINISH,
+    EXIT,
+    END,
+    Step::Do(
+        0,
+        Op::Atomic(AtomicOp::CompareAndSwap(0, 0, 2, Relaxed), None),
+    ),
+    Step::Jump(7),
+];
+
+/// Main tries a mutex that the other thread locks, and takes it apart in the end.
+pub static TRIES_LOCK: [Step; 14] = [
+    Step::Do(0, Op::Mutex(MutexOp::New(Value::Plain(0)), None)),
+    Step::Do(1, Op::Thread(ThreadOp::Spawn(11, None), None)),
+    Step::Do(0, Op::Mutex(MutexOp::TryLock(0), None)),
+    Step::Unless(3, 0, 5),
+    Step::Do(0, Op::Mutex(MutexOp::Release(0, Value::Next(0)), None)),
+    Step::Do(1, Op::Thread(ThreadOp::Join(1, 1), None)),
+    Step::Do(0, Op::Mutex(MutexOp::GetMut(0), None)),
+    Step::Do(0, Op::Mutex(MutexOp::Put(0, Value::Held(0)), None)),
+    FINISH,
+    EXIT,
+    END,
+    Step::Do(0, Op::Mutex(MutexOp::Lock(0), None)),
+    Step::Do(0, Op::Mutex(MutexOp::Release(0, Value::Next(0)), None)),
+    Step::Jump(8),
+];
+
+/// Main reads a lock that the other thread tries to write, and takes the lock apart in the end.
+pub static TRIES_WRITE: [Step; 14] = [
+    Step::Do(0, Op::RwLock(RwLockOp::New(Value::Plain(0)), None)),
+    Step::Do(1, Op::Thread(ThreadOp::Spawn(10, None), None)),
+    Step::Do(0, Op::RwLock(RwLockOp::Read(0), None)),
+    YIELD,
+    Step::Do(0, Op::RwLock(RwLockOp::ReadRelease(0), None)),
+    Step::Do(1, Op::Thread(ThreadOp::Join(1, 1), None)),
+    Step::Do(0, Op::RwLock(RwLockOp::IntoInner(0), None)),
+    FINISH,
+    EXIT,
+    END,
+    Step::Do(0, Op::RwLock(RwLockOp::TryWrite(0), None)),
+    Step::Unless(3, 0, 7),
+    Step::Do(
+        0,
+        Op::RwLock(RwLockOp::WriteRelease(0, Value::Plain(4)), None),
+    ),
+    Step::Jump(7),
+];
+
+/// Main writes a lock that the other thread tries to read.
+pub static TRIES_READ: [Step; 12] = [
+    Step::Do(0, Op::RwLock(RwLockOp::New(Value::Plain(0)), None)),
+    Step::Do(1, Op::Thread(ThreadOp::Spawn(8, None), None)),
+    Step::Do(0, Op::RwLock(RwLockOp::Write(0), None)),
+    YIELD,
+    Step::Do(
+        0,
+        Op::RwLock(RwLockOp::WriteRelease(0, Value::Plain(5)), None),
+    ),
+    FINISH,
+    EXIT,
+    END,
+    Step::Do(0, Op::RwLock(RwLockOp::TryRead(0), None)),
+    Step::Unless(3, 0, 5),
+    Step::Do(0, Op::RwLock(RwLockOp::ReadRelease(0), None)),
+    Step::Jump(5),
+];
+
+/// Main waits for a notification with a time, by which a thread hands over a cell that it wrote under the mutex.
+pub static WAITS_WITH_TIME: [Step; 16] = [
+    Step::Do(0, Op::Mutex(MutexOp::New(Value::Plain(0)), None)),
+    NEW_CELL,
+    Step::Do(2, Op::Condvar(CondvarOp::New, None)),
+    Step::Do(0, Op::Mutex(MutexOp::Lock(0), None)),
+    Step::Do(3, Op::Thread(ThreadOp::Spawn(11, None), None)),
+    Step::Do(
+        0,
+        Op::Condvar(CondvarOp::WaitTimeout(2, 0, Value::Plain(1)), None),
+    ),
+    GET,
+    Step::Do(1, Op::Mutex(MutexOp::Release(0, Value::Plain(0)), None)),
+    FINISH,
+    EXIT,
+    END,
+    Step::Do(0, Op::Mutex(MutexOp::Lock(0), None)),
+    REPLACE,
+    Step::Do(0, Op::Mutex(MutexOp::Release(0, Value::Plain(0)), None)),
+    Step::Do(0, Op::Condvar(CondvarOp::NotifyAll(2), None)),
+    Step::Jump(8),
+];
+
+/// Main waits on a notifier, by which a thread hands over a cell. Where it wakes without a notification it is a race.
+pub static NOTIFIER_HANDS_ON: [Step; 11] = [
+    Step::Do(0, Op::Notify(NotifyOp::New, None)),
+    NEW_CELL,
+    Step::Do(2, Op::Thread(ThreadOp::Spawn(8, None), None)),
+    Step::Do(0, Op::Notify(NotifyOp::Wait(0), None)),
+    GET,
+    FINISH,
+    EXIT,
+    END,
+    REPLACE,
+    Step::Do(0, Op::Notify(NotifyOp::Notify(0), None)),
+    Step::Jump(5),
+];
+
+/// Main waits on a notifier beside a thread that notifies it.
+pub static WAKES_EARLY: [Step; 8] = [
+    Step::Do(0, Op::Notify(NotifyOp::New, None)),
+    Step::Do(1, Op::Thread(ThreadOp::Spawn(6, None), None)),
+    Step::Do(0, Op::Notify(NotifyOp::Wait(0), None)),
+    FINISH,
+    EXIT,
+    END,
+    Step::Do(0, Op::Notify(NotifyOp::Notify(0), None)),
+    Step::Jump(3),
+];
+
+/// Two threads share a counted reference. Main takes the value apart if it is alone, and else out for a moment, and drops it.
+pub static SHARED_COUNT: [Step; 14] = [
+    Step::Do(0, Op::Arc(ArcOp::New(Value::Plain(8)), None)),
+    Step::Do(0, Op::Arc(ArcOp::Clone(0), None)),
+    Step::Do(1, Op::Thread(ThreadOp::Spawn(12, None), None)),
+    Step::Do(0, Op::Arc(ArcOp::TryUnwrap(0), None)),
+    Step::Unless(3, 1, 9),
+    Step::Do(1, Op::Arc(ArcOp::GetMut(0), None)),
+    Step::Unless(1, 8, 8),
+    Step::Do(0, Op::Arc(ArcOp::Put(0, Value::Plain(6)), None)),
+    Step::Do(0, Op::Arc(ArcOp::Drop(0), None)),
+    FINISH,
+    EXIT,
+    END,
+    Step::Do(0, Op::Arc(ArcOp::Drop(0), None)),
+    Step::Jump(9),
+];
+
+/// Main looks at a tracked value and takes it out and back, before it gives the value back.
+pub static TRACKED: [Step; 8] = [
+    Step::Do(0, Op::Track(TrackOp::New(Value::Plain(2)), None)),
+    Step::Do(0, Op::Track(TrackOp::GetRef(0), None)),
+    Step::Do(0, Op::Track(TrackOp::GetMut(0), None)),
+    Step::Do(0, Op::Track(TrackOp::Put(0, Value::Next(0)), None)),
+    Step::Do(0, Op::Track(TrackOp::IntoInner(0), None)),
+    FINISH,
+    EXIT,
+    END,
+];
