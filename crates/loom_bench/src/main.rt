@@ -1,18 +1,16 @@
-//! Measures checks: prints how many runs each makes, and on standard error how long it took.
+//! Measures checks: prints what each finds, and on standard error how long it took.
 #![tactic(auto)]
 
-ghost use Rattle.std.specs.Prelude.{◌≡◌, ◌-◌, ◌*◌, ◌/◌, ◌^◌, IfSome, min, max};
+ghost use Rattle.std.specs.Prelude.{◌≡◌, ◌⊎◌, ◌-◌, ◌*◌, ◌/◌, ◌^◌, IfOk, IfSome, min, max};
 ghost use Rattle.std.specs.Duration.{as_nanos};
-ghost use Rattle.loom_runs.specs.Runs.{runs as runs_of};
-ghost use Rattle.loom.specs.Check.{ReportsAlone};
-ghost use Rattle.loom.specs.declared.model.Report.TheVariants.{Complete};
-ghost use Rattle.loom_scripts.specs.Running.{started};
-ghost use Rattle.loom_scripts.specs.Script.{next_of};
+ghost use Rattle.loom_row_bodies.specs.Rows.{ReportsScript};
+ghost use Rattle.loom_bench.specs.Measures.{PrintedBody, PrintedLine};
 
 mod bodies;
 
-use crate::bodies::{Measured, body_of};
-use loom::model::{Builder, Report};
+use crate::bodies::{Measured, all_bodies, body_of};
+use loom::model::Report;
+use loom_row_bodies::line::{self, ShownReport};
 use loom_scripts::script::Script;
 use std::alloc::Global;
 use std::env;
@@ -40,61 +38,83 @@ fn run(rt: &HostRuntime) -> io::Result<u8> {
     }
 }
 
-/// Checks each body of these names, and answers the exit status: 2 where a name means no body, and 1 where a check isn't
-/// complete.
+/// Checks each body of these names, and answers the highest exit status of `measure`.
 fn measure_each(rt: &HostRuntime, names: &[&str]) -> io::Result<u8> {
+    let bodies = all_bodies();
     let mut status = 0;
     for name in names {
-        match body_of(name) {
-            Some(body) => status = status.max(measure(rt, name, body)?),
-            None => {
-                writeln!(rt.stderr(), "usage: loom_bench [NAME..]")?;
-                return Ok(2);
-            }
-        }
+        status = status.max(measure(rt, bodies, name, &mut rt.stdout(), &mut rt.stderr())?);
     }
     Ok(status)
 }
 
-/// Checks a body with the defaults, and prints the number of its runs, and how long all its checks took.
-fn measure(rt: &HostRuntime, name: &str, body: Measured) -> io::Result<u8> {
+/// Checks the body of this name as often as it says, and prints what the last check finds, and on standard error how long all
+/// of them took. Answers the exit status: 2 where the name means no body and where memory is refused, and 1 where a run fails.
+fn measure<O: Write, E: Write>(
+    rt: &HostRuntime,
+    bodies: &[Measured],
+    name: &str,
+    out: &mut O,
+    err: &mut E,
+) -> io::Result<u8>
+    ensures { IfOk result (λ status. (status ≡ 2) ⊎ PrintedBody bodies.now name.now (O.contents out.old) (O.contents out.new) status) }
+{
+    let Some(body) = body_of(bodies, name) else {
+        writeln!(err, "usage: loom_bench [NAME..]")?;
+        return Ok(2);
+    };
     let start = Instant::now(rt)?;
-    let runs = check_often(rt.alloc(), body);
+    let report = check_often(rt.alloc(), body);
     let taken = start.elapsed(rt)?;
-    match runs {
-        Some(runs) => {
-            writeln!(rt.stdout(), "{name} complete {runs}")?;
-            let checks = body.checks;
-            let speed = per_second(u128::from(runs) * u128::from(checks), taken);
-            let millis = taken.as_millis();
-            writeln!(
-                rt.stderr(),
-                "{name}: {checks} checks, {millis} ms, {speed} runs per second"
-            )?;
-            Ok(0)
-        }
-        None => {
-            writeln!(rt.stdout(), "{name} isn't complete")?;
-            Ok(1)
-        }
-    }
+    let Some(report) = report else {
+        writeln!(err, "{name}: no report")?;
+        return Ok(2);
+    };
+    let status = print_line(out, name, &report)?;
+    print_speed(err, body, &report, taken)?;
+    Ok(status)
 }
 
-/// The number of runs of a check, once all checks were made; None where one isn't complete, or none is to be made.
-fn check_often(alloc: Global, body: Measured) -> Option<u64>
-    ensures { IfSome result (λ runs. ReportsAlone 1000 (runs_of next_of 5 1000000 (started body.steps.now)) (Complete runs)) }
+/// The report of the last check, once all checks were made; None where memory is refused, or none is to be made.
+fn check_often(alloc: Global, body: &Measured) -> Option<Report>
+    ensures { IfSome result (ReportsScript body.now.steps.now body.now.builder) }
 {
-    let Ok(script) = Script::new(alloc, body.steps) else {
-        return None;
-    };
-    let mut made = None;
+    let script = Script::new(alloc, body.steps).ok()?;
+    let mut found = None;
     for _ in 0..body.checks {
-        match Builder::new().check(alloc, &script) {
-            Ok(Report::Complete { runs }) => made = Some(runs),
-            _ => return None,
-        }
+        found = Some(body.builder.check(alloc, &script).ok()?);
     }
-    made
+    found
+}
+
+/// Prints the name and the report, and answers the report's exit status.
+fn print_line<W: Write>(out: &mut W, name: &str, report: &Report) -> io::Result<u8>
+    ensures { IfOk result (λ status. PrintedLine name.now report.now (W.contents out.old) (W.contents out.new) status) }
+{
+    let shown = ShownReport(report);
+    writeln!(out, "{name} {shown}")?;
+    Ok(line::status_of(report))
+}
+
+/// Prints how many checks were made, how long they took, and how many runs a second that is.
+fn print_speed<W: Write>(
+    err: &mut W,
+    body: &Measured,
+    report: &Report,
+    taken: Duration,
+) -> io::Result<()> {
+    let runs = match report {
+        Report::Complete { runs } | Report::Stopped { runs, .. } | Report::Failed { runs, .. } =>
+            *runs,
+    };
+    let name = body.name;
+    let checks = body.checks;
+    let speed = per_second(u128::from(runs) * u128::from(checks), taken);
+    let millis = taken.as_millis();
+    writeln!(
+        err,
+        "{name}: {checks} checks, {millis} ms, {speed} runs per second"
+    )
 }
 
 /// How many runs a second holds, if these took so long; of less than a millisecond, as if it were one.

@@ -1,3 +1,4 @@
 pub mod Guide
 pub mod Line
+pub mod Rows
 pub mod Updates

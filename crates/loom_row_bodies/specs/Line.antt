@@ -37,7 +37,3 @@ status_of (Failed runs failure choices) = 1
 -- a writer that held the old bytes holds the report's line behind them, and the status is the report's
 abbrev pub PrintedOf : Report → Option (List ℕ) → Option (List ℕ) → ℕ → Type 0
 PrintedOf report old new status = (status ≡ status_of report) × Appends old new (report_text report ++ codes "\n")
-
--- the same, for some report
-abbrev pub Printed : Option (List ℕ) → Option (List ℕ) → ℕ → Type 0
-Printed old new status = (report : Report) × PrintedOf report old new status

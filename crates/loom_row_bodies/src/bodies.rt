@@ -4,20 +4,21 @@ pub mod atomics;
 pub mod cells;
 pub mod locks;
 
+use crate::rows::{DEFAULTS, Row, TEN_STEPS, row};
 use loom::sync::atomic::Ordering::{Acquire, Relaxed, Release};
 use loom_objects::operation::{AtomicOp, MutexOp, Op, ThreadOp};
 use loom_scripts::step::{END, EXIT, FAIL, Step, Value};
 use loom_views::rt::num::Numbers;
 
 /// Main finishes, exits and ends.
-pub static FINISH_ONLY: [Step; 3] = [
+pub const FINISH_ONLY: &[Step] = &[
     Step::Do(0, Op::Thread(ThreadOp::Finish(Value::Plain(7)), None)),
     EXIT,
     END,
 ];
 
 /// Main spawns a thread, which does nothing but end.
-pub static SPAWN_ONLY: [Step; 7] = [
+pub const SPAWN_ONLY: &[Step] = &[
     Step::Do(0, Op::Thread(ThreadOp::Spawn(4, None), None)),
     Step::Do(0, Op::Thread(ThreadOp::Finish(Value::Plain(7)), None)),
     EXIT,
@@ -28,7 +29,7 @@ pub static SPAWN_ONLY: [Step; 7] = [
 ];
 
 /// Main locks a mutex beside a thread that does nothing but end.
-pub static LOCK_BESIDE: [Step; 10] = [
+pub const LOCK_BESIDE: &[Step] = &[
     Step::Do(0, Op::Mutex(MutexOp::New(Value::Plain(0)), None)),
     Step::Do(1, Op::Thread(ThreadOp::Spawn(7, None), None)),
     Step::Do(0, Op::Mutex(MutexOp::Lock(0), None)),
@@ -42,16 +43,16 @@ pub static LOCK_BESIDE: [Step; 10] = [
 ];
 
 /// Main makes mutexes without end.
-pub static MUTEX_FOREVER: [Step; 2] = [
+pub const MUTEX_FOREVER: &[Step] = &[
     Step::Do(0, Op::Mutex(MutexOp::New(Value::Plain(0)), None)),
     Step::Jump(0),
 ];
 
 /// Main's assertion fails.
-pub static FAIL_AT_ONCE: [Step; 1] = [FAIL];
+pub const FAIL_AT_ONCE: &[Step] = &[FAIL];
 
 /// One thread locks a mutex and then another, a second thread the other and then the one. Main joins them.
-pub static TWO_MUTEXES_DEADLOCK: [Step; 23] = [
+pub const TWO_MUTEXES_DEADLOCK: &[Step] = &[
     Step::Do(0, Op::Mutex(MutexOp::New(Value::Plain(0)), None)),
     Step::Do(1, Op::Mutex(MutexOp::New(Value::Plain(0)), None)),
     Step::Do(2, Op::Thread(ThreadOp::Spawn(9, None), None)),
@@ -78,7 +79,7 @@ pub static TWO_MUTEXES_DEADLOCK: [Step; 23] = [
 ];
 
 /// Main loads from an atomic beside a thread that stores 1 into it, and finishes with what it loaded.
-pub static LOAD_BESIDE: [Step; 10] = [
+pub const LOAD_BESIDE: &[Step] = &[
     Step::Do(0, Op::Atomic(AtomicOp::New(Numbers::U64, 0), None)),
     Step::Do(1, Op::Thread(ThreadOp::Spawn(6, None), None)),
     Step::Do(0, Op::Atomic(AtomicOp::Load(0, Relaxed), None)),
@@ -92,7 +93,7 @@ pub static LOAD_BESIDE: [Step; 10] = [
 ];
 
 /// Main stores 1 to 7 into an atomic, loads from it, and finishes with what it loaded.
-pub static STORE_SEVEN: [Step; 12] = [
+pub const STORE_SEVEN: &[Step] = &[
     Step::Do(0, Op::Atomic(AtomicOp::New(Numbers::U64, 0), None)),
     Step::Do(0, Op::Atomic(AtomicOp::Store(0, 1, Relaxed), None)),
     Step::Do(0, Op::Atomic(AtomicOp::Store(0, 2, Relaxed), None)),
@@ -109,7 +110,7 @@ pub static STORE_SEVEN: [Step; 12] = [
 
 /// Two threads store 1, each into an atomic of its own, and then load from the other's. Main is one of them, and finishes
 /// with ten times what the other thread loaded and what it loaded itself (loom's `tests/litmus.rs`).
-pub static STORE_BUFFERING: [Step; 14] = [
+pub const STORE_BUFFERING: &[Step] = &[
     Step::Do(0, Op::Atomic(AtomicOp::New(Numbers::U64, 0), None)),
     Step::Do(1, Op::Atomic(AtomicOp::New(Numbers::U64, 0), None)),
     Step::Do(2, Op::Thread(ThreadOp::Spawn(9, None), None)),
@@ -128,7 +129,7 @@ pub static STORE_BUFFERING: [Step; 14] = [
 
 /// Main loads from one atomic and stores 1 into another, beside a thread that stores into the one what it loads from the
 /// other. Main finishes with what it loaded (loom's `tests/litmus.rs`).
-pub static LOAD_BUFFERING: [Step; 14] = [
+pub const LOAD_BUFFERING: &[Step] = &[
     Step::Do(0, Op::Atomic(AtomicOp::New(Numbers::U64, 0), None)),
     Step::Do(1, Op::Atomic(AtomicOp::New(Numbers::U64, 0), None)),
     Step::Do(2, Op::Thread(ThreadOp::Spawn(9, None), None)),
@@ -147,7 +148,7 @@ pub static LOAD_BUFFERING: [Step; 14] = [
 
 /// A thread stores 1 into one atomic and releases it by a second. Where main acquires that, it asserts that it loads the 1
 /// (loom's `tests/atomic_relaxed.rs`).
-pub static CHECK_ORDERING_VALID: [Step; 16] = [
+pub const CHECK_ORDERING_VALID: &[Step] = &[
     Step::Do(0, Op::Atomic(AtomicOp::New(Numbers::U64, 0), None)),
     Step::Do(1, Op::Atomic(AtomicOp::New(Numbers::U64, 0), None)),
     Step::Do(2, Op::Thread(ThreadOp::Spawn(11, None), None)),
@@ -167,7 +168,7 @@ pub static CHECK_ORDERING_VALID: [Step; 16] = [
 ];
 
 /// The same, but main doesn't acquire (loom's `tests/atomic_relaxed.rs`).
-pub static CHECK_ORDERING_INVALID_1: [Step; 16] = [
+pub const CHECK_ORDERING_INVALID_1: &[Step] = &[
     Step::Do(0, Op::Atomic(AtomicOp::New(Numbers::U64, 0), None)),
     Step::Do(1, Op::Atomic(AtomicOp::New(Numbers::U64, 0), None)),
     Step::Do(2, Op::Thread(ThreadOp::Spawn(11, None), None)),
@@ -188,7 +189,7 @@ pub static CHECK_ORDERING_INVALID_1: [Step; 16] = [
 
 /// Two threads each store one more than they load. Main joins them, and asserts that 2 is loaded then (loom's
 /// `tests/smoke.rs`).
-pub static CHECKS_FAIL: [Step; 16] = [
+pub const CHECKS_FAIL: &[Step] = &[
     Step::Do(0, Op::Atomic(AtomicOp::New(Numbers::U64, 0), None)),
     Step::Do(1, Op::Thread(ThreadOp::Spawn(11, None), None)),
     Step::Do(2, Op::Thread(ThreadOp::Spawn(11, None), None)),
@@ -206,3 +207,24 @@ pub static CHECKS_FAIL: [Step; 16] = [
     EXIT,
     END,
 ];
+
+static ROWS: [Row; 13] = [
+    row!("finish_only", FINISH_ONLY),
+    row!("spawn_only", SPAWN_ONLY),
+    row!("lock_beside", LOCK_BESIDE),
+    row!("mutex_forever", MUTEX_FOREVER, TEN_STEPS),
+    row!("fail_at_once", FAIL_AT_ONCE),
+    row!("two_mutexes_deadlock", TWO_MUTEXES_DEADLOCK),
+    row!("load_beside", LOAD_BESIDE),
+    row!("store_seven", STORE_SEVEN),
+    row!("store_buffering", STORE_BUFFERING),
+    row!("load_buffering", LOAD_BUFFERING),
+    row!("check_ordering_valid", CHECK_ORDERING_VALID),
+    row!("check_ordering_invalid_1", CHECK_ORDERING_INVALID_1),
+    row!("checks_fail", CHECKS_FAIL),
+];
+
+/// The rows of these scripts.
+pub fn rows() -> &'static [Row] {
+    &ROWS
+}

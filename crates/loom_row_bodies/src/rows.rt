@@ -1,6 +1,9 @@
 //! The rows: bodies with names, and how each is checked.
-ghost use Rattle.std.specs.Prelude.{◌≡◌, ◌⊎◌, IfOk};
-ghost use Rattle.loom_row_bodies.specs.Line.{Printed, PrintedOf};
+ghost use Rattle.std.specs.Prelude.{◌≡◌, ◌⊎◌, IfOk, map, option_copied};
+ghost use Rattle.loom_runs.specs.Runs.{runs as runs_of};
+ghost use Rattle.loom.specs.Check.{ReportsAlone};
+ghost use Rattle.loom_row_bodies.specs.Line.{PrintedOf};
+ghost use Rattle.loom_row_bodies.specs.Rows.{PrintedRow, PrintedSome, ReportsOf, row_of};
 
 use crate::bodies::{self, atomics, cells, locks};
 use crate::line::{self, ShownReport};
@@ -10,160 +13,106 @@ use loom::model::{Builder, Report};
 use loom_scripts::number::Number;
 use loom_scripts::script::Script;
 use loom_scripts::step::Step;
+use std::alloc::{AllocError, Global};
 use std::io::{self, Write};
 
-/// A script, and how it is checked.
+/// What a row checks.
+#[derive(Clone, Copy)]
+pub enum Checked {
+    /// The script with these steps; main begins at the first one.
+    Script(&'static [Step]),
+    /// The thread that updates its atomic, with these two numbers.
+    Updater(u64, u64),
+}
+
+/// A body with a name, and how it is checked.
 #[derive(Clone, Copy)]
 pub struct Row {
-    /// The steps of its threads; main begins at the first one.
-    pub steps: &'static [Step],
+    /// The word that means the row.
+    pub name: &'static str,
+    /// What is checked.
+    pub checked: Checked,
     /// How it is checked.
     pub builder: Builder,
 }
 
-impl Row {
-    /// The script, checked with the defaults.
-    pub fn new(steps: &'static [Step]) -> Row
-        ensures { result.steps ≡ steps.entry }
-    {
-        Row {
-            steps,
-            builder: Builder::new(),
-        }
-    }
-}
+/// The settings that a builder begins with.
+pub const DEFAULTS: Builder = Builder {
+    max_threads: 5,
+    max_branches: 1000,
+    max_steps: 1_000_000,
+};
 
-/// The row of this name.
-pub fn row_of(name: &str) -> Option<Row> {
-    match name {
-        "finish_only" => Some(Row::new(&bodies::FINISH_ONLY)),
-        "spawn_only" => Some(Row::new(&bodies::SPAWN_ONLY)),
-        "lock_beside" => Some(Row::new(&bodies::LOCK_BESIDE)),
-        "mutex_forever" => {
-            let mut row = Row::new(&bodies::MUTEX_FOREVER);
-            row.builder.max_steps = 10;
-            Some(row)
-        }
-        "fail_at_once" => Some(Row::new(&bodies::FAIL_AT_ONCE)),
-        "two_mutexes_deadlock" => Some(Row::new(&bodies::TWO_MUTEXES_DEADLOCK)),
-        "load_beside" => Some(Row::new(&bodies::LOAD_BESIDE)),
-        "store_seven" => Some(Row::new(&bodies::STORE_SEVEN)),
-        "store_buffering" => Some(Row::new(&bodies::STORE_BUFFERING)),
-        "load_buffering" => Some(Row::new(&bodies::LOAD_BUFFERING)),
-        "check_ordering_valid" => Some(Row::new(&bodies::CHECK_ORDERING_VALID)),
-        "check_ordering_invalid_1" => Some(Row::new(&bodies::CHECK_ORDERING_INVALID_1)),
-        "checks_fail" => Some(Row::new(&bodies::CHECKS_FAIL)),
-        _ => atomic_row_of(name),
-    }
-}
+/// The same, but the threads of a run hand over ten operations at most.
+pub const TEN_STEPS: Builder = Builder {
+    max_threads: 5,
+    max_branches: 1000,
+    max_steps: 10,
+};
 
-// The row of this name, among those about atomics and fences.
-fn atomic_row_of(name: &str) -> Option<Row> {
-    match name {
-        "u8_functions" => Some(Row::new(&atomics::U8_FUNCTIONS)),
-        "i8_functions" => Some(Row::new(&atomics::I8_FUNCTIONS)),
-        "bool_nand" => Some(Row::new(&atomics::BOOL_NAND)),
-        "compare_exchange" => Some(Row::new(&atomics::COMPARE_EXCHANGE)),
-        "unsync_race" => Some(Row::new(&atomics::UNSYNC_RACE)),
-        "load_in_with_mut" => Some(Row::new(&atomics::LOAD_IN_WITH_MUT)),
-        "relaxed_fence" => Some(Row::new(&atomics::RELAXED_FENCE)),
-        "fences_then_relaxed" => Some(Row::new(&atomics::FENCES_THEN_RELAXED)),
-        "unsync_load_forever" => {
-            let mut row = Row::new(&atomics::UNSYNC_LOAD_FOREVER);
-            row.builder.max_steps = 10;
-            Some(row)
-        }
-        "sb_fences" => Some(Row::new(&atomics::SB_FENCES)),
-        "fetch_add_atomic" => Some(Row::new(&atomics::FETCH_ADD_ATOMIC)),
-        "orders_equal" => Some(Row::new(&atomics::ORDERS_EQUAL)),
-        _ => cell_row_of(name),
-    }
-}
-
-// The row of this name, among those about cells, counted references and tracked values.
-fn cell_row_of(name: &str) -> Option<Row> {
-    let steps: &'static [Step] = match name {
-        "atomic_causality_success" => &cells::ATOMIC_CAUSALITY_SUCCESS,
-        "atomic_causality_fail" => &cells::ATOMIC_CAUSALITY_FAIL,
-        "unsafe_cell_race_mut_mut_1" => &cells::UNSAFE_CELL_RACE_MUT_MUT_1,
-        "unsafe_cell_race_mut_mut_2" => &cells::UNSAFE_CELL_RACE_MUT_MUT_2,
-        "unsafe_cell_race_mut_immut_1" => &cells::UNSAFE_CELL_RACE_MUT_IMMUT_1,
-        "unsafe_cell_race_mut_immut_2" => &cells::UNSAFE_CELL_RACE_MUT_IMMUT_2,
-        "unsafe_cell_race_mut_immut_3" => &cells::UNSAFE_CELL_RACE_MUT_IMMUT_3,
-        "unsafe_cell_race_mut_immut_4" => &cells::UNSAFE_CELL_RACE_MUT_IMMUT_4,
-        "unsafe_cell_race_mut_immut_5" => &cells::UNSAFE_CELL_RACE_MUT_IMMUT_5,
-        "unsafe_cell_ok_1" => &cells::UNSAFE_CELL_OK_1,
-        "unsafe_cell_ok_2" => &cells::UNSAFE_CELL_OK_2,
-        "unsafe_cell_ok_3" => &cells::UNSAFE_CELL_OK_3,
-        "unsafe_cell_access_after_sync" => &cells::UNSAFE_CELL_ACCESS_AFTER_SYNC,
-        "read_in_write" => &cells::READ_IN_WRITE,
-        "detect_mem_leak" => &cells::DETECT_MEM_LEAK,
-        "arc_count" => &cells::ARC_COUNT,
-        "arc_unwrap" => &cells::ARC_UNWRAP,
-        "track_then_arc" => &cells::TRACK_THEN_ARC,
-        "arc_then_track" => &cells::ARC_THEN_TRACK,
-        _ => return lock_row_of(name),
+// The row of a script, which is checked with the defaults unless settings are given.
+macro_rules! row {
+    ($name:expr, $steps:expr) => {
+        row!($name, $steps, DEFAULTS)
     };
-    Some(Row::new(steps))
-}
-
-// The row of this name, among those about threads that wait for one another.
-fn lock_row_of(name: &str) -> Option<Row> {
-    let steps: &'static [Step] = match name {
-        "release_unlocked" => &locks::RELEASE_UNLOCKED,
-        "lock_while_out" => &locks::LOCK_WHILE_OUT,
-        "mutex_into_inner" => &locks::MUTEX_INTO_INNER,
-        "rwlock_read_twice" => &locks::RWLOCK_READ_TWICE,
-        "rwlock_write_then_try_write" => &locks::RWLOCK_WRITE_THEN_TRY_WRITE,
-        "read_guard_of_another" => &locks::READ_GUARD_OF_ANOTHER,
-        "rwlock_writer_and_readers" => &locks::RWLOCK_WRITER_AND_READERS,
-        "condvar_alone" => &locks::CONDVAR_ALONE,
-        "condvar_with_token" => &locks::CONDVAR_WITH_TOKEN,
-        "condvar_hands_over" => &locks::CONDVAR_HANDS_OVER,
-        "notify_all" => &locks::NOTIFY_ALL,
-        "notify_wait" => &locks::NOTIFY_WAIT,
-        "second_waiter" => &locks::SECOND_WAITER,
-        "unpark_then_park" => &locks::UNPARK_THEN_PARK,
-        "park_alone" => &locks::PARK_ALONE,
-        "unpark_wakes" => &locks::UNPARK_WAKES,
-        "yield_beside" => &locks::YIELD_BESIDE,
-        "named_child" => &locks::NAMED_CHILD,
-        "unreachable" => &locks::UNREACHABLE,
-        _ => return None,
+    ($name:expr, $steps:expr, $builder:expr) => {
+        $crate::rows::Row {
+            name: $name,
+            checked: $crate::rows::Checked::Script($steps),
+            builder: $builder,
+        }
     };
-    Some(Row::new(steps))
 }
 
-/// Runs the row that the words name, prints what the check finds, and answers the exit status.
+pub(crate) use row;
+
+/// The rows of the program.
+pub fn all_rows(alloc: Global) -> Result<Vec<Row>, AllocError> {
+    let mut rows = Vec::new(alloc);
+    rows.extend_from_slice(bodies::rows())?;
+    rows.extend_from_slice(atomics::rows())?;
+    rows.extend_from_slice(cells::rows())?;
+    rows.extend_from_slice(locks::rows())?;
+    Ok(rows)
+}
+
+/// The first of the rows that has this name.
+pub fn row_of<'a>(rows: &'a [Row], name: &str) -> Option<&'a Row>
+    ensures { option_copied result ≡ row_of rows.now name.now }
+{
+    rows.iter().find(|row| row.name == name)
+}
+
+/// Checks the row that the words mean, prints what the check finds, and answers the exit status. It is 2 where the words mean
+/// no row, and where memory or a writer fails.
 pub fn run_row<R: AllocGlobal, O: Write, E: Write>(
     rt: &R,
+    rows: &[Row],
     words: &[&str],
     out: &mut O,
     err: &mut E,
 ) -> u8
-    ensures { (result ≡ 2) ⊎ Printed (O.contents out.old) (O.contents out.new) result }
+    ensures { (result ≡ 2) ⊎ PrintedRow rows.now (map (λ word. word.now) words.now) (O.contents out.old) (O.contents out.new) result }
 {
-    check_words(rt, words, out, err).unwrap_or(2)
+    check_words(rt, rows, words, out, err).unwrap_or(2)
 }
 
 fn check_words<R: AllocGlobal, O: Write, E: Write>(
     rt: &R,
+    rows: &[Row],
     words: &[&str],
     out: &mut O,
     err: &mut E,
 ) -> io::Result<u8>
-    ensures { IfOk result (λ status. (status ≡ 2) ⊎ Printed (O.contents out.old) (O.contents out.new) status) }
+    ensures { IfOk result (λ status. (status ≡ 2) ⊎ PrintedRow rows.now (map (λ word. word.now) words.now) (O.contents out.old) (O.contents out.new) status) }
 {
-    match words {
-        ["fetch_update_once"] => {
-            let body = Updater::main(atomics::NUM_A, atomics::NUM_B);
-            check_body(rt, Builder::new(), &body, out, err)
-        }
-        [name] => match row_of(name) {
-            Some(row) => check_row(rt, row, out, err),
-            None => refuse(err),
-        },
-        _ => refuse(err),
+    let row = match words {
+        [name] => row_of(rows, name),
+        _ => None,
+    };
+    match row {
+        Some(row) => check_row(rt, row, out, err),
+        None => refuse(err),
     }
 }
 
@@ -177,14 +126,22 @@ fn refuse<W: Write>(err: &mut W) -> io::Result<u8>
 /// Checks the row, prints what the check finds, and answers the exit status.
 pub fn check_row<R: AllocGlobal, O: Write, E: Write>(
     rt: &R,
-    row: Row,
+    row: &Row,
     out: &mut O,
     err: &mut E,
 ) -> io::Result<u8>
-    ensures { IfOk result (λ status. (status ≡ 2) ⊎ Printed (O.contents out.old) (O.contents out.new) status) }
+    ensures { IfOk result (λ status. (status ≡ 2) ⊎ PrintedSome (ReportsOf row.now.checked row.now.builder) (O.contents out.old) (O.contents out.new) status) }
 {
-    let script = Script::new(rt.alloc(), row.steps)?;
-    check_body(rt, row.builder, &script, out, err)
+    match row.checked {
+        Checked::Script(steps) => {
+            let script = Script::new(rt.alloc(), steps)?;
+            check_body(rt, row.builder, &script, out, err)
+        }
+        Checked::Updater(one, other) => {
+            let updater = Updater::main(one, other);
+            check_body(rt, row.builder, &updater, out, err)
+        }
+    }
 }
 
 fn check_body<R: AllocGlobal, B: Body<Data = Number>, O: Write, E: Write>(
@@ -194,7 +151,7 @@ fn check_body<R: AllocGlobal, B: Body<Data = Number>, O: Write, E: Write>(
     out: &mut O,
     err: &mut E,
 ) -> io::Result<u8>
-    ensures { IfOk result (λ status. (status ≡ 2) ⊎ Printed (O.contents out.old) (O.contents out.new) status) }
+    ensures { IfOk result (λ status. (status ≡ 2) ⊎ PrintedSome (ReportsAlone builder.max_branches (runs_of B.next builder.max_threads builder.max_steps body.now)) (O.contents out.old) (O.contents out.new) status) }
 {
     match builder.check(rt.alloc(), body) {
         Ok(report) => print_report(out, &report),

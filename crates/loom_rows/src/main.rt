@@ -15,5 +15,7 @@ fn run(rt: &HostRuntime) -> io::Result<u8> {
         .iter()
         .map(|word| word.as_str())
         .collect::<Vec<_>>(rt.alloc())?;
-    Ok(rows::run_row(rt, words.as_slice(), &mut rt.stdout(), &mut rt.stderr()))
+    let rows = rows::all_rows(rt.alloc())?;
+    let (rows, words) = (rows.as_slice(), words.as_slice());
+    Ok(rows::run_row(rt, rows, words, &mut rt.stdout(), &mut rt.stderr()))
 }

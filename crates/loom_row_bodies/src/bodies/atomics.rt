@@ -1,4 +1,5 @@
 //! The scripts of the rows about atomics and fences.
+use crate::rows::{Checked, DEFAULTS, Row, TEN_STEPS, row};
 use loom::sync::atomic::Ordering::{Relaxed, Release, SeqCst};
 use loom_objects::operation::{AtomicOp, Exchange, MutexOp, Op, ThreadOp};
 use loom_scripts::step::{END, EXIT, FAIL, Step, Value};
@@ -15,7 +16,7 @@ pub const NUM_B: u64 = 13209405719799650717;
 const MINUS_99: u64 = 18446744073709551517;
 
 /// Main asserts what each function of a `u8` replies and leaves.
-pub static U8_FUNCTIONS: [Step; 34] = [
+pub const U8_FUNCTIONS: &[Step] = &[
     Step::Do(0, Op::Atomic(AtomicOp::New(Numbers::U8, 67), None)),
     Step::Do(0, Op::Atomic(AtomicOp::Update(0, Xor(157), SeqCst), None)),
     Step::Unless(0, 67, 33),
@@ -53,7 +54,7 @@ pub static U8_FUNCTIONS: [Step; 34] = [
 ];
 
 /// Main asserts which of 67 and -99 is the larger `i8`, and which the smaller.
-pub static I8_FUNCTIONS: [Step; 14] = [
+pub const I8_FUNCTIONS: &[Step] = &[
     Step::Do(0, Op::Atomic(AtomicOp::New(Numbers::I8, 67), None)),
     Step::Do(
         0,
@@ -77,7 +78,7 @@ pub static I8_FUNCTIONS: [Step; 14] = [
 ];
 
 /// Main asserts that the nand of true and true replies true and leaves false.
-pub static BOOL_NAND: [Step; 9] = [
+pub const BOOL_NAND: &[Step] = &[
     Step::Do(0, Op::Atomic(AtomicOp::New(Numbers::Bool, 1), None)),
     Step::Do(0, Op::Atomic(AtomicOp::Update(0, Nand(1), SeqCst), None)),
     Step::Unless(0, 1, 8),
@@ -91,7 +92,7 @@ pub static BOOL_NAND: [Step; 9] = [
 
 /// Of two exchanges of a number, the first expects another one and fails. Main asserts that, and finishes with what is loaded
 /// after the second (loom's `tests/atomic_int.rs`).
-pub static COMPARE_EXCHANGE: [Step; 10] = [
+pub const COMPARE_EXCHANGE: &[Step] = &[
     Step::Do(0, Op::Atomic(AtomicOp::New(Numbers::U64, NUM_A), None)),
     Step::Do(0, Op::Atomic(AtomicOp::CompareExchange(0, FAILS), None)),
     Step::Unless(3, NUM_A, 9),
@@ -119,7 +120,7 @@ const SUCCEEDS: Exchange = Exchange {
 };
 
 /// A thread loads without synchronizing, beside a store of main (loom's `tests/atomic.rs`).
-pub static UNSYNC_RACE: [Step; 11] = [
+pub const UNSYNC_RACE: &[Step] = &[
     Step::Do(0, Op::Atomic(AtomicOp::New(Numbers::U64, 0), None)),
     Step::Do(1, Op::Thread(ThreadOp::Spawn(7, None), None)),
     Step::Do(0, Op::Atomic(AtomicOp::Store(0, 1, Relaxed), None)),
@@ -134,7 +135,7 @@ pub static UNSYNC_RACE: [Step; 11] = [
 ];
 
 /// Main loads while its own mutation is open.
-pub static LOAD_IN_WITH_MUT: [Step; 7] = [
+pub const LOAD_IN_WITH_MUT: &[Step] = &[
     Step::Do(0, Op::Atomic(AtomicOp::New(Numbers::U64, 0), None)),
     Step::Do(0, Op::Atomic(AtomicOp::WithMut(0), None)),
     Step::Do(0, Op::Atomic(AtomicOp::Load(0, SeqCst), None)),
@@ -145,7 +146,7 @@ pub static LOAD_IN_WITH_MUT: [Step; 7] = [
 ];
 
 /// Main makes a relaxed fence, which fails.
-pub static RELAXED_FENCE: [Step; 4] = [
+pub const RELAXED_FENCE: &[Step] = &[
     Step::Do(0, Op::Fence(Relaxed, None)),
     Step::Do(0, Op::Thread(ThreadOp::Finish(Value::Plain(0)), None)),
     EXIT,
@@ -153,7 +154,7 @@ pub static RELAXED_FENCE: [Step; 4] = [
 ];
 
 /// Main makes as many fences as a thread may raise its version, and then a relaxed one. It counts them in a mutex.
-pub static FENCES_THEN_RELAXED: [Step; 9] = [
+pub const FENCES_THEN_RELAXED: &[Step] = &[
     Step::Do(0, Op::Mutex(MutexOp::New(Value::Plain(0)), None)),
     Step::Do(0, Op::Fence(Release, None)),
     Step::Do(0, Op::Mutex(MutexOp::GetMut(0), None)),
@@ -166,7 +167,7 @@ pub static FENCES_THEN_RELAXED: [Step; 9] = [
 ];
 
 /// Main loads without synchronizing, without end.
-pub static UNSYNC_LOAD_FOREVER: [Step; 3] = [
+pub const UNSYNC_LOAD_FOREVER: &[Step] = &[
     Step::Do(0, Op::Atomic(AtomicOp::New(Numbers::U64, 0), None)),
     Step::Do(0, Op::Atomic(AtomicOp::UnsyncLoad(0), None)),
     Step::Jump(1),
@@ -174,7 +175,7 @@ pub static UNSYNC_LOAD_FOREVER: [Step; 3] = [
 
 /// Two threads set a truth value each, and then load the other's, with a fence between. Main is one of them, and finishes with
 /// ten times what the other thread loaded and what it loaded itself (loom's `tests/fence.rs`).
-pub static SB_FENCES: [Step; 16] = [
+pub const SB_FENCES: &[Step] = &[
     Step::Do(0, Op::Atomic(AtomicOp::New(Numbers::Bool, 0), None)),
     Step::Do(1, Op::Atomic(AtomicOp::New(Numbers::Bool, 0), None)),
     Step::Do(2, Op::Thread(ThreadOp::Spawn(10, None), None)),
@@ -195,7 +196,7 @@ pub static SB_FENCES: [Step; 16] = [
 
 /// Two threads add 1 to the same number. Main is one of them, and finishes with ten times what the other thread read and what
 /// it read itself (loom's `tests/atomic.rs`).
-pub static FETCH_ADD_ATOMIC: [Step; 11] = [
+pub const FETCH_ADD_ATOMIC: &[Step] = &[
     Step::Do(0, Op::Atomic(AtomicOp::New(Numbers::U64, 0), None)),
     Step::Do(1, Op::Thread(ThreadOp::Spawn(7, None), None)),
     Step::Do(1, Op::Atomic(AtomicOp::Update(0, Add(1), Relaxed), None)),
@@ -210,7 +211,7 @@ pub static FETCH_ADD_ATOMIC: [Step; 11] = [
 ];
 
 /// Three threads whose stores and loads come to two stores with equal places in the modification order.
-pub static ORDERS_EQUAL: [Step; 17] = [
+pub const ORDERS_EQUAL: &[Step] = &[
     Step::Do(0, Op::Atomic(AtomicOp::New(Numbers::U64, 0), None)),
     Step::Do(1, Op::Thread(ThreadOp::Spawn(8, None), None)),
     Step::Do(0, Op::Atomic(AtomicOp::Store(0, 3, Relaxed), None)),
@@ -239,3 +240,28 @@ const TWO_BY_TWO: Exchange = Exchange {
     success: Relaxed,
     failure: Relaxed,
 };
+
+static ROWS: [Row; 13] = [
+    row!("u8_functions", U8_FUNCTIONS),
+    row!("i8_functions", I8_FUNCTIONS),
+    row!("bool_nand", BOOL_NAND),
+    row!("compare_exchange", COMPARE_EXCHANGE),
+    row!("unsync_race", UNSYNC_RACE),
+    row!("load_in_with_mut", LOAD_IN_WITH_MUT),
+    row!("relaxed_fence", RELAXED_FENCE),
+    row!("fences_then_relaxed", FENCES_THEN_RELAXED),
+    row!("unsync_load_forever", UNSYNC_LOAD_FOREVER, TEN_STEPS),
+    row!("sb_fences", SB_FENCES),
+    row!("fetch_add_atomic", FETCH_ADD_ATOMIC),
+    row!("orders_equal", ORDERS_EQUAL),
+    Row {
+        name: "fetch_update_once",
+        checked: Checked::Updater(NUM_A, NUM_B),
+        builder: DEFAULTS,
+    },
+];
+
+/// The rows of these scripts.
+pub fn rows() -> &'static [Row] {
+    &ROWS
+}

@@ -1,4 +1,5 @@
 //! The scripts of the rows about cells, counted references and tracked values.
+use crate::rows::{DEFAULTS, Row, row};
 use loom::sync::atomic::Ordering::{Acquire, Release};
 use loom_objects::operation::{ArcOp, AtomicOp, CellOp, Op, ThreadOp, TrackOp};
 use loom_scripts::step::{END, EXIT, FAIL, Step, Value};
@@ -6,7 +7,7 @@ use loom_views::rt::num::Numbers;
 
 /// A thread writes a cell and releases that by an atomic. Main reads the cell where it acquires that, before and after it joins
 /// the thread, and asserts what it reads (loom's `tests/unsafe_cell.rs`).
-pub static ATOMIC_CAUSALITY_SUCCESS: [Step; 24] = [
+pub const ATOMIC_CAUSALITY_SUCCESS: &[Step] = &[
     Step::Do(0, Op::Cell(CellOp::New(Value::Plain(0)), None)),
     Step::Do(1, Op::Atomic(AtomicOp::New(Numbers::U64, 0), None)),
     Step::Do(2, Op::Thread(ThreadOp::Spawn(18, None), None)),
@@ -34,7 +35,7 @@ pub static ATOMIC_CAUSALITY_SUCCESS: [Step; 24] = [
 ];
 
 /// The same, but main reads the cell without looking at the atomic (loom's `tests/unsafe_cell.rs`).
-pub static ATOMIC_CAUSALITY_FAIL: [Step; 20] = [
+pub const ATOMIC_CAUSALITY_FAIL: &[Step] = &[
     Step::Do(0, Op::Cell(CellOp::New(Value::Plain(0)), None)),
     Step::Do(1, Op::Atomic(AtomicOp::New(Numbers::U64, 0), None)),
     Step::Do(2, Op::Thread(ThreadOp::Spawn(14, None), None)),
@@ -58,7 +59,7 @@ pub static ATOMIC_CAUSALITY_FAIL: [Step; 20] = [
 ];
 
 /// Main and a thread both write a cell (loom's `tests/unsafe_cell.rs`).
-pub static UNSAFE_CELL_RACE_MUT_MUT_1: [Step; 17] = [
+pub const UNSAFE_CELL_RACE_MUT_MUT_1: &[Step] = &[
     Step::Do(0, Op::Cell(CellOp::New(Value::Plain(1)), None)),
     Step::Do(1, Op::Thread(ThreadOp::Spawn(12, None), None)),
     Step::Do(0, Op::Cell(CellOp::Write(0), None)),
@@ -79,7 +80,7 @@ pub static UNSAFE_CELL_RACE_MUT_MUT_1: [Step; 17] = [
 ];
 
 /// Two threads both write a cell (loom's `tests/unsafe_cell.rs`).
-pub static UNSAFE_CELL_RACE_MUT_MUT_2: [Step; 17] = [
+pub const UNSAFE_CELL_RACE_MUT_MUT_2: &[Step] = &[
     Step::Do(0, Op::Cell(CellOp::New(Value::Plain(1)), None)),
     Step::Do(1, Op::Thread(ThreadOp::Spawn(12, None), None)),
     Step::Do(2, Op::Thread(ThreadOp::Spawn(12, None), None)),
@@ -100,7 +101,7 @@ pub static UNSAFE_CELL_RACE_MUT_MUT_2: [Step; 17] = [
 ];
 
 /// A thread writes a cell that main reads (loom's `tests/unsafe_cell.rs`).
-pub static UNSAFE_CELL_RACE_MUT_IMMUT_1: [Step; 18] = [
+pub const UNSAFE_CELL_RACE_MUT_IMMUT_1: &[Step] = &[
     Step::Do(0, Op::Cell(CellOp::New(Value::Plain(1)), None)),
     Step::Do(1, Op::Thread(ThreadOp::Spawn(12, None), None)),
     Step::Do(0, Op::Cell(CellOp::Read(0), None)),
@@ -122,7 +123,7 @@ pub static UNSAFE_CELL_RACE_MUT_IMMUT_1: [Step; 18] = [
 ];
 
 /// A thread reads a cell that main writes (loom's `tests/unsafe_cell.rs`).
-pub static UNSAFE_CELL_RACE_MUT_IMMUT_2: [Step; 18] = [
+pub const UNSAFE_CELL_RACE_MUT_IMMUT_2: &[Step] = &[
     Step::Do(0, Op::Cell(CellOp::New(Value::Plain(1)), None)),
     Step::Do(1, Op::Thread(ThreadOp::Spawn(13, None), None)),
     Step::Do(0, Op::Cell(CellOp::Write(0), None)),
@@ -144,7 +145,7 @@ pub static UNSAFE_CELL_RACE_MUT_IMMUT_2: [Step; 18] = [
 ];
 
 /// The first of two threads writes a cell that the second one reads (loom's `tests/unsafe_cell.rs`).
-pub static UNSAFE_CELL_RACE_MUT_IMMUT_3: [Step; 23] = [
+pub const UNSAFE_CELL_RACE_MUT_IMMUT_3: &[Step] = &[
     Step::Do(0, Op::Cell(CellOp::New(Value::Plain(1)), None)),
     Step::Do(1, Op::Thread(ThreadOp::Spawn(12, None), None)),
     Step::Do(2, Op::Thread(ThreadOp::Spawn(18, None), None)),
@@ -171,7 +172,7 @@ pub static UNSAFE_CELL_RACE_MUT_IMMUT_3: [Step; 23] = [
 ];
 
 /// The second of two threads writes a cell that the first one reads (loom's `tests/unsafe_cell.rs`).
-pub static UNSAFE_CELL_RACE_MUT_IMMUT_4: [Step; 23] = [
+pub const UNSAFE_CELL_RACE_MUT_IMMUT_4: &[Step] = &[
     Step::Do(0, Op::Cell(CellOp::New(Value::Plain(1)), None)),
     Step::Do(1, Op::Thread(ThreadOp::Spawn(12, None), None)),
     Step::Do(2, Op::Thread(ThreadOp::Spawn(17, None), None)),
@@ -198,7 +199,7 @@ pub static UNSAFE_CELL_RACE_MUT_IMMUT_4: [Step; 23] = [
 ];
 
 /// The same, where the second one reads it before it writes (loom's `tests/unsafe_cell.rs`).
-pub static UNSAFE_CELL_RACE_MUT_IMMUT_5: [Step; 26] = [
+pub const UNSAFE_CELL_RACE_MUT_IMMUT_5: &[Step] = &[
     Step::Do(0, Op::Cell(CellOp::New(Value::Plain(1)), None)),
     Step::Do(1, Op::Thread(ThreadOp::Spawn(12, None), None)),
     Step::Do(2, Op::Thread(ThreadOp::Spawn(17, None), None)),
@@ -228,7 +229,7 @@ pub static UNSAFE_CELL_RACE_MUT_IMMUT_5: [Step; 26] = [
 ];
 
 /// Main writes a cell, then a thread, which it joins, and then main again (loom's `tests/unsafe_cell.rs`).
-pub static UNSAFE_CELL_OK_1: [Step; 19] = [
+pub const UNSAFE_CELL_OK_1: &[Step] = &[
     Step::Do(0, Op::Cell(CellOp::New(Value::Plain(1)), None)),
     Step::Do(0, Op::Cell(CellOp::Write(0), None)),
     Step::Do(0, Op::Cell(CellOp::WriteEnd(0, Value::Next(0)), None)),
@@ -251,7 +252,7 @@ pub static UNSAFE_CELL_OK_1: [Step; 19] = [
 ];
 
 /// The same, where each of them reads the cell first (loom's `tests/unsafe_cell.rs`).
-pub static UNSAFE_CELL_OK_2: [Step; 28] = [
+pub const UNSAFE_CELL_OK_2: &[Step] = &[
     Step::Do(0, Op::Cell(CellOp::New(Value::Plain(1)), None)),
     Step::Do(0, Op::Cell(CellOp::Read(0), None)),
     Step::Do(0, Op::Cell(CellOp::ReadEnd(0), None)),
@@ -283,7 +284,7 @@ pub static UNSAFE_CELL_OK_2: [Step; 28] = [
 ];
 
 /// Main, a thread and a thread of that one read a cell. Main writes it after they were joined (loom's `tests/unsafe_cell.rs`).
-pub static UNSAFE_CELL_OK_3: [Step; 30] = [
+pub const UNSAFE_CELL_OK_3: &[Step] = &[
     Step::Do(0, Op::Cell(CellOp::New(Value::Plain(1)), None)),
     Step::Do(1, Op::Thread(ThreadOp::Spawn(13, None), None)),
     Step::Do(0, Op::Cell(CellOp::Read(0), None)),
@@ -317,7 +318,7 @@ pub static UNSAFE_CELL_OK_3: [Step; 30] = [
 ];
 
 /// A thread writes a cell after it released an atomic. Main writes the cell where it acquires that (loom's `tests/unsafe_cell.rs`).
-pub static UNSAFE_CELL_ACCESS_AFTER_SYNC: [Step; 16] = [
+pub const UNSAFE_CELL_ACCESS_AFTER_SYNC: &[Step] = &[
     Step::Do(0, Op::Atomic(AtomicOp::New(Numbers::U64, 0), None)),
     Step::Do(1, Op::Cell(CellOp::New(Value::Plain(0)), None)),
     Step::Do(2, Op::Thread(ThreadOp::Spawn(10, None), None)),
@@ -337,7 +338,7 @@ pub static UNSAFE_CELL_ACCESS_AFTER_SYNC: [Step; 16] = [
 ];
 
 /// Main reads a cell while it writes it.
-pub static READ_IN_WRITE: [Step; 8] = [
+pub const READ_IN_WRITE: &[Step] = &[
     Step::Do(0, Op::Cell(CellOp::New(Value::Plain(0)), None)),
     Step::Do(0, Op::Cell(CellOp::Write(0), None)),
     Step::Do(0, Op::Cell(CellOp::Read(0), None)),
@@ -349,7 +350,7 @@ pub static READ_IN_WRITE: [Step; 8] = [
 ];
 
 /// Main makes a counted reference and doesn't drop it (loom's `tests/arc.rs`).
-pub static DETECT_MEM_LEAK: [Step; 4] = [
+pub const DETECT_MEM_LEAK: &[Step] = &[
     Step::Do(0, Op::Arc(ArcOp::New(Value::Plain(0)), None)),
     Step::Do(0, Op::Thread(ThreadOp::Finish(Value::Plain(0)), None)),
     EXIT,
@@ -357,7 +358,7 @@ pub static DETECT_MEM_LEAK: [Step; 4] = [
 ];
 
 /// Main makes a counted reference and clones it, asserts that there are two, and drops both. It finishes with the value.
-pub static ARC_COUNT: [Step; 10] = [
+pub const ARC_COUNT: &[Step] = &[
     Step::Do(0, Op::Arc(ArcOp::New(Value::Plain(7)), None)),
     Step::Do(0, Op::Arc(ArcOp::Clone(0), None)),
     Step::Do(0, Op::Arc(ArcOp::StrongCount(0), None)),
@@ -371,7 +372,7 @@ pub static ARC_COUNT: [Step; 10] = [
 ];
 
 /// Main makes a counted reference, takes it apart, and finishes with the value.
-pub static ARC_UNWRAP: [Step; 5] = [
+pub const ARC_UNWRAP: &[Step] = &[
     Step::Do(0, Op::Arc(ArcOp::New(Value::Plain(7)), None)),
     Step::Do(0, Op::Arc(ArcOp::TryUnwrap(0), None)),
     Step::Do(0, Op::Thread(ThreadOp::Finish(Value::Held(0)), None)),
@@ -380,7 +381,7 @@ pub static ARC_UNWRAP: [Step; 5] = [
 ];
 
 /// Main makes a tracked value and then a counted reference, and drops neither.
-pub static TRACK_THEN_ARC: [Step; 5] = [
+pub const TRACK_THEN_ARC: &[Step] = &[
     Step::Do(0, Op::Track(TrackOp::New(Value::Plain(0)), None)),
     Step::Do(1, Op::Arc(ArcOp::New(Value::Plain(0)), None)),
     Step::Do(0, Op::Thread(ThreadOp::Finish(Value::Plain(0)), None)),
@@ -389,10 +390,40 @@ pub static TRACK_THEN_ARC: [Step; 5] = [
 ];
 
 /// Main makes a counted reference and then a tracked value, and drops neither.
-pub static ARC_THEN_TRACK: [Step; 5] = [
+pub const ARC_THEN_TRACK: &[Step] = &[
     Step::Do(0, Op::Arc(ArcOp::New(Value::Plain(0)), None)),
     Step::Do(1, Op::Track(TrackOp::New(Value::Plain(0)), None)),
     Step::Do(0, Op::Thread(ThreadOp::Finish(Value::Plain(0)), None)),
     EXIT,
     END,
 ];
+
+static ROWS: [Row; 19] = [
+    row!("atomic_causality_success", ATOMIC_CAUSALITY_SUCCESS),
+    row!("atomic_causality_fail", ATOMIC_CAUSALITY_FAIL),
+    row!("unsafe_cell_race_mut_mut_1", UNSAFE_CELL_RACE_MUT_MUT_1),
+    row!("unsafe_cell_race_mut_mut_2", UNSAFE_CELL_RACE_MUT_MUT_2),
+    row!("unsafe_cell_race_mut_immut_1", UNSAFE_CELL_RACE_MUT_IMMUT_1),
+    row!("unsafe_cell_race_mut_immut_2", UNSAFE_CELL_RACE_MUT_IMMUT_2),
+    row!("unsafe_cell_race_mut_immut_3", UNSAFE_CELL_RACE_MUT_IMMUT_3),
+    row!("unsafe_cell_race_mut_immut_4", UNSAFE_CELL_RACE_MUT_IMMUT_4),
+    row!("unsafe_cell_race_mut_immut_5", UNSAFE_CELL_RACE_MUT_IMMUT_5),
+    row!("unsafe_cell_ok_1", UNSAFE_CELL_OK_1),
+    row!("unsafe_cell_ok_2", UNSAFE_CELL_OK_2),
+    row!("unsafe_cell_ok_3", UNSAFE_CELL_OK_3),
+    row!(
+        "unsafe_cell_access_after_sync",
+        UNSAFE_CELL_ACCESS_AFTER_SYNC
+    ),
+    row!("read_in_write", READ_IN_WRITE),
+    row!("detect_mem_leak", DETECT_MEM_LEAK),
+    row!("arc_count", ARC_COUNT),
+    row!("arc_unwrap", ARC_UNWRAP),
+    row!("track_then_arc", TRACK_THEN_ARC),
+    row!("arc_then_track", ARC_THEN_TRACK),
+];
+
+/// The rows of these scripts.
+pub fn rows() -> &'static [Row] {
+    &ROWS
+}

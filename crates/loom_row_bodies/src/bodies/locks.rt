@@ -1,4 +1,5 @@
 //! The scripts of the rows about locks, condition variables, notifiers and threads that wait for one another.
+use crate::rows::{DEFAULTS, Row, row};
 use loom::sync::atomic::Ordering::Relaxed;
 use loom_objects::operation::{AtomicOp, CondvarOp, MutexOp, NotifyOp, Op, RwLockOp, ThreadOp};
 use loom_objects::rt::thread::Name;
@@ -8,13 +9,13 @@ use loom_views::rt::num::Numbers;
 const FINISH: Step = Step::Do(0, Op::Thread(ThreadOp::Finish(Value::Plain(7)), None));
 
 /// Main releases a mutex that it never locked.
-pub static RELEASE_UNLOCKED: [Step; 2] = [
+pub const RELEASE_UNLOCKED: &[Step] = &[
     Step::Do(0, Op::Mutex(MutexOp::New(Value::Plain(0)), None)),
     Step::Do(0, Op::Mutex(MutexOp::Release(0, Value::Plain(0)), None)),
 ];
 
 /// Main takes the data of a mutex out, and then locks the mutex.
-pub static LOCK_WHILE_OUT: [Step; 3] = [
+pub const LOCK_WHILE_OUT: &[Step] = &[
     Step::Do(0, Op::Mutex(MutexOp::New(Value::Plain(0)), None)),
     Step::Do(0, Op::Mutex(MutexOp::GetMut(0), None)),
     Step::Do(0, Op::Mutex(MutexOp::Lock(0), None)),
@@ -22,7 +23,7 @@ pub static LOCK_WHILE_OUT: [Step; 3] = [
 
 /// Two threads each add 1 to what a mutex holds. Main joins them, takes the mutex apart, and asserts that it held 2 (loom's
 /// `tests/mutex.rs`).
-pub static MUTEX_INTO_INNER: [Step; 16] = [
+pub const MUTEX_INTO_INNER: &[Step] = &[
     Step::Do(0, Op::Mutex(MutexOp::New(Value::Plain(0)), None)),
     Step::Do(1, Op::Thread(ThreadOp::Spawn(11, None), None)),
     Step::Do(2, Op::Thread(ThreadOp::Spawn(11, None), None)),
@@ -42,7 +43,7 @@ pub static MUTEX_INTO_INNER: [Step; 16] = [
 ];
 
 /// Main takes two guards for reading of a lock, and ends both.
-pub static RWLOCK_READ_TWICE: [Step; 8] = [
+pub const RWLOCK_READ_TWICE: &[Step] = &[
     Step::Do(0, Op::RwLock(RwLockOp::New(Value::Plain(1)), None)),
     Step::Do(0, Op::RwLock(RwLockOp::Read(0), None)),
     Step::Do(0, Op::RwLock(RwLockOp::Read(0), None)),
@@ -54,7 +55,7 @@ pub static RWLOCK_READ_TWICE: [Step; 8] = [
 ];
 
 /// Main writes a lock, and asserts that it can't be written a second time (loom's `tests/rwlock.rs`).
-pub static RWLOCK_WRITE_THEN_TRY_WRITE: [Step; 9] = [
+pub const RWLOCK_WRITE_THEN_TRY_WRITE: &[Step] = &[
     Step::Do(0, Op::RwLock(RwLockOp::New(Value::Plain(1)), None)),
     Step::Do(0, Op::RwLock(RwLockOp::Write(0), None)),
     Step::Do(0, Op::RwLock(RwLockOp::TryWrite(0), None)),
@@ -70,7 +71,7 @@ pub static RWLOCK_WRITE_THEN_TRY_WRITE: [Step; 9] = [
 ];
 
 /// A thread ends a guard for reading that main has.
-pub static READ_GUARD_OF_ANOTHER: [Step; 5] = [
+pub const READ_GUARD_OF_ANOTHER: &[Step] = &[
     Step::Do(0, Op::RwLock(RwLockOp::New(Value::Plain(0)), None)),
     Step::Do(0, Op::RwLock(RwLockOp::Read(0), None)),
     Step::Do(1, Op::Thread(ThreadOp::Spawn(4, None), None)),
@@ -80,7 +81,7 @@ pub static READ_GUARD_OF_ANOTHER: [Step; 5] = [
 
 /// Main writes a lock, and stores 1 into an atomic before it leaves 1 in the lock. Two threads read both under the lock, and assert
 /// that both are 0 or both 1.
-pub static RWLOCK_WRITER_AND_READERS: [Step; 24] = [
+pub const RWLOCK_WRITER_AND_READERS: &[Step] = &[
     Step::Do(0, Op::RwLock(RwLockOp::New(Value::Plain(0)), None)),
     Step::Do(1, Op::Atomic(AtomicOp::New(Numbers::U64, 0), None)),
     Step::Do(2, Op::Thread(ThreadOp::Spawn(11, None), None)),
@@ -111,7 +112,7 @@ pub static RWLOCK_WRITER_AND_READERS: [Step; 24] = [
 ];
 
 /// Main waits on a condition variable that nobody notifies.
-pub static CONDVAR_ALONE: [Step; 4] = [
+pub const CONDVAR_ALONE: &[Step] = &[
     Step::Do(0, Op::Mutex(MutexOp::New(Value::Plain(0)), None)),
     Step::Do(1, Op::Condvar(CondvarOp::New, None)),
     Step::Do(0, Op::Mutex(MutexOp::Lock(0), None)),
@@ -119,7 +120,7 @@ pub static CONDVAR_ALONE: [Step; 4] = [
 ];
 
 /// The same, where main has a token: that is for `park` alone.
-pub static CONDVAR_WITH_TOKEN: [Step; 6] = [
+pub const CONDVAR_WITH_TOKEN: &[Step] = &[
     Step::Do(0, Op::Thread(ThreadOp::Current, None)),
     Step::Do(0, Op::Thread(ThreadOp::Unpark(0), None)),
     Step::Do(1, Op::Mutex(MutexOp::New(Value::Plain(0)), None)),
@@ -129,7 +130,7 @@ pub static CONDVAR_WITH_TOKEN: [Step; 6] = [
 ];
 
 /// A thread leaves 7 in a mutex and notifies. Main waits for that unless the 7 is there, and asserts that it finds it.
-pub static CONDVAR_HANDS_OVER: [Step; 19] = [
+pub const CONDVAR_HANDS_OVER: &[Step] = &[
     Step::Do(0, Op::Mutex(MutexOp::New(Value::Plain(0)), None)),
     Step::Do(1, Op::Condvar(CondvarOp::New, None)),
     Step::Do(2, Op::Thread(ThreadOp::Spawn(13, None), None)),
@@ -153,7 +154,7 @@ pub static CONDVAR_HANDS_OVER: [Step; 19] = [
 
 /// Main and a thread wait on a condition variable, unless they find 7 in the mutex. Another thread leaves that there and
 /// notifies both. Each asserts that it finds the 7.
-pub static NOTIFY_ALL: [Step; 19] = [
+pub const NOTIFY_ALL: &[Step] = &[
     Step::Do(0, Op::Mutex(MutexOp::New(Value::Plain(0)), None)),
     Step::Do(1, Op::Condvar(CondvarOp::New, None)),
     Step::Do(2, Op::Thread(ThreadOp::Spawn(4, None), None)),
@@ -176,7 +177,7 @@ pub static NOTIFY_ALL: [Step; 19] = [
 ];
 
 /// Main notifies its own notifier, and then waits on it.
-pub static NOTIFY_WAIT: [Step; 6] = [
+pub const NOTIFY_WAIT: &[Step] = &[
     Step::Do(0, Op::Notify(NotifyOp::New, None)),
     Step::Do(0, Op::Notify(NotifyOp::Notify(0), None)),
     Step::Do(0, Op::Notify(NotifyOp::Wait(0), None)),
@@ -186,7 +187,7 @@ pub static NOTIFY_WAIT: [Step; 6] = [
 ];
 
 /// Main and a thread wait on one notifier.
-pub static SECOND_WAITER: [Step; 4] = [
+pub const SECOND_WAITER: &[Step] = &[
     Step::Do(0, Op::Notify(NotifyOp::New, None)),
     Step::Do(1, Op::Thread(ThreadOp::Spawn(3, None), None)),
     Step::Do(0, Op::Notify(NotifyOp::Wait(0), None)),
@@ -194,7 +195,7 @@ pub static SECOND_WAITER: [Step; 4] = [
 ];
 
 /// Main gives itself a token, and then parks.
-pub static UNPARK_THEN_PARK: [Step; 6] = [
+pub const UNPARK_THEN_PARK: &[Step] = &[
     Step::Do(0, Op::Thread(ThreadOp::Current, None)),
     Step::Do(0, Op::Thread(ThreadOp::Unpark(0), None)),
     PARK,
@@ -204,10 +205,10 @@ pub static UNPARK_THEN_PARK: [Step; 6] = [
 ];
 
 /// Main parks without a token, and nobody wakes it.
-pub static PARK_ALONE: [Step; 1] = [PARK];
+pub const PARK_ALONE: &[Step] = &[PARK];
 
 /// Main parks, before or after a thread unparks it, which stored 7 into an atomic first. Main asserts that it loads the 7 then.
-pub static UNPARK_WAKES: [Step; 16] = [
+pub const UNPARK_WAKES: &[Step] = &[
     Step::Do(0, Op::Atomic(AtomicOp::New(Numbers::U64, 0), None)),
     Step::Do(1, Op::Thread(ThreadOp::Current, None)),
     Step::Do(2, Op::Thread(ThreadOp::Spawn(11, None), None)),
@@ -227,7 +228,7 @@ pub static UNPARK_WAKES: [Step; 16] = [
 ];
 
 /// Main yields beside a thread that does nothing but end.
-pub static YIELD_BESIDE: [Step; 8] = [
+pub const YIELD_BESIDE: &[Step] = &[
     Step::Do(0, Op::Thread(ThreadOp::Spawn(5, None), None)),
     YIELD,
     FINISH,
@@ -239,7 +240,7 @@ pub static YIELD_BESIDE: [Step; 8] = [
 ];
 
 /// Main spawns a thread with a name, which asks who it is.
-pub static NAMED_CHILD: [Step; 8] = [
+pub const NAMED_CHILD: &[Step] = &[
     Step::Do(
         0,
         Op::Thread(ThreadOp::Spawn(4, Some(Name { text: "foobar" })), None),
@@ -254,4 +255,31 @@ pub static NAMED_CHILD: [Step; 8] = [
 ];
 
 /// Main comes to code that is never to be reached.
-pub static UNREACHABLE: [Step; 1] = [Step::Do(0, Op::Unreachable(None))];
+pub const UNREACHABLE: &[Step] = &[Step::Do(0, Op::Unreachable(None))];
+
+static ROWS: [Row; 19] = [
+    row!("release_unlocked", RELEASE_UNLOCKED),
+    row!("lock_while_out", LOCK_WHILE_OUT),
+    row!("mutex_into_inner", MUTEX_INTO_INNER),
+    row!("rwlock_read_twice", RWLOCK_READ_TWICE),
+    row!("rwlock_write_then_try_write", RWLOCK_WRITE_THEN_TRY_WRITE),
+    row!("read_guard_of_another", READ_GUARD_OF_ANOTHER),
+    row!("rwlock_writer_and_readers", RWLOCK_WRITER_AND_READERS),
+    row!("condvar_alone", CONDVAR_ALONE),
+    row!("condvar_with_token", CONDVAR_WITH_TOKEN),
+    row!("condvar_hands_over", CONDVAR_HANDS_OVER),
+    row!("notify_all", NOTIFY_ALL),
+    row!("notify_wait", NOTIFY_WAIT),
+    row!("second_waiter", SECOND_WAITER),
+    row!("unpark_then_park", UNPARK_THEN_PARK),
+    row!("park_alone", PARK_ALONE),
+    row!("unpark_wakes", UNPARK_WAKES),
+    row!("yield_beside", YIELD_BESIDE),
+    row!("named_child", NAMED_CHILD),
+    row!("unreachable", UNREACHABLE),
+];
+
+/// The rows of these scripts.
+pub fn rows() -> &'static [Row] {
+    &ROWS
+}

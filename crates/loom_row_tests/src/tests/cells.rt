@@ -59,8 +59,8 @@ fn has_one_run(
 
 #[test]
 fn counting_has_branch_points(rt: HostRuntime) -> Result<(), Fail> {
-    has_one_run(&rt, &ARC_COUNT, &[ZERO, ZERO, ZERO, ZERO, NONE])?;
-    has_one_run(&rt, &ARC_UNWRAP, &[ZERO, ZERO, NONE])
+    has_one_run(&rt, ARC_COUNT, &[ZERO, ZERO, ZERO, ZERO, NONE])?;
+    has_one_run(&rt, ARC_UNWRAP, &[ZERO, ZERO, NONE])
 }
 
 #[test]

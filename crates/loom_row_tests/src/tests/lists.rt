@@ -42,10 +42,10 @@ fn has_one_run<B: Body<Data = Number>>(
 
 #[test]
 fn without_a_choice_there_is_one_run(rt: HostRuntime) -> Result<(), Fail> {
-    has_one_run(&rt, &Script::new(rt.alloc(), &FINISH_ONLY)?, &[NONE], 7)?;
+    has_one_run(&rt, &Script::new(rt.alloc(), FINISH_ONLY)?, &[NONE], 7)?;
     has_one_run(
         &rt,
-        &Script::new(rt.alloc(), &SPAWN_ONLY)?,
+        &Script::new(rt.alloc(), SPAWN_ONLY)?,
         &[ONE, ONE, NONE],
         7,
     )
@@ -54,7 +54,7 @@ fn without_a_choice_there_is_one_run(rt: HostRuntime) -> Result<(), Fail> {
 #[test]
 fn one_thread_loads_what_it_stored_last(rt: HostRuntime) -> Result<(), Fail> {
     let choices = [ZERO, ZERO, ZERO, ZERO, ZERO, ZERO, ZERO, ZERO, LOWEST, NONE];
-    has_one_run(&rt, &Script::new(rt.alloc(), &STORE_SEVEN)?, &choices, 7)
+    has_one_run(&rt, &Script::new(rt.alloc(), STORE_SEVEN)?, &choices, 7)
 }
 
 #[test]
@@ -62,7 +62,7 @@ fn exchanges_read_the_newest_store(rt: HostRuntime) -> Result<(), Fail> {
     let choices = [ZERO, LOWEST, ZERO, LOWEST, ZERO, NEXT, NONE];
     has_one_run(
         &rt,
-        &Script::new(rt.alloc(), &COMPARE_EXCHANGE)?,
+        &Script::new(rt.alloc(), COMPARE_EXCHANGE)?,
         &choices,
         NUM_B,
     )?;
@@ -73,7 +73,7 @@ fn exchanges_read_the_newest_store(rt: HostRuntime) -> Result<(), Fail> {
 
 #[test]
 fn the_default_comes_first(rt: HostRuntime) -> Result<(), Fail> {
-    let runs = runs_of(rt.alloc(), &Script::new(rt.alloc(), &LOCK_BESIDE)?)?;
+    let runs = runs_of(rt.alloc(), &Script::new(rt.alloc(), LOCK_BESIDE)?)?;
     let runs = runs.as_slice();
     assert_eq!(rt; runs.len(), 3);
     is_run(&rt, runs, 0, &[ZERO, ONE, ONE, NONE], 7)?;
@@ -83,7 +83,7 @@ fn the_default_comes_first(rt: HostRuntime) -> Result<(), Fail> {
 
 #[test]
 fn a_load_beside_a_store(rt: HostRuntime) -> Result<(), Fail> {
-    let runs = runs_of(rt.alloc(), &Script::new(rt.alloc(), &LOAD_BESIDE)?)?;
+    let runs = runs_of(rt.alloc(), &Script::new(rt.alloc(), LOAD_BESIDE)?)?;
     let runs = runs.as_slice();
     assert_eq!(rt; runs.len(), 6);
     is_run(&rt, runs, 0, &[ZERO, LOWEST, ONE, ONE, ONE, NONE], 0)?;
@@ -111,6 +111,6 @@ fn replays(rt: &(impl Abort + AllocGlobal), steps: &'static [Step]) -> Result<()
 
 #[test]
 fn each_run_replays(rt: HostRuntime) -> Result<(), Fail> {
-    replays(&rt, &LOCK_BESIDE)?;
-    replays(&rt, &LOAD_BESIDE)
+    replays(&rt, LOCK_BESIDE)?;
+    replays(&rt, LOAD_BESIDE)
 }

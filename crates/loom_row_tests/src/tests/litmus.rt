@@ -13,7 +13,7 @@ fn has(runs: &[Run], value: u64) -> bool {
 
 #[test]
 fn both_threads_may_miss_the_stores(rt: HostRuntime) -> Result<(), Fail> {
-    let runs = runs_of(rt.alloc(), &Script::new(rt.alloc(), &STORE_BUFFERING)?)?;
+    let runs = runs_of(rt.alloc(), &Script::new(rt.alloc(), STORE_BUFFERING)?)?;
     assert!(rt; has(runs.as_slice(), 0));
     assert!(rt; has(runs.as_slice(), 11));
     Ok(())
@@ -21,7 +21,7 @@ fn both_threads_may_miss_the_stores(rt: HostRuntime) -> Result<(), Fail> {
 
 #[test]
 fn with_fences_no_two_threads_miss_the_stores(rt: HostRuntime) -> Result<(), Fail> {
-    let runs = runs_of(rt.alloc(), &Script::new(rt.alloc(), &SB_FENCES)?)?;
+    let runs = runs_of(rt.alloc(), &Script::new(rt.alloc(), SB_FENCES)?)?;
     assert!(rt; !has(runs.as_slice(), 0));
     assert!(rt; has(runs.as_slice(), 1));
     assert!(rt; has(runs.as_slice(), 10));
@@ -31,7 +31,7 @@ fn with_fences_no_two_threads_miss_the_stores(rt: HostRuntime) -> Result<(), Fai
 
 #[test]
 fn no_two_threads_add_to_the_same_number(rt: HostRuntime) -> Result<(), Fail> {
-    let runs = runs_of(rt.alloc(), &Script::new(rt.alloc(), &FETCH_ADD_ATOMIC)?)?;
+    let runs = runs_of(rt.alloc(), &Script::new(rt.alloc(), FETCH_ADD_ATOMIC)?)?;
     assert!(rt; has(runs.as_slice(), 1));
     assert!(rt; has(runs.as_slice(), 10));
     assert!(rt; !has(runs.as_slice(), 0));
@@ -41,7 +41,7 @@ fn no_two_threads_add_to_the_same_number(rt: HostRuntime) -> Result<(), Fail> {
 
 #[test]
 fn no_load_is_of_a_later_store(rt: HostRuntime) -> Result<(), Fail> {
-    let runs = runs_of(rt.alloc(), &Script::new(rt.alloc(), &LOAD_BUFFERING)?)?;
+    let runs = runs_of(rt.alloc(), &Script::new(rt.alloc(), LOAD_BUFFERING)?)?;
     assert!(rt; has(runs.as_slice(), 0));
     assert!(rt; !has(runs.as_slice(), 1));
     Ok(())
@@ -49,7 +49,7 @@ fn no_load_is_of_a_later_store(rt: HostRuntime) -> Result<(), Fail> {
 
 #[test]
 fn what_is_released_is_acquired(rt: HostRuntime) -> Result<(), Fail> {
-    let runs = runs_of(rt.alloc(), &Script::new(rt.alloc(), &CHECK_ORDERING_VALID)?)?;
+    let runs = runs_of(rt.alloc(), &Script::new(rt.alloc(), CHECK_ORDERING_VALID)?)?;
     assert!(rt; has(runs.as_slice(), 0));
     assert!(rt; has(runs.as_slice(), 11));
     Ok(())

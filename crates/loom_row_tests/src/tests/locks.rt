@@ -32,17 +32,17 @@ fn has_runs(
 
 #[test]
 fn waits_have_branch_points(rt: HostRuntime) -> Result<(), Fail> {
-    has_runs(&rt, &RWLOCK_READ_TWICE, &[&[ZERO, ZERO, NONE]])?;
-    has_runs(&rt, &RWLOCK_WRITE_THEN_TRY_WRITE, &[&[ZERO, ZERO, NONE]])?;
-    has_runs(&rt, &UNPARK_THEN_PARK, &[&[NONE]])?;
+    has_runs(&rt, RWLOCK_READ_TWICE, &[&[ZERO, ZERO, NONE]])?;
+    has_runs(&rt, RWLOCK_WRITE_THEN_TRY_WRITE, &[&[ZERO, ZERO, NONE]])?;
+    has_runs(&rt, UNPARK_THEN_PARK, &[&[NONE]])?;
     has_runs(
         &rt,
-        &NOTIFY_WAIT,
+        NOTIFY_WAIT,
         &[&[ZERO, CALM, ZERO, NONE], &[ZERO, SPURIOUS, ZERO, NONE]],
     )?;
     has_runs(
         &rt,
-        &YIELD_BESIDE,
+        YIELD_BESIDE,
         &[&[ONE, ONE, ZERO, NONE], &[ONE, ZERO, ONE, NONE]],
     )
 }
@@ -61,8 +61,8 @@ fn each_run_gives(
 
 #[test]
 fn main_finds_the_number_in_every_run(rt: HostRuntime) -> Result<(), Fail> {
-    each_run_gives(&rt, &MUTEX_INTO_INNER, 2)?;
-    each_run_gives(&rt, &CONDVAR_HANDS_OVER, 7)?;
-    each_run_gives(&rt, &NOTIFY_ALL, 7)?;
-    each_run_gives(&rt, &UNPARK_WAKES, 7)
+    each_run_gives(&rt, MUTEX_INTO_INNER, 2)?;
+    each_run_gives(&rt, CONDVAR_HANDS_OVER, 7)?;
+    each_run_gives(&rt, NOTIFY_ALL, 7)?;
+    each_run_gives(&rt, UNPARK_WAKES, 7)
 }

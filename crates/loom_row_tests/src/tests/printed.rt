@@ -2,7 +2,8 @@
 use super::{FIVE_SPAWNS, JOIN_TWICE};
 use loom::model::Builder;
 use loom_row_bodies::bodies::LOCK_BESIDE;
-use loom_row_bodies::rows::{self, Row};
+use loom_row_bodies::rows::{self, Checked, Row};
+use loom_scripts::step::Step;
 use std::io::{self, ErrorKind, Write};
 use std::process::Abort;
 use std::test::Fail;
@@ -84,29 +85,35 @@ static BEGINNINGS: [(&str, &str, u8); 22] = [
 ];
 
 // Runs the row of this name, which answers this status and writes nothing on standard error. Gives what it prints.
-fn printed_by(rt: &(impl Abort + AllocGlobal), name: &str, status: u8) -> Vec<u8> {
+fn printed_by(rt: &(impl Abort + AllocGlobal), rows: &[Row], name: &str, status: u8) -> Vec<u8> {
     let mut out = Vec::new(rt.alloc());
     let mut err = Vec::new(rt.alloc());
-    let answer = rows::run_row(rt, &[name], &mut out, &mut err);
+    let answer = rows::run_row(rt, rows, &[name], &mut out, &mut err);
     assert_eq!(rt; answer, status, "{name}");
     assert!(rt; err.is_empty(), "{name}");
     out
 }
 
 #[test]
-fn each_row_prints_its_line(rt: HostRuntime) {
+fn each_row_prints_its_line(rt: HostRuntime) -> Result<(), Fail> {
+    let rows = rows::all_rows(rt.alloc())?;
+    let rows = rows.as_slice();
     for (name, line, status) in LINES {
-        let out = printed_by(&rt, name, status);
+        let out = printed_by(&rt, rows, name, status);
         assert_eq!(rt; out.as_slice(), line.as_bytes(), "{name}");
     }
+    Ok(())
 }
 
 #[test]
-fn each_name_is_its_row(rt: HostRuntime) {
+fn each_name_is_its_row(rt: HostRuntime) -> Result<(), Fail> {
+    let rows = rows::all_rows(rt.alloc())?;
+    let rows = rows.as_slice();
     for (name, beginning, status) in BEGINNINGS {
-        let out = printed_by(&rt, name, status);
+        let out = printed_by(&rt, rows, name, status);
         assert!(rt; out.as_slice().starts_with(beginning.as_bytes()), "{name}");
     }
+    Ok(())
 }
 
 // A writer that takes nothing.
@@ -124,36 +131,50 @@ impl Write for Broken {
 }
 
 #[test]
-fn other_words_print_the_usage(rt: HostRuntime) {
+fn other_words_print_the_usage(rt: HostRuntime) -> Result<(), Fail> {
+    let rows = rows::all_rows(rt.alloc())?;
+    let rows = rows.as_slice();
     let usage = b"usage: loom_rows NAME [FILE]\n".as_slice();
     let words = ["no_such_row", "lock_beside", "lock_beside"];
     for (from, to) in [(0usize, 0usize), (0, 1), (1, 3), (0, 3)] {
         let mut out = Vec::new(rt.alloc());
         let mut err = Vec::new(rt.alloc());
-        let answer = rows::run_row(&rt, &words[from..to], &mut out, &mut err);
+        let answer = rows::run_row(&rt, rows, &words[from..to], &mut out, &mut err);
         assert_eq!(rt; answer, 2, "{from} to {to}");
         assert!(rt; out.is_empty(), "{from} to {to}");
         assert_eq!(rt; err.as_slice(), usage, "{from} to {to}");
     }
+    Ok(())
 }
 
 #[test]
-fn a_writer_that_fails_gives_status_2(rt: HostRuntime) {
+fn a_writer_that_fails_gives_status_2(rt: HostRuntime) -> Result<(), Fail> {
+    let rows = rows::all_rows(rt.alloc())?;
+    let rows = rows.as_slice();
     let mut taken = Vec::new(rt.alloc());
-    let answer = rows::run_row(&rt, &["lock_beside"], &mut Broken, &mut taken);
+    let answer = rows::run_row(&rt, rows, &["lock_beside"], &mut Broken, &mut taken);
     assert_eq!(rt; answer, 2);
-    let answer = rows::run_row(&rt, &["no_such_row"], &mut taken, &mut Broken);
+    let answer = rows::run_row(&rt, rows, &["no_such_row"], &mut taken, &mut Broken);
     assert_eq!(rt; answer, 2);
     assert!(rt; taken.is_empty());
+    Ok(())
+}
+
+// A row of a script, checked with these settings.
+fn row_of(steps: &'static [Step], builder: Builder) -> Row {
+    Row {
+        name: "a row of a test",
+        checked: Checked::Script(steps),
+        builder,
+    }
 }
 
 // Checks lock_beside with these settings, and compares what is printed on standard error.
 fn refuses(rt: &(impl Abort + AllocGlobal), builder: Builder, line: &str) -> Result<(), Fail> {
-    let mut row = Row::new(&LOCK_BESIDE);
-    row.builder = builder;
+    let row = row_of(LOCK_BESIDE, builder);
     let mut out = Vec::new(rt.alloc());
     let mut err = Vec::new(rt.alloc());
-    let status = rows::check_row(rt, row, &mut out, &mut err)?;
+    let status = rows::check_row(rt, &row, &mut out, &mut err)?;
     assert_eq!(rt; status, 2, "{line}");
     assert!(rt; out.is_empty(), "{line}");
     assert_eq!(rt; err.as_slice(), line.as_bytes());
@@ -188,7 +209,7 @@ fn settings_out_of_range_are_refused(rt: HostRuntime) -> Result<(), Fail> {
 fn fails(rt: &(impl Abort + AllocGlobal), row: Row, line: &str) -> Result<(), Fail> {
     let mut out = Vec::new(rt.alloc());
     let mut err = Vec::new(rt.alloc());
-    let status = rows::check_row(rt, row, &mut out, &mut err)?;
+    let status = rows::check_row(rt, &row, &mut out, &mut err)?;
     assert_eq!(rt; status, 1, "{line}");
     assert_eq!(rt; out.as_slice(), line.as_bytes());
     Ok(())
@@ -196,13 +217,17 @@ fn fails(rt: &(impl Abort + AllocGlobal), row: Row, line: &str) -> Result<(), Fa
 
 #[test]
 fn limits_fail_a_run(rt: HostRuntime) -> Result<(), Fail> {
-    let mut short = Row::new(&LOCK_BESIDE);
-    short.builder.max_branches = 3;
-    fails(&rt, short, "failed 9 0 t0 t1 t1\n")?;
-    fails(&rt, Row::new(&FIVE_SPAWNS), "failed 8 0\n")
+    let mut short = Builder::new();
+    short.max_branches = 3;
+    fails(&rt, row_of(LOCK_BESIDE, short), "failed 9 0 t0 t1 t1\n")?;
+    fails(&rt, row_of(&FIVE_SPAWNS, Builder::new()), "failed 8 0\n")
 }
 
 #[test]
 fn a_thread_is_joined_once(rt: HostRuntime) -> Result<(), Fail> {
-    fails(&rt, Row::new(&JOIN_TWICE), "failed 14 0 t1 t1 t0\n")
+    fails(
+        &rt,
+        row_of(&JOIN_TWICE, Builder::new()),
+        "failed 14 0 t1 t1 t0\n",
+    )
 }

@@ -38,15 +38,15 @@ fn fails(
 fn a_list_that_no_run_follows(rt: HostRuntime) -> Result<(), Fail> {
     let foreign = FailureKind::NotDeterministic;
     let no_option = [ONE, ONE, ONE];
-    fails(&rt, &LOCK_BESIDE, &no_option, foreign, &[ONE, ONE])?;
+    fails(&rt, LOCK_BESIDE, &no_option, foreign, &[ONE, ONE])?;
     let no_thread = [ONE, TWO];
-    fails(&rt, &LOCK_BESIDE, &no_thread, foreign, &[ONE])?;
+    fails(&rt, LOCK_BESIDE, &no_thread, foreign, &[ONE])?;
     let no_load = [Choice::Load(0)];
-    fails(&rt, &LOCK_BESIDE, &no_load, foreign, &[])?;
+    fails(&rt, LOCK_BESIDE, &no_load, foreign, &[])?;
     let too_long = [ZERO, ONE, ONE, NONE, NONE];
     fails(
         &rt,
-        &LOCK_BESIDE,
+        LOCK_BESIDE,
         &too_long,
         foreign,
         &[ZERO, ONE, ONE, NONE],
@@ -82,7 +82,7 @@ pub fn finds(
 
 #[test]
 fn what_a_check_finds_replays(rt: HostRuntime) -> Result<(), Fail> {
-    finds(&rt, &TWO_MUTEXES_DEADLOCK, FailureKind::Deadlock)?;
-    finds(&rt, &CHECK_ORDERING_INVALID_1, FailureKind::Assertion)?;
-    finds(&rt, &CHECKS_FAIL, FailureKind::Assertion)
+    finds(&rt, TWO_MUTEXES_DEADLOCK, FailureKind::Deadlock)?;
+    finds(&rt, CHECK_ORDERING_INVALID_1, FailureKind::Assertion)?;
+    finds(&rt, CHECKS_FAIL, FailureKind::Assertion)
 }

@@ -1,0 +1,42 @@
+-- What the name of a row means, and what is printed of its check.
+use Rattle.std.specs.Prelude.{ℕ, ◌≡◌, List, [], ◌∷◌, Option, Some, None}
+use Rattle.std.specs.List.{find}
+use Rattle.std.specs.Str.{bytes_eq}
+use Rattle.loom.specs.Check.{ReportsAlone}
+use Rattle.loom.specs.declared.model.Builder.{Builder}
+use Rattle.loom.specs.declared.model.Report.{Report}
+use Rattle.loom_runs.specs.Runs.{runs as runs_of}
+use Rattle.loom_scripts.specs.Running.{started}
+use Rattle.loom_scripts.specs.Script as script
+use Rattle.loom_scripts.specs.declared.step.Step.{Step}
+use Rattle.loom_row_bodies.specs.Line.{PrintedOf}
+use Rattle.loom_row_bodies.specs.Updates as updates
+use Rattle.loom_row_bodies.specs.declared.rows.Checked.{Checked}
+use Rattle.loom_row_bodies.specs.declared.rows.Checked.TheVariants.{Script, Updater}
+use Rattle.loom_row_bodies.specs.declared.rows.Row.{Row}
+
+-- what a name means: the first row of the list that has it
+abbrev pub row_of : List Row → List ℕ → Option Row
+row_of rows name = find (λ row. bytes_eq row.name.now name) rows
+
+-- what words mean: one word is a name, and nothing else means a row
+abbrev pub meant_by : List Row → List (List ℕ) → Option Row
+meant_by rows (name ∷ []) = row_of rows name
+meant_by rows words = None
+
+-- what a report says of the runs of a script, with these settings
+abbrev pub ReportsScript : List Step → Builder → Report → Type 0
+ReportsScript steps b = ReportsAlone b.max_branches (runs_of script.next_of b.max_threads b.max_steps (started steps))
+
+-- what a report says of the runs of what is checked
+abbrev pub ReportsOf : Checked → Builder → Report → Type 0
+ReportsOf (Script steps) b = ReportsScript steps.now b
+ReportsOf (Updater one other) b = ReportsAlone b.max_branches (runs_of updates.next_of b.max_threads b.max_steps (updates.begun one other))
+
+-- just the line of a report of which this holds was written, and the status is the report's
+abbrev pub PrintedSome : (Report → Type 0) → Option (List ℕ) → Option (List ℕ) → ℕ → Type 0
+PrintedSome Reports old new status = (report : Report) × Reports report × PrintedOf report old new status
+
+-- the words mean a row, and what was written is of a check of this row
+abbrev pub PrintedRow : List Row → List (List ℕ) → Option (List ℕ) → Option (List ℕ) → ℕ → Type 0
+PrintedRow rows words old new status = (row : Row) × (meant_by rows words ≡ Some row) × PrintedSome (ReportsOf row.checked row.builder) old new status
