@@ -20,7 +20,7 @@ use Rattle.loom_objects.specs.Condvars.{condvar_begins, falls_asleep, relocks, w
 use Rattle.loom_objects.specs.Counts.{arc_begins, counts, tries_unwrap, needs_memory as arc_needs_memory}
 use Rattle.loom_objects.specs.Locks.{mutex_begins, lock, try_lock, needs_memory as mutex_needs_memory}
 use Rattle.loom_objects.specs.Notifiers.{notifier_begins, notifies, awaits, wakes_early, needs_memory as notifier_needs_memory}
-use Rattle.loom_objects.specs.RwLocks.{rwlock_begins, claims, is_reading, needs_memory as rwlock_needs_memory}
+use Rattle.loom_objects.specs.RwLocks.{rwlock_begins, claims, needs_memory as rwlock_needs_memory}
 use Rattle.loom_objects.specs.Schedules.{chooses}
 use Rattle.loom_objects.specs.Threads.{thread_begins, join, child_finish, needs_memory as thread_needs_memory}
 use Rattle.loom_objects.specs.Tracks.{track_begins, needs_memory as track_needs_memory}
@@ -90,27 +90,3 @@ module _ {D : Type 0} where
   chosen t w = do
     (todo, ready) ← chooses t w
     takes_effect todo ready
-
-  -- what is pending needs a copy of data, for which memory may be refused: a lock that is taken to read
-  abbrev pub needs_copy : Task D → Bool
-  needs_copy Start = false
-  needs_copy Body = false
-  needs_copy Continue = false
-  needs_copy (Access access) = false
-  needs_copy (Lock locking n) = false
-  needs_copy (TryLock n) = false
-  needs_copy (Claim claim n) = is_reading claim
-  needs_copy (Wait locking n m value) = false
-  needs_copy (Relock locking m) = false
-  needs_copy (Wake waking n) = false
-  needs_copy (Notify n) = false
-  needs_copy (Await n) = false
-  needs_copy (Rouse n) = false
-  needs_copy (Count todo n) = false
-  needs_copy (TryUnwrap n) = false
-  needs_copy (Join t n) = false
-  needs_copy (Finish n value) = false
-
-  abbrev pub needs_copy_at : Option (Thread D) → Bool
-  needs_copy_at None = false
-  needs_copy_at (Some thread) = needs_copy thread.task
