@@ -1,3 +1,4 @@
+mod answer;
 mod atomics;
 mod cells;
 mod counts;

@@ -1,201 +1,117 @@
 //! Locks, condition variables and notifiers.
-use crate::tests::run::{Run, Wrong, holds};
-use loom::sync::{
-    Condvar, Mutex, MutexGuard, Notify, RwLock, RwLockReadGuard, RwLockWriteGuard,
-    WaitTimeoutResult,
-};
-use loom::{FailureKind, Op, Reply, thread};
+use crate::tests::answer::Answer::{Blocks, Data, Done, Holds, New, Spawned, Start};
+use crate::tests::answer::Call::{Fails, Main, Other};
+use crate::tests::answer::{Call, Guard, Object};
+use crate::tests::run::first_wrong;
+use loom::sync::{Condvar, Mutex, MutexGuard, Notify, RwLock, RwLockReadGuard, RwLockWriteGuard};
+use loom::{FailureKind, thread};
 use loom_scripts::number::Number;
 use std::process::Abort;
 use std::test::Fail;
 
-// Main makes a mutex.
-fn mutex(main: &mut Run, number: u64) -> Result<Mutex, Wrong> {
-    let made = main.submit(Mutex::new(Number(number)))?;
-    Mutex::from_reply(&made).ok_or(Wrong::Reply)
+// Main locks a mutex by each call, takes it apart, and finds that it is no more.
+fn use_mutex() -> [Call; 10] {
+    let mutex = Mutex { number: 0 };
+    let guard = MutexGuard { number: 0 };
+    [
+        Main(Mutex::new(Number(1)), New(Object::Mutex, 0)),
+        Main(mutex.lock(), Holds(Guard::Mutex, 0, 1)),
+        Main(mutex.try_lock(), Blocks),
+        Main(guard.release(Number(2)), Done),
+        Main(mutex.try_lock(), Holds(Guard::Mutex, 0, 2)),
+        Main(guard.release(Number(3)), Done),
+        Main(mutex.get_mut(), Data(3)),
+        Main(mutex.put(Number(4)), Done),
+        Main(mutex.into_inner(), Data(4)),
+        Fails(mutex.lock(), FailureKind::Misuse),
+    ]
 }
 
-// Main makes a read-write lock.
-fn rwlock(main: &mut Run, number: u64) -> Result<RwLock, Wrong> {
-    let made = main.submit(RwLock::new(Number(number)))?;
-    RwLock::from_reply(&made).ok_or(Wrong::Reply)
+// Main reads and writes a lock by each call, takes it apart, and finds that it is no more.
+fn use_lock() -> [Call; 15] {
+    let lock = RwLock { number: 0 };
+    let reader = RwLockReadGuard { number: 0 };
+    let writer = RwLockWriteGuard { number: 0 };
+    [
+        Main(RwLock::new(Number(1)), New(Object::RwLock, 0)),
+        Main(lock.read(), Holds(Guard::Read, 0, 1)),
+        Main(lock.try_read(), Holds(Guard::Read, 0, 1)),
+        Main(lock.try_write(), Blocks),
+        Main(reader.release(), Done),
+        Main(reader.release(), Done),
+        Main(lock.write(), Holds(Guard::Write, 0, 1)),
+        Main(lock.try_read(), Blocks),
+        Main(writer.release(Number(2)), Done),
+        Main(lock.try_write(), Holds(Guard::Write, 0, 2)),
+        Main(writer.release(Number(3)), Done),
+        Main(lock.get_mut(), Data(3)),
+        Main(lock.put(Number(4)), Done),
+        Main(lock.into_inner(), Data(4)),
+        Fails(lock.read(), FailureKind::Misuse),
+    ]
 }
 
-// The operation would block.
-fn blocks(main: &mut Run, op: Op<Number, ()>) -> Result<(), Wrong> {
-    match main.submit(op)? {
-        Reply::WouldBlock => Ok(()),
-        _ => Err(Wrong::Reply),
-    }
+// Main sleeps on a condition variable, and the thread that it spawned starts, changes the number, wakes main and sleeps too.
+// Main sleeps again, by the call with a time, and the other thread goes on, wakes main and parks.
+fn wait_in_turn() -> [Call; 15] {
+    let mutex = Mutex { number: 0 };
+    let guard = MutexGuard { number: 0 };
+    let condvar = Condvar { number: 1 };
+    [
+        Main(Mutex::new(Number(1)), New(Object::Mutex, 0)),
+        Main(Condvar::new(), New(Object::Condvar, 1)),
+        Main(thread::spawn(()), Spawned(1, None)),
+        Main(mutex.lock(), Holds(Guard::Mutex, 0, 1)),
+        Other(condvar.wait(guard, Number(2)), Start),
+        Other(mutex.lock(), Holds(Guard::Mutex, 0, 2)),
+        Other(guard.release(Number(3)), Done),
+        Other(condvar.notify_one(), Done),
+        Other(mutex.lock(), Holds(Guard::Mutex, 0, 3)),
+        Main(condvar.wait(guard, Number(4)), Holds(Guard::Mutex, 0, 4)),
+        Main(condvar.notify_all(), Done),
+        Other(
+            condvar.wait_timeout(guard, Number(5)),
+            Holds(Guard::Mutex, 0, 5),
+        ),
+        Other(condvar.notify_all(), Done),
+        Other(guard.release(Number(6)), Done),
+        Main(thread::park(), Holds(Guard::InTime, 0, 6)),
+    ]
 }
 
-// The thread locks the mutex, which holds this number.
-fn lock(run: &mut Run, thread: u8, op: Op<Number, ()>, number: u64) -> Result<MutexGuard, Wrong> {
-    let reply = run.told(thread, op)?;
-    match (MutexGuard::from_reply(&reply), reply) {
-        (Some(guard), Reply::Locked(_, Number(held))) if held == number => Ok(guard),
-        _ => Err(Wrong::Reply),
-    }
-}
-
-// Main reads the lock, which holds this number.
-fn read(main: &mut Run, op: Op<Number, ()>, number: u64) -> Result<RwLockReadGuard, Wrong> {
-    let reply = main.submit(op)?;
-    match (RwLockReadGuard::from_reply(&reply), reply) {
-        (Some(guard), Reply::ReadLocked(_, Number(held))) if held == number => Ok(guard),
-        _ => Err(Wrong::Reply),
-    }
-}
-
-// Main writes the lock, which holds this number.
-fn write(main: &mut Run, op: Op<Number, ()>, number: u64) -> Result<RwLockWriteGuard, Wrong> {
-    let reply = main.submit(op)?;
-    match (RwLockWriteGuard::from_reply(&reply), reply) {
-        (Some(guard), Reply::WriteLocked(_, Number(held))) if held == number => Ok(guard),
-        _ => Err(Wrong::Reply),
-    }
-}
-
-// Main locks the mutex, which holds 1, by each call, and leaves 3.
-fn lock_each_way(main: &mut Run, mutex: Mutex) -> Result<(), Wrong> {
-    let guard = lock(main, 0, mutex.lock(), 1)?;
-    blocks(main, mutex.try_lock())?;
-    main.done(0, guard.release(Number(2)))?;
-    let guard = lock(main, 0, mutex.try_lock(), 2)?;
-    main.done(0, guard.release(Number(3)))
-}
-
-// Main locks a mutex, takes it apart, and finds that it is no more.
-fn use_mutex(main: &mut Run) -> Result<(), Wrong> {
-    let mutex = mutex(main, 1)?;
-    lock_each_way(main, mutex)?;
-    main.replies(mutex.get_mut(), 3)?;
-    main.done(0, mutex.put(Number(4)))?;
-    main.replies(mutex.into_inner(), 4)?;
-    main.fails(mutex.lock(), FailureKind::Misuse)
+// Main waits on a notifier that was notified before.
+fn wait_on_notifier() -> [Call; 3] {
+    let notifier = Notify { number: 0 };
+    [
+        Main(Notify::new(), New(Object::Notify, 0)),
+        Main(notifier.notify(), Done),
+        Main(notifier.wait(), Done),
+    ]
 }
 
 #[test]
 fn a_mutex_is_locked_and_taken_apart(rt: HostRuntime) -> Result<(), Fail> {
-    let mut run = Run::new(rt.alloc())?;
-    assert_eq!(rt; use_mutex(&mut run), Ok(()));
+    assert_eq!(rt; first_wrong::<u64>(rt.alloc(), &mut use_mutex())?, None);
     Ok(())
-}
-
-// Main reads the lock, which holds 1, by each call.
-fn read_each_way(main: &mut Run, lock: RwLock) -> Result<(), Wrong> {
-    let one = read(main, lock.read(), 1)?;
-    let other = read(main, lock.try_read(), 1)?;
-    blocks(main, lock.try_write())?;
-    main.done(0, one.release())?;
-    main.done(0, other.release())
-}
-
-// Main writes the lock, which holds 1, by each call, and leaves 3.
-fn write_each_way(main: &mut Run, lock: RwLock) -> Result<(), Wrong> {
-    let writer = write(main, lock.write(), 1)?;
-    blocks(main, lock.try_read())?;
-    main.done(0, writer.release(Number(2)))?;
-    let writer = write(main, lock.try_write(), 2)?;
-    main.done(0, writer.release(Number(3)))
-}
-
-// Main reads and writes a lock.
-fn use_lock(main: &mut Run) -> Result<(), Wrong> {
-    let lock = rwlock(main, 1)?;
-    read_each_way(main, lock)?;
-    write_each_way(main, lock)?;
-    main.replies(lock.get_mut(), 3)
 }
 
 #[test]
-fn a_lock_is_read_and_written(rt: HostRuntime) -> Result<(), Fail> {
-    let mut run = Run::new(rt.alloc())?;
-    assert_eq!(rt; use_lock(&mut run), Ok(()));
+fn a_lock_is_read_and_written_and_taken_apart(rt: HostRuntime) -> Result<(), Fail> {
+    assert_eq!(rt; first_wrong::<u64>(rt.alloc(), &mut use_lock())?, None);
     Ok(())
-}
-
-// Main changes a lock that is free, takes it apart, and finds that it is no more.
-fn take_lock_apart(main: &mut Run) -> Result<(), Wrong> {
-    let lock = rwlock(main, 3)?;
-    main.replies(lock.get_mut(), 3)?;
-    main.done(0, lock.put(Number(4)))?;
-    main.replies(lock.into_inner(), 4)?;
-    main.fails(lock.read(), FailureKind::Misuse)
-}
-
-#[test]
-fn a_lock_is_taken_apart(rt: HostRuntime) -> Result<(), Fail> {
-    let mut run = Run::new(rt.alloc())?;
-    assert_eq!(rt; take_lock_apart(&mut run), Ok(()));
-    Ok(())
-}
-
-// Main sleeps on the condition variable; the other thread starts, and changes the number.
-fn sleep_while_it_changes(run: &mut Run, mutex: Mutex, condvar: Condvar) -> Result<(), Wrong> {
-    let guard = lock(run, 0, mutex.lock(), 1)?;
-    run.told(1, condvar.wait(guard, Number(2)))?;
-    let guard = lock(run, 1, mutex.lock(), 2)?;
-    run.done(1, guard.release(Number(3)))
-}
-
-// The other thread wakes main, and sleeps too; main goes on.
-fn wake_and_sleep(run: &mut Run, mutex: Mutex, condvar: Condvar) -> Result<MutexGuard, Wrong> {
-    run.done(1, condvar.notify_one())?;
-    let guard = lock(run, 1, mutex.lock(), 3)?;
-    lock(run, 0, condvar.wait(guard, Number(4)), 4)
-}
-
-// Main sleeps again, by the call with a time, and the other thread goes on, wakes main and parks. Answers what main is told.
-fn wait_with_a_time(
-    run: &mut Run,
-    condvar: Condvar,
-    guard: MutexGuard,
-) -> Result<Reply<Number>, Wrong> {
-    run.done(0, condvar.notify_all())?;
-    let guard = lock(run, 1, condvar.wait_timeout(guard, Number(5)), 5)?;
-    run.done(1, condvar.notify_all())?;
-    run.done(1, guard.release(Number(6)))?;
-    run.told(0, thread::park())
-}
-
-// Two threads wait for one another on a condition variable in turn. Answers what main is told.
-fn wait_in_turn(run: &mut Run, mutex: Mutex, condvar: Condvar) -> Result<Reply<Number>, Wrong> {
-    sleep_while_it_changes(run, mutex, condvar)?;
-    let guard = wake_and_sleep(run, mutex, condvar)?;
-    wait_with_a_time(run, condvar, guard)
-}
-
-// Main waits for the other thread, which it spawns, by both calls.
-fn wait_for_a_notification(run: &mut Run) -> Result<(), Wrong> {
-    let mutex = mutex(run, 1)?;
-    let made = run.submit(Condvar::new())?;
-    let condvar = Condvar::from_reply(&made).ok_or(Wrong::Reply)?;
-    run.submit(thread::spawn(()))?;
-    let reply = wait_in_turn(run, mutex, condvar)?;
-    let waited = WaitTimeoutResult::from_reply(&reply).ok_or(Wrong::Reply)?;
-    holds(!waited.timed_out())?;
-    holds(matches!(reply, Reply::Waited(_, Number(6), false)))
 }
 
 #[test]
 fn a_thread_waits_for_a_notification(rt: HostRuntime) -> Result<(), Fail> {
-    let mut run = Run::new(rt.alloc())?;
-    assert_eq!(rt; wait_for_a_notification(&mut run), Ok(()));
+    assert_eq!(rt; first_wrong::<u64>(rt.alloc(), &mut wait_in_turn())?, None);
     Ok(())
-}
-
-// Main waits on a notifier that was notified before.
-fn wait_on_notifier(main: &mut Run) -> Result<(), Wrong> {
-    let made = main.submit(Notify::new())?;
-    let notifier = Notify::from_reply(&made).ok_or(Wrong::Reply)?;
-    main.done(0, notifier.notify())?;
-    main.done(0, notifier.wait())
 }
 
 #[test]
 fn a_notifier_is_waited_on(rt: HostRuntime) -> Result<(), Fail> {
-    let mut run = Run::new(rt.alloc())?;
-    assert_eq!(rt; wait_on_notifier(&mut run), Ok(()));
+    assert_eq!(rt;
+        first_wrong::<u64>(rt.alloc(), &mut wait_on_notifier())?,
+        None
+    );
     Ok(())
 }

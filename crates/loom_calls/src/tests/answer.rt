@@ -1,0 +1,190 @@
+//! What a call comes to, as a table says it.
+use loom::alloc::Track;
+use loom::cell::{Cell, ConstPtr, MutPtr, UnsafeCell};
+use loom::sync::atomic::{Atomic, FetchUpdate, Fetched};
+use loom::sync::{
+    Arc, Condvar, Mutex, MutexGuard, Notify, RwLock, RwLockReadGuard, RwLockWriteGuard,
+    WaitTimeoutResult,
+};
+use loom::thread::{JoinHandle, Thread, ThreadId};
+use loom::{FailureKind, Op, Reply};
+use loom_scripts::number::Number;
+use loom_views::rt::num::Numeric;
+
+/// A call of a table, and what it comes to.
+#[derive(Drop)]
+pub enum Call {
+    /// Main goes on, and is told this.
+    Main(Op<Number, ()>, Answer),
+    /// The other thread goes on, and is told this.
+    Other(Op<Number, ()>, Answer),
+    /// The run fails by this.
+    Fails(Op<Number, ()>, FailureKind),
+    /// It was made already.
+    Made,
+}
+
+/// What a thread is told. Each handle is the one that its own `from_reply` answers, and so is each value of an atomic.
+#[derive(Clone, Copy)]
+pub enum Answer {
+    /// The thread starts.
+    Start,
+    Done,
+    /// The lock is held.
+    Blocks,
+    /// Others share the value.
+    Shared,
+    /// There are so many references.
+    Count(u64),
+    /// The data alone.
+    Data(u64),
+    /// A new object, and its number.
+    New(Object, usize),
+    /// What the thread holds from now on, the number of the object, and its data.
+    Holds(Guard, usize, u64),
+    /// What an atomic holds, in 64 bits.
+    Value(u64),
+    /// What a compare-exchange has read, in 64 bits: Ok where it has exchanged it, and else Err.
+    Exchanged(Result<u64, u64>),
+    /// What an update has read, in 64 bits.
+    Read(u64),
+    /// What an update has replaced, in 64 bits.
+    Replaced(u64),
+    /// The thread itself, and its name.
+    Thread(u8, Option<&'static str>),
+    /// A new thread, and its name.
+    Spawned(u8, Option<&'static str>),
+}
+
+/// The kinds of objects.
+#[derive(Clone, Copy)]
+pub enum Object {
+    Atomic,
+    UnsafeCell,
+    Cell,
+    Arc,
+    Track,
+    Mutex,
+    RwLock,
+    Condvar,
+    Notify,
+}
+
+/// What a thread holds of an object.
+#[derive(Clone, Copy)]
+pub enum Guard {
+    /// A read of a cell.
+    Const,
+    /// A write of a cell.
+    Mut,
+    /// A mutex.
+    Mutex,
+    /// A mutex again, after a wait in which no time ran out.
+    InTime,
+    /// A read-write lock, to read.
+    Read,
+    /// A read-write lock, to write.
+    Write,
+}
+
+impl Object {
+    // The number of a new object of this kind, if that is what the reply says.
+    fn made(self, reply: &Reply<Number>) -> Option<usize> {
+        match self {
+            Object::Atomic => Some(Atomic::<u64>::from_reply(reply)?.number),
+            Object::UnsafeCell => Some(UnsafeCell::from_reply(reply)?.number),
+            Object::Cell => Some(Cell::from_reply(reply)?.number),
+            Object::Arc => Some(Arc::from_reply(reply)?.number),
+            Object::Track => Some(Track::from_reply(reply)?.number),
+            Object::Mutex => Some(Mutex::from_reply(reply)?.number),
+            Object::RwLock => Some(RwLock::from_reply(reply)?.number),
+            Object::Condvar => Some(Condvar::from_reply(reply)?.number),
+            Object::Notify => Some(Notify::from_reply(reply)?.number),
+        }
+    }
+}
+
+impl Guard {
+    // The number of the object of which the thread holds this, if that is what the reply says.
+    fn held(self, reply: &Reply<Number>) -> Option<usize> {
+        match self {
+            Guard::Const => Some(ConstPtr::from_reply(reply)?.number),
+            Guard::Mut => Some(MutPtr::from_reply(reply)?.number),
+            Guard::Mutex => Some(MutexGuard::from_reply(reply)?.number),
+            Guard::InTime => in_time(reply),
+            Guard::Read => Some(RwLockReadGuard::from_reply(reply)?.number),
+            Guard::Write => Some(RwLockWriteGuard::from_reply(reply)?.number),
+        }
+    }
+}
+
+// The number of the mutex that the thread holds after a wait with a time, which didn't run out.
+fn in_time(reply: &Reply<Number>) -> Option<usize> {
+    if WaitTimeoutResult::from_reply(reply)?.timed_out() {
+        None
+    } else {
+        Some(MutexGuard::from_reply(reply)?.number)
+    }
+}
+
+// The data that the reply holds.
+fn data(reply: Reply<Number>) -> Option<u64> {
+    match reply {
+        Reply::Data(Number(data))
+        | Reply::Reading(_, Number(data))
+        | Reply::Locked(_, Number(data))
+        | Reply::Waited(_, Number(data), _)
+        | Reply::ReadLocked(_, Number(data))
+        | Reply::WriteLocked(_, Number(data)) => Some(data),
+        other => Some(MutPtr::data(other)?.0),
+    }
+}
+
+// Whether a compare-exchange has read this.
+fn exchanged<T: Numeric>(read: Result<T, T>, wanted: Result<u64, u64>) -> bool {
+    match (read, wanted) {
+        (Ok(read), Ok(wanted)) | (Err(read), Err(wanted)) => read.into_u64() == wanted,
+        _ => false,
+    }
+}
+
+// What an update has read, or else what it has replaced.
+fn fetched<T: Numeric>(found: Fetched<T>) -> Result<u64, u64> {
+    match found {
+        Fetched::Read(value) => Ok(value.into_u64()),
+        Fetched::Replaced(value) => Err(value.into_u64()),
+    }
+}
+
+// Whether the thread that asked is this one.
+fn is_thread(thread: Thread, number: u8, name: Option<&'static str>) -> bool {
+    thread.id() == ThreadId(number) && thread.name() == name
+}
+
+impl Answer {
+    /// Whether it is what the reply says, where atomics hold a `T`.
+    pub fn is<T: Numeric>(self, reply: Reply<Number>) -> Option<bool> {
+        Some(match self {
+            Answer::Start => matches!(reply, Reply::Start),
+            Answer::Done => matches!(reply, Reply::Done),
+            Answer::Blocks => matches!(reply, Reply::WouldBlock),
+            Answer::Shared => matches!(reply, Reply::Shared),
+            Answer::Count(count) => matches!(reply, Reply::Value(found) if found == count),
+            Answer::Data(number) => {
+                matches!(reply, Reply::Data(Number(found)) if found == number)
+            }
+            Answer::New(object, number) => object.made(&reply)? == number,
+            Answer::Holds(guard, number, held) => {
+                guard.held(&reply)? == number && data(reply)? == held
+            }
+            Answer::Value(value) => Atomic::<T>::value(&reply)?.into_u64() == value,
+            Answer::Exchanged(wanted) => exchanged(Atomic::<T>::exchanged(&reply)?, wanted),
+            Answer::Read(value) => fetched(FetchUpdate::<T>::fetched(&reply)?) == Ok(value),
+            Answer::Replaced(value) => fetched(FetchUpdate::<T>::fetched(&reply)?) == Err(value),
+            Answer::Thread(number, name) => is_thread(Thread::from_reply(&reply)?, number, name),
+            Answer::Spawned(number, name) => {
+                is_thread(JoinHandle::from_reply(&reply)?.thread(), number, name)
+            }
+        })
+    }
+}
