@@ -1,5 +1,5 @@
 -- What the name of a body means, and what is printed of its checks.
-use Rattle.std.specs.Prelude.{ℕ, ◌≡◌, List, ◌++◌, Option, Some, codes}
+use Rattle.std.specs.Prelude.{ℕ, ◌≡◌, List, [], ◌∷◌, ◌++◌, Option, Some, codes}
 use Rattle.std.specs.Io.KnownBytes.{Appends}
 use Rattle.std.specs.List.{find}
 use Rattle.std.specs.Str.{bytes_eq}
@@ -7,6 +7,13 @@ use Rattle.loom.specs.declared.model.Report.{Report}
 use Rattle.loom_row_bodies.specs.Line.{report_text, status_of}
 use Rattle.loom_row_bodies.specs.Rows.{ReportsScript}
 use Rattle.loom_bench.specs.declared.bodies.Measured.{Measured}
+
+-- the names of the program's list
+abbrev pub names : List (List ℕ)
+names =
+    codes "store_buffering" ∷ codes "locks_in_turn" ∷ codes "writers_beside_a_reader" ∷ codes "wait_and_notify"
+    ∷ codes "three_threads" ∷ codes "three_adds" ∷ codes "long_line" ∷ codes "long_line_10000"
+    ∷ codes "locks_crosswise" ∷ codes "acq_rel" ∷ []
 
 -- what a name means: the first body of the list that has it
 abbrev pub body_of : List Measured → List ℕ → Option Measured

@@ -1,6 +1,6 @@
 //! The bodies that are checked.
-ghost use Rattle.std.specs.Prelude.{◌≡◌, option_copied};
-ghost use Rattle.loom_bench.specs.Measures.{body_of};
+ghost use Rattle.std.specs.Prelude.{◌≡◌, map, option_copied};
+ghost use Rattle.loom_bench.specs.Measures.{body_of, names};
 
 use loom::model::Builder;
 use loom_objects::operation::{AtomicOp, CondvarOp, MutexOp, Op, RwLockOp, ThreadOp};
@@ -285,7 +285,9 @@ static BODIES: [Measured; 10] = [
 ];
 
 /// The bodies that are measured.
-pub fn all_bodies() -> &'static [Measured] {
+pub fn all_bodies() -> &'static [Measured]
+    ensures { map (λ body. body.name.now) result.now ≡ names }
+{
     &BODIES
 }
 
