@@ -4,6 +4,9 @@ pub mod atomics;
 pub mod cells;
 pub mod locks;
 
+ghost use Rattle.std.specs.Prelude.{◌≡◌, map};
+ghost use Rattle.loom_row_bodies.specs.Names.{first_names};
+
 use crate::rows::{DEFAULTS, Row, TEN_STEPS, row};
 use loom::sync::atomic::Ordering::{Acquire, Relaxed, Release};
 use loom_objects::operation::{AtomicOp, MutexOp, Op, ThreadOp};
@@ -225,6 +228,8 @@ static ROWS: [Row; 13] = [
 ];
 
 /// The rows of these scripts.
-pub fn rows() -> &'static [Row] {
+pub fn rows() -> &'static [Row]
+    ensures { map (λ row. row.name.now) result.now ≡ first_names }
+{
     &ROWS
 }

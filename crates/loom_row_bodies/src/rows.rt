@@ -1,8 +1,9 @@
 //! The rows: bodies with names, and how each is checked.
-ghost use Rattle.std.specs.Prelude.{◌≡◌, ◌⊎◌, IfOk, map, option_copied};
+ghost use Rattle.std.specs.Prelude.{◌≡◌, ◌⊎◌, ◌++◌, IfOk, map, option_copied};
 ghost use Rattle.loom_runs.specs.Runs.{runs as runs_of};
 ghost use Rattle.loom.specs.Check.{ReportsAlone};
 ghost use Rattle.loom_row_bodies.specs.Line.{PrintedOf};
+ghost use Rattle.loom_row_bodies.specs.Names.{atomic_names, cell_names, first_names, lock_names};
 ghost use Rattle.loom_row_bodies.specs.Rows.{PrintedRow, PrintedSome, ReportsOf, row_of};
 
 use crate::bodies::{self, atomics, cells, locks};
@@ -67,7 +68,9 @@ macro_rules! row {
 pub(crate) use row;
 
 /// The rows of the program.
-pub fn all_rows(alloc: Global) -> Result<Vec<Row>, AllocError> {
+pub fn all_rows(alloc: Global) -> Result<Vec<Row>, AllocError>
+    ensures { IfOk result (λ rows. map (λ row. row.name.now) rows.items ≡ first_names ++ atomic_names ++ cell_names ++ lock_names) }
+{
     let mut rows = Vec::new(alloc);
     rows.extend_from_slice(bodies::rows())?;
     rows.extend_from_slice(atomics::rows())?;

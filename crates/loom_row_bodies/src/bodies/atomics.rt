@@ -1,4 +1,7 @@
 //! The scripts of the rows about atomics and fences.
+ghost use Rattle.std.specs.Prelude.{◌≡◌, map};
+ghost use Rattle.loom_row_bodies.specs.Names.{atomic_names};
+
 use crate::rows::{Checked, DEFAULTS, Row, TEN_STEPS, row};
 use loom::sync::atomic::Ordering::{Relaxed, Release, SeqCst};
 use loom_objects::operation::{AtomicOp, Exchange, MutexOp, Op, ThreadOp};
@@ -262,6 +265,8 @@ static ROWS: [Row; 13] = [
 ];
 
 /// The rows of these scripts.
-pub fn rows() -> &'static [Row] {
+pub fn rows() -> &'static [Row]
+    ensures { map (λ row. row.name.now) result.now ≡ atomic_names }
+{
     &ROWS
 }

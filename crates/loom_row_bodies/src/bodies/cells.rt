@@ -1,4 +1,7 @@
 //! The scripts of the rows about cells, counted references and tracked values.
+ghost use Rattle.std.specs.Prelude.{◌≡◌, map};
+ghost use Rattle.loom_row_bodies.specs.Names.{cell_names};
+
 use crate::rows::{DEFAULTS, Row, row};
 use loom::sync::atomic::Ordering::{Acquire, Release};
 use loom_objects::operation::{ArcOp, AtomicOp, CellOp, Op, ThreadOp, TrackOp};
@@ -424,6 +427,8 @@ static ROWS: [Row; 19] = [
 ];
 
 /// The rows of these scripts.
-pub fn rows() -> &'static [Row] {
+pub fn rows() -> &'static [Row]
+    ensures { map (λ row. row.name.now) result.now ≡ cell_names }
+{
     &ROWS
 }

@@ -1,4 +1,7 @@
 //! The scripts of the rows about locks, condition variables, notifiers and threads that wait for one another.
+ghost use Rattle.std.specs.Prelude.{◌≡◌, map};
+ghost use Rattle.loom_row_bodies.specs.Names.{lock_names};
+
 use crate::rows::{DEFAULTS, Row, row};
 use loom::sync::atomic::Ordering::Relaxed;
 use loom_objects::operation::{AtomicOp, CondvarOp, MutexOp, NotifyOp, Op, RwLockOp, ThreadOp};
@@ -280,6 +283,8 @@ static ROWS: [Row; 19] = [
 ];
 
 /// The rows of these scripts.
-pub fn rows() -> &'static [Row] {
+pub fn rows() -> &'static [Row]
+    ensures { map (λ row. row.name.now) result.now ≡ lock_names }
+{
     &ROWS
 }
