@@ -3,7 +3,9 @@ pub mod Defaults
 pub mod Events
 pub mod Fairness
 pub mod Keeping
+pub mod States
 pub mod Ruling
+pub mod Replies
 pub mod Mutexes
 pub mod RwLocks
 pub mod Condvars
@@ -18,5 +20,6 @@ pub mod Tables
 pub mod Answering
 pub mod Steps
 pub mod Exclusive
+pub mod Holding
 pub mod Bodies
 pub mod Rows

@@ -1,12 +1,22 @@
 -- The states that a run may be in between two operations, and what holds of locks in all of them.
-use Rattle.std.specs.Prelude.{ℕ, ◌≡◌, ◌&&◌, Bool, true, not, is_some, ⊤}
-use Rattle.std.specs.List.{list_all}
+use Rattle.std.specs.Prelude.{ℕ, ◌≡◌, ◌&&◌, Bool, true, not, is_some, List, [], ◌∷◌, ◌++◌, Option, Some, None, ⊤}
+use Rattle.std.specs.List.{list_all, list_any}
 use Rattle.loom_objects.specs.declared.choice.Choice.{Choice}
+use Rattle.loom_objects.specs.declared.operation.CondvarOp.{CondvarOp}
+use Rattle.loom_objects.specs.declared.operation.CondvarOp.TheVariants as condvar_op
+use Rattle.loom_objects.specs.declared.operation.MutexOp.{MutexOp}
+use Rattle.loom_objects.specs.declared.operation.MutexOp.TheVariants as mutex_op
 use Rattle.loom_objects.specs.declared.operation.Op.{Op}
+use Rattle.loom_objects.specs.declared.operation.Op.TheVariants as op
+use Rattle.loom_objects.specs.declared.operation.Reply.{Reply}
+use Rattle.loom_objects.specs.declared.operation.Reply.TheVariants.{Locked, Waited}
 use Rattle.loom_objects.specs.declared.operation.Turn.{Turn}
+use Rattle.loom_objects.specs.declared.operation.Turn.TheVariants as turn
 use Rattle.loom_objects.specs.declared.rt.object.Object.{Object}
 use Rattle.loom_objects.specs.declared.rt.object.Object.TheVariants.{Atomic, Mutex, RwLock, Condvar, Notify, Cell, Arc, Track}
+use Rattle.loom_objects.specs.Moves.{is_number}
 use Rattle.loom_objects.specs.RwLocks.{is_unread}
+use Rattle.loom_objects.specs.Schedules.{or_else}
 use Rattle.loom_objects.specs.Tree.{Tree, Gives, Fails, Closes, Asks}
 use Rattle.loom_objects.specs.World.{World, opening}
 use Rattle.loom_runs.specs.Machine.{submit}
@@ -39,3 +49,104 @@ module _ {D : Type 0} where
 -- over every history a mutex that is held keeps no data, and a read-write lock has one writer or some readers
 abbrev pub LocksLaw : Type 0 → Type 0
 LocksLaw D = (max_threads max_steps : ℕ) (w : World D) → IsReached max_threads max_steps w → list_all is_exclusive w.objects ≡ true
+
+-- ---- at most one thread has the data of a mutex, said of replies
+
+-- an operation that the active thread hands over, and the turn that it comes to
+pub record Event (D : Type 0) : Type 0 where
+  pub op : Op D ⊤
+  pub turn : Turn D
+
+-- these events may follow the turn: after main's result, with which the run is over, there is none
+abbrev pub MayFollow : {D : Type 0} → Turn D → List (Event D) → Type 0
+MayFollow (turn.Reply t reply) events = Unit {0}
+MayFollow (turn.Start t) events = Unit {0}
+MayFollow (turn.Ended value) [] = Unit {0}
+MayFollow (turn.Ended value) (event ∷ events) = ⊥
+
+-- from this state the machine may go on by these events
+abbrev pub IsHistory : {D : Type 0} → World D → List (Event D) → Type 0
+IsHistory w [] = Unit {0}
+IsHistory {D} w (event ∷ events) = (v : World D) × (ComesTo (submit event.op w) (event.turn, v) × (MayFollow event.turn events × IsHistory v events))
+
+module _ {D : Type 0} where
+  -- the mutex whose data a lock's or a wait's reply gives out
+  abbrev pub locked_by : Reply D → Option ℕ
+  locked_by (Locked n value) = Some n
+  locked_by (Waited n value timed_out) = Some n
+  locked_by _ = None
+
+  abbrev pub locked_by_turn : Turn D → Option ℕ
+  locked_by_turn (turn.Reply t reply) = locked_by reply
+  locked_by_turn (turn.Start t) = None
+  locked_by_turn (turn.Ended value) = None
+
+  -- the mutex whose data the operation takes out without holding it, in its own reply
+  abbrev pub opened_by_mutex : MutexOp D → Option ℕ
+  opened_by_mutex (mutex_op.GetMut n) = Some n
+  opened_by_mutex (mutex_op.IntoInner n) = Some n
+  opened_by_mutex (mutex_op.New value) = None
+  opened_by_mutex (mutex_op.Lock n) = None
+  opened_by_mutex (mutex_op.TryLock n) = None
+  opened_by_mutex (mutex_op.Release n value) = None
+  opened_by_mutex (mutex_op.Put n value) = None
+
+  abbrev pub opened_by : Op D ⊤ → Option ℕ
+  opened_by (op.Mutex todo place) = opened_by_mutex todo
+  opened_by (op.Atomic todo place) = None
+  opened_by (op.Fence order place) = None
+  opened_by (op.Cell todo place) = None
+  opened_by (op.Arc todo place) = None
+  opened_by (op.Track todo place) = None
+  opened_by (op.RwLock todo place) = None
+  opened_by (op.Condvar todo place) = None
+  opened_by (op.Notify todo place) = None
+  opened_by (op.Thread todo place) = None
+  opened_by (op.Fail place) = None
+  opened_by (op.Unreachable place) = None
+
+  -- the mutex whose data a thread is given by this event
+  abbrev pub given_out : Event D → Option ℕ
+  given_out event = or_else (locked_by_turn event.turn) (opened_by event.op)
+
+  -- the mutex whose data the operation gives back
+  abbrev pub returned_by_mutex : MutexOp D → Option ℕ
+  returned_by_mutex (mutex_op.Release n value) = Some n
+  returned_by_mutex (mutex_op.Put n value) = Some n
+  returned_by_mutex (mutex_op.New value) = None
+  returned_by_mutex (mutex_op.Lock n) = None
+  returned_by_mutex (mutex_op.TryLock n) = None
+  returned_by_mutex (mutex_op.GetMut n) = None
+  returned_by_mutex (mutex_op.IntoInner n) = None
+
+  abbrev pub returned_by_condvar : CondvarOp D → Option ℕ
+  returned_by_condvar (condvar_op.Wait n m value) = Some m
+  returned_by_condvar (condvar_op.WaitTimeout n m value) = Some m
+  returned_by_condvar condvar_op.New = None
+  returned_by_condvar (condvar_op.NotifyOne n) = None
+  returned_by_condvar (condvar_op.NotifyAll n) = None
+
+  abbrev pub returned_by : Op D ⊤ → Option ℕ
+  returned_by (op.Mutex todo place) = returned_by_mutex todo
+  returned_by (op.Condvar todo place) = returned_by_condvar todo
+  returned_by (op.Atomic todo place) = None
+  returned_by (op.Fence order place) = None
+  returned_by (op.Cell todo place) = None
+  returned_by (op.Arc todo place) = None
+  returned_by (op.Track todo place) = None
+  returned_by (op.RwLock todo place) = None
+  returned_by (op.Notify todo place) = None
+  returned_by (op.Thread todo place) = None
+  returned_by (op.Fail place) = None
+  returned_by (op.Unreachable place) = None
+
+  abbrev pub gives_back : ℕ → Event D → Bool
+  gives_back n event = is_number (returned_by event.op) n
+
+-- Over every history: where two events give the data of one mutex out, an event after the first gives it back, the second at the
+-- latest, since another thread may have its turn by the very operation that gives it back.
+abbrev pub OneHolderLaw : Type 0 → Type 0
+OneHolderLaw D = (max_threads max_steps n : ℕ) (before between after : List (Event D)) (first second : Event D)
+    → IsHistory (opening max_threads max_steps) (before ++ first ∷ (between ++ second ∷ after))
+    → given_out first ≡ Some n → given_out second ≡ Some n
+    → list_any (gives_back n) (between ++ second ∷ []) ≡ true

@@ -26,8 +26,9 @@ use Rattle.loom_objects.specs.Rule.{◌>>=◌, check, found}
 use Rattle.loom_objects.specs.World.{World}
 use Rattle.loom_runs.proofs.Runs.Fairness.{IsFairResult, either, raise_fair, cell_read_fair, cell_write_fair}
 use Rattle.loom_runs.proofs.Runs.Keeping.{AreSound, set_sound, more_sound}
-use Rattle.loom_runs.proofs.Runs.Ruling.{Keeping, misuse, found_keeping, check_keeping, fair_keeping, chained, then_keeping, mutex_keeping, rwlock_keeping, set_keeping, atomic_fair, condvar_fair, notifier_fair, cell_fair, arc_fair, track_fair}
 use Rattle.loom_runs.proofs.Runs.Raising.{raises_keeping}
+use Rattle.loom_runs.proofs.Runs.States.{set_ready}
+use Rattle.loom_runs.proofs.Runs.Ruling.{Keeping, cell_fair, check_keeping, fair_keeping, found_keeping, misuse, new_keeping, set_keeping, then_keeping}
 
 open_access : OpenAccess ≢ NotDeterministic
 open_access e = cc
@@ -58,62 +59,62 @@ module _ {D : Type 0} where
   cell_read_keeping n w =
       fair_keeping (a_cell n w) _ w (cell_fair n w) (λ cell. raises_keeping w _ (λ p. check_keeping (is_none cell.content.lent) OpenAccess _ w open_access (λ e.
       reads_keeping n (with_points p w) _ (λ q. found_keeping (value_in cell.content) Misuse _ w misuse (λ value f.
-      check_keeping (nat_lt (reads_open w.active cell) (2 ^ 64 - 1)) TooManySteps _ w (λ g. cc) (λ g k. set_keeping w n _ tt k))))))
+      check_keeping (nat_lt (reads_open w.active cell) (2 ^ 64 - 1)) TooManySteps _ w (λ g. cc) (λ g out k. set_keeping w n _ tt out k))))))
 
   cell_read_end_keeping : (n : ℕ) (w : World D) → Keeping w (cell_read_end n w)
   cell_read_end_keeping n w =
       fair_keeping (a_cell n w) _ w (cell_fair n w) (λ cell. check_keeping (nat_lt 0 (reads_open w.active cell)) Misuse _ w misuse (λ e.
-      check_keeping (is_none cell.content.lent) OpenAccess _ w open_access (λ f. reads_keeping n w _ (λ p k. set_keeping w n _ tt k))))
+      check_keeping (is_none cell.content.lent) OpenAccess _ w open_access (λ f. reads_keeping n w _ (λ p out k. set_keeping w n _ tt out k))))
 
   cell_deref_keeping : (n : ℕ) (w : World D) → Keeping w (cell_deref n w)
   cell_deref_keeping n w =
       fair_keeping (a_cell n w) _ w (cell_fair n w) (λ cell. check_keeping (nat_lt 0 (reads_open w.active cell)) Misuse _ w misuse (λ e.
-      found_keeping (value_in cell.content) Misuse _ w misuse (λ value f k. k)))
+      found_keeping (value_in cell.content) Misuse _ w misuse (λ value f out k. k)))
 
   cell_write_keeping : (n : ℕ) (w : World D) → Keeping w (cell_write n w)
   cell_write_keeping n w =
       fair_keeping (a_cell n w) _ w (cell_fair n w) (λ cell. raises_keeping w _ (λ p. check_keeping (is_free_cell cell) OpenAccess _ w open_access (λ e.
-      writes_keeping n (with_points p w) _ (λ q. found_keeping (value_in cell.content) Misuse _ w misuse (λ value f k. set_keeping w n _ tt k)))))
+      writes_keeping n (with_points p w) _ (λ q. found_keeping (value_in cell.content) Misuse _ w misuse (λ value f out k. set_keeping w n _ tt out k)))))
 
   cell_write_end_keeping : (n : ℕ) (value : D) (w : World D) → Keeping w (cell_write_end n value w)
   cell_write_end_keeping n value w =
       fair_keeping (a_cell n w) _ w (cell_fair n w) (λ cell. check_keeping (is_number cell.content.lent w.active) Misuse _ w misuse (λ e.
-      check_keeping (is_unread cell) OpenAccess _ w open_access (λ f. writes_keeping n w _ (λ p k. set_keeping w n _ tt k))))
+      check_keeping (is_unread cell) OpenAccess _ w open_access (λ f. writes_keeping n w _ (λ p out k. set_keeping w n _ tt out k))))
 
   cell_into_inner_keeping : (n : ℕ) (w : World D) → Keeping w (cell_into_inner n w)
-  cell_into_inner_keeping n w = fair_keeping (a_cell n w) _ w (cell_fair n w) (λ cell. fair_keeping (data_left cell) _ w (data_left_fair cell) (λ value k. set_keeping w n _ tt k))
+  cell_into_inner_keeping n w = fair_keeping (a_cell n w) _ w (cell_fair n w) (λ cell. fair_keeping (data_left cell) _ w (data_left_fair cell) (λ value out k. set_keeping w n _ tt out k))
 
   cell_get_keeping : (n : ℕ) (w : World D) → Keeping w (cell_get n w)
   cell_get_keeping n w =
       fair_keeping (a_cell n w) _ w (cell_fair n w) (λ cell. raises_keeping w _ (λ p. check_keeping (is_none cell.content.lent) OpenAccess _ w open_access (λ e.
-      reads_keeping n (with_points p w) _ (λ q. found_keeping (value_in cell.content) Misuse _ w misuse (λ value f. reads_keeping n (with_points q w) _ (λ r k. k))))))
+      reads_keeping n (with_points p w) _ (λ q. found_keeping (value_in cell.content) Misuse _ w misuse (λ value f. reads_keeping n (with_points q w) _ (λ r out k. k))))))
 
   cell_replace_keeping : (n : ℕ) (new : D) (w : World D) → Keeping w (cell_replace n new w)
   cell_replace_keeping n new w =
       fair_keeping (a_cell n w) _ w (cell_fair n w) (λ cell. raises_keeping w _ (λ p. check_keeping (is_free_cell cell) OpenAccess _ w open_access (λ e.
       writes_keeping n (with_points p w) _ (λ q. found_keeping (value_in cell.content) Misuse _ w misuse (λ value f.
-      writes_keeping n (with_points q w) _ (λ r k. set_keeping w n _ tt k))))))
+      writes_keeping n (with_points q w) _ (λ r out k. set_keeping w n _ tt out k))))))
 
   opens_write_keeping : (n : ℕ) (w : World D) → Keeping w (opens_write n w)
   opens_write_keeping n w =
       fair_keeping (a_cell n w) _ w (cell_fair n w) (λ cell. raises_keeping w _ (λ p. check_keeping (is_free_cell cell) OpenAccess _ w open_access (λ e.
-      writes_keeping n (with_points p w) _ (λ q k. k))))
+      writes_keeping n (with_points p w) _ (λ q out k. k))))
 
   exchanges_keeping : (n m : ℕ) (w : World D) → Keeping w (exchanges_cells n m w)
   exchanges_keeping n m w =
       fair_keeping (a_cell n w) _ w (cell_fair n w) (λ one. fair_keeping (a_cell m w) _ w (cell_fair m w) (λ other.
       found_keeping (value_in one.content) Misuse _ w misuse (λ of_one e. found_keeping (value_in other.content) Misuse _ w misuse (λ of_other f.
-      writes_keeping m w _ (λ p. writes_keeping n (with_points p w) _ (λ q k.
-      set_sound _ n _ (set_keeping w m (object.Cell (holding (Some of_one) None other)) tt k) tt))))))
+      writes_keeping m w _ (λ p. writes_keeping n (with_points p w) _ (λ q out k.
+      set_ready n _ tt (set_keeping w m (object.Cell (holding (Some of_one) None other)) tt out k)))))))
 
   swap_if_keeping : (is_same : Bool) (n m : ℕ) (w : World D) → Keeping w (swap_if is_same n m w)
-  swap_if_keeping true n m w = λ k. k
+  swap_if_keeping true n m w = λ out k. k
   swap_if_keeping false n m w =
       then_keeping (opens_write n w) _ w (opens_write_keeping n w) (λ opened. then_keeping (opens_write m opened.1) _ opened.1 (opens_write_keeping m opened.1)
       (λ both. exchanges_keeping n m both.1))
 
   pub cell_begins_keeping : (todo : CellOp D) (w : World D) → Keeping w (cell_begins todo w)
-  cell_begins_keeping (cell_op.New value) w = λ k. more_sound w.objects _ k tt
+  cell_begins_keeping (cell_op.New value) w = λ out k. new_keeping w _ tt out k
   cell_begins_keeping (cell_op.Read n) w = cell_read_keeping n w
   cell_begins_keeping (cell_op.ReadEnd n) w = cell_read_end_keeping n w
   cell_begins_keeping (cell_op.Deref n) w = cell_deref_keeping n w

@@ -1,5 +1,5 @@
 -- What is done to condition variables keeps locks sound.
-use Rattle.std.proofs.Common.{◌≡◌, ◌≢◌, ◌≤◌, ℕ, zero, suc, Bool, List, [], ◌∷◌, ◌++◌, length, Option, Some, None, arith, refl}
+use Rattle.std.proofs.Common.{◌≡◌, ◌≢◌, ◌≤◌, ℕ, zero, suc, Bool, List, [], ◌∷◌, ◌++◌, length, Option, Some, None, arith, refl, subst, sym, ap, eqb-true}
 use Rattle.std.specs.Prelude.{◌==◌, ◌-◌, ◌^◌, ◌+◌, ◌||◌, true, false, not, cond, if◌then◌else◌, slice_get, slice_set, nat_lt, is_none, is_some, Result, Ok, Err, ⊤}
 use Rattle.loom_views.specs.declared.rt.failure.FailureKind.TheVariants.{Misuse, SecondWaiter, TooManySteps}
 use Rattle.loom_objects.specs.declared.operation.CondvarOp.{CondvarOp}
@@ -15,46 +15,59 @@ use Rattle.loom_objects.specs.declared.rt.thread.Task.TheVariants as task
 use Rattle.loom_objects.specs.declared.rt.thread.Waking.{Waking as Wakes}
 use Rattle.loom_objects.specs.declared.rt.thread.Waking.TheVariants.{One, All}
 use Rattle.loom_objects.specs.Condvars as condvars
-use Rattle.loom_objects.specs.Condvars.{condvar_begins, falls_asleep, left_by, relocks, wake_begins, wakes, with_waiters, woken_by}
+use Rattle.loom_objects.specs.Condvars.{condvar_begins, falls_asleep, left_by, relocks, wake_begins, wakes, with_waiters, woken_by, is_locked}
 use Rattle.loom_objects.specs.Locks.{frees}
-use Rattle.loom_objects.specs.Moves.{a_condvar, a_notifier, is_number, rouses, rouses_all, yields}
+use Rattle.loom_objects.specs.Moves.{a_condvar, a_notifier, is_number, rouses, rouses_all, yields, running, a_mutex}
 use Rattle.loom_objects.specs.Notifiers as notifiers
 use Rattle.loom_objects.specs.Notifiers.{awaits, comes_to_wait, enters_wait, is_alone, is_for_waits, may_be_spurious, notifier_begins, notifies, notify, notify_begins, waits_or_rouses, wakes_early, with_notifier}
 use Rattle.loom_objects.specs.Rule.{◌>>=◌, check, found}
 use Rattle.loom_objects.specs.World.{World, MAX_THREADS}
 use Rattle.loom_runs.proofs.Runs.Keeping.{AreSound, more_sound}
 use Rattle.loom_runs.proofs.Runs.Mutexes.{frees_keeping}
-use Rattle.loom_runs.proofs.Runs.Ruling.{Keeping, misuse, found_keeping, check_keeping, fair_keeping, chained, then_keeping, mutex_keeping, rwlock_keeping, set_keeping, atomic_fair, condvar_fair, notifier_fair, cell_fair, arc_fair, track_fair}
+use Rattle.loom_objects.specs.RwLocks.{waits}
+use Rattle.loom_objects.specs.declared.rt.thread.State.TheVariants.{Sleeping}
+use Rattle.loom_runs.specs.Histories.{returned_by_condvar}
+use Rattle.loom_runs.proofs.Runs.States.{Aim, IsHeldBy, MutexAt, Ready, changed_ready, pends_ready, rests_ready, waits_kept}
+use Rattle.loom_runs.proofs.Runs.Ruling.{Entering, Fairly, Keeping, OnwardBut, PassingBut, answer_fairly, check_fairly, condvar_fair, fair_keeping, misuse, mutex_fairly, new_keeping, set_keeping, then_fairly}
+use Rattle.loom_runs.proofs.Runs.Replies.{enters, wake_begins_quiet}
+
+is_its_number : (o : Option ℕ) (n : ℕ) → is_number o n ≡ true → o ≡ Some n
+is_its_number None n h = absurd (cc h)
+is_its_number (Some m) n h = ap Some (eqb-true m n h)
 
 module _ {D : Type 0} where
-  wait_keeping : (locking : Locking) (n m : ℕ) (value : D) (w : World D) → Keeping w (condvars.wait_begins locking n m value w)
-  wait_keeping locking n m value w =
-      fair_keeping (a_condvar n w) _ w (condvar_fair n w) (λ condvar. mutex_keeping m w _ (λ mutex s. check_keeping (is_number mutex.holder w.active) Misuse _ w misuse (λ e k. k)))
+  -- who waits holds the mutex, and is about to give it free, if it isn't the one that is followed
+  wait_entering : (locking : Locking) (n m : ℕ) (value : D) (w : World D) → Fairly (Entering (Some m) w) (condvars.wait_begins locking n m value w)
+  wait_entering locking n m value w =
+      answer_fairly (Entering (Some m) w) (a_condvar n w) _ (condvar_fair n w) (λ condvar. mutex_fairly (Entering (Some m) w) m w _ (λ mutex there s.
+      check_fairly (Entering (Some m) w) (is_number mutex.holder w.active) Misuse _ misuse (λ e out other k.
+      waits_kept out m (task.Wait locking n m value) false w refl (λ o. other m o refl) (subst (MutexAt (IsHeldBy w.active)) (sym there) (is_its_number mutex.holder w.active e)) k)))
 
   wake_begins_keeping : (waking : Wakes) (n : ℕ) (w : World D) → Keeping w (wake_begins waking n w)
-  wake_begins_keeping waking n w = fair_keeping (a_condvar n w) _ w (condvar_fair n w) (λ condvar k. k)
+  wake_begins_keeping waking n w = fair_keeping (a_condvar n w) _ w (condvar_fair n w) (λ condvar out k. pends_ready (task.Wake waking n) false refl k)
 
-  pub condvar_begins_keeping : (todo : CondvarOp D) (w : World D) → Keeping w (condvar_begins todo w)
-  condvar_begins_keeping condvar_op.New w = λ k. more_sound w.objects _ k tt
-  condvar_begins_keeping (condvar_op.Wait n m value) w = wait_keeping Untimed n m value w
-  condvar_begins_keeping (condvar_op.WaitTimeout n m value) w = wait_keeping Timed n m value w
-  condvar_begins_keeping (condvar_op.NotifyOne n) w = wake_begins_keeping One n w
-  condvar_begins_keeping (condvar_op.NotifyAll n) w = wake_begins_keeping All n w
-
-  pub falls_asleep_keeping : (locking : Locking) (n m : ℕ) (value : D) (w : World D) → Keeping w (falls_asleep locking n m value w)
+  pub falls_asleep_keeping : (locking : Locking) (n m : ℕ) (value : D) (w : World D) → Fairly (PassingBut m w) (falls_asleep locking n m value w)
   falls_asleep_keeping locking n m value w =
-      fair_keeping (a_condvar n w) _ w (condvar_fair n w) (λ condvar. check_keeping (nat_lt (length condvar.waiters.items) MAX_THREADS) Misuse _ w misuse (λ e.
+      answer_fairly (PassingBut m w) (a_condvar n w) _ (condvar_fair n w) (λ condvar. check_fairly (PassingBut m w) (nat_lt (length condvar.waiters.items) MAX_THREADS) Misuse _ misuse (λ e.
       let queued = with_waiters n (condvar.waiters.items ++ w.active ∷ []) w in
-      chained w queued _ (λ k. set_keeping w n _ tt k) (then_keeping (frees m value queued) _ queued (frees_keeping m value queued) (λ freed k. k))))
+      then_fairly (OnwardBut m queued) (PassingBut m w) (frees m value queued) _ (frees_keeping m value queued)
+      (λ freed onward out other k. rests_ready Sleeping (task.Relock locking m) refl (onward out other (set_keeping w n _ tt out k)))))
 
   pub relocks_keeping : (locking : Locking) (m : ℕ) (w : World D) → Keeping w (relocks locking m w)
-  relocks_keeping locking m w = λ k. k
+  relocks_keeping locking m w = λ out k. pends_ready (task.Lock locking m) (is_locked (a_mutex m w)) refl k
 
-  rouses_kept : (threads : List ℕ) (w : World D) → AreSound w.objects → AreSound (rouses_all threads w).objects
-  rouses_kept [] w k = k
-  rouses_kept (t ∷ threads) w k = rouses_kept threads (rouses t w) k
+  rouses_kept : (threads : List ℕ) (w : World D) (out : Aim) → Ready out w → Ready out (rouses_all threads w)
+  rouses_kept [] w out k = k
+  rouses_kept (t ∷ threads) w out k = rouses_kept threads (rouses t w) out (changed_ready running t (λ thread m e. e) k)
 
   pub wakes_keeping : (waking : Wakes) (n : ℕ) (w : World D) → Keeping w (wakes waking n w)
   wakes_keeping waking n w =
-      fair_keeping (a_condvar n w) _ w (condvar_fair n w) (λ condvar k.
-      rouses_kept (woken_by waking condvar.waiters.items) (with_waiters n (left_by waking condvar.waiters.items) w) (set_keeping w n _ tt k))
+      fair_keeping (a_condvar n w) _ w (condvar_fair n w) (λ condvar out k.
+      rouses_kept (woken_by waking condvar.waiters.items) (with_waiters n (left_by waking condvar.waiters.items) w) out (set_keeping w n _ tt out k))
+
+  pub condvar_begins_entering : (todo : CondvarOp D) (w : World D) → Fairly (Entering (returned_by_condvar todo) w) (condvar_begins todo w)
+  condvar_begins_entering condvar_op.New w = λ out other k. (new_keeping w _ tt out k, λ n e. absurd (cc e))
+  condvar_begins_entering (condvar_op.Wait n m value) w = wait_entering Untimed n m value w
+  condvar_begins_entering (condvar_op.WaitTimeout n m value) w = wait_entering Timed n m value w
+  condvar_begins_entering (condvar_op.NotifyOne n) w = enters w None _ (wake_begins_keeping One n w) (wake_begins_quiet One n w)
+  condvar_begins_entering (condvar_op.NotifyAll n) w = enters w None _ (wake_begins_keeping All n w) (wake_begins_quiet All n w)

@@ -26,7 +26,9 @@ use Rattle.loom_objects.specs.Rule.{◌>>=◌, check, found}
 use Rattle.loom_objects.specs.World.{World}
 use Rattle.loom_runs.proofs.Runs.Fairness.{IsFairResult, either, raise_fair, cell_read_fair, cell_write_fair}
 use Rattle.loom_runs.proofs.Runs.Keeping.{AreSound, set_sound, more_sound}
-use Rattle.loom_runs.proofs.Runs.Ruling.{Keeping, misuse, found_keeping, check_keeping, fair_keeping, chained, then_keeping, mutex_keeping, rwlock_keeping, set_keeping, atomic_fair, condvar_fair, notifier_fair, cell_fair, arc_fair, track_fair}
+use Rattle.loom_objects.specs.declared.rt.thread.Task.TheVariants as task
+use Rattle.loom_runs.proofs.Runs.States.{freed_by, pends_ready}
+use Rattle.loom_runs.proofs.Runs.Ruling.{Keeping, arc_fair, chained, check_keeping, fair_keeping, found_keeping, misuse, new_keeping, set_keeping}
 
 module _ {D : Type 0} where
   grows_fair : (arc : Arc D) → IsFairResult (may_grow arc)
@@ -36,41 +38,41 @@ module _ {D : Type 0} where
   sole_fair arc = either (is_free arc) (Ok _) (Err Misuse) tt misuse
 
   drops_keeping : (value : Option D) (n : ℕ) (w : World D) → Keeping w (drops_last value n w)
-  drops_keeping None n w = λ k. k
-  drops_keeping (Some value) n w = λ k. k
+  drops_keeping None n w = λ out k. k
+  drops_keeping (Some value) n w = λ out k. k
 
   decrements_keeping : (n : ℕ) (w : World D) → Keeping w (decrements n w)
   decrements_keeping n w =
       fair_keeping (an_arc n w) _ w (arc_fair n w) (λ arc. fair_keeping (sole_value arc) _ w (sole_fair arc) (λ value.
-      let released = releases n (with_arc n (with_one_fewer arc) w) in chained w released _ (λ k. set_keeping w n _ tt k) (drops_keeping value n released)))
+      let released = releases n (with_arc n (with_one_fewer arc) w) in chained w released _ (λ out k. set_keeping w n _ tt out k) (drops_keeping value n released)))
 
   pub counts_keeping : (todo : Counting) (n : ℕ) (w : World D) → Keeping w (counts todo n w)
-  counts_keeping counting.Clone n w = fair_keeping (an_arc n w) _ w (arc_fair n w) (λ arc. fair_keeping (may_grow arc) _ w (grows_fair arc) (λ u k. set_keeping w n _ tt k))
+  counts_keeping counting.Clone n w = fair_keeping (an_arc n w) _ w (arc_fair n w) (λ arc. fair_keeping (may_grow arc) _ w (grows_fair arc) (λ u out k. set_keeping w n _ tt out k))
   counts_keeping counting.Drop n w = decrements_keeping n w
-  counts_keeping counting.GetMut n w = fair_keeping (an_arc n w) _ w (arc_fair n w) (λ arc. fair_keeping (sole_value arc) _ w (sole_fair arc) (λ value k. set_keeping w n _ tt k))
+  counts_keeping counting.GetMut n w = fair_keeping (an_arc n w) _ w (arc_fair n w) (λ arc. fair_keeping (sole_value arc) _ w (sole_fair arc) (λ value out k. set_keeping w n _ tt out k))
   counts_keeping counting.Unwrap n w = fair_keeping (an_arc n w) _ w (arc_fair n w) (λ arc. check_keeping (arc.count == 1) Misuse _ w misuse (λ e. decrements_keeping n w))
-  counts_keeping counting.StrongCount n w = fair_keeping (an_arc n w) _ w (arc_fair n w) (λ arc. check_keeping (is_free arc) Misuse _ w misuse (λ e k. k))
+  counts_keeping counting.StrongCount n w = fair_keeping (an_arc n w) _ w (arc_fair n w) (λ arc. check_keeping (is_free arc) Misuse _ w misuse (λ e out k. k))
 
   unwraps_if_keeping : (is_alone : Bool) (n : ℕ) (w : World D) → Keeping w (unwraps_if is_alone n w)
-  unwraps_if_keeping false n w = λ k. k
-  unwraps_if_keeping true n w = λ k. k
+  unwraps_if_keeping false n w = λ out k. k
+  unwraps_if_keeping true n w = λ out k. pends_ready (task.Count counting.Unwrap n) false refl k
 
   pub tries_unwrap_keeping : (n : ℕ) (w : World D) → Keeping w (tries_unwrap n w)
   tries_unwrap_keeping n w =
       fair_keeping (an_arc n w) _ w (arc_fair n w) (λ arc. check_keeping (is_free arc) Misuse _ w misuse (λ e.
-      let acquired = acquires n w in chained w acquired _ (λ k. k) (unwraps_if_keeping (arc.count == 1) n acquired)))
+      let acquired = acquires n w in chained w acquired _ (λ out k. k) (unwraps_if_keeping (arc.count == 1) n acquired)))
 
-  comes_to_keeping : (todo : Task D) (n : ℕ) (w : World D) → Keeping w (comes_to todo n w)
-  comes_to_keeping todo n w = fair_keeping (an_arc n w) _ w (arc_fair n w) (λ arc. check_keeping (nat_lt 0 arc.count) Misuse _ w misuse (λ e k. k))
+  comes_to_keeping : (todo : Task D) (n : ℕ) (w : World D) → freed_by todo ≡ None → Keeping w (comes_to todo n w)
+  comes_to_keeping todo n w h = fair_keeping (an_arc n w) _ w (arc_fair n w) (λ arc. check_keeping (nat_lt 0 arc.count) Misuse _ w misuse (λ e out k. pends_ready todo false h k))
 
   pub arc_begins_keeping : (todo : ArcOp D) (w : World D) → Keeping w (arc_begins todo w)
-  arc_begins_keeping (arc_op.New value) w = λ k. more_sound w.objects _ k tt
+  arc_begins_keeping (arc_op.New value) w = λ out k. new_keeping w _ tt out k
   arc_begins_keeping (arc_op.Get n) w =
-      fair_keeping (an_arc n w) _ w (arc_fair n w) (λ arc. check_keeping (is_free arc) Misuse _ w misuse (λ e. found_keeping (value_in arc.content) Misuse _ w misuse (λ value f k. k)))
+      fair_keeping (an_arc n w) _ w (arc_fair n w) (λ arc. check_keeping (is_free arc) Misuse _ w misuse (λ e. found_keeping (value_in arc.content) Misuse _ w misuse (λ value f out k. k)))
   arc_begins_keeping (arc_op.Put n value) w =
-      fair_keeping (an_arc n w) _ w (arc_fair n w) (λ arc. check_keeping (is_number arc.content.lent w.active) Misuse _ w misuse (λ e k. set_keeping w n _ tt k))
-  arc_begins_keeping (arc_op.Clone n) w = comes_to_keeping _ n w
-  arc_begins_keeping (arc_op.Drop n) w = comes_to_keeping _ n w
-  arc_begins_keeping (arc_op.GetMut n) w = comes_to_keeping _ n w
-  arc_begins_keeping (arc_op.StrongCount n) w = comes_to_keeping _ n w
-  arc_begins_keeping (arc_op.TryUnwrap n) w = comes_to_keeping _ n w
+      fair_keeping (an_arc n w) _ w (arc_fair n w) (λ arc. check_keeping (is_number arc.content.lent w.active) Misuse _ w misuse (λ e out k. set_keeping w n _ tt out k))
+  arc_begins_keeping (arc_op.Clone n) w = comes_to_keeping _ n w refl
+  arc_begins_keeping (arc_op.Drop n) w = comes_to_keeping _ n w refl
+  arc_begins_keeping (arc_op.GetMut n) w = comes_to_keeping _ n w refl
+  arc_begins_keeping (arc_op.StrongCount n) w = comes_to_keeping _ n w refl
+  arc_begins_keeping (arc_op.TryUnwrap n) w = comes_to_keeping _ n w refl

@@ -136,11 +136,3 @@ module _ {D : Type 0} where
   pub all_exclusive : (objects : List (Object D)) → AreSound objects → list_all is_exclusive objects ≡ true
   all_exclusive [] k = refl
   all_exclusive (x ∷ objects) k = both_true _ _ (sound_exclusive x k.0) (all_exclusive objects k.1)
-
-  -- the locks of a state are sound
-  abbrev pub IsKept : World D → Type 0
-  IsKept w = AreSound w.objects
-
-  -- and of the state beside an answer
-  abbrev pub Kept : {X : Type 0} → X × World D → Type 0
-  Kept answered = AreSound answered.1.objects

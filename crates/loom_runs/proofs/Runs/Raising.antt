@@ -26,7 +26,7 @@ use Rattle.loom_objects.specs.Rule.{◌>>=◌, check, found}
 use Rattle.loom_objects.specs.World.{World}
 use Rattle.loom_runs.proofs.Runs.Fairness.{IsFairResult, either, raise_fair, cell_read_fair, cell_write_fair}
 use Rattle.loom_runs.proofs.Runs.Keeping.{AreSound, set_sound, more_sound}
-use Rattle.loom_runs.proofs.Runs.Ruling.{Keeping, misuse, found_keeping, check_keeping, fair_keeping, chained, then_keeping, mutex_keeping, rwlock_keeping, set_keeping, atomic_fair, condvar_fair, notifier_fair, cell_fair, arc_fair, track_fair}
+use Rattle.loom_runs.proofs.Runs.Ruling.{Keeping}
 
 module _ {D : Type 0} where
   pub raises_keeping : {A : Type 0} (w : World D) (next : World D → Result (A × World D) FailureKind) → ((p : Points) → Keeping w (next (with_points p w))) → Keeping w (raises w >>= next)

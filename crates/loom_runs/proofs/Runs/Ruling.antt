@@ -3,16 +3,26 @@ use Rattle.std.proofs.Common.{◌≡◌, ◌≢◌, ◌≤◌, ℕ, zero, suc, B
 use Rattle.std.specs.Prelude.{◌==◌, ◌-◌, ◌^◌, ◌+◌, ◌||◌, true, false, not, cond, if◌then◌else◌, slice_get, slice_set, nat_lt, is_none, is_some, Result, Ok, Err, ⊤}
 use Rattle.loom_views.specs.declared.rt.failure.FailureKind.{FailureKind}
 use Rattle.loom_views.specs.declared.rt.failure.FailureKind.TheVariants.{Misuse, NotDeterministic}
+use Rattle.loom_objects.specs.declared.operation.Reply.{Reply}
 use Rattle.loom_objects.specs.declared.rt.object.Object.{Object}
 use Rattle.loom_objects.specs.declared.rt.object.Object.TheVariants as object
 use Rattle.loom_objects.specs.declared.rt.sync.Mutex.{Mutex}
 use Rattle.loom_objects.specs.declared.rt.sync.RwLock.{RwLock}
+use Rattle.loom_objects.specs.declared.rt.run.Entry.{Entry}
+use Rattle.loom_objects.specs.declared.rt.run.Entry.TheVariants.{Answered, AtBranch, Spurious as AtSpurious}
+use Rattle.loom_objects.specs.declared.rt.run.Passed.{Passed}
+use Rattle.loom_objects.specs.declared.rt.run.Passed.TheVariants as passed
+use Rattle.loom_objects.specs.declared.rt.run.Resumed.{Resumed}
+use Rattle.loom_objects.specs.declared.rt.run.Resumed.TheVariants as resumed
 use Rattle.loom_objects.specs.Lookup.{looked_up, atomic_in, mutex_in, rwlock_in, condvar_in, notifier_in, cell_in, arc_in, track_in}
-use Rattle.loom_objects.specs.Moves.{a_mutex, a_rwlock, an_atomic, a_condvar, a_notifier, a_cell, an_arc, a_track}
+use Rattle.loom_objects.specs.Moves.{a_mutex, a_rwlock, an_atomic, a_condvar, a_notifier, a_cell, an_arc, a_track, with_new, with_object}
 use Rattle.loom_objects.specs.Rule.{◌>>=◌, check, found}
 use Rattle.loom_objects.specs.World.{World}
+use Rattle.loom_runs.specs.Histories.{locked_by}
 use Rattle.loom_runs.proofs.Runs.Fairness.{IsFairResult}
-use Rattle.loom_runs.proofs.Runs.Keeping.{AreSound, SoundAt, IsSoundLock, IsSoundMutex, IsSoundRwLock, get_sound, set_sound}
+use Rattle.loom_runs.proofs.Runs.Keeping.{AreSound, SoundAt, IsSoundLock, IsSoundMutex, IsSoundRwLock, get_sound}
+use Rattle.loom_runs.proofs.Runs.States.{Aim, IsSettled, Kept, Out, Ready, Taken, Told, TurnTo, more_ready, set_ready}
+use Rattle.loom_objects.specs.Locks.{lock}
 
 pub misuse : Misuse ≢ NotDeterministic
 misuse e = cc
@@ -21,11 +31,86 @@ whole_fair : {B : Type 0} (is_taken : Bool) (b : B) → IsFairResult {A = B} (co
 whole_fair true b = misuse
 whole_fair false b = tt
 
+-- this holds of what it comes to, and it doesn't fail because a path isn't met
+abbrev pub Fairly : {A : Type 0} → (A → Type 0) → Result A FailureKind → Type 0
+Fairly P (Ok answered) = P answered
+Fairly P (Err kind) = kind ≢ NotDeterministic
+
+pub fair_of : {A : Type 0} (P : A → Type 0) (r : Result A FailureKind) → Fairly P r → IsFairResult r
+fair_of P (Ok answered) h = tt
+fair_of P (Err kind) h = h
+
+pub check_fairly : {A : Type 0} (P : A → Type 0) (passes : Bool) (kind : FailureKind) (next : ⊤ → Result A FailureKind) → kind ≢ NotDeterministic
+    → (passes ≡ true → Fairly P (next tt)) → Fairly P (check passes kind >>= next)
+check_fairly P true kind next fair h = h refl
+check_fairly P false kind next fair h = fair
+
+pub found_fairly : {A B : Type 0} (P : A → Type 0) (o : Option B) (kind : FailureKind) (next : B → Result A FailureKind) → kind ≢ NotDeterministic
+    → ((b : B) → o ≡ Some b → Fairly P (next b)) → Fairly P (found o kind >>= next)
+found_fairly P None kind next fair h = fair
+found_fairly P (Some b) kind next fair h = h b refl
+
+pub then_fairly : {A B : Type 0} (Q : B → Type 0) (P : A → Type 0) (r : Result B FailureKind) (next : B → Result A FailureKind) → Fairly Q r
+    → ((b : B) → Q b → Fairly P (next b)) → Fairly P (r >>= next)
+then_fairly Q P (Ok b) next q h = h b q
+then_fairly Q P (Err kind) next q h = q
+
+pub answer_fairly : {A B : Type 0} (P : A → Type 0) (r : Result B FailureKind) (next : B → Result A FailureKind) → IsFairResult r
+    → ((b : B) → Fairly P (next b)) → Fairly P (r >>= next)
+answer_fairly P (Ok b) next fair h = h b
+answer_fairly P (Err kind) next fair h = fair
+
 module _ {D : Type 0} where
+  -- what holds in a state holds where the rule comes to, whichever mutex is followed
+  abbrev pub Onward : {A : Type 0} → World D → A × World D → Type 0
+  Onward w answered = (out : Aim) → Ready out w → Ready out answered.1
+
+  -- the same unless this mutex is followed as out
+  abbrev pub OnwardBut : {A : Type 0} → ℕ → World D → A × World D → Type 0
+  OnwardBut m w answered = (out : Aim) → (out ≡ Out m → ⊥) → Ready out w → Ready out answered.1
+
+  -- and if what the thread is told is the data of a mutex, that is out from now on
+  abbrev pub Telling : World D → Reply D × World D → Type 0
+  Telling w answered = (out : Aim) → Ready out w → Told out answered
+
+  -- what the active thread is told where it has no branch point, or the state in which it comes to one
+  abbrev pub Entered : Aim → Entry D × World D → Type 0
+  Entered out (Answered reply, w) = Told out (reply, w)
+  Entered out (AtBranch, w) = Kept out w
+  Entered out (AtSpurious n, w) = Ready out w
+
+  -- from a state where it hands an operation over, unless that gives back the mutex that is followed
+  abbrev pub Entering : Option ℕ → World D → Entry D × World D → Type 0
+  Entering returned w answered = (out : Aim) → ((m : ℕ) → out ≡ Out m → returned ≡ Some m → ⊥) → Ready out w → Entered out answered
+
+  -- the active thread is given the data of this mutex at once, which is out from now on
+  abbrev pub Opened : Aim → ℕ → Entry D × World D → Type 0
+  Opened out n (Answered reply, w) = (locked_by reply ≡ None) × (Ready out w × Taken out n w)
+  Opened out n (AtBranch, w) = ⊥
+  Opened out n (AtSpurious m, w) = ⊥
+
+  abbrev pub Opening : ℕ → World D → Entry D × World D → Type 0
+  Opening n w answered = (out : Aim) → Ready out w → Opened out n answered
+
+  -- a thread has its turn, or one comes to another branch point
+  abbrev pub PassedTo : Aim → Passed D × World D → Type 0
+  PassedTo out (passed.Turn turn, w) = TurnTo out (turn, w)
+  PassedTo out (passed.AtBranch, w) = Ready out w
+
+  abbrev pub PassingBut : ℕ → World D → Passed D × World D → Type 0
+  PassingBut m w answered = (out : Aim) → (out ≡ Out m → ⊥) → Ready out w → PassedTo out answered
+
+  abbrev pub ResumedTo : Aim → Resumed D × World D → Type 0
+  ResumedTo out (resumed.Passed passed, w) = PassedTo out (passed, w)
+  ResumedTo out (resumed.Load load, w) = Ready out w
+
+  -- what was pending takes effect, unless it gives free the mutex that is followed
+  abbrev pub Resuming : Option ℕ → World D → Resumed D × World D → Type 0
+  Resuming freed w answered = (out : Aim) → ((m : ℕ) → out ≡ Out m → freed ≡ Some m → ⊥) → Ready out w → ResumedTo out answered
+
   -- what a rule comes to from this state
   abbrev pub Keeping : {A : Type 0} → World D → Result (A × World D) FailureKind → Type 0
-  Keeping w (Ok answered) = AreSound w.objects → AreSound answered.1.objects
-  Keeping w (Err kind) = kind ≢ NotDeterministic
+  Keeping w r = Fairly (Onward w) r
 
   -- it goes on with what is found there
   pub found_keeping : {A B : Type 0} (o : Option B) (kind : FailureKind) (next : B → Result (A × World D) FailureKind) (w : World D) → kind ≢ NotDeterministic
@@ -45,8 +130,8 @@ module _ {D : Type 0} where
   fair_keeping (Ok b) next w fair h = h b
   fair_keeping (Err kind) next w fair h = fair
 
-  pub chained : {A : Type 0} (w v : World D) (r : Result (A × World D) FailureKind) → (AreSound w.objects → AreSound v.objects) → Keeping v r → Keeping w r
-  chained w v (Ok answered) h kept = λ k. kept (h k)
+  pub chained : {A : Type 0} (w v : World D) (r : Result (A × World D) FailureKind) → ((out : Aim) → Ready out w → Ready out v) → Keeping v r → Keeping w r
+  chained w v (Ok answered) h kept = λ out k. kept out (h out k)
   chained w v (Err kind) h fair = fair
 
   -- it goes on from the state that another one comes to
@@ -147,25 +232,25 @@ module _ {D : Type 0} where
       by_object (Some (object.Cell cell)) = misuse
       by_object (Some (object.Arc arc)) = misuse
 
-  -- the mutex of this number is a sound one
-  pub mutex_keeping : {A : Type 0} (n : ℕ) (w : World D) (next : Mutex D → Result (A × World D) FailureKind)
-      → ((mutex : Mutex D) → (AreSound w.objects → IsSoundMutex mutex) → Keeping w (next mutex)) → Keeping w (a_mutex n w >>= next)
-  mutex_keeping {A} n w next h = by_object (slice_get w.objects n) (get_sound w.objects n)
+  -- the mutex of this number stands there, and is a sound one
+  pub mutex_fairly : {A : Type 0} (P : A → Type 0) (n : ℕ) (w : World D) (next : Mutex D → Result A FailureKind)
+      → ((mutex : Mutex D) → slice_get w.objects n ≡ Some (object.Mutex mutex) → (AreSound w.objects → IsSoundMutex mutex) → Fairly P (next mutex)) → Fairly P (a_mutex n w >>= next)
+  mutex_fairly {A} P n w next h = by_object (slice_get w.objects n) refl (get_sound w.objects n)
     where
-      by_whole : (is_taken : Bool) (mutex : Mutex D) → (AreSound w.objects → IsSoundMutex mutex) → Keeping w (◌>>=◌ {B = A × World D} (cond is_taken (Err Misuse) (Ok mutex)) next)
-      by_whole true mutex s = misuse
-      by_whole false mutex s = h mutex s
+      by_whole : (is_taken : Bool) (mutex : Mutex D) → slice_get w.objects n ≡ Some (object.Mutex mutex) → (AreSound w.objects → IsSoundMutex mutex) → Fairly P (◌>>=◌ {B = A} (cond is_taken (Err Misuse) (Ok mutex)) next)
+      by_whole true mutex e s = misuse
+      by_whole false mutex e s = h mutex e s
 
-      by_object : (o : Option (Object D)) → (AreSound w.objects → SoundAt o) → Keeping w (◌>>=◌ {B = A × World D} (looked_up mutex_in o) next)
-      by_object None s = misuse
-      by_object (Some (object.Mutex mutex)) s = by_whole mutex.content.is_taken mutex s
-      by_object (Some (object.Atomic atomic)) s = misuse
-      by_object (Some (object.RwLock lock)) s = misuse
-      by_object (Some (object.Condvar condvar)) s = misuse
-      by_object (Some (object.Notify notifier)) s = misuse
-      by_object (Some (object.Cell cell)) s = misuse
-      by_object (Some (object.Arc arc)) s = misuse
-      by_object (Some (object.Track track)) s = misuse
+      by_object : (o : Option (Object D)) → slice_get w.objects n ≡ o → (AreSound w.objects → SoundAt o) → Fairly P (◌>>=◌ {B = A} (looked_up mutex_in o) next)
+      by_object None e s = misuse
+      by_object (Some (object.Mutex mutex)) e s = by_whole mutex.content.is_taken mutex e s
+      by_object (Some (object.Atomic atomic)) e s = misuse
+      by_object (Some (object.RwLock lock)) e s = misuse
+      by_object (Some (object.Condvar condvar)) e s = misuse
+      by_object (Some (object.Notify notifier)) e s = misuse
+      by_object (Some (object.Cell cell)) e s = misuse
+      by_object (Some (object.Arc arc)) e s = misuse
+      by_object (Some (object.Track track)) e s = misuse
 
   -- the same of a read-write lock
   pub rwlock_keeping : {A : Type 0} (n : ℕ) (w : World D) (next : RwLock D → Result (A × World D) FailureKind)
@@ -187,6 +272,9 @@ module _ {D : Type 0} where
       by_object (Some (object.Arc arc)) s = misuse
       by_object (Some (object.Track track)) s = misuse
 
-  -- an object that is no lock is sound
-  pub set_keeping : (w : World D) (n : ℕ) (x : Object D) → IsSoundLock x → AreSound w.objects → AreSound (slice_set w.objects n x)
-  set_keeping w n x s k = set_sound w.objects n x k s
+  -- an object that is no mutex, and a new object
+  pub set_keeping : (w : World D) (n : ℕ) (x : Object D) → IsSettled x → (out : Aim) → Ready out w → Ready out (with_object n x w)
+  set_keeping w n x s out k = set_ready n x s k
+
+  pub new_keeping : (w : World D) (x : Object D) → IsSoundLock x → (out : Aim) → Ready out w → Ready out (with_new x w)
+  new_keeping w x s out k = more_ready x s k

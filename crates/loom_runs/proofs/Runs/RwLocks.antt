@@ -1,6 +1,6 @@
 -- What is done to read-write locks keeps locks sound.
 use Rattle.std.proofs.Common.{◌≡◌, ◌≢◌, ◌≤◌, ℕ, zero, suc, Bool, List, [], ◌∷◌, ◌++◌, length, Option, Some, None, arith, refl}
-use Rattle.std.specs.Prelude.{◌==◌, ◌-◌, ◌^◌, ◌+◌, ◌||◌, true, false, not, cond, if◌then◌else◌, slice_get, slice_set, nat_lt, is_none, is_some, Result, Ok, Err, ⊤}
+use Rattle.std.specs.Prelude.{◌==◌, ◌-◌, ◌^◌, ◌+◌, ◌||◌, true, false, not, cond, if◌then◌else◌, slice_get, slice_set, nat_lt, is_none, is_some, Result, Ok, Err, ⊤, ◌&&◌}
 use Rattle.std.specs.List.{list_all}
 use Rattle.std.proofs.Math.Dec.{eqb-suc-zero}
 use Rattle.loom_views.specs.declared.rt.failure.FailureKind.TheVariants.{Misuse, TooManySteps}
@@ -11,12 +11,16 @@ use Rattle.loom_objects.specs.declared.rt.thread.Claim.{Claim}
 use Rattle.loom_objects.specs.declared.rt.thread.Claim.TheVariants.{Read, TryRead, Write, TryWrite}
 use Rattle.loom_objects.specs.Cells.{count_of, is_zero}
 use Rattle.loom_objects.specs.Lent.{value_in}
-use Rattle.loom_objects.specs.RwLocks.{claims, guards_of, is_held, is_refused, is_unread, read_release, reads_lock, refused, rwlock_begins, rwlock_get_mut, rwlock_into_inner, rwlock_put, takes, takes_unless, unlocked_value, wakes_if, with_one_fewer, writes_lock}
+use Rattle.loom_objects.specs.RwLocks.{claims, guards_of, is_held, is_refused, is_unread, read_release, reads_lock, refused, rwlock_begins, rwlock_get_mut, rwlock_into_inner, rwlock_put, takes, takes_unless, unlocked_value, wakes_if, with_one_fewer, writes_lock, claim_begins, waits}
 use Rattle.loom_objects.specs.Moves.{is_number}
 use Rattle.loom_objects.specs.Rule.{◌>>=◌, check, found}
 use Rattle.loom_objects.specs.World.{World}
 use Rattle.loom_runs.proofs.Runs.Keeping.{AreSound, WritesAlone, more_sound}
-use Rattle.loom_runs.proofs.Runs.Ruling.{Keeping, misuse, found_keeping, check_keeping, fair_keeping, chained, then_keeping, mutex_keeping, rwlock_keeping, set_keeping, atomic_fair, condvar_fair, notifier_fair, cell_fair, arc_fair, track_fair}
+use Rattle.loom_objects.specs.Locks.{lock}
+use Rattle.loom_objects.specs.declared.rt.thread.State.TheVariants.{Runnable, Blocked}
+use Rattle.loom_objects.specs.declared.rt.thread.Task.TheVariants as task
+use Rattle.loom_runs.proofs.Runs.States.{Aim, Ready, pending_ready, pends_ready, writing_ready}
+use Rattle.loom_runs.proofs.Runs.Ruling.{Keeping, check_keeping, found_keeping, misuse, new_keeping, rwlock_keeping, set_keeping}
 
 -- who has a guard reads
 reads_some : (readers : List ℕ) (t : ℕ) → nat_lt 0 (count_of (slice_get readers t)) ≡ true → list_all is_zero readers ≡ true → ⊥
@@ -61,11 +65,11 @@ module _ {D : Type 0} where
   reads_keeping : (n : ℕ) (lock : RwLock D) (w : World D) → is_some lock.writer ≡ false → Keeping w (reads_lock n lock w)
   reads_keeping n lock w h =
       found_keeping (value_in lock.content) Misuse _ w misuse (λ value e. check_keeping (nat_lt (guards_of w.active lock) (2 ^ 64 - 1)) TooManySteps _ w (λ f. cc)
-      (λ i k. set_keeping w n _ (unwritten lock.writer _ lock.content.value lock.content.lent h) k))
+      (λ i out k. writing_ready n Blocked (set_keeping w n _ (unwritten lock.writer _ lock.content.value lock.content.lent h) out k)))
 
   writes_keeping : (n : ℕ) (lock : RwLock D) (w : World D) → is_held lock ≡ false → is_none lock.content.lent ≡ true → Keeping w (writes_lock n lock w)
   writes_keeping n lock w h i =
-      found_keeping (value_in lock.content) Misuse _ w misuse (λ value e k. set_keeping w n _ (writes_first w.active lock.writer (is_unread lock) None lock.content.lent refl h i) k)
+      found_keeping (value_in lock.content) Misuse _ w misuse (λ value e out k. pending_ready n Blocked (set_keeping w n _ (writes_first w.active lock.writer (is_unread lock) None lock.content.lent refl h i) out k))
 
   takes_keeping : (claim : Claim) (n : ℕ) (lock : RwLock D) (w : World D) → is_none lock.content.lent ≡ true → is_refused claim lock ≡ false → Keeping w (takes claim n lock w)
   takes_keeping Read n lock w i h = reads_keeping n lock w h
@@ -75,9 +79,9 @@ module _ {D : Type 0} where
 
   refused_keeping : (claim : Claim) (w : World D) → Keeping w (refused claim w)
   refused_keeping Read w = misuse
-  refused_keeping TryRead w = λ k. k
+  refused_keeping TryRead w = λ out k. k
   refused_keeping Write w = misuse
-  refused_keeping TryWrite w = λ k. k
+  refused_keeping TryWrite w = λ out k. k
 
   takes_unless_keeping : (claim : Claim) (n : ℕ) (lock : RwLock D) (w : World D) → is_none lock.content.lent ≡ true
       → (refuses : Bool) → is_refused claim lock ≡ refuses → Keeping w (takes_unless refuses claim n lock w)
@@ -88,40 +92,43 @@ module _ {D : Type 0} where
   claims_keeping claim n w =
       rwlock_keeping n w _ (λ lock s. check_keeping (is_none lock.content.lent) Misuse _ w misuse (λ e. takes_unless_keeping claim n lock w e (is_refused claim lock) refl))
 
-  wakes_if_kept : (is_free : Bool) (n : ℕ) (w : World D) → AreSound w.objects → AreSound (wakes_if is_free n w).objects
-  wakes_if_kept true n w k = k
-  wakes_if_kept false n w k = k
+  wakes_if_kept : (is_free : Bool) (n : ℕ) (w : World D) (out : Aim) → Ready out w → Ready out (wakes_if is_free n w)
+  wakes_if_kept true n w out k = pending_ready n Runnable k
+  wakes_if_kept false n w out k = k
 
   read_release_keeping : (n : ℕ) (w : World D) → Keeping w (read_release n w)
   read_release_keeping n w =
-      rwlock_keeping n w _ (λ lock s. check_keeping (nat_lt 0 (guards_of w.active lock)) Misuse _ w misuse (λ e k.
-      wakes_if_kept (is_unread (with_one_fewer w.active lock)) n _ (set_keeping w n _
-      (read_unwritten lock.writer (is_unread lock) _ lock.content.value lock.content.lent (reads_some lock.readers w.active e) (s k)) k)))
+      rwlock_keeping n w _ (λ lock s. check_keeping (nat_lt 0 (guards_of w.active lock)) Misuse _ w misuse (λ e out k.
+      wakes_if_kept (is_unread (with_one_fewer w.active lock)) n _ out (set_keeping w n _
+      (read_unwritten lock.writer (is_unread lock) _ lock.content.value lock.content.lent (reads_some lock.readers w.active e) (s k.kept.sound)) out k)))
 
   get_mut_keeping : (n : ℕ) (w : World D) → Keeping w (rwlock_get_mut n w)
   get_mut_keeping n w =
-      rwlock_keeping n w _ (λ lock s. found_keeping (unlocked_value lock) Misuse _ w misuse (λ value e k. set_keeping w n _
-      (unlocked_unwritten lock.writer (is_unread lock) (value_in lock.content) (Some w.active) value e) k))
+      rwlock_keeping n w _ (λ lock s. found_keeping (unlocked_value lock) Misuse _ w misuse (λ value e out k. set_keeping w n _
+      (unlocked_unwritten lock.writer (is_unread lock) (value_in lock.content) (Some w.active) value e) out k))
 
   put_keeping : (n : ℕ) (value : D) (w : World D) → Keeping w (rwlock_put n value w)
   put_keeping n value w =
-      rwlock_keeping n w _ (λ lock s. check_keeping (is_number lock.content.lent w.active) Misuse _ w misuse (λ e k. set_keeping w n _
-      (lent_unwritten w.active lock.writer (is_unread lock) lock.content.value lock.content.lent value e (s k)) k))
+      rwlock_keeping n w _ (λ lock s. check_keeping (is_number lock.content.lent w.active) Misuse _ w misuse (λ e out k. set_keeping w n _
+      (lent_unwritten w.active lock.writer (is_unread lock) lock.content.value lock.content.lent value e (s k.kept.sound)) out k))
 
   into_inner_keeping : (n : ℕ) (w : World D) → Keeping w (rwlock_into_inner n w)
   into_inner_keeping n w =
-      rwlock_keeping n w _ (λ lock s. found_keeping (unlocked_value lock) Misuse _ w misuse (λ value e k. set_keeping w n _
-      (unlocked_unwritten lock.writer (is_unread lock) (value_in lock.content) lock.content.lent value e) k))
+      rwlock_keeping n w _ (λ lock s. found_keeping (unlocked_value lock) Misuse _ w misuse (λ value e out k. set_keeping w n _
+      (unlocked_unwritten lock.writer (is_unread lock) (value_in lock.content) lock.content.lent value e) out k))
+
+  claim_keeping : (claim : Claim) (n : ℕ) (w : World D) → Keeping w (claim_begins claim n w)
+  claim_keeping claim n w = rwlock_keeping n w _ (λ lock s out k. pends_ready (task.Claim claim n) (waits claim && is_refused claim lock) refl k)
 
   pub rwlock_begins_keeping : (todo : RwLockOp D) (w : World D) → Keeping w (rwlock_begins todo w)
-  rwlock_begins_keeping (lock_op.New value) w = λ k. more_sound w.objects _ k tt
-  rwlock_begins_keeping (lock_op.Read n) w = rwlock_keeping n w _ (λ lock s k. k)
-  rwlock_begins_keeping (lock_op.TryRead n) w = rwlock_keeping n w _ (λ lock s k. k)
+  rwlock_begins_keeping (lock_op.New value) w = λ out k. new_keeping w _ tt out k
+  rwlock_begins_keeping (lock_op.Read n) w = claim_keeping Read n w
+  rwlock_begins_keeping (lock_op.TryRead n) w = claim_keeping TryRead n w
   rwlock_begins_keeping (lock_op.ReadRelease n) w = read_release_keeping n w
-  rwlock_begins_keeping (lock_op.Write n) w = rwlock_keeping n w _ (λ lock s k. k)
-  rwlock_begins_keeping (lock_op.TryWrite n) w = rwlock_keeping n w _ (λ lock s k. k)
+  rwlock_begins_keeping (lock_op.Write n) w = claim_keeping Write n w
+  rwlock_begins_keeping (lock_op.TryWrite n) w = claim_keeping TryWrite n w
   rwlock_begins_keeping (lock_op.WriteRelease n value) w =
-      rwlock_keeping n w _ (λ lock s. check_keeping (is_number lock.writer w.active) Misuse _ w misuse (λ e k. set_keeping w n _ tt k))
+      rwlock_keeping n w _ (λ lock s. check_keeping (is_number lock.writer w.active) Misuse _ w misuse (λ e out k. pending_ready n Runnable (set_keeping w n _ tt out k)))
   rwlock_begins_keeping (lock_op.GetMut n) w = get_mut_keeping n w
   rwlock_begins_keeping (lock_op.Put n value) w = put_keeping n value w
   rwlock_begins_keeping (lock_op.IntoInner n) w = into_inner_keeping n w

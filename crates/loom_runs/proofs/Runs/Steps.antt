@@ -35,16 +35,19 @@ use Rattle.loom_runs.proofs.Runs.Answering.{Answers, ResumesOn, anything, chosen
 use Rattle.loom_runs.proofs.Runs.Atomics.{reads_keeping}
 use Rattle.loom_runs.proofs.Runs.Defaults.{offers_ask, options_are_flags, options_are_loads, options_are_threads, slots_few, IsFlagChoice, IsLoadChoice}
 use Rattle.loom_runs.proofs.Runs.Events.{Anything, EventOf, GoesOn, HasEnded, IsEvent, IsGoing, IsOpen, IsOver, IsPass, Settles, StaysOpen, asks, check_event, closes, event_after, event_open, fails, fails_by_itself, going_event, goes, settles_at, then_event, turned_pass}
-use Rattle.loom_runs.proofs.Runs.Ruling.{Keeping, misuse}
-use Rattle.loom_runs.proofs.Runs.Tables.{chosen_keeping, counted_keeping, end_keeping}
+use Rattle.loom_runs.proofs.Runs.Tables.{Choosing, Ending, chosen_choosing, counted_entering, end_ending}
 use Rattle.loom_runs.proofs.Runs.Notifiers.{enters_wait_keeping}
+use Rattle.loom_runs.specs.Histories.{returned_by}
+use Rattle.loom_objects.specs.declared.rt.thread.Thread.{Thread}
+use Rattle.loom_runs.proofs.Runs.Ruling.{Entering, Fairly, Onward, misuse}
+use Rattle.loom_runs.proofs.Runs.Replies.{after}
+
+-- a rule without a choice settles: it comes to something, or fails as itself
+came_settles : {A : Type 0} {P : A → Type 0} (Q : A → Type 0) (r : Result A FailureKind) → Fairly Q r → Answers P r → Settles P (came r)
+came_settles Q (Ok answered) kept h = settles_at answered h
+came_settles Q (Err kind) fair h = fails_by_itself kind fair
 
 module _ {D : Type 0} where
-  -- a rule without a choice settles: it comes to something, or fails as itself
-  came_settles : {A : Type 0} {P : A × World D → Type 0} (w : World D) (r : Result (A × World D) FailureKind) → Keeping w r → Answers P r → Settles P (came r)
-  came_settles w (Ok answered) kept h = settles_at answered h
-  came_settles w (Err kind) fair h = fails_by_itself kind fair
-
   -- ---- accesses
 
   told_goes : (answered : Reply D × World D) → IsEvent (told answered)
@@ -52,7 +55,7 @@ module _ {D : Type 0} where
 
   read_event : (load : Loading) (w : World D) (slot : ℕ) → IsEvent (read_slot load w slot)
   read_event load w slot =
-      then_event {Q = Anything} (came (reads load.access w slot)) told (came_settles w (reads load.access w slot) (reads_keeping load.access w slot) (anything (reads load.access w slot))) (λ answered q. told_goes answered)
+      then_event {Q = Anything} (came (reads load.access w slot)) told (came_settles (Onward w) (reads load.access w slot) (reads_keeping load.access w slot) (anything (reads load.access w slot))) (λ answered q. told_goes answered)
 
   read_passes : (load : Loading) (w : World D) (slot : ℕ) → IsPass (read_slot load w slot >>= turned)
   read_passes load w slot = turned_pass _ (read_event load w slot)
@@ -77,10 +80,10 @@ module _ {D : Type 0} where
   asked_pass (resumed.Load load, w) seven = let few = slots_few load.readable 0 in asks_pass load w (slots load.readable) (omega arith)
 
   resumes_event : (t : ℕ) (w : World D) → IsPass (resumes t w)
-  resumes_event t w = then_event {Q = ResumesOn} (came (chosen t w)) asked (came_settles w (chosen t w) (chosen_keeping t w) (chosen_goes t w)) asked_pass
+  resumes_event t w = then_event {Q = ResumesOn} (came (chosen t w)) asked (came_settles (Choosing w) (chosen t w) (chosen_choosing t w) (chosen_goes t w)) asked_pass
 
   ends_settles : (w : World D) → Settles IsOver (ends w)
-  ends_settles w = came_settles w (end_of w) (end_keeping w) (end_over w)
+  ends_settles w = came_settles (Ending w) (end_of w) (end_ending w) (end_over w)
 
   -- ---- schedules
 
@@ -122,7 +125,7 @@ module _ {D : Type 0} where
   schedule_event (suc more) w = further_event (schedule more) (schedule_event more) w
 
   waits_event : (n : ℕ) (w : World D) (o : Choice) → IsFlagChoice o → IsEvent (waits n w o)
-  waits_event n w (choice.Spurious answer) h = then_event {Q = Anything} _ _ (came_settles w (entered answer n w) (enters_wait_keeping answer n w) (anything (entered answer n w))) (λ after q. schedule_event further_branches after.1)
+  waits_event n w (choice.Spurious answer) h = then_event {Q = Anything} _ _ (came_settles (Onward w) (entered answer n w) (enters_wait_keeping answer n w) (anything (entered answer n w))) (λ after q. schedule_event further_branches after.1)
   waits_event n w (choice.Thread t) h = absurd h
   waits_event n w (choice.Load slot) h = absurd h
 
@@ -137,4 +140,4 @@ module _ {D : Type 0} where
   goes_on_event (AtSpurious n, w) = asks _ _ tt refl (λ o h. waits_event n w o (options_are_flags o h)) (waits_open n w)
 
   pub submit_event : (todo : Op D ⊤) (w : World D) → IsEvent (submit todo w)
-  submit_event todo w = then_event (begins todo w) goes_on (came_settles w (counted todo w) (counted_keeping todo w) (anything (counted todo w))) (λ entered q. goes_on_event entered)
+  submit_event todo w = then_event (begins todo w) goes_on (came_settles (Entering (returned_by todo) w) (counted todo w) (counted_entering todo w) (anything (counted todo w))) (λ entered q. goes_on_event entered)

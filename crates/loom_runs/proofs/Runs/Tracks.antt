@@ -26,17 +26,17 @@ use Rattle.loom_objects.specs.Rule.{◌>>=◌, check, found}
 use Rattle.loom_objects.specs.World.{World}
 use Rattle.loom_runs.proofs.Runs.Fairness.{IsFairResult, either, raise_fair, cell_read_fair, cell_write_fair}
 use Rattle.loom_runs.proofs.Runs.Keeping.{AreSound, set_sound, more_sound}
-use Rattle.loom_runs.proofs.Runs.Ruling.{Keeping, misuse, found_keeping, check_keeping, fair_keeping, chained, then_keeping, mutex_keeping, rwlock_keeping, set_keeping, atomic_fair, condvar_fair, notifier_fair, cell_fair, arc_fair, track_fair}
+use Rattle.loom_runs.proofs.Runs.Ruling.{Keeping, check_keeping, fair_keeping, found_keeping, misuse, new_keeping, set_keeping, track_fair}
 
 module _ {D : Type 0} where
   takes_track_keeping : (n : ℕ) (w : World D) → Keeping w (track_take n w)
-  takes_track_keeping n w = fair_keeping (a_track n w) _ w (track_fair n w) (λ track. found_keeping (value_in track.content) Misuse _ w misuse (λ value e k. set_keeping w n _ tt k))
+  takes_track_keeping n w = fair_keeping (a_track n w) _ w (track_fair n w) (λ track. found_keeping (value_in track.content) Misuse _ w misuse (λ value e out k. set_keeping w n _ tt out k))
 
   pub track_begins_keeping : (todo : TrackOp D) (w : World D) → Keeping w (track_begins todo w)
-  track_begins_keeping (track_op.New value) w = λ k. more_sound w.objects _ k tt
-  track_begins_keeping (track_op.GetRef n) w = fair_keeping (a_track n w) _ w (track_fair n w) (λ track. found_keeping (value_in track.content) Misuse _ w misuse (λ value e k. k))
-  track_begins_keeping (track_op.GetMut n) w = fair_keeping (a_track n w) _ w (track_fair n w) (λ track. found_keeping (value_in track.content) Misuse _ w misuse (λ value e k. set_keeping w n _ tt k))
+  track_begins_keeping (track_op.New value) w = λ out k. new_keeping w _ tt out k
+  track_begins_keeping (track_op.GetRef n) w = fair_keeping (a_track n w) _ w (track_fair n w) (λ track. found_keeping (value_in track.content) Misuse _ w misuse (λ value e out k. k))
+  track_begins_keeping (track_op.GetMut n) w = fair_keeping (a_track n w) _ w (track_fair n w) (λ track. found_keeping (value_in track.content) Misuse _ w misuse (λ value e out k. set_keeping w n _ tt out k))
   track_begins_keeping (track_op.Put n value) w =
-      fair_keeping (a_track n w) _ w (track_fair n w) (λ track. check_keeping (is_number track.content.lent w.active) Misuse _ w misuse (λ e k. set_keeping w n _ tt k))
+      fair_keeping (a_track n w) _ w (track_fair n w) (λ track. check_keeping (is_number track.content.lent w.active) Misuse _ w misuse (λ e out k. set_keeping w n _ tt out k))
   track_begins_keeping (track_op.IntoInner n) w = takes_track_keeping n w
   track_begins_keeping (track_op.Drop n) w = takes_track_keeping n w
