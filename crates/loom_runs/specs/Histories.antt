@@ -81,7 +81,7 @@ module _ {D : Type 0} where
   locked_by_turn (turn.Start t) = None
   locked_by_turn (turn.Ended value) = None
 
-  -- the mutex whose data the operation takes out without holding it, in its own reply
+  -- the mutex whose data the operation takes out without holding it; it has no branch point, so its own reply has the data
   abbrev pub opened_by_mutex : MutexOp D → Option ℕ
   opened_by_mutex (mutex_op.GetMut n) = Some n
   opened_by_mutex (mutex_op.IntoInner n) = Some n
@@ -140,6 +140,7 @@ module _ {D : Type 0} where
   returned_by (op.Fail place) = None
   returned_by (op.Unreachable place) = None
 
+  -- the event begins with an operation that gives the data of mutex n back
   abbrev pub gives_back : ℕ → Event D → Bool
   gives_back n event = is_number (returned_by event.op) n
 

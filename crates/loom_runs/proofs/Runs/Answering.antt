@@ -1,45 +1,34 @@
 -- What a rule without a choice answers.
-use Rattle.std.proofs.Common.{◌≡◌, ◌≢◌, ◌≤◌, ℕ, zero, suc, Bool, List, [], ◌∷◌, ◌++◌, length, Option, Some, None, arith, refl}
-use Rattle.std.specs.Prelude.{◌==◌, ◌-◌, ◌^◌, ◌+◌, ◌||◌, true, false, not, cond, if◌then◌else◌, slice_get, slice_set, nat_lt, is_none, is_some, Result, Ok, Err, ⊤}
+use Rattle.std.proofs.Common.{◌≡◌, ℕ, Bool, [], ◌∷◌, ◌++◌, length, refl}
+use Rattle.std.specs.Prelude.{◌==◌, true, false, nat_lt, Result, Ok, Err}
 use Rattle.loom_views.specs.declared.rt.failure.FailureKind.{FailureKind}
-use Rattle.loom_views.specs.declared.rt.failure.FailureKind.TheVariants.{Deadlock, Misuse}
+use Rattle.loom_views.specs.declared.rt.failure.FailureKind.TheVariants.{Misuse}
 use Rattle.loom_views.specs.Slots.{slot_set}
 use Rattle.loom_views.specs.Table.{readable_slots_of}
 use Rattle.loom_views.specs.declared.rt.atomic.Reader.{Reader}
 use Rattle.loom_views.specs.declared.rt.atomic.Reader.TheVariants as reader
-use Rattle.loom_objects.specs.declared.choice.Choice.{Choice}
-use Rattle.loom_objects.specs.declared.choice.Choice.TheVariants as choice
 use Rattle.loom_objects.specs.declared.operation.AtomicOp.{AtomicOp}
 use Rattle.loom_objects.specs.declared.operation.AtomicOp.TheVariants as atomic_op
-use Rattle.loom_objects.specs.declared.operation.Op.{Op}
 use Rattle.loom_objects.specs.declared.operation.Reply.{Reply}
-use Rattle.loom_objects.specs.declared.operation.Turn.{Turn}
-use Rattle.loom_objects.specs.declared.rt.run.Entry.{Entry}
-use Rattle.loom_objects.specs.declared.rt.run.Entry.TheVariants.{Answered, AtBranch, Spurious as AtSpurious}
-use Rattle.loom_objects.specs.declared.rt.run.Loading.{Loading}
 use Rattle.loom_objects.specs.declared.rt.run.Passed.{Passed}
-use Rattle.loom_objects.specs.declared.rt.run.Passed.TheVariants as passed
 use Rattle.loom_objects.specs.declared.rt.run.Resumed.{Resumed}
 use Rattle.loom_objects.specs.declared.rt.run.Resumed.TheVariants as resumed
 use Rattle.loom_objects.specs.declared.rt.thread.Locking.{Locking}
 use Rattle.loom_objects.specs.declared.rt.thread.Task.{Task}
 use Rattle.loom_objects.specs.declared.rt.thread.Task.TheVariants as task
-use Rattle.loom_objects.specs.Atomics.{accesses, opens, reads, some_slot, store}
+use Rattle.loom_objects.specs.Atomics.{accesses, opens, some_slot, store}
 use Rattle.loom_objects.specs.Condvars.{falls_asleep, with_waiters}
 use Rattle.loom_objects.specs.Counts.{is_free, tries_unwrap, unwraps_if}
-use Rattle.loom_objects.specs.Effects.{chosen, counted, takes_effect}
-use Rattle.loom_objects.specs.Ending.{all_ended, end_of}
+use Rattle.loom_objects.specs.Effects.{chosen, takes_effect}
+use Rattle.loom_objects.specs.Ending.{end_of}
 use Rattle.loom_objects.specs.Leaks.{check_leak, first_leak}
 use Rattle.loom_objects.specs.Locks.{frees}
 use Rattle.loom_objects.specs.Moves.{a_condvar, acquires, an_arc, an_atomic, raises, takes_result}
-use Rattle.loom_objects.specs.Notifiers.{enters_wait as entered}
-use Rattle.loom_objects.specs.Question.{Among, made_of, slots}
-use Rattle.loom_objects.specs.Schedules.{chooses as chooses_thread, offers}
-use Rattle.loom_objects.specs.Steps.{asked, asks_slot, begins, ends, read_slot, resumes, slot_of, told, turned}
+use Rattle.loom_objects.specs.Schedules.{chooses as chooses_thread}
 use Rattle.loom_objects.specs.Turns.{gone, replied}
 use Rattle.loom_objects.specs.World.{World, MAX_THREADS}
 use Rattle.loom_objects.specs.Rule.{◌>>=◌, check}
-use Rattle.loom_runs.proofs.Runs.Events.{Anything, GoesOn, IsGoing, IsOver}
+use Rattle.loom_runs.proofs.Runs.Events.{Anything, GoesOn, IsOver}
 
 -- this holds of what it comes to
 abbrev pub Answers : {A : Type 0} → (A → Type 0) → Result A FailureKind → Type 0

@@ -1,6 +1,6 @@
 -- What is done to atomics, and a fence, keeps locks sound. Which store is read is asked among seven slots at most.
-use Rattle.std.proofs.Common.{◌≡◌, ◌≢◌, ◌≤◌, ℕ, zero, suc, Bool, List, [], ◌∷◌, ◌++◌, length, Option, Some, None, arith, refl}
-use Rattle.std.specs.Prelude.{◌==◌, ◌-◌, ◌^◌, ◌+◌, ◌||◌, true, false, not, cond, if◌then◌else◌, slice_get, slice_set, nat_lt, is_none, is_some, Result, Ok, Err, ⊤}
+use Rattle.std.proofs.Common.{◌≡◌, ℕ, Bool, refl}
+use Rattle.std.specs.Prelude.{◌==◌, true, false, not, Result, Ok, Err}
 use Rattle.loom_views.specs.declared.rt.failure.FailureKind.{FailureKind}
 use Rattle.loom_views.specs.declared.rt.failure.FailureKind.TheVariants.{Misuse, RelaxedFence}
 use Rattle.std.specs.declared.sync.atomic.Ordering.{Ordering}
@@ -15,10 +15,9 @@ use Rattle.loom_objects.specs.declared.operation.Exchange.{Exchange}
 use Rattle.loom_objects.specs.Atomics.{access_begins, atomic_begins, exchanges, exchanges_if, fence, is_relaxed, opens, reads, some_slot, store, swap_of, tells_exchanged, tells_read, updates, writes}
 use Rattle.loom_objects.specs.Moves.{an_atomic, is_number, with_points}
 use Rattle.loom_objects.specs.Operation.{accessed}
-use Rattle.loom_objects.specs.Rule.{◌>>=◌, check, found}
+use Rattle.loom_objects.specs.Rule.{◌>>=◌}
 use Rattle.loom_objects.specs.World.{World}
 use Rattle.loom_runs.proofs.Runs.Fairness.{IsFairResult, readable_fair, load_fair, store_fair, update_read_fair, update_write_fair, unsync_load_fair, with_mut_fair, with_mut_end_fair}
-use Rattle.loom_runs.proofs.Runs.Keeping.{AreSound, more_sound}
 use Rattle.loom_runs.proofs.Runs.Raising.{raises_keeping}
 use Rattle.loom_objects.specs.declared.rt.thread.Task.TheVariants as task
 use Rattle.loom_runs.proofs.Runs.States.{pends_ready}

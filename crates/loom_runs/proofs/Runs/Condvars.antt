@@ -1,30 +1,20 @@
 -- What is done to condition variables keeps locks sound.
-use Rattle.std.proofs.Common.{◌≡◌, ◌≢◌, ◌≤◌, ℕ, zero, suc, Bool, List, [], ◌∷◌, ◌++◌, length, Option, Some, None, arith, refl, subst, sym, ap, eqb-true}
-use Rattle.std.specs.Prelude.{◌==◌, ◌-◌, ◌^◌, ◌+◌, ◌||◌, true, false, not, cond, if◌then◌else◌, slice_get, slice_set, nat_lt, is_none, is_some, Result, Ok, Err, ⊤}
-use Rattle.loom_views.specs.declared.rt.failure.FailureKind.TheVariants.{Misuse, SecondWaiter, TooManySteps}
+use Rattle.std.proofs.Common.{◌≡◌, ℕ, List, [], ◌∷◌, ◌++◌, length, Option, Some, None, refl, subst, sym, ap, eqb-true}
+use Rattle.std.specs.Prelude.{true, false, nat_lt}
+use Rattle.loom_views.specs.declared.rt.failure.FailureKind.TheVariants.{Misuse}
 use Rattle.loom_objects.specs.declared.operation.CondvarOp.{CondvarOp}
 use Rattle.loom_objects.specs.declared.operation.CondvarOp.TheVariants as condvar_op
-use Rattle.loom_objects.specs.declared.operation.NotifyOp.{NotifyOp}
-use Rattle.loom_objects.specs.declared.operation.NotifyOp.TheVariants as notify_op
-use Rattle.loom_objects.specs.declared.rt.sync.Notify.{Notify}
-use Rattle.loom_objects.specs.declared.rt.sync.Spurious.TheVariants.{Waking as AboutToWake}
 use Rattle.loom_objects.specs.declared.rt.thread.Locking.{Locking}
 use Rattle.loom_objects.specs.declared.rt.thread.Locking.TheVariants.{Untimed, Timed}
-use Rattle.loom_objects.specs.declared.rt.thread.Task.{Task}
 use Rattle.loom_objects.specs.declared.rt.thread.Task.TheVariants as task
 use Rattle.loom_objects.specs.declared.rt.thread.Waking.{Waking as Wakes}
 use Rattle.loom_objects.specs.declared.rt.thread.Waking.TheVariants.{One, All}
 use Rattle.loom_objects.specs.Condvars as condvars
 use Rattle.loom_objects.specs.Condvars.{condvar_begins, falls_asleep, left_by, relocks, wake_begins, wakes, with_waiters, woken_by, is_locked}
 use Rattle.loom_objects.specs.Locks.{frees}
-use Rattle.loom_objects.specs.Moves.{a_condvar, a_notifier, is_number, rouses, rouses_all, yields, running, a_mutex}
-use Rattle.loom_objects.specs.Notifiers as notifiers
-use Rattle.loom_objects.specs.Notifiers.{awaits, comes_to_wait, enters_wait, is_alone, is_for_waits, may_be_spurious, notifier_begins, notifies, notify, notify_begins, waits_or_rouses, wakes_early, with_notifier}
-use Rattle.loom_objects.specs.Rule.{◌>>=◌, check, found}
+use Rattle.loom_objects.specs.Moves.{a_condvar, is_number, rouses, rouses_all, running, a_mutex}
 use Rattle.loom_objects.specs.World.{World, MAX_THREADS}
-use Rattle.loom_runs.proofs.Runs.Keeping.{AreSound, more_sound}
 use Rattle.loom_runs.proofs.Runs.Mutexes.{frees_keeping}
-use Rattle.loom_objects.specs.RwLocks.{waits}
 use Rattle.loom_objects.specs.declared.rt.thread.State.TheVariants.{Sleeping}
 use Rattle.loom_runs.specs.Histories.{returned_by_condvar}
 use Rattle.loom_runs.proofs.Runs.States.{Aim, IsHeldBy, MutexAt, Ready, changed_ready, pends_ready, rests_ready, waits_kept}

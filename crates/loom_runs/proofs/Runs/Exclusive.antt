@@ -1,8 +1,7 @@
 -- Each operation keeps locks sound, so every history does.
-use Rattle.std.proofs.Common.{◌≡◌, ◌≢◌, ◌≤◌, ℕ, zero, suc, Bool, List, [], ◌∷◌, ◌++◌, length, Option, Some, None, arith, refl}
-use Rattle.std.specs.Prelude.{◌==◌, ◌-◌, ◌^◌, ◌+◌, ◌||◌, true, false, not, cond, if◌then◌else◌, slice_get, slice_set, nat_lt, is_none, is_some, Result, Ok, Err, ⊤}
+use Rattle.std.proofs.Common.{◌≡◌, ℕ, zero, suc, List, [], ◌∷◌, Some, None}
+use Rattle.std.specs.Prelude.{slice_get, Result, Ok, Err, ⊤}
 use Rattle.loom_views.specs.declared.rt.failure.FailureKind.{FailureKind}
-use Rattle.loom_views.specs.declared.rt.failure.FailureKind.TheVariants.{Misuse}
 use Rattle.loom_objects.specs.declared.choice.Choice.{Choice}
 use Rattle.loom_objects.specs.declared.choice.Choice.TheVariants as choice
 use Rattle.loom_objects.specs.declared.operation.Op.{Op}
@@ -20,7 +19,7 @@ use Rattle.loom_objects.specs.Effects.{chosen, counted}
 use Rattle.loom_objects.specs.Ending.{all_ended, end_of}
 use Rattle.loom_objects.specs.Notifiers.{enters_wait as entered}
 use Rattle.loom_objects.specs.Question.{slots}
-use Rattle.loom_objects.specs.Steps.{asked, asks_slot, begins, ends, enters_wait, read_slot, resumes, slot_of, told, turned}
+use Rattle.loom_objects.specs.Steps.{asked, asks_slot, begins, enters_wait, read_slot, resumes, slot_of, told, turned}
 use Rattle.loom_objects.specs.Tree.{Tree, ◌>>=◌, came}
 use Rattle.loom_objects.specs.World.{World, main_thread, opening}
 use Rattle.loom_runs.specs.Histories.{IsReached, at_first, later, LocksLaw, returned_by, opened_by}
@@ -30,11 +29,9 @@ use Rattle.loom_runs.proofs.Runs.Tables.{Choosing, Ending, chosen_choosing, coun
 use Rattle.loom_objects.specs.declared.operation.Turn.TheVariants as turn
 use Rattle.loom_runs.proofs.Runs.Atomics.{reads_keeping}
 use Rattle.loom_runs.proofs.Runs.Notifiers.{enters_wait_keeping}
-use Rattle.loom_objects.specs.declared.rt.thread.Thread.{Thread}
-use Rattle.loom_objects.specs.declared.rt.thread.State.TheVariants.{Ended}
 use Rattle.loom_runs.proofs.Runs.States.{Aim, Kept, Out, Ready, Soundness, Taken, Told, TurnTo, freed_at}
 use Rattle.loom_runs.proofs.Runs.Ruling.{Entered, Entering, Fairly, Onward, Opened, Opening, PassedTo, ResumedTo, Telling}
-use Rattle.loom_runs.proofs.Runs.Replies.{after, reads_quiet, tells}
+use Rattle.loom_runs.proofs.Runs.Replies.{reads_quiet, tells}
 
 came_keeps : {A : Type 0} {P : A → Type 0} (Q : A → Type 0) (r : Result A FailureKind) → Fairly Q r → ((a : A) → Q a → P a) → Keeps P (came r)
 came_keeps Q (Ok a) q h = gives a (h a q)
@@ -53,7 +50,7 @@ module _ {D : Type 0} (out : Aim) where
     read_kept : (slot : ℕ) → Keeps (PassedTo out) (read_slot load w slot >>= turned)
     read_kept slot =
         let told_so : Keeps (Told out) (came (reads load.access w slot)) =
-            came_keeps (Telling w) (reads load.access w slot) (tells w _ (reads_keeping load.access w slot) (reads_quiet load.access w slot)) (λ answered q. q out k) in
+        came_keeps (Telling w) (reads load.access w slot) (tells w _ (reads_keeping load.access w slot) (reads_quiet load.access w slot)) (λ answered q. q out k) in
         turned_kept _ (then_keeps {Q = Told out} (came (reads load.access w slot)) told told_so told_kept)
 
     slot_kept : (o : Choice) → Keeps (PassedTo out) (slot_of o >>= (λ slot. read_slot load w slot >>= turned))

@@ -1,9 +1,8 @@
 -- The data of a mutex that is out is given to no thread before it is given back.
-use Rattle.std.proofs.Common.{◌≡◌, ℕ, Bool, true, false, List, [], ◌∷◌, ◌++◌, Option, Some, None, ap, refl}
+use Rattle.std.proofs.Common.{◌≡◌, ℕ, Bool, true, false, List, [], ◌∷◌, ◌++◌, Option, Some, None, refl}
 use Rattle.std.proofs.lemmas.Bool.{eq-eqb}
-use Rattle.std.specs.Prelude.{◌||◌, ◌==◌, ⊤}
+use Rattle.std.specs.Prelude.{◌||◌, ◌==◌}
 use Rattle.std.specs.List.{list_any}
-use Rattle.loom_objects.specs.declared.operation.Op.{Op}
 use Rattle.loom_objects.specs.declared.operation.Turn.{Turn}
 use Rattle.loom_objects.specs.declared.operation.Turn.TheVariants as turn
 use Rattle.loom_objects.specs.Moves.{is_number}
@@ -13,7 +12,7 @@ use Rattle.loom_runs.specs.Histories.{ComesTo, Event, IsHistory, MayFollow, OneH
 use Rattle.loom_runs.specs.Machine.{submit}
 use Rattle.loom_runs.proofs.Runs.Exclusive.{opening_ready, submit_kept, submit_opens}
 use Rattle.loom_runs.proofs.Runs.Keeping.{kept_value}
-use Rattle.loom_runs.proofs.Runs.States.{Aim, Follows, Holding, Out, Ready, Taken, TurnTo}
+use Rattle.loom_runs.proofs.Runs.States.{Aim, Holding, Out, Ready, Taken, TurnTo}
 
 isnt_number : (o : Option ℕ) (n : ℕ) → is_number o n ≡ false → o ≡ Some n → ⊥
 isnt_number None n h e = cc e
@@ -26,9 +25,10 @@ module _ {D : Type 0} where
 
   comes_so : (out : Aim) (event : Event D) (w v : World D) → ((m : ℕ) → out ≡ Out m → returned_by event.op ≡ Some m → ⊥) → Ready out w
       → ComesTo (submit event.op w) (event.turn, v) → Comes out event v
-  comes_so out event w v other k comes =
-      (kept_value (submit event.op w) (event.turn, v) (submit_kept out event.op w other k) comes,
-      λ n e. kept_value (submit event.op w) (event.turn, v) (submit_opens out event.op n w e k) comes)
+  comes_so out event w v other k comes = (
+    kept_value (submit event.op w) (event.turn, v) (submit_kept out event.op w other k) comes,
+    λ n e. kept_value (submit event.op w) (event.turn, v) (submit_opens out event.op n w e k) comes,
+  )
 
   -- a mutex whose data is given out is out
   taken_by : (out : Aim) (given : Turn D) (opened : Option ℕ) (v : World D) (n : ℕ) → TurnTo out (given, v) → ((m : ℕ) → opened ≡ Some m → Taken out m v)

@@ -1,6 +1,6 @@
 -- What holds of every value that a tree comes to. And sound locks: more than exclusive ones, so that each operation keeps them.
 use Rattle.std.proofs.Common.{◌≡◌, ℕ, zero, suc, Bool, true, false, List, [], ◌∷◌, ◌++◌, Option, Some, None, refl, subst}
-use Rattle.std.specs.Prelude.{◌&&◌, not, cond, is_some, slice_get, slice_set, Result, Ok, Err, ⊤}
+use Rattle.std.specs.Prelude.{◌&&◌, not, is_some, slice_get, slice_set, ⊤}
 use Rattle.std.specs.List.{list_all}
 use Rattle.loom_views.specs.declared.rt.failure.FailureKind.{FailureKind}
 use Rattle.loom_objects.specs.declared.choice.Choice.{Choice}
@@ -11,7 +11,6 @@ use Rattle.loom_objects.specs.declared.rt.sync.RwLock.{RwLock}
 use Rattle.loom_objects.specs.Question.{Question}
 use Rattle.loom_objects.specs.RwLocks.{is_unread}
 use Rattle.loom_objects.specs.Tree.{Tree, Gives, Fails, Closes, Asks, ◌>>=◌, check, found}
-use Rattle.loom_objects.specs.World.{World}
 use Rattle.loom_runs.specs.Histories.{ComesTo, is_exclusive}
 
 -- ---- trees

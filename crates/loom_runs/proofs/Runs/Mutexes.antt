@@ -1,18 +1,17 @@
 -- What is done to mutexes keeps locks sound.
-use Rattle.std.proofs.Common.{◌≡◌, ◌≢◌, ◌≤◌, ℕ, zero, suc, Bool, List, [], ◌∷◌, ◌++◌, length, Option, Some, None, arith, refl, subst, eqb-true}
-use Rattle.std.specs.Prelude.{◌==◌, ◌-◌, ◌^◌, ◌+◌, ◌||◌, true, false, not, cond, if◌then◌else◌, slice_get, slice_set, nat_lt, is_none, is_some, Result, Ok, Err, ⊤}
+use Rattle.std.proofs.Common.{◌≡◌, ℕ, Bool, Option, Some, None, refl, subst, eqb-true}
+use Rattle.std.specs.Prelude.{true, false, cond, slice_get, is_none, is_some, Result, Ok, Err}
 use Rattle.loom_views.specs.declared.rt.failure.FailureKind.{FailureKind}
 use Rattle.loom_views.specs.declared.rt.failure.FailureKind.TheVariants.{Misuse}
 use Rattle.loom_objects.specs.declared.operation.MutexOp.{MutexOp}
 use Rattle.loom_objects.specs.declared.operation.MutexOp.TheVariants as mutex_op
 use Rattle.loom_objects.specs.declared.rt.thread.Locking.{Locking}
 use Rattle.loom_objects.specs.declared.rt.thread.Locking.TheVariants.{Untimed, Timed}
-use Rattle.loom_objects.specs.Lent.{value_in, handed_out, lent_to, taken_apart}
+use Rattle.loom_objects.specs.Lent.{handed_out, lent_to, taken_apart}
 use Rattle.loom_objects.specs.Locks.{free_value, lock, locks_unless, try_lock, frees, mutex_get_mut, mutex_put, mutex_into_inner, mutex_begins, lock_begins, try_lock_begins, locked_reply, with_mutex}
 use Rattle.loom_objects.specs.Moves.{is_number, blocks_pending, acquires, a_mutex}
-use Rattle.loom_objects.specs.Rule.{◌>>=◌, check, found}
 use Rattle.loom_objects.specs.World.{World}
-use Rattle.loom_runs.proofs.Runs.Keeping.{OneAtMost, more_sound, IsSoundMutex}
+use Rattle.loom_runs.proofs.Runs.Keeping.{OneAtMost, IsSoundMutex}
 use Rattle.loom_runs.specs.Histories.{locked_by, returned_by_mutex}
 use Rattle.loom_objects.specs.declared.rt.thread.State.TheVariants.{Runnable, Blocked}
 use Rattle.loom_objects.specs.declared.rt.thread.Task.TheVariants as task
@@ -24,7 +23,7 @@ use Rattle.loom_runs.proofs.Runs.Replies.{after, enters}
 
 -- who holds what the active thread holds is that thread
 held_by_active : (active t : ℕ) (holder : Option ℕ) → is_number holder active ≡ true → holder ≡ Some t → t ≡ active
-held_by_active active t None h e = absurd (cc h)
+held_by_active active t None h e = absurd (cc e)
 held_by_active active t (Some u) h e = let same : u ≡ active = eqb-true u active h in cc (e, same)
 
 module _ {D : Type 0} where
@@ -60,10 +59,11 @@ module _ {D : Type 0} where
       mutex_fairly (Telling w) n w _ (λ mutex there s. found_fairly (Telling w) (free_value mutex) Misuse _ misuse (λ value free out k.
       let left = record mutex { holder = Some w.active; content = handed_out mutex.content } in
       let alone : IsSoundMutex left =
-          free_alone (λ holder lent. OneAtMost {B = D} (Some w.active) None lent) mutex.content.is_taken mutex.holder mutex.content.value mutex.content.lent value free (s k.kept.sound) tt in
-      let taken : Ready out (with_mutex n left w) × Taken out n (with_mutex n left w) = taken_out out n w mutex left value there free alone refl k in
-      (pending_ready n Blocked taken.0,
-      λ m e. subst (λ i. Taken out i (blocks_pending n (acquires n (with_mutex n left w)))) (locked_number locking n value m e) (λ f. ((taken.1 f).0, pending_ready n Blocked (taken.1 f).1)))))
+      free_alone (λ holder lent. OneAtMost {B = D} (Some w.active) None lent) mutex.content.is_taken mutex.holder mutex.content.value mutex.content.lent value free (s k.kept.sound) tt in
+      let taken : Ready out (with_mutex n left w) × Taken out n (with_mutex n left w) = taken_out out n w mutex left value there free alone refl k in (
+        pending_ready n Blocked taken.0,
+        λ m e. subst (λ i. Taken out i (blocks_pending n (acquires n (with_mutex n left w)))) (locked_number locking n value m e) (λ f. ((taken.1 f).0, pending_ready n Blocked (taken.1 f).1)),
+      )))
 
   locks_unless_telling : (is_held : Bool) (n : ℕ) (w : World D) → Fairly (Telling w) (locks_unless is_held n w)
   locks_unless_telling true n w = λ out k. (k, λ m e. absurd (cc e))
@@ -83,21 +83,27 @@ module _ {D : Type 0} where
 
   pub get_mut_opening : (n : ℕ) (w : World D) → Fairly (Opening n w) (mutex_get_mut n w)
   get_mut_opening n w =
-      mutex_fairly (Opening n w) n w _ (λ mutex there s. found_fairly (Opening n w) (free_value mutex) Misuse _ misuse (λ value free out k. (refl,
-      taken_out out n w mutex (record mutex { content = lent_to w.active mutex.content }) value there free
-      (free_alone (λ holder lent. OneAtMost {B = D} holder None (Some w.active)) mutex.content.is_taken mutex.holder mutex.content.value mutex.content.lent value free (s k.kept.sound) tt) refl k)))
+      mutex_fairly (Opening n w) n w _ (λ mutex there s. found_fairly (Opening n w) (free_value mutex) Misuse _ misuse (λ value free out k. (
+        refl,
+        taken_out out n w mutex (record mutex { content = lent_to w.active mutex.content }) value there free
+            (free_alone (λ holder lent. OneAtMost {B = D} holder None (Some w.active)) mutex.content.is_taken mutex.holder mutex.content.value mutex.content.lent value free (s k.kept.sound) tt) refl k,
+      )))
 
   put_entering : (n : ℕ) (value : D) (w : World D) → Fairly (Entering (Some n) w) (mutex_put n value w)
   put_entering n value w =
-      mutex_fairly (Entering (Some n) w) n w _ (λ mutex there s. check_fairly (Entering (Some n) w) (is_number mutex.content.lent w.active) Misuse _ misuse (λ e out other k.
-      (mutex_ready n _ (lent_alone w.active mutex.holder mutex.content.value mutex.content.lent value e (s k.kept.sound)) (λ o. absurd (other n o refl))
-      (λ f t h. holds_there (IsHeldBy t) w.objects n mutex there (k.kept.held f t n h)) k, λ m i. absurd (cc i))))
+      mutex_fairly (Entering (Some n) w) n w _ (λ mutex there s. check_fairly (Entering (Some n) w) (is_number mutex.content.lent w.active) Misuse _ misuse (λ e out other k. (
+        mutex_ready n _ (lent_alone w.active mutex.holder mutex.content.value mutex.content.lent value e (s k.kept.sound)) (λ o. absurd (other n o refl))
+            (λ f t h. holds_there (IsHeldBy t) w.objects n mutex there (k.kept.held f t n h)) k,
+        λ m i. absurd (cc i),
+      )))
 
   pub into_inner_opening : (n : ℕ) (w : World D) → Fairly (Opening n w) (mutex_into_inner n w)
   into_inner_opening n w =
-      mutex_fairly (Opening n w) n w _ (λ mutex there s. found_fairly (Opening n w) (free_value mutex) Misuse _ misuse (λ value free out k. (refl,
-      taken_out out n w mutex (record mutex { content = taken_apart mutex.content }) value there free
-      (free_alone (λ holder lent. OneAtMost {B = D} holder None lent) mutex.content.is_taken mutex.holder mutex.content.value mutex.content.lent value free (s k.kept.sound) tt) refl k)))
+      mutex_fairly (Opening n w) n w _ (λ mutex there s. found_fairly (Opening n w) (free_value mutex) Misuse _ misuse (λ value free out k. (
+        refl,
+        taken_out out n w mutex (record mutex { content = taken_apart mutex.content }) value there free
+            (free_alone (λ holder lent. OneAtMost {B = D} holder None lent) mutex.content.is_taken mutex.holder mutex.content.value mutex.content.lent value free (s k.kept.sound) tt) refl k,
+      )))
 
   lock_begins_keeping : (n : ℕ) (w : World D) → Keeping w (lock_begins n w)
   lock_begins_keeping n w = mutex_fairly (Onward w) n w _ (λ mutex there s out k. pends_ready (task.Lock Untimed n) (is_some mutex.holder) refl k)

@@ -1,33 +1,20 @@
 -- What is done to notifiers, and a yield, keeps locks sound.
-use Rattle.std.proofs.Common.{◌≡◌, ◌≢◌, ◌≤◌, ℕ, zero, suc, Bool, List, [], ◌∷◌, ◌++◌, length, Option, Some, None, arith, refl}
-use Rattle.std.specs.Prelude.{◌==◌, ◌-◌, ◌^◌, ◌+◌, ◌||◌, true, false, not, cond, if◌then◌else◌, slice_get, slice_set, nat_lt, is_none, is_some, Result, Ok, Err, ⊤}
+use Rattle.std.proofs.Common.{◌≡◌, ℕ, Bool, None, refl}
+use Rattle.std.specs.Prelude.{◌-◌, ◌^◌, true, false, not, slice_get, nat_lt}
 use Rattle.loom_views.specs.declared.rt.failure.FailureKind.TheVariants.{Misuse, SecondWaiter, TooManySteps}
-use Rattle.loom_objects.specs.declared.operation.CondvarOp.{CondvarOp}
-use Rattle.loom_objects.specs.declared.operation.CondvarOp.TheVariants as condvar_op
 use Rattle.loom_objects.specs.declared.operation.NotifyOp.{NotifyOp}
 use Rattle.loom_objects.specs.declared.operation.NotifyOp.TheVariants as notify_op
 use Rattle.loom_objects.specs.declared.rt.sync.Notify.{Notify}
 use Rattle.loom_objects.specs.declared.rt.sync.Spurious.TheVariants.{Waking as AboutToWake}
-use Rattle.loom_objects.specs.declared.rt.thread.Locking.{Locking}
-use Rattle.loom_objects.specs.declared.rt.thread.Locking.TheVariants.{Untimed, Timed}
 use Rattle.loom_objects.specs.declared.rt.thread.Task.{Task}
 use Rattle.loom_objects.specs.declared.rt.thread.Task.TheVariants as task
-use Rattle.loom_objects.specs.declared.rt.thread.Waking.{Waking as Wakes}
-use Rattle.loom_objects.specs.declared.rt.thread.Waking.TheVariants.{One, All}
-use Rattle.loom_objects.specs.Condvars as condvars
-use Rattle.loom_objects.specs.Condvars.{condvar_begins, falls_asleep, left_by, relocks, wake_begins, wakes, with_waiters, woken_by}
-use Rattle.loom_objects.specs.Locks.{frees}
-use Rattle.loom_objects.specs.Moves.{a_condvar, a_notifier, is_number, rouses, rouses_all, yields, yielded}
+use Rattle.loom_objects.specs.Moves.{a_notifier, yields, yielded}
 use Rattle.loom_objects.specs.Notifiers as notifiers
 use Rattle.loom_objects.specs.Notifiers.{awaits, comes_to_wait, enters_wait, is_alone, is_for_waits, may_be_spurious, notifier_begins, notifies, notify, notify_begins, waits_or_rouses, wakes_early, with_notifier}
-use Rattle.loom_objects.specs.Rule.{◌>>=◌, check, found}
-use Rattle.loom_objects.specs.World.{World, MAX_THREADS}
-use Rattle.loom_runs.proofs.Runs.Keeping.{AreSound, more_sound}
-use Rattle.loom_runs.proofs.Runs.Mutexes.{frees_keeping}
+use Rattle.loom_objects.specs.World.{World}
 use Rattle.loom_objects.specs.declared.rt.thread.State.TheVariants.{Runnable}
 use Rattle.loom_runs.proofs.Runs.States.{changed_ready, freed_by, pending_ready, pends_ready}
 use Rattle.loom_runs.proofs.Runs.Ruling.{Keeping, chained, check_keeping, fair_keeping, found_keeping, misuse, new_keeping, notifier_fair, set_keeping, then_keeping}
-use Rattle.loom_runs.proofs.Runs.Replies.{after}
 
 module _ {D : Type 0} where
   pub notify_keeping : (n : ℕ) (w : World D) → Keeping w (notify n w)

@@ -1,5 +1,5 @@
 -- Only locks and waits are told the data of a mutex by their replies.
-use Rattle.std.proofs.Common.{◌≡◌, ℕ, Bool, true, false, List, Option, Some, None, refl}
+use Rattle.std.proofs.Common.{◌≡◌, ℕ, Bool, true, false, Option, Some, None, refl}
 use Rattle.std.specs.Prelude.{◌==◌, Result, Ok, Err, ⊤, is_none, length, nat_lt, not, slice_get, ◌-◌, ◌^◌}
 use Rattle.std.specs.declared.sync.atomic.Ordering.{Ordering}
 use Rattle.loom_views.specs.declared.rt.failure.FailureKind.{FailureKind}
@@ -41,10 +41,10 @@ use Rattle.loom_objects.specs.declared.rt.thread.Waking.{Waking}
 use Rattle.loom_objects.specs.Atomics.{opens, some_slot, access_begins, atomic_begins, exchanges, fence, reads, store, is_relaxed, swap_of, writes}
 use Rattle.loom_objects.specs.Cells.{cell_begins, exchanges_cells, swap_if, data_left, is_free, is_unread, opens_write, reads_open, records_read, records_write}
 use Rattle.loom_objects.specs.Condvars.{wake_begins, wakes}
-use Rattle.loom_objects.specs.Counts.{is_free as is_free_arc, arc_begins, comes_to, counts, decrements, drops_last, shared_unless, takes_out, tries_unwrap, unwraps_if, may_grow, sole_value, with_arc, with_one_fewer}
+use Rattle.loom_objects.specs.Counts.{is_free as is_free_arc, arc_begins, comes_to, counts, decrements, drops_last, shared_unless, tries_unwrap, unwraps_if, may_grow, sole_value, with_arc, with_one_fewer}
 use Rattle.loom_objects.specs.Notifiers.{awaits, comes_to_wait, notifier_begins, notifies, wakes_early, is_alone, is_for_waits, may_be_spurious, notify}
 use Rattle.loom_objects.specs.Rule.{◌>>=◌, check, found}
-use Rattle.loom_objects.specs.RwLocks.{claim_begins, claims, is_refused, reads_lock, refused, rwlock_begins, takes, takes_unless, writes_lock, guards_of, unlocked_value, waits}
+use Rattle.loom_objects.specs.RwLocks.{claim_begins, claims, is_refused, reads_lock, rwlock_begins, takes_unless, writes_lock, guards_of, unlocked_value}
 use Rattle.loom_objects.specs.Threads.{child_finish, finish_as, join, parks_unless, thread_begins, has_own, is_exited, is_finished, is_working}
 use Rattle.loom_objects.specs.Tracks.{track_begins, track_take}
 use Rattle.loom_objects.specs.World.{World}
@@ -57,15 +57,13 @@ use Rattle.loom_objects.specs.declared.operation.CellOp.TheVariants.{Deref, Get,
 use Rattle.loom_objects.specs.declared.rt.thread.Phase.TheVariants.{Finished}
 use Rattle.loom_objects.specs.declared.operation.TrackOp.TheVariants.{GetRef}
 use Rattle.loom_views.specs.declared.rt.failure.FailureKind.TheVariants.{Misuse, OpenAccess, RelaxedFence, SecondWaiter, TooManySteps, TooManyThreads}
-use Rattle.loom_objects.specs.declared.operation.CondvarOp.TheVariants.{Wait}
-use Rattle.loom_objects.specs.Moves.{a_cell, a_condvar, a_notifier, a_rwlock, a_track, acquires, active_thread, an_arc, an_atomic, at_phase, changes_active, is_number, raises, releases, takes_result, unparks, with_points, yields, yielded}
+use Rattle.loom_objects.specs.Moves.{a_cell, a_condvar, a_notifier, a_rwlock, a_track, acquires, active_thread, an_arc, an_atomic, at_phase, changes_active, is_number, raises, releases, takes_result, unparks, with_points, yields}
 use Rattle.loom_objects.specs.Operation.{accessed}
 use Rattle.loom_objects.specs.Lent.{kept, value_in}
 use Rattle.loom_views.specs.Table.{points_after_load, points_after_spawn, points_after_store, points_after_unsync_load, points_after_update_read, points_after_with_mut, points_after_with_mut_end}
 use Rattle.loom_runs.proofs.Runs.States.{Aim, Ready}
 use Rattle.loom_runs.proofs.Runs.Ruling.{Entering, Fairly, Keeping, PassedTo, Telling}
 use Rattle.loom_objects.specs.Locks.{lock}
-use Rattle.loom_objects.specs.declared.rt.thread.State.TheVariants.{Ended}
 
 module _ {D : Type 0} where
   -- what is answered is no data of a mutex

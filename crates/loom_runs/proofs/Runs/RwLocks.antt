@@ -1,6 +1,6 @@
 -- What is done to read-write locks keeps locks sound.
-use Rattle.std.proofs.Common.{◌≡◌, ◌≢◌, ◌≤◌, ℕ, zero, suc, Bool, List, [], ◌∷◌, ◌++◌, length, Option, Some, None, arith, refl}
-use Rattle.std.specs.Prelude.{◌==◌, ◌-◌, ◌^◌, ◌+◌, ◌||◌, true, false, not, cond, if◌then◌else◌, slice_get, slice_set, nat_lt, is_none, is_some, Result, Ok, Err, ⊤, ◌&&◌}
+use Rattle.std.proofs.Common.{◌≡◌, ℕ, zero, suc, Bool, List, [], ◌∷◌, Option, Some, None, refl}
+use Rattle.std.specs.Prelude.{◌-◌, ◌^◌, ◌||◌, true, false, not, cond, slice_get, nat_lt, is_none, is_some, ◌&&◌}
 use Rattle.std.specs.List.{list_all}
 use Rattle.std.proofs.Math.Dec.{eqb-suc-zero}
 use Rattle.loom_views.specs.declared.rt.failure.FailureKind.TheVariants.{Misuse, TooManySteps}
@@ -13,9 +13,8 @@ use Rattle.loom_objects.specs.Cells.{count_of, is_zero}
 use Rattle.loom_objects.specs.Lent.{value_in}
 use Rattle.loom_objects.specs.RwLocks.{claims, guards_of, is_held, is_refused, is_unread, read_release, reads_lock, refused, rwlock_begins, rwlock_get_mut, rwlock_into_inner, rwlock_put, takes, takes_unless, unlocked_value, wakes_if, with_one_fewer, writes_lock, claim_begins, waits}
 use Rattle.loom_objects.specs.Moves.{is_number}
-use Rattle.loom_objects.specs.Rule.{◌>>=◌, check, found}
 use Rattle.loom_objects.specs.World.{World}
-use Rattle.loom_runs.proofs.Runs.Keeping.{AreSound, WritesAlone, more_sound}
+use Rattle.loom_runs.proofs.Runs.Keeping.{WritesAlone}
 use Rattle.loom_objects.specs.Locks.{lock}
 use Rattle.loom_objects.specs.declared.rt.thread.State.TheVariants.{Runnable, Blocked}
 use Rattle.loom_objects.specs.declared.rt.thread.Task.TheVariants as task

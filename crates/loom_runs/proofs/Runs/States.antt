@@ -1,14 +1,13 @@
 -- What holds in each state of the machine: locks are sound, who is about to wait on a condition variable holds the mutex, and a
 -- mutex whose data is out keeps none.
 use Rattle.std.proofs.Common.{◌≡◌, ℕ, zero, suc, Bool, true, false, List, [], ◌∷◌, ◌++◌, Option, Some, None, refl, ap, subst, sym}
-use Rattle.std.specs.Prelude.{cond, is_none, map, slice_get, slice_set, ⊤}
+use Rattle.std.specs.Prelude.{cond, is_none, map, slice_get, slice_set}
 use Rattle.loom_objects.specs.declared.operation.Reply.{Reply}
 use Rattle.loom_objects.specs.declared.operation.Turn.{Turn}
 use Rattle.loom_objects.specs.declared.operation.Turn.TheVariants as turn
 use Rattle.loom_objects.specs.declared.rt.object.Object.{Object}
 use Rattle.loom_objects.specs.declared.rt.object.Object.TheVariants as object
 use Rattle.loom_objects.specs.declared.rt.sync.Mutex.{Mutex}
-use Rattle.loom_objects.specs.declared.rt.thread.Claim.TheVariants.{Read, TryRead, Write, TryWrite}
 use Rattle.loom_objects.specs.declared.rt.thread.State.{State}
 use Rattle.loom_objects.specs.declared.rt.thread.Task.{Task}
 use Rattle.loom_objects.specs.declared.rt.thread.Task.TheVariants as task
@@ -17,7 +16,7 @@ use Rattle.loom_objects.specs.Moves.{changed_at, with_thread, pending, resting, 
 use Rattle.loom_objects.specs.Locks.{free_value, with_mutex}
 use Rattle.loom_objects.specs.Schedules.{all_run, runs_again}
 use Rattle.loom_objects.specs.World.{World}
-use Rattle.loom_runs.specs.Histories.{locked_by, locked_by_turn}
+use Rattle.loom_runs.specs.Histories.{locked_by}
 use Rattle.loom_runs.proofs.Runs.Keeping.{AreSound, IsSoundLock, IsSoundMutex, IsSoundRwLock, set_sound, more_sound}
 
 -- What is followed: that locks are sound; who holds mutexes, too; and that the data of this one is out, as well.
@@ -329,10 +328,10 @@ module _ {D : Type 0} where
       → IsSoundMutex left → IsEmpty left → Ready out w → Ready out (with_mutex n left w) × Taken out n (with_mutex n left w)
   taken_out out n w mutex left value there free s is_empty k =
       let unfreed : Follows out → (t : ℕ) → freed_at (slice_get w.threads t) ≡ Some n → ⊥ =
-          λ f t h. free_unheld mutex.content.is_taken mutex.holder mutex.content.value value t free (holds_there (IsHeldBy t) w.objects n mutex there (k.kept.held f t n h)) in
+      λ f t h. free_unheld mutex.content.is_taken mutex.holder mutex.content.value value t free (holds_there (IsHeldBy t) w.objects n mutex there (k.kept.held f t n h)) in
       let after : Ready out (with_mutex n left w) = mutex_ready n left s (λ h. is_empty) (λ f t h. absurd (unfreed f t h)) k in
       let here : MutexAt IsEmpty (slice_get (with_mutex n left w).objects n) =
-          set_here IsEmpty (λ (m : Mutex D). Unit {0}) w.objects n (object.Mutex left) is_empty (subst (MutexAt (λ (m : Mutex D). Unit {0})) (sym there) tt) in
+      set_here IsEmpty (λ (m : Mutex D). Unit {0}) w.objects n (object.Mutex left) is_empty (subst (MutexAt (λ (m : Mutex D). Unit {0})) (sym there) tt) in
       (after, λ f. ((λ h. free_inside mutex.content.is_taken mutex.holder mutex.content.value value free (holds_there IsEmpty w.objects n mutex there (k.kept.empty n h))), follows n here (unfreed f) f after))
 
   -- ---- a thread that is chosen
@@ -346,5 +345,5 @@ module _ {D : Type 0} where
       let running = map runs_again w.threads in
       let body = record thread { task = task.Body } in
       let fewer : NoneWaitsAnew w.threads (slice_set running t body) =
-          λ u m e. map_anew runs_again w.threads (λ other i f. f) u m (set_anew running t body (λ i f. absurd (cc f)) u m e) in
+      λ u m e. map_anew runs_again w.threads (λ other i f. f) u m (set_anew running t body (λ i f. absurd (cc f)) u m e) in
       record { kept = kept_by_threads _ fewer k; idle = λ f. set_idle running t body refl }

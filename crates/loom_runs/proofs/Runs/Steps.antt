@@ -1,12 +1,10 @@
 -- Each operation that is handed over is an event, in each state of the machine.
-use Rattle.std.proofs.Common.{◌≡◌, ◌≢◌, ◌≤◌, ℕ, zero, suc, Bool, List, [], ◌∷◌, ◌++◌, length, Option, Some, None, arith, refl}
-use Rattle.std.specs.Prelude.{◌==◌, ◌-◌, ◌^◌, ◌+◌, ◌||◌, true, false, not, cond, if◌then◌else◌, slice_get, slice_set, nat_lt, is_none, is_some, Result, Ok, Err, ⊤}
+use Rattle.std.proofs.Common.{◌≤◌, ℕ, zero, suc, List, [], ◌∷◌, length, Option, Some, None, arith, refl}
+use Rattle.std.specs.Prelude.{Result, Ok, Err, ⊤}
 use Rattle.loom_views.specs.declared.rt.failure.FailureKind.{FailureKind}
 use Rattle.loom_views.specs.declared.rt.failure.FailureKind.TheVariants.{Deadlock, Misuse}
 use Rattle.loom_objects.specs.declared.choice.Choice.{Choice}
 use Rattle.loom_objects.specs.declared.choice.Choice.TheVariants as choice
-use Rattle.loom_objects.specs.declared.operation.AtomicOp.{AtomicOp}
-use Rattle.loom_objects.specs.declared.operation.AtomicOp.TheVariants as atomic_op
 use Rattle.loom_objects.specs.declared.operation.Op.{Op}
 use Rattle.loom_objects.specs.declared.operation.Reply.{Reply}
 use Rattle.loom_objects.specs.declared.operation.Turn.{Turn}
@@ -17,30 +15,25 @@ use Rattle.loom_objects.specs.declared.rt.run.Passed.{Passed}
 use Rattle.loom_objects.specs.declared.rt.run.Passed.TheVariants as passed
 use Rattle.loom_objects.specs.declared.rt.run.Resumed.{Resumed}
 use Rattle.loom_objects.specs.declared.rt.run.Resumed.TheVariants as resumed
-use Rattle.loom_objects.specs.declared.rt.thread.Locking.{Locking}
-use Rattle.loom_objects.specs.declared.rt.thread.Task.{Task}
-use Rattle.loom_objects.specs.declared.rt.thread.Task.TheVariants as task
 use Rattle.loom_objects.specs.Atomics.{reads}
 use Rattle.loom_objects.specs.Effects.{chosen, counted}
 use Rattle.loom_objects.specs.Ending.{all_ended, end_of}
 use Rattle.loom_objects.specs.Notifiers.{enters_wait as entered}
 use Rattle.loom_objects.specs.Question.{Among, made_of, slots}
 use Rattle.loom_objects.specs.Schedules.{offers}
-use Rattle.loom_objects.specs.Steps.{asked, asks_slot, begins, ends, enters_wait, read_slot, resumes, slot_of, told, turned}
+use Rattle.loom_objects.specs.Steps.{asked, asks_slot, begins, ends, read_slot, resumes, slot_of, told, turned}
 use Rattle.loom_objects.specs.Tree.{Tree, ◌>>=◌, came}
-use Rattle.loom_objects.specs.World.{World, MAX_THREADS}
+use Rattle.loom_objects.specs.World.{World}
 use Rattle.loom_runs.specs.Asking.{which_thread}
 use Rattle.loom_runs.specs.Machine.{chooses, closes as closes_run, further, further_branches, goes_on, passes, schedule, submit, waits}
 use Rattle.loom_runs.proofs.Runs.Answering.{Answers, ResumesOn, anything, chosen_goes, end_over}
 use Rattle.loom_runs.proofs.Runs.Atomics.{reads_keeping}
 use Rattle.loom_runs.proofs.Runs.Defaults.{offers_ask, options_are_flags, options_are_loads, options_are_threads, slots_few, IsFlagChoice, IsLoadChoice}
-use Rattle.loom_runs.proofs.Runs.Events.{Anything, EventOf, GoesOn, HasEnded, IsEvent, IsGoing, IsOpen, IsOver, IsPass, Settles, StaysOpen, asks, check_event, closes, event_after, event_open, fails, fails_by_itself, going_event, goes, settles_at, then_event, turned_pass}
+use Rattle.loom_runs.proofs.Runs.Events.{Anything, GoesOn, HasEnded, IsEvent, IsOpen, IsOver, IsPass, Settles, StaysOpen, asks, check_event, closes, event_after, event_open, fails, fails_by_itself, goes, settles_at, then_event, turned_pass}
 use Rattle.loom_runs.proofs.Runs.Tables.{Choosing, Ending, chosen_choosing, counted_entering, end_ending}
 use Rattle.loom_runs.proofs.Runs.Notifiers.{enters_wait_keeping}
 use Rattle.loom_runs.specs.Histories.{returned_by}
-use Rattle.loom_objects.specs.declared.rt.thread.Thread.{Thread}
 use Rattle.loom_runs.proofs.Runs.Ruling.{Entering, Fairly, Onward, misuse}
-use Rattle.loom_runs.proofs.Runs.Replies.{after}
 
 -- a rule without a choice settles: it comes to something, or fails as itself
 came_settles : {A : Type 0} {P : A → Type 0} (Q : A → Type 0) (r : Result A FailureKind) → Fairly Q r → Answers P r → Settles P (came r)

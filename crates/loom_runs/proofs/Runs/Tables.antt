@@ -1,6 +1,6 @@
 -- The tables of the machine keep locks sound, and never fail because a path isn't met.
-use Rattle.std.proofs.Common.{◌≡◌, ◌≢◌, ◌≤◌, ℕ, zero, suc, Bool, List, [], ◌∷◌, ◌++◌, length, Option, Some, None, arith, refl, subst, sym}
-use Rattle.std.specs.Prelude.{◌==◌, ◌-◌, ◌^◌, ◌+◌, ◌||◌, true, false, not, cond, if◌then◌else◌, slice_get, slice_set, nat_lt, is_none, is_some, Result, Ok, Err, ⊤}
+use Rattle.std.proofs.Common.{◌≡◌, ◌≢◌, ℕ, Bool, List, [], ◌∷◌, Option, Some, None, refl, subst, sym}
+use Rattle.std.specs.Prelude.{◌-◌, true, false, if◌then◌else◌, slice_get, nat_lt, Result, Ok, Err, ⊤}
 use Rattle.loom_views.specs.declared.rt.failure.FailureKind.{FailureKind}
 use Rattle.loom_views.specs.declared.rt.failure.FailureKind.TheVariants.{LeakArc, LeakTrack, Misuse, NotDeterministic, TooManySteps}
 use Rattle.loom_views.specs.declared.rt.atomic.Reader.TheVariants as reader
@@ -19,19 +19,18 @@ use Rattle.loom_objects.specs.declared.operation.MutexOp.TheVariants as mutex_op
 use Rattle.loom_objects.specs.declared.rt.run.Resumed.TheVariants as resumed
 use Rattle.loom_objects.specs.Atomics.{accesses, store, opens}
 use Rattle.loom_objects.specs.Effects.{chosen, counted, op_begins, takes_effect}
-use Rattle.loom_objects.specs.Condvars.{falls_asleep, relocks}
+use Rattle.loom_objects.specs.Condvars.{falls_asleep}
 use Rattle.loom_objects.specs.Ending.{end_of}
 use Rattle.loom_objects.specs.Leaks.{check_leak, first_leak, first_of, leak_of}
 use Rattle.loom_objects.specs.Moves.{takes_result}
-use Rattle.loom_objects.specs.Rule.{◌>>=◌, check, found}
+use Rattle.loom_objects.specs.Rule.{◌>>=◌}
 use Rattle.loom_objects.specs.Schedules.{chooses}
 use Rattle.loom_objects.specs.Turns.{gone, replied}
 use Rattle.loom_objects.specs.World.{World}
 use Rattle.loom_runs.proofs.Runs.Fairness.{IsFairResult}
-use Rattle.loom_runs.proofs.Runs.Keeping.{AreSound}
 use Rattle.loom_runs.proofs.Runs.Atomics.{atomic_begins_keeping, fence_keeping, opens_keeping, store_keeping}
 use Rattle.loom_runs.proofs.Runs.RwLocks.{claims_keeping, rwlock_begins_keeping}
-use Rattle.loom_runs.proofs.Runs.Threads.{child_finish_keeping, join_keeping, takes_result_keeping, thread_begins_keeping}
+use Rattle.loom_runs.proofs.Runs.Threads.{child_finish_keeping, join_keeping, thread_begins_keeping}
 use Rattle.loom_runs.proofs.Runs.Cells.{cell_begins_keeping}
 use Rattle.loom_runs.proofs.Runs.Counts.{arc_begins_keeping, counts_keeping, tries_unwrap_keeping}
 use Rattle.loom_runs.proofs.Runs.Tracks.{track_begins_keeping}
@@ -43,7 +42,6 @@ use Rattle.loom_views.specs.declared.rt.atomic.Reader.{Reader}
 use Rattle.loom_runs.proofs.Runs.Answering.{Answers}
 use Rattle.loom_runs.specs.Histories.{returned_by, opened_by}
 use Rattle.loom_objects.specs.Locks.{lock, mutex_get_mut, mutex_into_inner}
-use Rattle.loom_objects.specs.declared.rt.thread.Thread.{Thread}
 use Rattle.loom_runs.proofs.Runs.States.{Aim, Kept, Out, Ready, TurnTo, chosen_ready, freed_at, freed_by, kept_by_threads, set_anew}
 use Rattle.loom_runs.proofs.Runs.Ruling.{Entering, Fairly, Keeping, Opening, PassingBut, ResumedTo, Resuming, Telling, answer_fairly, check_fairly, found_fairly, misuse, then_fairly}
 use Rattle.loom_runs.proofs.Runs.Replies.{IsLoading, Passing, QuietPass, Unlocked, arc_quiet, atomic_quiet, awaits_quiet, cell_quiet, child_finish_quiet, claims_quiet, counts_quiet, enters, fence_quiet, join_quiet, notifier_quiet, notifies_quiet, opens_loads, passes_on, rwlock_quiet, store_quiet, tells, thread_quiet, track_quiet, tries_unwrap_quiet, wakes_early_quiet, wakes_quiet}

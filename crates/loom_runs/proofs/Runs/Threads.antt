@@ -1,6 +1,6 @@
 -- What threads do keeps locks sound.
-use Rattle.std.proofs.Common.{◌≡◌, ◌≢◌, ◌≤◌, ℕ, zero, suc, Bool, List, [], ◌∷◌, ◌++◌, length, Option, Some, None, arith, refl, subst, sym}
-use Rattle.std.specs.Prelude.{◌==◌, ◌-◌, ◌^◌, ◌+◌, ◌||◌, true, false, not, cond, if◌then◌else◌, slice_get, slice_set, nat_lt, is_none, is_some, Result, Ok, Err, ⊤}
+use Rattle.std.proofs.Common.{◌≡◌, ℕ, Bool, length, Option, Some, None, refl, subst, sym}
+use Rattle.std.specs.Prelude.{true, false, not, slice_get, nat_lt, is_none, ⊤}
 use Rattle.loom_views.specs.declared.rt.failure.FailureKind.TheVariants.{Misuse, TooManyThreads}
 use Rattle.loom_views.specs.Table.{points_after_spawn}
 use Rattle.loom_objects.specs.declared.operation.ThreadOp.{ThreadOp}
@@ -8,20 +8,17 @@ use Rattle.loom_objects.specs.declared.operation.ThreadOp.TheVariants as thread_
 use Rattle.loom_objects.specs.declared.rt.thread.Name.{Name}
 use Rattle.loom_objects.specs.declared.rt.thread.Phase.TheVariants.{Finished, Exited, Over}
 use Rattle.loom_objects.specs.declared.rt.thread.Task.TheVariants as task
-use Rattle.loom_objects.specs.Moves.{a_notifier, at_phase, changes_active, takes_result, unparks, yields, having, with_token, in_state, unparked, unparked_from, yielded}
+use Rattle.loom_objects.specs.Moves.{a_notifier, at_phase, changes_active, takes_result, unparks, yields, having, with_token, in_state, unparked, unparked_from}
 use Rattle.loom_objects.specs.Notifiers.{notify}
 use Rattle.loom_objects.specs.Threads.{child_finish, end, exit, finish, finish_as, has_own, is_exited, is_finished, is_working, join, join_begins, parks_unless, spawn, thread_begins, unpark}
-use Rattle.loom_objects.specs.Rule.{◌>>=◌, check, found}
 use Rattle.loom_objects.specs.World.{World}
 use Rattle.loom_runs.proofs.Runs.Fairness.{spawn_fair}
-use Rattle.loom_runs.proofs.Runs.Keeping.{AreSound, more_sound}
 use Rattle.loom_runs.proofs.Runs.Notifiers.{notify_keeping, yields_keeping}
 use Rattle.loom_objects.specs.declared.rt.thread.State.{State}
 use Rattle.loom_objects.specs.declared.rt.thread.Thread.{Thread}
 use Rattle.loom_objects.specs.declared.rt.thread.State.TheVariants.{Parked, Ended, Runnable, Blocked, Sleeping, Yielding}
 use Rattle.loom_runs.proofs.Runs.States.{changed_ready, freed_at, freed_by, more_anew, more_ready, pends_ready, ready_by_threads, rests_ready, set_anew}
 use Rattle.loom_runs.proofs.Runs.Ruling.{Keeping, chained, check_keeping, fair_keeping, found_keeping, misuse, notifier_fair, set_keeping, then_keeping}
-use Rattle.loom_runs.proofs.Runs.Replies.{after}
 
 module _ {D : Type 0} where
   spawn_keeping : (name : Option Name) (w : World D) → Keeping w (spawn name w)
