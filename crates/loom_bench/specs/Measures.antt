@@ -12,7 +12,7 @@ use Rattle.loom_bench.specs.declared.bodies.Measured.{Measured}
 abbrev pub names : List (List ℕ)
 names =
     codes "store_buffering" ∷ codes "locks_in_turn" ∷ codes "writers_beside_a_reader" ∷ codes "wait_and_notify"
-    ∷ codes "three_threads" ∷ codes "three_adds" ∷ codes "long_line" ∷ codes "long_line_10000"
+    ∷ codes "three_threads" ∷ codes "three_adds" ∷ codes "stores_apart" ∷ codes "long_line" ∷ codes "long_line_10000"
     ∷ codes "locks_crosswise" ∷ codes "acq_rel" ∷ []
 
 -- what a name means: the first body of the list that has it

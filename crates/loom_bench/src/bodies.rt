@@ -109,6 +109,49 @@ const THREE_ADDS: &[Step] = &[
     END,
 ];
 
+// A store to the atomic that a thread has for itself.
+const STORE_MAIN: Step = Step::Do(
+    0,
+    Op::Atomic(AtomicOp::Store(0, 1, Ordering::Relaxed), None),
+);
+
+const STORE_FIRST: Step = Step::Do(
+    0,
+    Op::Atomic(AtomicOp::Store(1, 1, Ordering::Relaxed), None),
+);
+
+const STORE_SECOND: Step = Step::Do(
+    0,
+    Op::Atomic(AtomicOp::Store(2, 1, Ordering::Relaxed), None),
+);
+
+/// Three threads store to an atomic each: main five times, and the others three times. Main joins them.
+const STORES_APART: &[Step] = &[
+    Step::Do(0, Op::Atomic(AtomicOp::New(Numbers::U64, 0), None)),
+    Step::Do(1, Op::Atomic(AtomicOp::New(Numbers::U64, 0), None)),
+    Step::Do(2, Op::Atomic(AtomicOp::New(Numbers::U64, 0), None)),
+    Step::Do(3, Op::Thread(ThreadOp::Spawn(13, None), None)),
+    Step::Do(4, Op::Thread(ThreadOp::Spawn(17, None), None)),
+    STORE_MAIN,
+    STORE_MAIN,
+    STORE_MAIN,
+    STORE_MAIN,
+    STORE_MAIN,
+    Step::Do(0, Op::Thread(ThreadOp::Join(3, 3), None)),
+    Step::Do(0, Op::Thread(ThreadOp::Join(4, 4), None)),
+    Step::Jump(20),
+    STORE_FIRST,
+    STORE_FIRST,
+    STORE_FIRST,
+    Step::Jump(20),
+    STORE_SECOND,
+    STORE_SECOND,
+    STORE_SECOND,
+    FINISH,
+    EXIT,
+    END,
+];
+
 /// Two threads lock two mutexes in the same order, beside a main that joins them.
 const LOCKS_IN_TURN: &[Step] = &[
     Step::Do(0, Op::Mutex(MutexOp::New(Value::Plain(0)), None)),
@@ -271,13 +314,14 @@ macro_rules! measured {
 }
 
 // Those whose check is short are checked many times.
-static BODIES: [Measured; 10] = [
+static BODIES: [Measured; 11] = [
     measured!("store_buffering", STORE_BUFFERING, 1000),
     measured!("locks_in_turn", LOCKS_IN_TURN, 1000),
     measured!("writers_beside_a_reader", WRITERS_BESIDE_A_READER, 100),
     measured!("wait_and_notify", WAIT_AND_NOTIFY, 1000),
     measured!("three_threads", THREE_THREADS, 1),
     measured!("three_adds", THREE_ADDS, 1),
+    measured!("stores_apart", STORES_APART, 1),
     measured!("long_line", LONG_LINE, 10_000, LONG_RUNS),
     measured!("long_line_10000", LONG_LINE_10000, 1000, LONG_RUNS),
     measured!("locks_crosswise", TWO_MUTEXES_DEADLOCK, 1000),

@@ -19,7 +19,7 @@ use std::process::ExitCode;
 use std::time::{Duration, Instant};
 
 /// What is checked where no word names a body: what takes seconds.
-static QUICK: [&str; 2] = ["store_buffering", "locks_in_turn"];
+static QUICK: [&str; 3] = ["store_buffering", "locks_in_turn", "stores_apart"];
 
 fn main(rt: HostRuntime) -> ExitCode {
     ExitCode::from(run(&rt).unwrap_or(2))
