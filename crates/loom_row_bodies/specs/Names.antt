@@ -1,35 +1,96 @@
--- The names of the rows, by the file in which their scripts stand.
-use Rattle.std.specs.Prelude.{ℕ, List, [], ◌∷◌, codes}
+-- The table of the program's rows: each name, what it means, and how this is checked.
+use Rattle.std.specs.Prelude.{ℕ, ◌≡◌, List, [], ◌∷◌, ◌++◌, codes}
+use Rattle.loom.specs.declared.model.Builder.{Builder}
+use Rattle.loom_objects.specs.declared.rt.thread.Name.{Name}
+use Rattle.loom_scripts.specs.declared.step.Step.{Step}
+use Rattle.loom_row_bodies.specs.Meanings.{Steps, Updates, Named}
+use Rattle.loom_row_bodies.specs.Scripts.First as first
+use Rattle.loom_row_bodies.specs.Scripts.Atomics as atomics
+use Rattle.loom_row_bodies.specs.Scripts.Cells as cells
+use Rattle.loom_row_bodies.specs.Scripts.Locks as locks
+
+-- the settings that a builder begins with
+abbrev pub defaults : Builder
+defaults = record { max_threads = 5; max_branches = 1000; max_steps = 1000000 }
+
+-- the same, but the threads of a run hand over ten operations at most
+abbrev pub ten_steps : Builder
+ten_steps = record { max_threads = 5; max_branches = 1000; max_steps = 10 }
+
+-- the script of these steps, by the defaults
+abbrev pub script : List ℕ → List Step → Named
+script name steps = record { name = name; means = Steps steps; builder = defaults }
+
+-- the same by ten operations at most
+abbrev pub short : List ℕ → List Step → Named
+short name steps = record { name = name; means = Steps steps; builder = ten_steps }
+
+-- the thread that updates its atomic, with these two numbers, by the defaults
+abbrev pub updates : List ℕ → ℕ → ℕ → Named
+updates name one other = record { name = name; means = Updates one other; builder = defaults }
 
 -- the first ones
-abbrev pub first_names : List (List ℕ)
-first_names =
-    codes "finish_only" ∷ codes "spawn_only" ∷ codes "lock_beside" ∷ codes "mutex_forever" ∷ codes "fail_at_once" ∷
-    codes "two_mutexes_deadlock" ∷ codes "load_beside" ∷ codes "store_seven" ∷ codes "store_buffering" ∷
-    codes "load_buffering" ∷ codes "check_ordering_valid" ∷ codes "check_ordering_invalid_1" ∷ codes "checks_fail" ∷ []
+abbrev pub first_rows : List Named
+first_rows =
+    script (codes "finish_only") first.finish_only ∷ script (codes "spawn_only") first.spawn_only ∷
+    script (codes "lock_beside") first.lock_beside ∷ short (codes "mutex_forever") first.mutex_forever ∷
+    script (codes "fail_at_once") first.fail_at_once ∷ script (codes "two_mutexes_deadlock") first.two_mutexes_deadlock ∷
+    script (codes "load_beside") first.load_beside ∷ script (codes "store_seven") first.store_seven ∷
+    script (codes "store_buffering") first.store_buffering ∷ script (codes "load_buffering") first.load_buffering ∷
+    script (codes "check_ordering_valid") first.check_ordering_valid ∷
+    script (codes "check_ordering_invalid_1") first.check_ordering_invalid_1 ∷
+    script (codes "checks_fail") first.checks_fail ∷ []
 
 -- about atomics and fences
-abbrev pub atomic_names : List (List ℕ)
-atomic_names =
-    codes "u8_functions" ∷ codes "i8_functions" ∷ codes "bool_nand" ∷ codes "compare_exchange" ∷ codes "unsync_race" ∷
-    codes "load_in_with_mut" ∷ codes "relaxed_fence" ∷ codes "fences_then_relaxed" ∷ codes "unsync_load_forever" ∷ codes "sb_fences" ∷
-    codes "fetch_add_atomic" ∷ codes "orders_equal" ∷ codes "fetch_update_once" ∷ []
+abbrev pub atomic_rows : List Named
+atomic_rows =
+    script (codes "u8_functions") atomics.u8_functions ∷ script (codes "i8_functions") atomics.i8_functions ∷
+    script (codes "bool_nand") atomics.bool_nand ∷ script (codes "compare_exchange") atomics.compare_exchange ∷
+    script (codes "unsync_race") atomics.unsync_race ∷ script (codes "load_in_with_mut") atomics.load_in_with_mut ∷
+    script (codes "relaxed_fence") atomics.relaxed_fence ∷
+    script (codes "fences_then_relaxed") atomics.fences_then_relaxed ∷
+    short (codes "unsync_load_forever") atomics.unsync_load_forever ∷ script (codes "sb_fences") atomics.sb_fences ∷
+    script (codes "fetch_add_atomic") atomics.fetch_add_atomic ∷ script (codes "orders_equal") atomics.orders_equal ∷
+    updates (codes "fetch_update_once") atomics.num_a atomics.num_b ∷ []
 
 -- about cells, counted references and tracked values
-abbrev pub cell_names : List (List ℕ)
-cell_names =
-    codes "atomic_causality_success" ∷ codes "atomic_causality_fail" ∷ codes "unsafe_cell_race_mut_mut_1" ∷
-    codes "unsafe_cell_race_mut_mut_2" ∷ codes "unsafe_cell_race_mut_immut_1" ∷ codes "unsafe_cell_race_mut_immut_2" ∷
-    codes "unsafe_cell_race_mut_immut_3" ∷ codes "unsafe_cell_race_mut_immut_4" ∷ codes "unsafe_cell_race_mut_immut_5" ∷
-    codes "unsafe_cell_ok_1" ∷ codes "unsafe_cell_ok_2" ∷ codes "unsafe_cell_ok_3" ∷
-    codes "unsafe_cell_access_after_sync" ∷ codes "read_in_write" ∷ codes "detect_mem_leak" ∷ codes "arc_count" ∷
-    codes "arc_unwrap" ∷ codes "track_then_arc" ∷ codes "arc_then_track" ∷ []
+abbrev pub cell_rows : List Named
+cell_rows =
+    script (codes "atomic_causality_success") cells.atomic_causality_success ∷
+    script (codes "atomic_causality_fail") cells.atomic_causality_fail ∷
+    script (codes "unsafe_cell_race_mut_mut_1") cells.unsafe_cell_race_mut_mut_1 ∷
+    script (codes "unsafe_cell_race_mut_mut_2") cells.unsafe_cell_race_mut_mut_2 ∷
+    script (codes "unsafe_cell_race_mut_immut_1") cells.unsafe_cell_race_mut_immut_1 ∷
+    script (codes "unsafe_cell_race_mut_immut_2") cells.unsafe_cell_race_mut_immut_2 ∷
+    script (codes "unsafe_cell_race_mut_immut_3") cells.unsafe_cell_race_mut_immut_3 ∷
+    script (codes "unsafe_cell_race_mut_immut_4") cells.unsafe_cell_race_mut_immut_4 ∷
+    script (codes "unsafe_cell_race_mut_immut_5") cells.unsafe_cell_race_mut_immut_5 ∷
+    script (codes "unsafe_cell_ok_1") cells.unsafe_cell_ok_1 ∷ script (codes "unsafe_cell_ok_2") cells.unsafe_cell_ok_2 ∷
+    script (codes "unsafe_cell_ok_3") cells.unsafe_cell_ok_3 ∷
+    script (codes "unsafe_cell_access_after_sync") cells.unsafe_cell_access_after_sync ∷
+    script (codes "read_in_write") cells.read_in_write ∷ script (codes "detect_mem_leak") cells.detect_mem_leak ∷
+    script (codes "arc_count") cells.arc_count ∷ script (codes "arc_unwrap") cells.arc_unwrap ∷
+    script (codes "track_then_arc") cells.track_then_arc ∷ script (codes "arc_then_track") cells.arc_then_track ∷ []
 
--- about threads that wait for one another
-abbrev pub lock_names : List (List ℕ)
-lock_names =
-    codes "release_unlocked" ∷ codes "lock_while_out" ∷ codes "mutex_into_inner" ∷ codes "rwlock_read_twice" ∷
-    codes "rwlock_write_then_try_write" ∷ codes "read_guard_of_another" ∷ codes "rwlock_writer_and_readers" ∷
-    codes "condvar_alone" ∷ codes "condvar_with_token" ∷ codes "condvar_hands_over" ∷ codes "notify_all" ∷
-    codes "notify_wait" ∷ codes "second_waiter" ∷ codes "unpark_then_park" ∷ codes "park_alone" ∷ codes "unpark_wakes" ∷
-    codes "yield_beside" ∷ codes "named_child" ∷ codes "unreachable" ∷ []
+-- about threads that wait for one another; the one name that a script gives a thread is in static memory
+abbrev pub lock_rows : Name → List Named
+lock_rows name =
+    script (codes "release_unlocked") locks.release_unlocked ∷ script (codes "lock_while_out") locks.lock_while_out ∷
+    script (codes "mutex_into_inner") locks.mutex_into_inner ∷ script (codes "rwlock_read_twice") locks.rwlock_read_twice ∷
+    script (codes "rwlock_write_then_try_write") locks.rwlock_write_then_try_write ∷
+    script (codes "read_guard_of_another") locks.read_guard_of_another ∷
+    script (codes "rwlock_writer_and_readers") locks.rwlock_writer_and_readers ∷
+    script (codes "condvar_alone") locks.condvar_alone ∷ script (codes "condvar_with_token") locks.condvar_with_token ∷
+    script (codes "condvar_hands_over") locks.condvar_hands_over ∷ script (codes "notify_all") locks.notify_all ∷
+    script (codes "notify_wait") locks.notify_wait ∷ script (codes "second_waiter") locks.second_waiter ∷
+    script (codes "unpark_then_park") locks.unpark_then_park ∷ script (codes "park_alone") locks.park_alone ∷
+    script (codes "unpark_wakes") locks.unpark_wakes ∷ script (codes "yield_beside") locks.yield_beside ∷
+    script (codes "named_child") (locks.named_child name) ∷ script (codes "unreachable") locks.unreachable ∷ []
+
+-- the rows of locks, with the name that the child has
+abbrev pub AreLockRows : List Named → Type 0
+AreLockRows rows = (name : Name) × (name.text.now ≡ codes "foobar") × (rows ≡ lock_rows name)
+
+-- all of them
+abbrev pub IsTable : List Named → Type 0
+IsTable rows = (name : Name) × (name.text.now ≡ codes "foobar") × (rows ≡ first_rows ++ atomic_rows ++ cell_rows ++ lock_rows name)

@@ -10,6 +10,8 @@ use Rattle.loom_scripts.specs.Running.{started}
 use Rattle.loom_scripts.specs.Script as script
 use Rattle.loom_scripts.specs.declared.step.Step.{Step}
 use Rattle.loom_row_bodies.specs.Line.{PrintedOf}
+use Rattle.loom_row_bodies.specs.Meanings.{Meant, Steps, Updates, Named}
+use Rattle.loom_row_bodies.specs.Names.{IsTable}
 use Rattle.loom_row_bodies.specs.Updates as updates
 use Rattle.loom_row_bodies.specs.declared.rows.Checked.{Checked}
 use Rattle.loom_row_bodies.specs.declared.rows.Checked.TheVariants.{Script, Updater}
@@ -40,3 +42,22 @@ PrintedSome Reports old new status = (report : Report) × Reports report × Prin
 -- the words mean a row, and what was written is of a check of this row
 abbrev pub PrintedRow : List Row → List (List ℕ) → Option (List ℕ) → Option (List ℕ) → ℕ → Type 0
 PrintedRow rows words old new status = (row : Row) × (meant_by rows words ≡ Some row) × PrintedSome (ReportsOf row.checked row.builder) old new status
+
+-- what words mean by a table: one word is a name, and means the first row that has it; nothing else means a row
+abbrev pub named_by : List Named → List (List ℕ) → Option Named
+named_by table (name ∷ []) = find (λ row. bytes_eq row.name name) table
+named_by table words = None
+
+-- what a report says of the runs of what a name means
+abbrev pub ReportsMeant : Meant → Builder → Report → Type 0
+ReportsMeant (Steps steps) b = ReportsScript steps b
+ReportsMeant (Updates one other) b = ReportsAlone b.max_branches (runs_of updates.next_of b.max_threads b.max_steps (updates.begun one other))
+
+-- the words mean a row of this table, and what was written is of a check of what it means
+abbrev pub PrintedBy : List Named → List (List ℕ) → Option (List ℕ) → Option (List ℕ) → ℕ → Type 0
+PrintedBy table words old new status =
+    (row : Named) × (named_by table words ≡ Some row) × PrintedSome (ReportsMeant row.means row.builder) old new status
+
+-- the same by the table of the program
+abbrev pub PrintedNamed : List (List ℕ) → Option (List ℕ) → Option (List ℕ) → ℕ → Type 0
+PrintedNamed words old new status = (table : List Named) × IsTable table × PrintedBy table words old new status

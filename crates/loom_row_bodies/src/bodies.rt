@@ -5,7 +5,8 @@ pub mod cells;
 pub mod locks;
 
 ghost use Rattle.std.specs.Prelude.{◌≡◌, map};
-ghost use Rattle.loom_row_bodies.specs.Names.{first_names};
+ghost use Rattle.loom_row_bodies.specs.Meanings.{named};
+ghost use Rattle.loom_row_bodies.specs.Names.{first_rows};
 
 use crate::rows::{DEFAULTS, Row, TEN_STEPS, row};
 use loom::sync::atomic::Ordering::{Acquire, Relaxed, Release};
@@ -229,7 +230,7 @@ static ROWS: [Row; 13] = [
 
 /// The rows of these scripts.
 pub fn rows() -> &'static [Row]
-    ensures { map (λ row. row.name.now) result.now ≡ first_names }
+    ensures { map named result.now ≡ first_rows }
 {
     &ROWS
 }

@@ -1,10 +1,11 @@
 //! The rows: bodies with names, and how each is checked.
-ghost use Rattle.std.specs.Prelude.{◌≡◌, ◌⊎◌, ◌++◌, IfOk, map, option_copied};
+ghost use Rattle.std.specs.Prelude.{◌≡◌, ◌⊎◌, IfOk, map, option_copied};
 ghost use Rattle.loom_runs.specs.Runs.{runs as runs_of};
 ghost use Rattle.loom.specs.Check.{ReportsAlone};
 ghost use Rattle.loom_row_bodies.specs.Line.{PrintedOf};
-ghost use Rattle.loom_row_bodies.specs.Names.{atomic_names, cell_names, first_names, lock_names};
-ghost use Rattle.loom_row_bodies.specs.Rows.{PrintedRow, PrintedSome, ReportsOf, row_of};
+ghost use Rattle.loom_row_bodies.specs.Meanings.{named};
+ghost use Rattle.loom_row_bodies.specs.Names.{IsTable};
+ghost use Rattle.loom_row_bodies.specs.Rows.{PrintedNamed, PrintedRow, PrintedSome, ReportsOf, row_of};
 
 use crate::bodies::{self, atomics, cells, locks};
 use crate::line::{self, ShownReport};
@@ -69,7 +70,7 @@ pub(crate) use row;
 
 /// The rows of the program.
 pub fn all_rows(alloc: Global) -> Result<Vec<Row>, AllocError>
-    ensures { IfOk result (λ rows. map (λ row. row.name.now) rows.items ≡ first_names ++ atomic_names ++ cell_names ++ lock_names) }
+    ensures { IfOk result (λ rows. IsTable (map named rows.items)) }
 {
     let mut rows = Vec::new(alloc);
     rows.extend_from_slice(bodies::rows())?;
@@ -84,6 +85,22 @@ pub fn row_of<'a>(rows: &'a [Row], name: &str) -> Option<&'a Row>
     ensures { option_copied result ≡ row_of rows.now name.now }
 {
     rows.iter().find(|row| row.name == name)
+}
+
+/// Checks what the one word means by the table of the program, prints what the check finds, and answers the exit status. It is 2
+/// where the words mean nothing, and where memory or a writer fails.
+pub fn run_named<R: AllocGlobal, O: Write, E: Write>(
+    rt: &R,
+    words: &[&str],
+    out: &mut O,
+    err: &mut E,
+) -> u8
+    ensures { (result ≡ 2) ⊎ PrintedNamed (map (λ word. word.now) words.now) (O.contents out.old) (O.contents out.new) result }
+{
+    match all_rows(rt.alloc()) {
+        Ok(rows) => run_row(rt, rows.as_slice(), words, out, err),
+        Err(_) => 2,
+    }
 }
 
 /// Checks the row that the words mean, prints what the check finds, and answers the exit status. It is 2 where the words mean

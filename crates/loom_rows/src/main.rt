@@ -15,7 +15,6 @@ fn run(rt: &HostRuntime) -> io::Result<u8> {
         .iter()
         .map(|word| word.as_str())
         .collect::<Vec<_>>(rt.alloc())?;
-    let rows = rows::all_rows(rt.alloc())?;
-    let (rows, words) = (rows.as_slice(), words.as_slice());
-    Ok(rows::run_row(rt, rows, words, &mut rt.stdout(), &mut rt.stderr()))
+    let words = words.as_slice();
+    Ok(rows::run_named(rt, words, &mut rt.stdout(), &mut rt.stderr()))
 }

@@ -1,6 +1,7 @@
 //! The scripts of the rows about atomics and fences.
 ghost use Rattle.std.specs.Prelude.{◌≡◌, map};
-ghost use Rattle.loom_row_bodies.specs.Names.{atomic_names};
+ghost use Rattle.loom_row_bodies.specs.Meanings.{named};
+ghost use Rattle.loom_row_bodies.specs.Names.{atomic_rows};
 
 use crate::rows::{Checked, DEFAULTS, Row, TEN_STEPS, row};
 use loom::sync::atomic::Ordering::{Relaxed, Release, SeqCst};
@@ -266,7 +267,7 @@ static ROWS: [Row; 13] = [
 
 /// The rows of these scripts.
 pub fn rows() -> &'static [Row]
-    ensures { map (λ row. row.name.now) result.now ≡ atomic_names }
+    ensures { map named result.now ≡ atomic_rows }
 {
     &ROWS
 }

@@ -1,6 +1,7 @@
 //! The scripts of the rows about cells, counted references and tracked values.
 ghost use Rattle.std.specs.Prelude.{◌≡◌, map};
-ghost use Rattle.loom_row_bodies.specs.Names.{cell_names};
+ghost use Rattle.loom_row_bodies.specs.Meanings.{named};
+ghost use Rattle.loom_row_bodies.specs.Names.{cell_rows};
 
 use crate::rows::{DEFAULTS, Row, row};
 use loom::sync::atomic::Ordering::{Acquire, Release};
@@ -428,7 +429,7 @@ static ROWS: [Row; 19] = [
 
 /// The rows of these scripts.
 pub fn rows() -> &'static [Row]
-    ensures { map (λ row. row.name.now) result.now ≡ cell_names }
+    ensures { map named result.now ≡ cell_rows }
 {
     &ROWS
 }

@@ -1,6 +1,7 @@
 //! The scripts of the rows about locks, condition variables, notifiers and threads that wait for one another.
-ghost use Rattle.std.specs.Prelude.{◌≡◌, map};
-ghost use Rattle.loom_row_bodies.specs.Names.{lock_names};
+ghost use Rattle.std.specs.Prelude.{map};
+ghost use Rattle.loom_row_bodies.specs.Meanings.{named};
+ghost use Rattle.loom_row_bodies.specs.Names.{AreLockRows};
 
 use crate::rows::{DEFAULTS, Row, row};
 use loom::sync::atomic::Ordering::Relaxed;
@@ -284,7 +285,7 @@ static ROWS: [Row; 19] = [
 
 /// The rows of these scripts.
 pub fn rows() -> &'static [Row]
-    ensures { map (λ row. row.name.now) result.now ≡ lock_names }
+    ensures { AreLockRows (map named result.now) }
 {
     &ROWS
 }
