@@ -72,7 +72,7 @@ cell_rows =
     script (codes "arc_count") cells.arc_count ∷ script (codes "arc_unwrap") cells.arc_unwrap ∷
     script (codes "track_then_arc") cells.track_then_arc ∷ script (codes "arc_then_track") cells.arc_then_track ∷ []
 
--- about threads that wait for one another; the one name that a script gives a thread is in static memory
+-- about threads that wait for one another, with the name that one script gives a thread
 abbrev pub lock_rows : Name → List Named
 lock_rows name =
     script (codes "release_unlocked") locks.release_unlocked ∷ script (codes "lock_while_out") locks.lock_while_out ∷
@@ -87,10 +87,10 @@ lock_rows name =
     script (codes "unpark_wakes") locks.unpark_wakes ∷ script (codes "yield_beside") locks.yield_beside ∷
     script (codes "named_child") (locks.named_child name) ∷ script (codes "unreachable") locks.unreachable ∷ []
 
--- the rows of locks, with the name that the child has
+-- the rows of locks, in which the named child is called foobar
 abbrev pub AreLockRows : List Named → Type 0
 AreLockRows rows = (name : Name) × (name.text.now ≡ codes "foobar") × (rows ≡ lock_rows name)
 
--- all of them
+-- all of them, in which the named child is called foobar (a name's value holds where its text stands, so it has no definition)
 abbrev pub IsTable : List Named → Type 0
 IsTable rows = (name : Name) × (name.text.now ≡ codes "foobar") × (rows ≡ first_rows ++ atomic_rows ++ cell_rows ++ lock_rows name)
