@@ -3,17 +3,42 @@ use Rattle.std.specs.Prelude.{ℕ, ◌≡◌, List, [], ◌∷◌, ◌++◌, Opt
 use Rattle.std.specs.Io.KnownBytes.{Appends}
 use Rattle.std.specs.List.{find}
 use Rattle.std.specs.Str.{bytes_eq}
+use Rattle.loom.specs.declared.model.Builder.{Builder}
 use Rattle.loom.specs.declared.model.Report.{Report}
+use Rattle.loom_scripts.specs.declared.step.Step.{Step}
 use Rattle.loom_row_bodies.specs.Line.{report_text, status_of}
+use Rattle.loom_row_bodies.specs.Names.{defaults}
 use Rattle.loom_row_bodies.specs.Rows.{ReportsScript}
+use Rattle.loom_row_bodies.specs.Scripts.First.{two_mutexes_deadlock}
+use Rattle.loom_bench.specs.Scripts.{store_buffering, locks_in_turn, writers_beside_a_reader, wait_and_notify, three_threads, three_adds, stores_apart, long_line, long_line_10000, acq_rel}
 use Rattle.loom_bench.specs.declared.bodies.Measured.{Measured}
 
--- the names of the program's list
-abbrev pub names : List (List ℕ)
-names =
-    codes "store_buffering" ∷ codes "locks_in_turn" ∷ codes "writers_beside_a_reader" ∷ codes "wait_and_notify"
-    ∷ codes "three_threads" ∷ codes "three_adds" ∷ codes "stores_apart" ∷ codes "long_line" ∷ codes "long_line_10000"
-    ∷ codes "locks_crosswise" ∷ codes "acq_rel" ∷ []
+-- a name, the steps that it means, and how they are checked
+pub record Named : Type 0 where
+  pub name : List ℕ
+  pub steps : List Step
+  pub builder : Builder
+
+abbrev pub named : Measured → Named
+named body = record { name = body.name.now; steps = body.steps.now; builder = body.builder }
+
+-- these steps, by the defaults
+abbrev pub plain : List ℕ → List Step → Named
+plain name steps = record { name = name; steps = steps; builder = defaults }
+
+-- the same, but a run may have 100,000 nodes
+abbrev pub long : List ℕ → List Step → Named
+long name steps = record { name = name; steps = steps; builder = record { max_threads = 5; max_branches = 100000; max_steps = 1000000 } }
+
+-- the table of the program
+abbrev pub table : List Named
+table =
+    plain (codes "store_buffering") store_buffering ∷ plain (codes "locks_in_turn") locks_in_turn ∷
+    plain (codes "writers_beside_a_reader") writers_beside_a_reader ∷ plain (codes "wait_and_notify") wait_and_notify ∷
+    plain (codes "three_threads") three_threads ∷ plain (codes "three_adds") three_adds ∷
+    plain (codes "stores_apart") stores_apart ∷ long (codes "long_line") long_line ∷
+    long (codes "long_line_10000") long_line_10000 ∷ plain (codes "locks_crosswise") two_mutexes_deadlock ∷
+    plain (codes "acq_rel") acq_rel ∷ []
 
 -- what a name means: the first body of the list that has it
 abbrev pub body_of : List Measured → List ℕ → Option Measured
@@ -33,4 +58,16 @@ PrintedBody bodies name old new status =
     (body : Measured) × (report : Report)
     × (body_of bodies name ≡ Some body)
     × ReportsScript body.steps.now body.builder report
+    × PrintedLine name report old new status
+
+-- what a name means by a table: the first of it that has the name
+abbrev pub named_by : List Named → List ℕ → Option Named
+named_by bodies name = find (λ body. bytes_eq body.name name) bodies
+
+-- the name means a body of the program's table, and what was written is of a check of this body, with its settings
+abbrev pub PrintedNamed : List ℕ → Option (List ℕ) → Option (List ℕ) → ℕ → Type 0
+PrintedNamed name old new status =
+    (body : Named) × (report : Report)
+    × (named_by table name ≡ Some body)
+    × ReportsScript body.steps body.builder report
     × PrintedLine name report old new status

@@ -1,6 +1,6 @@
 //! The bodies that are checked.
 ghost use Rattle.std.specs.Prelude.{◌≡◌, map, option_copied};
-ghost use Rattle.loom_bench.specs.Measures.{body_of, names};
+ghost use Rattle.loom_bench.specs.Measures.{body_of, named, table};
 
 use loom::model::Builder;
 use loom_objects::operation::{AtomicOp, CondvarOp, MutexOp, Op, RwLockOp, ThreadOp};
@@ -330,7 +330,7 @@ static BODIES: [Measured; 11] = [
 
 /// The bodies that are measured.
 pub fn all_bodies() -> &'static [Measured]
-    ensures { map (λ body. body.name.now) result.now ≡ names }
+    ensures { map named result.now ≡ table }
 {
     &BODIES
 }

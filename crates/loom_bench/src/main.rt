@@ -4,7 +4,7 @@
 ghost use Rattle.std.specs.Prelude.{◌≡◌, ◌⊎◌, ◌-◌, ◌*◌, ◌/◌, ◌^◌, IfOk, IfSome, min, max};
 ghost use Rattle.std.specs.Duration.{as_nanos};
 ghost use Rattle.loom_row_bodies.specs.Rows.{ReportsScript};
-ghost use Rattle.loom_bench.specs.Measures.{PrintedBody, PrintedLine};
+ghost use Rattle.loom_bench.specs.Measures.{PrintedBody, PrintedLine, PrintedNamed};
 
 mod bodies;
 
@@ -38,14 +38,25 @@ fn run(rt: &HostRuntime) -> io::Result<u8> {
     }
 }
 
-/// Checks each body of these names, and answers the highest exit status of `measure`.
+/// Checks each body of these names, and answers the highest of their exit statuses.
 fn measure_each(rt: &HostRuntime, names: &[&str]) -> io::Result<u8> {
-    let bodies = all_bodies();
     let mut status = 0;
     for name in names {
-        status = status.max(measure(rt, bodies, name, &mut rt.stdout(), &mut rt.stderr())?);
+        status = status.max(measure_named(rt, name, &mut rt.stdout(), &mut rt.stderr())?);
     }
     Ok(status)
+}
+
+/// Checks the body that the name means by the program's table, prints what `measure` does, and answers its exit status.
+fn measure_named<O: Write, E: Write>(
+    rt: &HostRuntime,
+    name: &str,
+    out: &mut O,
+    err: &mut E,
+) -> io::Result<u8>
+    ensures { IfOk result (λ status. (status ≡ 2) ⊎ PrintedNamed name.now (O.contents out.old) (O.contents out.new) status) }
+{
+    measure(rt, all_bodies(), name, out, err)
 }
 
 /// Checks the body of this name as often as it says, and prints what the last check finds, and on standard error how long all
