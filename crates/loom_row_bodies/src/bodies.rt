@@ -212,7 +212,7 @@ pub const CHECKS_FAIL: &[Step] = &[
     END,
 ];
 
-static ROWS: [Row; 13] = [
+static FIRST_ROWS: [Row; 13] = [
     row!("finish_only", FINISH_ONLY),
     row!("spawn_only", SPAWN_ONLY),
     row!("lock_beside", LOCK_BESIDE),
@@ -232,5 +232,5 @@ static ROWS: [Row; 13] = [
 pub fn rows() -> &'static [Row]
     ensures { map named result.now ≡ first_rows }
 {
-    &ROWS
+    &FIRST_ROWS
 }

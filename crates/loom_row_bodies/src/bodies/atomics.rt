@@ -245,7 +245,7 @@ const TWO_BY_TWO: Exchange = Exchange {
     failure: Relaxed,
 };
 
-static ROWS: [Row; 13] = [
+static ATOMIC_ROWS: [Row; 13] = [
     row!("u8_functions", U8_FUNCTIONS),
     row!("i8_functions", I8_FUNCTIONS),
     row!("bool_nand", BOOL_NAND),
@@ -269,5 +269,5 @@ static ROWS: [Row; 13] = [
 pub fn rows() -> &'static [Row]
     ensures { map named result.now ≡ atomic_rows }
 {
-    &ROWS
+    &ATOMIC_ROWS
 }

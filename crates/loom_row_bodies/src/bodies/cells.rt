@@ -402,7 +402,7 @@ pub const ARC_THEN_TRACK: &[Step] = &[
     END,
 ];
 
-static ROWS: [Row; 19] = [
+static CELL_ROWS: [Row; 19] = [
     row!("atomic_causality_success", ATOMIC_CAUSALITY_SUCCESS),
     row!("atomic_causality_fail", ATOMIC_CAUSALITY_FAIL),
     row!("unsafe_cell_race_mut_mut_1", UNSAFE_CELL_RACE_MUT_MUT_1),
@@ -431,5 +431,5 @@ static ROWS: [Row; 19] = [
 pub fn rows() -> &'static [Row]
     ensures { map named result.now ≡ cell_rows }
 {
-    &ROWS
+    &CELL_ROWS
 }

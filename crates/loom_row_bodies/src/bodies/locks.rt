@@ -261,7 +261,7 @@ pub const NAMED_CHILD: &[Step] = &[
 /// Main comes to code that is never to be reached.
 pub const UNREACHABLE: &[Step] = &[Step::Do(0, Op::Unreachable(None))];
 
-static ROWS: [Row; 19] = [
+static LOCK_ROWS: [Row; 19] = [
     row!("release_unlocked", RELEASE_UNLOCKED),
     row!("lock_while_out", LOCK_WHILE_OUT),
     row!("mutex_into_inner", MUTEX_INTO_INNER),
@@ -287,5 +287,5 @@ static ROWS: [Row; 19] = [
 pub fn rows() -> &'static [Row]
     ensures { AreLockRows (map named result.now) }
 {
-    &ROWS
+    &LOCK_ROWS
 }
