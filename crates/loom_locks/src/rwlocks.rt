@@ -63,6 +63,7 @@ pub fn claim<D: Data>(
 ) -> Result<Result<Reply<D>, FailureKind>, AllocError>
     ensures does { IfOk result (λ answer. Does (rules.claims claim number) scene.old answer scene.new) }
     ensures growth { OnErr result (Copies number (rules.claims claim number) scene.old) }
+    ensures reads { OnErr result (rules.is_reading claim ≡ true) }
 {
     match is_refused(scene, claim, number) {
         Err(kind) => Ok(Err(kind)),

@@ -1,6 +1,6 @@
 //! The tables of the machine: which effect an operation has when it begins, and which one what a thread has pending.
-ghost use Rattle.std.specs.Prelude.{◌≡◌, true, IfOk, OnErr};
-ghost use Rattle.loom_machine.specs.Copies.{TellsCopy};
+ghost use Rattle.std.specs.Prelude.{◌≡◌, slice_get, true, IfOk, OnErr};
+ghost use Rattle.loom_machine.specs.Copies.{TellsCopy, reads, reads_at};
 ghost use Rattle.loom_machine.specs.Replies.{replied_by, passed_by};
 ghost use Rattle.loom_objects.specs.Effects as rules;
 ghost use Rattle.loom_objects.specs.Scene.{Does, HasSlot, KeepsSlots};
@@ -72,6 +72,7 @@ pub(crate) fn go_on<D: Data>(
     ensures slot { IfOk result (λ answer. IfOk answer HasSlot) }
     ensures kept { (p : Points) → ShowsViews p scene.new.views → IfOk result (λ answer. IfOk answer (KeepsSlots p)) }
     ensures growth { OnErr result (TellsCopy (rules.chosen thread) scene.old) }
+    ensures reads { OnErr result (reads_at (slice_get scene.old.threads thread) ≡ true) }
 {
     match scene.choose(thread) {
         Ok(task) => take_effect(scene, task),
@@ -88,6 +89,7 @@ fn take_effect<D: Data>(
     ensures slot { IfOk result (λ answer. IfOk answer HasSlot) }
     ensures kept { (p : Points) → ShowsViews p scene.new.views → IfOk result (λ answer. IfOk answer (KeepsSlots p)) }
     ensures growth { OnErr result (TellsCopy (rules.takes_effect task) scene.old) }
+    ensures reads { OnErr result (reads task ≡ true) }
 {
     match task {
         Task::Start => Ok(gone(Ok(Passed::Turn(Turn::Start(scene.active()))))),

@@ -1,6 +1,6 @@
 //! The steps of a run. Here failures of effects, and memory that is refused, stop it.
-ghost use Rattle.std.specs.Prelude.{◌≡◌, ◌≢◌, Err, ◌+◌, true, IfOk, OnOk};
-ghost use Rattle.loom_machine.specs.Copies.{GivesCopy};
+ghost use Rattle.std.specs.Prelude.{◌≡◌, ◌≢◌, Err, ◌+◌, slice_get, true, IfOk, OnOk};
+ghost use Rattle.loom_machine.specs.Copies.{GivesCopy, reads_at};
 ghost use Rattle.loom_objects.specs.Effects as effects;
 ghost use Rattle.loom_objects.specs.Operation.{accessed};
 ghost use Rattle.loom_objects.specs.Scene.{HasSlot, KeepsAt};
@@ -42,6 +42,7 @@ pub fn resume<D: Data>(run: &mut RunState<D>, thread: u8) -> Result<Resumed<D>, 
     ensures slot { IfOk result HasSlot }
     ensures steps { run.new.steps_left ≡ run.old.steps_left }
     ensures growth { result ≡ Err Stop.Memory → (w : World D) → Shows w run.old → GivesCopy (rules.resumes thread w) }
+    ensures reads { result ≡ Err Stop.Memory → reads_at (slice_get run.old.scene.threads thread) ≡ true }
 {
     match go_on(&mut run.scene, thread) {
         Ok(answer) => answer.map_err(failed),

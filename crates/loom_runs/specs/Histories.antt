@@ -10,6 +10,7 @@ use Rattle.loom_objects.specs.declared.operation.Op.{Op}
 use Rattle.loom_objects.specs.declared.operation.Op.TheVariants as op
 use Rattle.loom_objects.specs.declared.operation.Reply.{Reply}
 use Rattle.loom_objects.specs.declared.operation.Reply.TheVariants.{Locked, Waited}
+use Rattle.loom_objects.specs.declared.operation.Reply.TheVariants as reply
 use Rattle.loom_objects.specs.declared.operation.Turn.{Turn}
 use Rattle.loom_objects.specs.declared.operation.Turn.TheVariants as turn
 use Rattle.loom_objects.specs.declared.rt.object.Object.{Object}
@@ -74,7 +75,27 @@ module _ {D : Type 0} where
   abbrev pub locked_by : Reply D → Option ℕ
   locked_by (Locked n value) = Some n
   locked_by (Waited n value timed_out) = Some n
-  locked_by _ = None
+  locked_by reply.Start = None
+  locked_by reply.Done = None
+  locked_by (reply.Atomic n) = None
+  locked_by (reply.Value number) = None
+  locked_by (reply.Exchanged read) = None
+  locked_by (reply.Data value) = None
+  locked_by (reply.Cell n) = None
+  locked_by (reply.Reading n value) = None
+  locked_by (reply.Writing n value) = None
+  locked_by (reply.Arc n) = None
+  locked_by reply.Shared = None
+  locked_by (reply.Track n) = None
+  locked_by (reply.Mutex n) = None
+  locked_by reply.WouldBlock = None
+  locked_by (reply.RwLock n) = None
+  locked_by (reply.ReadLocked n value) = None
+  locked_by (reply.WriteLocked n value) = None
+  locked_by (reply.Condvar n) = None
+  locked_by (reply.Notify n) = None
+  locked_by (reply.Thread t name) = None
+  locked_by (reply.Spawned t name n) = None
 
   abbrev pub locked_by_turn : Turn D → Option ℕ
   locked_by_turn (turn.Reply t reply) = locked_by reply
