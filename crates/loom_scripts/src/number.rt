@@ -11,6 +11,6 @@ impl Data for Number {
     fn try_clone(&self) -> Result<Number, AllocError>
         ensures { IfOk result (λ copy. copy ≡ self.now) }
     {
-        Ok(*self)
+        Ok(Number(self.0))
     }
 }

@@ -68,7 +68,7 @@ impl Numeric for u8 {
     }
 
     fn into_u64(self) -> u64 {
-        u64::from(self)
+        u16::from(self).into_u64()
     }
 
     fn from_u64(src: u64) -> u8 {
@@ -92,7 +92,7 @@ impl Numeric for u16 {
     }
 
     fn into_u64(self) -> u64 {
-        u64::from(self)
+        u32::from(self).into_u64()
     }
 
     fn from_u64(src: u64) -> u16 {
@@ -188,7 +188,7 @@ impl Numeric for i8 {
     }
 
     fn into_u64(self) -> u64 {
-        i64::from(self).cast_unsigned()
+        i16::from(self).into_u64()
     }
 
     fn from_u64(src: u64) -> i8 {
@@ -212,7 +212,7 @@ impl Numeric for i16 {
     }
 
     fn into_u64(self) -> u64 {
-        i64::from(self).cast_unsigned()
+        i32::from(self).into_u64()
     }
 
     fn from_u64(src: u64) -> i16 {
