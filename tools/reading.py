@@ -22,9 +22,9 @@ RULES = {
     f"loom_objects/specs/{name}.antt"
     for name in [
         "Atomics", "Cells", "Condvars", "Counts", "Effects", "Ending", "Leaks", "Lent", "Locks", "Lookup", "Moves",
-        "Notifiers", "Rule", "RwLocks", "Schedules", "Steps", "Threads", "Tracks", "Turns", "World",
+        "Notifiers", "Rule", "RwLocks", "Schedules", "Steps", "Threads", "Tracks", "Turns", "Uses", "World",
     ]
-}
+} | {"loom_dependence/specs/Depends.antt", "loom_views/specs/Graph.antt"}
 # how the code keeps the nodes of a path and the state of a run
 LAYOUT = {"Execution", "Load", "Node", "Path", "RunState", "Schedule", "Spurious", "Views"}
 

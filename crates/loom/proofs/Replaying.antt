@@ -8,7 +8,7 @@ use Rattle.loom_walks.specs.Walk.Path.{choices}
 use Rattle.loom_walks.specs.Trees.Outcomes.{outcome}
 use Rattle.loom_walks.specs.Trees.Marks.{marking}
 use Rattle.loom_walks.specs.Trees.Replay.{replayed}
-use Rattle.loom_engine.specs.Routes.{Route, at_rest, stored, trail, chosen, drives}
+use Rattle.loom_path.specs.Routes.{Route, at_rest, stored, trail, chosen, drives}
 use Rattle.loom_walks.specs.Trees.Meeting.{whole_search}
 use Rattle.loom_runs.specs.Trees.{IsRunTree}
 use Rattle.loom_walks.proofs.Trees.Marks.{marking_law}
@@ -17,7 +17,7 @@ use Rattle.loom.specs.Check.{IsReplay}
 use Rattle.loom.proofs.Walking.{take_all}
 
 pub replays : {D : Type 0} (max_branches : ℕ) (tree : Tree D) (given : List Choice) (path after : Route) (list : List Choice) (comes : Result D FailureKind) → IsRunTree tree
-    → path ≡ record (at_rest max_branches []) { given = given } → drives tree path ≡ (comes, trail after) → list ≡ chosen after
+    → path ≡ record (at_rest (whole_search max_branches) []) { given = given } → drives tree path ≡ (comes, trail after) → list ≡ chosen after
     → IsReplay max_branches tree given list comes
 replays max_branches tree given path after list comes sound is e same =
     let s = whole_search max_branches in

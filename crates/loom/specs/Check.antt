@@ -1,7 +1,9 @@
 -- What a check promises. The runs of a body are a tree: `runs` in `loom_runs/specs/Runs.antt` says which. A run is the list of
 -- the choices that it makes, and the machine of a tree says which node a run meets after which choices. What a report says of
--- these runs, and of those that the visitor was given, is `Reports`; what a replay does is `Replays`.
-use Rattle.std.specs.Prelude.{◌≡◌, ◌≢◌, ◌-◌, ◌^◌, ℕ, List, [], ◌∷◌, ◌++◌, Some, None, Result, Ok, Err, length, ◌↔◌}
+-- these runs, and of those that the visitor was given, is `Reports`; what a replay does is `Replays`. The settings say which runs
+-- are made: the one that takes defaults throughout, and with each run those that it calls for (`Reachable`, `marking`). A report
+-- says that just these are made. None says that reduction or a bound leaves no failure out.
+use Rattle.std.specs.Prelude.{◌≡◌, ◌≢◌, ◌≤◌, ℕ, false, List, [], ◌∷◌, ◌++◌, Some, None, Result, Ok, Err, length, ◌↔◌}
 use Rattle.loom_views.specs.declared.rt.failure.FailureKind.{FailureKind}
 use Rattle.loom_views.specs.declared.rt.failure.FailureKind.TheVariants.{NotDeterministic}
 use Rattle.loom_views.specs.Limits.{highest_count}
@@ -11,8 +13,8 @@ use Rattle.loom_walks.specs.Walk.Machine.{Machine, run}
 use Rattle.loom_walks.specs.Walk.Runs.{Reachable}
 use Rattle.loom_walks.specs.Walk.Lists.{IsWalkList, IsInOrder, IsAllowed}
 use Rattle.loom_walks.specs.Trees.Marks.{marking}
-use Rattle.loom_walks.specs.Trees.Meeting.{whole_search, machine_of}
-use Rattle.loom_walks.specs.Trees.Outcomes.{outcome, AreRuns, choices_made}
+use Rattle.loom_walks.specs.Trees.Meeting.{Settings, whole_search, count, machine_of}
+use Rattle.loom_walks.specs.Trees.Outcomes.{outcome, passed, AreRuns, choices_made}
 use Rattle.loom_walks.specs.Trees.Replay.{replayed}
 use Rattle.loom.specs.declared.model.Replay.{Replay}
 use Rattle.loom.specs.declared.model.Replay.TheVariants as replay
@@ -21,44 +23,51 @@ use Rattle.loom.specs.declared.model.Report.TheVariants.{Complete, Stopped, Fail
 
 -- ---- the runs
 
-module _ {D : Type 0} (max_branches : ℕ) (tree : Tree D) where
-  -- the machine of a body's runs, with at most so many nodes, each option of which is to be tried
+module _ {D : Type 0} (s : Settings) (tree : Tree D) where
+  -- the machine of a body's runs, searched by these settings
   abbrev pub machine : Machine
-  machine = machine_of (whole_search max_branches) (marking None) tree
+  machine = machine_of s (marking s.bound) tree
+
+  -- these are the reachable runs, all of them
+  pub record AreAllRuns (list : List (List Choice)) : Type 0 where
+    -- each stands there once, and those that share a beginning stand together
+    pub walk : IsWalkList (Reachable machine) list
+    -- without reduction they stand in order, bounded or not
+    pub in_order : s.reduce ≡ false → IsInOrder machine list
+    -- with neither reduction nor a bound they are what the tree can come to
+    pub every_run : s.reduce ≡ false → s.bound ≡ None
+        → (x : List Choice) → Reachable machine x ↔ ((o : Result D FailureKind) × (outcome s.max_branches tree x ≡ Some o))
+    -- under a bound none of them counts more preemptions at any of its nodes
+    pub within_bound : (bound : ℕ) → s.bound ≡ Some bound
+        → (x : List Choice) → Reachable machine x → (before rest : List Choice) → x ≡ before ++ rest → count (passed tree before) ≤ bound
 
   -- what is known of a check that is complete, with the choices and the value of each run
   pub record IsCompleteReport (runs : List (List Choice × D)) : Type 0 where
     -- each is a run, and comes to its value
-    pub are_runs : AreRuns max_branches tree runs
-    -- each reachable run was made, once, and the runs that share a beginning stand together
-    pub walk : IsWalkList (Reachable machine) (choices_made runs)
-    pub in_order : IsInOrder machine (choices_made runs)
-    pub none_fails : (x : List Choice) → Reachable machine x → (value : D) × (outcome max_branches tree x ≡ Some (Ok value))
-    -- what the tree can come to is reachable
-    pub every_run : (x : List Choice) → Reachable machine x ↔ ((o : Result D FailureKind) × (outcome max_branches tree x ≡ Some o))
+    pub are_runs : AreRuns s.max_branches tree runs
+    pub all_runs : AreAllRuns (choices_made runs)
+    pub none_fails : (x : List Choice) → Reachable machine x → (value : D) × (outcome s.max_branches tree x ≡ Some (Ok value))
 
   -- what is known of a check that was stopped before another run
   pub record IsStoppedReport (runs : List (List Choice × D)) : Type 0 where
-    pub are_runs : AreRuns max_branches tree runs
+    pub are_runs : AreRuns s.max_branches tree runs
     -- the reachable runs that it didn't make, of which there are some
     pub more : List (List Choice)
     pub unfinished : more ≢ []
-    pub walk : IsWalkList (Reachable machine) (choices_made runs ++ more)
-    pub in_order : IsInOrder machine (choices_made runs ++ more)
+    pub all_runs : AreAllRuns (choices_made runs ++ more)
 
   -- what is known of a check in which the run with these choices failed, after the others
   pub record IsFailedReport (runs : List (List Choice × D)) (failure : FailureKind) (failing : List Choice) : Type 0 where
-    pub are_runs : AreRuns max_branches tree runs
+    pub are_runs : AreRuns s.max_branches tree runs
     -- the reachable runs that it didn't make
     pub more : List (List Choice)
-    pub walk : IsWalkList (Reachable machine) (choices_made runs ++ failing ∷ more)
-    pub in_order : IsInOrder machine (choices_made runs ++ failing ∷ more)
+    pub all_runs : AreAllRuns (choices_made runs ++ failing ∷ more)
     pub reachable : Reachable machine failing
-    pub fails : outcome max_branches tree failing ≡ Some (Err failure)
+    pub fails : outcome s.max_branches tree failing ≡ Some (Err failure)
     -- it isn't that the body isn't deterministic
     pub own : failure ≢ NotDeterministic
     -- its choices lead to the failure again
-    pub replays : replayed max_branches tree failing ≡ (failing, Err failure)
+    pub replays : replayed s.max_branches tree failing ≡ (failing, Err failure)
 
 -- ---- the visitor
 
@@ -75,26 +84,26 @@ module _ {V D : Type 0} (takes : V → List Choice → D → V → Type 0) (old 
 
   -- ---- reports
 
-  module _ (max_branches : ℕ) (tree : Tree D) where
+  module _ (s : Settings) (tree : Tree D) where
     -- What a report says of the runs of a body, which are this tree, and of what the visitor was given.
     abbrev pub Reports : Report → Type 0
-    Reports (Complete count) = (runs : List (List Choice × D)) × WasGiven runs count × IsCompleteReport max_branches tree runs
-    Reports (Stopped count limit) = (runs : List (List Choice × D)) × WasGiven runs count × IsStoppedReport max_branches tree runs × (count ≡ highest_count)
-    Reports (Failed count failure choices) = (runs : List (List Choice × D)) × WasGiven runs count × IsFailedReport max_branches tree runs failure.kind choices.items
+    Reports (Complete count) = (runs : List (List Choice × D)) × WasGiven runs count × IsCompleteReport s tree runs
+    Reports (Stopped count limit) = (runs : List (List Choice × D)) × WasGiven runs count × IsStoppedReport s tree runs × (count ≡ highest_count)
+    Reports (Failed count failure choices) = (runs : List (List Choice × D)) × WasGiven runs count × IsFailedReport s tree runs failure.kind choices.items
 
 -- what a report says where nobody is given the runs
-abbrev pub ReportsAlone : {D : Type 0} → ℕ → Tree D → Report → Type 0
-ReportsAlone max_branches tree report = Reports {V = Unit {0}} (λ old choices value new. Unit {0}) tt tt max_branches tree report
+abbrev pub ReportsAlone : {D : Type 0} → Settings → Tree D → Report → Type 0
+ReportsAlone s tree report = Reports {V = Unit {0}} (λ old choices value new. Unit {0}) tt tt s tree report
 
 -- ---- replays
 
 module _ {D : Type 0} (max_branches : ℕ) (tree : Tree D) (given : List Choice) where
   -- The run that takes the given choices and then defaults made these choices, and came to this. Where each given choice
-  -- is an option where it comes, it is the machine's run after them.
+  -- is an option where it comes, it is the machine's run after them. That doesn't rest on what a search tries.
   pub record IsReplay (made : List Choice) (comes : Result D FailureKind) : Type 0 where
     pub replayed : replayed max_branches tree given ≡ (made, comes)
-    pub allowed : IsAllowed (machine max_branches tree) given
-        → (made ≡ run (machine max_branches tree) given) × (outcome max_branches tree made ≡ Some comes)
+    pub allowed : IsAllowed (machine (whole_search max_branches) tree) given
+        → (made ≡ run (machine (whole_search max_branches) tree) given) × (outcome max_branches tree made ≡ Some comes)
 
   abbrev pub Replays : Replay D → Type 0
   Replays (replay.Ended choices value) = IsReplay choices.items (Ok value)

@@ -8,13 +8,12 @@ use Rattle.loom_objects.specs.declared.operation.Reply.{Reply}
 use Rattle.loom_objects.specs.declared.operation.Reply.TheVariants as reply
 use Rattle.loom_objects.specs.declared.operation.Turn.{Turn}
 use Rattle.loom_objects.specs.declared.operation.Turn.TheVariants as turn
-use Rattle.loom_objects.specs.declared.rt.run.RunState.{RunState}
 use Rattle.loom_objects.specs.Operation.{plain, started}
 use Rattle.loom_objects.specs.Tree.{Tree}
-use Rattle.loom_objects.specs.World.{World}
-use Rattle.loom_objects.specs.Shown.{Shows}
-use Rattle.loom_engine.specs.Execution.{MayBeRefused}
-use Rattle.loom_engine.specs.Routes.{Route, trail, drives}
+use Rattle.loom_engine.specs.declared.rt.execution.Progress.{Progress}
+use Rattle.loom_engine.specs.Execution.{ShowsCourse, MayBeRefused}
+use Rattle.loom_path.specs.Routes.{Route, trail, drives}
+use Rattle.loom_runs.specs.Courses.{Course}
 use Rattle.loom_runs.specs.Runs.{Meaning, play}
 use Rattle.loom_walks.specs.Trees.Drive.{Trail}
 use Rattle.loom.specs.declared.model.Ending.{Ending}
@@ -30,15 +29,15 @@ RunsAlong tree old (Ended value) new = drives tree old ≡ (Ok value, trail new)
 RunsAlong tree old (Failed failure) new = drives tree old ≡ (Err failure.kind, trail new)
 
 module _ {D S : Type 0} (next : Meaning D S) (outcome : Outcome D) where
-  -- A run under way whose outcome this will be: the thread is to be told the reply, and from a state of the machine that
-  -- the code's state shows, what is left of the run comes to the outcome along the path.
-  pub record IsUnderWay (bodies : List S) (run : RunState D) (path : Route) (thread : ℕ) (answer : Reply D) : Type 0 where
-    pub world : World D
-    pub shown : Shows world run
-    pub left : drives (play next (suc world.steps_left) bodies world thread answer) path ≡ outcome
+  -- A run under way whose outcome this will be: the thread is to be told the reply, and from a course that the code's run
+  -- shows along the path, what is left of the run comes to the outcome.
+  pub record IsUnderWay (bodies : List S) (run : Progress D) (path : Route) (thread : ℕ) (answer : Reply D) : Type 0 where
+    pub course : Course D
+    pub shown : ShowsCourse course run path
+    pub left : drives (play next (suc course.world.steps_left) bodies course thread answer) path ≡ outcome
 
   -- the next turn of such a run
-  abbrev pub ComesToTurn : Result (Turn D) Stop → List S → RunState D → Route → Type 0
+  abbrev pub ComesToTurn : Result (Turn D) Stop → List S → Progress D → Route → Type 0
   ComesToTurn (Ok (turn.Reply thread answer)) bodies run path = IsUnderWay bodies run path thread answer
   ComesToTurn (Ok (turn.Start thread)) bodies run path = IsUnderWay bodies run path thread reply.Start
   ComesToTurn (Ok (turn.Ended value)) bodies run path = outcome ≡ (Ok value, trail path)
@@ -46,5 +45,5 @@ module _ {D S : Type 0} (next : Meaning D S) (outcome : Outcome D) where
   ComesToTurn (Err Memory) bodies run path = Unit {0}
 
 -- memory may be refused at an operation that a body hands over: the event needs it, or what it starts is a body more
-abbrev pub MayBeRefusedBy : {D S : Type 0} → Op D S → RunState D → Route → Type 0
+abbrev pub MayBeRefusedBy : {D S : Type 0} → Op D S → Progress D → Route → Type 0
 MayBeRefusedBy op run path = MayBeRefused (plain op) run path ⊎ (started op ≢ None)

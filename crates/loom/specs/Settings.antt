@@ -1,17 +1,28 @@
--- Which settings a check takes.
-use Rattle.std.specs.Prelude.{◌||◌, ⊤, Result, Ok, Err, cond, nat_lt}
+-- Which settings a check takes, and which search they make.
+use Rattle.std.specs.Prelude.{ℕ, ◌||◌, ⊤, Bool, true, false, Option, Some, None, Result, Ok, Err, cond, nat_lt}
+use Rattle.loom_walks.specs.Trees.Meeting.{Settings}
 use Rattle.loom.specs.declared.error.CheckError.{CheckError}
-use Rattle.loom.specs.declared.error.CheckError.TheVariants.{MaxThreads, MaxBranches, MaxSteps}
+use Rattle.loom.specs.declared.error.CheckError.TheVariants.{MaxThreads, MaxBranches, PreemptionBound, MaxSteps}
 use Rattle.loom.specs.declared.model.Builder.{Builder}
+
+-- a bound on preemptions is 255 at most
+abbrev pub is_above : Option ℕ → Bool
+is_above None = false
+is_above (Some bound) = nat_lt 255 bound
 
 -- the first setting that is out of range is refused
 abbrev pub tested : Builder → Result ⊤ CheckError
 tested b =
     cond (nat_lt b.max_threads 1 || nat_lt 5 b.max_threads) (Err MaxThreads)
     (cond (nat_lt b.max_branches 1 || nat_lt 1000000 b.max_branches) (Err MaxBranches)
+    (cond (is_above b.preemption_bound) (Err PreemptionBound)
     (cond (nat_lt b.max_steps 1) (Err MaxSteps)
-    (Ok tt)))
+    (Ok tt))))
+
+-- the search that a builder asks for
+abbrev pub search_of : Builder → Settings
+search_of b = record { reduce = b.reduce; bound = b.preemption_bound; max_branches = b.max_branches }
 
 -- the settings that a builder begins with
 abbrev pub defaults : Builder
-defaults = record { max_threads = 5; max_branches = 1000; max_steps = 1000000 }
+defaults = record { max_threads = 5; max_branches = 1000; max_steps = 1000000; reduce = true; preemption_bound = None }

@@ -1,5 +1,5 @@
-//! Loom explores the interleavings of concurrent code: a body is run once for each choice of the scheduled thread, and
-//! what a complete check has made is a stated set of runs.
+//! Loom explores the interleavings of concurrent code: a body is run once for each choice of the scheduled thread that the
+//! search tries, and what a complete check has made is a stated set of runs.
 #![tactic(auto)]
 
 pub mod error;
@@ -18,6 +18,8 @@ pub use loom_views::rt::failure::FailureKind;
 
 /// The parts of a run, public for their contracts' sake.
 pub mod rt {
-    pub use loom_engine::rt::{execution, node, path};
+    pub use loom_dependence::rt::dependence;
+    pub use loom_engine::rt::execution;
     pub use loom_objects::rt::{location, run};
+    pub use loom_path::rt::{node, path};
 }

@@ -1,21 +1,21 @@
-ghost use Rattle.std.specs.Prelude.{List, ◌≡◌, ◌≢◌, ◌<◌, ◌≤◌, ◌+◌, ◌⊎◌, None, Some, Err, OnOk, OnErr, IfOk, IfErr, slice_get, vec_len};
+ghost use Rattle.std.specs.Prelude.{List, ◌≡◌, ◌≢◌, ◌<◌, ◌≤◌, ◌+◌, ◌⊎◌, None, Some, Err, OnOk, OnErr, IfOk, IfErr, IfSome, IsFalse, slice_get, vec_len};
 ghost use Rattle.loom_engine.specs.Execution.{Along, MayBeRefused, over_after};
-ghost use Rattle.loom_engine.specs.Routes.{chosen};
+ghost use Rattle.loom_path.specs.Routes.{chosen, settings};
 ghost use Rattle.loom_objects.specs.declared.choice.Choice.{Choice};
 ghost use Rattle.loom_runs.specs.Machine as machine;
 ghost use Rattle.loom_runs.specs.Runs.{runs as runs_of, with_child};
 ghost use Rattle.loom.specs.Check.{Reports, ReportsAlone, Replays};
 ghost use Rattle.loom.specs.Ending.{Outcome, RunsAlong, IsUnderWay, ComesToTurn, MayBeRefusedBy};
-ghost use Rattle.loom.specs.Settings.{defaults, tested};
+ghost use Rattle.loom.specs.Settings.{defaults, is_above, search_of, tested};
 
 use crate::error::CheckError;
 use crate::visitor::Visitor;
 use loom_engine::rt::execution::{Execution, Limits};
-use loom_engine::rt::path::Path;
 use loom_objects::body::Body;
 use loom_objects::choice::Choice;
 use loom_objects::failure::{Failure, Stop, failed};
 use loom_objects::operation::{Op, Reply, Turn};
+use loom_path::rt::path::{Path, Search};
 use loom_views::rt::failure::FailureKind;
 use std::alloc::{AllocError, Global};
 
@@ -28,6 +28,12 @@ pub struct Builder {
     pub max_branches: usize,
     /// How many operations the threads of a run may hand over: at least 1.
     pub max_steps: usize,
+    /// Whether another thread is tried at a schedule only where an access of the run calls for it, and not each that can go
+    /// on (own: loom's search is always reduced).
+    pub reduce: bool,
+    /// How many times a run of a check may leave a thread that could have gone on, if that is bounded: 0 to 255. No replay
+    /// is bounded.
+    pub preemption_bound: Option<usize>,
 }
 
 /// What a check found. `runs` counts the runs that ended without a failure.
@@ -122,7 +128,7 @@ impl Default for Builder {
 }
 
 impl Builder {
-    /// The defaults: 5 threads, 1,000 branch points and 1,000,000 operations.
+    /// The defaults: 5 threads, 1,000 branch points and 1,000,000 operations, in a reduced search without a bound.
     pub fn new() -> Builder
         ensures { result ≡ defaults }
     {
@@ -130,6 +136,8 @@ impl Builder {
             max_threads: 5,
             max_branches: 1000,
             max_steps: 1_000_000,
+            reduce: true,
+            preemption_bound: None,
         }
     }
 
@@ -138,6 +146,8 @@ impl Builder {
         ensures tested { result ≡ tested self.now }
         ensures some { OnOk result (1 ≤ self.now.max_threads) }
         ensures few { OnOk result (self.now.max_threads ≤ 5) }
+        ensures branches { OnOk result (self.now.max_branches ≤ 1000000) }
+        ensures bound { OnOk result (IfSome self.now.preemption_bound (λ bound. bound ≤ 255)) }
     {
         if self.max_threads < 1 || self.max_threads > 5 {
             return Err(CheckError::MaxThreads);
@@ -145,15 +155,35 @@ impl Builder {
         if self.max_branches < 1 || self.max_branches > 1_000_000 {
             return Err(CheckError::MaxBranches);
         }
+        if is_too_high(self.preemption_bound) {
+            return Err(CheckError::PreemptionBound);
+        }
         if self.max_steps < 1 {
             return Err(CheckError::MaxSteps);
         }
         Ok(())
     }
 
+    // The search along the path of a check.
+    fn path_search(&self) -> Search
+        requires branches { self.now.max_branches ≤ 1000000 }
+        requires bound { IfSome self.now.preemption_bound (λ bound. bound ≤ 255) }
+        ensures { settings result ≡ search_of self.now }
+    {
+        let bound = match self.preemption_bound {
+            Some(bound) => Some(bound as u8),
+            None => None,
+        };
+        Search {
+            reduce: self.reduce,
+            bound,
+            max_branches: self.max_branches as u32,
+        }
+    }
+
     /// A check in which nobody is given the runs. Errors are those of `check_with`.
     pub fn check<B: Body>(&self, alloc: Global, body: &B) -> Result<Report, CheckError>
-        ensures reports { IfOk result (ReportsAlone self.now.max_branches (runs_of B.next self.now.max_threads self.now.max_steps body.now)) }
+        ensures reports { IfOk result (ReportsAlone (search_of self.now) (runs_of B.next self.now.max_threads self.now.max_steps body.now)) }
         ensures refused { IfErr (tested self.now) (λ e. result ≡ Err e) }
         ensures errors { IfErr result (λ e. (e ≡ CheckError.Memory) ⊎ (tested self.now ≡ Err e)) }
     {
@@ -163,8 +193,8 @@ impl Builder {
         report
     }
 
-    /// Makes one run of the body after another, until no choice is left to try or a run fails, and gives each that ended
-    /// without a failure to the visitor. A setting out of range is refused before any run, the first one first; besides
+    /// Makes one run of the body after another, until nothing is left that the search tries or a run fails, and gives each
+    /// that ended without a failure to the visitor. A setting out of range is refused before any run, the first one first; besides
     /// that an error comes only where a growth was refused, in the check, the body or the visitor.
     pub fn check_with<B: Body, V: Visitor<B::Data>>(
         &self,
@@ -172,7 +202,7 @@ impl Builder {
         body: &B,
         visitor: &mut V,
     ) -> Result<Report, CheckError>
-        ensures reports { IfOk result (Reports V.takes visitor.old visitor.new self.now.max_branches (runs_of B.next self.now.max_threads self.now.max_steps body.now)) }
+        ensures reports { IfOk result (Reports V.takes visitor.old visitor.new (search_of self.now) (runs_of B.next self.now.max_threads self.now.max_steps body.now)) }
         ensures refused { IfErr (tested self.now) (λ e. (result ≡ Err e) × (visitor.new ≡ visitor.old)) }
         ensures errors { IfErr result (λ e. (e ≡ CheckError.Memory) ⊎ (tested self.now ≡ Err e)) }
     {
@@ -186,12 +216,12 @@ impl Builder {
         body: &B,
         receiver: &mut R,
     ) -> Result<Report, CheckError>
-        ensures reports { IfOk result (Reports R.receives receiver.old receiver.new self.now.max_branches (runs_of B.next self.now.max_threads self.now.max_steps body.now)) }
+        ensures reports { IfOk result (Reports R.receives receiver.old receiver.new (search_of self.now) (runs_of B.next self.now.max_threads self.now.max_steps body.now)) }
         ensures refused { IfErr (tested self.now) (λ e. (result ≡ Err e) × (receiver.new ≡ receiver.old)) }
         ensures errors { IfErr result (λ e. (e ≡ CheckError.Memory) ⊎ (tested self.now ≡ Err e)) }
     {
         self.test()?;
-        let mut path = Path::new(alloc, self.max_branches);
+        let mut path = Path::new(alloc, self.path_search());
         let mut runs = 0u64;
         while runs < u64::MAX {
             match self.run(alloc, body, &mut path)? {
@@ -232,7 +262,7 @@ impl Builder {
         ensures errors { IfErr result (λ e. (e ≡ CheckError.Memory) ⊎ (tested self.now ≡ Err e)) }
     {
         self.test()?;
-        let mut path = Path::following(alloc, self.max_branches, choices)?;
+        let mut path = Path::following(alloc, self.max_branches as u32, choices)?;
         let ending = self.run(alloc, body, &mut path)?;
         let choices = path.choices(alloc)?;
         match ending {
@@ -241,7 +271,7 @@ impl Builder {
         }
     }
 
-    // One run along the path.
+    // One run along the path, from its start.
     fn run<B: Body>(
         &self,
         alloc: Global,
@@ -250,8 +280,9 @@ impl Builder {
     ) -> Result<Ending<B::Data>, AllocError>
         requires some { 1 ≤ self.now.max_threads }
         requires few { self.now.max_threads ≤ 5 }
+        requires starts { path.old.position ≡ 0 }
         ensures along { IfOk result (λ ending. RunsAlong (runs_of B.next self.now.max_threads self.now.max_steps body.now) path.old ending path.new) }
-        ensures same { path.new.max_branches ≡ path.old.max_branches }
+        ensures same { path.new.search ≡ path.old.search }
     {
         let limits = Limits {
             max_threads: self.max_threads,
@@ -296,10 +327,10 @@ fn hand_over<B: Body>(
     ensures turn { (outcome : Outcome B.Data) → IsUnderWay B.next outcome bodies.old.items execution.old.run path.old thread reply
         → IfOk result (λ answer. ComesToTurn B.next outcome answer bodies.new.items execution.new.run path.new) }
     ensures over { IfOk result (λ answer. OnOk answer (execution.new.over ≡ over_after answer)) }
-    ensures steps { IfOk result (λ answer. OnOk answer (execution.old.run.steps_left ≡ execution.new.run.steps_left + 1)) }
+    ensures steps { IfOk result (λ answer. OnOk answer (execution.old.run.state.steps_left ≡ execution.new.run.state.steps_left + 1)) }
     ensures growth { IfOk result (λ answer. answer ≡ Err Stop.Memory → (body : B) → slice_get bodies.old.items thread ≡ Some body
         → MayBeRefusedBy (B.next body reply).1 execution.old.run path.old) }
-    ensures same { path.new.max_branches ≡ path.old.max_branches }
+    ensures same { path.new.search ≡ path.old.search }
 {
     if thread >= bodies.len() {
         return Ok(Err(failed(FailureKind::Misuse)));
@@ -321,14 +352,25 @@ fn submit<B: Body>(
     ensures event { Along (machine.submit op) execution.old.run path.old result execution.new.run path.new }
     ensures child { OnOk result (bodies.new.items ≡ with_child bodies.old.items started) }
     ensures over { OnOk result (execution.new.over ≡ over_after result) }
-    ensures steps { OnOk result (execution.old.run.steps_left ≡ execution.new.run.steps_left + 1) }
+    ensures steps { OnOk result (execution.old.run.state.steps_left ≡ execution.new.run.state.steps_left + 1) }
     ensures growth { result ≡ Err Stop.Memory → (MayBeRefused op execution.old.run path.old) ⊎ (started ≢ None) }
-    ensures same { path.new.max_branches ≡ path.old.max_branches }
+    ensures same { path.new.search ≡ path.old.search }
 {
     let turn = execution.submit(path, op)?;
     match add_child(bodies, started) {
         Ok(()) => Ok(turn),
         Err(_) => Err(Stop::Memory),
+    }
+}
+
+/// Whether the bound, if there is one, is above 255.
+fn is_too_high(bound: Option<usize>) -> bool
+    ensures above { result ≡ is_above bound }
+    ensures within { IsFalse result → IfSome bound (λ most. most ≤ 255) }
+{
+    match bound {
+        Some(bound) => bound > 255,
+        None => false,
     }
 }
 
@@ -345,7 +387,7 @@ fn add_child<B: Drop>(bodies: &mut Vec<B>, started: Option<B>) -> Result<(), All
 
 /// A check with the defaults (loom's `model`).
 pub fn model<B: Body>(alloc: Global, body: &B) -> Result<Report, CheckError>
-    ensures reports { IfOk result (ReportsAlone 1000 (runs_of B.next 5 1000000 body.now)) }
+    ensures reports { IfOk result (ReportsAlone (search_of defaults) (runs_of B.next 5 1000000 body.now)) }
     ensures errors { IfErr result (λ e. e ≡ CheckError.Memory) }
 {
     Builder::new().check(alloc, body)

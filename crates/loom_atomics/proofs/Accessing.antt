@@ -17,7 +17,7 @@ use Rattle.loom_objects.specs.declared.rt.sync.Atomic.{Atomic}
 use Rattle.loom_objects.specs.declared.rt.run.Resumed.TheVariants as resumed
 use Rattle.loom_objects.specs.Atomics.{access_begins, atomic_begins, exchanges, opens, some_slot}
 use Rattle.loom_objects.specs.Moves.{an_atomic, with_points}
-use Rattle.loom_objects.specs.Operation.{accessed}
+use Rattle.loom_objects.specs.Accessed.{accessed}
 use Rattle.loom_objects.specs.Rule.{◌>>=◌}
 use Rattle.loom_objects.specs.Scene.{Stage, world_of, Comes, DoesAt, KeepsAt}
 use Rattle.loom_objects.specs.World.{World}

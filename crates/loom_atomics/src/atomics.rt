@@ -1,6 +1,6 @@
 ghost use Rattle.std.specs.Prelude.{◌≡◌, IfOk, OnErr, Some, true};
 ghost use Rattle.loom_objects.specs.Atomics as rules;
-ghost use Rattle.loom_objects.specs.Operation.{accessed};
+ghost use Rattle.loom_objects.specs.Accessed.{accessed};
 ghost use Rattle.loom_objects.specs.Scene.{Does, DoesAt, DoesIfOk, HasSlot, KeepsSlots};
 ghost use Rattle.loom_views.specs.Table.{Points, ShowsViews};
 

@@ -2,10 +2,10 @@
 use Rattle.std.proofs.Common.{ℕ, ◌≡◌, List, [], ◌∷◌, Bool, true, false, map, refl, ap, sym, ◌∙◌, ◌⊎◌, ⊎_elim, inl, inr, cond}
 use Rattle.std.specs.Option.{option_map}
 use Rattle.std.specs.Prelude.{Option, Some, Result, Ok, Err, IfOk}
-use Rattle.std.specs.List.{find}
 use Rattle.std.specs.Str.{bytes_eq}
 use Rattle.loom_bench.specs.declared.bodies.Measured.{Measured}
-use Rattle.loom_bench.specs.Measures.{Named, named, table, named_by, body_of, PrintedBody, PrintedNamed}
+use Rattle.loom_bench.specs.Measures.{named_by, body_of, PrintedBody, PrintedNamed}
+use Rattle.loom_bench.specs.Table.{Named, named, all}
 
 -- what is chosen of two
 chosen : (b : Bool) (first : Measured) (other : Option Named) (later : Option Measured) → other ≡ option_map named later
@@ -20,12 +20,12 @@ found (first ∷ bodies) name = chosen (bytes_eq first.name.now name) first (nam
 
 -- what was printed of a body was printed by the table
 printed_by : (bodies : List Measured) (name : List ℕ) (old new : Option (List ℕ)) (status : ℕ)
-    → map named bodies ≡ table → PrintedBody bodies name old new status → PrintedNamed name old new status
+    → map named bodies ≡ all → PrintedBody bodies name old new status → PrintedNamed name old new status
 printed_by bodies name old new status t (body, report, m, r, p) =
     (named body, report, ap (λ rows. named_by rows name) (sym t) ∙ found bodies name ∙ ap (option_map named) m, r, p)
 
 -- the same where the status may be 2
-pub printed_or_not : {E : Type 0} (bodies : List Measured) (name : List ℕ) (old new : Option (List ℕ)) (answer : Result ℕ E) → map named bodies ≡ table
+pub printed_or_not : {E : Type 0} (bodies items : List Measured) (name : List ℕ) (old new : Option (List ℕ)) (answer : Result ℕ E) → bodies ≡ items → map named items ≡ all
     → IfOk answer (λ status. (status ≡ 2) ⊎ PrintedBody bodies name old new status) → IfOk answer (λ status. (status ≡ 2) ⊎ PrintedNamed name old new status)
-printed_or_not bodies name old new (Ok status) t p = ⊎_elim inl (λ q. inr (printed_by bodies name old new status t q)) p
-printed_or_not bodies name old new (Err e) t p = p
+printed_or_not bodies items name old new (Ok status) e t p = ⊎_elim inl (λ q. inr (printed_by bodies name old new status (ap (map named) e ∙ t) q)) p
+printed_or_not bodies items name old new (Err r) e t p = p

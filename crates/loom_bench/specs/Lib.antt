@@ -1,2 +1,3 @@
-pub mod Scripts
 pub mod Measures
+pub mod Scripts
+pub mod Table

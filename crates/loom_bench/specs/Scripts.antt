@@ -1,7 +1,6 @@
 -- The scripts of the program's bodies.
 use Rattle.std.specs.Prelude.{List, [], ◌∷◌, None}
-use Rattle.std.specs.declared.sync.atomic.Ordering.TheVariants.{Relaxed, Release, Acquire}
-use Rattle.loom_views.specs.declared.rt.change.Change.TheVariants as change
+use Rattle.std.specs.declared.sync.atomic.Ordering.TheVariants.{Relaxed}
 use Rattle.loom_views.specs.declared.rt.num.Numbers.TheVariants as numbers
 use Rattle.loom_objects.specs.declared.operation.AtomicOp.TheVariants as atomic
 use Rattle.loom_objects.specs.declared.operation.CondvarOp.TheVariants as condvar
@@ -49,16 +48,6 @@ three_threads =
     Do 0 (op.Atomic (atomic.Store 1 2 Relaxed) None) ∷ Jump 19 ∷ Do 0 (op.Atomic (atomic.Load 0 Relaxed) None) ∷
     Do 1 (op.Atomic (atomic.Load 0 Relaxed) None) ∷ Do 0 (op.Atomic (atomic.Store 2 1 Relaxed) None) ∷
     Do 0 (op.Atomic (atomic.Store 2 2 Relaxed) None) ∷ finish ∷ exit ∷ end ∷ []
-
--- Three threads, of which each adds to one atomic twice. Main is one of them, and joins the others.
-abbrev pub three_adds : List Step
-three_adds =
-    Do 0 (op.Atomic (atomic.New numbers.U64 0) None) ∷ Do 1 (op.Thread (threads.Spawn 8 None) None) ∷
-    Do 2 (op.Thread (threads.Spawn 8 None) None) ∷ Do 0 (op.Atomic (atomic.Update 0 (change.Add 1) Relaxed) None) ∷
-    Do 0 (op.Atomic (atomic.Update 0 (change.Add 1) Relaxed) None) ∷ Do 0 (op.Thread (threads.Join 1 1) None) ∷
-    Do 0 (op.Thread (threads.Join 2 2) None) ∷ Jump 10 ∷
-    Do 0 (op.Atomic (atomic.Update 0 (change.Add 1) Relaxed) None) ∷
-    Do 0 (op.Atomic (atomic.Update 0 (change.Add 1) Relaxed) None) ∷ finish ∷ exit ∷ end ∷ []
 
 -- Three threads store to an atomic each: main five times, and the others three times. Main joins them.
 abbrev pub stores_apart : List Step
@@ -110,18 +99,11 @@ long_line_10000 =
     Do 0 (op.Atomic (atomic.New numbers.U64 0) None) ∷ Store 0 (Next 0) Relaxed ∷
     Do 0 (op.Atomic (atomic.Load 0 Relaxed) None) ∷ Unless 0 5000 1 ∷ finish ∷ exit ∷ end ∷ []
 
--- One thread stores to one flag, and another thread to another. Two threads each wait for one of the flags, one for the one
--- and one for the other, and then finish with what they load from the other flag. Main stores to the first flag, joins the
--- two, and finishes with ten times what the one loaded and what the other loaded (`acq_rel` of loom's `tests/spec.rs`).
-abbrev pub acq_rel : List Step
-acq_rel =
-    Do 0 (op.Atomic (atomic.New numbers.Bool 0) None) ∷ Do 1 (op.Atomic (atomic.New numbers.Bool 0) None) ∷
-    Do 2 (op.Thread (threads.Spawn 11 None) None) ∷ Do 3 (op.Thread (threads.Spawn 15 None) None) ∷
-    Do 4 (op.Thread (threads.Spawn 22 None) None) ∷ Do 0 (op.Atomic (atomic.Store 0 1 Release) None) ∷
-    Do 0 (op.Thread (threads.Join 3 3) None) ∷ Do 1 (op.Thread (threads.Join 4 4) None) ∷
-    Do 0 (op.Thread (threads.Finish (Both 0 1)) None) ∷ exit ∷ end ∷
-    Do 0 (op.Atomic (atomic.Store 1 1 Release) None) ∷ finish ∷ exit ∷ end ∷
-    Do 0 (op.Atomic (atomic.Load 0 Acquire) None) ∷ Unless 0 1 20 ∷ Do 1 (op.Atomic (atomic.Load 1 Acquire) None) ∷
-    Do 0 (op.Thread (threads.Finish (Held 1)) None) ∷ Jump 9 ∷ yield ∷ Jump 15 ∷
-    Do 0 (op.Atomic (atomic.Load 1 Acquire) None) ∷ Unless 0 1 27 ∷ Do 1 (op.Atomic (atomic.Load 0 Acquire) None) ∷
-    Do 0 (op.Thread (threads.Finish (Held 1)) None) ∷ Jump 9 ∷ yield ∷ Jump 22 ∷ []
+-- Main locks a mutex 1,001 times, beside a thread that waits for it since the first time. It counts that in the mutex.
+abbrev pub long_turn : List Step
+long_turn =
+    Do 0 (op.Mutex (mutex.New (Plain 0)) None) ∷ Do 0 (op.Mutex (mutex.Lock 0) None) ∷
+    Do 1 (op.Thread (threads.Spawn 11 None) None) ∷ yield ∷ Do 0 (op.Mutex (mutex.Release 0 (Next 0)) None) ∷
+    Do 0 (op.Mutex (mutex.Lock 0) None) ∷ Do 0 (op.Mutex (mutex.Release 0 (Next 0)) None) ∷ Unless 0 1000 5 ∷
+    finish ∷ exit ∷ end ∷ Do 0 (op.Mutex (mutex.Lock 0) None) ∷ Do 0 (op.Mutex (mutex.Release 0 (Held 0)) None) ∷
+    Jump 8 ∷ []

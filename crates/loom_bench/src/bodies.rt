@@ -1,14 +1,17 @@
 //! The bodies that are checked.
-ghost use Rattle.std.specs.Prelude.{◌≡◌, map, option_copied};
-ghost use Rattle.loom_bench.specs.Measures.{body_of, named, table};
+ghost use Rattle.std.specs.Prelude.{◌≡◌, IfOk, map, option_copied};
+ghost use Rattle.loom_bench.specs.Measures.{body_of};
+ghost use Rattle.loom_bench.specs.Table as table;
+ghost use Rattle.loom_bench.specs.Table.{named};
 
 use loom::model::Builder;
 use loom_objects::operation::{AtomicOp, CondvarOp, MutexOp, Op, RwLockOp, ThreadOp};
 use loom_row_bodies::bodies::TWO_MUTEXES_DEADLOCK;
-use loom_row_bodies::rows::DEFAULTS;
+use loom_row_bodies::bodies::atomics::{ACQ_REL, THREE_ADDS};
+use loom_row_bodies::rows::{DEFAULTS, LONG_RUNS, WHOLE};
 use loom_scripts::step::{END, EXIT, Step, Value, YIELD};
-use loom_views::rt::change::Change;
 use loom_views::rt::num::Numbers;
+use std::alloc::{AllocError, Global};
 use std::sync::atomic::Ordering;
 
 const FINISH: Step = Step::Do(0, Op::Thread(ThreadOp::Finish(Value::Plain(0)), None));
@@ -74,35 +77,6 @@ const THREE_THREADS: &[Step] = &[
     Step::Do(
         0,
         Op::Atomic(AtomicOp::Store(2, 2, Ordering::Relaxed), None),
-    ),
-    FINISH,
-    EXIT,
-    END,
-];
-
-/// Three threads, of which each adds to one atomic twice. Main is one of them, and joins the others.
-const THREE_ADDS: &[Step] = &[
-    Step::Do(0, Op::Atomic(AtomicOp::New(Numbers::U64, 0), None)),
-    Step::Do(1, Op::Thread(ThreadOp::Spawn(8, None), None)),
-    Step::Do(2, Op::Thread(ThreadOp::Spawn(8, None), None)),
-    Step::Do(
-        0,
-        Op::Atomic(AtomicOp::Update(0, Change::Add(1), Ordering::Relaxed), None),
-    ),
-    Step::Do(
-        0,
-        Op::Atomic(AtomicOp::Update(0, Change::Add(1), Ordering::Relaxed), None),
-    ),
-    Step::Do(0, Op::Thread(ThreadOp::Join(1, 1), None)),
-    Step::Do(0, Op::Thread(ThreadOp::Join(2, 2), None)),
-    Step::Jump(10),
-    Step::Do(
-        0,
-        Op::Atomic(AtomicOp::Update(0, Change::Add(1), Ordering::Relaxed), None),
-    ),
-    Step::Do(
-        0,
-        Op::Atomic(AtomicOp::Update(0, Change::Add(1), Ordering::Relaxed), None),
     ),
     FINISH,
     EXIT,
@@ -237,53 +211,23 @@ const LONG_LINE_10000: &[Step] = &[
     END,
 ];
 
-/// One thread stores to one flag, and another thread to another. Two threads each wait for one of the flags, one for the one
-/// and one for the other, and then finish with what they load from the other flag. Main stores to the first flag, joins the
-/// two, and finishes with ten times what the one loaded and what the other loaded (`acq_rel` of loom's `tests/spec.rs`).
-const ACQ_REL: &[Step] = &[
-    Step::Do(0, Op::Atomic(AtomicOp::New(Numbers::Bool, 0), None)),
-    Step::Do(1, Op::Atomic(AtomicOp::New(Numbers::Bool, 0), None)),
-    Step::Do(2, Op::Thread(ThreadOp::Spawn(11, None), None)),
-    Step::Do(3, Op::Thread(ThreadOp::Spawn(15, None), None)),
-    Step::Do(4, Op::Thread(ThreadOp::Spawn(22, None), None)),
-    Step::Do(
-        0,
-        Op::Atomic(AtomicOp::Store(0, 1, Ordering::Release), None),
-    ),
-    Step::Do(0, Op::Thread(ThreadOp::Join(3, 3), None)),
-    Step::Do(1, Op::Thread(ThreadOp::Join(4, 4), None)),
-    Step::Do(0, Op::Thread(ThreadOp::Finish(Value::Both(0, 1)), None)),
-    EXIT,
-    END,
-    Step::Do(
-        0,
-        Op::Atomic(AtomicOp::Store(1, 1, Ordering::Release), None),
-    ),
+/// Main locks a mutex 1,001 times, beside a thread that waits for it since the first time. It counts that in the mutex.
+const LONG_TURN: &[Step] = &[
+    Step::Do(0, Op::Mutex(MutexOp::New(Value::Plain(0)), None)),
+    Step::Do(0, Op::Mutex(MutexOp::Lock(0), None)),
+    Step::Do(1, Op::Thread(ThreadOp::Spawn(11, None), None)),
+    YIELD,
+    Step::Do(0, Op::Mutex(MutexOp::Release(0, Value::Next(0)), None)),
+    Step::Do(0, Op::Mutex(MutexOp::Lock(0), None)),
+    Step::Do(0, Op::Mutex(MutexOp::Release(0, Value::Next(0)), None)),
+    Step::Unless(0, 1000, 5),
     FINISH,
     EXIT,
     END,
-    Step::Do(0, Op::Atomic(AtomicOp::Load(0, Ordering::Acquire), None)),
-    Step::Unless(0, 1, 20),
-    Step::Do(1, Op::Atomic(AtomicOp::Load(1, Ordering::Acquire), None)),
-    Step::Do(0, Op::Thread(ThreadOp::Finish(Value::Held(1)), None)),
-    Step::Jump(9),
-    YIELD,
-    Step::Jump(15),
-    Step::Do(0, Op::Atomic(AtomicOp::Load(1, Ordering::Acquire), None)),
-    Step::Unless(0, 1, 27),
-    Step::Do(1, Op::Atomic(AtomicOp::Load(0, Ordering::Acquire), None)),
-    Step::Do(0, Op::Thread(ThreadOp::Finish(Value::Held(1)), None)),
-    Step::Jump(9),
-    YIELD,
-    Step::Jump(22),
+    Step::Do(0, Op::Mutex(MutexOp::Lock(0), None)),
+    Step::Do(0, Op::Mutex(MutexOp::Release(0, Value::Held(0)), None)),
+    Step::Jump(8),
 ];
-
-/// The settings that a builder begins with, but a run may have 100,000 nodes.
-const LONG_RUNS: Builder = Builder {
-    max_threads: 5,
-    max_branches: 100_000,
-    max_steps: 1_000_000,
-};
 
 /// A body with a name, and how it is checked.
 #[derive(Clone, Copy)]
@@ -298,11 +242,62 @@ pub struct Measured {
     pub checks: u64,
 }
 
-// A body that is checked so often, with the defaults unless settings are given.
+/// A search that isn't reduced, of runs with one preemption at most.
+const WHOLE_1: Builder = Builder {
+    max_threads: 5,
+    max_branches: 1000,
+    preemption_bound: Some(1),
+    max_steps: 1_000_000,
+    reduce: false,
+};
+
+/// The same with two preemptions at most.
+const WHOLE_2: Builder = Builder {
+    max_threads: 5,
+    max_branches: 1000,
+    preemption_bound: Some(2),
+    max_steps: 1_000_000,
+    reduce: false,
+};
+
+/// The defaults with one preemption at most.
+const REDUCED_1: Builder = Builder {
+    max_threads: 5,
+    max_branches: 1000,
+    preemption_bound: Some(1),
+    max_steps: 1_000_000,
+    reduce: true,
+};
+
+/// The same with two preemptions at most.
+const REDUCED_2: Builder = Builder {
+    max_threads: 5,
+    max_branches: 1000,
+    preemption_bound: Some(2),
+    max_steps: 1_000_000,
+    reduce: true,
+};
+
+/// The defaults without a preemption, but a run may have 100,000 nodes.
+const LONG_RUNS_0: Builder = Builder {
+    max_threads: 5,
+    max_branches: 100_000,
+    preemption_bound: Some(0),
+    max_steps: 1_000_000,
+    reduce: true,
+};
+
+/// The same with one preemption at most.
+const LONG_RUNS_1: Builder = Builder {
+    max_threads: 5,
+    max_branches: 100_000,
+    preemption_bound: Some(1),
+    max_steps: 1_000_000,
+    reduce: true,
+};
+
+// A body that is checked so often, with these settings.
 macro_rules! measured {
-    ($name:expr, $steps:expr, $checks:expr) => {
-        measured!($name, $steps, $checks, DEFAULTS)
-    };
     ($name:expr, $steps:expr, $checks:expr, $builder:expr) => {
         Measured {
             name: $name,
@@ -313,26 +308,209 @@ macro_rules! measured {
     };
 }
 
-// Those whose check is short are checked many times.
-static BODIES: [Measured; 11] = [
-    measured!("store_buffering", STORE_BUFFERING, 1000),
-    measured!("locks_in_turn", LOCKS_IN_TURN, 1000),
-    measured!("writers_beside_a_reader", WRITERS_BESIDE_A_READER, 100),
-    measured!("wait_and_notify", WAIT_AND_NOTIFY, 1000),
-    measured!("three_threads", THREE_THREADS, 1),
-    measured!("three_adds", THREE_ADDS, 1),
-    measured!("stores_apart", STORES_APART, 1),
-    measured!("long_line", LONG_LINE, 10_000, LONG_RUNS),
-    measured!("long_line_10000", LONG_LINE_10000, 1000, LONG_RUNS),
-    measured!("locks_crosswise", TWO_MUTEXES_DEADLOCK, 1000),
-    measured!("acq_rel", ACQ_REL, 1),
+// Those whose check is short are checked many times. A body's name alone means the search that isn't reduced, but for the long ones.
+
+static BUFFERS_AND_LOCKS: [Measured; 12] = [
+    measured!("store_buffering", STORE_BUFFERING, 1000, WHOLE),
+    measured!("store_buffering bound 1", STORE_BUFFERING, 1000, WHOLE_1),
+    measured!("store_buffering bound 2", STORE_BUFFERING, 1000, WHOLE_2),
+    measured!("store_buffering reduced", STORE_BUFFERING, 1000, DEFAULTS),
+    measured!(
+        "store_buffering reduced bound 1",
+        STORE_BUFFERING,
+        1000,
+        REDUCED_1
+    ),
+    measured!(
+        "store_buffering reduced bound 2",
+        STORE_BUFFERING,
+        1000,
+        REDUCED_2
+    ),
+    measured!("locks_in_turn", LOCKS_IN_TURN, 1000, WHOLE),
+    measured!("locks_in_turn bound 1", LOCKS_IN_TURN, 1000, WHOLE_1),
+    measured!("locks_in_turn bound 2", LOCKS_IN_TURN, 1000, WHOLE_2),
+    measured!("locks_in_turn reduced", LOCKS_IN_TURN, 1000, DEFAULTS),
+    measured!(
+        "locks_in_turn reduced bound 1",
+        LOCKS_IN_TURN,
+        1000,
+        REDUCED_1
+    ),
+    measured!(
+        "locks_in_turn reduced bound 2",
+        LOCKS_IN_TURN,
+        1000,
+        REDUCED_2
+    ),
 ];
 
-/// The bodies that are measured.
-pub fn all_bodies() -> &'static [Measured]
-    ensures { map named result.now ≡ table }
+static LOCKS_THAT_WAIT: [Measured; 12] = [
+    measured!(
+        "writers_beside_a_reader",
+        WRITERS_BESIDE_A_READER,
+        100,
+        WHOLE
+    ),
+    measured!(
+        "writers_beside_a_reader bound 1",
+        WRITERS_BESIDE_A_READER,
+        100,
+        WHOLE_1
+    ),
+    measured!(
+        "writers_beside_a_reader bound 2",
+        WRITERS_BESIDE_A_READER,
+        100,
+        WHOLE_2
+    ),
+    measured!(
+        "writers_beside_a_reader reduced",
+        WRITERS_BESIDE_A_READER,
+        100,
+        DEFAULTS
+    ),
+    measured!(
+        "writers_beside_a_reader reduced bound 1",
+        WRITERS_BESIDE_A_READER,
+        100,
+        REDUCED_1
+    ),
+    measured!(
+        "writers_beside_a_reader reduced bound 2",
+        WRITERS_BESIDE_A_READER,
+        100,
+        REDUCED_2
+    ),
+    measured!("wait_and_notify", WAIT_AND_NOTIFY, 1000, WHOLE),
+    measured!("wait_and_notify bound 1", WAIT_AND_NOTIFY, 1000, WHOLE_1),
+    measured!("wait_and_notify bound 2", WAIT_AND_NOTIFY, 1000, WHOLE_2),
+    measured!("wait_and_notify reduced", WAIT_AND_NOTIFY, 1000, DEFAULTS),
+    measured!(
+        "wait_and_notify reduced bound 1",
+        WAIT_AND_NOTIFY,
+        1000,
+        REDUCED_1
+    ),
+    measured!(
+        "wait_and_notify reduced bound 2",
+        WAIT_AND_NOTIFY,
+        1000,
+        REDUCED_2
+    ),
+];
+
+static THREE_ATOMICS: [Measured; 12] = [
+    measured!("three_threads", THREE_THREADS, 1, WHOLE),
+    measured!("three_threads bound 1", THREE_THREADS, 1, WHOLE_1),
+    measured!("three_threads bound 2", THREE_THREADS, 1, WHOLE_2),
+    measured!("three_threads reduced", THREE_THREADS, 1, DEFAULTS),
+    measured!("three_threads reduced bound 1", THREE_THREADS, 1, REDUCED_1),
+    measured!("three_threads reduced bound 2", THREE_THREADS, 1, REDUCED_2),
+    measured!("three_adds", THREE_ADDS, 1, WHOLE),
+    measured!("three_adds bound 1", THREE_ADDS, 1, WHOLE_1),
+    measured!("three_adds bound 2", THREE_ADDS, 1, WHOLE_2),
+    measured!("three_adds reduced", THREE_ADDS, 1, DEFAULTS),
+    measured!("three_adds reduced bound 1", THREE_ADDS, 1, REDUCED_1),
+    measured!("three_adds reduced bound 2", THREE_ADDS, 1, REDUCED_2),
+];
+
+static CROSSWISE_AND_FLAGS: [Measured; 12] = [
+    measured!("locks_crosswise", TWO_MUTEXES_DEADLOCK, 1000, WHOLE),
+    measured!(
+        "locks_crosswise bound 1",
+        TWO_MUTEXES_DEADLOCK,
+        1000,
+        WHOLE_1
+    ),
+    measured!(
+        "locks_crosswise bound 2",
+        TWO_MUTEXES_DEADLOCK,
+        1000,
+        WHOLE_2
+    ),
+    measured!(
+        "locks_crosswise reduced",
+        TWO_MUTEXES_DEADLOCK,
+        1000,
+        DEFAULTS
+    ),
+    measured!(
+        "locks_crosswise reduced bound 1",
+        TWO_MUTEXES_DEADLOCK,
+        1000,
+        REDUCED_1
+    ),
+    measured!(
+        "locks_crosswise reduced bound 2",
+        TWO_MUTEXES_DEADLOCK,
+        1000,
+        REDUCED_2
+    ),
+    measured!("acq_rel", ACQ_REL, 1, WHOLE),
+    measured!("acq_rel bound 1", ACQ_REL, 1, WHOLE_1),
+    measured!("acq_rel bound 2", ACQ_REL, 1, WHOLE_2),
+    measured!("acq_rel reduced", ACQ_REL, 1, DEFAULTS),
+    measured!("acq_rel reduced bound 1", ACQ_REL, 1, REDUCED_1),
+    measured!("acq_rel reduced bound 2", ACQ_REL, 1, REDUCED_2),
+];
+
+static MANY_OR_LONG: [Measured; 7] = [
+    measured!("stores_apart", STORES_APART, 1, WHOLE),
+    measured!("stores_apart reduced", STORES_APART, 1, DEFAULTS),
+    measured!("long_line", LONG_LINE, 10_000, LONG_RUNS),
+    measured!("long_line_10000", LONG_LINE_10000, 1000, LONG_RUNS),
+    measured!("long_turn reduced", LONG_TURN, 1, LONG_RUNS),
+    measured!("long_turn reduced bound 0", LONG_TURN, 1000, LONG_RUNS_0),
+    measured!("long_turn reduced bound 1", LONG_TURN, 1, LONG_RUNS_1),
+];
+
+// Stores and loads, and locks in the same order.
+fn buffers_and_locks() -> &'static [Measured]
+    ensures { map named result.now ≡ table.buffers_and_locks }
 {
-    &BODIES
+    &BUFFERS_AND_LOCKS
+}
+
+// A read-write lock, and a condition variable.
+fn locks_that_wait() -> &'static [Measured]
+    ensures { map named result.now ≡ table.locks_that_wait }
+{
+    &LOCKS_THAT_WAIT
+}
+
+// Three threads over atomics.
+fn three_atomics() -> &'static [Measured]
+    ensures { map named result.now ≡ table.three_atomics }
+{
+    &THREE_ATOMICS
+}
+
+// A deadlock, and threads that wait for flags.
+fn crosswise_and_flags() -> &'static [Measured]
+    ensures { map named result.now ≡ table.crosswise_and_flags }
+{
+    &CROSSWISE_AND_FLAGS
+}
+
+// Many runs, and long ones.
+fn many_or_long() -> &'static [Measured]
+    ensures { map named result.now ≡ table.many_or_long }
+{
+    &MANY_OR_LONG
+}
+
+/// The bodies that are measured.
+pub fn all_bodies(alloc: Global) -> Result<Vec<Measured>, AllocError>
+    ensures { IfOk result (λ bodies. map named bodies.items ≡ table.all) }
+{
+    let mut bodies = Vec::new(alloc);
+    bodies.extend_from_slice(buffers_and_locks())?;
+    bodies.extend_from_slice(locks_that_wait())?;
+    bodies.extend_from_slice(three_atomics())?;
+    bodies.extend_from_slice(crosswise_and_flags())?;
+    bodies.extend_from_slice(many_or_long())?;
+    Ok(bodies)
 }
 
 /// The first of the bodies that has this name.

@@ -1,51 +1,148 @@
 -- Schedules along a path, from what the chosen threads come to.
-use Rattle.std.proofs.Common.{◌≡◌, ℕ, zero, suc, ap, refl, sym, ◌∙◌, subst}
-use Rattle.std.specs.Prelude.{Option, Some, None, Result, Ok, Err, ⊤}
+use Rattle.std.proofs.Common.{◌≡◌, ◌≢◌, ◌+◌, ◌-◌, ◌<◌, length, ℕ, zero, suc, Bool, true, false, List, [], ◌∷◌, ap, ap₂, refl, sym, ◌∙◌, subst, arith}
+use Rattle.std.specs.Prelude.{◌&&◌, cond, map, nat_lt, slice_get, Option, Some, None, Result, Ok, Err, ⊤}
 use Rattle.loom_views.specs.Table.{Points}
 use Rattle.loom_views.specs.declared.rt.failure.FailureKind.{FailureKind}
-use Rattle.loom_views.specs.declared.rt.failure.FailureKind.TheVariants.{Misuse}
+use Rattle.loom_views.specs.declared.rt.failure.FailureKind.TheVariants.{Deadlock, Misuse, NotDeterministic, TooManyBranches}
+use Rattle.loom_dependence.specs.declared.rt.dependence.Use.{Use}
 use Rattle.loom_objects.specs.declared.choice.Choice.{Choice}
-use Rattle.loom_objects.specs.declared.choice.Choice.TheVariants.{Thread}
+use Rattle.loom_objects.specs.declared.choice.Choice.TheVariants.{Thread, Load, Spurious}
 use Rattle.loom_objects.specs.declared.failure.Stop.{Stop}
 use Rattle.loom_objects.specs.declared.failure.Stop.TheVariants.{Failure, Memory}
 use Rattle.loom_objects.specs.declared.operation.Op.{Op}
 use Rattle.loom_objects.specs.declared.operation.Turn.{Turn}
 use Rattle.loom_objects.specs.declared.rt.run.Passed.{Passed}
 use Rattle.loom_objects.specs.declared.rt.run.Passed.TheVariants as passed
-use Rattle.loom_objects.specs.declared.rt.run.RunState.{RunState}
 use Rattle.loom_objects.specs.declared.rt.thread.Offers.{Offers}
-use Rattle.loom_objects.specs.Question.{Question}
-use Rattle.loom_objects.specs.Scene.{world_of}
+use Rattle.loom_objects.specs.Asked.{which_store, which_thread, whether_spurious}
+use Rattle.loom_objects.specs.Question.{Question, asked_store, made_of, slots}
+use Rattle.loom_objects.specs.Scene.{KeepsAt, world_of}
 use Rattle.loom_objects.specs.Schedules.{offers}
-use Rattle.loom_objects.specs.Shown.{Shows}
-use Rattle.loom_objects.specs.Steps.{turned, resumes}
-use Rattle.loom_objects.specs.Tree.{Tree, Fails, Asks, ◌>>=◌}
+use Rattle.loom_objects.specs.Tree.{Tree, Gives, Fails, Closes, Asks, ◌>>=◌, came, check}
 use Rattle.loom_objects.specs.World.{World}
-use Rattle.loom_engine.specs.Execution.{ExecutionState, Comes, Along, MayBeRefused, Submits, SubmitsAt, over_after}
-use Rattle.loom_runs.specs.Machine.{closes, chooses, passes, further, schedule, submit}
-use Rattle.loom_engine.specs.Routes.{Route, trail, settings_of, Says, drives}
-use Rattle.loom_walks.specs.Trees.Meeting.{whole_search}
-use Rattle.loom_runs.specs.Asking.{which_thread}
-use Rattle.loom_walks.specs.Trees.Drive.{branch, drive, drive_on}
-use Rattle.loom_walks.specs.Trees.Marks.{marking}
+use Rattle.loom_objects.specs.Ending.{all_ended}
+use Rattle.loom_objects.specs.Accessed.{accessed}
+use Rattle.loom_objects.specs.Shown.{Shows, Resumes, Comes as world_comes}
+use Rattle.loom_objects.specs.Steps.{begins, ends, enters_wait, read_by, resumes, turned as world_turned}
+use Rattle.loom_objects.specs.declared.operation.Reply.{Reply}
+use Rattle.loom_objects.specs.declared.operation.Turn.TheVariants as turn
+use Rattle.loom_objects.specs.declared.rt.run.Entry.{Entry}
+use Rattle.loom_objects.specs.declared.rt.run.Entry.TheVariants.{Answered}
+use Rattle.loom_objects.specs.declared.rt.run.Loading.{Loading}
+use Rattle.loom_objects.specs.declared.rt.run.Resumed.TheVariants as resumed
+use Rattle.loom_dependence.specs.Dependence.{Order, grown, unordered}
+use Rattle.loom_dependence.specs.declared.rt.dependence.Dependence.{Dependence}
+use Rattle.loom_objects.specs.Effects.{counted, needs_memory}
+use Rattle.loom_objects.specs.declared.rt.run.RunState.{RunState}
+use Rattle.loom_runs.proofs.Runs.Growing.{made_needs_memory}
+use Rattle.loom_dependence.specs.Shown.{ShowsOrder}
+use Rattle.loom_objects.specs.Uses.{use_at, uses}
+use Rattle.loom_engine.specs.declared.rt.execution.Progress.{Progress}
+use Rattle.loom_engine.specs.Execution.{ExecutionState, Notes, Starts, ShowsCourse, use_among, use_found, Comes, Along, MayBeRefused, Submits, SubmitsAt, over_after, takes_turn}
+use Rattle.loom_path.specs.Routes.{Route, trail, Says, Backtracks, drives}
+use Rattle.loom_runs.specs.Courses.{Course, carried, grown_from, one_passed, unordered_in, used_in, with_order}
+use Rattle.loom_runs.specs.Machine.{closes, chooses, goes_by, goes_on, is_asked, passes, turned, further, further_branches, schedule, submit, waits}
+use Rattle.loom_walks.specs.Trees.Meeting.{Settings, count, every_at, front_of}
+use Rattle.loom_walks.specs.Trees.Drive.{Trail, Answer, branch, branch_at, backtrack, is_used_up, lengthen, marked, new_node, passes_of, drive, drive_on}
+use Rattle.loom_walks.specs.Trees.Marks.{marking, adds_any, unordered_in as pairs_in, is_off_bound}
+use Rattle.loom_walks.specs.Trees.Comparing.{same_made}
+use Rattle.loom_walks.specs.Walk.Choices.{pick}
+use Rattle.loom_walks.specs.Walk.Path.{Stored}
+use Rattle.loom_walks.specs.Walk.UnderWay.{mark_with}
+use Rattle.loom_walks.proofs.Walk.UnderWay.{with_none, with_same}
 use Rattle.loom_walks.proofs.Trees.Binding.{drive_then, drive_fails}
 
-module _ {A : Type 0} (question : Question) (branches : Choice → Tree A) (path : Route) where
-  -- the path answers a question, and the tree goes on
-  pub asked : (after : Route) (choice : Choice) → after.max_branches ≡ path.max_branches → branch (settings_of path) (trail path) question ≡ (Ok choice, trail after)
+-- ---- a question
+
+none_both : (b : Bool) → (b && false) ≡ false
+none_both true = refl
+none_both false = refl
+
+no_marks : (reduce : Bool) (marks : ℕ → Choice → Bool) (nodes : List Stored) → ((k : ℕ) (o : Choice) → marks k o ≡ false) → marked reduce marks nodes ≡ nodes
+no_marks false marks nodes none = refl
+no_marks true marks nodes none = with_same marks (λ k o. false) zero nodes (λ k o l. none k o) ∙ sym (with_none zero nodes)
+
+-- a question that isn't a schedule marks nothing
+pub unmarked : (s : Settings) (path : Trail) (question : Question) → pairs_in question ≡ [] → backtrack s (marking s.bound) path question ≡ path
+unmarked s path question none =
+    ap (λ (nodes : List Stored). record path { nodes = nodes })
+    (no_marks s.reduce (marking s.bound (passes_of path) question) path.nodes
+    (λ k o. ap (λ pairs. is_off_bound s.bound (count (front_of k (passes_of path))) && adds_any s.bound (passes_of path) k o pairs) none
+    ∙ none_both (is_off_bound s.bound (count (front_of k (passes_of path))))))
+
+module _ {A : Type 0} (question : Question) (branches : Choice → Tree A) (path mid : Route) (marks : trail mid ≡ backtrack path.search (marking path.search.bound) (trail path) question) (search : mid.search ≡ path.search) where
+  abbrev pub going : Choice → Trail → Result A FailureKind × Trail
+  going choice left = drive path.search (marking path.search.bound) (branches choice) left
+
+  -- the path makes the marks of a question and answers it
+  pub marked_first : (answer : Answer) → branch mid.search (trail mid) question ≡ answer → drives (Asks question branches) path ≡ drive_on going answer
+  marked_first answer e =
+      ap (λ (t : Trail). drive_on going (branch path.search t question)) (sym marks)
+      ∙ ap (λ (s : Settings). drive_on going (branch s (trail mid) question)) (sym search)
+      ∙ ap (drive_on going) e
+
+  -- and the tree goes on
+  pub asked : (after : Route) (choice : Choice) → after.search ≡ mid.search → branch mid.search (trail mid) question ≡ (Ok choice, trail after)
       → drives (Asks question branches) path ≡ drives (branches choice) after
   asked after choice same e =
-      ap (drive_on (λ (o : Choice) left. drive (settings_of path) (marking None) (branches o) left)) e
-      ∙ ap (λ (k : ℕ). drive (whole_search k) (marking None) (branches choice) (trail after)) (sym same)
+      marked_first (Ok choice, trail after) e ∙ ap (λ (s : Settings). drive s (marking s.bound) (branches choice) (trail after)) (sym (same ∙ search))
 
   -- or it refuses
-  refused : (kind : FailureKind) → branch (settings_of path) (trail path) question ≡ (Err kind, trail path)
-      → drives (Asks question branches) path ≡ (Err kind, trail path)
-  refused kind e = ap (drive_on (λ (o : Choice) left. drive (settings_of path) (marking None) (branches o) left)) e
+  pub refused : (kind : FailureKind) → branch mid.search (trail mid) question ≡ (Err kind, trail mid) → drives (Asks question branches) path ≡ (Err kind, trail mid)
+  refused kind e = marked_first (Err kind, trail mid) e
+
+plus_one : (n : ℕ) → n + 1 ≡ suc n
+plus_one n = omega arith
+
+-- a question which store marks nothing
+pub no_pairs : (numbers : List ℕ) → pairs_in (asked_store true numbers) ≡ []
+no_pairs [] = refl
+no_pairs (lowest ∷ others) = refl
+
+-- ---- an answer passes a node
+
+abbrev IsFurther : ℕ → Answer → Type 0
+IsFurther n (Ok choice, after) = after.position ≡ n + 1
+IsFurther n (Err kind, after) = Unit {0}
+
+lengthened : (path : Trail) (new : Option Stored) → IsFurther path.position (lengthen path new)
+lengthened path None = tt
+lengthened path (Some n) = refl
+
+followed : {B : Type 0} (d : Dec B) (path : Trail) (n : Stored) → IsFurther path.position (pick d (Ok n.present, record path { position = path.position + 1 }) (Err NotDeterministic, path))
+followed (yes x) path n = refl
+followed (no x) path n = tt
+
+made_if : (b : Bool) (path : Trail) (answer : Answer) → IsFurther path.position answer → IsFurther path.position (cond b answer (Err TooManyBranches, path))
+made_if true path answer h = h
+made_if false path answer h = tt
+
+answered_at : (s : Settings) (path : Trail) (question : Question) (at : Option Stored) → IsFurther path.position (branch_at s path question at)
+answered_at s path question (Some n) = followed (same_made n.made (made_of question)) path n
+answered_at s path question None =
+    made_if (nat_lt path.position s.max_branches) path
+    (lengthen path (new_node (every_at s (passes_of path) (made_of question)) (made_of question) (slice_get path.given path.position)))
+    (lengthened path (new_node (every_at s (passes_of path) (made_of question)) (made_of question) (slice_get path.given path.position)))
+
+pub answer_passes : (s : Settings) (path : Trail) (question : Question) (choice : Choice) (after : Trail) → branch s path question ≡ (Ok choice, after) → after.position ≡ path.position + 1
+answer_passes s path question choice after e = subst (IsFurther path.position) e (answered_at s path question (slice_get path.nodes path.position))
+
+came_so : {A : Type 0} (r : Result A FailureKind) (a : A) → came r ≡ Gives a → r ≡ Ok a
+came_so (Ok b) a e = let is : b ≡ a = cc e in ap Ok is
+came_so (Err kind) a e = absurd (cc e)
+
+-- of the five threads
+five : {A : Type 0} (f : ℕ → A) (t : ℕ) → t < 5 → slice_get (map f (0 ∷ 1 ∷ 2 ∷ 3 ∷ 4 ∷ [])) t ≡ Some (f t)
+five f zero l = refl
+five f (suc zero) l = refl
+five f (suc (suc zero)) l = refl
+five f (suc (suc (suc zero))) l = refl
+five f (suc (suc (suc (suc zero)))) l = refl
+five f (suc (suc (suc (suc (suc t))))) l = absurd (omega (arith, l))
 
 module _ {D : Type 0} where
   -- a tree that goes the same way
-  same_way : {A : Type 0} (tree other : Tree (A × World D)) (path via : Route) (result : Result A Stop) (new : RunState D) (after : Route) → drives tree path ≡ drives other via
+  pub same_way : {A : Type 0} (tree other : Tree (A × Course D)) (path via : Route) (result : Result A Stop) (new : Progress D) (after : Route) → drives tree path ≡ drives other via
       → Comes other via result new after → Comes tree path result new after
   same_way tree other path via (Ok a) new after e come = (come.0, come.1, e ∙ come.2)
   same_way tree other path via (Err (Failure failure)) new after e come = e ∙ come
@@ -56,87 +153,360 @@ module _ {D : Type 0} where
   passed_with (Ok turn) = Ok (passed.Turn turn)
   passed_with (Err stop) = Err stop
 
-  pub turned_comes : (tree : Tree (Turn D × World D)) (path : Route) (result : Result (Turn D) Stop) (new : RunState D) (after : Route)
+  pub turned_comes : (tree : Tree (Turn D × Course D)) (path : Route) (result : Result (Turn D) Stop) (new : Progress D) (after : Route)
       → Comes tree path result new after → Comes (tree >>= turned) path (passed_with result) new after
-  turned_comes tree path (Ok turn) new after come = (come.0, come.1, drive_then (settings_of path) (marking None) tree turned (trail path) (trail after) (turn, come.0) come.2)
-  turned_comes tree path (Err (Failure failure)) new after come = drive_fails (settings_of path) (marking None) tree turned (trail path) (trail after) failure.kind come
+  turned_comes tree path (Ok turn) new after come = (come.0, come.1, drive_then path.search (marking path.search.bound) tree turned (trail path) (trail after) (turn, come.0) come.2)
+  turned_comes tree path (Err (Failure failure)) new after come = drive_fails path.search (marking path.search.bound) tree turned (trail path) (trail after) failure.kind come
   turned_comes tree path (Err Memory) new after come = tt
+
+  -- what the chosen thread is about to do
+  use_of_chosen : (c : Course D) (named : List (Option Use)) (t : ℕ) → named ≡ uses c.world → t < 5 → use_among t named ≡ use_at c.world.threads t
+  use_of_chosen c named t is l = ap (use_among t) is ∙ ap use_found (five (use_at c.world.threads) t l)
 
   -- ---- one schedule
 
-  module _ (old : RunState D) (offered : Offers) (is : (points : Points) (left : ℕ) → offered ≡ offers (world_of points left old.scene)) (path mid : Route) (same : mid.max_branches ≡ path.max_branches) where
+  -- what a schedule asks by the code, when it has made its marks
+  pub record IsSchedule (old : Progress D) (offered : Offers) (places : List (Option ℕ)) (path mid : Route) : Type 0 where
+    pub offered_is : (points : Points) (left : ℕ) → offered ≡ offers (world_of points left old.state.scene)
+    pub places_are : (c : Course D) → ShowsCourse c old path → places ≡ unordered_in c
+    pub marks : Backtracks path places mid
+
+  -- the places are those of the course
+  pub places_named : (old : Progress D) (path : Route) (named : List (Option Use)) (places : List (Option ℕ))
+      → ((points : Points) (left : ℕ) → named ≡ uses (world_of points left old.state.scene)) → ((o : Order) → ShowsOrder o old.dependence → places ≡ unordered o named)
+      → (c : Course D) → ShowsCourse c old path → places ≡ unordered_in c
+  places_named old path named places us ps c shown =
+      ps c.order shown.order ∙ ap (unordered c.order) (us c.world.points old.state.steps_left ∙ ap (λ w. uses w) (sym shown.world.rest))
+
+  module _ (old : Progress D) (offered : Offers) (places : List (Option ℕ)) (path mid : Route) (s : IsSchedule old offered places path mid) where
+    -- what the code notes of the chosen thread's access
+    pub noted_by : (named : List (Option Use)) (t place : ℕ) (result : Result ⊤ Stop) (kept : Dependence) → ((points : Points) (left : ℕ) → named ≡ uses (world_of points left old.state.scene))
+        → t < 5 → place ≡ mid.position → ((c : Course D) → ShowsOrder c.order old.dependence → c.passed ≡ place → Notes (used_in t c (use_among t named)) result kept)
+        → (c : Course D) → ShowsCourse c old path → Notes (used_in t c (use_at c.world.threads t)) result kept
+    noted_by named t place result kept us l at notes c shown =
+        subst (λ (u : Option Use). Notes (used_in t c u) result kept)
+        (use_of_chosen c named t (us c.world.points old.state.steps_left ∙ ap (λ w. uses w) (sym shown.world.rest)) l)
+        (notes c shown.order (shown.place ∙ sym (at ∙ ap (λ (trail : Trail). trail.position) (s.marks.0 offered))))
+
     -- the schedule as the code asks it
-    pub scheduled : (w : World D) → Shows w old → drives (passes w) path ≡ drives (Asks (which_thread offered) (chooses w)) path
-    scheduled w shown = ap (λ (o : Offers). drives (Asks (which_thread o) (chooses w)) path) (ap offers shown.rest ∙ sym (is w.points old.steps_left))
+    pub scheduled : (c : Course D) → ShowsCourse c old path → drives (passes c) path ≡ drives (Asks (which_thread offered places) (chooses c)) path
+    scheduled c shown =
+        ap (λ (o : Offers). drives (Asks (which_thread o (unordered_in c)) (chooses c)) path) (ap (λ w. offers w) shown.world.rest ∙ sym (s.offered_is c.world.points old.state.steps_left))
+        ∙ ap (λ (p : List (Option ℕ)). drives (Asks (which_thread offered p) (chooses c)) path) (sym (s.places_are c shown))
 
-    pub schedule_refused : (stop : Stop) → Says Thread path (which_thread offered) (Err stop) mid → Along passes old path (Err stop) old mid
-    schedule_refused (Failure failure) says w shown =
-        scheduled w shown ∙ refused (which_thread offered) (chooses w) path failure.kind says.0 ∙ ap (λ (p : Route). (Err failure.kind, trail p)) (sym says.1)
-    schedule_refused Memory says w shown = tt
+    pub schedule_refused : (after : Route) (stop : Stop) → Says Thread mid (which_thread offered places) (Err stop) after → Along passes old path (Err stop) old after
+    schedule_refused after (Failure failure) says c shown =
+        scheduled c shown ∙ refused (which_thread offered places) (chooses c) path mid (s.marks.0 offered) s.marks.1 failure.kind says.0
+        ∙ ap (λ (p : Route). (Err failure.kind, trail p)) (sym says.1)
+    schedule_refused after Memory says c shown = tt
 
-    pub thread_chosen : (thread : ℕ) → Says Thread path (which_thread offered) (Ok (Some thread)) mid → (result : Result (Passed D) Stop) (new : RunState D) (after : Route)
-        → Along (resumes thread) old mid result new after → Along passes old path result new after
-    thread_chosen thread says result new after along w shown =
-        same_way (passes w) (resumes thread w) path mid result new after
-        (scheduled w shown ∙ asked (which_thread offered) (chooses w) path mid (Thread (Some thread)) same says) (along w shown)
+    module _ (after : Route) (same : after.search ≡ mid.search) where
+      chosen_on : (choice : Choice) → branch mid.search (trail mid) (which_thread offered places) ≡ (Ok choice, trail after) → (c : Course D) → ShowsCourse c old path
+          → drives (passes c) path ≡ drives (chooses c choice) after
+      chosen_on choice says c shown = scheduled c shown ∙ asked (which_thread offered places) (chooses c) path mid (s.marks.0 offered) s.marks.1 after choice same says
 
-    pub nobody_chosen : Says Thread path (which_thread offered) (Ok None) mid → (result : Result (Turn D) Stop) (new : RunState D) (after : Route)
-        → Along closes old mid result new after → Along passes old path (passed_with result) new after
-    nobody_chosen says result new after along w shown =
-        same_way (passes w) (closes w >>= turned) path mid (passed_with result) new after
-        (scheduled w shown ∙ asked (which_thread offered) (chooses w) path mid (Thread None) same says) (turned_comes (closes w) mid result new after (along w shown))
+      -- the path has passed one node more
+      one_further : (choice : Choice) → branch mid.search (trail mid) (which_thread offered places) ≡ (Ok choice, trail after) → after.position ≡ path.position + 1
+      one_further choice says =
+          answer_passes mid.search (trail mid) (which_thread offered places) choice (trail after) says ∙ ap (λ (t : Trail). t.position + 1) (s.marks.0 offered)
+
+      -- the access can't be noted
+      pub access_refused : (thread : ℕ) → Says Thread mid (which_thread offered places) (Ok (Some thread)) after → (stop : Stop) (new : Progress D)
+          → ((c : Course D) → ShowsCourse c old path → Notes (used_in thread c (use_at c.world.threads thread)) (Err stop) new.dependence) → Along passes old path (Err stop) new after
+      access_refused thread says stop new notes c shown = by stop (used_in thread c (use_at c.world.threads thread)) (notes c shown) (chosen_on (Thread (Some thread)) says c shown)
+        where
+          by : (stop : Stop) (r : Result Order FailureKind) → Notes r (Err stop) new.dependence → drives (passes c) path ≡ drives (came (with_order c r) >>= goes_by thread) after
+              → Comes (passes c) path (Err stop) new after
+          by stop (Ok order) h e = absurd (cc h.0)
+          by Memory (Err kind) h e = tt
+          by (Failure failure) (Err kind) h e =
+              let is : kind ≡ failure.kind = cc h in
+              e ∙ ap (λ k. (Err k, trail after)) is
+
+      -- it is noted
+      noted : (thread : ℕ) (c : Course D) (r : Result Order FailureKind) (run : Progress D) → Notes r (Ok tt) run.dependence → Shows c.world run.state → suc c.passed ≡ after.position
+          → (v : Course D) × ((came (with_order c r) >>= goes_by thread) ≡ takes_turn thread v) × ShowsCourse v run after
+      noted thread c (Ok order) run h w place = (one_passed (record c { order = order }), refl, record { world = w; order = h.1; place = place })
+      noted thread c (Err kind) run h w place = absurd (cc h)
+
+      -- the course on which the thread goes on
+      pub chosen_course : (thread : ℕ) → Says Thread mid (which_thread offered places) (Ok (Some thread)) after → (run : Progress D)
+          → ((c : Course D) → ShowsCourse c old path → Notes (used_in thread c (use_at c.world.threads thread)) (Ok tt) run.dependence) → run.state ≡ old.state
+          → (c : Course D) → ShowsCourse c old path → (v : Course D) × ShowsCourse v run after × (drives (passes c) path ≡ drives (takes_turn thread v) after)
+      chosen_course thread says run notes state c shown =
+          let n = noted thread c (used_in thread c (use_at c.world.threads thread)) run (notes c shown) (subst (λ r. Shows c.world r) (sym state) shown.world)
+          (ap suc shown.place ∙ sym (one_further (Thread (Some thread)) says ∙ plus_one path.position)) in
+          (n.0, n.2, chosen_on (Thread (Some thread)) says c shown ∙ ap (λ (t : Tree (Passed D × Course D)). drives t after) n.1)
+
+      -- and it goes on
+      pub thread_chosen : (thread : ℕ) → Says Thread mid (which_thread offered places) (Ok (Some thread)) after → (run : Progress D)
+          → ((c : Course D) → ShowsCourse c old path → Notes (used_in thread c (use_at c.world.threads thread)) (Ok tt) run.dependence) → run.state ≡ old.state
+          → (result : Result (Passed D) Stop) (new : Progress D) (end : Route) → Along (takes_turn thread) run after result new end → Along passes old path result new end
+      thread_chosen thread says run notes state result new end along c shown =
+          let v = chosen_course thread says run notes state c shown in
+          same_way (passes c) (takes_turn thread v.0) path after result new end v.2 (along v.0 v.1)
+
+      pub nobody_chosen : Says Thread mid (which_thread offered places) (Ok None) after → (result : Result (Turn D) Stop) (new : Progress D) (end : Route)
+          → Along closes old after result new end → Along passes old path (passed_with result) new end
+      nobody_chosen says result new end along c shown =
+          same_way (passes c) (closes (one_passed c) >>= turned) path after (passed_with result) new end (chosen_on (Thread None) says c shown)
+          (turned_comes (closes (one_passed c)) after result new end
+          (along (one_passed c) (record { world = shown.world; order = shown.order; place = ap suc shown.place ∙ sym (one_further (Thread None) says ∙ plus_one path.position) })))
 
   -- ---- schedules up to a turn
 
   -- the first of them, and how it goes on
-  pub first_of : (more : ℕ) (w : World D) → (again : World D → Tree (Turn D × World D)) × (schedule more w ≡ (passes w >>= further again))
+  pub first_of : (more : ℕ) (c : Course D) → (again : Course D → Tree (Turn D × Course D)) × (schedule more c ≡ (passes c >>= further again))
   unfolding schedule
-  first_of zero w = (λ v. Fails Misuse, refl)
-  first_of (suc more) w = (schedule more, refl)
+  first_of zero c = (λ v. Fails Misuse, refl)
+  first_of (suc more) c = (schedule more, refl)
 
   -- at another branch point they go on from there
-  pub goes_on_by : (more left : ℕ) → more ≡ suc left → (w after : World D) (path via : Route) → drives (passes w) path ≡ (Ok (passed.AtBranch, after), trail via)
-      → via.max_branches ≡ path.max_branches → drives (schedule more w) path ≡ drives (schedule left after) via
+  pub goes_on_by : (more left : ℕ) → more ≡ suc left → (c after : Course D) (path via : Route) → drives (passes c) path ≡ (Ok (passed.AtBranch, after), trail via)
+      → via.search ≡ path.search → drives (schedule more c) path ≡ drives (schedule left after) via
   unfolding schedule
-  goes_on_by more left e w after path via come same =
-      ap (λ (k : ℕ). drives (schedule k w) path) e
-      ∙ drive_then (settings_of path) (marking None) (passes w) (further (schedule left)) (trail path) (trail via) (passed.AtBranch, after) come
-      ∙ ap (λ (k : ℕ). drive (whole_search k) (marking None) (schedule left after) (trail via)) (sym same)
+  goes_on_by more left e c after path via come same =
+      ap (λ (k : ℕ). drives (schedule k c) path) e
+      ∙ drive_then path.search (marking path.search.bound) (passes c) (further (schedule left)) (trail path) (trail via) (passed.AtBranch, after) come
+      ∙ ap (λ (s : Settings). drive s (marking s.bound) (schedule left after) (trail via)) (sym same)
 
-  module _ (old mid : RunState D) (path via : Route) where
+  module _ (old mid : Progress D) (path via : Route) where
     pub pass_stops : (more : ℕ) (stop : Stop) → Along passes old path (Err stop) mid via → Along (schedule more) old path (Err stop) mid via
-    pass_stops more (Failure failure) along w shown =
-        let first = first_of more w in
-        ap (λ (t : Tree (Turn D × World D)). drives t path) first.1
-        ∙ drive_fails (settings_of path) (marking None) (passes w) (further first.0) (trail path) (trail via) failure.kind (along w shown)
-    pass_stops more Memory along w shown = tt
+    pass_stops more (Failure failure) along c shown =
+        let first = first_of more c in
+        ap (λ (t : Tree (Turn D × Course D)). drives t path) first.1
+        ∙ drive_fails path.search (marking path.search.bound) (passes c) (further first.0) (trail path) (trail via) failure.kind (along c shown)
+    pass_stops more Memory along c shown = tt
 
     pub turn_passed : (more : ℕ) (turn : Turn D) → Along passes old path (Ok (passed.Turn turn)) mid via → Along (schedule more) old path (Ok turn) mid via
-    turn_passed more turn along w shown =
-        let first = first_of more w in
-        let come = along w shown in (
+    turn_passed more turn along c shown =
+        let first = first_of more c in
+        let come = along c shown in (
           come.0,
           come.1,
-          ap (λ (t : Tree (Turn D × World D)). drives t path) first.1
-              ∙ drive_then (settings_of path) (marking None) (passes w) (further first.0) (trail path) (trail via) (passed.Turn turn, come.0) come.2,
+          ap (λ (t : Tree (Turn D × Course D)). drives t path) first.1
+              ∙ drive_then path.search (marking path.search.bound) (passes c) (further first.0) (trail path) (trail via) (passed.Turn turn, come.0) come.2,
         )
 
     -- one branch point more than there may be
     pub too_many : (more : ℕ) → more ≡ 0 → Along passes old path (Ok passed.AtBranch) mid via
         → Along (schedule more) old path (Err (Failure (record { kind = Misuse; location = None }))) mid via
     unfolding schedule
-    too_many more none along w shown =
-        let come = along w shown in
-        ap (λ (k : ℕ). drives (schedule k w) path) none
-        ∙ drive_then (settings_of path) (marking None) (passes w) (further (λ v. Fails Misuse)) (trail path) (trail via) (passed.AtBranch, come.0) come.2
+    too_many more none along c shown =
+        let come = along c shown in
+        ap (λ (k : ℕ). drives (schedule k c) path) none
+        ∙ drive_then path.search (marking path.search.bound) (passes c) (further (λ v. Fails Misuse)) (trail path) (trail via) (passed.AtBranch, come.0) come.2
 
-    pub goes_further : (more left : ℕ) → more ≡ suc left → Along passes old path (Ok passed.AtBranch) mid via → via.max_branches ≡ path.max_branches
-        → (result : Result (Turn D) Stop) (new : RunState D) (after : Route) → Along (schedule left) mid via result new after → Along (schedule more) old path result new after
-    goes_further more left e along same result new after onward w shown =
-        let come = along w shown in
-        same_way (schedule more w) (schedule left come.0) path via result new after (goes_on_by more left e w come.0 path via come.2 same) (onward come.0 come.1)
+    pub goes_further : (more left : ℕ) → more ≡ suc left → Along passes old path (Ok passed.AtBranch) mid via → via.search ≡ path.search
+        → (result : Result (Turn D) Stop) (new : Progress D) (after : Route) → Along (schedule left) mid via result new after → Along (schedule more) old path result new after
+    goes_further more left e along same result new after onward c shown =
+        let come = along c shown in
+        same_way (schedule more c) (schedule left come.0) path via result new after (goes_on_by more left e c come.0 path via come.2 same) (onward come.0 come.1)
+
+  -- ---- what a chosen thread has pending
+
+  -- it comes to something without a question, or fails
+  pub takes_at_once : (t : ℕ) (old new : Progress D) (path : Route) (result : Result (Passed D) Stop)
+      → ((w : World D) → Shows w old.state → world_comes (resumes t w) result new.state) → new.dependence ≡ old.dependence → Along (takes_turn t) old path result new path
+  takes_at_once t old new path (Ok passed) does kept c shown =
+      let come = does c.world shown.world in (
+        record c { world = come.0 },
+        record { world = come.1; order = subst (λ d. ShowsOrder c.order d) (sym kept) shown.order; place = shown.place },
+        ap (λ (tree : Tree (Passed D × World D)). drives (carried c tree) path) come.2,
+      )
+  takes_at_once t old new path (Err (Failure failure)) does kept c shown =
+      ap (λ (tree : Tree (Passed D × World D)). drives (carried c tree) path) (does c.world shown.world)
+  takes_at_once t old new path (Err Memory) does kept c shown = tt
+
+  -- it reads: the path is asked which store
+  module _ (t : ℕ) (load : Loading) (old mid : Progress D) (path via : Route)
+      (does : (w : World D) → Shows w old.state → Resumes (resumes t w) (Ok (resumed.Load load)) mid.state) (kept : mid.dependence ≡ old.dependence) where
+    abbrev pub reading : Course D → World D → Choice → Tree (Passed D × Course D)
+    reading c w choice = carried (one_passed c) (read_by load w choice >>= world_turned)
+
+    pub read_asks : (c : Course D) (shown : ShowsCourse c old path) → drives (takes_turn t c) path ≡ drives (Asks (which_store load.readable) (reading c (does c.world shown.world).0)) path
+    read_asks c shown = ap (λ (tree : Tree (Passed D × World D)). drives (carried c tree) path) (does c.world shown.world).3
+
+    abbrev pub unmarked_load : trail path ≡ backtrack path.search (marking path.search.bound) (trail path) (which_store load.readable)
+    unmarked_load = sym (unmarked path.search (trail path) (which_store load.readable) (no_pairs (slots load.readable)))
+
+    pub load_stops : (stop : Stop) → Says Load path (which_store load.readable) (Err stop) via → Along (takes_turn t) old path (Err stop) mid via
+    load_stops (Failure failure) says c shown =
+        read_asks c shown ∙ refused (which_store load.readable) (reading c (does c.world shown.world).0) path path unmarked_load refl failure.kind says.0
+        ∙ ap (λ (p : Route). (Err failure.kind, trail p)) (sym says.1)
+    load_stops Memory says c shown = tt
+
+    -- and the access goes on by the slot
+    pub slot_read : (slot : ℕ) → Says Load path (which_store load.readable) (Ok slot) via → via.search ≡ path.search → slice_get load.readable slot ≡ Some true
+        → (result : Result (Turn D) Stop) (new : Progress D) → new.dependence ≡ mid.dependence
+        → ((w : World D) → Shows w mid.state → KeepsAt w.points (accessed load.access) slot → world_comes (read_by load w (Load slot)) result new.state)
+        → Along (takes_turn t) old path (passed_with result) new via
+    slot_read slot says same readable result new unchanged reads c shown =
+        let come = does c.world shown.world in
+        by result (reads come.0 come.1 (come.2 slot readable))
+        (read_asks c shown ∙ asked (which_store load.readable) (reading c come.0) path path unmarked_load refl via (Load slot) same says)
+      where
+        by : (result : Result (Turn D) Stop) → world_comes (read_by load (does c.world shown.world).0 (Load slot)) result new.state
+            → drives (takes_turn t c) path ≡ drives (reading c (does c.world shown.world).0 (Load slot)) via → Comes (takes_turn t c) path (passed_with result) new via
+        by (Ok turn) h e = (
+          record (one_passed c) { world = h.0 },
+          record {
+            world = h.1;
+            order = subst (λ d. ShowsOrder c.order d) (sym (unchanged ∙ kept)) shown.order;
+            place = ap suc shown.place ∙ sym (answer_passes path.search (trail path) (which_store load.readable) (Load slot) (trail via) says ∙ plus_one path.position);
+          },
+          e ∙ ap (λ (tree : Tree (Turn D × World D)). drives (carried (one_passed c) (tree >>= world_turned)) via) h.2,
+        )
+        by (Err (Failure failure)) h e = e ∙ ap (λ (tree : Tree (Turn D × World D)). drives (carried (one_passed c) (tree >>= world_turned)) via) h
+        by (Err Memory) h e = tt
+
+  -- ---- a wait
+
+  module _ (n : ℕ) (old : Progress D) (path : Route) where
+    abbrev pub unmarked_wait : trail path ≡ backtrack path.search (marking path.search.bound) (trail path) whether_spurious
+    unmarked_wait = sym (unmarked path.search (trail path) whether_spurious refl)
+
+    pub wake_stops : (stop : Stop) (mid : Route) → Says Spurious path whether_spurious (Err stop) mid → Along (is_asked n) old path (Err stop) old mid
+    wake_stops (Failure failure) mid says c shown =
+        refused whether_spurious (waits n c) path path unmarked_wait refl failure.kind says.0 ∙ ap (λ (p : Route). (Err failure.kind, trail p)) (sym says.1)
+    wake_stops Memory mid says c shown = tt
+
+    module _ (is_spurious : Bool) (via : Route) (says : Says Spurious path whether_spurious (Ok is_spurious) via) (same : via.search ≡ path.search) where
+      pub asked_to_wake : (c : Course D) → drives (is_asked n c) path ≡ drives (waits n c (Spurious is_spurious)) via
+      asked_to_wake c = asked whether_spurious (waits n c) path path unmarked_wait refl via (Spurious is_spurious) same says
+
+      pub wait_stops : (stop : Stop) (mid : Progress D) → ((w : World D) → Shows w old.state → world_comes (enters_wait is_spurious n w) (Err stop) mid.state) → Along (is_asked n) old path (Err stop) mid via
+      wait_stops (Failure failure) mid does c shown =
+          asked_to_wake c
+          ∙ ap (λ (tree : Tree (⊤ × World D)). drives (carried (one_passed c) tree >>= (λ after. schedule further_branches after.1)) via) (does c.world shown.world)
+      wait_stops Memory mid does c shown = tt
+
+      -- the course that the wait comes to
+      pub waiting : (mid : Progress D) → ((w : World D) → Shows w old.state → world_comes (enters_wait is_spurious n w) (Ok tt) mid.state) → mid.dependence ≡ old.dependence
+          → (c : Course D) → ShowsCourse c old path → (v : Course D) × ShowsCourse v mid via × (drives (is_asked n c) path ≡ drives (schedule further_branches v) via)
+      waiting mid does kept c shown =
+          let come = does c.world shown.world in (
+            record (one_passed c) { world = come.0 },
+            record {
+              world = come.1;
+              order = subst (λ d. ShowsOrder c.order d) (sym kept) shown.order;
+              place = ap suc shown.place ∙ sym (answer_passes path.search (trail path) whether_spurious (Spurious is_spurious) (trail via) says ∙ plus_one path.position);
+            },
+            asked_to_wake c
+                ∙ ap (λ (tree : Tree (⊤ × World D)). drives (carried (one_passed c) tree >>= (λ after. schedule further_branches after.1)) via) come.2,
+          )
+
+      pub wait_goes : (mid : Progress D) → ((w : World D) → Shows w old.state → world_comes (enters_wait is_spurious n w) (Ok tt) mid.state) → mid.dependence ≡ old.dependence
+          → (result : Result (Turn D) Stop) (new : Progress D) (after : Route) → Along (schedule further_branches) mid via result new after → Along (is_asked n) old path result new after
+      wait_goes mid does kept result new after onward c shown =
+          let v = waiting mid does kept c shown in
+          same_way (is_asked n c) (schedule further_branches v.0) path via result new after v.2 (onward v.0 v.1)
+
+  -- ---- the end
+
+  closed_by : (ended : Bool) (c : Course D) (path : Route) → ended ≡ false → drives (check ended Deadlock >>= (λ u. Closes (carried c (ends c.world)))) path ≡ (Err Deadlock, trail path)
+  closed_by true c path e = absurd (cc e)
+  closed_by false c path e = refl
+
+  left_over : (used_up : Bool) (d : Result (Turn D × Course D) FailureKind × Trail) (path : Trail) → used_up ≡ false → cond used_up d (Err NotDeterministic, path) ≡ (Err NotDeterministic, path)
+  left_over true d path e = absurd (cc e)
+  left_over false d path e = refl
+
+  ended_by : (ended : Bool) (c : Course D) (path : Route) → ended ≡ true
+      → drives (check ended Deadlock >>= (λ u. Closes (carried c (ends c.world)))) path ≡ drives (Closes (carried c (ends c.world))) path
+  ended_by true c path e = refl
+  ended_by false c path e = absurd (cc e)
+
+  used_up_by : (used_up : Bool) (d : Result (Turn D × Course D) FailureKind × Trail) (path : Trail) → used_up ≡ true → cond used_up d (Err NotDeterministic, path) ≡ d
+  used_up_by true d path e = refl
+  used_up_by false d path e = absurd (cc e)
+
+  module _ (old : Progress D) (path : Route) where
+    pub deadlocked : ((c : Course D) → ShowsCourse c old path → all_ended c.world ≡ false) → Along closes old path (Err (Failure (record { kind = Deadlock; location = None }))) old path
+    deadlocked ended c shown = closed_by (all_ended c.world) c path (ended c shown)
+
+    module _ (ended : (c : Course D) → ShowsCourse c old path → all_ended c.world ≡ true) where
+      pub leftover : is_used_up (trail path) ≡ false → Along closes old path (Err (Failure (record { kind = NotDeterministic; location = None }))) old path
+      leftover e c shown =
+          ended_by (all_ended c.world) c path (ended c shown)
+          ∙ left_over (is_used_up (trail path)) (drives (carried c (ends c.world)) path) (trail path) e
+
+      pub closes_by : is_used_up (trail path) ≡ true → (result : Result (Turn D) Stop) (new : Progress D) → new.dependence ≡ old.dependence
+          → ((w : World D) → Shows w old.state → world_comes (ends w) result new.state) → Along closes old path result new path
+      closes_by e result new kept does c shown =
+          by result (does c.world shown.world)
+          (ended_by (all_ended c.world) c path (ended c shown) ∙ used_up_by (is_used_up (trail path)) (drives (carried c (ends c.world)) path) (trail path) e)
+        where
+          by : (result : Result (Turn D) Stop) → world_comes (ends c.world) result new.state → drives (closes c) path ≡ drives (carried c (ends c.world)) path → Comes (closes c) path result new path
+          by (Ok turn) h e = (
+            record c { world = h.0 },
+            record { world = h.1; order = subst (λ d. ShowsOrder c.order d) (sym kept) shown.order; place = shown.place },
+            e ∙ ap (λ (tree : Tree (Turn D × World D)). drives (carried c tree) path) h.2,
+          )
+          by (Err (Failure failure)) h e = e ∙ ap (λ (tree : Tree (Turn D × World D)). drives (carried c tree) path) h
+          by (Err Memory) h e = tt
 
   -- ---- one event
+
+  -- what the code kept of an operation that was begun, and of what it made
+  pub started : (op : Op D ⊤) (entry : Entry D) (old : Progress D) (state : RunState D) (kept : Dependence) (parent threads objects : ℕ)
+      → ((w : World D) → Shows w old.state → world_comes (begins op w) (Ok entry) state) → parent ≡ old.state.scene.active
+      → threads ≡ length state.scene.threads - length old.state.scene.threads → objects ≡ length state.scene.objects - length old.state.scene.objects
+      → ((o : Order) → ShowsOrder o old.dependence → ShowsOrder (grown parent threads objects o) kept) → Starts op old (Ok entry) (record { state = state; dependence = kept })
+  started op entry old state kept parent threads objects does ep et eo grows c shown order =
+      let come = does c.world shown in
+      let more = ap₂ (λ (xs ys : List _). length xs - length ys) (ap (λ (w : World D). w.threads) come.1.rest) (ap (λ (w : World D). w.threads) shown.rest) in
+      let others = ap₂ (λ (xs ys : List _). length xs - length ys) (ap (λ (w : World D). w.objects) come.1.rest) (ap (λ (w : World D). w.objects) shown.rest) in (
+        come.0,
+        come.2,
+        come.1,
+        subst (λ p. ShowsOrder (grown p (length come.0.threads - length c.world.threads) (length come.0.objects - length c.world.objects) c.order) kept) (ep ∙ sym (ap (λ (w : World D). w.active) shown.rest))
+            (subst (λ t. ShowsOrder (grown parent t (length come.0.objects - length c.world.objects) c.order) kept) (et ∙ sym more)
+            (subst (λ o. ShowsOrder (grown parent threads o c.order) kept) (eo ∙ sym others) (grows c.order order))),
+      )
+
+  -- memory was refused for it
+  pub start_refused : (op : Op D ⊤) (entry : Entry D) (old : RunState D) (state : RunState D) (threads objects : ℕ)
+      → ((w : World D) → Shows w old → world_comes (begins op w) (Ok entry) state)
+      → threads ≡ length state.scene.threads - length old.scene.threads → objects ≡ length state.scene.objects - length old.scene.objects
+      → 0 < threads + objects → (w : World D) → Shows w old → needs_memory op ≡ true
+  start_refused op entry old state threads objects does et eo more w shown =
+      let come = does w shown in
+      let xs = ap₂ (λ (xs ys : List _). length xs - length ys) (ap (λ (w : World D). w.threads) come.1.rest) (ap (λ (w : World D). w.threads) shown.rest) in
+      let ys = ap₂ (λ (xs ys : List _). length xs - length ys) (ap (λ (w : World D). w.objects) come.1.rest) (ap (λ (w : World D). w.objects) shown.rest) in
+      made_needs_memory op w entry come.0 (came_so (counted op w) (entry, come.0) come.2) (omega (arith, more, et, eo, xs, ys))
+
+  -- what a course comes to with what an operation made
+  pub started_course : (op : Op D ⊤) (entry : Entry D) (old mid : Progress D) (path : Route) → Starts op old (Ok entry) mid → (c : Course D) → ShowsCourse c old path
+      → (v : Course D) × ShowsCourse v mid path × (drives (submit op c) path ≡ drives (goes_on (entry, v)) path)
+  started_course op entry old mid path starts c shown =
+      let come = starts c shown.world shown.order in (
+        grown_from c.world (record c { world = come.0 }),
+        record { world = come.2; order = come.3; place = shown.place },
+        ap (λ (tree : Tree (Entry D × World D)). drives (carried c tree >>= (λ started. goes_on (started.0, grown_from c.world started.1))) path) come.1,
+      )
+
+  module _ (op : Op D ⊤) (old mid : Progress D) (path : Route) where
+    pub start_stops : (stop : Stop) → Starts op old (Err stop) mid → Along (submit op) old path (Err stop) mid path
+    start_stops (Failure failure) starts c shown =
+        ap (λ (tree : Tree (Entry D × World D)). drives (carried c tree >>= (λ started. goes_on (started.0, grown_from c.world started.1))) path)
+        (starts c shown.world shown.order)
+    start_stops Memory starts c shown = tt
+
+    pub answered_at_once : (answer : Reply D) (active : ℕ) → active ≡ mid.state.scene.active → Starts op old (Ok (Answered answer)) mid
+        → Along (submit op) old path (Ok (turn.Reply active answer)) mid path
+    answered_at_once answer active is starts c shown =
+        let v = started_course op (Answered answer) old mid path starts c shown in (
+          v.0,
+          v.1,
+          v.2 ∙ ap (λ (t : ℕ). (Ok (turn.Reply t answer, v.0), trail path)) (ap (λ (w : World D). w.active) v.1.world.rest ∙ sym is),
+        )
+
+    pub started_on : (entry : Entry D) (next : Course D → Tree (Turn D × Course D)) → ((v : Course D) → goes_on (entry, v) ≡ next v) → Starts op old (Ok entry) mid
+        → (result : Result (Turn D) Stop) (new : Progress D) (after : Route) → Along next mid path result new after → Along (submit op) old path result new after
+    started_on entry next is starts result new after onward c shown =
+        let v = started_course op entry old mid path starts c shown in
+        same_way (submit op c) (next v.0) path path result new after (v.2 ∙ ap (λ (tree : Tree (Turn D × Course D)). drives tree path) (is v.0)) (onward v.0 v.1)
 
   -- a run that isn't over does it
   pub submits_by : (old new : ExecutionState D) (op : Op D ⊤) (path after : Route) (answer : Result (Turn D) Stop) → old.over ≡ None → Along (submit op) old.run path answer new.run after

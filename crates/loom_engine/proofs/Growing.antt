@@ -1,8 +1,7 @@
 -- Where memory is needed on the way through a tree: a path is never shorter after it, and what a part needs, the whole does.
-use Rattle.std.proofs.Common.{◌≡◌, ◌≤◌, ◌+◌, ℕ, suc, Bool, true, false, [], ◌∷◌, length, Option, Some, None, inl, inr, ap, sym, ◌∙◌, subst, arith, length-append}
+use Rattle.std.proofs.Common.{◌≡◌, ◌≤◌, ◌+◌, List, ℕ, zero, suc, Bool, true, false, [], ◌∷◌, length, Option, Some, None, inl, inr, ap, refl, sym, ◌∙◌, subst, arith, length-append}
 use Rattle.std.proofs.lemmas.List.{length-map}
 use Rattle.std.specs.Prelude.{Result, Ok, Err, cond, nat_lt, slice_get, ⊤}
-use Rattle.loom_views.specs.Table.{Points}
 use Rattle.loom_views.specs.declared.rt.failure.FailureKind.{FailureKind}
 use Rattle.loom_views.specs.declared.rt.failure.FailureKind.TheVariants.{NotDeterministic, TooManyBranches}
 use Rattle.loom_objects.specs.declared.choice.Choice.{Choice}
@@ -16,28 +15,31 @@ use Rattle.loom_objects.specs.declared.rt.run.Loading.{Loading}
 use Rattle.loom_objects.specs.declared.rt.run.Resumed.TheVariants as resumed
 use Rattle.loom_objects.specs.declared.rt.run.Passed.{Passed}
 use Rattle.loom_objects.specs.declared.rt.run.Passed.TheVariants as passed
-use Rattle.loom_objects.specs.declared.rt.run.RunState.{RunState}
 use Rattle.loom_objects.specs.declared.rt.thread.Offers.{Offers}
 use Rattle.loom_objects.specs.Question.{Question, made_of}
-use Rattle.loom_objects.specs.Scene.{world_of}
-use Rattle.loom_objects.specs.Schedules.{offers}
-use Rattle.loom_objects.specs.Shown.{Shows, Does, Resumes}
-use Rattle.loom_objects.specs.Steps.{begins, enters_wait, resumes}
+use Rattle.loom_objects.specs.Shown.{Shows, Resumes, Comes as world_comes}
+use Rattle.loom_objects.specs.Steps.{enters_wait, resumes}
+use Rattle.loom_objects.specs.Effects.{needs_memory}
+use Rattle.loom_objects.specs.Uses.{use_at}
 use Rattle.loom_objects.specs.Tree.{Tree, Gives, Fails, Closes, Asks, ◌>>=◌}
 use Rattle.loom_objects.specs.World.{World}
 use Rattle.loom_walks.specs.Walk.Choices.{pick}
 use Rattle.loom_walks.specs.Walk.Path.{Stored}
 use Rattle.loom_walks.specs.Trees.Comparing.{same_made}
-use Rattle.loom_walks.specs.Trees.Drive.{Trail, Answer, passes_of, new_node, lengthen, branch, branch_at, is_used_up, drive, drive_on}
+use Rattle.loom_walks.specs.Trees.Drive.{Trail, Answer, passes_of, new_node, lengthen, branch, branch_at, backtrack, is_used_up, marked, drive, drive_on}
 use Rattle.loom_walks.specs.Trees.Marks.{marking}
-use Rattle.loom_walks.specs.Trees.Meeting.{Settings, every_at, whole_search}
+use Rattle.loom_walks.specs.Trees.Meeting.{Settings, Marking, every_at}
+use Rattle.loom_walks.specs.Walk.UnderWay.{mark_with}
 use Rattle.loom_walks.proofs.Trees.Binding.{onward, drive_bind, drive_then}
-use Rattle.loom_runs.specs.Asking.{which_thread, which_store, whether_spurious}
+use Rattle.loom_objects.specs.Asked.{which_thread, which_store, whether_spurious}
 use Rattle.loom_runs.specs.Machine.{passes, chooses, further, further_branches, goes_on, is_asked, schedule, submit, waits}
-use Rattle.loom_engine.specs.Execution.{Along, NeedsMemory, AllNeedMemory, itself}
-use Rattle.loom_engine.proofs.Executing.{asked, scheduled, first_of, goes_on_by}
-use Rattle.loom_engine.specs.Nodes.{seen}
-use Rattle.loom_engine.specs.Routes.{Route, trail, settings_of, Says, Grows, drives}
+use Rattle.loom_runs.specs.Courses.{Course, carried, used_in}
+use Rattle.loom_machine.specs.Copies.{GivesCopy}
+use Rattle.loom_engine.specs.Execution.{Along, MayBeRefused, NeedsMemory, AllNeedMemory, Notes, ShowsCourse, Starts, itself, takes_turn}
+use Rattle.loom_engine.specs.declared.rt.execution.Progress.{Progress}
+use Rattle.loom_engine.proofs.Executing.{IsSchedule, asked, chosen_course, first_of, goes_on_by, marked_first, read_asks, scheduled, started_course, unmarked_load, unmarked_wait, waiting}
+use Rattle.loom_path.specs.Nodes.{seen}
+use Rattle.loom_path.specs.Routes.{Route, trail, Says, Grows, drives}
 
 -- ---- no answer of a path makes it shorter
 
@@ -62,6 +64,21 @@ answered_at s path question None =
 answered : (s : Settings) (path : Trail) (question : Question) → length path.nodes ≤ length (branch s path question).1.nodes
 answered s path question = answered_at s path question (slice_get path.nodes path.position)
 
+-- ---- nor do marks
+
+as_long_with : (marks : ℕ → Choice → Bool) (k : ℕ) (nodes : List Stored) → length (mark_with marks k nodes) ≡ length nodes
+as_long_with marks k [] = refl
+as_long_with marks k (n ∷ nodes) = ap suc (as_long_with marks (suc k) nodes)
+
+as_long : (reduce : Bool) (marks : ℕ → Choice → Bool) (nodes : List Stored) → length (marked reduce marks nodes) ≡ length nodes
+as_long false marks nodes = refl
+as_long true marks nodes = as_long_with marks zero nodes
+
+pub marked_as_long : (path mid : Route) (question : Question) → trail mid ≡ backtrack path.search (marking path.search.bound) (trail path) question → length mid.nodes ≡ length path.nodes
+marked_as_long path mid question marks =
+    sym (length-map mid.nodes seen) ∙ ap (λ (t : Trail). length t.nodes) marks
+    ∙ as_long path.search.reduce (marking path.search.bound (passes_of (trail path)) question) (trail path).nodes ∙ length-map path.nodes seen
+
 -- ---- nor does a drive
 
 module _ {A : Type 0} where
@@ -74,40 +91,45 @@ module _ {A : Type 0} where
   closed_by true path d h = h
   closed_by false path d h = omega arith
 
-  pub never_shorter : (k : ℕ) (tree : Tree A) (path : Trail) → length path.nodes ≤ length (drive (whole_search k) (marking None) tree path).1.nodes
-  never_shorter k (Gives a) path = omega arith
-  never_shorter k (Fails kind) path = omega arith
-  never_shorter k (Closes rest) path = closed_by (is_used_up path) path (drive (whole_search k) (marking None) rest path) (never_shorter k rest path)
-  never_shorter k (Asks question branches) path =
-      driven_on (λ choice after. drive (whole_search k) (marking None) (branches choice) after) (branch (whole_search k) path question) (length path.nodes)
-      (answered (whole_search k) path question) (λ choice after. never_shorter k (branches choice) after)
+  pub never_shorter : (s : Settings) (adds : Marking) (tree : Tree A) (path : Trail) → length path.nodes ≤ length (drive s adds tree path).1.nodes
+  never_shorter s adds (Gives a) path = omega arith
+  never_shorter s adds (Fails kind) path = omega arith
+  never_shorter s adds (Closes rest) path = closed_by (is_used_up path) path (drive s adds rest path) (never_shorter s adds rest path)
+  never_shorter s adds (Asks question branches) path =
+      driven_on (λ choice after. drive s adds (branches choice) after) (branch s (backtrack s adds path question) question) (length path.nodes)
+      (omega (arith, answered s (backtrack s adds path question) question, as_long s.reduce (adds (passes_of path) question) path.nodes))
+      (λ choice after. never_shorter s adds (branches choice) after)
 
   -- the answer to the first question makes a node
-  pub asks_grow : (question : Question) (branches : Choice → Tree A) (path : Route) → Grows path (branch (settings_of path) (trail path) question).1 → Grows path (drives (Asks question branches) path).1
-  asks_grow question branches path grows =
-      driven_on (λ choice after. drive (settings_of path) (marking None) (branches choice) after) (branch (settings_of path) (trail path) question) (suc (length path.nodes))
-      grows (λ choice after. never_shorter path.max_branches (branches choice) after)
+  pub asks_grow : (question : Question) (branches : Choice → Tree A) (path mid : Route) → trail mid ≡ backtrack path.search (marking path.search.bound) (trail path) question → mid.search ≡ path.search
+      → Grows mid (branch mid.search (trail mid) question).1 → Grows path (drives (Asks question branches) path).1
+  asks_grow question branches path mid marks same grows =
+      let longer = driven_on (λ choice after. drive path.search (marking path.search.bound) (branches choice) after) (branch mid.search (trail mid) question) (suc (length mid.nodes))
+      grows (λ choice after. never_shorter path.search (marking path.search.bound) (branches choice) after) in
+      let e = ap (λ (d : Result A FailureKind × Trail). length d.1.nodes) (marked_first question branches path mid marks same (branch mid.search (trail mid) question) refl) in
+      omega (arith, longer, e, marked_as_long path mid question marks)
 
-module _ {A B : Type 0} (k : ℕ) where
-  onward_grown : (next : A → Tree B) (d : Result A FailureKind × Trail) (n : ℕ) → n ≤ length d.1.nodes → n ≤ length (onward (whole_search k) (marking None) next d).1.nodes
-  onward_grown next (Ok a, path) n h = omega (arith, never_shorter k (next a) path)
+module _ {A B : Type 0} (s : Settings) (adds : Marking) where
+  onward_grown : (next : A → Tree B) (d : Result A FailureKind × Trail) (n : ℕ) → n ≤ length d.1.nodes → n ≤ length (onward s adds next d).1.nodes
+  onward_grown next (Ok a, path) n h = omega (arith, never_shorter s adds (next a) path)
   onward_grown next (Err kind, path) n h = h
 
   -- what the first tree needs, the two trees need
-  pub part_grows : (tree : Tree A) (next : A → Tree B) (path : Trail) (n : ℕ) → n ≤ length (drive (whole_search k) (marking None) tree path).1.nodes
-      → n ≤ length (drive (whole_search k) (marking None) (tree >>= next) path).1.nodes
+  pub part_grows : (tree : Tree A) (next : A → Tree B) (path : Trail) (n : ℕ) → n ≤ length (drive s adds tree path).1.nodes
+      → n ≤ length (drive s adds (tree >>= next) path).1.nodes
   part_grows tree next path n h =
-      subst (λ (d : Result B FailureKind × Trail). n ≤ length d.1.nodes) (sym (drive_bind (whole_search k) (marking None) tree next path))
-      (onward_grown next (drive (whole_search k) (marking None) tree path) n h)
+      subst (λ (d : Result B FailureKind × Trail). n ≤ length d.1.nodes) (sym (drive_bind s adds tree next path))
+      (onward_grown next (drive s adds tree path) n h)
 
 -- the path after an answer, or after a part of the way, isn't shorter
-pub after_answer : (path via : Route) (question : Question) (choice : Choice) → branch (settings_of path) (trail path) question ≡ (Ok choice, trail via) → length path.nodes ≤ length via.nodes
-after_answer path via question choice e =
-    omega (arith, answered (settings_of path) (trail path) question, ap (λ (a : Answer). length a.1.nodes) e, length-map path.nodes seen, length-map via.nodes seen)
+pub after_answer : (path mid via : Route) (question : Question) (choice : Choice) → trail mid ≡ backtrack path.search (marking path.search.bound) (trail path) question
+    → branch mid.search (trail mid) question ≡ (Ok choice, trail via) → length path.nodes ≤ length via.nodes
+after_answer path mid via question choice marks e =
+    omega (arith, marked_as_long path mid question marks, answered mid.search (trail mid) question, ap (λ (a : Answer). length a.1.nodes) e, length-map mid.nodes seen, length-map via.nodes seen)
 
 pub after_part : {A : Type 0} (tree : Tree A) (path via : Route) (comes : Result A FailureKind) → drives tree path ≡ (comes, trail via) → length path.nodes ≤ length via.nodes
 after_part {A} tree path via comes e =
-    omega (arith, never_shorter path.max_branches tree (trail path), ap (λ (d : Result A FailureKind × Trail). length d.1.nodes) e, length-map path.nodes seen, length-map via.nodes seen)
+    omega (arith, never_shorter path.search (marking path.search.bound) tree (trail path), ap (λ (d : Result A FailureKind × Trail). length d.1.nodes) e, length-map path.nodes seen, length-map via.nodes seen)
 
 -- ---- what is needed
 
@@ -117,89 +139,115 @@ as_refused stop e = let is : stop ≡ Memory = cc in ap Err is
 
 module _ {D : Type 0} where
   -- a tree that goes the same way, from a path that isn't longer
-  pub needed_on : {A : Type 0} (by_turn : Turn D → A) (tree other : Tree (A × World D)) (path via : Route) → drives tree path ≡ drives other via → length path.nodes ≤ length via.nodes
+  pub needed_on : {A : Type 0} (by_turn : Turn D → A) (tree other : Tree (A × Course D)) (path via : Route) → drives tree path ≡ drives other via → length path.nodes ≤ length via.nodes
       → NeedsMemory by_turn other via → NeedsMemory by_turn tree path
-  needed_on {A} by_turn tree other path via e h (inl grows) = inl (let same = ap (λ (d : Result (A × World D) FailureKind × Trail). length d.1.nodes) e in omega arith)
-  needed_on {A} by_turn tree other path via e h (inr copied) = inr (copied.0, copied.1, copied.2, copied.3, ap (λ (d : Result (A × World D) FailureKind × Trail). d.0) e ∙ copied.4)
+  needed_on {A} by_turn tree other path via e h (inl grows) = inl (let same = ap (λ (d : Result (A × Course D) FailureKind × Trail). length d.1.nodes) e in omega arith)
+  needed_on {A} by_turn tree other path via e h (inr copied) = inr (copied.0, copied.1, copied.2, copied.3, ap (λ (d : Result (A × Course D) FailureKind × Trail). d.0) e ∙ copied.4)
 
   -- schedules up to a turn need what the first of them does
-  pub needed_further : (again : World D → Tree (Turn D × World D)) (tree : Tree (Passed D × World D)) (path : Route) → NeedsMemory passed.Turn tree path → NeedsMemory itself (tree >>= further again) path
-  needed_further again tree path (inl grows) = inl (part_grows path.max_branches tree (further again) (trail path) (suc (length path.nodes)) grows)
+  pub needed_further : (again : Course D → Tree (Turn D × Course D)) (tree : Tree (Passed D × Course D)) (path : Route) → NeedsMemory passed.Turn tree path → NeedsMemory itself (tree >>= further again) path
+  needed_further again tree path (inl grows) = inl (part_grows path.search (marking path.search.bound) tree (further again) (trail path) (suc (length path.nodes)) grows)
   needed_further again tree path (inr copied) = inr (
     copied.0,
     copied.1,
     copied.2,
     copied.3,
-    ap (λ (d : Result (Turn D × World D) FailureKind × Trail). d.0)
-        (drive_then (settings_of path) (marking None) tree (further again) (trail path) (drives tree path).1 _ (ap (λ (c : Result (Passed D × World D) FailureKind). (c, (drives tree path).1)) copied.4)),
+    ap (λ (d : Result (Turn D × Course D) FailureKind × Trail). d.0)
+        (drive_then path.search (marking path.search.bound) tree (further again) (trail path) (drives tree path).1 _ (ap (λ (c : Result (Passed D × Course D) FailureKind). (c, (drives tree path).1)) copied.4)),
   )
 
   -- memory is refused for the node that answers the first question
-  pub refused_first : {A X B : Type 0} (stands : X → Choice) (by_turn : Turn D → A) (question : Question) (branches : Choice → Tree (A × World D)) (path mid : Route) (stop : Stop)
-      → Says stands path question (Err stop) mid → ◌≡◌ {A = Result B Stop} (Err stop) (Err Memory) → NeedsMemory by_turn (Asks question branches) path
-  refused_first stands by_turn question branches path mid (Failure failure) says e = absurd (cc)
-  refused_first stands by_turn question branches path mid Memory says e = inl (asks_grow question branches path says.1)
+  pub refused_first : {A X B : Type 0} (stands : X → Choice) (by_turn : Turn D → A) (question : Question) (branches : Choice → Tree (A × Course D)) (path mid after : Route) (stop : Stop)
+      → trail mid ≡ backtrack path.search (marking path.search.bound) (trail path) question → mid.search ≡ path.search
+      → Says stands mid question (Err stop) after → ◌≡◌ {A = Result B Stop} (Err stop) (Err Memory) → NeedsMemory by_turn (Asks question branches) path
+  refused_first stands by_turn question branches path mid after (Failure failure) marks same says e = absurd (cc)
+  refused_first stands by_turn question branches path mid after Memory marks same says e = inl (asks_grow question branches path mid marks same says.1)
 
   -- or it is needed after that answer
-  pub needed_after : {A : Type 0} (by_turn : Turn D → A) (question : Question) (branches : Choice → Tree (A × World D)) (path via : Route) (choice : Choice) → via.max_branches ≡ path.max_branches
-      → branch (settings_of path) (trail path) question ≡ (Ok choice, trail via) → NeedsMemory by_turn (branches choice) via → NeedsMemory by_turn (Asks question branches) path
-  needed_after by_turn question branches path via choice same e =
-      needed_on by_turn (Asks question branches) (branches choice) path via (asked question branches path via choice same e) (after_answer path via question choice e)
+  pub needed_after : {A : Type 0} (by_turn : Turn D → A) (question : Question) (branches : Choice → Tree (A × Course D)) (path mid via : Route) (choice : Choice)
+      → trail mid ≡ backtrack path.search (marking path.search.bound) (trail path) question → mid.search ≡ path.search → via.search ≡ mid.search
+      → branch mid.search (trail mid) question ≡ (Ok choice, trail via) → NeedsMemory by_turn (branches choice) via → NeedsMemory by_turn (Asks question branches) path
+  needed_after by_turn question branches path mid via choice marks same on e =
+      needed_on by_turn (Asks question branches) (branches choice) path via (asked question branches path mid marks same via choice on e) (after_answer path mid via question choice marks e)
 
   -- ---- one schedule
 
-  module _ (old : RunState D) (offered : Offers) (is : (points : Points) (left : ℕ) → offered ≡ offers (world_of points left old.scene)) (path mid : Route) (same : mid.max_branches ≡ path.max_branches) where
-    pub thread_refused : {B : Type 0} (stop : Stop) → Says Thread path (which_thread offered) (Err stop) mid → ◌≡◌ {A = Result B Stop} (Err stop) (Err Memory) → AllNeedMemory passed.Turn passes old path
-    thread_refused stop says e w shown =
-        needed_on passed.Turn (passes w) (Asks (which_thread offered) (chooses w)) path path (scheduled old offered is path mid same w shown) (omega arith)
-        (refused_first Thread passed.Turn (which_thread offered) (chooses w) path mid stop says e)
+  module _ (old : Progress D) (offered : Offers) (places : List (Option ℕ)) (path mid : Route) (s : IsSchedule old offered places path mid) where
+    pub thread_refused : {B : Type 0} (after : Route) (stop : Stop) → Says Thread mid (which_thread offered places) (Err stop) after → ◌≡◌ {A = Result B Stop} (Err stop) (Err Memory) → AllNeedMemory passed.Turn passes old path
+    thread_refused after stop says e c shown =
+        needed_on passed.Turn (passes c) (Asks (which_thread offered places) (chooses c)) path path (scheduled old offered places path mid s c shown) (omega arith)
+        (refused_first Thread passed.Turn (which_thread offered places) (chooses c) path mid after stop (s.marks.0 offered) s.marks.1 says e)
 
-    pub thread_needs : (thread : ℕ) → Says Thread path (which_thread offered) (Ok (Some thread)) mid → AllNeedMemory passed.Turn (resumes thread) old mid → AllNeedMemory passed.Turn passes old path
-    thread_needs thread says needs w shown =
-        needed_on passed.Turn (passes w) (Asks (which_thread offered) (chooses w)) path path (scheduled old offered is path mid same w shown) (omega arith)
-        (needed_after passed.Turn (which_thread offered) (chooses w) path mid (Thread (Some thread)) same says (needs w shown))
+    -- the thread that was chosen needs memory as it goes on
+    pub thread_needs : (thread : ℕ) (after : Route) → after.search ≡ mid.search → Says Thread mid (which_thread offered places) (Ok (Some thread)) after → (run : Progress D)
+        → ((c : Course D) → ShowsCourse c old path → Notes (used_in thread c (use_at c.world.threads thread)) (Ok tt) run.dependence) → run.state ≡ old.state
+        → AllNeedMemory passed.Turn (takes_turn thread) run after → AllNeedMemory passed.Turn passes old path
+    thread_needs thread after same says run notes state needs c shown =
+        let v = chosen_course old offered places path mid s after same thread says run notes state c shown in
+        needed_on passed.Turn (passes c) (takes_turn thread v.0) path after v.2
+        (after_answer path mid after (which_thread offered places) (Thread (Some thread)) (s.marks.0 offered) says) (needs v.0 v.1)
 
   -- memory is refused for the node of a load
-  pub load_refused : {B : Type 0} (thread : ℕ) (load : Loading) (old new : RunState D) (path mid : Route) (stop : Stop) → ((w : World D) → Shows w old → Resumes (resumes thread w) (Ok (resumed.Load load)) new)
-      → Says Load path (which_store load.readable) (Err stop) mid → ◌≡◌ {A = Result B Stop} (Err stop) (Err Memory) → AllNeedMemory passed.Turn (resumes thread) old path
-  load_refused thread load old new path mid stop does says e w shown =
-      let come = does w shown in
-      needed_on passed.Turn (resumes thread w) (Asks (which_store load.readable) _) path path (ap (λ (t : Tree (Passed D × World D)). drives t path) come.3) (omega arith)
-      (refused_first Load passed.Turn (which_store load.readable) _ path mid stop says e)
+  pub load_refused : {B : Type 0} (t : ℕ) (load : Loading) (old mid : Progress D) (path via : Route) (stop : Stop)
+      → ((w : World D) → Shows w old.state → Resumes (resumes t w) (Ok (resumed.Load load)) mid.state) → mid.dependence ≡ old.dependence
+      → Says Load path (which_store load.readable) (Err stop) via → ◌≡◌ {A = Result B Stop} (Err stop) (Err Memory) → AllNeedMemory passed.Turn (takes_turn t) old path
+  load_refused t load old mid path via stop does kept says e c shown =
+      needed_on passed.Turn (takes_turn t c) (Asks (which_store load.readable) _) path path (read_asks t load old mid path via does kept c shown) (omega arith)
+      (refused_first Load passed.Turn (which_store load.readable) _ path path via stop (unmarked_load t load old mid path via does kept) refl says e)
+
+  -- a reader is given a copy, for which memory is refused
+  pub copy_refused : (t : ℕ) (old : Progress D) (path : Route) → ((w : World D) → Shows w old.state → GivesCopy (resumes t w)) → AllNeedMemory passed.Turn (takes_turn t) old path
+  copy_refused t old path gives c shown =
+      let copied = gives c.world shown.world in
+      inr (
+        copied.0,
+        copied.1,
+        copied.2,
+        record c { world = copied.3 },
+        ap (λ (tree : Tree (Passed D × World D)). (drives (carried c tree) path).0) copied.4,
+      )
 
   -- ---- schedules up to a turn
 
-  pub pass_needs : (old : RunState D) (path : Route) (more : ℕ) → AllNeedMemory passed.Turn passes old path → AllNeedMemory itself (schedule more) old path
-  pass_needs old path more needs w shown =
-      let first = first_of more w in
-      needed_on itself (schedule more w) (passes w >>= further first.0) path path (ap (λ (t : Tree (Turn D × World D)). drives t path) first.1) (omega arith)
-      (needed_further first.0 (passes w) path (needs w shown))
+  pub pass_needs : (old : Progress D) (path : Route) (more : ℕ) → AllNeedMemory passed.Turn passes old path → AllNeedMemory itself (schedule more) old path
+  pass_needs old path more needs c shown =
+      let first = first_of more c in
+      needed_on itself (schedule more c) (passes c >>= further first.0) path path (ap (λ (t : Tree (Turn D × Course D)). drives t path) first.1) (omega arith)
+      (needed_further first.0 (passes c) path (needs c shown))
 
-  pub further_needs : (old mid : RunState D) (path via : Route) (more left : ℕ) → more ≡ suc left → Along passes old path (Ok passed.AtBranch) mid via → via.max_branches ≡ path.max_branches
+  pub further_needs : (old mid : Progress D) (path via : Route) (more left : ℕ) → more ≡ suc left → Along passes old path (Ok passed.AtBranch) mid via → via.search ≡ path.search
       → AllNeedMemory itself (schedule left) mid via → AllNeedMemory itself (schedule more) old path
-  further_needs old mid path via more left e along same needs w shown =
-      let come = along w shown in
-      needed_on itself (schedule more w) (schedule left come.0) path via (goes_on_by more left e w come.0 path via come.2 same) (after_part (passes w) path via (Ok (passed.AtBranch, come.0)) come.2)
+  further_needs old mid path via more left e along same needs c shown =
+      let come = along c shown in
+      needed_on itself (schedule more c) (schedule left come.0) path via (goes_on_by more left e c come.0 path via come.2 same) (after_part (passes c) path via (Ok (passed.AtBranch, come.0)) come.2)
       (needs come.0 come.1)
 
   -- ---- a wait, and an operation
 
   -- memory is refused for the node of a spurious wake-up
-  pub wake_refused : {B : Type 0} (n : ℕ) (old : RunState D) (path mid : Route) (stop : Stop) → Says Spurious path whether_spurious (Err stop) mid → ◌≡◌ {A = Result B Stop} (Err stop) (Err Memory)
+  pub wake_refused : {B : Type 0} (n : ℕ) (old : Progress D) (path mid : Route) (stop : Stop) → Says Spurious path whether_spurious (Err stop) mid → ◌≡◌ {A = Result B Stop} (Err stop) (Err Memory)
       → AllNeedMemory itself (is_asked n) old path
-  wake_refused n old path mid stop says e w shown = refused_first Spurious itself whether_spurious (waits n w) path mid stop says e
+  wake_refused n old path mid stop says e c shown =
+      refused_first Spurious itself whether_spurious (waits n c) path path mid stop (unmarked_wait n old path) refl says e
 
-  pub wait_needs : (n : ℕ) (is_spurious : Bool) (old mid : RunState D) (path via : Route) → Says Spurious path whether_spurious (Ok is_spurious) via → via.max_branches ≡ path.max_branches
-      → Does (enters_wait is_spurious n) old (Ok tt) mid → AllNeedMemory itself (schedule further_branches) mid via → AllNeedMemory itself (is_asked n) old path
-  wait_needs n is_spurious old mid path via says same does needs w shown =
-      let come = does w shown in
-      needed_after itself whether_spurious (waits n w) path via (Spurious is_spurious) same says
-      (needed_on itself (waits n w (Spurious is_spurious)) (schedule further_branches come.0) via via
-      (ap (λ (t : Tree (⊤ × World D)). drives (t >>= (λ after. schedule further_branches after.1)) via) come.2) (omega arith) (needs come.0 come.1))
+  pub wait_needs : (n : ℕ) (is_spurious : Bool) (old mid : Progress D) (path via : Route) → (says : Says Spurious path whether_spurious (Ok is_spurious) via) → (same : via.search ≡ path.search)
+      → ((w : World D) → Shows w old.state → world_comes (enters_wait is_spurious n w) (Ok tt) mid.state) → mid.dependence ≡ old.dependence
+      → AllNeedMemory itself (schedule further_branches) mid via → AllNeedMemory itself (is_asked n) old path
+  wait_needs n is_spurious old mid path via says same does kept needs c shown =
+      let v = waiting n old path is_spurious via says same mid does kept c shown in
+      needed_on itself (is_asked n c) (schedule further_branches v.0) path via v.2
+      (after_answer path path via whether_spurious (Spurious is_spurious) (unmarked_wait n old path) says) (needs v.0 v.1)
 
-  pub event_needs : (op : Op D ⊤) (entry : Entry D) (next : World D → Tree (Turn D × World D)) (old mid : RunState D) (path : Route) → ((w : World D) → goes_on (entry, w) ≡ next w)
-      → Does (begins op) old (Ok entry) mid → AllNeedMemory itself next mid path → AllNeedMemory itself (submit op) old path
-  event_needs op entry next old mid path is does needs w shown =
-      let come = does w shown in
-      needed_on itself (submit op w) (next come.0) path path
-      (ap (λ (t : Tree (Entry D × World D)). drives (t >>= goes_on) path) come.2 ∙ ap (λ (t : Tree (Turn D × World D)). drives t path) (is come.0)) (omega arith) (needs come.0 come.1)
+  pub event_needs : (op : Op D ⊤) (entry : Entry D) (next : Course D → Tree (Turn D × Course D)) (old mid : Progress D) (path : Route) → ((v : Course D) → goes_on (entry, v) ≡ next v)
+      → Starts op old (Ok entry) mid → AllNeedMemory itself next mid path → AllNeedMemory itself (submit op) old path
+  event_needs op entry next old mid path is starts needs c shown =
+      let v = started_course op entry old mid path starts c shown in
+      needed_on itself (submit op c) (next v.0) path path (v.2 ∙ ap (λ (t : Tree (Turn D × Course D)). drives t path) (is v.0)) (omega arith) (needs v.0 v.1)
+
+  -- memory is refused as the operation begins
+  pub begin_refused : (op : Op D ⊤) (old : Progress D) (path : Route) → ((w : World D) → Shows w old.state → needs_memory op ≡ true) → MayBeRefused op old path
+  begin_refused op old path needs = by (needs_memory op) refl
+    where
+      by : (b : Bool) → needs_memory op ≡ b → MayBeRefused op old path
+      by true e = inl e
+      by false e = inr (λ c shown. absurd (cc (needs c.world shown.world, e)))

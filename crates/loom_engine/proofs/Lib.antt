@@ -1,3 +1,2 @@
 pub mod Executing
 pub mod Growing
-pub mod Nodes

@@ -1,5 +1,5 @@
 -- One execution: the run so far, and whether it is over.
-use Rattle.std.specs.Prelude.{ℕ, ◌≡◌, ◌⊎◌, true, Option, Some, None, Result, Ok, Err, ⊤}
+use Rattle.std.specs.Prelude.{ℕ, ◌≡◌, ◌⊎◌, true, Option, Some, None, Result, Ok, Err, ⊤, List, slice_get}
 use Rattle.loom_views.specs.declared.rt.failure.FailureKind.TheVariants.{Misuse}
 use Rattle.loom_views.specs.declared.rt.failure.FailureKind.{FailureKind}
 use Rattle.loom_objects.specs.declared.failure.Stop.{Stop}
@@ -8,47 +8,89 @@ use Rattle.loom_objects.specs.declared.operation.Op.{Op}
 use Rattle.loom_objects.specs.declared.operation.Reply.TheVariants.{ReadLocked}
 use Rattle.loom_objects.specs.declared.operation.Turn.{Turn}
 use Rattle.loom_objects.specs.declared.operation.Turn.TheVariants.{Reply, Start, Ended}
-use Rattle.loom_objects.specs.declared.rt.run.RunState.{RunState}
 use Rattle.loom_objects.specs.Effects.{needs_memory}
-use Rattle.loom_objects.specs.Tree.{Tree}
-use Rattle.loom_objects.specs.World.{World}
+use Rattle.loom_objects.specs.Tree.{Tree, Gives, Fails}
 use Rattle.loom_objects.specs.Shown.{Shows}
+use Rattle.loom_objects.specs.World.{World}
+use Rattle.loom_objects.specs.declared.rt.run.Entry.{Entry}
+use Rattle.loom_dependence.specs.Dependence.{Order}
+use Rattle.loom_dependence.specs.declared.rt.dependence.Dependence.{Dependence}
+use Rattle.loom_dependence.specs.declared.rt.dependence.Use.{Use}
+use Rattle.loom_dependence.specs.Shown.{ShowsOrder}
+use Rattle.loom_engine.specs.declared.rt.execution.Progress.{Progress}
+use Rattle.loom_objects.specs.declared.rt.run.Passed.{Passed}
+use Rattle.loom_objects.specs.Steps.{begins, resumes}
+use Rattle.loom_runs.specs.Courses.{Course, carried, grown_from}
 use Rattle.loom_runs.specs.Machine.{submit}
-use Rattle.loom_engine.specs.Routes.{Route, trail, drives, Grows}
+use Rattle.loom_path.specs.Routes.{Route, trail, drives, Grows}
 
--- the state of the run, and what every further operation is answered once the run is over
+-- the run so far, and what every further operation is answered once the run is over
 pub record ExecutionState (D : Type 0) : Type 0 where
-  pub run : RunState D
+  pub run : Progress D
   pub over : Option Stop
 
+-- what the thread of this number is about to do
+abbrev pub use_found : Option (Option Use) → Option Use
+use_found None = None
+use_found (Some used) = used
+
+abbrev pub use_among : ℕ → List (Option Use) → Option Use
+use_among t uses = use_found (slice_get uses t)
+
+-- the order that an access leads to is kept, or the access stops the run
+abbrev pub Notes : Result Order FailureKind → Result ⊤ Stop → Dependence → Type 0
+Notes (Ok order) result new = (result ≡ Ok tt) × ShowsOrder order new
+Notes (Err kind) result new = result ≡ Err (Failure (record { kind = kind; location = None }))
+
+-- The run along this path shows the course: its state and its order of accesses, and the path has passed as many nodes.
+pub record ShowsCourse {D : Type 0} (c : Course D) (run : Progress D) (path : Route) : Type 0 where
+  pub world : Shows c.world run.state
+  pub order : ShowsOrder c.order run.dependence
+  pub place : c.passed ≡ path.position
+
 module _ {D : Type 0} where
-  -- The tree comes to this along the path, memory aside. If it doesn't fail, the state shows where the tree leads.
-  abbrev pub Comes : {A : Type 0} → Tree (A × World D) → Route → Result A Stop → RunState D → Route → Type 0
-  Comes tree old (Ok a) run new = (w : World D) × Shows w run × (drives tree old ≡ (Ok (a, w), trail new))
+  -- The tree comes to this along the path, memory aside. If it doesn't fail, the run shows where the tree leads.
+  abbrev pub Comes : {A : Type 0} → Tree (A × Course D) → Route → Result A Stop → Progress D → Route → Type 0
+  Comes tree old (Ok a) run new = (c : Course D) × ShowsCourse c run new × (drives tree old ≡ (Ok (a, c), trail new))
   Comes tree old (Err (Failure failure)) run new = drives tree old ≡ (Err failure.kind, trail new)
   Comes tree old (Err Memory) run new = Unit {0}
 
-  -- what the code came to along the path is what the tree comes to that the rule says of each state that was shown before it
-  abbrev pub Along : {A : Type 0} → (World D → Tree (A × World D)) → RunState D → Route → Result A Stop → RunState D → Route → Type 0
-  Along rule old path result new after = (w : World D) → Shows w old → Comes (rule w) path result new after
+  -- what the code came to along the path is what the tree comes to that the rule says of each course that was shown before it
+  abbrev pub Along : {A : Type 0} → (Course D → Tree (A × Course D)) → Progress D → Route → Result A Stop → Progress D → Route → Type 0
+  Along rule old path result new after = (c : Course D) → ShowsCourse c old path → Comes (rule c) path result new after
+
+  -- What an operation does up to its branch point, as the rule says of each course that was shown: the state after it is shown, and
+  -- so is the order, with what the operation made.
+  abbrev pub StartsAt : Course D → Tree (Entry D × World D) → Result (Entry D) Stop → Progress D → Type 0
+  StartsAt c tree (Ok entry) new =
+      (w : World D) × (tree ≡ Gives (entry, w)) × Shows w new.state × ShowsOrder (grown_from c.world (record c { world = w })).order new.dependence
+  StartsAt c tree (Err (Failure failure)) new = tree ≡ Fails failure.kind
+  StartsAt c tree (Err Memory) new = Unit {0}
+
+  abbrev pub Starts : Op D ⊤ → Progress D → Result (Entry D) Stop → Progress D → Type 0
+  Starts op old result new = (c : Course D) → Shows c.world old.state → ShowsOrder c.order old.dependence → StartsAt c (begins op c.world) result new
+
+  -- what the chosen thread has pending takes effect, once its node was passed
+  abbrev pub takes_turn : ℕ → Course D → Tree (Passed D × Course D)
+  takes_turn t c = carried c (resumes t c.world)
 
   -- a reader is told of a copy of a lock's data
-  abbrev pub IsCopied : {A : Type 0} → (Turn D → A) → Result (A × World D) FailureKind → Type 0
-  IsCopied by_turn comes = (reader n : ℕ) × (copy : D) × (after : World D) × (comes ≡ Ok (by_turn (Reply reader (ReadLocked n copy)), after))
+  abbrev pub IsCopied : {A : Type 0} → (Turn D → A) → Result (A × Course D) FailureKind → Type 0
+  IsCopied by_turn comes = (reader n : ℕ) × (copy : D) × (after : Course D) × (comes ≡ Ok (by_turn (Reply reader (ReadLocked n copy)), after))
 
   -- memory is needed on the way through the tree along the path: a node is made, or it comes to a copy
-  abbrev pub NeedsMemory : {A : Type 0} → (Turn D → A) → Tree (A × World D) → Route → Type 0
+  abbrev pub NeedsMemory : {A : Type 0} → (Turn D → A) → Tree (A × Course D) → Route → Type 0
   NeedsMemory by_turn tree path = Grows path (drives tree path).1 ⊎ IsCopied by_turn (drives tree path).0
 
-  -- it is, from each state that is shown
-  abbrev pub AllNeedMemory : {A : Type 0} → (Turn D → A) → (World D → Tree (A × World D)) → RunState D → Route → Type 0
-  AllNeedMemory by_turn rule old path = (w : World D) → Shows w old → NeedsMemory by_turn (rule w) path
+  -- it is, from each course that is shown
+  abbrev pub AllNeedMemory : {A : Type 0} → (Turn D → A) → (Course D → Tree (A × Course D)) → Progress D → Route → Type 0
+  AllNeedMemory by_turn rule old path = (c : Course D) → ShowsCourse c old path → NeedsMemory by_turn (rule c) path
 
   abbrev pub itself : Turn D → Turn D
   itself turn = turn
 
   -- memory may be refused at an operation: it makes an object or a thread or copies data as it begins, or it is needed on the way
-  abbrev pub MayBeRefused : Op D ⊤ → RunState D → Route → Type 0
+  abbrev pub MayBeRefused : Op D ⊤ → Progress D → Route → Type 0
   MayBeRefused op old path = (needs_memory op ≡ true) ⊎ AllNeedMemory itself (submit op) old path
 
   -- what every further operation is answered: after the end Misuse, after a stop the same stop
@@ -63,7 +105,7 @@ module _ {D : Type 0} where
       Along (submit op) old.run path answer new.run after × (new.over ≡ over_after answer) × (answer ≡ Err Memory → MayBeRefused op old.run path)
   SubmitsAt (Some stop) old op path answer new after = (answer ≡ Err stop) × (new ≡ old) × (after ≡ path)
 
-  -- One event of the machine along the path, from each of its states that the execution shows; memory is refused only where it
+  -- One event of the machine along the path, from each course that the execution shows; memory is refused only where it
   -- is needed. Once the run is over it is the same answer again, and nothing changes.
   abbrev pub Submits : ExecutionState D → Op D ⊤ → Route → Result (Turn D) Stop → ExecutionState D → Route → Type 0
   Submits old op path answer new after = SubmitsAt old.over old op path answer new after

@@ -1,3 +1,1 @@
-pub mod Nodes
-pub mod Routes
 pub mod Execution

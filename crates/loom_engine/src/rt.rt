@@ -1,4 +1,2 @@
-//! The path and the execution of a run.
+//! The execution of a run.
 pub mod execution;
-pub mod node;
-pub mod path;

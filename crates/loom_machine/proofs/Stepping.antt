@@ -23,7 +23,7 @@ use Rattle.loom_objects.specs.declared.rt.run.RunState.{RunState}
 use Rattle.loom_objects.specs.Atomics.{reads}
 use Rattle.loom_objects.specs.Effects.{chosen, counted, op_begins}
 use Rattle.loom_objects.specs.Failing.{failure_of, fails}
-use Rattle.loom_objects.specs.Operation.{accessed}
+use Rattle.loom_objects.specs.Accessed.{accessed}
 use Rattle.loom_objects.specs.Question.{asked_store, slots, slots_from}
 use Rattle.loom_objects.specs.Rule.{check}
 use Rattle.loom_objects.specs.Rule as rule

@@ -2,7 +2,7 @@
 ghost use Rattle.std.specs.Prelude.{◌≡◌, ◌≢◌, Err, ◌+◌, slice_get, true, IfOk, OnOk};
 ghost use Rattle.loom_machine.specs.Copies.{GivesCopy, reads_at};
 ghost use Rattle.loom_objects.specs.Effects as effects;
-ghost use Rattle.loom_objects.specs.Operation.{accessed};
+ghost use Rattle.loom_objects.specs.Accessed.{accessed};
 ghost use Rattle.loom_objects.specs.Scene.{HasSlot, KeepsAt};
 ghost use Rattle.loom_objects.specs.Shown.{Comes, Does, Shows, Resumes};
 ghost use Rattle.loom_objects.specs.Steps as rules;

@@ -22,7 +22,7 @@ use Rattle.loom_objects.specs.declared.rt.run.Resumed.{Resumed}
 use Rattle.loom_objects.specs.declared.rt.run.Resumed.TheVariants as resumed
 use Rattle.loom_objects.specs.declared.rt.sync.Atomic.{Atomic}
 use Rattle.loom_objects.specs.declared.rt.thread.Task.TheVariants as task
-use Rattle.loom_objects.specs.Operation.{accessed}
+use Rattle.loom_objects.specs.Accessed.{accessed}
 use Rattle.loom_objects.specs.Rule.{◌>>=◌, check, found}
 use Rattle.loom_objects.specs.Turns.{replied}
 use Rattle.loom_objects.specs.World.{World}

@@ -1,5 +1,5 @@
 -- What cells do.
-use Rattle.std.specs.Prelude.{ℕ, ◌+◌, ◌-◌, ◌^◌, ◌==◌, ◌&&◌, Bool, true, false, nat_lt, [], ◌∷◌, ◌++◌, length, is_none, slice_get, slice_set, if◌then◌else◌, Option, Some, None, Result, Ok, Err, ⊤}
+use Rattle.std.specs.Prelude.{ℕ, ◌+◌, ◌-◌, ◌==◌, ◌&&◌, Bool, true, false, nat_lt, [], ◌∷◌, ◌++◌, length, is_none, slice_get, slice_set, if◌then◌else◌, Option, Some, None, Result, Ok, Err, ⊤}
 use Rattle.std.specs.List.{list_all}
 use Rattle.loom_views.specs.Table.{points_with_cell, points_after_read, points_after_write}
 use Rattle.loom_views.specs.declared.rt.failure.FailureKind.{FailureKind}

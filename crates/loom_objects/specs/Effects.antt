@@ -1,5 +1,5 @@
 -- The tables of the machine: what an operation does up to its branch point, and what it does once its thread is chosen.
-use Rattle.std.specs.Prelude.{ℕ, ◌-◌, Bool, false, nat_lt, Option, Some, None, Result, Ok, Err, ⊤}
+use Rattle.std.specs.Prelude.{ℕ, ◌-◌, Bool, false, nat_lt, Result, Ok, Err, ⊤}
 use Rattle.loom_views.specs.declared.rt.failure.FailureKind.TheVariants.{Assertion, TooManySteps, Misuse, Unreachable}
 use Rattle.loom_objects.specs.declared.operation.Reply.TheVariants as reply
 use Rattle.loom_objects.specs.declared.operation.Turn.TheVariants as turn
@@ -14,7 +14,6 @@ use Rattle.loom_objects.specs.declared.rt.run.Resumed.{Resumed}
 use Rattle.loom_objects.specs.declared.rt.run.Resumed.TheVariants as resumed
 use Rattle.loom_objects.specs.declared.rt.thread.Task.{Task}
 use Rattle.loom_objects.specs.declared.rt.thread.Task.TheVariants.{Start, Body, Continue, Access, Count, TryUnwrap, Lock, TryLock, Claim, Wait, Relock, Wake, Notify, Await, Rouse, Join, Finish}
-use Rattle.loom_objects.specs.declared.rt.thread.Thread.{Thread}
 use Rattle.loom_objects.specs.Cells.{cell_begins, needs_memory as cell_needs_memory}
 use Rattle.loom_objects.specs.Condvars.{condvar_begins, falls_asleep, relocks, wakes, needs_memory as condvar_needs_memory}
 use Rattle.loom_objects.specs.Counts.{arc_begins, counts, tries_unwrap, needs_memory as arc_needs_memory}

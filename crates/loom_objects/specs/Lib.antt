@@ -1,12 +1,16 @@
 pub mod Question
+pub mod Asked
 pub mod Tree
 pub mod Rule
 pub mod Failing
 pub mod Operation
+pub mod Accessed
+pub mod Placed
 pub mod World
 pub mod Lent
 pub mod Lookup
 pub mod Borrowing
+pub mod Uses
 pub mod Moves
 pub mod Scene
 pub mod SceneBorrowing

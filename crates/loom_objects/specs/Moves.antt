@@ -1,5 +1,6 @@
 -- Threads and objects by number, and how threads wait for objects.
-use Rattle.std.specs.Prelude.{ℕ, ◌+◌, ◌-◌, ◌^◌, ◌==◌, Bool, true, false, [], ◌∷◌, List, ◌++◌, map, cond, nat_lt, slice_get, slice_set, Option, Some, None, Result, Ok, ⊤}
+use Rattle.std.specs.Prelude.{ℕ, ◌+◌, ◌==◌, Bool, true, false, [], ◌∷◌, List, ◌++◌, map, cond, nat_lt, slice_get, slice_set, Option, Some, None, Result, Ok, ⊤}
+use Rattle.std.specs.Option.{option_map}
 use Rattle.std.specs.declared.sync.atomic.Ordering.TheVariants.{Release}
 use Rattle.loom_views.specs.declared.rt.failure.FailureKind.{FailureKind}
 use Rattle.loom_views.specs.declared.rt.failure.FailureKind.TheVariants.{Misuse, TooManySteps}
@@ -22,7 +23,7 @@ use Rattle.loom_objects.specs.declared.rt.thread.Claim.TheVariants.{Read, TryRea
 use Rattle.loom_objects.specs.declared.rt.thread.Task.{Task}
 use Rattle.loom_objects.specs.declared.rt.thread.Task.TheVariants as task
 use Rattle.loom_objects.specs.Lookup.{atomic_at, mutex_at, rwlock_at, condvar_at, notifier_at, cell_at, arc_at, track_at}
-use Rattle.loom_objects.specs.Operation.{accessed}
+use Rattle.loom_objects.specs.Uses.{use_of}
 use Rattle.loom_objects.specs.Rule.{◌>>=◌, check, found}
 use Rattle.loom_objects.specs.World.{World}
 
@@ -102,23 +103,7 @@ module _ {D : Type 0} where
 
   -- the object that the thread's pending operation is on
   abbrev pub target : Task D → Option ℕ
-  target task.Start = None
-  target task.Body = None
-  target (task.Access access) = accessed access
-  target task.Continue = None
-  target (task.Lock locking n) = Some n
-  target (task.TryLock n) = Some n
-  target (task.Claim claim n) = Some n
-  target (task.Wait locking n m value) = Some n
-  target (task.Relock locking m) = None
-  target (task.Wake waking n) = Some n
-  target (task.Notify n) = Some n
-  target (task.Await n) = Some n
-  target (task.Rouse n) = None
-  target (task.Count counting n) = Some n
-  target (task.TryUnwrap n) = Some n
-  target (task.Join t n) = Some n
-  target (task.Finish n value) = Some n
+  target task = option_map (λ used. used.object) (use_of task)
 
   -- a thread that is pending on object n gets the state
   abbrev pub pending_with : ℕ → State → Thread D → Thread D

@@ -9,7 +9,7 @@ use Rattle.loom_objects.specs.declared.rt.object.Object.{Object}
 use Rattle.loom_objects.specs.declared.rt.run.Resumed.{Resumed}
 use Rattle.loom_objects.specs.declared.rt.run.Resumed.TheVariants.{Passed, Load}
 use Rattle.loom_objects.specs.declared.rt.thread.Thread.{Thread}
-use Rattle.loom_objects.specs.Operation.{accessed}
+use Rattle.loom_objects.specs.Accessed.{accessed}
 use Rattle.loom_objects.specs.World.{World}
 
 -- the threads, main first, and the objects, both in order of creation; what is kept of views; the thread whose turn it is; how

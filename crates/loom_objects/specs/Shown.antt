@@ -8,7 +8,7 @@ use Rattle.loom_objects.specs.declared.rt.run.Passed.{Passed}
 use Rattle.loom_objects.specs.declared.rt.run.Resumed.{Resumed}
 use Rattle.loom_objects.specs.declared.rt.run.Resumed.TheVariants as resumed
 use Rattle.loom_objects.specs.declared.rt.run.RunState.{RunState}
-use Rattle.loom_objects.specs.Operation.{accessed}
+use Rattle.loom_objects.specs.Accessed.{accessed}
 use Rattle.loom_objects.specs.Question.{asked_store, slots}
 use Rattle.loom_objects.specs.Scene.{KeepsAt, world_of}
 use Rattle.loom_objects.specs.Steps.{read_by, turned}

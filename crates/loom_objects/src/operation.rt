@@ -1,5 +1,7 @@
 ghost use Rattle.std.specs.Prelude.{◌≡◌};
-ghost use Rattle.loom_objects.specs.Operation.{plain, plain_thread, started, started_thread, placed, accessed};
+ghost use Rattle.loom_objects.specs.Accessed.{accessed};
+ghost use Rattle.loom_objects.specs.Operation.{plain, plain_thread, started, started_thread};
+ghost use Rattle.loom_objects.specs.Placed.{placed};
 
 use crate::rt::location::Location;
 use crate::rt::thread::Name;

@@ -10,3 +10,4 @@ pub mod run;
 pub mod scene;
 pub mod sync;
 pub mod thread;
+pub mod uses;

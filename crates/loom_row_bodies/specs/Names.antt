@@ -1,5 +1,5 @@
 -- The table of the program's rows: each name, what it means, and how this is checked.
-use Rattle.std.specs.Prelude.{ℕ, ◌≡◌, List, [], ◌∷◌, ◌++◌, codes}
+use Rattle.std.specs.Prelude.{ℕ, ◌≡◌, List, [], ◌∷◌, ◌++◌, None, true, false, codes}
 use Rattle.loom.specs.declared.model.Builder.{Builder}
 use Rattle.loom_objects.specs.declared.rt.thread.Name.{Name}
 use Rattle.loom_scripts.specs.declared.step.Step.{Step}
@@ -11,19 +11,35 @@ use Rattle.loom_row_bodies.specs.Scripts.Locks as locks
 
 -- the settings that a builder begins with
 abbrev pub defaults : Builder
-defaults = record { max_threads = 5; max_branches = 1000; max_steps = 1000000 }
+defaults = record { max_threads = 5; max_branches = 1000; preemption_bound = None; max_steps = 1000000; reduce = true }
 
--- the same, but the threads of a run hand over ten operations at most
+-- the same, but each schedule tries every thread that can go on
+abbrev pub whole_search : Builder
+whole_search = record { max_threads = 5; max_branches = 1000; preemption_bound = None; max_steps = 1000000; reduce = false }
+
+-- the defaults, but the threads of a run hand over ten operations at most
 abbrev pub ten_steps : Builder
-ten_steps = record { max_threads = 5; max_branches = 1000; max_steps = 10 }
+ten_steps = record { max_threads = 5; max_branches = 1000; preemption_bound = None; max_steps = 10; reduce = true }
+
+-- the defaults, but a run may have 100,000 nodes
+abbrev pub long_runs : Builder
+long_runs = record { max_threads = 5; max_branches = 100000; preemption_bound = None; max_steps = 1000000; reduce = true }
 
 -- the script of these steps, by the defaults
 abbrev pub script : List ℕ → List Step → Named
 script name steps = record { name = name; means = Steps steps; builder = defaults }
 
+-- the same by a search that isn't reduced
+abbrev pub whole : List ℕ → List Step → Named
+whole name steps = record { name = name; means = Steps steps; builder = whole_search }
+
 -- the same by ten operations at most
 abbrev pub short : List ℕ → List Step → Named
 short name steps = record { name = name; means = Steps steps; builder = ten_steps }
+
+-- the same in runs of 100,000 nodes at most
+abbrev pub long : List ℕ → List Step → Named
+long name steps = record { name = name; means = Steps steps; builder = long_runs }
 
 -- the thread that updates its atomic, with these two numbers, by the defaults
 abbrev pub updates : List ℕ → ℕ → ℕ → Named
@@ -33,9 +49,11 @@ updates name one other = record { name = name; means = Updates one other; builde
 abbrev pub first_rows : List Named
 first_rows =
     script (codes "finish_only") first.finish_only ∷ script (codes "spawn_only") first.spawn_only ∷
-    script (codes "lock_beside") first.lock_beside ∷ short (codes "mutex_forever") first.mutex_forever ∷
+    whole (codes "lock_beside") first.lock_beside ∷ script (codes "lock_beside_reduced") first.lock_beside ∷
+    short (codes "mutex_forever") first.mutex_forever ∷
     script (codes "fail_at_once") first.fail_at_once ∷ script (codes "two_mutexes_deadlock") first.two_mutexes_deadlock ∷
-    script (codes "load_beside") first.load_beside ∷ script (codes "store_seven") first.store_seven ∷
+    whole (codes "load_beside") first.load_beside ∷ script (codes "load_beside_reduced") first.load_beside ∷
+    script (codes "store_seven") first.store_seven ∷
     script (codes "store_buffering") first.store_buffering ∷ script (codes "load_buffering") first.load_buffering ∷
     script (codes "check_ordering_valid") first.check_ordering_valid ∷
     script (codes "check_ordering_invalid_1") first.check_ordering_invalid_1 ∷
@@ -51,7 +69,7 @@ atomic_rows =
     script (codes "fences_then_relaxed") atomics.fences_then_relaxed ∷
     short (codes "unsync_load_forever") atomics.unsync_load_forever ∷ script (codes "sb_fences") atomics.sb_fences ∷
     script (codes "fetch_add_atomic") atomics.fetch_add_atomic ∷ script (codes "orders_equal") atomics.orders_equal ∷
-    updates (codes "fetch_update_once") atomics.num_a atomics.num_b ∷ []
+    script (codes "three_adds") atomics.three_adds ∷ updates (codes "fetch_update_once") atomics.num_a atomics.num_b ∷ []
 
 -- about cells, counted references and tracked values
 abbrev pub cell_rows : List Named
@@ -76,7 +94,8 @@ cell_rows =
 abbrev pub lock_rows : Name → List Named
 lock_rows name =
     script (codes "release_unlocked") locks.release_unlocked ∷ script (codes "lock_while_out") locks.lock_while_out ∷
-    script (codes "mutex_into_inner") locks.mutex_into_inner ∷ script (codes "rwlock_read_twice") locks.rwlock_read_twice ∷
+    script (codes "mutex_into_inner") locks.mutex_into_inner ∷ long (codes "many_locks") locks.many_locks ∷
+    long (codes "too_many_locks") locks.too_many_locks ∷ script (codes "rwlock_read_twice") locks.rwlock_read_twice ∷
     script (codes "rwlock_write_then_try_write") locks.rwlock_write_then_try_write ∷
     script (codes "read_guard_of_another") locks.read_guard_of_another ∷
     script (codes "rwlock_writer_and_readers") locks.rwlock_writer_and_readers ∷

@@ -8,7 +8,7 @@ ghost use Rattle.std.specs.Prelude.{◌≡◌, map};
 ghost use Rattle.loom_row_bodies.specs.Meanings.{named};
 ghost use Rattle.loom_row_bodies.specs.Names.{first_rows};
 
-use crate::rows::{DEFAULTS, Row, TEN_STEPS, row};
+use crate::rows::{DEFAULTS, Row, TEN_STEPS, WHOLE, row};
 use loom::sync::atomic::Ordering::{Acquire, Relaxed, Release};
 use loom_objects::operation::{AtomicOp, MutexOp, Op, ThreadOp};
 use loom_scripts::step::{END, EXIT, FAIL, Step, Value};
@@ -212,14 +212,16 @@ pub const CHECKS_FAIL: &[Step] = &[
     END,
 ];
 
-static FIRST_ROWS: [Row; 13] = [
+static FIRST_ROWS: [Row; 15] = [
     row!("finish_only", FINISH_ONLY),
     row!("spawn_only", SPAWN_ONLY),
-    row!("lock_beside", LOCK_BESIDE),
+    row!("lock_beside", LOCK_BESIDE, WHOLE),
+    row!("lock_beside_reduced", LOCK_BESIDE),
     row!("mutex_forever", MUTEX_FOREVER, TEN_STEPS),
     row!("fail_at_once", FAIL_AT_ONCE),
     row!("two_mutexes_deadlock", TWO_MUTEXES_DEADLOCK),
-    row!("load_beside", LOAD_BESIDE),
+    row!("load_beside", LOAD_BESIDE, WHOLE),
+    row!("load_beside_reduced", LOAD_BESIDE),
     row!("store_seven", STORE_SEVEN),
     row!("store_buffering", STORE_BUFFERING),
     row!("load_buffering", LOAD_BUFFERING),

@@ -2,6 +2,7 @@
 ghost use Rattle.std.specs.Prelude.{◌≡◌, ◌⊎◌, IfOk, map, option_copied};
 ghost use Rattle.loom_runs.specs.Runs.{runs as runs_of};
 ghost use Rattle.loom.specs.Check.{ReportsAlone};
+ghost use Rattle.loom.specs.Settings.{search_of};
 ghost use Rattle.loom_row_bodies.specs.Line.{PrintedOf};
 ghost use Rattle.loom_row_bodies.specs.Meanings.{named};
 ghost use Rattle.loom_row_bodies.specs.Names.{IsTable};
@@ -42,14 +43,36 @@ pub struct Row {
 pub const DEFAULTS: Builder = Builder {
     max_threads: 5,
     max_branches: 1000,
+    preemption_bound: None,
     max_steps: 1_000_000,
+    reduce: true,
 };
 
-/// The same, but the threads of a run hand over ten operations at most.
+/// The same, but each schedule tries every thread that can go on.
+pub const WHOLE: Builder = Builder {
+    max_threads: 5,
+    max_branches: 1000,
+    preemption_bound: None,
+    max_steps: 1_000_000,
+    reduce: false,
+};
+
+/// The defaults, but the threads of a run hand over ten operations at most.
 pub const TEN_STEPS: Builder = Builder {
     max_threads: 5,
     max_branches: 1000,
+    preemption_bound: None,
     max_steps: 10,
+    reduce: true,
+};
+
+/// The defaults, but a run may have 100,000 nodes.
+pub const LONG_RUNS: Builder = Builder {
+    max_threads: 5,
+    max_branches: 100_000,
+    preemption_bound: None,
+    max_steps: 1_000_000,
+    reduce: true,
 };
 
 // The row of a script, which is checked with the defaults unless settings are given.
@@ -171,7 +194,7 @@ fn check_body<R: AllocGlobal, B: Body<Data = Number>, O: Write, E: Write>(
     out: &mut O,
     err: &mut E,
 ) -> io::Result<u8>
-    ensures { IfOk result (λ status. (status ≡ 2) ⊎ PrintedSome (ReportsAlone builder.max_branches (runs_of B.next builder.max_threads builder.max_steps body.now)) (O.contents out.old) (O.contents out.new) status) }
+    ensures { IfOk result (λ status. (status ≡ 2) ⊎ PrintedSome (ReportsAlone (search_of builder) (runs_of B.next builder.max_threads builder.max_steps body.now)) (O.contents out.old) (O.contents out.new) status) }
 {
     match builder.check(rt.alloc(), body) {
         Ok(report) => print_report(out, &report),

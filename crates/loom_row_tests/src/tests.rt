@@ -1,3 +1,4 @@
+mod bodies;
 mod cells;
 mod guide;
 mod lists;
@@ -6,12 +7,14 @@ mod locks;
 mod plain;
 mod printed;
 mod replays;
+mod searches;
 mod sizes;
 
-use loom::model::{Builder, Report};
+use loom::model::Report;
 use loom::visitor::Visitor;
 use loom::{Body, Choice};
 use loom_objects::operation::{Op, ThreadOp};
+use loom_row_bodies::rows::WHOLE;
 use loom_scripts::number::Number;
 use loom_scripts::step::{END, EXIT, Step, Value};
 use std::alloc::{AllocError, Global};
@@ -69,13 +72,13 @@ impl Visitor<Number> for Keeper {
     }
 }
 
-// The runs of a check that completes, in the order in which they came.
+// The runs of a check that completes and isn't reduced, in the order in which they came.
 fn runs_of<B: Body<Data = Number>>(alloc: Global, body: &B) -> Result<Vec<Run>, Fail> {
     let mut keeper = Keeper {
         alloc,
         runs: Vec::new(alloc),
     };
-    match Builder::new().check_with(alloc, body, &mut keeper)? {
+    match WHOLE.check_with(alloc, body, &mut keeper)? {
         Report::Complete { .. } => Ok(keeper.runs),
         _ => Err(Fail::from("the check is not complete")),
     }

@@ -5,7 +5,7 @@ use Rattle.loom_objects.specs.declared.rt.thread.Ability.{Ability}
 use Rattle.loom_objects.specs.declared.rt.thread.Ability.TheVariants.{Able}
 use Rattle.loom_objects.specs.declared.rt.thread.Offers.{Offers}
 use Rattle.loom_objects.specs.Question.{IsSound, IsSoundDefault, AreSoundOffers}
-use Rattle.loom_runs.specs.Asking.{which_thread}
+use Rattle.loom_objects.specs.Asked.{which_thread}
 
 pub default_is_able : (default : Option ℕ) (abilities : List Ability) → AreSoundOffers default abilities → IsSoundDefault default abilities
 default_is_able None abilities sound = tt
@@ -15,5 +15,5 @@ pub none_is_able : (default : Option ℕ) (abilities : List Ability) → AreSoun
 none_is_able default abilities sound none = subst (λ (o : Option ℕ). AreSoundOffers o abilities) none sound
 
 -- the question which thread goes on is sound
-pub which_is_sound : (offers : Offers) → AreSoundOffers offers.default offers.abilities → length offers.abilities ≤ 5 → IsSound (which_thread offers)
-which_is_sound offers sound few = (default_is_able offers.default offers.abilities sound, few)
+pub which_is_sound : (offers : Offers) (places : List (Option ℕ)) → AreSoundOffers offers.default offers.abilities → length offers.abilities ≤ 5 → IsSound (which_thread offers places)
+which_is_sound offers places sound few = (default_is_able offers.default offers.abilities sound, few)

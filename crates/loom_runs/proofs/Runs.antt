@@ -18,8 +18,11 @@ pub mod Tracks
 pub mod Atomics
 pub mod Tables
 pub mod Answering
+pub mod Growing
+pub mod Carrying
 pub mod Steps
 pub mod Exclusive
 pub mod Holding
 pub mod Bodies
 pub mod Rows
+pub mod Reduced

@@ -19,7 +19,7 @@ use Rattle.loom_objects.specs.Moves.{is_number}
 use Rattle.loom_objects.specs.RwLocks.{is_unread}
 use Rattle.loom_objects.specs.Schedules.{or_else}
 use Rattle.loom_objects.specs.Tree.{Tree, Gives, Fails, Closes, Asks}
-use Rattle.loom_objects.specs.World.{World, opening}
+use Rattle.loom_runs.specs.Courses.{Course, opening}
 use Rattle.loom_runs.specs.Machine.{submit}
 
 -- by some choices the tree comes to this
@@ -30,9 +30,9 @@ ComesTo (Closes rest) a = ComesTo rest a
 ComesTo (Asks question branches) a = (choice : Choice) × ComesTo (branches choice) a
 
 -- a state in which some history leaves the machine: the opening one, or one that an operation of the active thread leads to
-pub data IsReached {D : Type 0} (max_threads max_steps : ℕ) : World D → Type 0 where
+pub data IsReached {D : Type 0} (max_threads max_steps : ℕ) : Course D → Type 0 where
   at_first : IsReached max_threads max_steps (opening max_threads max_steps)
-  later : (w : World D) (op : Op D ⊤) (turn : Turn D) (v : World D) → IsReached max_threads max_steps w → ComesTo (submit op w) (turn, v) → IsReached max_threads max_steps v
+  later : (c : Course D) (op : Op D ⊤) (turn : Turn D) (v : Course D) → IsReached max_threads max_steps c → ComesTo (submit op c) (turn, v) → IsReached max_threads max_steps v
 
 module _ {D : Type 0} where
   -- A mutex that a thread holds keeps no data that another could have; a read-write lock has a writer or readers, and with a
@@ -49,7 +49,7 @@ module _ {D : Type 0} where
 
 -- over every history a mutex that is held keeps no data, and a read-write lock has one writer or some readers
 abbrev pub LocksLaw : Type 0 → Type 0
-LocksLaw D = (max_threads max_steps : ℕ) (w : World D) → IsReached max_threads max_steps w → list_all is_exclusive w.objects ≡ true
+LocksLaw D = (max_threads max_steps : ℕ) (c : Course D) → IsReached max_threads max_steps c → list_all is_exclusive c.world.objects ≡ true
 
 -- ---- at most one thread has the data of a mutex, said of replies
 
@@ -66,9 +66,9 @@ MayFollow (turn.Ended value) [] = Unit {0}
 MayFollow (turn.Ended value) (event ∷ events) = ⊥
 
 -- from this state the machine may go on by these events
-abbrev pub IsHistory : {D : Type 0} → World D → List (Event D) → Type 0
-IsHistory w [] = Unit {0}
-IsHistory {D} w (event ∷ events) = (v : World D) × (ComesTo (submit event.op w) (event.turn, v) × (MayFollow event.turn events × IsHistory v events))
+abbrev pub IsHistory : {D : Type 0} → Course D → List (Event D) → Type 0
+IsHistory c [] = Unit {0}
+IsHistory {D} c (event ∷ events) = (v : Course D) × (ComesTo (submit event.op c) (event.turn, v) × (MayFollow event.turn events × IsHistory v events))
 
 module _ {D : Type 0} where
   -- the mutex whose data a lock's or a wait's reply gives out

@@ -5,16 +5,17 @@ use Rattle.loom_objects.specs.declared.choice.Choice.{Choice}
 use Rattle.loom_objects.specs.declared.choice.Choice.TheVariants.{Thread, Load, Spurious}
 use Rattle.loom_objects.specs.declared.operation.Op.{Op}
 use Rattle.loom_objects.specs.declared.operation.Turn.{Turn}
+use Rattle.loom_objects.specs.declared.operation.Turn.TheVariants as turn
 use Rattle.loom_objects.specs.declared.rt.run.Entry.{Entry}
 use Rattle.loom_objects.specs.declared.rt.run.Entry.TheVariants.{Answered, AtBranch, Spurious as AtSpurious}
 use Rattle.loom_objects.specs.declared.rt.run.Passed.{Passed}
 use Rattle.loom_objects.specs.declared.rt.run.Passed.TheVariants as passed
-use Rattle.loom_objects.specs.Tree.{Tree, Gives, Fails, Closes, Asks, ◌>>=◌, check}
-use Rattle.loom_objects.specs.World.{World}
+use Rattle.loom_objects.specs.Tree.{Tree, Gives, Fails, Closes, Asks, ◌>>=◌, came, check}
 use Rattle.loom_objects.specs.Ending.{all_ended}
 use Rattle.loom_objects.specs.Schedules.{offers}
-use Rattle.loom_objects.specs.Steps.{begins, ends, enters_wait, resumes, told, turned}
-use Rattle.loom_runs.specs.Asking.{which_thread, whether_spurious}
+use Rattle.loom_objects.specs.Steps.{begins, ends, enters_wait, resumes}
+use Rattle.loom_runs.specs.Courses.{Course, accesses, carried, grown_from, one_passed, unordered_in}
+use Rattle.loom_objects.specs.Asked.{which_thread, whether_spurious}
 
 -- A thread comes to three further branch points at most before it is told something, and there are five threads.
 abbrev pub further_branches : ℕ
@@ -28,47 +29,56 @@ flag_of (Spurious answer) = Gives answer
 
 module _ {D : Type 0} where
   -- where no thread can go on the run is over if all have ended; then nothing of a path may be left
-  abbrev pub closes : World D → Tree (Turn D × World D)
-  closes w = do
-    _ ← check (all_ended w) Deadlock
-    Closes (ends w)
+  abbrev pub closes : Course D → Tree (Turn D × Course D)
+  closes c = do
+    _ ← check (all_ended c.world) Deadlock
+    Closes (carried c (ends c.world))
 
-  abbrev pub chooses : World D → Choice → Tree (Passed D × World D)
-  chooses w (Thread (Some t)) = resumes t w
-  chooses w (Thread None) = closes w >>= turned
-  chooses w (Load slot) = Fails NotDeterministic
-  chooses w (Spurious answer) = Fails NotDeterministic
+  abbrev pub turned : Turn D × Course D → Tree (Passed D × Course D)
+  turned (turn, c) = Gives (passed.Turn turn, c)
+
+  -- the thread's access is noted, its node is passed, and what it has pending takes effect
+  abbrev pub goes_by : ℕ → Course D → Tree (Passed D × Course D)
+  goes_by t c = carried (one_passed c) (resumes t c.world)
+
+  abbrev pub chooses : Course D → Choice → Tree (Passed D × Course D)
+  chooses c (Thread (Some t)) = came (accesses t c) >>= goes_by t
+  chooses c (Thread None) = closes (one_passed c) >>= turned
+  chooses c (Load slot) = Fails NotDeterministic
+  chooses c (Spurious answer) = Fails NotDeterministic
 
   -- at a branch point a schedule chooses the thread that goes on
-  abbrev pub passes : World D → Tree (Passed D × World D)
-  passes w = Asks (which_thread (offers w)) (chooses w)
+  abbrev pub passes : Course D → Tree (Passed D × Course D)
+  passes c = Asks (which_thread (offers c.world) (unordered_in c)) (chooses c)
 
   -- up to a turn; at another branch point it goes on again
-  abbrev pub further : (World D → Tree (Turn D × World D)) → Passed D × World D → Tree (Turn D × World D)
-  further again (passed.Turn turn, w) = Gives (turn, w)
-  further again (passed.AtBranch, w) = again w
+  abbrev pub further : (Course D → Tree (Turn D × Course D)) → Passed D × Course D → Tree (Turn D × Course D)
+  further again (passed.Turn turn, c) = Gives (turn, c)
+  further again (passed.AtBranch, c) = again c
 
   -- a schedule, and those after it, up to a turn; so many branch points more may come
-  unfoldable pub schedule : ℕ → World D → Tree (Turn D × World D)
-  schedule zero w = passes w >>= further (λ v. Fails Misuse)
-  schedule (suc more) w = passes w >>= further (schedule more)
+  unfoldable pub schedule : ℕ → Course D → Tree (Turn D × Course D)
+  schedule zero c = passes c >>= further (λ v. Fails Misuse)
+  schedule (suc more) c = passes c >>= further (schedule more)
 
   -- once it is known whether the active thread wakes from notifier n without a notification
-  abbrev pub waits : ℕ → World D → Choice → Tree (Turn D × World D)
-  waits n w choice = do
+  abbrev pub waits : ℕ → Course D → Choice → Tree (Turn D × Course D)
+  waits n c choice = do
     is_spurious ← flag_of choice
-    after ← enters_wait is_spurious n w
+    after ← carried (one_passed c) (enters_wait is_spurious n c.world)
     schedule further_branches after.1
 
   -- whether it does is chosen first
-  abbrev pub is_asked : ℕ → World D → Tree (Turn D × World D)
-  is_asked n w = Asks whether_spurious (waits n w)
+  abbrev pub is_asked : ℕ → Course D → Tree (Turn D × Course D)
+  is_asked n c = Asks whether_spurious (waits n c)
 
-  abbrev pub goes_on : Entry D × World D → Tree (Turn D × World D)
-  goes_on (Answered reply, w) = told (reply, w)
-  goes_on (AtBranch, w) = schedule further_branches w
-  goes_on (AtSpurious n, w) = is_asked n w
+  abbrev pub goes_on : Entry D × Course D → Tree (Turn D × Course D)
+  goes_on (Answered reply, c) = Gives (turn.Reply c.world.active reply, c)
+  goes_on (AtBranch, c) = schedule further_branches c
+  goes_on (AtSpurious n, c) = is_asked n c
 
-  -- the active thread hands over an operation
-  abbrev pub submit : Op D ⊤ → World D → Tree (Turn D × World D)
-  submit op w = begins op w >>= goes_on
+  -- the active thread hands over an operation; what it makes is there from then on
+  abbrev pub submit : Op D ⊤ → Course D → Tree (Turn D × Course D)
+  submit op c = do
+    (entry, after) ← carried c (begins op c.world)
+    goes_on (entry, grown_from c.world after)

@@ -6,6 +6,7 @@ use Rattle.loom_views.specs.declared.rt.failure.FailureKind.TheVariants.{Deadloc
 use Rattle.loom_objects.specs.declared.choice.Choice.{Choice}
 use Rattle.loom_objects.specs.declared.choice.Choice.TheVariants as choice
 use Rattle.loom_views.specs.declared.rt.num.Numbers.TheVariants.{U64}
+use Rattle.loom_objects.specs.declared.operation.ArcOp.TheVariants as arc
 use Rattle.loom_objects.specs.declared.operation.AtomicOp.TheVariants as atomic
 use Rattle.loom_objects.specs.declared.operation.MutexOp.TheVariants as mutex
 use Rattle.loom_objects.specs.declared.operation.Op.{Op}
@@ -19,11 +20,15 @@ use Rattle.loom_walks.specs.Trees.Outcomes.{outcome}
 -- one operation of a script; a spawn names the number of the script that is started
 pub data Step : Type 0 where
   Makes : Step
-  MakesAtomic : Step
+  MakesAtomic MakesArc : Step
+  -- of a counted reference
+  Clones Drops Counts : ℕ → Step
   Loads : ℕ → Step
   Stores : ℕ → ℕ → Step
   Spawns : ℕ → Step
   Joins : ℕ → ℕ → Step
+  Yields Parks : Step
+  Unparks : ℕ → Step
   Locks Releases : ℕ → Step
   Finishes : ℕ → Step
   -- finishes with what the last step answered
@@ -43,10 +48,17 @@ held _ = 1000
 abbrev pub op_of : List Script → Step → Reply ℕ → Op ℕ Script
 op_of scripts Makes last = op.Mutex (mutex.New 0) None
 op_of scripts MakesAtomic last = op.Atomic (atomic.New U64 0) None
+op_of scripts MakesArc last = op.Arc (arc.New 0) None
+op_of scripts (Clones n) last = op.Arc (arc.Clone n) None
+op_of scripts (Drops n) last = op.Arc (arc.Drop n) None
+op_of scripts (Counts n) last = op.Arc (arc.StrongCount n) None
 op_of scripts (Loads n) last = op.Atomic (atomic.Load n Relaxed) None
 op_of scripts (Stores n value) last = op.Atomic (atomic.Store n value Relaxed) None
 op_of scripts (Spawns n) last = op.Thread (thread.Spawn (slice_index_or scripts n []) None) None
 op_of scripts (Joins t n) last = op.Thread (thread.Join t n) None
+op_of scripts Yields last = op.Thread thread.Yield None
+op_of scripts Parks last = op.Thread thread.Park None
+op_of scripts (Unparks t) last = op.Thread (thread.Unpark t) None
 op_of scripts (Locks n) last = op.Mutex (mutex.Lock n) None
 op_of scripts (Releases n) last = op.Mutex (mutex.Release n 0) None
 op_of scripts (Finishes value) last = op.Thread (thread.Finish value) None

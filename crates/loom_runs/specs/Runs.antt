@@ -8,7 +8,7 @@ use Rattle.loom_objects.specs.declared.operation.Turn.{Turn}
 use Rattle.loom_objects.specs.declared.operation.Turn.TheVariants as turn
 use Rattle.loom_objects.specs.Operation.{plain, started}
 use Rattle.loom_objects.specs.Tree.{Tree, Gives, Fails, ◌>>=◌, found}
-use Rattle.loom_objects.specs.World.{World, opening}
+use Rattle.loom_runs.specs.Courses.{Course, opening}
 use Rattle.loom_runs.specs.Machine.{submit}
 
 -- what a body means: from its state and a reply, its next state and operation
@@ -27,18 +27,18 @@ at_turn go stop (turn.Ended value) = stop value
 
 module _ {D S : Type 0} where
   -- what comes after the body of a thread has handed over its operation and is in its next state
-  abbrev pub handed : (List S → World D → ℕ → Reply D → Tree D) → List S → World D → ℕ → S × Op D S → Tree D
-  handed rest bodies w thread (after, op) = do
-    turned ← submit (plain op) w
+  abbrev pub handed : (List S → Course D → ℕ → Reply D → Tree D) → List S → Course D → ℕ → S × Op D S → Tree D
+  handed rest bodies c thread (after, op) = do
+    turned ← submit (plain op) c
     at_turn (rest (with_child (slice_set bodies thread after) (started op)) turned.1) (λ value. Gives value) turned.0
 
   -- The thread is told the reply, and its body hands over its next operation, and so on to the run's end, with main's
   -- result. What is started is a thread more. The number bounds the operations to come.
-  unfoldable pub play : Meaning D S → ℕ → List S → World D → ℕ → Reply D → Tree D
-  play next zero bodies w thread answer = Fails TooManySteps
-  play next (suc left) bodies w thread answer = do
+  unfoldable pub play : Meaning D S → ℕ → List S → Course D → ℕ → Reply D → Tree D
+  play next zero bodies c thread answer = Fails TooManySteps
+  play next (suc left) bodies c thread answer = do
     body ← found (slice_get bodies thread) Misuse
-    handed (play next left) bodies w thread (next body answer)
+    handed (play next left) bodies c thread (next body answer)
 
   -- all runs of a body, as a tree
   abbrev pub runs : Meaning D S → ℕ → ℕ → S → Tree D

@@ -4,6 +4,7 @@ pub mod Driving
 pub mod Checking
 pub mod Replaying
 pub mod Counting
+pub mod Reducing
 pub mod Marks
 pub mod Loading
 pub mod Given

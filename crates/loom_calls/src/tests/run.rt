@@ -1,13 +1,20 @@
 //! A run in which the calls of a table are made.
 use crate::tests::answer::{Answer, Call};
 use loom::rt::execution::{Execution, Limits};
-use loom::rt::path::Path;
+use loom::rt::path::{Path, Search};
 use loom_objects::failure::Stop;
 use loom_objects::operation::Turn;
 use loom_scripts::number::Number;
 use loom_views::rt::num::Numeric;
 use std::alloc::{AllocError, Global};
 use std::mem;
+
+// One run is made, so it doesn't matter what else is tried.
+const SEARCH: Search = Search {
+    reduce: true,
+    bound: None,
+    max_branches: 40,
+};
 
 /// Makes the calls, in a run of main, and of one thread more where main spawns it, where atomics hold a `T`. Answers the place of the first call that
 /// doesn't come to what the table says. It fails only where the run is refused memory before the first call.
@@ -20,7 +27,7 @@ pub fn first_wrong<T: Numeric>(
         max_steps: 40,
     };
     let mut execution = Execution::new(alloc, limits)?;
-    let mut path = Path::new(alloc, 40);
+    let mut path = Path::new(alloc, SEARCH);
     for (place, call) in calls.iter_mut().enumerate() {
         if !comes::<T>(&mut execution, &mut path, mem::replace(call, Call::Made)) {
             return Ok(Some(place));

@@ -1,20 +1,23 @@
-ghost use Rattle.std.specs.Prelude.{◌≡◌, ◌≢◌, ◌≤◌, ◌+◌, Err, Some, None, true, slice_get, IfOk, OnOk};
+ghost use Rattle.std.specs.Prelude.{◌≡◌, ◌≢◌, ◌≤◌, ◌+◌, ◌<◌, Err, Some, None, true, slice_get, IfOk, OnOk};
 ghost use Rattle.std.specs.List.{Contains};
 ghost use Rattle.loom_objects.specs.declared.choice.Choice.{Choice};
-ghost use Rattle.loom_objects.specs.World.{opening};
+ghost use Rattle.loom_runs.specs.Courses.{Course, opening, used_in};
+ghost use Rattle.loom_engine.specs.Execution.{Notes, ShowsCourse, use_among, Starts, takes_turn, Along, AllNeedMemory, MayBeRefused, Submits, itself, over_after as answered_after};
+ghost use Rattle.loom_dependence.specs.Shown.{ShowsOrder};
+ghost use Rattle.loom_objects.specs.Effects.{needs_memory};
 ghost use Rattle.loom_objects.specs.Shown.{Shows};
-ghost use Rattle.loom_engine.specs.Execution.{Along, AllNeedMemory, MayBeRefused, Submits, itself, over_after as answered_after};
-ghost use Rattle.loom_objects.specs.Steps.{resumes};
+ghost use Rattle.loom_objects.specs.World.{World};
 ghost use Rattle.loom_runs.specs.Machine as machine;
-ghost use Rattle.loom_engine.specs.Routes.{Says};
-ghost use Rattle.loom_runs.specs.Asking.{which_store};
+ghost use Rattle.loom_path.specs.Routes.{Route, Says};
+ghost use Rattle.loom_objects.specs.Asked.{which_store};
 
-use crate::rt::path::Path;
+use loom_dependence::rt::dependence::{Dependence, Use};
 use loom_machine::steps::{begin, end_run, enter_wait, read, resume};
 use loom_objects::data::Data;
 use loom_objects::failure::{Failure, Stop, failed};
 use loom_objects::operation::{Op, Turn};
 use loom_objects::rt::run::{Entry, Passed, Resumed, RunState};
+use loom_path::rt::path::Path;
 use loom_views::rt::failure::FailureKind;
 use std::alloc::{AllocError, Global};
 use std::marker::Model;
@@ -31,10 +34,19 @@ pub struct Limits {
     pub max_steps: usize,
 }
 
+/// A run so far.
+#[derive(Drop)]
+pub struct Progress<D> {
+    /// The state of the machine.
+    pub state: RunState<D>,
+    /// The order of the accesses to objects.
+    pub dependence: Dependence,
+}
+
 /// The execution of one run (loom's `rt/execution.rs`).
 #[derive(Drop)]
 pub struct Execution<D> {
-    run: RunState<D>,
+    run: Progress<D>,
     // what every further operation is answered
     over: Option<Stop>,
 }
@@ -52,12 +64,15 @@ impl<D: Data> Execution<D> {
     pub fn new(alloc: Global, limits: Limits) -> Result<Execution<D>, AllocError>
         requires some { 1 ≤ limits.max_threads }
         requires few { limits.max_threads ≤ 5 }
-        ensures opens { IfOk result (λ execution. Shows (opening limits.max_threads limits.max_steps) execution.run) }
-        ensures steps { IfOk result (λ execution. execution.run.steps_left ≡ limits.max_steps) }
+        ensures opens { IfOk result (λ execution. (path : Route) → path.position ≡ 0 → ShowsCourse (opening limits.max_threads limits.max_steps) execution.run path) }
+        ensures steps { IfOk result (λ execution. execution.run.state.steps_left ≡ limits.max_steps) }
         ensures over { IfOk result (λ execution. execution.over ≡ None) }
     {
         Ok(Execution {
-            run: RunState::new(alloc, limits.max_threads, limits.max_steps)?,
+            run: Progress {
+                state: RunState::new(alloc, limits.max_threads, limits.max_steps)?,
+                dependence: Dependence::new(alloc)?,
+            },
             over: None,
         })
     }
@@ -68,8 +83,8 @@ impl<D: Data> Execution<D> {
     /// changes.
     pub fn submit(&mut self, path: &mut Path, op: Op<D, ()>) -> Result<Turn<D>, Stop>
         ensures event { Submits self.old op path.old result self.new path.new }
-        ensures steps { OnOk result (self.old.run.steps_left ≡ self.new.run.steps_left + 1) }
-        ensures same { (path.new.max_branches ≡ path.old.max_branches) × (path.new.given ≡ path.old.given) }
+        ensures steps { OnOk result (self.old.run.state.steps_left ≡ self.new.run.state.steps_left + 1) }
+        ensures same { (path.new.search ≡ path.old.search) × (path.new.given ≡ path.old.given) }
     {
         if let Some(stop) = self.over {
             return Err(stop);
@@ -96,33 +111,52 @@ fn over_after<D>(answer: &Result<Turn<D>, Stop>) -> Option<Stop>
 
 /// An operation up to its branch point, and past it.
 fn hand_over<D: Data>(
-    run: &mut RunState<D>,
+    run: &mut Progress<D>,
     path: &mut Path,
     op: Op<D, ()>,
 ) -> Result<Turn<D>, Stop>
     ensures along { Along (machine.submit op) run.old path.old result run.new path.new }
     ensures growth { result ≡ Err Stop.Memory → MayBeRefused op run.old path.old }
-    ensures steps { OnOk result (run.old.steps_left ≡ run.new.steps_left + 1) }
-    ensures same { (path.new.max_branches ≡ path.old.max_branches) × (path.new.given ≡ path.old.given) }
+    ensures steps { OnOk result (run.old.state.steps_left ≡ run.new.state.steps_left + 1) }
+    ensures same { (path.new.search ≡ path.old.search) × (path.new.given ≡ path.old.given) }
 {
-    match begin(run, op) {
+    match start(run, op) {
         Err(stop) => Err(stop),
-        Ok(Entry::Answered(reply)) => Ok(Turn::Reply(run.scene.active(), reply)),
+        Ok(Entry::Answered(reply)) => Ok(Turn::Reply(run.state.scene.active(), reply)),
         Ok(Entry::AtBranch) => schedule(run, path, FURTHER_BRANCHES),
         Ok(Entry::Spurious(notifier)) => wait(run, path, notifier),
     }
 }
 
+/// What the operation does up to its branch point. There are no accesses yet to the objects that it makes, and a thread that it
+/// makes comes after what its parent comes after.
+fn start<D: Data>(run: &mut Progress<D>, op: Op<D, ()>) -> Result<Entry<D>, Stop>
+    ensures starts { Starts op run.old result run.new }
+    ensures growth { result ≡ Err Stop.Memory → (w : World D) → Shows w run.old.state → needs_memory op ≡ true }
+    ensures steps { OnOk result (run.old.state.steps_left ≡ run.new.state.steps_left + 1) }
+{
+    let parent = run.state.scene.active() as usize;
+    let threads = run.state.scene.thread_count();
+    let objects = run.state.scene.object_count();
+    let entry = begin(&mut run.state, op)?;
+    let threads = run.state.scene.thread_count().saturating_sub(threads);
+    let objects = run.state.scene.object_count().saturating_sub(objects);
+    match run.dependence.grow(parent, threads, objects) {
+        Ok(()) => Ok(entry),
+        Err(_) => Err(Stop::Memory),
+    }
+}
+
 /// Whether the active thread wakes from the notifier without a notification is chosen, and then it yields or waits.
-fn wait<D: Data>(run: &mut RunState<D>, path: &mut Path, notifier: usize) -> Result<Turn<D>, Stop>
+fn wait<D: Data>(run: &mut Progress<D>, path: &mut Path, notifier: usize) -> Result<Turn<D>, Stop>
     ensures along { Along (machine.is_asked notifier) run.old path.old result run.new path.new }
     ensures growth { result ≡ Err Stop.Memory → AllNeedMemory itself (machine.is_asked notifier) run.old path.old }
-    ensures steps { run.new.steps_left ≡ run.old.steps_left }
-    ensures same { (path.new.max_branches ≡ path.old.max_branches) × (path.new.given ≡ path.old.given) }
+    ensures steps { run.new.state.steps_left ≡ run.old.state.steps_left }
+    ensures same { (path.new.search ≡ path.old.search) × (path.new.given ≡ path.old.given) }
 {
     match path.branch_spurious() {
         Err(stop) => Err(stop),
-        Ok(is_spurious) => match enter_wait(run, is_spurious, notifier) {
+        Ok(is_spurious) => match enter_wait(&mut run.state, is_spurious, notifier) {
             Err(stop) => Err(stop),
             Ok(()) => schedule(run, path, FURTHER_BRANCHES),
         },
@@ -130,11 +164,11 @@ fn wait<D: Data>(run: &mut RunState<D>, path: &mut Path, notifier: usize) -> Res
 }
 
 /// A schedule, and those after it, up to a turn. `Misuse` at one branch point more than there may be.
-fn schedule<D: Data>(run: &mut RunState<D>, path: &mut Path, more: u8) -> Result<Turn<D>, Stop>
+fn schedule<D: Data>(run: &mut Progress<D>, path: &mut Path, more: u8) -> Result<Turn<D>, Stop>
     ensures along { Along (machine.schedule more) run.old path.old result run.new path.new }
     ensures growth { result ≡ Err Stop.Memory → AllNeedMemory itself (machine.schedule more) run.old path.old }
-    ensures steps { run.new.steps_left ≡ run.old.steps_left }
-    ensures same { (path.new.max_branches ≡ path.old.max_branches) × (path.new.given ≡ path.old.given) }
+    ensures steps { run.new.state.steps_left ≡ run.old.state.steps_left }
+    ensures same { (path.new.search ≡ path.old.search) × (path.new.given ≡ path.old.given) }
 {
     match pass(run, path) {
         Err(stop) => Err(stop),
@@ -149,15 +183,21 @@ fn schedule<D: Data>(run: &mut RunState<D>, path: &mut Path, more: u8) -> Result
 }
 
 /// The path says which thread goes on, and what it has pending takes effect.
-fn pass<D: Data>(run: &mut RunState<D>, path: &mut Path) -> Result<Passed<D>, Stop>
+fn pass<D: Data>(run: &mut Progress<D>, path: &mut Path) -> Result<Passed<D>, Stop>
     ensures along { Along machine.passes run.old path.old result run.new path.new }
     ensures growth { result ≡ Err Stop.Memory → AllNeedMemory Passed.Turn machine.passes run.old path.old }
-    ensures steps { run.new.steps_left ≡ run.old.steps_left }
-    ensures same { (path.new.max_branches ≡ path.old.max_branches) × (path.new.given ≡ path.old.given) }
+    ensures steps { run.new.state.steps_left ≡ run.old.state.steps_left }
+    ensures same { (path.new.search ≡ path.old.search) × (path.new.given ≡ path.old.given) }
 {
-    match path.branch_thread(&run.scene.offers()) {
+    let uses = run.state.scene.uses();
+    path.backtrack(&run.dependence.unordered(&uses));
+    let place = path.position();
+    match path.branch_thread(&run.state.scene.offers()) {
         Err(stop) => Err(stop),
-        Ok(Some(thread)) => go_on(run, path, thread),
+        Ok(Some(thread)) => match access(run, &uses, thread as usize, place) {
+            Err(stop) => Err(stop),
+            Ok(()) => go_on(run, path, thread),
+        },
         Ok(None) => match close(run, path) {
             Err(stop) => Err(stop),
             Ok(turn) => Ok(Passed::Turn(turn)),
@@ -165,19 +205,37 @@ fn pass<D: Data>(run: &mut RunState<D>, path: &mut Path) -> Result<Passed<D>, St
     }
 }
 
-/// The chosen thread goes on. A load asks the path which store it reads.
-fn go_on<D: Data>(run: &mut RunState<D>, path: &mut Path, thread: u8) -> Result<Passed<D>, Stop>
-    ensures along { Along (resumes thread) run.old path.old result run.new path.new }
-    ensures growth { result ≡ Err Stop.Memory → AllNeedMemory Passed.Turn (resumes thread) run.old path.old }
-    ensures steps { run.new.steps_left ≡ run.old.steps_left }
-    ensures same { (path.new.max_branches ≡ path.old.max_branches) × (path.new.given ≡ path.old.given) }
+/// What the thread is about to do, chosen at this place, is an access, unless it is on no object.
+fn access<D>(
+    run: &mut Progress<D>,
+    uses: &[Option<Use>; 5],
+    thread: usize,
+    place: usize,
+) -> Result<(), Stop>
+    requires { thread < 5 }
+    ensures notes { (c : Course D) → ShowsOrder c.order run.old.dependence → c.passed ≡ place → Notes (used_in thread c (use_among thread uses.now)) result run.new.dependence }
+    ensures state { run.new.state ≡ run.old.state }
+    ensures no_growth { result ≢ Err Stop.Memory }
 {
-    match resume(run, thread) {
+    match uses.get(thread) {
+        Some(Some(used)) => run.dependence.record(thread, *used, place).map_err(failed),
+        Some(None) | None => Ok(()),
+    }
+}
+
+/// The chosen thread goes on. A load asks the path which store it reads.
+fn go_on<D: Data>(run: &mut Progress<D>, path: &mut Path, thread: u8) -> Result<Passed<D>, Stop>
+    ensures along { Along (takes_turn thread) run.old path.old result run.new path.new }
+    ensures growth { result ≡ Err Stop.Memory → AllNeedMemory Passed.Turn (takes_turn thread) run.old path.old }
+    ensures steps { run.new.state.steps_left ≡ run.old.state.steps_left }
+    ensures same { (path.new.search ≡ path.old.search) × (path.new.given ≡ path.old.given) }
+{
+    match resume(&mut run.state, thread) {
         Err(stop) => Err(stop),
         Ok(Resumed::Passed(passed)) => Ok(passed),
         Ok(Resumed::Load(load)) => match choose_slot(path, &load.readable) {
             Err(stop) => Err(stop),
-            Ok(slot) => match read(run, &load, slot) {
+            Ok(slot) => match read(&mut run.state, &load, slot) {
                 Err(stop) => Err(stop),
                 Ok(turn) => Ok(Passed::Turn(turn)),
             },
@@ -190,23 +248,23 @@ fn choose_slot(path: &mut Path, readable: &[bool; 7]) -> Result<u8, Stop>
     requires some { Contains readable.now true }
     ensures says { Says Choice.Load path.old (which_store readable.now) result path.new }
     ensures readable { IfOk result (λ slot. slice_get readable.now slot ≡ Some true) }
-    ensures same { (path.new.max_branches ≡ path.old.max_branches) × (path.new.given ≡ path.old.given) }
+    ensures same { (path.new.search ≡ path.old.search) × (path.new.given ≡ path.old.given) }
 {
     path.push_load(readable)?;
     path.branch_load()
 }
 
 /// No thread can go on: the run is over, if all threads have ended and the path is used up.
-fn close<D: Drop>(run: &mut RunState<D>, path: &Path) -> Result<Turn<D>, Stop>
+fn close<D: Drop>(run: &mut Progress<D>, path: &Path) -> Result<Turn<D>, Stop>
     ensures along { Along machine.closes run.old path.now result run.new path.now }
     ensures no_growth { result ≢ Err Stop.Memory }
-    ensures steps { run.new.steps_left ≡ run.old.steps_left }
+    ensures steps { run.new.state.steps_left ≡ run.old.state.steps_left }
 {
-    if !run.scene.all_ended() {
+    if !run.state.scene.all_ended() {
         return Err(failed(FailureKind::Deadlock));
     }
     if !path.is_used_up() {
         return Err(failed(FailureKind::NotDeterministic));
     }
-    end_run(run)
+    end_run(&mut run.state)
 }

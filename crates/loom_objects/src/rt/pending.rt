@@ -24,17 +24,9 @@ impl<D: Drop> Thread<D> {
 fn is_pending_on<D>(task: &Task<D>, number: usize) -> bool
     ensures { result ≡ is_number (target_of task.now) number }
 {
-    match task {
-        Task::Access(access) => access.atomic() == Some(number),
-        Task::Lock(_, target) | Task::TryLock(target) | Task::Claim(_, target) => {
-            *target == number
-        }
-        Task::Wait(_, target, _, _) | Task::Wake(_, target) => *target == number,
-        Task::Notify(target) | Task::Await(target) => *target == number,
-        Task::Count(_, target) | Task::TryUnwrap(target) => *target == number,
-        Task::Join(_, target) | Task::Finish(target, _) => *target == number,
-        Task::Start | Task::Body | Task::Continue => false,
-        Task::Relock(_, _) | Task::Rouse(_) => false,
+    match task.used() {
+        Some(used) => used.object == number,
+        None => false,
     }
 }
 

@@ -1,6 +1,6 @@
 -- The scripts of the rows about atomics and fences.
 use Rattle.std.specs.Prelude.{ℕ, List, [], ◌∷◌, None}
-use Rattle.std.specs.declared.sync.atomic.Ordering.TheVariants.{Relaxed, Release, SeqCst}
+use Rattle.std.specs.declared.sync.atomic.Ordering.TheVariants.{Relaxed, Release, Acquire, SeqCst}
 use Rattle.loom_views.specs.declared.rt.change.Change.TheVariants.{Add, Max, Min, Nand, Xor}
 use Rattle.loom_views.specs.declared.rt.num.Numbers.TheVariants as numbers
 use Rattle.loom_objects.specs.declared.operation.Exchange.{Exchange}
@@ -11,7 +11,7 @@ use Rattle.loom_objects.specs.declared.operation.Op.TheVariants as op
 use Rattle.loom_scripts.specs.declared.step.Step.{Step}
 use Rattle.loom_scripts.specs.declared.step.Step.TheVariants.{Do, Jump, Unless}
 use Rattle.loom_scripts.specs.declared.step.Value.TheVariants.{Plain, Held, Next, Both}
-use Rattle.loom_row_bodies.specs.Scripts.Steps.{exit, end, fail}
+use Rattle.loom_row_bodies.specs.Scripts.Steps.{exit, end, yield, fail}
 
 -- A number of 64 bits (loom's `tests/atomic_int.rs`).
 abbrev pub num_a : ℕ
@@ -154,3 +154,29 @@ orders_equal =
     Do 0 (op.Atomic (atomic.Load 0 Relaxed) None) ∷
     Do 0 (op.Atomic (atomic.CompareExchange 0 two_by_two) None) ∷
     Do 0 (op.Thread (threads.Finish (Plain 0)) None) ∷ exit ∷ end ∷ []
+
+-- Three threads, of which each adds to one atomic twice. Main is one of them, and joins the others.
+abbrev pub three_adds : List Step
+three_adds =
+    Do 0 (op.Atomic (atomic.New numbers.U64 0) None) ∷ Do 1 (op.Thread (threads.Spawn 8 None) None) ∷
+    Do 2 (op.Thread (threads.Spawn 8 None) None) ∷ Do 0 (op.Atomic (atomic.Update 0 (Add 1) Relaxed) None) ∷
+    Do 0 (op.Atomic (atomic.Update 0 (Add 1) Relaxed) None) ∷ Do 0 (op.Thread (threads.Join 1 1) None) ∷
+    Do 0 (op.Thread (threads.Join 2 2) None) ∷ Jump 10 ∷
+    Do 0 (op.Atomic (atomic.Update 0 (Add 1) Relaxed) None) ∷
+    Do 0 (op.Atomic (atomic.Update 0 (Add 1) Relaxed) None) ∷ Do 0 (op.Thread (threads.Finish (Plain 0)) None) ∷ exit ∷ end ∷ []
+
+-- One thread stores to one flag, and another thread to another. Two threads each wait for one of the flags, one for the one
+-- and one for the other, and then finish with what they load from the other flag. Main stores to the first flag, joins the
+-- two, and finishes with ten times what the one loaded and what the other loaded (`acq_rel` of loom's `tests/spec.rs`).
+abbrev pub acq_rel : List Step
+acq_rel =
+    Do 0 (op.Atomic (atomic.New numbers.Bool 0) None) ∷ Do 1 (op.Atomic (atomic.New numbers.Bool 0) None) ∷
+    Do 2 (op.Thread (threads.Spawn 11 None) None) ∷ Do 3 (op.Thread (threads.Spawn 15 None) None) ∷
+    Do 4 (op.Thread (threads.Spawn 22 None) None) ∷ Do 0 (op.Atomic (atomic.Store 0 1 Release) None) ∷
+    Do 0 (op.Thread (threads.Join 3 3) None) ∷ Do 1 (op.Thread (threads.Join 4 4) None) ∷
+    Do 0 (op.Thread (threads.Finish (Both 0 1)) None) ∷ exit ∷ end ∷
+    Do 0 (op.Atomic (atomic.Store 1 1 Release) None) ∷ Do 0 (op.Thread (threads.Finish (Plain 0)) None) ∷ exit ∷ end ∷
+    Do 0 (op.Atomic (atomic.Load 0 Acquire) None) ∷ Unless 0 1 20 ∷ Do 1 (op.Atomic (atomic.Load 1 Acquire) None) ∷
+    Do 0 (op.Thread (threads.Finish (Held 1)) None) ∷ Jump 9 ∷ yield ∷ Jump 15 ∷
+    Do 0 (op.Atomic (atomic.Load 1 Acquire) None) ∷ Unless 0 1 27 ∷ Do 1 (op.Atomic (atomic.Load 0 Acquire) None) ∷
+    Do 0 (op.Thread (threads.Finish (Held 1)) None) ∷ Jump 9 ∷ yield ∷ Jump 22 ∷ []

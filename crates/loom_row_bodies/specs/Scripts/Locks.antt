@@ -40,6 +40,18 @@ mutex_into_inner =
     Do 0 (op.Mutex (mutex.Lock 0) None) ∷ Do 0 (op.Mutex (mutex.Release 0 (Next 0)) None) ∷ finish ∷ exit ∷
     end ∷ []
 
+-- Main locks and releases a mutex 65,534 times, which is as often as a thread may use objects. It counts that in the mutex.
+abbrev pub many_locks : List Step
+many_locks =
+    Do 0 (op.Mutex (mutex.New (Plain 0)) None) ∷ Do 0 (op.Mutex (mutex.Lock 0) None) ∷
+    Do 0 (op.Mutex (mutex.Release 0 (Next 0)) None) ∷ Unless 0 65533 1 ∷ finish ∷ exit ∷ end ∷ []
+
+-- The same, once more.
+abbrev pub too_many_locks : List Step
+too_many_locks =
+    Do 0 (op.Mutex (mutex.New (Plain 0)) None) ∷ Do 0 (op.Mutex (mutex.Lock 0) None) ∷
+    Do 0 (op.Mutex (mutex.Release 0 (Next 0)) None) ∷ Unless 0 65534 1 ∷ finish ∷ exit ∷ end ∷ []
+
 -- Main takes two guards for reading of a lock, and ends both.
 abbrev pub rwlock_read_twice : List Step
 rwlock_read_twice =

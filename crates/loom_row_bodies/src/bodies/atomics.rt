@@ -4,9 +4,9 @@ ghost use Rattle.loom_row_bodies.specs.Meanings.{named};
 ghost use Rattle.loom_row_bodies.specs.Names.{atomic_rows};
 
 use crate::rows::{Checked, DEFAULTS, Row, TEN_STEPS, row};
-use loom::sync::atomic::Ordering::{Relaxed, Release, SeqCst};
+use loom::sync::atomic::Ordering::{Acquire, Relaxed, Release, SeqCst};
 use loom_objects::operation::{AtomicOp, Exchange, MutexOp, Op, ThreadOp};
-use loom_scripts::step::{END, EXIT, FAIL, Step, Value};
+use loom_scripts::step::{END, EXIT, FAIL, Step, Value, YIELD};
 use loom_views::rt::change::Change::{Add, Max, Min, Nand, Xor};
 use loom_views::rt::num::Numbers;
 
@@ -245,7 +245,59 @@ const TWO_BY_TWO: Exchange = Exchange {
     failure: Relaxed,
 };
 
-static ATOMIC_ROWS: [Row; 13] = [
+/// Three threads, of which each adds to one atomic twice. Main is one of them, and joins the others.
+pub const THREE_ADDS: &[Step] = &[
+    Step::Do(0, Op::Atomic(AtomicOp::New(Numbers::U64, 0), None)),
+    Step::Do(1, Op::Thread(ThreadOp::Spawn(8, None), None)),
+    Step::Do(2, Op::Thread(ThreadOp::Spawn(8, None), None)),
+    Step::Do(0, Op::Atomic(AtomicOp::Update(0, Add(1), Relaxed), None)),
+    Step::Do(0, Op::Atomic(AtomicOp::Update(0, Add(1), Relaxed), None)),
+    Step::Do(0, Op::Thread(ThreadOp::Join(1, 1), None)),
+    Step::Do(0, Op::Thread(ThreadOp::Join(2, 2), None)),
+    Step::Jump(10),
+    Step::Do(0, Op::Atomic(AtomicOp::Update(0, Add(1), Relaxed), None)),
+    Step::Do(0, Op::Atomic(AtomicOp::Update(0, Add(1), Relaxed), None)),
+    Step::Do(0, Op::Thread(ThreadOp::Finish(Value::Plain(0)), None)),
+    EXIT,
+    END,
+];
+
+/// One thread stores to one flag, and another thread to another. Two threads each wait for one of the flags, one for the one
+/// and one for the other, and then finish with what they load from the other flag. Main stores to the first flag, joins the
+/// two, and finishes with ten times what the one loaded and what the other loaded (`acq_rel` of loom's `tests/spec.rs`).
+pub const ACQ_REL: &[Step] = &[
+    Step::Do(0, Op::Atomic(AtomicOp::New(Numbers::Bool, 0), None)),
+    Step::Do(1, Op::Atomic(AtomicOp::New(Numbers::Bool, 0), None)),
+    Step::Do(2, Op::Thread(ThreadOp::Spawn(11, None), None)),
+    Step::Do(3, Op::Thread(ThreadOp::Spawn(15, None), None)),
+    Step::Do(4, Op::Thread(ThreadOp::Spawn(22, None), None)),
+    Step::Do(0, Op::Atomic(AtomicOp::Store(0, 1, Release), None)),
+    Step::Do(0, Op::Thread(ThreadOp::Join(3, 3), None)),
+    Step::Do(1, Op::Thread(ThreadOp::Join(4, 4), None)),
+    Step::Do(0, Op::Thread(ThreadOp::Finish(Value::Both(0, 1)), None)),
+    EXIT,
+    END,
+    Step::Do(0, Op::Atomic(AtomicOp::Store(1, 1, Release), None)),
+    Step::Do(0, Op::Thread(ThreadOp::Finish(Value::Plain(0)), None)),
+    EXIT,
+    END,
+    Step::Do(0, Op::Atomic(AtomicOp::Load(0, Acquire), None)),
+    Step::Unless(0, 1, 20),
+    Step::Do(1, Op::Atomic(AtomicOp::Load(1, Acquire), None)),
+    Step::Do(0, Op::Thread(ThreadOp::Finish(Value::Held(1)), None)),
+    Step::Jump(9),
+    YIELD,
+    Step::Jump(15),
+    Step::Do(0, Op::Atomic(AtomicOp::Load(1, Acquire), None)),
+    Step::Unless(0, 1, 27),
+    Step::Do(1, Op::Atomic(AtomicOp::Load(0, Acquire), None)),
+    Step::Do(0, Op::Thread(ThreadOp::Finish(Value::Held(1)), None)),
+    Step::Jump(9),
+    YIELD,
+    Step::Jump(22),
+];
+
+static ATOMIC_ROWS: [Row; 14] = [
     row!("u8_functions", U8_FUNCTIONS),
     row!("i8_functions", I8_FUNCTIONS),
     row!("bool_nand", BOOL_NAND),
@@ -258,6 +310,7 @@ static ATOMIC_ROWS: [Row; 13] = [
     row!("sb_fences", SB_FENCES),
     row!("fetch_add_atomic", FETCH_ADD_ATOMIC),
     row!("orders_equal", ORDERS_EQUAL),
+    row!("three_adds", THREE_ADDS),
     Row {
         name: "fetch_update_once",
         checked: Checked::Updater(NUM_A, NUM_B),

@@ -3,7 +3,7 @@ ghost use Rattle.std.specs.Prelude.{map};
 ghost use Rattle.loom_row_bodies.specs.Meanings.{named};
 ghost use Rattle.loom_row_bodies.specs.Names.{AreLockRows};
 
-use crate::rows::{DEFAULTS, Row, row};
+use crate::rows::{DEFAULTS, LONG_RUNS, Row, row};
 use loom::sync::atomic::Ordering::Relaxed;
 use loom_objects::operation::{AtomicOp, CondvarOp, MutexOp, NotifyOp, Op, RwLockOp, ThreadOp};
 use loom_objects::rt::thread::Name;
@@ -41,6 +41,28 @@ pub const MUTEX_INTO_INNER: &[Step] = &[
     FAIL,
     Step::Do(0, Op::Mutex(MutexOp::Lock(0), None)),
     Step::Do(0, Op::Mutex(MutexOp::Release(0, Value::Next(0)), None)),
+    FINISH,
+    EXIT,
+    END,
+];
+
+/// Main locks and releases a mutex 65,534 times, which is as often as a thread may use objects. It counts that in the mutex.
+pub const MANY_LOCKS: &[Step] = &[
+    Step::Do(0, Op::Mutex(MutexOp::New(Value::Plain(0)), None)),
+    Step::Do(0, Op::Mutex(MutexOp::Lock(0), None)),
+    Step::Do(0, Op::Mutex(MutexOp::Release(0, Value::Next(0)), None)),
+    Step::Unless(0, 65_533, 1),
+    FINISH,
+    EXIT,
+    END,
+];
+
+/// The same, once more.
+pub const TOO_MANY_LOCKS: &[Step] = &[
+    Step::Do(0, Op::Mutex(MutexOp::New(Value::Plain(0)), None)),
+    Step::Do(0, Op::Mutex(MutexOp::Lock(0), None)),
+    Step::Do(0, Op::Mutex(MutexOp::Release(0, Value::Next(0)), None)),
+    Step::Unless(0, 65_534, 1),
     FINISH,
     EXIT,
     END,
@@ -261,10 +283,12 @@ pub const NAMED_CHILD: &[Step] = &[
 /// Main comes to code that is never to be reached.
 pub const UNREACHABLE: &[Step] = &[Step::Do(0, Op::Unreachable(None))];
 
-static LOCK_ROWS: [Row; 19] = [
+static LOCK_ROWS: [Row; 21] = [
     row!("release_unlocked", RELEASE_UNLOCKED),
     row!("lock_while_out", LOCK_WHILE_OUT),
     row!("mutex_into_inner", MUTEX_INTO_INNER),
+    row!("many_locks", MANY_LOCKS, LONG_RUNS),
+    row!("too_many_locks", TOO_MANY_LOCKS, LONG_RUNS),
     row!("rwlock_read_twice", RWLOCK_READ_TWICE),
     row!("rwlock_write_then_try_write", RWLOCK_WRITE_THEN_TRY_WRITE),
     row!("read_guard_of_another", READ_GUARD_OF_ANOTHER),

@@ -2,11 +2,12 @@
 use loom::model::{Builder, Replay, Report};
 use loom::{Choice, FailureKind};
 use loom_row_bodies::guide::Counter;
+use loom_row_bodies::rows::WHOLE;
 use std::test::Fail;
 
 #[test]
 fn no_thread_is_counted_third(rt: HostRuntime) -> Result<(), Fail> {
-    let report = Builder::new().check(rt.alloc(), &Counter::main(2))?;
+    let report = WHOLE.check(rt.alloc(), &Counter::main(2))?;
     match report {
         Report::Complete { runs } => assert_eq!(rt; runs, 4),
         _ => return Err(Fail::from("the check is not complete")),
@@ -21,7 +22,7 @@ fn main_is_not_always_first(rt: HostRuntime) -> Result<(), Fail> {
         runs,
         failure,
         choices,
-    } = Builder::new().check(rt.alloc(), &body)?
+    } = WHOLE.check(rt.alloc(), &body)?
     else {
         return Err(Fail::from("no run failed"));
     };

@@ -1,194 +1,225 @@
-//! A slow program that makes the runs of a body by the rules themselves: threads and objects in lists, views as a graph of
-//! points, all stores of an atomic. It has no path and no vectors. What a check finds is compared with what it finds.
-mod atomics;
-mod bodies;
-mod cells;
-mod choices;
-mod condvars;
-mod counts;
-mod graph;
-mod halt;
-mod locks;
-mod notifiers;
-mod numbers;
-mod run;
-mod rwlocks;
-mod state;
-mod stores;
-mod threads;
-
+//! What a check finds is what the plain program finds.
 use super::cells::{SWAP_BESIDE_A_WRITE, SWAP_WITH_ITSELF};
 use super::sizes::{FIVE_THREADS, READ_THREE_TIMES};
-use super::{FIVE_SPAWNS, JOIN_TWICE, Keeper, Run};
-use choices::Made;
-use halt::Halt;
+use super::{FIVE_SPAWNS, JOIN_TWICE, Keeper, Run, bodies, searches};
 use loom::model::{Builder, Report};
 use loom::{Body, Choice, FailureKind};
+use loom_plain::run::{Ending, Settings};
+use loom_plain::search::{Found, least_set, runs_in_order};
+use loom_row_bodies::bodies::atomics::{ORDERS_EQUAL, THREE_ADDS};
+use loom_row_bodies::bodies::locks::{NOTIFY_ALL, RWLOCK_WRITER_AND_READERS};
 use loom_row_bodies::guide::Counter;
-use loom_row_bodies::rows::{Checked, Row, all_rows};
+use loom_row_bodies::rows::{Checked, DEFAULTS, Row, all_rows};
 use loom_row_bodies::updates::Updater;
 use loom_scripts::number::Number;
 use loom_scripts::script::Script;
 use loom_scripts::step::Step;
-use run::{Ending, run};
-use std::alloc::Global;
 use std::process::Abort;
 use std::test::Fail;
 
 // How many runs a body may have here, and one more.
-const MOST: usize = 101;
+const MOST: usize = 301;
 
-// What the plain program finds: the runs in order, and the failure, with the choices that lead to it.
+fn settings_of(builder: Builder) -> Settings {
+    Settings {
+        max_threads: builder.max_threads,
+        max_branches: builder.max_branches,
+        max_steps: builder.max_steps,
+        reduce: builder.reduce,
+        bound: builder.preemption_bound,
+    }
+}
+
+// What a check finds: the runs that ended, and the failure, with the choices that lead to it.
 #[derive(Drop)]
-struct Found {
+struct Checking {
     runs: Vec<Run>,
     failure: Option<(FailureKind, Vec<Choice>)>,
 }
 
-// All runs of the body, those that share a beginning together, the default first, up to the first that fails.
-fn plain_runs<B: Body<Data = Number>>(
-    alloc: Global,
+// The number of the runs in the report is right.
+fn check_of<R: Abort + AllocGlobal, B: Body<Data = Number>>(
+    rt: &R,
     builder: Builder,
     body: &B,
-) -> Result<Found, Halt> {
-    let mut runs = Vec::new(alloc);
-    let mut lists = vec![in alloc; Vec::new(alloc)]?;
-    for _ in 0..MOST {
-        let Some(list) = lists.pop() else {
-            return Ok(Found {
-                runs,
-                failure: None,
-            });
-        };
-        let length = list.len();
-        let plain = run(alloc, builder, body, list)?;
-        push_alternatives(alloc, &mut lists, plain.made.as_slice(), length)?;
-        let choices = choices_of(alloc, plain.made.as_slice())?;
-        match plain.ending {
-            Ending::Ended(value) => runs.push(Run { choices, value })?,
-            Ending::Failed(kind) => {
-                return Ok(Found {
-                    runs,
-                    failure: Some((kind, choices)),
-                });
-            }
-        }
-    }
-    Err(Halt::TooManyRuns)
+    name: &str,
+) -> Result<Checking, Fail> {
+    let alloc = rt.alloc();
+    let mut keeper = Keeper {
+        alloc,
+        runs: Vec::new(alloc),
+    };
+    let (count, failure) = match builder.check_with(alloc, body, &mut keeper)? {
+        Report::Complete { runs } => (runs, None),
+        Report::Failed {
+            runs,
+            failure,
+            choices,
+        } => (runs, Some((failure.kind, choices))),
+        Report::Stopped { .. } => return Err(Fail::from("the check was stopped")),
+    };
+    assert_eq!(rt;
+        usize::try_from(count).ok(),
+        Some(keeper.runs.len()),
+        "{name}"
+    );
+    Ok(Checking {
+        runs: keeper.runs,
+        failure,
+    })
 }
 
-// For each choice past so many: what was chosen before it, and another option. What is to be made first comes last.
-fn push_alternatives(
-    alloc: Global,
-    lists: &mut Vec<Vec<Choice>>,
-    made: &[Made],
-    length: usize,
-) -> Result<(), Halt> {
-    for place in length..made.len() {
-        if let (Some(before), Some(here)) = (made.get(..place), made.get(place)) {
-            push_options(alloc, lists, before, here.options.as_slice())?;
+// The run that was found ended so.
+fn is_same(found: &Found, run: &Run) -> bool {
+    match found.ending {
+        Ending::Ended(value) => {
+            found.choices.as_slice() == run.choices.as_slice() && value == run.value
         }
+        Ending::Failed(_) => false,
+    }
+}
+
+fn is_failure(found: &Found, kind: FailureKind, choices: &[Choice]) -> bool {
+    match found.ending {
+        Ending::Ended(_) => false,
+        Ending::Failed(plain) => plain == kind && found.choices.as_slice() == choices,
+    }
+}
+
+// A check that isn't reduced finds what the plain program does, in the same order.
+fn finds_in_order<R: Abort + AllocGlobal, B: Body<Data = Number>>(
+    rt: &R,
+    builder: Builder,
+    body: &B,
+    name: &str,
+) -> Result<(), Fail> {
+    let found = runs_in_order(rt.alloc(), settings_of(builder), body, MOST)?;
+    let checking = check_of(rt, builder, body, name)?;
+    let count = checking.runs.len();
+    for (plain, run) in found.iter().zip(&checking.runs) {
+        assert!(rt; is_same(plain, run), "{name}");
+    }
+    match (&checking.failure, found.get(count)) {
+        (None, None) => {}
+        (Some((kind, choices)), Some(plain)) => {
+            assert!(rt; is_failure(plain, *kind, choices.as_slice()), "{name}");
+        }
+        (Some(_), None) | (None, Some(_)) => return Err(Fail::from("only one finds a run")),
     }
     Ok(())
 }
 
-// The choices before, and each option but the default, the last one first.
-fn push_options(
-    alloc: Global,
-    lists: &mut Vec<Vec<Choice>>,
-    before: &[Made],
-    options: &[Choice],
-) -> Result<(), Halt> {
-    for option in options.iter().skip(1).rev() {
-        let mut list = choices_of(alloc, before)?;
-        list.push(*option)?;
-        lists.push(list)?;
+// A check makes runs of the least set, each once: all of it, or one that fails as the last one.
+fn finds_the_set<R: Abort + AllocGlobal, B: Body<Data = Number>>(
+    rt: &R,
+    builder: Builder,
+    body: &B,
+    name: &str,
+) -> Result<(), Fail> {
+    let found = least_set(rt.alloc(), settings_of(builder), body, MOST)?;
+    let checking = check_of(rt, builder, body, name)?;
+    let runs = checking.runs.as_slice();
+    for plain in &found {
+        let times = runs.iter().filter(|run| is_same(plain, *run)).count();
+        assert!(rt; times <= 1, "{name}");
+        assert!(rt; times == 1 || checking.failure.is_some(), "{name}");
+    }
+    for run in runs {
+        assert!(rt; found.iter().any(|plain| is_same(plain, run)), "{name}");
+    }
+    if let Some((kind, choices)) = &checking.failure {
+        let mut plain = found.iter();
+        assert!(rt;
+            plain.any(|plain| is_failure(plain, *kind, choices.as_slice())),
+            "{name}"
+        );
     }
     Ok(())
 }
 
-fn choices_of(alloc: Global, made: &[Made]) -> Result<Vec<Choice>, Halt> {
-    let mut choices = Vec::new(alloc);
-    for each in made {
-        choices.push(each.choice)?;
-    }
-    Ok(choices)
-}
-
-// A check gives its visitor the runs that the plain program makes, in order, and reports what that one finds.
 fn finds_the_same<R: Abort + AllocGlobal, B: Body<Data = Number>>(
     rt: &R,
     builder: Builder,
     body: &B,
     name: &str,
 ) -> Result<(), Fail> {
-    let alloc = rt.alloc();
-    let found = plain_runs(alloc, builder, body)?;
-    let mut keeper = Keeper {
-        alloc,
-        runs: Vec::new(alloc),
-    };
-    let report = builder.check_with(alloc, body, &mut keeper)?;
-    assert_eq!(rt; keeper.runs.len(), found.runs.len(), "{name}");
-    for (run, plain) in keeper.runs.iter().zip(&found.runs) {
-        assert_eq!(rt; run.choices.as_slice(), plain.choices.as_slice(), "{name}");
-        assert_eq!(rt; run.value, plain.value, "{name}");
+    if builder.reduce {
+        finds_the_set(rt, builder, body, name)
+    } else {
+        finds_in_order(rt, builder, body, name)
     }
-    reports_the_same(rt, &report, &found, name)
 }
 
-// The report has the number of the runs, and the failure.
-fn reports_the_same(
-    rt: &impl Abort,
-    report: &Report,
-    found: &Found,
+// Whether a search is reduced, and its bound on preemptions.
+type Search = (bool, Option<usize>);
+
+const UP_TO_ONE: &[Search] = &[
+    (true, Some(0)),
+    (false, Some(0)),
+    (true, Some(1)),
+    (false, Some(1)),
+];
+
+const BOUNDED: &[Search] = &[
+    (true, Some(0)),
+    (false, Some(0)),
+    (true, Some(1)),
+    (false, Some(1)),
+    (true, Some(2)),
+    (false, Some(2)),
+];
+
+// The same by each of these searches.
+fn searches_find_the_same<R: Abort + AllocGlobal, B: Body<Data = Number>>(
+    rt: &R,
+    builder: Builder,
+    body: &B,
+    searches: &[Search],
     name: &str,
 ) -> Result<(), Fail> {
-    let (count, failed) = match report {
-        Report::Complete { runs } => (*runs, None),
-        Report::Failed {
-            runs,
-            failure,
-            choices,
-        } => (*runs, Some((failure.kind, choices.as_slice()))),
-        Report::Stopped { .. } => return Err(Fail::from("the check was stopped")),
-    };
-    assert_eq!(rt;
-        usize::try_from(count).ok(),
-        Some(found.runs.len()),
-        "{name}"
-    );
-    match (failed, &found.failure) {
-        (None, None) => {}
-        (Some((kind, choices)), Some((plain, list))) => {
-            assert_eq!(rt; kind, *plain, "{name}");
-            assert_eq!(rt; choices, list.as_slice(), "{name}");
-        }
-        (Some(_), None) | (None, Some(_)) => return Err(Fail::from("only one finds a failure")),
+    for (reduce, bound) in searches {
+        let mut builder = builder;
+        builder.reduce = *reduce;
+        builder.preemption_bound = *bound;
+        finds_the_same(rt, builder, body, name)?;
     }
     Ok(())
 }
 
-// The rows with more than a hundred runs, and one whose run has 65,534 fences.
-static LARGE: [&str; 4] = [
-    "rwlock_writer_and_readers",
-    "notify_all",
-    "orders_equal",
-    "fences_then_relaxed",
-];
+// The same by each search: reduced and not, without a bound on preemptions and with the bounds 0, 1 and 2.
+fn each_search_finds_the_same<R: Abort + AllocGlobal, B: Body<Data = Number>>(
+    rt: &R,
+    builder: Builder,
+    body: &B,
+    name: &str,
+) -> Result<(), Fail> {
+    searches_find_the_same(rt, builder, body, &[(true, None), (false, None)], name)?;
+    searches_find_the_same(rt, builder, body, BOUNDED, name)
+}
 
 fn row_finds_the_same(rt: &(impl Abort + AllocGlobal), row: &Row) -> Result<(), Fail> {
     match row.checked {
         Checked::Script(steps) => {
             let body = Script::new(rt.alloc(), steps)?;
-            finds_the_same(rt, row.builder, &body, row.name)
+            each_search_finds_the_same(rt, row.builder, &body, row.name)
         }
         Checked::Updater(one, other) => {
             let body = Updater::main(one, other);
-            finds_the_same(rt, row.builder, &body, row.name)
+            each_search_finds_the_same(rt, row.builder, &body, row.name)
         }
     }
 }
+
+// The rows with more than 300 runs, and those with more than 60,000 accesses or fences.
+static LARGE: [&str; 7] = [
+    "rwlock_writer_and_readers",
+    "notify_all",
+    "orders_equal",
+    "three_adds",
+    "fences_then_relaxed",
+    "many_locks",
+    "too_many_locks",
+];
 
 #[test]
 fn rows_are_what_the_plain_program_finds(rt: HostRuntime) -> Result<(), Fail> {
@@ -201,6 +232,29 @@ fn rows_are_what_the_plain_program_finds(rt: HostRuntime) -> Result<(), Fail> {
     Ok(())
 }
 
+// The same, of a script by these searches.
+fn searches_of(
+    rt: &(impl Abort + AllocGlobal),
+    steps: &'static [Step],
+    searches: &[Search],
+    name: &str,
+) -> Result<(), Fail> {
+    let body = Script::new(rt.alloc(), steps)?;
+    searches_find_the_same(rt, DEFAULTS, &body, searches, name)
+}
+
+// Of the rows with more runs, the searches that have at most 300.
+#[test]
+fn large_rows_are_what_the_plain_program_finds(rt: HostRuntime) -> Result<(), Fail> {
+    let reduced = [(true, None)];
+    searches_of(&rt, RWLOCK_WRITER_AND_READERS, &reduced, "readers")?;
+    searches_of(&rt, RWLOCK_WRITER_AND_READERS, BOUNDED, "readers")?;
+    searches_of(&rt, NOTIFY_ALL, &reduced, "notify all")?;
+    searches_of(&rt, NOTIFY_ALL, BOUNDED, "notify all")?;
+    searches_of(&rt, ORDERS_EQUAL, UP_TO_ONE, "orders equal")?;
+    searches_of(&rt, THREE_ADDS, BOUNDED, "three adds")
+}
+
 // The same, of a script under the defaults.
 fn script_finds_the_same(
     rt: &(impl Abort + AllocGlobal),
@@ -208,7 +262,7 @@ fn script_finds_the_same(
     name: &str,
 ) -> Result<(), Fail> {
     let body = Script::new(rt.alloc(), steps)?;
-    finds_the_same(rt, Builder::new(), &body, name)
+    each_search_finds_the_same(rt, DEFAULTS, &body, name)
 }
 
 #[test]
@@ -219,8 +273,8 @@ fn bodies_of_tests_are_what_the_plain_program_finds(rt: HostRuntime) -> Result<(
     script_finds_the_same(&rt, &JOIN_TWICE, "joined twice")?;
     script_finds_the_same(&rt, &SWAP_BESIDE_A_WRITE, "swap beside a write")?;
     script_finds_the_same(&rt, &SWAP_WITH_ITSELF, "swap with itself")?;
-    finds_the_same(&rt, Builder::new(), &Counter::main(2), "counter")?;
-    finds_the_same(&rt, Builder::new(), &Counter::main(1), "first counter")
+    each_search_finds_the_same(&rt, DEFAULTS, &Counter::main(2), "counter")?;
+    each_search_finds_the_same(&rt, DEFAULTS, &Counter::main(1), "first counter")
 }
 
 #[test]
@@ -244,4 +298,12 @@ fn bodies_of_locks_are_what_the_plain_program_finds(rt: HostRuntime) -> Result<(
     script_finds_the_same(&rt, &bodies::WAKES_EARLY, "wakes early")?;
     script_finds_the_same(&rt, &bodies::SHARED_COUNT, "shared count")?;
     script_finds_the_same(&rt, &bodies::TRACKED, "tracked")
+}
+
+#[test]
+fn bodies_of_searches_are_what_the_plain_program_finds(rt: HostRuntime) -> Result<(), Fail> {
+    for (name, steps) in searches::BODIES {
+        script_finds_the_same(&rt, steps, name)?;
+    }
+    Ok(())
 }

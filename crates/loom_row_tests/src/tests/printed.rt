@@ -2,41 +2,87 @@
 use super::{FIVE_SPAWNS, JOIN_TWICE};
 use loom::model::Builder;
 use loom_row_bodies::bodies::LOCK_BESIDE;
-use loom_row_bodies::rows::{self, Checked, Row};
+use loom_row_bodies::bodies::locks::TOO_MANY_LOCKS;
+use loom_row_bodies::rows::{self, Checked, LONG_RUNS, Row, WHOLE};
 use loom_scripts::step::Step;
+use std::alloc::Global;
 use std::io::{self, ErrorKind, Write};
 use std::process::Abort;
 use std::test::Fail;
 
-// Each row's line and status.
-static LINES: [(&str, &str, u8); 42] = [
+// Each row's line and status, but for the one whose line is long.
+static LINES: [(&str, &str, u8); 68] = [
     ("finish_only", "complete 1\n", 0),
     ("spawn_only", "complete 1\n", 0),
     ("lock_beside", "complete 3\n", 0),
+    ("lock_beside_reduced", "complete 1\n", 0),
     ("mutex_forever", "failed 12 0\n", 1),
     ("fail_at_once", "failed 1 0\n", 1),
+    ("two_mutexes_deadlock", "failed 2 3 t1 t1 t2 t2 t-\n", 1),
     ("load_beside", "complete 6\n", 0),
+    ("load_beside_reduced", "complete 4\n", 0),
     ("store_seven", "complete 1\n", 0),
-    ("store_buffering", "complete 48\n", 0),
+    ("store_buffering", "complete 30\n", 0),
+    ("load_buffering", "complete 15\n", 0),
+    ("check_ordering_valid", "complete 4\n", 0),
+    (
+        "check_ordering_invalid_1",
+        "failed 1 2 t1 t1 t1 t1 t0 l1 t0 l0\n",
+        1,
+    ),
+    (
+        "checks_fail",
+        "failed 1 0 t1 t1 l0 t1 t1 t0 t2 t2 l0 t2 t2 t0 t0 l1\n",
+        1,
+    ),
     ("u8_functions", "complete 1\n", 0),
     ("i8_functions", "complete 1\n", 0),
     ("bool_nand", "complete 1\n", 0),
     ("compare_exchange", "complete 1\n", 0),
-    ("fetch_update_once", "complete 1\n", 0),
-    ("fetch_add_atomic", "complete 4\n", 0),
     ("unsync_race", "failed 3 0 t0 t1\n", 1),
     ("load_in_with_mut", "failed 4 0 t0 l0\n", 1),
     ("relaxed_fence", "failed 16 0\n", 1),
     ("fences_then_relaxed", "failed 10 0\n", 1),
     ("unsync_load_forever", "failed 12 0\n", 1),
+    ("sb_fences", "complete 15\n", 0),
+    ("fetch_add_atomic", "complete 4\n", 0),
     (
         "orders_equal",
-        "failed 13 1625 t0 t1 t1 t1 t0 l2 t1 l2 t1 t2 t2 l3 t2\n",
+        "failed 13 172 t0 t1 t1 t1 t0 l2 t1 l2 t1 t2 t2 l3 t2\n",
         1,
     ),
-    ("unsafe_cell_race_mut_mut_1", "failed 3 0 t1\n", 1),
-    ("read_in_write", "failed 4 0\n", 1),
+    ("three_adds", "complete 1981\n", 0),
+    ("fetch_update_once", "complete 1\n", 0),
+    ("atomic_causality_success", "complete 6\n", 0),
     ("atomic_causality_fail", "failed 1 0\n", 1),
+    ("unsafe_cell_race_mut_mut_1", "failed 3 0 t1\n", 1),
+    ("unsafe_cell_race_mut_mut_2", "failed 3 0 t1 t1 t0 t2\n", 1),
+    ("unsafe_cell_race_mut_immut_1", "failed 3 0 t1\n", 1),
+    ("unsafe_cell_race_mut_immut_2", "failed 3 0 t1\n", 1),
+    (
+        "unsafe_cell_race_mut_immut_3",
+        "failed 3 0 t1 t1 t0 t2\n",
+        1,
+    ),
+    (
+        "unsafe_cell_race_mut_immut_4",
+        "failed 3 0 t1 t1 t0 t2\n",
+        1,
+    ),
+    (
+        "unsafe_cell_race_mut_immut_5",
+        "failed 3 0 t1 t1 t0 t2\n",
+        1,
+    ),
+    ("unsafe_cell_ok_1", "complete 1\n", 0),
+    ("unsafe_cell_ok_2", "complete 1\n", 0),
+    ("unsafe_cell_ok_3", "complete 1\n", 0),
+    (
+        "unsafe_cell_access_after_sync",
+        "failed 3 2 t1 t1 t1 t0 l1\n",
+        1,
+    ),
+    ("read_in_write", "failed 4 0\n", 1),
     ("detect_mem_leak", "failed 5 0 t-\n", 1),
     ("arc_count", "complete 1\n", 0),
     ("arc_unwrap", "complete 1\n", 0),
@@ -44,44 +90,24 @@ static LINES: [(&str, &str, u8); 42] = [
     ("arc_then_track", "failed 5 0 t-\n", 1),
     ("release_unlocked", "failed 14 0\n", 1),
     ("lock_while_out", "failed 14 0 t0\n", 1),
+    ("mutex_into_inner", "complete 9\n", 0),
+    ("many_locks", "complete 1\n", 0),
     ("rwlock_read_twice", "complete 1\n", 0),
     ("rwlock_write_then_try_write", "complete 1\n", 0),
     ("read_guard_of_another", "failed 14 0 t0 t1\n", 1),
+    ("rwlock_writer_and_readers", "complete 51\n", 0),
     ("condvar_alone", "failed 2 0 t0 t0 t-\n", 1),
     ("condvar_with_token", "failed 2 0 t0 t0 t-\n", 1),
+    ("condvar_hands_over", "complete 8\n", 0),
+    ("notify_all", "complete 110\n", 0),
     ("notify_wait", "complete 2\n", 0),
     ("second_waiter", "failed 21 0 s0 t1\n", 1),
     ("unpark_then_park", "complete 1\n", 0),
     ("park_alone", "failed 2 0 t-\n", 1),
-    ("yield_beside", "complete 2\n", 0),
+    ("unpark_wakes", "complete 3\n", 0),
+    ("yield_beside", "complete 1\n", 0),
     ("named_child", "complete 1\n", 0),
     ("unreachable", "failed 15 0\n", 1),
-];
-
-// How the lines of rows with many runs begin, and their status.
-static BEGINNINGS: [(&str, &str, u8); 22] = [
-    ("load_buffering", "complete ", 0),
-    ("sb_fences", "complete ", 0),
-    ("check_ordering_valid", "complete ", 0),
-    ("check_ordering_invalid_1", "failed 1 ", 1),
-    ("checks_fail", "failed 1 ", 1),
-    ("two_mutexes_deadlock", "failed 2 ", 1),
-    ("atomic_causality_success", "complete ", 0),
-    ("unsafe_cell_race_mut_mut_2", "failed 3 ", 1),
-    ("unsafe_cell_race_mut_immut_1", "failed 3 ", 1),
-    ("unsafe_cell_race_mut_immut_2", "failed 3 ", 1),
-    ("unsafe_cell_race_mut_immut_3", "failed 3 ", 1),
-    ("unsafe_cell_race_mut_immut_4", "failed 3 ", 1),
-    ("unsafe_cell_race_mut_immut_5", "failed 3 ", 1),
-    ("unsafe_cell_ok_1", "complete ", 0),
-    ("unsafe_cell_ok_2", "complete ", 0),
-    ("unsafe_cell_ok_3", "complete ", 0),
-    ("unsafe_cell_access_after_sync", "failed 3 ", 1),
-    ("mutex_into_inner", "complete ", 0),
-    ("rwlock_writer_and_readers", "complete ", 0),
-    ("condvar_hands_over", "complete ", 0),
-    ("notify_all", "complete ", 0),
-    ("unpark_wakes", "complete ", 0),
 ];
 
 // Runs the row of this name, which answers this status and writes nothing on standard error. Gives what it prints.
@@ -105,14 +131,31 @@ fn each_row_prints_its_line(rt: HostRuntime) -> Result<(), Fail> {
     Ok(())
 }
 
-#[test]
-fn each_name_is_its_row(rt: HostRuntime) -> Result<(), Fail> {
-    let rows = rows::all_rows(rt.alloc())?;
-    let rows = rows.as_slice();
-    for (name, beginning, status) in BEGINNINGS {
-        let out = printed_by(&rt, rows, name, status);
-        assert!(rt; out.as_slice().starts_with(beginning.as_bytes()), "{name}");
+// The line of a main that fails by too many versions at the access past the last one that it may make.
+fn long_line(alloc: Global) -> Result<Vec<u8>, Fail> {
+    let mut line = Vec::new(alloc);
+    line.extend_from_slice(b"failed 10 0".as_slice())?;
+    for _ in 0..65_535 {
+        line.extend_from_slice(b" t0".as_slice())?;
     }
+    line.extend_from_slice(b"\n".as_slice())?;
+    Ok(line)
+}
+
+#[test]
+fn accesses_are_counted(rt: HostRuntime) -> Result<(), Fail> {
+    let line = long_line(rt.alloc())?;
+    let rows = rows::all_rows(rt.alloc())?;
+    let out = printed_by(&rt, rows.as_slice(), "too_many_locks", 1);
+    assert!(rt; out == line);
+    let mut builder = LONG_RUNS;
+    builder.reduce = false;
+    let mut out = Vec::new(rt.alloc());
+    let mut err = Vec::new(rt.alloc());
+    let row = row_of(TOO_MANY_LOCKS, builder);
+    let status = rows::check_row(&rt, &row, &mut out, &mut err)?;
+    assert_eq!(rt; status, 1);
+    assert!(rt; out == line);
     Ok(())
 }
 
@@ -184,25 +227,24 @@ fn refuses(rt: &(impl Abort + AllocGlobal), builder: Builder, line: &str) -> Res
 #[test]
 fn settings_out_of_range_are_refused(rt: HostRuntime) -> Result<(), Fail> {
     let defaults = Builder::new();
-    for (max_threads, max_branches, max_steps, line) in [
-        (0, defaults.max_branches, defaults.max_steps, "error 1\n"),
-        (6, defaults.max_branches, defaults.max_steps, "error 1\n"),
-        (defaults.max_threads, 0, defaults.max_steps, "error 2\n"),
-        (
-            defaults.max_threads,
-            1_000_001,
-            defaults.max_steps,
-            "error 2\n",
-        ),
-        (defaults.max_threads, defaults.max_branches, 0, "error 5\n"),
+    for (max_threads, max_branches, line) in [
+        (0, defaults.max_branches, "error 1\n"),
+        (6, defaults.max_branches, "error 1\n"),
+        (defaults.max_threads, 0, "error 2\n"),
+        (defaults.max_threads, 1_000_001, "error 2\n"),
     ] {
         let mut builder = Builder::new();
         builder.max_threads = max_threads;
         builder.max_branches = max_branches;
-        builder.max_steps = max_steps;
+        builder.preemption_bound = Some(256);
+        builder.max_steps = 0;
         refuses(&rt, builder, line)?;
     }
-    Ok(())
+    let mut builder = Builder::new();
+    builder.max_steps = 0;
+    refuses(&rt, builder, "error 5\n")?;
+    builder.preemption_bound = Some(256);
+    refuses(&rt, builder, "error 3\n")
 }
 
 // Checks the row, and compares the line that is printed of a failure.
@@ -217,7 +259,7 @@ fn fails(rt: &(impl Abort + AllocGlobal), row: Row, line: &str) -> Result<(), Fa
 
 #[test]
 fn limits_fail_a_run(rt: HostRuntime) -> Result<(), Fail> {
-    let mut short = Builder::new();
+    let mut short = WHOLE;
     short.max_branches = 3;
     fails(&rt, row_of(LOCK_BESIDE, short), "failed 9 0 t0 t1 t1\n")?;
     fails(&rt, row_of(&FIVE_SPAWNS, Builder::new()), "failed 8 0\n")

@@ -14,7 +14,7 @@ use Rattle.loom_objects.specs.declared.operation.AtomicOp.TheVariants as atomic_
 use Rattle.loom_objects.specs.declared.operation.Exchange.{Exchange}
 use Rattle.loom_objects.specs.Atomics.{access_begins, atomic_begins, exchanges, exchanges_if, fence, is_relaxed, opens, reads, some_slot, store, swap_of, tells_exchanged, tells_read, updates, writes}
 use Rattle.loom_objects.specs.Moves.{an_atomic, is_number, with_points}
-use Rattle.loom_objects.specs.Operation.{accessed}
+use Rattle.loom_objects.specs.Accessed.{accessed}
 use Rattle.loom_objects.specs.Rule.{◌>>=◌}
 use Rattle.loom_objects.specs.World.{World}
 use Rattle.loom_runs.proofs.Runs.Fairness.{IsFairResult, readable_fair, load_fair, store_fair, update_read_fair, update_write_fair, unsync_load_fair, with_mut_fair, with_mut_end_fair}

@@ -7,7 +7,7 @@ use Rattle.loom_objects.specs.declared.operation.Turn.{Turn}
 use Rattle.loom_objects.specs.declared.operation.Turn.TheVariants as turn
 use Rattle.loom_objects.specs.Operation.{plain}
 use Rattle.loom_objects.specs.Tree.{Tree, Gives}
-use Rattle.loom_objects.specs.World.{World}
+use Rattle.loom_runs.specs.Courses.{Course}
 use Rattle.loom_runs.specs.Machine.{submit}
 use Rattle.loom_runs.specs.Runs.{Meaning, at_turn, play}
 use Rattle.loom_runs.specs.Trees.{IsRunTree, RunTreeLaw}
@@ -17,23 +17,23 @@ use Rattle.loom_runs.proofs.Runs.Events.{IsGoing, IsOver, failing_run, found_run
 use Rattle.loom_runs.proofs.Runs.Steps.{submit_event}
 
 module _ {D R : Type 0} where
-  turn_run : (turn : Turn D) (w : World D) (go : ℕ → Reply D → Tree R) (stop : D → Tree R) → ((thread : ℕ) (answer : Reply D) → IsRunTree (go thread answer)) → IsGoing (turn, w) → IsRunTree (at_turn go stop turn)
-  turn_run (turn.Reply thread answer) w go stop h going = h thread answer
-  turn_run (turn.Start thread) w go stop h going = h thread _
-  turn_run (turn.Ended value) w go stop h going = absurd going
+  turn_run : (turn : Turn D) (c : Course D) (go : ℕ → Reply D → Tree R) (stop : D → Tree R) → ((thread : ℕ) (answer : Reply D) → IsRunTree (go thread answer)) → IsGoing (turn, c) → IsRunTree (at_turn go stop turn)
+  turn_run (turn.Reply thread answer) c go stop h going = h thread answer
+  turn_run (turn.Start thread) c go stop h going = h thread _
+  turn_run (turn.Ended value) c go stop h going = absurd going
 
-turn_rests : {D : Type 0} (turn : Turn D) (w : World D) (go : ℕ → Reply D → Tree D) → IsOver (turn, w) → IsQuiet (at_turn go (λ value. Gives value) turn) × IsFair (at_turn go (λ value. Gives value) turn)
-turn_rests (turn.Reply thread answer) w go over = absurd over
-turn_rests (turn.Start thread) w go over = absurd over
-turn_rests (turn.Ended value) w go over = (tt, tt)
+turn_rests : {D : Type 0} (turn : Turn D) (c : Course D) (go : ℕ → Reply D → Tree D) → IsOver (turn, c) → IsQuiet (at_turn go (λ value. Gives value) turn) × IsFair (at_turn go (λ value. Gives value) turn)
+turn_rests (turn.Reply thread answer) c go over = absurd over
+turn_rests (turn.Start thread) c go over = absurd over
+turn_rests (turn.Ended value) c go over = (tt, tt)
 
 module _ {D S : Type 0} (next : Meaning D S) where
-  play_run : (left : ℕ) (bodies : List S) (w : World D) (thread : ℕ) (answer : Reply D) → IsRunTree (play next left bodies w thread answer)
+  play_run : (left : ℕ) (bodies : List S) (c : Course D) (thread : ℕ) (answer : Reply D) → IsRunTree (play next left bodies c thread answer)
   unfolding play
-  play_run zero bodies w thread answer = failing_run TooManySteps (λ e. cc)
-  play_run (suc left) bodies w thread answer =
+  play_run zero bodies c thread answer = failing_run TooManySteps (λ e. cc)
+  play_run (suc left) bodies c thread answer =
       found_run (slice_get bodies thread) Misuse _ (λ e. cc)
-      (λ body. event_then _ (submit (plain (next body answer).1) w) (submit_event (plain (next body answer).1) w)
+      (λ body. event_then _ (submit (plain (next body answer).1) c) (submit_event (plain (next body answer).1) c)
       (λ turned going. turn_run turned.0 turned.1 _ _ (λ t r. play_run left _ turned.1 t r) going)
       (λ turned over. turn_rests turned.0 turned.1 _ over))
 

@@ -10,10 +10,10 @@ use Rattle.loom_objects.specs.Question.{Among, made_of, IsSound, able_threads, t
 use Rattle.loom_objects.specs.Schedules.{ability_in, offers, standings, with_able}
 use Rattle.loom_objects.specs.World.{World}
 use Rattle.loom_objects.proofs.Offering.{offers_sound}
-use Rattle.loom_runs.specs.Asking.{which_thread, whether_spurious}
+use Rattle.loom_objects.specs.Asked.{which_thread, whether_spurious}
 use Rattle.loom_runs.proofs.Asking.{which_is_sound}
 
-set_length : {A : Type 0} (xs : List A) (k : ℕ) (a : A) → length (slice_set xs k a) ≡ length xs
+pub set_length : {A : Type 0} (xs : List A) (k : ℕ) (a : A) → length (slice_set xs k a) ≡ length xs
 set_length [] k a = refl
 set_length (x ∷ xs) zero a = refl
 set_length (x ∷ xs) (suc k) a = ap suc (set_length xs k a)
@@ -23,10 +23,10 @@ able_length None abilities = refl
 able_length (Some k) abilities = set_length abilities k Able
 
 -- whatever the threads are, the question which of them goes on is sound
-pub offers_ask : {D : Type 0} (w : World D) → IsSound (which_thread (offers w))
-offers_ask w =
+pub offers_ask : {D : Type 0} (w : World D) (places : List (Option ℕ)) → IsSound (which_thread (offers w) places)
+offers_ask w places =
     let few = able_length (offers w).default (map ability_in (standings w)) in
-    which_is_sound (offers w) (offers_sound w.active (standings w)) (omega (arith, few))
+    which_is_sound (offers w) places (offers_sound w.active (standings w)) (omega (arith, few))
 
 -- an option of a schedule is a thread
 abbrev pub IsThreadChoice : Choice → Type 0
@@ -46,8 +46,8 @@ thread_options_are None abilities choice (inl e) = subst IsThreadChoice (sym e) 
 thread_options_are None abilities choice (inr h) = absurd h
 thread_options_are (Some k) abilities choice h = able_are_threads abilities 0 choice h
 
-pub options_are_threads : (offers : Offers) (choice : Choice) → Among choice (made_of (which_thread offers)).options → IsThreadChoice choice
-options_are_threads offers choice h = thread_options_are offers.default offers.abilities choice h
+pub options_are_threads : (offers : Offers) (places : List (Option ℕ)) (choice : Choice) → Among choice (made_of (which_thread offers places)).options → IsThreadChoice choice
+options_are_threads offers places choice h = thread_options_are offers.default offers.abilities choice h
 
 -- ---- loads
 

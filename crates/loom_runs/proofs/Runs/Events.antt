@@ -9,9 +9,7 @@ use Rattle.loom_objects.specs.declared.operation.Turn.TheVariants.{Reply, Start,
 use Rattle.loom_objects.specs.declared.rt.run.Passed.{Passed}
 use Rattle.loom_objects.specs.declared.rt.run.Passed.TheVariants as passed
 use Rattle.loom_objects.specs.Question.{Question, Among, made_of, IsSound}
-use Rattle.loom_objects.specs.Steps.{turned}
 use Rattle.loom_objects.specs.Tree.{Tree, Gives, Fails, Closes, Asks, ◌>>=◌, check, found}
-use Rattle.loom_objects.specs.World.{World}
 use Rattle.loom_walks.specs.Trees.Sound.{IsClosing}
 use Rattle.loom_walks.specs.Trees.Sound.{IsQuiet}
 use Rattle.loom_runs.specs.Trees.{IsRunTree}
@@ -89,39 +87,58 @@ module _ {A B : Type 0} {Goes Over : A → Type 0} {Goes' Over' : B → Type 0} 
       asks question _ sound exploring (λ choice a. event_after (branches choice) (options choice a)) (λ choice. stays_open (branches choice) (opens choice))
 
 module _ {D : Type 0} where
+  -- with this turn a thread goes on
+  abbrev pub IsOn : Turn D → Type 0
+  IsOn (Reply thread reply) = Unit {0}
+  IsOn (Start thread) = Unit {0}
+  IsOn (Ended value) = ⊥
+
+  -- with this turn the run is over
+  abbrev pub IsLast : Turn D → Type 0
+  IsLast (Reply thread reply) = ⊥
+  IsLast (Start thread) = ⊥
+  IsLast (Ended value) = Unit {0}
+
+  abbrev pub PassesOn : Passed D → Type 0
+  PassesOn (passed.Turn turn) = IsOn turn
+  PassesOn passed.AtBranch = Unit {0}
+
+  abbrev pub PassesLast : Passed D → Type 0
+  PassesLast (passed.Turn turn) = IsLast turn
+  PassesLast passed.AtBranch = ⊥
+
+-- of a turn, and the state beside it, whatever that is
+module _ {D W : Type 0} where
   -- a thread goes on
-  abbrev pub IsGoing : Turn D × World D → Type 0
-  IsGoing (Reply thread reply, w) = Unit {0}
-  IsGoing (Start thread, w) = Unit {0}
-  IsGoing (Ended value, w) = ⊥
+  abbrev pub IsGoing : Turn D × W → Type 0
+  IsGoing turned = IsOn turned.0
 
   -- the run is over
-  abbrev pub IsOver : Turn D × World D → Type 0
-  IsOver (Reply thread reply, w) = ⊥
-  IsOver (Start thread, w) = ⊥
-  IsOver (Ended value, w) = Unit {0}
+  abbrev pub IsOver : Turn D × W → Type 0
+  IsOver turned = IsLast turned.0
 
-  abbrev pub IsOpen : Tree (Turn D × World D) → Type 0
+  abbrev pub IsOpen : Tree (Turn D × W) → Type 0
   IsOpen tree = StaysOpen IsGoing tree
 
   -- an event up to a turn
-  abbrev pub IsEvent : Tree (Turn D × World D) → Type 0
+  abbrev pub IsEvent : Tree (Turn D × W) → Type 0
   IsEvent tree = EventOf IsGoing IsOver tree
 
   -- a thread goes on, or one comes to another branch point
-  abbrev pub GoesOn : Passed D × World D → Type 0
-  GoesOn (passed.Turn turn, w) = IsGoing (turn, w)
-  GoesOn (passed.AtBranch, w) = Unit {0}
+  abbrev pub GoesOn : Passed D × W → Type 0
+  GoesOn after = PassesOn after.0
 
-  abbrev pub HasEnded : Passed D × World D → Type 0
-  HasEnded (passed.Turn turn, w) = IsOver (turn, w)
-  HasEnded (passed.AtBranch, w) = ⊥
+  abbrev pub HasEnded : Passed D × W → Type 0
+  HasEnded after = PassesLast after.0
 
   -- an event up to a turn or another branch point
-  abbrev pub IsPass : Tree (Passed D × World D) → Type 0
+  abbrev pub IsPass : Tree (Passed D × W) → Type 0
   IsPass tree = EventOf GoesOn HasEnded tree
 
-  pub turned_pass : (tree : Tree (Turn D × World D)) → IsEvent tree → IsPass (tree >>= turned)
+  abbrev pub turned : Turn D × W → Tree (Passed D × W)
+  turned (turn, w) = Gives (passed.Turn turn, w)
+
+  pub turned_pass : (tree : Tree (Turn D × W)) → IsEvent tree → IsPass (tree >>= turned)
   turned_pass tree event = event_after turned (λ (turn, w) h. goes _ h) (λ (turn, w) h. settles_at _ h) tree event
 
 -- ---- what comes after an event
@@ -133,22 +150,22 @@ pub found_run : {A R : Type 0} (o : Option A) (kind : FailureKind) (next : A →
 found_run None kind next fair h = failing_run kind fair
 found_run (Some a) kind next fair h = h a
 
-module _ {D R : Type 0} (next : Turn D × World D → Tree R) where
+module _ {D R W : Type 0} (next : Turn D × W → Tree R) where
   -- where the run is over it asks nothing more, and fails no more because of a path
   abbrev pub RestsAfter : Type 0
-  RestsAfter = (turned : Turn D × World D) → IsOver turned → IsQuiet (next turned) × IsFair (next turned)
+  RestsAfter = (turned : Turn D × W) → IsOver turned → IsQuiet (next turned) × IsFair (next turned)
 
-  over_then : (tree : Tree (Turn D × World D)) → Settles IsOver tree → RestsAfter → IsQuiet (tree >>= next) × IsFair (tree >>= next)
+  over_then : (tree : Tree (Turn D × W)) → Settles IsOver tree → RestsAfter → IsQuiet (tree >>= next) × IsFair (tree >>= next)
   over_then tree (settles_at turned h) rests = rests turned h
   over_then tree (fails_by_itself kind fair) rests = (tt, fair)
 
-  open_then : (tree : Tree (Turn D × World D)) → IsOpen tree → ((turned : Turn D × World D) → IsGoing turned → IsClosing (next turned)) → IsClosing (tree >>= next)
+  open_then : (tree : Tree (Turn D × W)) → IsOpen tree → ((turned : Turn D × W) → IsGoing turned → IsClosing (next turned)) → IsClosing (tree >>= next)
   open_then (Gives turned) opens goes_on = goes_on turned opens
   open_then (Fails kind) opens goes_on = tt
   open_then (Closes rest) opens goes_on = tt
   open_then (Asks question branches) opens goes_on = λ choice. open_then (branches choice) (opens choice) goes_on
 
-  pub event_then : (tree : Tree (Turn D × World D)) → IsEvent tree → ((turned : Turn D × World D) → IsGoing turned → IsRunTree (next turned)) → RestsAfter → IsRunTree (tree >>= next)
+  pub event_then : (tree : Tree (Turn D × W)) → IsEvent tree → ((turned : Turn D × W) → IsGoing turned → IsRunTree (next turned)) → RestsAfter → IsRunTree (tree >>= next)
   event_then tree (goes turned h) goes_on rests = goes_on turned h
   event_then tree (fails kind fair) goes_on rests = failing_run kind fair
   event_then tree (closes rest h) goes_on rests =

@@ -19,15 +19,17 @@ use Rattle.loom_objects.specs.Effects.{chosen, counted}
 use Rattle.loom_objects.specs.Ending.{all_ended, end_of}
 use Rattle.loom_objects.specs.Notifiers.{enters_wait as entered}
 use Rattle.loom_objects.specs.Question.{slots}
-use Rattle.loom_objects.specs.Steps.{asked, asks_slot, begins, enters_wait, read_slot, resumes, slot_of, told, turned}
+use Rattle.loom_objects.specs.Steps.{asked, asks_slot, begins, ends, enters_wait, read_slot, resumes, slot_of, told, turned}
 use Rattle.loom_objects.specs.Tree.{Tree, ◌>>=◌, came}
-use Rattle.loom_objects.specs.World.{World, main_thread, opening}
+use Rattle.loom_objects.specs.World.{World, main_thread}
+use Rattle.loom_runs.specs.Courses.{Course, carried, grown_from, one_passed, opening}
 use Rattle.loom_runs.specs.Histories.{IsReached, at_first, later, LocksLaw, returned_by, opened_by}
-use Rattle.loom_runs.specs.Machine.{chooses, closes as closes_run, further, further_branches, goes_on, passes, schedule, submit, waits}
+use Rattle.loom_runs.specs.Machine.{chooses, closes as closes_run, further, further_branches, goes_by, goes_on, passes, schedule, submit, waits}
 use Rattle.loom_runs.proofs.Runs.Keeping.{Keeps, gives, fails, closes, asks as questions, kept_value, then_keeps, check_keeps, all_exclusive}
 use Rattle.loom_runs.proofs.Runs.Tables.{Choosing, Ending, chosen_choosing, counted_entering, counted_opening, end_ending}
 use Rattle.loom_objects.specs.declared.operation.Turn.TheVariants as turn
 use Rattle.loom_runs.proofs.Runs.Atomics.{reads_keeping}
+use Rattle.loom_runs.proofs.Runs.Carrying.{InWorld, accesses_keeps, carried_keeps}
 use Rattle.loom_runs.proofs.Runs.Notifiers.{enters_wait_keeping}
 use Rattle.loom_runs.proofs.Runs.States.{Aim, Kept, Out, Ready, Soundness, Taken, Told, TurnTo, freed_at}
 use Rattle.loom_runs.proofs.Runs.Ruling.{Entered, Entering, Fairly, Onward, Opened, Opening, PassedTo, ResumedTo, Telling}
@@ -71,56 +73,65 @@ module _ {D : Type 0} (out : Aim) where
 
   -- ---- schedules, events, and histories
 
-  closes_kept : (w : World D) → Kept out w → Keeps (TurnTo out) (closes_run w)
-  closes_kept w k = check_keeps (all_ended w) _ _ (λ e. closes _ (came_keeps (Ending w) (end_of w) (end_ending w) (λ answered q. q out k)))
+  closes_kept : (c : Course D) → Kept out c.world → Keeps (InWorld (TurnTo out)) (closes_run c)
+  closes_kept c k = check_keeps (all_ended c.world) _ _ (λ e. closes _ (carried_keeps c (ends c.world) (came_keeps (Ending c.world) (end_of c.world) (end_ending c.world) (λ answered q. q out k))))
 
-  chooses_kept : (w : World D) (o : Choice) → Kept out w → Keeps (PassedTo out) (chooses w o)
-  chooses_kept w (choice.Thread (Some t)) k = resumes_kept t w k
-  chooses_kept w (choice.Thread None) k = turned_kept _ (closes_kept w k)
-  chooses_kept w (choice.Load slot) k = fails _
-  chooses_kept w (choice.Spurious answer) k = fails _
+  goes_by_kept : (t : ℕ) (c : Course D) → Kept out c.world → Keeps (InWorld (PassedTo out)) (goes_by t c)
+  goes_by_kept t c k = carried_keeps (one_passed c) (resumes t c.world) (resumes_kept t c.world k)
 
-  passes_kept : (w : World D) → Kept out w → Keeps (PassedTo out) (passes w)
-  passes_kept w k = questions _ _ (λ o. chooses_kept w o k)
+  chooses_kept : (c : Course D) (o : Choice) → Kept out c.world → Keeps (InWorld (PassedTo out)) (chooses c o)
+  chooses_kept c (choice.Thread (Some t)) k = accesses_keeps t c (goes_by t) (λ order. goes_by_kept t (record c { order = order }) k)
+  chooses_kept c (choice.Thread None) k = then_keeps {Q = InWorld (TurnTo out)} (closes_run (one_passed c)) _ (closes_kept (one_passed c) k) (λ (turn, v) q. gives _ q)
+  chooses_kept c (choice.Load slot) k = fails _
+  chooses_kept c (choice.Spurious answer) k = fails _
 
-  further_kept : (again : World D → Tree (Turn D × World D)) → ((v : World D) → Kept out v → Keeps (TurnTo out) (again v)) → (w : World D) → Kept out w → Keeps (TurnTo out) (passes w >>= further again)
-  further_kept again h w k = then_keeps {Q = PassedTo out} (passes w) (further again) (passes_kept w k) onward
+  passes_kept : (c : Course D) → Kept out c.world → Keeps (InWorld (PassedTo out)) (passes c)
+  passes_kept c k = questions _ _ (λ o. chooses_kept c o k)
+
+  further_kept : (again : Course D → Tree (Turn D × Course D)) → ((v : Course D) → Kept out v.world → Keeps (InWorld (TurnTo out)) (again v))
+      → (c : Course D) → Kept out c.world → Keeps (InWorld (TurnTo out)) (passes c >>= further again)
+  further_kept again h c k = then_keeps {Q = InWorld (PassedTo out)} (passes c) (further again) (passes_kept c k) onward
     where
-      onward : (after : Passed D × World D) → PassedTo out after → Keeps (TurnTo out) (further again after)
+      onward : (after : Passed D × Course D) → InWorld (PassedTo out) after → Keeps (InWorld (TurnTo out)) (further again after)
       onward (passed.Turn turn, v) q = gives _ q
       onward (passed.AtBranch, v) q = h v q.kept
 
-  schedule_kept : (more : ℕ) (w : World D) → Kept out w → Keeps (TurnTo out) (schedule more w)
+  schedule_kept : (more : ℕ) (c : Course D) → Kept out c.world → Keeps (InWorld (TurnTo out)) (schedule more c)
   unfolding schedule
-  schedule_kept zero w k = further_kept _ (λ v q. fails _) w k
-  schedule_kept (suc more) w k = further_kept (schedule more) (schedule_kept more) w k
+  schedule_kept zero c k = further_kept _ (λ v q. fails _) c k
+  schedule_kept (suc more) c k = further_kept (schedule more) (schedule_kept more) c k
 
-  waits_kept : (n : ℕ) (w : World D) (o : Choice) → Ready out w → Keeps (TurnTo out) (waits n w o)
-  waits_kept n w (choice.Spurious answer) k =
-      then_keeps {Q = λ after. Ready out after.1} (enters_wait answer n w) _ (came_keeps (Onward w) (entered answer n w) (enters_wait_keeping answer n w) (λ after q. q out k))
+  waits_kept : (n : ℕ) (c : Course D) (o : Choice) → Ready out c.world → Keeps (InWorld (TurnTo out)) (waits n c o)
+  waits_kept n c (choice.Spurious answer) k =
+      then_keeps {Q = InWorld (λ after. Ready out after.1)} (carried (one_passed c) (enters_wait answer n c.world)) _
+      (carried_keeps (one_passed c) (enters_wait answer n c.world) (came_keeps (Onward c.world) (entered answer n c.world) (enters_wait_keeping answer n c.world) (λ after q. q out k)))
       (λ (_, v) q. schedule_kept further_branches v q.kept)
-  waits_kept n w (choice.Thread t) k = fails _
-  waits_kept n w (choice.Load slot) k = fails _
+  waits_kept n c (choice.Thread t) k = fails _
+  waits_kept n c (choice.Load slot) k = fails _
 
-  goes_on_kept : (entered : Entry D × World D) → Entered out entered → Keeps (TurnTo out) (goes_on entered)
-  goes_on_kept (Answered reply, w) k = gives _ k
-  goes_on_kept (AtBranch, w) k = schedule_kept further_branches w k
-  goes_on_kept (AtSpurious n, w) k = questions _ _ (λ o. waits_kept n w o k)
+  goes_on_kept : (entered : Entry D × Course D) → InWorld (Entered out) entered → Keeps (InWorld (TurnTo out)) (goes_on entered)
+  goes_on_kept (Answered reply, c) k = gives _ k
+  goes_on_kept (AtBranch, c) k = schedule_kept further_branches c k
+  goes_on_kept (AtSpurious n, c) k = questions _ _ (λ o. waits_kept n c o k)
 
   -- an operation that doesn't give back the mutex that is out
-  pub submit_kept : (todo : Op D ⊤) (w : World D) → ((m : ℕ) → out ≡ Out m → returned_by todo ≡ Some m → ⊥) → Ready out w → Keeps (TurnTo out) (submit todo w)
-  submit_kept todo w other k =
-      then_keeps {Q = Entered out} (begins todo w) goes_on (came_keeps (Entering (returned_by todo) w) (counted todo w) (counted_entering todo w) (λ answered q. q out other k)) goes_on_kept
+  pub submit_kept : (todo : Op D ⊤) (c : Course D) → ((m : ℕ) → out ≡ Out m → returned_by todo ≡ Some m → ⊥) → Ready out c.world → Keeps (InWorld (TurnTo out)) (submit todo c)
+  submit_kept todo c other k =
+      then_keeps {Q = InWorld (Entered out)} (carried c (begins todo c.world)) _
+      (carried_keeps c (begins todo c.world) (came_keeps (Entering (returned_by todo) c.world) (counted todo c.world) (counted_entering todo c.world) (λ answered q. q out other k)))
+      (λ (entry, v) q. goes_on_kept (entry, grown_from c.world v) q)
 
   -- one that takes the data of a mutex out at once
-  opens_kept : (n : ℕ) (entered : Entry D × World D) → Opened out n entered → Keeps (λ turned. Taken out n turned.1) (goes_on entered)
-  opens_kept n (Answered reply, w) k = gives _ k.1.1
-  opens_kept n (AtBranch, w) k = absurd k
-  opens_kept n (AtSpurious m, w) k = absurd k
+  opens_kept : (n : ℕ) (entered : Entry D × Course D) → InWorld (Opened out n) entered → Keeps (λ turned. Taken out n turned.1.world) (goes_on entered)
+  opens_kept n (Answered reply, c) k = gives _ k.1.1
+  opens_kept n (AtBranch, c) k = absurd k
+  opens_kept n (AtSpurious m, c) k = absurd k
 
-  pub submit_opens : (todo : Op D ⊤) (n : ℕ) (w : World D) → opened_by todo ≡ Some n → Ready out w → Keeps (λ turned. Taken out n turned.1) (submit todo w)
-  submit_opens todo n w e k =
-      then_keeps {Q = Opened out n} (begins todo w) goes_on (came_keeps (Opening n w) (counted todo w) (counted_opening todo n w e) (λ answered q. q out k)) (opens_kept n)
+  pub submit_opens : (todo : Op D ⊤) (n : ℕ) (c : Course D) → opened_by todo ≡ Some n → Ready out c.world → Keeps (λ turned. Taken out n turned.1.world) (submit todo c)
+  submit_opens todo n c e k =
+      then_keeps {Q = InWorld (Opened out n)} (carried c (begins todo c.world)) _
+      (carried_keeps c (begins todo c.world) (came_keeps (Opening n c.world) (counted todo c.world) (counted_opening todo n c.world e) (λ answered q. q out k)))
+      (λ (entry, v) q. opens_kept n (entry, grown_from c.world v) q)
 
 -- main isn't about to wait
 first_frees : (D : Type 0) (t m : ℕ) → freed_at (slice_get (main_thread {D = D} ∷ []) t) ≡ Some m → ⊥
@@ -129,7 +140,7 @@ first_frees D (suc t) m e = cc e
 
 module _ {D : Type 0} where
   -- nothing is out before the first operation
-  pub opening_ready : (out : Aim) (max_threads max_steps : ℕ) → ((n : ℕ) → out ≡ Out n → ⊥) → Ready {D = D} out (opening max_threads max_steps)
+  pub opening_ready : (out : Aim) (max_threads max_steps : ℕ) → ((n : ℕ) → out ≡ Out n → ⊥) → Ready {D = D} out (opening max_threads max_steps).world
   opening_ready out max_threads max_steps nothing = record {
     kept = record {
       sound = tt;
@@ -141,15 +152,15 @@ module _ {D : Type 0} where
   }
 
   -- where just sound locks are followed, a state is as good as one in which a thread has its turn
-  sound_ready : (answered : Turn D × World D) → TurnTo Soundness answered → Ready Soundness answered.1
-  sound_ready (turn.Reply t reply, w) k = k.0
-  sound_ready (turn.Start t, w) k = k
-  sound_ready (turn.Ended value, w) k = record { kept = k; idle = λ f. absurd f }
+  sound_ready : (answered : Turn D × Course D) → InWorld (TurnTo Soundness) answered → Ready Soundness answered.1.world
+  sound_ready (turn.Reply t reply, c) k = k.0
+  sound_ready (turn.Start t, c) k = k
+  sound_ready (turn.Ended value, c) k = record { kept = k; idle = λ f. absurd f }
 
-  reached_kept : (max_threads max_steps : ℕ) (w : World D) → IsReached max_threads max_steps w → Ready Soundness w
-  reached_kept max_threads max_steps w at_first = opening_ready Soundness max_threads max_steps (λ n e. cc e)
-  reached_kept max_threads max_steps w (later old todo turn v reached comes) =
+  reached_kept : (max_threads max_steps : ℕ) (c : Course D) → IsReached max_threads max_steps c → Ready Soundness c.world
+  reached_kept max_threads max_steps c at_first = opening_ready Soundness max_threads max_steps (λ n e. cc e)
+  reached_kept max_threads max_steps c (later old todo turn v reached comes) =
       sound_ready (turn, v) (kept_value (submit todo old) (turn, v) (submit_kept Soundness todo old (λ n e f. cc e) (reached_kept max_threads max_steps old reached)) comes)
 
 pub locks_law : {D : Type 0} → LocksLaw D
-locks_law max_threads max_steps w reached = all_exclusive w.objects (reached_kept max_threads max_steps w reached).kept.sound
+locks_law max_threads max_steps c reached = all_exclusive c.world.objects (reached_kept max_threads max_steps c reached).kept.sound

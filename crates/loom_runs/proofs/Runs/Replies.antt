@@ -58,7 +58,7 @@ use Rattle.loom_objects.specs.declared.rt.thread.Phase.TheVariants.{Finished}
 use Rattle.loom_objects.specs.declared.operation.TrackOp.TheVariants.{GetRef}
 use Rattle.loom_views.specs.declared.rt.failure.FailureKind.TheVariants.{Misuse, OpenAccess, RelaxedFence, SecondWaiter, TooManySteps, TooManyThreads}
 use Rattle.loom_objects.specs.Moves.{a_cell, a_condvar, a_notifier, a_rwlock, a_track, acquires, active_thread, an_arc, an_atomic, at_phase, changes_active, is_number, raises, releases, takes_result, unparks, with_points, yields}
-use Rattle.loom_objects.specs.Operation.{accessed}
+use Rattle.loom_objects.specs.Accessed.{accessed}
 use Rattle.loom_objects.specs.Lent.{kept, value_in}
 use Rattle.loom_views.specs.Table.{points_after_load, points_after_spawn, points_after_store, points_after_unsync_load, points_after_update_read, points_after_with_mut, points_after_with_mut_end}
 use Rattle.loom_runs.proofs.Runs.States.{Aim, Ready}

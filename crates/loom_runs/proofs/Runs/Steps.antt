@@ -24,10 +24,12 @@ use Rattle.loom_objects.specs.Schedules.{offers}
 use Rattle.loom_objects.specs.Steps.{asked, asks_slot, begins, ends, read_slot, resumes, slot_of, told, turned}
 use Rattle.loom_objects.specs.Tree.{Tree, ◌>>=◌, came}
 use Rattle.loom_objects.specs.World.{World}
-use Rattle.loom_runs.specs.Asking.{which_thread}
-use Rattle.loom_runs.specs.Machine.{chooses, closes as closes_run, further, further_branches, goes_on, passes, schedule, submit, waits}
+use Rattle.loom_objects.specs.Asked.{which_thread}
+use Rattle.loom_runs.specs.Courses.{Course, carried, grown_from, one_passed, unordered_in}
+use Rattle.loom_runs.specs.Machine.{chooses, closes as closes_run, further, further_branches, goes_by, goes_on, passes, schedule, submit, waits}
 use Rattle.loom_runs.proofs.Runs.Answering.{Answers, ResumesOn, anything, chosen_goes, end_over}
 use Rattle.loom_runs.proofs.Runs.Atomics.{reads_keeping}
+use Rattle.loom_runs.proofs.Runs.Carrying.{accesses_event, carried_event, carried_settles}
 use Rattle.loom_runs.proofs.Runs.Defaults.{offers_ask, options_are_flags, options_are_loads, options_are_threads, slots_few, IsFlagChoice, IsLoadChoice}
 use Rattle.loom_runs.proofs.Runs.Events.{Anything, GoesOn, HasEnded, IsEvent, IsOpen, IsOver, IsPass, Settles, StaysOpen, asks, check_event, closes, event_after, event_open, fails, fails_by_itself, goes, settles_at, then_event, turned_pass}
 use Rattle.loom_runs.proofs.Runs.Tables.{Choosing, Ending, chosen_choosing, counted_entering, end_ending}
@@ -80,57 +82,64 @@ module _ {D : Type 0} where
 
   -- ---- schedules
 
-  closes_event : (w : World D) → IsEvent (closes_run w)
-  closes_event w = check_event (all_ended w) Deadlock _ (λ e. cc) (closes _ (ends_settles w))
+  closes_event : (c : Course D) → IsEvent (closes_run c)
+  closes_event c = check_event (all_ended c.world) Deadlock _ (λ e. cc) (closes _ (carried_settles c (ends c.world) (ends_settles c.world)))
 
-  chosen_event : (w : World D) (o : Option ℕ) → IsPass (chooses w (choice.Thread o))
-  chosen_event w (Some t) = resumes_event t w
-  chosen_event w None = turned_pass _ (closes_event w)
+  goes_by_event : (t : ℕ) (c : Course D) → IsPass (goes_by t c)
+  goes_by_event t c = carried_event (one_passed c) (resumes t c.world) (resumes_event t c.world)
 
-  option_event : (w : World D) (o : Choice) → Among o (made_of (which_thread (offers w))).options → IsPass (chooses w o)
-  option_event w (choice.Thread o) h = chosen_event w o
-  option_event w (choice.Load slot) h = absurd (options_are_threads (offers w) (choice.Load slot) h)
-  option_event w (choice.Spurious answer) h = absurd (options_are_threads (offers w) (choice.Spurious answer) h)
+  chosen_event : (c : Course D) (o : Option ℕ) → IsPass (chooses c (choice.Thread o))
+  chosen_event c (Some t) = accesses_event t c (goes_by t) (λ order. goes_by_event t (record c { order = order }))
+  chosen_event c None = turned_pass _ (closes_event (one_passed c))
 
-  choice_open : (w : World D) (o : Choice) → StaysOpen GoesOn (chooses w o)
-  choice_open w (choice.Thread o) = event_open _ (chosen_event w o)
-  choice_open w (choice.Load slot) = tt
-  choice_open w (choice.Spurious answer) = tt
+  option_event : (c : Course D) (o : Choice) → Among o (made_of (which_thread (offers c.world) (unordered_in c))).options → IsPass (chooses c o)
+  option_event c (choice.Thread o) h = chosen_event c o
+  option_event c (choice.Load slot) h = absurd (options_are_threads (offers c.world) (unordered_in c) (choice.Load slot) h)
+  option_event c (choice.Spurious answer) h = absurd (options_are_threads (offers c.world) (unordered_in c) (choice.Spurious answer) h)
 
-  passes_event : (w : World D) → IsPass (passes w)
-  passes_event w = asks _ _ (offers_ask w) refl (option_event w) (choice_open w)
+  choice_open : (c : Course D) (o : Choice) → StaysOpen GoesOn (chooses c o)
+  choice_open c (choice.Thread o) = event_open _ (chosen_event c o)
+  choice_open c (choice.Load slot) = tt
+  choice_open c (choice.Spurious answer) = tt
 
-  module _ (again : World D → Tree (Turn D × World D)) where
-    further_over : (after : Passed D × World D) → HasEnded after → Settles IsOver (further again after)
-    further_over (passed.Turn turn, w) over = settles_at (turn, w) over
-    further_over (passed.AtBranch, w) over = absurd over
+  passes_event : (c : Course D) → IsPass (passes c)
+  passes_event c = asks _ _ (offers_ask c.world (unordered_in c)) refl (option_event c) (choice_open c)
 
-    further_event : ((v : World D) → IsEvent (again v)) → (w : World D) → IsEvent (passes w >>= further again)
-    further_event h w = event_after (further again) going further_over (passes w) (passes_event w)
+  module _ (again : Course D → Tree (Turn D × Course D)) where
+    further_over : (after : Passed D × Course D) → HasEnded after → Settles IsOver (further again after)
+    further_over (passed.Turn turn, c) over = settles_at (turn, c) over
+    further_over (passed.AtBranch, c) over = absurd over
+
+    further_event : ((v : Course D) → IsEvent (again v)) → (c : Course D) → IsEvent (passes c >>= further again)
+    further_event h c = event_after (further again) going further_over (passes c) (passes_event c)
       where
-        going : (after : Passed D × World D) → GoesOn after → IsEvent (further again after)
+        going : (after : Passed D × Course D) → GoesOn after → IsEvent (further again after)
         going (passed.Turn turn, v) goes_on = goes (turn, v) goes_on
         going (passed.AtBranch, v) goes_on = h v
 
-  schedule_event : (more : ℕ) (w : World D) → IsEvent (schedule more w)
+  schedule_event : (more : ℕ) (c : Course D) → IsEvent (schedule more c)
   unfolding schedule
-  schedule_event zero w = further_event _ (λ v. fails Misuse misuse) w
-  schedule_event (suc more) w = further_event (schedule more) (schedule_event more) w
+  schedule_event zero c = further_event _ (λ v. fails Misuse misuse) c
+  schedule_event (suc more) c = further_event (schedule more) (schedule_event more) c
 
-  waits_event : (n : ℕ) (w : World D) (o : Choice) → IsFlagChoice o → IsEvent (waits n w o)
-  waits_event n w (choice.Spurious answer) h = then_event {Q = Anything} _ _ (came_settles (Onward w) (entered answer n w) (enters_wait_keeping answer n w) (anything (entered answer n w))) (λ after q. schedule_event further_branches after.1)
-  waits_event n w (choice.Thread t) h = absurd h
-  waits_event n w (choice.Load slot) h = absurd h
+  waits_event : (n : ℕ) (c : Course D) (o : Choice) → IsFlagChoice o → IsEvent (waits n c o)
+  waits_event n c (choice.Spurious answer) h = then_event {Q = Anything} _ _
+      (carried_settles (one_passed c) _ (came_settles (Onward c.world) (entered answer n c.world) (enters_wait_keeping answer n c.world) (anything (entered answer n c.world))))
+      (λ after q. schedule_event further_branches after.1)
+  waits_event n c (choice.Thread t) h = absurd h
+  waits_event n c (choice.Load slot) h = absurd h
 
-  waits_open : (n : ℕ) (w : World D) (o : Choice) → IsOpen (waits n w o)
-  waits_open n w (choice.Spurious answer) = event_open _ (waits_event n w (choice.Spurious answer) tt)
-  waits_open n w (choice.Thread t) = tt
-  waits_open n w (choice.Load slot) = tt
+  waits_open : (n : ℕ) (c : Course D) (o : Choice) → IsOpen (waits n c o)
+  waits_open n c (choice.Spurious answer) = event_open _ (waits_event n c (choice.Spurious answer) tt)
+  waits_open n c (choice.Thread t) = tt
+  waits_open n c (choice.Load slot) = tt
 
-  goes_on_event : (entered : Entry D × World D) → IsEvent (goes_on entered)
-  goes_on_event (Answered reply, w) = told_goes (reply, w)
-  goes_on_event (AtBranch, w) = schedule_event further_branches w
-  goes_on_event (AtSpurious n, w) = asks _ _ tt refl (λ o h. waits_event n w o (options_are_flags o h)) (waits_open n w)
+  goes_on_event : (entered : Entry D × Course D) → IsEvent (goes_on entered)
+  goes_on_event (Answered reply, c) = goes _ tt
+  goes_on_event (AtBranch, c) = schedule_event further_branches c
+  goes_on_event (AtSpurious n, c) = asks _ _ tt refl (λ o h. waits_event n c o (options_are_flags o h)) (waits_open n c)
 
-  pub submit_event : (todo : Op D ⊤) (w : World D) → IsEvent (submit todo w)
-  submit_event todo w = then_event (begins todo w) goes_on (came_settles (Entering (returned_by todo) w) (counted todo w) (counted_entering todo w) (anything (counted todo w))) (λ entered q. goes_on_event entered)
+  pub submit_event : (todo : Op D ⊤) (c : Course D) → IsEvent (submit todo c)
+  submit_event todo c = then_event (carried c (begins todo c.world)) _
+      (carried_settles c (begins todo c.world) (came_settles (Entering (returned_by todo) c.world) (counted todo c.world) (counted_entering todo c.world) (anything (counted todo c.world))))
+      (λ entered q. goes_on_event (entered.0, grown_from c.world entered.1))

@@ -139,7 +139,7 @@ every_below s passes (Some k) n bound b e f h =
     let g : every_at s passes n ≡ true = subst (λ (x : Made). every_at s passes x ≡ true) same_node h in
     below_bound s.bound bound (count passes) b (below_by (is_thread n.default) s.reduce n.exploring (is_below s.bound (count passes)) g f)
 
-every_by : (thread reduce exploring below : Bool) → reduce ≡ false → exploring ≡ true → below ≡ true → cond thread (not reduce && exploring && below) true ≡ true
+pub every_by : (thread reduce exploring below : Bool) → reduce ≡ false → exploring ≡ true → below ≡ true → cond thread (not reduce && exploring && below) true ≡ true
 every_by true reduce exploring below e f g = rw (e, f, g) refl
 every_by false reduce exploring below e f g = refl
 

@@ -12,11 +12,11 @@ pub data Defaults (m : Machine) : List Choice → List Choice → Type 0 where
   on : (c r : List Choice) (n : Made) → m.node c ≡ Some n → Defaults m (c ++ n.default ∷ []) r → Defaults m c r
 
 -- one step of extend
-extend_over : (m : Machine) (fuel : ℕ) (c : List Choice) → m.node c ≡ None → extend m (suc fuel) c ≡ c
+pub extend_over : (m : Machine) (fuel : ℕ) (c : List Choice) → m.node c ≡ None → extend m (suc fuel) c ≡ c
 unfolding extend
 extend_over m fuel c e = rw (e, extend) refl
 
-extend_on : (m : Machine) (fuel : ℕ) (c : List Choice) (n : Made) → m.node c ≡ Some n → extend m (suc fuel) c ≡ extend m fuel (c ++ n.default ∷ [])
+pub extend_on : (m : Machine) (fuel : ℕ) (c : List Choice) (n : Made) → m.node c ≡ Some n → extend m (suc fuel) c ≡ extend m fuel (c ++ n.default ∷ [])
 unfolding extend
 extend_on m fuel c n e = rw (e, extend) refl
 

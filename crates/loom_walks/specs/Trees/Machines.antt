@@ -35,6 +35,16 @@ abbrev pub EveryRunLaw : Type 0 → Type 0
 EveryRunLaw A = (s : Settings) (adds : Marking) (tree : Tree A) → IsSoundTree tree → IsMarking adds → s.reduce ≡ false → s.bound ≡ None → ExploresTree tree
     → (x : List Choice) → Reachable (machine_of s adds tree) x ↔ ((o : Result A FailureKind) × (outcome s.max_branches tree x ≡ Some o))
 
+-- the same search, not reduced
+abbrev pub unreduced : Settings → Settings
+unreduced s = record s { reduce = false }
+
+-- Each run that is reachable in a reduced search is so in the search with the same bound that isn't reduced, where no mark
+-- is made at a node whose count is the bound: counts never pass the bound, so such a node is below it.
+abbrev pub ReducedLaw : Type 0 → Type 0
+ReducedLaw A = (s : Settings) (adds : Marking) (tree : Tree A) → IsSoundTree tree → IsMarking adds → ((bound : ℕ) → s.bound ≡ Some bound → IsMarkingBelow bound adds)
+    → (x : List Choice) → Reachable (machine_of s adds tree) x → Reachable (machine_of (unreduced s) adds tree) x
+
 -- These marks are made only where the run explores, and the count isn't the bound.
 abbrev pub MarkingLaw : Type 0
 MarkingLaw = (bound : Option ℕ) → IsMarking (marking bound) × ((b : ℕ) → bound ≡ Some b → IsMarkingBelow b (marking bound))

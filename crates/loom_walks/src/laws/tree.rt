@@ -5,7 +5,7 @@ ghost use Rattle.loom_walks.specs.Trees.Drive.{DriveLaw};
 ghost use Rattle.loom_walks.specs.Trees.Example.{ExampleLaw};
 ghost use Rattle.loom_walks.specs.Trees.Foreign.{ForeignLaw};
 ghost use Rattle.loom_walks.specs.Trees.Machines.{MarkingLaw};
-ghost use Rattle.loom_walks.specs.Trees.Machines.{BoundLaw, EveryRunLaw, MachineLaw};
+ghost use Rattle.loom_walks.specs.Trees.Machines.{BoundLaw, EveryRunLaw, MachineLaw, ReducedLaw};
 
 /// A tree of runs with sound questions is a machine for walks.
 pub fn tree_machine<A>()
@@ -50,6 +50,11 @@ pub fn replayed_run<A>()
 /// With a bound on preemptions no run that is reachable passes it.
 pub fn bounded_runs<A>()
     ensures { BoundLaw A }
+{}
+
+/// A reduced search makes no run that the search with the same bound doesn't make.
+pub fn reduced_runs<A>()
+    ensures { ReducedLaw A }
 {}
 
 /// In a search that isn't reduced or bounded, of a tree that explores throughout, each run is reachable.

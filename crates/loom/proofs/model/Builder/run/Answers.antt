@@ -1,12 +1,12 @@
 use Rattle.std.proofs.Common.{◌∙◌, refl, rules}
-use Rattle.loom_objects.specs.World.{opening}
+use Rattle.loom_runs.specs.Courses.{opening}
 use Rattle.loom.proofs.model.Builder.run.Goals as goal
 
 pub loop-bodies-init : goal.loop-bodies-init
 loop-bodies-init g c = record {
   under_way = record {
-    world = opening c.args.self.now.max_threads c.args.self.now.max_steps;
-    shown = c.in_ok-execution.ensures.opens;
+    course = opening c.args.self.now.max_threads c.args.self.now.max_steps;
+    shown = c.in_ok-execution.ensures.opens c.args.path.now c.requires.starts;
     left = search rules;
   };
   going = c.in_ok-execution.ensures.over;

@@ -1,6 +1,6 @@
 use Rattle.std.proofs.Common.{◌≡◌}
 use Rattle.std.specs.Prelude.{None}
-use Rattle.loom_engine.specs.Routes.{drives}
+use Rattle.loom_path.specs.Routes.{drives}
 use Rattle.loom_runs.specs.Runs.{runs}
 use Rattle.loom.specs.Ending.{IsUnderWay}
 use Rattle.loom.proofs.model.Builder.run.Given as goal
@@ -10,8 +10,8 @@ abbrev pub invariant-loop-bodies : goal.invariant-loop-bodies
 invariant-loop-bodies g l = record {
   under_way : IsUnderWay g.B.Body.next (drives (runs g.B.Body.next l.self.max_threads l.self.max_steps l.body) l.fn.path) l.bodies.items l.execution.run l.path l.thread l.reply;
   going : l.execution.over ≡ None;
-  same : l.path.max_branches ≡ l.fn.path.max_branches;
+  same : l.path.search ≡ l.fn.path.search;
 }
 
 abbrev pub decreases-loop-bodies : goal.decreases-loop-bodies
-decreases-loop-bodies g l = l.execution.run.steps_left
+decreases-loop-bodies g l = l.execution.run.state.steps_left

@@ -1,0 +1,5 @@
+pub mod Lists
+pub mod Grown
+pub mod Steps
+pub mod Asked
+pub mod Told

@@ -1,0 +1,4 @@
+pub mod Depends
+pub mod Dependence
+pub mod Shown
+pub mod Laws

@@ -1,0 +1,3 @@
+//! What is kept of accesses.
+pub mod dependence;
+pub mod last;

@@ -1,9 +1,0 @@
-use Rattle.std.proofs.Common.{arith}
-use Rattle.loom_engine.proofs.Nodes.Slots.{some_slot, load_meets}
-use Rattle.loom_engine.proofs.rt.node.Load.meets.Goals as goal
-
-pub returns-then-self : goal.returns-then-self
-returns-then-self c =
-    let n = c.args.self.now in
-    load_meets n.exploring n.readable c.args.readable.now c.are_same_slots.result c.if-self.true (omega (arith, c.requires.well)) (some_slot c.args.readable.now c.requires.some)
-    (omega arith) c.are_same_slots.ensures

@@ -1,4 +1,0 @@
-use Rattle.loom_engine.proofs.rt.node.Node.advance.Goals as goal
-
-pub returns-in-Schedule-clause-advances : goal.returns-in-Schedule-clause-advances
-returns-in-Schedule-clause-advances c = rw c.in-Schedule.is c.advance.ensures.advances

@@ -1,0 +1,42 @@
+use Rattle.std.proofs.Common.{◌≡◌, ◌-◌, ◌<◌, ◌+◌, [], suc, length, map, refl, ap, sym, ◌∙◌, arith, rules}
+use Rattle.std.specs.Prelude.{min}
+use Rattle.loom_walks.specs.Trees.Marks.{from_exploring}
+use Rattle.std.proofs.lemmas.List.{length-map}
+use Rattle.loom_walks.specs.Trees.Drive.{pass_of}
+use Rattle.loom_path.specs.Nodes.{seen}
+use Rattle.loom_path.specs.Routes.{stored}
+use Rattle.loom_path.specs.Marking.{passes_in}
+use Rattle.loom_path.proofs.Marking.Places.{down_within}
+use Rattle.loom_path.proofs.Marking.Nearest.{explores_here, goes_past, goes_past_other}
+use Rattle.loom_path.proofs.rt.backtrack.exploring_in.Goals as goal
+
+pub loop-left-init : goal.loop-left-init
+loop-left-init c =
+    let nodes = c.args.nodes.now in
+    let fits : length nodes < 18446744073709551616 = search rules in
+    let place : c.args.place < 18446744073709551616 = search rules in
+    let least : c.min-left.result ≡ min (length nodes) (suc c.args.place) = omega (arith, c.min-left.ensures, c.saturating_add.ensures, fits, place) in
+    let more : length nodes ≡ length (passes_in nodes) = sym (length-map (stored nodes) pass_of ∙ length-map nodes seen) in
+    record {
+      within = omega (arith, least);
+      same = ap from_exploring (down_within (suc c.args.place) c.min-left.result (passes_in nodes) (least ∙ ap (λ l. min l (suc c.args.place)) more));
+    }
+
+pub returns-then-schedule : goal.returns-then-schedule
+returns-then-schedule c =
+    let l = c.loop-left in
+    explores_here c.args.nodes.now c.args.place l.left _ c.loop-left-test.true l.invariant.within l.invariant.same c.in-Schedule.schedule c.in-Schedule.is c.if-schedule.true
+
+pub loop-left-preserved-else-schedule : goal.loop-left-preserved-else-schedule
+loop-left-preserved-else-schedule c =
+    let l = c.loop-left in record {
+      within = omega arith;
+      same = goes_past c.args.nodes.now c.args.place l.left _ c.loop-left-test.true l.invariant.within l.invariant.same c.in-Schedule.schedule c.in-Schedule.is c.if-schedule.false;
+    }
+
+pub loop-left-preserved : goal.loop-left-preserved
+loop-left-preserved c =
+    let l = c.loop-left in record {
+      within = omega arith;
+      same = goes_past_other c.args.nodes.now c.args.place l.left _ c.loop-left-test.true l.invariant.within l.invariant.same c.in_default.not-Schedule;
+    }

@@ -1,0 +1,33 @@
+use Rattle.std.proofs.Common.{◌≡◌, ap, sym, subst, ◌∙◌, rules, arith}
+use Rattle.loom_walks.specs.Walk.Path.{IsAtRest}
+use Rattle.loom_path.specs.Nodes.{seen_schedule}
+use Rattle.loom_path.specs.declared.rt.node.Status.TheVariants.{Disabled}
+use Rattle.loom_path.proofs.Marking.Adding.{at_disabled, at_skipped, at_other, at_nobody, at_fixed, added_rests}
+use Rattle.loom_path.proofs.rt.node.Schedule.add.Goals as goal
+use Rattle.loom_path.proofs.rt.node.Schedule.add.Goals.{then-not-self-via-then-not-self, then-not-self-via-else-not-self+then-thread-ge5}
+
+pub returns-then-not-self-clause-added : goal.returns-then-not-self-clause-added
+returns-then-not-self-clause-added c = elim c.then-not-self.branch [
+  | then-not-self-via-then-not-self w ↦ at_fixed c.args.self.now w.if-not-self.true c.args.thread
+  | then-not-self-via-else-not-self+then-thread-ge5 w ↦ at_nobody c.args.self.now w.if-not-self.false c.args.thread (search rules)
+]
+
+pub returns-in-Disabled-clause-added : goal.returns-in-Disabled-clause-added
+returns-in-Disabled-clause-added c =
+    let n = c.args.self.now in
+    ap (λ l. seen_schedule (record n { statuses = l })) c.marked_statuses-self.ensures ∙ at_disabled n c.if-not-self.false c.args.thread Disabled (search rules) c.in-Disabled.is
+
+pub returns-in-Disabled-clause-rests : goal.returns-in-Disabled-clause-rests
+returns-in-Disabled-clause-rests c =
+    subst IsAtRest (sym (returns-in-Disabled-clause-added c)) (added_rests c.args.thread (seen_schedule c.args.self.now) c.requires)
+
+pub returns-in-Skip-clause-added : goal.returns-in-Skip-clause-added
+returns-in-Skip-clause-added c = at_skipped c.args.self.now c.if-not-self.false c.args.thread Disabled (search rules) c.in-Skip.is
+
+pub returns-in-Skip-clause-rests : goal.returns-in-Skip-clause-rests
+returns-in-Skip-clause-rests c =
+    subst IsAtRest (sym (returns-in-Skip-clause-added c)) (added_rests c.args.thread (seen_schedule c.args.self.now) c.requires)
+
+pub returns-in-Yield-clause-added : goal.returns-in-Yield-clause-added
+returns-in-Yield-clause-added c =
+    at_other c.args.self.now c.if-not-self.false c.args.thread Disabled (search rules) (λ e. grind (arith, c.in-Yield.is, e)) (λ e. grind (arith, c.in-Yield.is, e))

@@ -1,0 +1,31 @@
+use Rattle.std.proofs.Common.{◌≡◌, ◌≤◌, ◌<◌, ◌+◌, [], ◌∷◌, ◌++◌, length, true, refl, ap, ◌∙◌, subst, sym, arith, rules}
+use Rattle.loom_objects.specs.Question.{made_of}
+use Rattle.loom_objects.specs.declared.choice.Choice.TheVariants.{Spurious}
+use Rattle.loom_walks.specs.Trees.Drive.{new_node}
+use Rattle.loom_path.specs.declared.rt.node.Node.{Node}
+use Rattle.loom_path.specs.declared.rt.node.Node.TheVariants as node
+use Rattle.loom_path.specs.Routes.{Route}
+use Rattle.loom_path.specs.Tallies.{IsValueAt}
+use Rattle.loom_objects.specs.Asked.{whether_spurious}
+use Rattle.loom_path.specs.contracts.rt.path.Path.{the_view}
+use Rattle.loom_path.proofs.Nodes.Paths.{past_end, end_of, makes}
+use Rattle.loom_path.proofs.Notes.{node_last, value_here}
+use Rattle.loom_path.proofs.rt.path.Path.branch_spurious.Goals as goal
+
+pub pass_value-requires-in-Ok : goal.pass_value-requires-in-Ok
+pass_value-requires-in-Ok c =
+    let p : Route = c.args.self.now in
+    let n : Node = node.Spurious c.in-Some.spurious in
+    let held : length (the_view c.self.inside).nodes ≤ (the_view c.self.inside).position = omega (arith, c.self.inside.nodes.ok.0) in
+    let last : p.position ≡ length p.nodes = end_of (the_view c.self.inside) p c.self.view_is c.self.invariant.0 held in
+    subst (λ (r : Route). IsValueAt r.nodes r.position) (sym c.in-Ok.ensures.made) (value_here (p.nodes ++ n ∷ []) p.position n (node_last p.nodes p.position n last) refl)
+
+pub returns-in-Ok-clause-says : goal.returns-in-Ok-clause-says
+returns-in-Ok-clause-says c =
+    let p : Route = c.args.self.now in
+    let held : length (the_view c.self.inside).nodes ≤ (the_view c.self.inside).position = omega (arith, c.self.inside.nodes.ok.0) in
+    let past : length p.nodes ≤ p.position = past_end (the_view c.self.inside) p c.self.view_is held in
+    let room : p.position < p.search.max_branches = search rules in
+    makes p whether_spurious past room true refl (node.Spurious c.in-Some.spurious) (Spurious c.in-Some.spurious.answer) c.pass_value-in-Ok.new.self
+    (c.in-Some.ensures ∙ ap (new_node true (made_of whether_spurious)) c.given_here.ensures) refl
+    (c.pass_value-in-Ok.ensures ∙ ap (λ (r : Route). record r { position = r.position + 1 }) c.in-Ok.ensures.made)

@@ -1,0 +1,12 @@
+use Rattle.std.proofs.Common.{take, ap, subst, ◌∙◌}
+use Rattle.loom_walks.specs.Trees.Drive.{passes_of}
+use Rattle.loom_path.specs.Routes.{trail}
+use Rattle.loom_path.specs.Marking.{IsNearest, passes_in}
+use Rattle.loom_path.proofs.Marking.Nearest.{passes_taken}
+use Rattle.loom_path.proofs.rt.path.Path.exploring_from.Goals as goal
+
+pub returns : goal.returns
+returns c =
+    let p = c.self.inside in
+    subst (λ l. IsNearest l c.args.place c.exploring_in.result)
+    (ap (λ l. passes_in (take p.position l)) c.deref.ensures.value ∙ passes_taken p.position p.nodes.items ∙ ap (λ r. passes_of (trail r)) c.self.view_is) c.exploring_in.ensures

@@ -1,0 +1,4 @@
+pub mod Nodes
+pub mod Routes
+pub mod Tallies
+pub mod Marking

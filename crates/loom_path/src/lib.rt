@@ -1,0 +1,4 @@
+//! The path of choices that a check goes along.
+#![tactic(auto)]
+
+pub mod rt;

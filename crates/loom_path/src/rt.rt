@@ -1,0 +1,4 @@
+//! The nodes of a path, and the path.
+pub mod backtrack;
+pub mod node;
+pub mod path;

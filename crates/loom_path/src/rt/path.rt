@@ -1,0 +1,359 @@
+ghost use Rattle.std.specs.Prelude.{◌≡◌, ◌≢◌, ◌≤◌, ◌<◌, ◌+◌, ◌↔◌, ℕ, List, [], ◌∷◌, ◌++◌, Option, Some, IfOk, IfErr, IfSome, IsTrue, slice_get, map, length, true};
+ghost use Rattle.std.specs.List.{Contains};
+ghost use Rattle.std.specs.Option.{option_map};
+ghost use Rattle.loom_objects.specs.Question.{made_of, AreSoundOffers};
+ghost use Rattle.loom_objects.specs.Asked.{which_thread, which_store, whether_spurious};
+ghost use Rattle.loom_walks.specs.Walk.Path.{IsAtRest};
+ghost use Rattle.loom_walks.specs.Trees.Drive.{is_used_up, new_node, passes_of};
+ghost use Rattle.loom_walks.specs.Trees.Meeting.{every_at, whole_search};
+ghost use Rattle.loom_path.specs.Nodes.{seen, seen_schedule, seen_load, seen_spurious, AreWell, IsWell, IsWellLoad};
+ghost use Rattle.loom_path.specs.Routes.{Route, settings, at_rest, chosen, trail, Says, Pushes, IsAtLoad, PassesLoad, Steps};
+ghost use Rattle.loom_path.specs.Tallies.{Notes, IsNotedAt, AreNoted, IsValueAt};
+
+use crate::rt::node::{Load, Node, Schedule, Spurious, Tally};
+use loom_objects::choice::Choice;
+use loom_objects::failure::{Stop, failed};
+use loom_objects::rt::thread::Offers;
+use loom_views::rt::failure::FailureKind;
+use std::alloc::{AllocError, Global};
+use std::marker::Model;
+
+/// What a search tries (loom's `rt/path.rs`).
+#[derive(Clone, Copy, Debug)]
+pub struct Search {
+    /// Whether a schedule tries another thread only where an access calls for it.
+    pub reduce: bool,
+    /// How many preemptions a run may count, if that is bounded.
+    pub bound: Option<u8>,
+    /// How many nodes a run may have.
+    pub max_branches: u32,
+}
+
+/// The nodes at which the run has chosen, in order, with what is left to try at each (loom's `rt/path.rs`).
+#[derive(Drop)]
+pub struct Path {
+    pub(crate) search: Search,
+    pub(crate) nodes: Vec<Node>,
+    // how many nodes the run has passed
+    pub(crate) position: usize,
+    // what the next schedule notes of those among them
+    tally: Tally,
+    // what the new nodes take in turn
+    given: Vec<Choice>,
+}
+
+impl Model for Path {
+    ghost use Rattle.std.specs.Prelude.{◌≤◌, length};
+    ghost use Rattle.loom_path.specs.Nodes.{AreWell};
+    ghost use Rattle.loom_path.specs.Routes.{Route, settings};
+    ghost use Rattle.loom_path.specs.Tallies.{AreNoted, IsTally};
+
+    ghost Value = { Route };
+
+    ghost view = { λ p. record {
+      search = settings p.search;
+      nodes = p.nodes.items;
+      position = p.position;
+      given = p.given.items;
+    } };
+
+    ghost invariant = { λ p. (p.position ≤ length p.nodes.items) × (length p.nodes.items ≤ p.search.max_branches) × AreWell p.nodes.items
+        × AreNoted p.nodes.items × IsTally p.nodes.items p.position p.tally };
+}
+
+impl Path {
+    /// A path without nodes, of such a search.
+    pub fn new(alloc: Global, search: Search) -> Path
+        ensures { result ≡ at_rest (settings search) [] }
+    {
+        Path {
+            search,
+            nodes: Vec::new(alloc),
+            position: 0,
+            tally: Tally::new(),
+            given: Vec::new(alloc),
+        }
+    }
+
+    /// A path without nodes whose new nodes take these choices in turn, then defaults. Its search is whole.
+    pub fn following(
+        alloc: Global,
+        max_branches: u32,
+        choices: &[Choice],
+    ) -> Result<Path, AllocError>
+        ensures { IfOk result (λ path. path ≡ record (at_rest (whole_search max_branches) []) { given = choices.now }) }
+    {
+        let search = Search {
+            reduce: false,
+            bound: None,
+            max_branches,
+        };
+        let mut path = Path::new(alloc, search);
+        path.given.extend_from_slice(choices)?;
+        Ok(path)
+    }
+
+    /// The choice that was given for the node that is made next.
+    fn given_here(&self) -> Option<Choice>
+        ensures { result ≡ slice_get self.now.given self.now.position }
+    {
+        self.given.get(self.position).copied()
+    }
+
+    /// Whether the run has passed as many nodes as the path may have.
+    fn is_full(&self) -> bool
+        ensures { IsTrue result ↔ (self.now.search.max_branches ≤ self.now.position) }
+    {
+        self.position >= self.search.max_branches as usize
+    }
+
+    /// Makes a node at the end, without passing it. Without memory for it the path stays as it was.
+    fn push(&mut self, node: Node) -> Result<(), AllocError>
+        requires past { length self.old.nodes ≤ self.old.position }
+        requires room { self.old.position < self.old.search.max_branches }
+        requires well { IsWell node }
+        requires noted { IsNotedAt self.old.nodes self.old.position node }
+        ensures made { IfOk result (λ _. self.new ≡ record self.old { nodes = self.old.nodes ++ node ∷ [] }) }
+        ensures same { IfErr result (λ _. self.new ≡ self.old) }
+    {
+        self.nodes.push(node)?;
+        Ok(())
+    }
+
+    /// Whether each option of a schedule that is made next is to be tried: in a search that isn't reduced, below the bound.
+    fn tries_each(&self) -> bool
+        ensures { (offers : Offers) (places : List (Option ℕ)) → result ≡ every_at self.now.search (passes_of (trail self.now)) (made_of (which_thread offers places)) }
+    {
+        let is_below = match self.search.bound {
+            Some(bound) => self.tally.preemptions < bound as u32,
+            None => true,
+        };
+        !self.search.reduce && is_below
+    }
+
+    /// A new schedule: at the choice that was given for its place, if any, or else at its default.
+    fn new_schedule(&self, offers: &Offers) -> Option<Schedule>
+        requires { AreSoundOffers offers.now.default offers.now.abilities }
+        ensures made { (places : List (Option ℕ)) → option_map seen_schedule result
+            ≡ new_node (every_at self.now.search (passes_of (trail self.now)) (made_of (which_thread offers.now places))) (made_of (which_thread offers.now places)) (slice_get self.now.given self.now.position) }
+        ensures rests { IfSome result (λ schedule. IsAtRest (seen_schedule schedule)) }
+        ensures noted { IfSome result (λ schedule. Notes self.now.position (passes_of (trail self.now)) schedule) }
+    {
+        let every = self.tries_each();
+        match self.given_here() {
+            Some(choice) => Schedule::at(offers, every, &self.tally, choice),
+            None => Some(Schedule::new(offers, every, &self.tally)),
+        }
+    }
+
+    /// The run passes the schedule at the position.
+    fn pass(&mut self, schedule: &Schedule)
+        requires { slice_get self.old.nodes self.old.position ≡ Some (Node.Schedule schedule.now) }
+        ensures { self.new ≡ record self.old { position = self.old.position + 1 } }
+    {
+        self.tally.pass(schedule, self.position as u32);
+        self.position += 1;
+    }
+
+    /// The run passes the node at the position, which is no schedule.
+    fn pass_value(&mut self)
+        requires { IsValueAt self.old.nodes self.old.position }
+        ensures { self.new ≡ record self.old { position = self.old.position + 1 } }
+    {
+        self.position += 1;
+    }
+
+    /// Passes a schedule: follows the stored node, or makes one. Where it fails the path stays as it was.
+    pub fn branch_thread(&mut self, offers: &Offers) -> Result<Option<u8>, Stop>
+        requires { AreSoundOffers offers.now.default offers.now.abilities }
+        ensures says { (places : List (Option ℕ)) → Says Choice.Thread self.old (which_thread offers.now places) result self.new }
+        ensures within { IfOk result (λ chosen. IfSome chosen (λ thread. thread < 5)) }
+        ensures same { (self.new.search ≡ self.old.search) × (self.new.given ≡ self.old.given) }
+    {
+        if self.position < self.nodes.len() {
+            let Node::Schedule(schedule) = self.nodes[self.position] else {
+                return Err(failed(FailureKind::NotDeterministic));
+            };
+            if !schedule.meets(offers) {
+                return Err(failed(FailureKind::NotDeterministic));
+            }
+            self.pass(&schedule);
+            return Ok(schedule.active());
+        }
+        if self.is_full() {
+            return Err(failed(FailureKind::TooManyBranches));
+        }
+        let Some(schedule) = self.new_schedule(offers) else {
+            return Err(failed(FailureKind::NotDeterministic));
+        };
+        match self.push(Node::Schedule(schedule)) {
+            Ok(()) => {
+                self.pass(&schedule);
+                Ok(schedule.active())
+            }
+            Err(_) => Err(Stop::Memory),
+        }
+    }
+
+    /// Makes a load's node at the end of the path, at the choice that was given for its place or else at its default, and
+    /// doesn't pass it. Before the end the stored node must be the load that this set makes, else `NotDeterministic`.
+    /// `TooManyBranches` where the path may have no further node, `NotDeterministic` where the given choice is no option.
+    /// Where it fails the path stays as it was.
+    pub fn push_load(&mut self, readable: &[bool; 7]) -> Result<(), Stop>
+        requires some { Contains readable.now true }
+        ensures pushes { Pushes self.old (which_store readable.now) result self.new }
+        ensures readable { IfOk result (λ _. IsAtLoad readable.now self.new) }
+        ensures same { (self.new.search ≡ self.old.search) × (self.new.position ≡ self.old.position) × (self.new.given ≡ self.old.given) }
+    {
+        if self.position < self.nodes.len() {
+            let Node::Load(load) = self.nodes[self.position] else {
+                return Err(failed(FailureKind::NotDeterministic));
+            };
+            if !load.meets(readable) {
+                return Err(failed(FailureKind::NotDeterministic));
+            }
+            return Ok(());
+        }
+        if self.is_full() {
+            return Err(failed(FailureKind::TooManyBranches));
+        }
+        let Some(load) = new_load(readable, self.given_here()) else {
+            return Err(failed(FailureKind::NotDeterministic));
+        };
+        match self.push(Node::Load(load)) {
+            Ok(()) => Ok(()),
+            Err(_) => Err(Stop::Memory),
+        }
+    }
+
+    /// Passes the load at the position, and answers the slot of the store that is read. `NotDeterministic`, and nothing
+    /// changes, where no load stands there.
+    pub fn branch_load(&mut self) -> Result<u8, Stop>
+        ensures { PassesLoad self.old result self.new }
+    {
+        if self.position >= self.nodes.len() {
+            return Err(failed(FailureKind::NotDeterministic));
+        }
+        let Node::Load(load) = self.nodes[self.position] else {
+            return Err(failed(FailureKind::NotDeterministic));
+        };
+        self.pass_value();
+        Ok(load.slot())
+    }
+
+    /// Passes a spurious wake-up: follows the stored node, or makes one. It answers whether the thread wakes without a
+    /// notification. Where it fails the path stays as it was.
+    pub fn branch_spurious(&mut self) -> Result<bool, Stop>
+        ensures says { Says Choice.Spurious self.old whether_spurious result self.new }
+        ensures same { (self.new.search ≡ self.old.search) × (self.new.given ≡ self.old.given) }
+    {
+        if self.position < self.nodes.len() {
+            let Node::Spurious(spurious) = self.nodes[self.position] else {
+                return Err(failed(FailureKind::NotDeterministic));
+            };
+            if !spurious.meets() {
+                return Err(failed(FailureKind::NotDeterministic));
+            }
+            self.pass_value();
+            return Ok(spurious.answer);
+        }
+        if self.is_full() {
+            return Err(failed(FailureKind::TooManyBranches));
+        }
+        let Some(spurious) = new_spurious(self.given_here()) else {
+            return Err(failed(FailureKind::NotDeterministic));
+        };
+        match self.push(Node::Spurious(spurious)) {
+            Ok(()) => {
+                self.pass_value();
+                Ok(spurious.answer)
+            }
+            Err(_) => Err(Stop::Memory),
+        }
+    }
+
+    /// How many nodes the run has passed: the place of the node that it passes next.
+    pub fn position(&self) -> usize
+        ensures { result ≡ self.now.position }
+    {
+        self.position
+    }
+
+    /// Whether the run has met all that the path holds.
+    pub fn is_used_up(&self) -> bool
+        ensures { result ≡ is_used_up (trail self.now) }
+    {
+        self.nodes.len() <= self.position && self.given.len() <= self.position
+    }
+
+    /// The choices at the nodes that the run has passed. An error only where there are some, and memory for them is refused.
+    pub fn choices(&self, alloc: Global) -> Result<Vec<Choice>, AllocError>
+        ensures list { IfOk result (λ list. list.items ≡ chosen self.now) }
+        ensures growth { IfErr result (λ _. chosen self.now ≢ []) }
+    {
+        if self.position == 0 {
+            return Ok(Vec::new(alloc));
+        }
+        choices_at(alloc, &self.nodes[..self.position])
+    }
+
+    /// After a run, goes on to the next one: the deepest node that has an option left takes it, and what follows it is
+    /// dropped. False where no node has one.
+    pub fn step(&mut self) -> bool
+        ensures steps { Steps self.old.nodes result self.new.nodes }
+        ensures rest { self.new ≡ at_rest self.old.search self.new.nodes }
+    {
+        self.position = 0;
+        self.tally = Tally::new();
+        self.given.clear();
+        step_nodes(&mut self.nodes)
+    }
+}
+
+/// What was chosen at each of these nodes.
+fn choices_at(alloc: Global, nodes: &[Node]) -> Result<Vec<Choice>, AllocError>
+    ensures { IfOk result (λ list. list.items ≡ map (λ node. (seen node).present) nodes.now) }
+{
+    nodes.iter().map(|node| node.choice()).collect(alloc)
+}
+
+/// A new load: at the choice that was given for its place, if any, or else at its default.
+fn new_load(readable: &[bool; 7], given: Option<Choice>) -> Option<Load>
+    requires some { Contains readable.now true }
+    ensures made { option_map seen_load result ≡ new_node true (made_of (which_store readable.now)) given }
+    ensures well { IfSome result IsWellLoad }
+{
+    match given {
+        Some(choice) => Load::at(readable, choice),
+        None => Some(Load::new(readable)),
+    }
+}
+
+/// A new spurious wake-up: at the choice that was given for its place, if any, or else at its default.
+fn new_spurious(given: Option<Choice>) -> Option<Spurious>
+    ensures { option_map seen_spurious result ≡ new_node true (made_of whether_spurious) given }
+{
+    match given {
+        Some(choice) => Spurious::at(choice),
+        None => Some(Spurious::new()),
+    }
+}
+
+/// The deepest node that can go on does, and what follows it is dropped. False if none can.
+fn step_nodes(nodes: &mut Vec<Node>) -> bool
+    requires well { AreWell nodes.old.items }
+    requires noted { AreNoted nodes.old.items }
+    ensures steps { Steps nodes.old.items result nodes.new.items }
+    ensures well { AreWell nodes.new.items }
+    ensures noted { AreNoted nodes.new.items }
+    ensures fewer { length nodes.new.items ≤ length nodes.old.items }
+{
+    while !nodes.is_empty() {
+        let last = nodes.len() - 1;
+        if nodes[last].advance() {
+            return true;
+        }
+        nodes.truncate(last);
+    }
+    false
+}

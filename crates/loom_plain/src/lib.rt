@@ -1,0 +1,23 @@
+//! A slow program that makes the runs of a body by the rules themselves: threads and objects in lists, views as a graph of
+//! points, all stores of an atomic, dependence as a second graph. It has no path and no vectors, and no wrong bodies are tried
+//! on it: what a check finds is compared with what it finds.
+#![tactic(auto)]
+
+pub mod atomics;
+pub mod cells;
+pub mod choices;
+pub mod condvars;
+pub mod counts;
+pub mod dependence;
+pub mod graph;
+pub mod halt;
+pub mod locks;
+pub mod marks;
+pub mod notifiers;
+pub mod numbers;
+pub mod run;
+pub mod rwlocks;
+pub mod search;
+pub mod state;
+pub mod stores;
+pub mod threads;

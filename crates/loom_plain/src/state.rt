@@ -1,0 +1,479 @@
+//! What a run of the plain machine consists of.
+use crate::choices::Choices;
+use crate::dependence::{Action, Dependence, Use};
+use crate::graph::Graph;
+use crate::halt::Halt;
+use loom_objects::operation::AtomicOp;
+use loom_objects::rt::thread::Name;
+use loom_scripts::number::Number;
+use loom_views::rt::failure::FailureKind;
+use loom_views::rt::num::Numbers;
+use std::alloc::Global;
+
+/// What a thread waits for.
+#[derive(Clone, Copy, PartialEq, Eq)]
+pub enum State {
+    Runnable,
+    Blocked,
+    Parked,
+    Sleeping,
+    Yielding,
+    Ended,
+}
+
+/// How far a thread has come to its end.
+#[derive(Clone, Copy, PartialEq, Eq)]
+pub enum Phase {
+    Working,
+    Finished,
+    Exited,
+    Over,
+}
+
+/// How a read-write lock is taken.
+#[derive(Clone, Copy)]
+pub enum Claim {
+    Read,
+    TryRead,
+    Write,
+    TryWrite,
+}
+
+/// What a branch point of a counted reference is for.
+#[derive(Clone, Copy)]
+pub enum Counting {
+    Clone,
+    Drop,
+    GetMut,
+    TryUnwrap,
+    Unwrap,
+    StrongCount,
+}
+
+/// What a thread does when it is chosen. Objects are named by their numbers.
+#[derive(Clone, Copy)]
+pub enum Pending {
+    Nothing,
+    /// It begins.
+    Start,
+    /// It goes on, and is told nothing but that.
+    Continue,
+    Atomic(usize, AtomicOp),
+    Count(usize, Counting),
+    Lock(usize),
+    TryLock(usize),
+    Claim(usize, Claim),
+    /// It falls asleep on the condition variable and releases the mutex. Whether the call has a time.
+    Sleep(usize, usize, Number, bool),
+    /// It was woken, and comes to the mutex.
+    Awake(usize, bool),
+    /// It takes the mutex again.
+    Relock(usize, bool),
+    NotifyOne(usize),
+    NotifyAll(usize),
+    Notify(usize),
+    Await(usize),
+    /// It has woken from the notifier without a notification.
+    Rouse(usize),
+    /// The thread that it joins, and that one's notifier.
+    Join(u8, usize),
+    /// It notifies its own notifier, and keeps the result.
+    Finish(usize, Number),
+}
+
+// What the access does to its atomic.
+fn atomic_action(op: AtomicOp) -> Action {
+    match op {
+        AtomicOp::Load(..) => Action::Read,
+        AtomicOp::New(..)
+        | AtomicOp::Store(..)
+        | AtomicOp::Update(..)
+        | AtomicOp::CompareExchange(..)
+        | AtomicOp::CompareAndSwap(..)
+        | AtomicOp::UnsyncLoad(_)
+        | AtomicOp::IntoInner(_)
+        | AtomicOp::WithMut(_)
+        | AtomicOp::WithMutEnd(..) => Action::Change,
+    }
+}
+
+fn counting_action(counting: Counting) -> Action {
+    match counting {
+        Counting::Clone => Action::Increment,
+        Counting::StrongCount => Action::Inspect,
+        Counting::Drop | Counting::GetMut | Counting::TryUnwrap | Counting::Unwrap => {
+            Action::Decrement
+        }
+    }
+}
+
+impl Pending {
+    /// What it does to an object, as far as others depend on it.
+    pub fn used(self) -> Option<Use> {
+        let (object, action) = match self {
+            Pending::Nothing
+            | Pending::Start
+            | Pending::Continue
+            | Pending::Awake(..)
+            | Pending::Rouse(_) => return None,
+            Pending::Atomic(number, op) => (number, atomic_action(op)),
+            Pending::Count(number, counting) => (number, counting_action(counting)),
+            Pending::Lock(number)
+            | Pending::TryLock(number)
+            | Pending::Claim(number, _)
+            | Pending::Sleep(number, ..)
+            | Pending::Relock(number, _)
+            | Pending::NotifyOne(number)
+            | Pending::NotifyAll(number)
+            | Pending::Notify(number)
+            | Pending::Await(number)
+            | Pending::Join(_, number)
+            | Pending::Finish(number, _) => (number, Action::Other),
+        };
+        Some(Use { object, action })
+    }
+
+    /// The object that it is pending on.
+    pub fn object(self) -> Option<usize> {
+        match self {
+            Pending::Nothing
+            | Pending::Start
+            | Pending::Continue
+            | Pending::Awake(..)
+            | Pending::Rouse(_) => None,
+            Pending::Atomic(number, _)
+            | Pending::Count(number, _)
+            | Pending::Lock(number)
+            | Pending::TryLock(number)
+            | Pending::Claim(number, _)
+            | Pending::Sleep(number, ..)
+            | Pending::Relock(number, _)
+            | Pending::NotifyOne(number)
+            | Pending::NotifyAll(number)
+            | Pending::Notify(number)
+            | Pending::Await(number)
+            | Pending::Join(_, number)
+            | Pending::Finish(number, _) => Some(number),
+        }
+    }
+
+    /// Whether it takes this read-write lock to write.
+    pub fn is_write_of(self, lock: usize) -> bool {
+        match self {
+            Pending::Claim(number, Claim::Write | Claim::TryWrite) => number == lock,
+            Pending::Claim(_, Claim::Read | Claim::TryRead)
+            | Pending::Nothing
+            | Pending::Start
+            | Pending::Continue
+            | Pending::Atomic(..)
+            | Pending::Count(..)
+            | Pending::Lock(_)
+            | Pending::TryLock(_)
+            | Pending::Sleep(..)
+            | Pending::Awake(..)
+            | Pending::Relock(..)
+            | Pending::NotifyOne(_)
+            | Pending::NotifyAll(_)
+            | Pending::Notify(_)
+            | Pending::Await(_)
+            | Pending::Rouse(_)
+            | Pending::Join(..)
+            | Pending::Finish(..) => false,
+        }
+    }
+
+    /// Whether it is a wait on this notifier.
+    pub fn is_wait_on(self, notifier: usize) -> bool {
+        match self {
+            Pending::Await(number) | Pending::Join(_, number) => number == notifier,
+            Pending::Nothing
+            | Pending::Start
+            | Pending::Continue
+            | Pending::Atomic(..)
+            | Pending::Count(..)
+            | Pending::Lock(_)
+            | Pending::TryLock(_)
+            | Pending::Claim(..)
+            | Pending::Sleep(..)
+            | Pending::Awake(..)
+            | Pending::Relock(..)
+            | Pending::NotifyOne(_)
+            | Pending::NotifyAll(_)
+            | Pending::Notify(_)
+            | Pending::Rouse(_)
+            | Pending::Finish(..) => false,
+        }
+    }
+}
+
+/// A thread of the run.
+#[derive(Drop)]
+pub struct Thread {
+    pub state: State,
+    pub phase: Phase,
+    pub pending: Pending,
+    /// The point that it is at.
+    pub present: usize,
+    /// The point that its last release fence left.
+    pub released: usize,
+    /// The last point that raised it.
+    pub raised: Option<usize>,
+    /// At its last yield, the last point that had raised it.
+    pub yielded: Option<Option<usize>>,
+    /// How often it has yielded.
+    pub yields: u64,
+    pub has_token: bool,
+    /// What main finished with, or what a thread will hand to who joins it.
+    pub value: Option<Number>,
+    /// Its own notifier; main has none.
+    pub notifier: Option<usize>,
+    pub is_joined: bool,
+    pub name: Option<Name>,
+}
+
+/// That a thread touched a store, with the last point that had raised it then.
+#[derive(Clone, Copy)]
+pub struct Touch {
+    pub thread: u8,
+    pub raised: Option<usize>,
+}
+
+/// One store of an atomic.
+#[derive(Drop)]
+pub struct Store {
+    /// Its place among all stores of the atomic; the initial one has 0.
+    pub number: usize,
+    pub value: u64,
+    /// The point by which it stands in the modification order.
+    pub order: usize,
+    /// The point that is acquired with it.
+    pub sync: usize,
+    pub is_seq_cst: bool,
+    pub touches: Vec<Touch>,
+}
+
+/// What kind of access to an atomic was made.
+#[derive(Clone, Copy, PartialEq, Eq)]
+pub enum Access {
+    Load,
+    Store,
+    UnsyncLoad,
+    Mutation,
+}
+
+/// An access to an atomic, and the point that its thread was at.
+#[derive(Clone, Copy)]
+pub struct Accessed {
+    pub access: Access,
+    pub point: usize,
+}
+
+#[derive(Drop)]
+pub struct Atomic {
+    pub numbers: Numbers,
+    pub is_whole: bool,
+    /// The thread that has a mutation open.
+    pub mutator: Option<u8>,
+    pub accesses: Vec<Accessed>,
+    /// All stores ever made, the initial one first.
+    pub stores: Vec<Store>,
+}
+
+#[derive(Drop)]
+pub struct Cell {
+    pub value: Option<Number>,
+    pub is_whole: bool,
+    /// How many reads each thread has open.
+    pub readers: [u64; 5],
+    pub writer: Option<u8>,
+    /// The points of all reads.
+    pub reads: Vec<usize>,
+    /// The points of all writes.
+    pub writes: Vec<usize>,
+}
+
+#[derive(Clone, Copy)]
+pub struct Counted {
+    pub count: u64,
+    pub value: Option<Number>,
+    /// The thread that has the value out.
+    pub lent: Option<u8>,
+    pub point: usize,
+}
+
+#[derive(Clone, Copy)]
+pub struct Tracked {
+    pub value: Option<Number>,
+    pub lent: Option<u8>,
+    pub is_tracked: bool,
+}
+
+#[derive(Clone, Copy)]
+pub struct Mutex {
+    pub value: Option<Number>,
+    pub holder: Option<u8>,
+    /// The thread that has the data out without holding the mutex.
+    pub lent: Option<u8>,
+    pub is_whole: bool,
+    pub point: usize,
+}
+
+#[derive(Clone, Copy)]
+pub struct RwLock {
+    pub value: Option<Number>,
+    /// How many guards for reading each thread has.
+    pub readers: [u64; 5],
+    pub writer: Option<u8>,
+    pub lent: Option<u8>,
+    pub is_whole: bool,
+    pub point: usize,
+}
+
+#[derive(Drop)]
+pub struct Condvar {
+    /// The threads that wait, the first one first.
+    pub waiters: Vec<u8>,
+}
+
+#[derive(Clone, Copy)]
+pub struct Notify {
+    pub is_notified: bool,
+    /// Whether a thread's join alone waits on it.
+    pub is_of_thread: bool,
+    /// The thread inside a wait on it.
+    pub waiter: Option<u8>,
+    /// Whether a thread has woken from it without a notification.
+    pub has_woken: bool,
+    pub point: usize,
+}
+
+#[derive(Drop)]
+pub enum Object {
+    Atomic(Atomic),
+    Cell(Cell),
+    Arc(Counted),
+    Track(Tracked),
+    Mutex(Mutex),
+    RwLock(RwLock),
+    Condvar(Condvar),
+    Notify(Notify),
+}
+
+/// The whole state of a run.
+#[derive(Drop)]
+pub struct Machine {
+    pub alloc: Global,
+    pub graph: Graph,
+    /// The point at which sequentially consistent fences meet.
+    pub global: usize,
+    /// In order of creation; main is the first.
+    pub threads: Vec<Thread>,
+    /// In order of creation.
+    pub objects: Vec<Object>,
+    pub dependence: Dependence,
+    /// The thread whose turn it is.
+    pub active: u8,
+    pub choices: Choices,
+    pub max_threads: usize,
+}
+
+/// A failure by misuse.
+pub const MISUSE: Halt = Halt::Fails(FailureKind::Misuse);
+
+impl Machine {
+    /// The thread of this number.
+    pub fn thread(&mut self, number: u8) -> Result<&mut Thread, Halt> {
+        self.threads
+            .get_mut(usize::from(number))
+            .ok_or(Halt::Broken)
+    }
+
+    /// The thread whose turn it is.
+    pub fn me(&mut self) -> Result<&mut Thread, Halt> {
+        let active = self.active;
+        self.thread(active)
+    }
+
+    /// The point that the active thread is at.
+    pub fn present(&mut self) -> Result<usize, Halt> {
+        Ok(self.me()?.present)
+    }
+
+    /// A new object, by its number.
+    pub fn add_object(&mut self, object: Object) -> Result<usize, Halt> {
+        let number = self.objects.len();
+        self.objects.push(object)?;
+        Ok(number)
+    }
+
+    /// A point without edges.
+    pub fn fresh_point(&mut self) -> Result<usize, Halt> {
+        self.graph.add(&[], None)
+    }
+
+    /// The active thread raises its version.
+    pub fn raise(&mut self) -> Result<(), Halt> {
+        let active = self.active;
+        let present = self.present()?;
+        if self.graph.versions(present, active)? >= 65_534 {
+            return Err(Halt::Fails(FailureKind::TooManyVersions));
+        }
+        let point = self.graph.add(&[present], Some(active))?;
+        let me = self.me()?;
+        me.present = point;
+        me.raised = Some(point);
+        Ok(())
+    }
+
+    /// The active thread acquires from the point.
+    pub fn acquire(&mut self, point: usize) -> Result<(), Halt> {
+        let present = self.present()?;
+        let point = self.graph.add(&[present, point], None)?;
+        self.me()?.present = point;
+        Ok(())
+    }
+
+    /// The point after this one by which the active thread passes on what its last release fence left, and what it has seen.
+    pub fn released_to(&mut self, point: usize) -> Result<usize, Halt> {
+        let me = self.me()?;
+        let (present, released) = (me.present, me.released);
+        self.graph.add(&[point, released, present], None)
+    }
+
+    /// The thread takes in what the active one has seen.
+    pub fn tell(&mut self, number: u8) -> Result<(), Halt> {
+        let present = self.present()?;
+        let before = self.thread(number)?.present;
+        let point = self.graph.add(&[before, present], None)?;
+        self.thread(number)?.present = point;
+        Ok(())
+    }
+
+    /// The active thread comes to a branch point.
+    pub fn pends(&mut self, pending: Pending, is_blocked: bool) -> Result<(), Halt> {
+        let me = self.me()?;
+        me.pending = pending;
+        if is_blocked {
+            me.state = State::Blocked;
+        }
+        Ok(())
+    }
+
+    /// The active thread comes to a branch point without object, in this state.
+    pub fn steps_back(&mut self, state: State, pending: Pending) -> Result<(), Halt> {
+        let me = self.me()?;
+        me.pending = pending;
+        me.state = state;
+        Ok(())
+    }
+
+    /// Each other thread that is pending on the object comes to this state.
+    pub fn set_pending(&mut self, number: usize, state: State) {
+        let active = usize::from(self.active);
+        for (place, thread) in self.threads.iter_mut().enumerate() {
+            if place != active && thread.pending.object() == Some(number) {
+                thread.state = state;
+            }
+        }
+    }
+}
