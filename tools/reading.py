@@ -4,7 +4,8 @@
 Follows the imports from the file that states the theorem and from the definition of a body's runs, and prints each file of
 this repository that they come to, with its lines, and the sum. A file of `specs` counts whole. A type of the code counts with
 the lines of its declaration, and so do the types that it names. The rules of the operations, with the state that they are
-about, are named apart and not followed: the files that are read hand that state on and never look into it.
+about, and the operations of each kind of object are named apart and not followed: the files that are read hand them on and
+never look into them.
 
 Ends with status 1 where the sum is above the limit, or where the theorem speaks of how the code keeps a path or a run.
 
@@ -21,10 +22,13 @@ START = ["loom/specs/Check.antt", "loom_runs/specs/Runs.antt"]
 RULES = {
     f"loom_objects/specs/{name}.antt"
     for name in [
-        "Atomics", "Cells", "Condvars", "Counts", "Effects", "Ending", "Leaks", "Lent", "Locks", "Lookup", "Moves",
-        "Notifiers", "Rule", "RwLocks", "Schedules", "Steps", "Threads", "Tracks", "Turns", "Uses", "World",
+        "Atomics", "Cells", "Channels", "Condvars", "Counts", "Effects", "Ending", "Exploring", "Leaks", "Lent", "Locks",
+        "Lookup", "Moves", "Notifiers", "Rule", "RwLocks", "Schedules", "Steps", "Threads", "Tracks", "Turns", "Uses", "Values",
+        "Wakers", "World",
     ]
 } | {"loom_dependence/specs/Depends.antt", "loom_views/specs/Graph.antt"}
+# the operations of one kind of object each: a body's runs hand them on to those rules
+OPERATIONS = re.compile(r"^(?!Op$)\w+Op$|^Exchange$|^Change$|^Numbers$")
 # how the code keeps the nodes of a path and the state of a run
 LAYOUT = {"Execution", "Load", "Node", "Path", "RunState", "Schedule", "Spurious", "Views"}
 
@@ -130,7 +134,9 @@ def main():
         else:
             file, name = types.pop(0)
             key = (str(file.relative_to(CRATES)), name)
-            if key not in declarations:
+            if OPERATIONS.match(name):
+                rules.add(f"{key[0]}: {name}")
+            elif key not in declarations:
                 lines = block(file.read_text(), name)
                 declarations[key] = len(lines)
                 types.extend(named(key[0].split("/")[0], file, lines))

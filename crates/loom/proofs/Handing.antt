@@ -16,7 +16,7 @@ use Rattle.loom_engine.specs.declared.rt.execution.Progress.{Progress}
 use Rattle.loom_engine.specs.Execution.{Comes, MayBeRefused, ShowsCourse}
 use Rattle.loom_runs.specs.Courses.{Course}
 use Rattle.loom_runs.specs.Machine.{submit}
-use Rattle.loom_path.specs.Routes.{Route, trail, drives}
+use Rattle.loom_path.specs.Routes.{IsSameSearch, Route, trail, drives}
 use Rattle.loom_walks.specs.Trees.Meeting.{Settings}
 use Rattle.loom_runs.specs.Runs.{Meaning, with_child, at_turn, handed, play}
 use Rattle.loom_walks.specs.Trees.Drive.{drive}
@@ -33,6 +33,10 @@ slice_get_past : {A : Type 0} (xs : List A) (i : ℕ) → length xs ≤ i → sl
 slice_get_past [] i p = refl
 slice_get_past (x ∷ xs) zero p = absurd (omega arith)
 slice_get_past (x ∷ xs) (suc i) p = slice_get_past xs i (omega arith)
+
+-- the search stays the same over one stretch and then another
+pub joined : (old mid new : Route) → IsSameSearch old mid → IsSameSearch mid new → IsSameSearch old new
+joined old mid new one other = (other.0 ∙ one.0, other.1 ∙ one.1, other.2 ∙ one.2)
 
 module _ {D S : Type 0} (next : Meaning D S) where
   opened : (left : ℕ) (bodies : List S) (c : Course D) (thread : ℕ) (answer : Reply D) (body : S) (stepped : S × Op D S)

@@ -1,5 +1,5 @@
 -- A replay makes the run that follows its choices.
-use Rattle.std.proofs.Common.{◌≡◌, ℕ, List, [], ap, sym, ◌∙◌}
+use Rattle.std.proofs.Common.{◌≡◌, ℕ, Bool, List, [], ap, sym, ◌∙◌}
 use Rattle.std.specs.Prelude.{Some, None, Result}
 use Rattle.loom_views.specs.declared.rt.failure.FailureKind.{FailureKind}
 use Rattle.loom_objects.specs.declared.choice.Choice.{Choice}
@@ -16,10 +16,10 @@ use Rattle.loom_walks.proofs.Trees.Replays.{replayed_as, allowed_replay_law}
 use Rattle.loom.specs.Check.{IsReplay}
 use Rattle.loom.proofs.Walking.{take_all}
 
-pub replays : {D : Type 0} (max_branches : ℕ) (tree : Tree D) (given : List Choice) (path after : Route) (list : List Choice) (comes : Result D FailureKind) → IsRunTree tree
-    → path ≡ record (at_rest (whole_search max_branches) []) { given = given } → drives tree path ≡ (comes, trail after) → list ≡ chosen after
+pub replays : {D : Type 0} (explores : Bool) (max_branches : ℕ) (tree : Tree D) (given : List Choice) (path after : Route) (list : List Choice) (comes : Result D FailureKind) → IsRunTree tree
+    → path ≡ record (at_rest (whole_search max_branches) explores []) { given = given } → drives tree path ≡ (comes, trail after) → list ≡ chosen after
     → IsReplay max_branches tree given list comes
-replays max_branches tree given path after list comes sound is e same =
+replays explores max_branches tree given path after list comes sound is e same =
     let s = whole_search max_branches in
     let r = replayed_as s (marking None) tree given comes (trail after) (sym (ap (λ (p : Route). drives tree p) is) ∙ e) in
     let made : list ≡ choices (stored after.nodes) = same ∙ ap choices (take_all (stored after.nodes) after.position r.1) in

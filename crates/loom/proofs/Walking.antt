@@ -1,5 +1,5 @@
 -- A check under way: rounds of its path, with the runs that its visitor was given.
-use Rattle.std.proofs.Common.{◌≡◌, ◌+◌, ℕ, List, [], ◌∷◌, ◌++◌, length, take, refl, ap, sym, ◌∙◌, subst, arith, length-append}
+use Rattle.std.proofs.Common.{◌≡◌, ◌+◌, ℕ, Bool, List, [], ◌∷◌, ◌++◌, length, take, refl, ap, sym, ◌∙◌, subst, arith, length-append}
 use Rattle.std.specs.Prelude.{true, false, Ok, Err, Result, IfOk, ◌-◌, ◌^◌}
 use Rattle.loom_views.specs.declared.rt.failure.FailureKind.{FailureKind}
 use Rattle.loom_objects.specs.declared.choice.Choice.{Choice}
@@ -42,35 +42,35 @@ module _ {D : Type 0} (search : Settings) (tree : Tree D) where
   searches : IsRunTree tree → IsSearch search (marking search.bound) tree
   searches sound = search_law search tree sound.sound
 
-  -- a body's runs explore throughout
+  -- what the laws say of all runs
   all_runs : IsRunTree tree → (list : List (List Choice)) → AreReachable search (marking search.bound) tree list → AreAllRuns search tree list
   all_runs sound list law = record {
     walk = law.walk;
     in_order = law.in_order;
-    every_run = λ unreduced unbounded. law.every_run (record { unreduced = unreduced; unbounded = unbounded; exploring = sound.exploring });
+    every_run = λ unreduced unbounded exploring. law.every_run (record { unreduced = unreduced; unbounded = unbounded; exploring = exploring });
     within_bound = law.within_bound;
   }
 
-  module _ {V : Type 0} (takes : V → List Choice → D → V → Type 0) (old : V) where
+  module _ {V : Type 0} (explores : Bool) (takes : V → List Choice → D → V → Type 0) (old : V) where
     -- the rounds so far, with the runs that the visitor was given
     pub record IsWalking (path : Route) (visitor : V) (count : ℕ) : Type 0 where
       pub runs : List (List Choice × D)
       pub given : Given takes old runs visitor
       pub counted : length runs ≡ count
       pub makes : Makes search (marking search.bound) tree [] runs (stored path.nodes)
-      pub rests : path ≡ at_rest search path.nodes
+      pub rests : path ≡ at_rest search explores path.nodes
 
-    pub walking_start : (path : Route) → path ≡ at_rest search [] → IsWalking path old 0
+    pub walking_start : (path : Route) → path ≡ at_rest search explores [] → IsWalking path old 0
     walking_start path e = record {
       runs = [];
       given = refl;
       counted = refl;
       makes = subst (λ (p : Route). Makes search (marking search.bound) tree [] [] (stored p.nodes)) (sym e) (makes_none []);
-      rests = e ∙ ap (λ (p : Route). at_rest search p.nodes) (sym e);
+      rests = e ∙ ap (λ (p : Route). at_rest search explores p.nodes) (sym e);
     }
 
     -- the drive of a path that rests
-    driven : (path after : Route) (comes : Result D FailureKind) → path ≡ at_rest search path.nodes → drives tree path ≡ (comes, trail after)
+    driven : (path after : Route) (comes : Result D FailureKind) → path ≡ at_rest search explores path.nodes → drives tree path ≡ (comes, trail after)
         → drive search (marking search.bound) tree (at_start (stored path.nodes)) ≡ (comes, trail after)
     driven path after comes rests e = sym (ap (λ (p : Route). drives tree p) rests) ∙ e
 
@@ -86,7 +86,7 @@ module _ {D : Type 0} (search : Settings) (tree : Tree D) where
     -- a run that ended, given to the visitor, and a step
     pub walking_on : IsRunTree tree → (path after later : Route) (visitor new : V) (count : ℕ) (value : D) (list : List Choice) → IsWalking path visitor count
         → drives tree path ≡ (Ok value, trail after) → list ≡ chosen after → takes visitor list value new
-        → Steps after.nodes true later.nodes → later ≡ at_rest search later.nodes → IsWalking later new (count + 1)
+        → Steps after.nodes true later.nodes → later ≡ at_rest search explores later.nodes → IsWalking later new (count + 1)
     walking_on sound path after later visitor new count value list z e same gave steps rests =
         let c : choices (stored after.nodes) ≡ list = sym (all_chosen sound path after visitor count (Ok value) z e) ∙ sym same in
         record {

@@ -16,6 +16,7 @@ use Rattle.loom_walks.specs.Trees.Marks.{marking}
 use Rattle.loom_walks.specs.Trees.Meeting.{Settings, whole_search, count, machine_of}
 use Rattle.loom_walks.specs.Trees.Outcomes.{outcome, passed, AreRuns, choices_made}
 use Rattle.loom_walks.specs.Trees.Replay.{replayed}
+use Rattle.loom_walks.specs.Trees.Sound.{ExploresTree}
 use Rattle.loom.specs.declared.model.Replay.{Replay}
 use Rattle.loom.specs.declared.model.Replay.TheVariants as replay
 use Rattle.loom.specs.declared.model.Report.{Report}
@@ -34,8 +35,8 @@ module _ {D : Type 0} (s : Settings) (tree : Tree D) where
     pub walk : IsWalkList (Reachable machine) list
     -- without reduction they stand in order, bounded or not
     pub in_order : s.reduce ≡ false → IsInOrder machine list
-    -- with neither reduction nor a bound they are what the tree can come to
-    pub every_run : s.reduce ≡ false → s.bound ≡ None
+    -- with neither reduction nor a bound, and where no run stops exploring, they are what the tree can come to
+    pub every_run : s.reduce ≡ false → s.bound ≡ None → ExploresTree tree
         → (x : List Choice) → Reachable machine x ↔ ((o : Result D FailureKind) × (outcome s.max_branches tree x ≡ Some o))
     -- under a bound none of them counts more preemptions at any of its nodes
     pub within_bound : (bound : ℕ) → s.bound ≡ Some bound

@@ -1,5 +1,5 @@
 -- Which settings a check takes, and which search they make.
-use Rattle.std.specs.Prelude.{ℕ, ◌||◌, ⊤, Bool, true, false, Option, Some, None, Result, Ok, Err, cond, nat_lt}
+use Rattle.std.specs.Prelude.{ℕ, ◌||◌, ⊤, Bool, true, false, not, Option, Some, None, Result, Ok, Err, cond, nat_lt}
 use Rattle.loom_walks.specs.Trees.Meeting.{Settings}
 use Rattle.loom.specs.declared.error.CheckError.{CheckError}
 use Rattle.loom.specs.declared.error.CheckError.TheVariants.{MaxThreads, MaxBranches, PreemptionBound, MaxSteps}
@@ -23,6 +23,10 @@ tested b =
 abbrev pub search_of : Builder → Settings
 search_of b = record { reduce = b.reduce; bound = b.preemption_bound; max_branches = b.max_branches }
 
+-- whether its runs begin to explore
+abbrev pub explores : Builder → Bool
+explores b = not b.expect_explicit_explore
+
 -- the settings that a builder begins with
 abbrev pub defaults : Builder
-defaults = record { max_threads = 5; max_branches = 1000; max_steps = 1000000; reduce = true; preemption_bound = None }
+defaults = record { max_threads = 5; max_branches = 1000; max_steps = 1000000; reduce = true; preemption_bound = None; expect_explicit_explore = false }

@@ -12,7 +12,10 @@ pub use loom_objects::data::Data;
 pub use loom_objects::failure::Failure;
 pub use loom_objects::operation::{Op, Reply};
 pub use loom_objects::rt::location::Location;
-pub use loom_ops::{alloc, cell, fail, hint, sync, thread};
+pub use loom_ops::{
+    alloc, cell, explore, fail, future, hint, lazy_static, skip_branch, stop_exploring, sync,
+    thread,
+};
 pub use loom_views::rt::MAX_THREADS;
 pub use loom_views::rt::failure::FailureKind;
 

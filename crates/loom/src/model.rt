@@ -1,12 +1,12 @@
-ghost use Rattle.std.specs.Prelude.{List, ◌≡◌, ◌≢◌, ◌<◌, ◌≤◌, ◌+◌, ◌⊎◌, None, Some, Err, OnOk, OnErr, IfOk, IfErr, IfSome, IsFalse, slice_get, vec_len};
+ghost use Rattle.std.specs.Prelude.{List, ◌≡◌, ◌≢◌, ◌<◌, ◌≤◌, ◌+◌, ◌⊎◌, None, Some, Err, OnOk, OnErr, IfOk, IfErr, IfSome, IsFalse, slice_get, true, vec_len};
 ghost use Rattle.loom_engine.specs.Execution.{Along, MayBeRefused, over_after};
-ghost use Rattle.loom_path.specs.Routes.{chosen, settings};
+ghost use Rattle.loom_path.specs.Routes.{IsAtStart, IsSameSearch, chosen, settings};
 ghost use Rattle.loom_objects.specs.declared.choice.Choice.{Choice};
 ghost use Rattle.loom_runs.specs.Machine as machine;
 ghost use Rattle.loom_runs.specs.Runs.{runs as runs_of, with_child};
 ghost use Rattle.loom.specs.Check.{Reports, ReportsAlone, Replays};
 ghost use Rattle.loom.specs.Ending.{Outcome, RunsAlong, IsUnderWay, ComesToTurn, MayBeRefusedBy};
-ghost use Rattle.loom.specs.Settings.{defaults, is_above, search_of, tested};
+ghost use Rattle.loom.specs.Settings.{defaults, explores, is_above, search_of, tested};
 
 use crate::error::CheckError;
 use crate::visitor::Visitor;
@@ -34,6 +34,8 @@ pub struct Builder {
     /// How many times a run of a check may leave a thread that could have gone on, if that is bounded: 0 to 255. No replay
     /// is bounded.
     pub preemption_bound: Option<usize>,
+    /// Whether a run explores only from the operation `explore` on. At nodes before that it takes the default alone.
+    pub expect_explicit_explore: bool,
 }
 
 /// What a check found. `runs` counts the runs that ended without a failure.
@@ -138,6 +140,7 @@ impl Builder {
             max_steps: 1_000_000,
             reduce: true,
             preemption_bound: None,
+            expect_explicit_explore: false,
         }
     }
 
@@ -168,7 +171,8 @@ impl Builder {
     fn path_search(&self) -> Search
         requires branches { self.now.max_branches ≤ 1000000 }
         requires bound { IfSome self.now.preemption_bound (λ bound. bound ≤ 255) }
-        ensures { settings result ≡ search_of self.now }
+        ensures settings { settings result ≡ search_of self.now }
+        ensures explores { result.explores ≡ explores self.now }
     {
         let bound = match self.preemption_bound {
             Some(bound) => Some(bound as u8),
@@ -178,12 +182,13 @@ impl Builder {
             reduce: self.reduce,
             bound,
             max_branches: self.max_branches as u32,
+            explores: !self.expect_explicit_explore,
         }
     }
 
     /// A check in which nobody is given the runs. Errors are those of `check_with`.
     pub fn check<B: Body>(&self, alloc: Global, body: &B) -> Result<Report, CheckError>
-        ensures reports { IfOk result (ReportsAlone (search_of self.now) (runs_of B.next self.now.max_threads self.now.max_steps body.now)) }
+        ensures reports { IfOk result (ReportsAlone (search_of self.now) (runs_of B.next (explores self.now) self.now.max_threads self.now.max_steps body.now)) }
         ensures refused { IfErr (tested self.now) (λ e. result ≡ Err e) }
         ensures errors { IfErr result (λ e. (e ≡ CheckError.Memory) ⊎ (tested self.now ≡ Err e)) }
     {
@@ -202,7 +207,7 @@ impl Builder {
         body: &B,
         visitor: &mut V,
     ) -> Result<Report, CheckError>
-        ensures reports { IfOk result (Reports V.takes visitor.old visitor.new (search_of self.now) (runs_of B.next self.now.max_threads self.now.max_steps body.now)) }
+        ensures reports { IfOk result (Reports V.takes visitor.old visitor.new (search_of self.now) (runs_of B.next (explores self.now) self.now.max_threads self.now.max_steps body.now)) }
         ensures refused { IfErr (tested self.now) (λ e. (result ≡ Err e) × (visitor.new ≡ visitor.old)) }
         ensures errors { IfErr result (λ e. (e ≡ CheckError.Memory) ⊎ (tested self.now ≡ Err e)) }
     {
@@ -216,7 +221,7 @@ impl Builder {
         body: &B,
         receiver: &mut R,
     ) -> Result<Report, CheckError>
-        ensures reports { IfOk result (Reports R.receives receiver.old receiver.new (search_of self.now) (runs_of B.next self.now.max_threads self.now.max_steps body.now)) }
+        ensures reports { IfOk result (Reports R.receives receiver.old receiver.new (search_of self.now) (runs_of B.next (explores self.now) self.now.max_threads self.now.max_steps body.now)) }
         ensures refused { IfErr (tested self.now) (λ e. (result ≡ Err e) × (receiver.new ≡ receiver.old)) }
         ensures errors { IfErr result (λ e. (e ≡ CheckError.Memory) ⊎ (tested self.now ≡ Err e)) }
     {
@@ -257,12 +262,13 @@ impl Builder {
         body: &B,
         choices: &[Choice],
     ) -> Result<Replay<B::Data>, CheckError>
-        ensures replays { IfOk result (Replays self.now.max_branches (runs_of B.next self.now.max_threads self.now.max_steps body.now) choices.now) }
+        ensures replays { IfOk result (Replays self.now.max_branches (runs_of B.next (explores self.now) self.now.max_threads self.now.max_steps body.now) choices.now) }
         ensures refused { IfErr (tested self.now) (λ e. result ≡ Err e) }
         ensures errors { IfErr result (λ e. (e ≡ CheckError.Memory) ⊎ (tested self.now ≡ Err e)) }
     {
         self.test()?;
-        let mut path = Path::following(alloc, self.max_branches as u32, choices)?;
+        let explores = !self.expect_explicit_explore;
+        let mut path = Path::following(alloc, explores, self.max_branches as u32, choices)?;
         let ending = self.run(alloc, body, &mut path)?;
         let choices = path.choices(alloc)?;
         match ending {
@@ -280,9 +286,9 @@ impl Builder {
     ) -> Result<Ending<B::Data>, AllocError>
         requires some { 1 ≤ self.now.max_threads }
         requires few { self.now.max_threads ≤ 5 }
-        requires starts { path.old.position ≡ 0 }
-        ensures along { IfOk result (λ ending. RunsAlong (runs_of B.next self.now.max_threads self.now.max_steps body.now) path.old ending path.new) }
-        ensures same { path.new.search ≡ path.old.search }
+        requires starts { IsAtStart (explores self.now) path.old }
+        ensures along { IfOk result (λ ending. RunsAlong (runs_of B.next (explores self.now) self.now.max_threads self.now.max_steps body.now) path.old ending path.new) }
+        ensures same { IsSameSearch path.old path.new }
     {
         let limits = Limits {
             max_threads: self.max_threads,
@@ -330,7 +336,7 @@ fn hand_over<B: Body>(
     ensures steps { IfOk result (λ answer. OnOk answer (execution.old.run.state.steps_left ≡ execution.new.run.state.steps_left + 1)) }
     ensures growth { IfOk result (λ answer. answer ≡ Err Stop.Memory → (body : B) → slice_get bodies.old.items thread ≡ Some body
         → MayBeRefusedBy (B.next body reply).1 execution.old.run path.old) }
-    ensures same { path.new.search ≡ path.old.search }
+    ensures same { IsSameSearch path.old path.new }
 {
     if thread >= bodies.len() {
         return Ok(Err(failed(FailureKind::Misuse)));
@@ -354,7 +360,7 @@ fn submit<B: Body>(
     ensures over { OnOk result (execution.new.over ≡ over_after result) }
     ensures steps { OnOk result (execution.old.run.state.steps_left ≡ execution.new.run.state.steps_left + 1) }
     ensures growth { result ≡ Err Stop.Memory → (MayBeRefused op execution.old.run path.old) ⊎ (started ≢ None) }
-    ensures same { path.new.search ≡ path.old.search }
+    ensures same { IsSameSearch path.old path.new }
 {
     let turn = execution.submit(path, op)?;
     match add_child(bodies, started) {
@@ -387,7 +393,7 @@ fn add_child<B: Drop>(bodies: &mut Vec<B>, started: Option<B>) -> Result<(), All
 
 /// A check with the defaults (loom's `model`).
 pub fn model<B: Body>(alloc: Global, body: &B) -> Result<Report, CheckError>
-    ensures reports { IfOk result (ReportsAlone (search_of defaults) (runs_of B.next 5 1000000 body.now)) }
+    ensures reports { IfOk result (ReportsAlone (search_of defaults) (runs_of B.next true 5 1000000 body.now)) }
     ensures errors { IfErr result (λ e. e ≡ CheckError.Memory) }
 {
     Builder::new().check(alloc, body)

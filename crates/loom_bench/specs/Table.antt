@@ -2,6 +2,7 @@
 use Rattle.std.specs.Prelude.{ℕ, Bool, true, false, List, [], ◌∷◌, ◌++◌, Option, Some, None, codes}
 use Rattle.loom.specs.declared.model.Builder.{Builder}
 use Rattle.loom_scripts.specs.declared.step.Step.{Step}
+use Rattle.loom_row_bodies.specs.Names.{defaults}
 use Rattle.loom_row_bodies.specs.Scripts.Atomics.{three_adds, acq_rel}
 use Rattle.loom_row_bodies.specs.Scripts.First.{two_mutexes_deadlock}
 use Rattle.loom_bench.specs.Scripts.{store_buffering, locks_in_turn, writers_beside_a_reader, wait_and_notify, three_threads, stores_apart, long_line, long_line_10000, long_turn}
@@ -20,7 +21,7 @@ named body = record { name = body.name.now; steps = body.steps.now; builder = bo
 -- a search of runs with so many nodes at most, reduced or not, and with a bound on preemptions, if there is one
 abbrev pub search : ℕ → Bool → Option ℕ → Builder
 search max_branches reduce bound =
-    record { max_threads = 5; max_branches = max_branches; preemption_bound = bound; max_steps = 1000000; reduce = reduce }
+    record defaults { max_branches = max_branches; preemption_bound = bound; reduce = reduce }
 
 abbrev pub measured : List ℕ → List Step → ℕ → Builder → Named
 measured name steps checks builder = record { name = name; steps = steps; builder = builder; checks = checks }

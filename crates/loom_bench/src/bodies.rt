@@ -244,56 +244,38 @@ pub struct Measured {
 
 /// A search that isn't reduced, of runs with one preemption at most.
 const WHOLE_1: Builder = Builder {
-    max_threads: 5,
-    max_branches: 1000,
     preemption_bound: Some(1),
-    max_steps: 1_000_000,
-    reduce: false,
+    ..WHOLE
 };
 
 /// The same with two preemptions at most.
 const WHOLE_2: Builder = Builder {
-    max_threads: 5,
-    max_branches: 1000,
     preemption_bound: Some(2),
-    max_steps: 1_000_000,
-    reduce: false,
+    ..WHOLE
 };
 
 /// The defaults with one preemption at most.
 const REDUCED_1: Builder = Builder {
-    max_threads: 5,
-    max_branches: 1000,
     preemption_bound: Some(1),
-    max_steps: 1_000_000,
-    reduce: true,
+    ..DEFAULTS
 };
 
 /// The same with two preemptions at most.
 const REDUCED_2: Builder = Builder {
-    max_threads: 5,
-    max_branches: 1000,
     preemption_bound: Some(2),
-    max_steps: 1_000_000,
-    reduce: true,
+    ..DEFAULTS
 };
 
 /// The defaults without a preemption, but a run may have 100,000 nodes.
 const LONG_RUNS_0: Builder = Builder {
-    max_threads: 5,
-    max_branches: 100_000,
     preemption_bound: Some(0),
-    max_steps: 1_000_000,
-    reduce: true,
+    ..LONG_RUNS
 };
 
 /// The same with one preemption at most.
 const LONG_RUNS_1: Builder = Builder {
-    max_threads: 5,
-    max_branches: 100_000,
     preemption_bound: Some(1),
-    max_steps: 1_000_000,
-    reduce: true,
+    ..LONG_RUNS
 };
 
 // A body that is checked so often, with these settings.

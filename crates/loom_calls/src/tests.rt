@@ -1,8 +1,11 @@
 mod answer;
 mod atomics;
 mod cells;
+mod channels;
 mod counts;
 mod exchanges;
 mod locks;
 mod run;
 mod threads;
+mod values;
+mod wakers;

@@ -2,7 +2,7 @@
 use Rattle.std.proofs.Common.{◌≡◌, ◌≢◌, ◌<◌, ℕ, length, refl, ap, sym, ◌∙◌}
 use Rattle.std.proofs.lemmas.List.{set_comm, set-set}
 use Rattle.std.proofs.lemmas.Option.{slice_get_within}
-use Rattle.std.specs.Prelude.{Bool, true, false, List, cond, is_none, slice_get, slice_set, Option, Some, None, Ok, Err}
+use Rattle.std.specs.Prelude.{Bool, false, List, cond, is_none, slice_get, slice_set, Option, Some, None, Ok, Err}
 use Rattle.loom_views.proofs.Table.Lists.{get-set_other, get-set_same}
 use Rattle.loom_views.specs.declared.rt.failure.FailureKind.TheVariants.{Misuse}
 use Rattle.loom_objects.specs.declared.rt.object.Object.{Object}
@@ -10,24 +10,9 @@ use Rattle.loom_objects.specs.declared.rt.object.Object.TheVariants as object
 use Rattle.loom_objects.specs.declared.rt.sync.Cell.{Cell}
 use Rattle.loom_objects.specs.Cells.{holding}
 use Rattle.loom_objects.specs.Lookup.{cell_at, cell_in, looked_up}
+use Rattle.loom_objects.proofs.Finding.{cell_stands}
 
 module _ {D : Type 0} where
-  whole : (cell c : Cell D) (taken : Bool) → cell.content.is_taken ≡ taken → cond taken (Err Misuse) (Ok cell) ≡ Ok c → (Some (object.Cell cell) ≡ Some (object.Cell c)) × (c.content.is_taken ≡ false)
-  whole cell c true is e = absurd (cc)
-  whole cell c false is e = let same : cell ≡ c = cc in (ap (λ (x : Cell D). Some (object.Cell x)) same, ap (λ (x : Cell D). x.content.is_taken) (sym same) ∙ is)
-
-  -- a cell that is found stands there, and wasn't taken apart
-  stands : (o : Option (Object D)) (c : Cell D) → looked_up cell_in o ≡ Ok c → (o ≡ Some (object.Cell c)) × (c.content.is_taken ≡ false)
-  stands None c e = absurd (cc)
-  stands (Some (object.Cell cell)) c e = whole cell c cell.content.is_taken refl e
-  stands (Some (object.Atomic atomic)) c e = absurd (cc)
-  stands (Some (object.Mutex mutex)) c e = absurd (cc)
-  stands (Some (object.RwLock lock)) c e = absurd (cc)
-  stands (Some (object.Condvar condvar)) c e = absurd (cc)
-  stands (Some (object.Notify notifier)) c e = absurd (cc)
-  stands (Some (object.Arc arc)) c e = absurd (cc)
-  stands (Some (object.Track track)) c e = absurd (cc)
-
   module _ (objects : List (Object D)) (n m : ℕ) (apart : n ≢ m) (one : Cell D) (at : cell_at n objects ≡ Ok one) where
     abbrev emptied : Object D
     emptied = object.Cell (holding None None one)
@@ -37,16 +22,16 @@ module _ {D : Type 0} where
     other_found = ap (looked_up cell_in) (get-set_other objects n m emptied (λ e. apart (sym e)))
 
     within : n < length objects
-    within = slice_get_within objects n (object.Cell one) (stands (slice_get objects n) one at).0
+    within = slice_get_within objects n (object.Cell one) (cell_stands (slice_get objects n) one at).0
 
     -- the one stands there without its data
     pub one_found : (other : Object D) → cell_at n (slice_set (slice_set objects n emptied) m other) ≡ Ok (holding None None one)
     one_found other =
         ap (looked_up cell_in) (get-set_other (slice_set objects n emptied) m n other apart ∙ get-set_same objects n emptied within)
-        ∙ ap (λ (taken : Bool). cond taken (Err Misuse) (Ok (holding None None one))) (stands (slice_get objects n) one at).1
+        ∙ ap (λ (taken : Bool). cond taken (Err Misuse) (Ok (holding None None one))) (cell_stands (slice_get objects n) one at).1
 
   pub value_there : (objects : List (Object D)) (n : ℕ) (c : Cell D) → cell_at n objects ≡ Ok c → c.content.is_taken ≡ false
-  value_there objects n c at = (stands (slice_get objects n) c at).1
+  value_there objects n c at = (cell_stands (slice_get objects n) c at).1
 
   -- the objects after each change are those after two
   pub exchanged : (objects : List (Object D)) (n m : ℕ) → n ≢ m → (one two again : Cell D) (of_one of_two : Option D)

@@ -12,7 +12,7 @@ use Rattle.loom_views.proofs.Table.Carried.{none-grown}
 use Rattle.loom_views.proofs.Table.Lists.{get-append_same, get-append_other}
 use Rattle.loom_view_laws.proofs.Reaching.Raising.{raising-extends, extends-grown}
 use Rattle.loom_dependence.specs.declared.rt.dependence.Action.{Action}
-use Rattle.loom_dependence.specs.declared.rt.dependence.Action.TheVariants.{Read, Change, Increment, Decrement, Inspect, Other}
+use Rattle.loom_dependence.specs.declared.rt.dependence.Action.TheVariants.{Read, Change, Increment, Decrement, Inspect, Send, Receive, Other}
 use Rattle.loom_dependence.specs.declared.rt.dependence.Dependence.{Dependence}
 use Rattle.loom_dependence.specs.declared.rt.last.LastAccess.{LastAccess}
 use Rattle.loom_dependence.specs.declared.rt.last.LastAccesses.{LastAccesses}
@@ -53,6 +53,8 @@ object-nothing g = record { raising = tt; last = none }
     none Increment = tt
     none Decrement = tt
     none Inspect = tt
+    none Send = tt
+    none Receive = tt
     none Other = tt
 
 -- where a thread has raised nothing, every point is its present one

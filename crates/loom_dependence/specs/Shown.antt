@@ -6,7 +6,7 @@ use Rattle.loom_views.specs.Graph.{Graph, raised, Shows, IsChained, IsPresent}
 use Rattle.loom_views.specs.Versions.{join}
 use Rattle.loom_view_laws.specs.Reaching.{is_raising}
 use Rattle.loom_dependence.specs.declared.rt.dependence.Action.{Action}
-use Rattle.loom_dependence.specs.declared.rt.dependence.Action.TheVariants.{Read, Change, Increment, Decrement, Inspect, Other}
+use Rattle.loom_dependence.specs.declared.rt.dependence.Action.TheVariants.{Read, Change, Increment, Decrement, Inspect, Send, Receive, Other}
 use Rattle.loom_dependence.specs.declared.rt.dependence.Dependence.{Dependence}
 use Rattle.loom_dependence.specs.declared.rt.last.LastAccess.{LastAccess}
 use Rattle.loom_dependence.specs.declared.rt.last.LastAccesses.{LastAccesses}
@@ -14,7 +14,7 @@ use Rattle.loom_dependence.specs.Dependence.{Order, Access, copies, last_depende
 
 -- nothing is kept of an object that no access was made to
 abbrev pub nothing : LastAccesses
-nothing = record { latest = None; change = None; inspection = None; decrement = None; recount = None }
+nothing = record { latest = None; change = None; inspection = None; decrement = None; recount = None; send = None; receipt = None }
 
 -- what is kept of the last access that such a one depends on
 abbrev pub slot_of : Action → LastAccesses → Option LastAccess
@@ -23,6 +23,8 @@ slot_of Change kept = kept.latest
 slot_of Increment kept = kept.inspection
 slot_of Decrement kept = kept.decrement
 slot_of Inspect kept = kept.recount
+slot_of Send kept = kept.send
+slot_of Receive kept = kept.receipt
 slot_of Other kept = kept.latest
 
 -- a vector once what is kept of an access has come to it

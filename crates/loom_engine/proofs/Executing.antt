@@ -1,5 +1,5 @@
 -- Schedules along a path, from what the chosen threads come to.
-use Rattle.std.proofs.Common.{◌≡◌, ◌≢◌, ◌+◌, ◌-◌, ◌<◌, length, ℕ, zero, suc, Bool, true, false, List, [], ◌∷◌, ap, ap₂, refl, sym, ◌∙◌, subst, arith}
+use Rattle.std.proofs.Common.{◌≡◌, ◌+◌, ◌-◌, ◌<◌, length, ℕ, zero, suc, Bool, true, false, List, [], ◌∷◌, ap, ap₂, refl, sym, ◌∙◌, subst, arith}
 use Rattle.std.specs.Prelude.{◌&&◌, cond, map, nat_lt, slice_get, Option, Some, None, Result, Ok, Err, ⊤}
 use Rattle.loom_views.specs.Table.{Points}
 use Rattle.loom_views.specs.declared.rt.failure.FailureKind.{FailureKind}
@@ -15,6 +15,10 @@ use Rattle.loom_objects.specs.declared.rt.run.Passed.{Passed}
 use Rattle.loom_objects.specs.declared.rt.run.Passed.TheVariants as passed
 use Rattle.loom_objects.specs.declared.rt.thread.Offers.{Offers}
 use Rattle.loom_objects.specs.Asked.{which_store, which_thread, whether_spurious}
+use Rattle.loom_objects.specs.Exploring.{is_on, switched}
+use Rattle.loom_objects.specs.declared.operation.ExploreOp.{ExploreOp}
+use Rattle.loom_objects.specs.declared.operation.Reply.TheVariants as reply
+use Rattle.loom_objects.specs.declared.rt.exploring.Exploring.{Exploring}
 use Rattle.loom_objects.specs.Question.{Question, asked_store, made_of, slots}
 use Rattle.loom_objects.specs.Scene.{KeepsAt, world_of}
 use Rattle.loom_objects.specs.Schedules.{offers}
@@ -39,16 +43,15 @@ use Rattle.loom_dependence.specs.Shown.{ShowsOrder}
 use Rattle.loom_objects.specs.Uses.{use_at, uses}
 use Rattle.loom_engine.specs.declared.rt.execution.Progress.{Progress}
 use Rattle.loom_engine.specs.Execution.{ExecutionState, Notes, Starts, ShowsCourse, use_among, use_found, Comes, Along, MayBeRefused, Submits, SubmitsAt, over_after, takes_turn}
-use Rattle.loom_path.specs.Routes.{Route, trail, Says, Backtracks, drives}
+use Rattle.loom_path.specs.Routes.{Route, IsSame, Switches, SwitchesAs, trail, Says, Backtracks, drives}
 use Rattle.loom_runs.specs.Courses.{Course, carried, grown_from, one_passed, unordered_in, used_in, with_order}
-use Rattle.loom_runs.specs.Machine.{closes, chooses, goes_by, goes_on, is_asked, passes, turned, further, further_branches, schedule, submit, waits}
+use Rattle.loom_runs.specs.Machine.{closes, chooses, goes_by, goes_on, is_asked, passes, turned, further, further_branches, schedule, submit, switches, waits}
 use Rattle.loom_walks.specs.Trees.Meeting.{Settings, count, every_at, front_of}
 use Rattle.loom_walks.specs.Trees.Drive.{Trail, Answer, branch, branch_at, backtrack, is_used_up, lengthen, marked, new_node, passes_of, drive, drive_on}
 use Rattle.loom_walks.specs.Trees.Marks.{marking, adds_any, unordered_in as pairs_in, is_off_bound}
 use Rattle.loom_walks.specs.Trees.Comparing.{same_made}
 use Rattle.loom_walks.specs.Walk.Choices.{pick}
 use Rattle.loom_walks.specs.Walk.Path.{Stored}
-use Rattle.loom_walks.specs.Walk.UnderWay.{mark_with}
 use Rattle.loom_walks.proofs.Walk.UnderWay.{with_none, with_same}
 use Rattle.loom_walks.proofs.Trees.Binding.{drive_then, drive_fails}
 
@@ -95,9 +98,9 @@ plus_one : (n : ℕ) → n + 1 ≡ suc n
 plus_one n = omega arith
 
 -- a question which store marks nothing
-pub no_pairs : (numbers : List ℕ) → pairs_in (asked_store true numbers) ≡ []
-no_pairs [] = refl
-no_pairs (lowest ∷ others) = refl
+pub no_pairs : (exploring : Bool) (numbers : List ℕ) → pairs_in (asked_store exploring numbers) ≡ []
+no_pairs exploring [] = refl
+no_pairs exploring (lowest ∷ others) = refl
 
 -- ---- an answer passes a node
 
@@ -186,32 +189,37 @@ module _ {D : Type 0} where
     noted_by named t place result kept us l at notes c shown =
         subst (λ (u : Option Use). Notes (used_in t c u) result kept)
         (use_of_chosen c named t (us c.world.points old.state.steps_left ∙ ap (λ w. uses w) (sym shown.world.rest)) l)
-        (notes c shown.order (shown.place ∙ sym (at ∙ ap (λ (trail : Trail). trail.position) (s.marks.0 offered))))
+        (notes c shown.order (shown.place ∙ sym (at ∙ ap (λ (trail : Trail). trail.position) (s.marks.0 (is_on mid.exploring) offered))))
 
     -- the schedule as the code asks it
-    pub scheduled : (c : Course D) → ShowsCourse c old path → drives (passes c) path ≡ drives (Asks (which_thread offered places) (chooses c)) path
+    pub scheduled : (c : Course D) → ShowsCourse c old path → drives (passes c) path ≡ drives (Asks (which_thread (is_on mid.exploring) offered places) (chooses c)) path
     scheduled c shown =
-        ap (λ (o : Offers). drives (Asks (which_thread o (unordered_in c)) (chooses c)) path) (ap (λ w. offers w) shown.world.rest ∙ sym (s.offered_is c.world.points old.state.steps_left))
-        ∙ ap (λ (p : List (Option ℕ)). drives (Asks (which_thread offered p) (chooses c)) path) (sym (s.places_are c shown))
+        ap (λ (b : Bool). drives (Asks (which_thread b (offers c.world) (unordered_in c)) (chooses c)) path) (ap is_on (shown.exploring ∙ sym s.marks.1.1))
+        ∙ ap (λ (o : Offers). drives (Asks (which_thread (is_on mid.exploring) o (unordered_in c)) (chooses c)) path) (ap (λ w. offers w) shown.world.rest ∙ sym (s.offered_is c.world.points old.state.steps_left))
+        ∙ ap (λ (p : List (Option ℕ)). drives (Asks (which_thread (is_on mid.exploring) offered p) (chooses c)) path) (sym (s.places_are c shown))
 
-    pub schedule_refused : (after : Route) (stop : Stop) → Says Thread mid (which_thread offered places) (Err stop) after → Along passes old path (Err stop) old after
+    pub schedule_refused : (after : Route) (stop : Stop) → Says Thread mid (which_thread (is_on mid.exploring) offered places) (Err stop) after → Along passes old path (Err stop) old after
     schedule_refused after (Failure failure) says c shown =
-        scheduled c shown ∙ refused (which_thread offered places) (chooses c) path mid (s.marks.0 offered) s.marks.1 failure.kind says.0
+        scheduled c shown ∙ refused (which_thread (is_on mid.exploring) offered places) (chooses c) path mid (s.marks.0 (is_on mid.exploring) offered) s.marks.1.0.0 failure.kind says.0
         ∙ ap (λ (p : Route). (Err failure.kind, trail p)) (sym says.1)
     schedule_refused after Memory says c shown = tt
 
-    module _ (after : Route) (same : after.search ≡ mid.search) where
-      chosen_on : (choice : Choice) → branch mid.search (trail mid) (which_thread offered places) ≡ (Ok choice, trail after) → (c : Course D) → ShowsCourse c old path
+    module _ (after : Route) (same : IsSame mid after) where
+      chosen_on : (choice : Choice) → branch mid.search (trail mid) (which_thread (is_on mid.exploring) offered places) ≡ (Ok choice, trail after) → (c : Course D) → ShowsCourse c old path
           → drives (passes c) path ≡ drives (chooses c choice) after
-      chosen_on choice says c shown = scheduled c shown ∙ asked (which_thread offered places) (chooses c) path mid (s.marks.0 offered) s.marks.1 after choice same says
+      chosen_on choice says c shown = scheduled c shown ∙ asked (which_thread (is_on mid.exploring) offered places) (chooses c) path mid (s.marks.0 (is_on mid.exploring) offered) s.marks.1.0.0 after choice same.0.0 says
 
       -- the path has passed one node more
-      one_further : (choice : Choice) → branch mid.search (trail mid) (which_thread offered places) ≡ (Ok choice, trail after) → after.position ≡ path.position + 1
+      one_further : (choice : Choice) → branch mid.search (trail mid) (which_thread (is_on mid.exploring) offered places) ≡ (Ok choice, trail after) → after.position ≡ path.position + 1
       one_further choice says =
-          answer_passes mid.search (trail mid) (which_thread offered places) choice (trail after) says ∙ ap (λ (t : Trail). t.position + 1) (s.marks.0 offered)
+          answer_passes mid.search (trail mid) (which_thread (is_on mid.exploring) offered places) choice (trail after) says ∙ ap (λ (t : Trail). t.position + 1) (s.marks.0 (is_on mid.exploring) offered)
+
+      -- and explores as before
+      as_before : (c : Course D) → ShowsCourse c old path → c.exploring ≡ after.exploring
+      as_before c shown = shown.exploring ∙ sym (same.1 ∙ s.marks.1.1)
 
       -- the access can't be noted
-      pub access_refused : (thread : ℕ) → Says Thread mid (which_thread offered places) (Ok (Some thread)) after → (stop : Stop) (new : Progress D)
+      pub access_refused : (thread : ℕ) → Says Thread mid (which_thread (is_on mid.exploring) offered places) (Ok (Some thread)) after → (stop : Stop) (new : Progress D)
           → ((c : Course D) → ShowsCourse c old path → Notes (used_in thread c (use_at c.world.threads thread)) (Err stop) new.dependence) → Along passes old path (Err stop) new after
       access_refused thread says stop new notes c shown = by stop (used_in thread c (use_at c.world.threads thread)) (notes c shown) (chosen_on (Thread (Some thread)) says c shown)
         where
@@ -224,34 +232,34 @@ module _ {D : Type 0} where
               e ∙ ap (λ k. (Err k, trail after)) is
 
       -- it is noted
-      noted : (thread : ℕ) (c : Course D) (r : Result Order FailureKind) (run : Progress D) → Notes r (Ok tt) run.dependence → Shows c.world run.state → suc c.passed ≡ after.position
+      noted : (thread : ℕ) (c : Course D) (r : Result Order FailureKind) (run : Progress D) → Notes r (Ok tt) run.dependence → Shows c.world run.state → suc c.passed ≡ after.position → c.exploring ≡ after.exploring
           → (v : Course D) × ((came (with_order c r) >>= goes_by thread) ≡ takes_turn thread v) × ShowsCourse v run after
-      noted thread c (Ok order) run h w place = (one_passed (record c { order = order }), refl, record { world = w; order = h.1; place = place })
-      noted thread c (Err kind) run h w place = absurd (cc h)
+      noted thread c (Ok order) run h w place on = (one_passed (record c { order = order }), refl, record { world = w; order = h.1; place = place; exploring = on })
+      noted thread c (Err kind) run h w place on = absurd (cc h)
 
       -- the course on which the thread goes on
-      pub chosen_course : (thread : ℕ) → Says Thread mid (which_thread offered places) (Ok (Some thread)) after → (run : Progress D)
+      pub chosen_course : (thread : ℕ) → Says Thread mid (which_thread (is_on mid.exploring) offered places) (Ok (Some thread)) after → (run : Progress D)
           → ((c : Course D) → ShowsCourse c old path → Notes (used_in thread c (use_at c.world.threads thread)) (Ok tt) run.dependence) → run.state ≡ old.state
           → (c : Course D) → ShowsCourse c old path → (v : Course D) × ShowsCourse v run after × (drives (passes c) path ≡ drives (takes_turn thread v) after)
       chosen_course thread says run notes state c shown =
           let n = noted thread c (used_in thread c (use_at c.world.threads thread)) run (notes c shown) (subst (λ r. Shows c.world r) (sym state) shown.world)
-          (ap suc shown.place ∙ sym (one_further (Thread (Some thread)) says ∙ plus_one path.position)) in
+          (ap suc shown.place ∙ sym (one_further (Thread (Some thread)) says ∙ plus_one path.position)) (as_before c shown) in
           (n.0, n.2, chosen_on (Thread (Some thread)) says c shown ∙ ap (λ (t : Tree (Passed D × Course D)). drives t after) n.1)
 
       -- and it goes on
-      pub thread_chosen : (thread : ℕ) → Says Thread mid (which_thread offered places) (Ok (Some thread)) after → (run : Progress D)
+      pub thread_chosen : (thread : ℕ) → Says Thread mid (which_thread (is_on mid.exploring) offered places) (Ok (Some thread)) after → (run : Progress D)
           → ((c : Course D) → ShowsCourse c old path → Notes (used_in thread c (use_at c.world.threads thread)) (Ok tt) run.dependence) → run.state ≡ old.state
           → (result : Result (Passed D) Stop) (new : Progress D) (end : Route) → Along (takes_turn thread) run after result new end → Along passes old path result new end
       thread_chosen thread says run notes state result new end along c shown =
           let v = chosen_course thread says run notes state c shown in
           same_way (passes c) (takes_turn thread v.0) path after result new end v.2 (along v.0 v.1)
 
-      pub nobody_chosen : Says Thread mid (which_thread offered places) (Ok None) after → (result : Result (Turn D) Stop) (new : Progress D) (end : Route)
+      pub nobody_chosen : Says Thread mid (which_thread (is_on mid.exploring) offered places) (Ok None) after → (result : Result (Turn D) Stop) (new : Progress D) (end : Route)
           → Along closes old after result new end → Along passes old path (passed_with result) new end
       nobody_chosen says result new end along c shown =
           same_way (passes c) (closes (one_passed c) >>= turned) path after (passed_with result) new end (chosen_on (Thread None) says c shown)
           (turned_comes (closes (one_passed c)) after result new end
-          (along (one_passed c) (record { world = shown.world; order = shown.order; place = ap suc shown.place ∙ sym (one_further (Thread None) says ∙ plus_one path.position) })))
+          (along (one_passed c) (record { world = shown.world; order = shown.order; place = ap suc shown.place ∙ sym (one_further (Thread None) says ∙ plus_one path.position); exploring = as_before c shown })))
 
   -- ---- schedules up to a turn
 
@@ -297,63 +305,60 @@ module _ {D : Type 0} where
         ap (λ (k : ℕ). drives (schedule k c) path) none
         ∙ drive_then path.search (marking path.search.bound) (passes c) (further (λ v. Fails Misuse)) (trail path) (trail via) (passed.AtBranch, come.0) come.2
 
-    pub goes_further : (more left : ℕ) → more ≡ suc left → Along passes old path (Ok passed.AtBranch) mid via → via.search ≡ path.search
-        → (result : Result (Turn D) Stop) (new : Progress D) (after : Route) → Along (schedule left) mid via result new after → Along (schedule more) old path result new after
-    goes_further more left e along same result new after onward c shown =
-        let come = along c shown in
-        same_way (schedule more c) (schedule left come.0) path via result new after (goes_on_by more left e c come.0 path via come.2 same) (onward come.0 come.1)
-
   -- ---- what a chosen thread has pending
 
   -- it comes to something without a question, or fails
   pub takes_at_once : (t : ℕ) (old new : Progress D) (path : Route) (result : Result (Passed D) Stop)
-      → ((w : World D) → Shows w old.state → world_comes (resumes t w) result new.state) → new.dependence ≡ old.dependence → Along (takes_turn t) old path result new path
+      → ((exploring : Bool) (w : World D) → Shows w old.state → world_comes (resumes exploring t w) result new.state) → new.dependence ≡ old.dependence → Along (takes_turn t) old path result new path
   takes_at_once t old new path (Ok passed) does kept c shown =
-      let come = does c.world shown.world in (
+      let come = does (is_on c.exploring) c.world shown.world in (
         record c { world = come.0 },
-        record { world = come.1; order = subst (λ d. ShowsOrder c.order d) (sym kept) shown.order; place = shown.place },
+        record { world = come.1; order = subst (λ d. ShowsOrder c.order d) (sym kept) shown.order; place = shown.place; exploring = shown.exploring },
         ap (λ (tree : Tree (Passed D × World D)). drives (carried c tree) path) come.2,
       )
   takes_at_once t old new path (Err (Failure failure)) does kept c shown =
-      ap (λ (tree : Tree (Passed D × World D)). drives (carried c tree) path) (does c.world shown.world)
+      ap (λ (tree : Tree (Passed D × World D)). drives (carried c tree) path) (does (is_on c.exploring) c.world shown.world)
   takes_at_once t old new path (Err Memory) does kept c shown = tt
 
   -- it reads: the path is asked which store
   module _ (t : ℕ) (load : Loading) (old mid : Progress D) (path via : Route)
-      (does : (w : World D) → Shows w old.state → Resumes (resumes t w) (Ok (resumed.Load load)) mid.state) (kept : mid.dependence ≡ old.dependence) where
+      (does : (exploring : Bool) (w : World D) → Shows w old.state → Resumes exploring (resumes exploring t w) (Ok (resumed.Load load)) mid.state) (kept : mid.dependence ≡ old.dependence) where
     abbrev pub reading : Course D → World D → Choice → Tree (Passed D × Course D)
     reading c w choice = carried (one_passed c) (read_by load w choice >>= world_turned)
 
-    pub read_asks : (c : Course D) (shown : ShowsCourse c old path) → drives (takes_turn t c) path ≡ drives (Asks (which_store load.readable) (reading c (does c.world shown.world).0)) path
-    read_asks c shown = ap (λ (tree : Tree (Passed D × World D)). drives (carried c tree) path) (does c.world shown.world).3
+    pub read_asks : (c : Course D) (shown : ShowsCourse c old path) → drives (takes_turn t c) path ≡ drives (Asks (which_store (is_on path.exploring) load.readable) (reading c (does (is_on c.exploring) c.world shown.world).0)) path
+    read_asks c shown =
+        ap (λ (tree : Tree (Passed D × World D)). drives (carried c tree) path) (does (is_on c.exploring) c.world shown.world).3
+        ∙ ap (λ e. drives (Asks (which_store (is_on e) load.readable) (reading c (does (is_on c.exploring) c.world shown.world).0)) path) shown.exploring
 
-    abbrev pub unmarked_load : trail path ≡ backtrack path.search (marking path.search.bound) (trail path) (which_store load.readable)
-    unmarked_load = sym (unmarked path.search (trail path) (which_store load.readable) (no_pairs (slots load.readable)))
+    abbrev pub unmarked_load : trail path ≡ backtrack path.search (marking path.search.bound) (trail path) (which_store (is_on path.exploring) load.readable)
+    unmarked_load = sym (unmarked path.search (trail path) (which_store (is_on path.exploring) load.readable) (no_pairs (is_on path.exploring) (slots load.readable)))
 
-    pub load_stops : (stop : Stop) → Says Load path (which_store load.readable) (Err stop) via → Along (takes_turn t) old path (Err stop) mid via
+    pub load_stops : (stop : Stop) → Says Load path (which_store (is_on path.exploring) load.readable) (Err stop) via → Along (takes_turn t) old path (Err stop) mid via
     load_stops (Failure failure) says c shown =
-        read_asks c shown ∙ refused (which_store load.readable) (reading c (does c.world shown.world).0) path path unmarked_load refl failure.kind says.0
+        read_asks c shown ∙ refused (which_store (is_on path.exploring) load.readable) (reading c (does (is_on c.exploring) c.world shown.world).0) path path unmarked_load refl failure.kind says.0
         ∙ ap (λ (p : Route). (Err failure.kind, trail p)) (sym says.1)
     load_stops Memory says c shown = tt
 
     -- and the access goes on by the slot
-    pub slot_read : (slot : ℕ) → Says Load path (which_store load.readable) (Ok slot) via → via.search ≡ path.search → slice_get load.readable slot ≡ Some true
+    pub slot_read : (slot : ℕ) → Says Load path (which_store (is_on path.exploring) load.readable) (Ok slot) via → IsSame path via → slice_get load.readable slot ≡ Some true
         → (result : Result (Turn D) Stop) (new : Progress D) → new.dependence ≡ mid.dependence
         → ((w : World D) → Shows w mid.state → KeepsAt w.points (accessed load.access) slot → world_comes (read_by load w (Load slot)) result new.state)
         → Along (takes_turn t) old path (passed_with result) new via
     slot_read slot says same readable result new unchanged reads c shown =
-        let come = does c.world shown.world in
+        let come = does (is_on c.exploring) c.world shown.world in
         by result (reads come.0 come.1 (come.2 slot readable))
-        (read_asks c shown ∙ asked (which_store load.readable) (reading c come.0) path path unmarked_load refl via (Load slot) same says)
+        (read_asks c shown ∙ asked (which_store (is_on path.exploring) load.readable) (reading c come.0) path path unmarked_load refl via (Load slot) same.0.0 says)
       where
-        by : (result : Result (Turn D) Stop) → world_comes (read_by load (does c.world shown.world).0 (Load slot)) result new.state
-            → drives (takes_turn t c) path ≡ drives (reading c (does c.world shown.world).0 (Load slot)) via → Comes (takes_turn t c) path (passed_with result) new via
+        by : (result : Result (Turn D) Stop) → world_comes (read_by load (does (is_on c.exploring) c.world shown.world).0 (Load slot)) result new.state
+            → drives (takes_turn t c) path ≡ drives (reading c (does (is_on c.exploring) c.world shown.world).0 (Load slot)) via → Comes (takes_turn t c) path (passed_with result) new via
         by (Ok turn) h e = (
           record (one_passed c) { world = h.0 },
           record {
             world = h.1;
             order = subst (λ d. ShowsOrder c.order d) (sym (unchanged ∙ kept)) shown.order;
-            place = ap suc shown.place ∙ sym (answer_passes path.search (trail path) (which_store load.readable) (Load slot) (trail via) says ∙ plus_one path.position);
+            place = ap suc shown.place ∙ sym (answer_passes path.search (trail path) (which_store (is_on path.exploring) load.readable) (Load slot) (trail via) says ∙ plus_one path.position);
+            exploring = shown.exploring ∙ sym same.1;
           },
           e ∙ ap (λ (tree : Tree (Turn D × World D)). drives (carried (one_passed c) (tree >>= world_turned)) via) h.2,
         )
@@ -363,21 +368,26 @@ module _ {D : Type 0} where
   -- ---- a wait
 
   module _ (n : ℕ) (old : Progress D) (path : Route) where
-    abbrev pub unmarked_wait : trail path ≡ backtrack path.search (marking path.search.bound) (trail path) whether_spurious
-    unmarked_wait = sym (unmarked path.search (trail path) whether_spurious refl)
+    abbrev pub unmarked_wait : trail path ≡ backtrack path.search (marking path.search.bound) (trail path) (whether_spurious (is_on path.exploring))
+    unmarked_wait = sym (unmarked path.search (trail path) (whether_spurious (is_on path.exploring)) refl)
 
-    pub wake_stops : (stop : Stop) (mid : Route) → Says Spurious path whether_spurious (Err stop) mid → Along (is_asked n) old path (Err stop) old mid
+    -- the wait as the path asks it
+    pub asked_so : (c : Course D) → ShowsCourse c old path → drives (is_asked n c) path ≡ drives (Asks (whether_spurious (is_on path.exploring)) (waits n c)) path
+    asked_so c shown = ap (λ e. drives (Asks (whether_spurious (is_on e)) (waits n c)) path) shown.exploring
+
+    pub wake_stops : (stop : Stop) (mid : Route) → Says Spurious path (whether_spurious (is_on path.exploring)) (Err stop) mid → Along (is_asked n) old path (Err stop) old mid
     wake_stops (Failure failure) mid says c shown =
-        refused whether_spurious (waits n c) path path unmarked_wait refl failure.kind says.0 ∙ ap (λ (p : Route). (Err failure.kind, trail p)) (sym says.1)
+        asked_so c shown ∙ refused (whether_spurious (is_on path.exploring)) (waits n c) path path unmarked_wait refl failure.kind says.0 ∙ ap (λ (p : Route). (Err failure.kind, trail p)) (sym says.1)
     wake_stops Memory mid says c shown = tt
 
-    module _ (is_spurious : Bool) (via : Route) (says : Says Spurious path whether_spurious (Ok is_spurious) via) (same : via.search ≡ path.search) where
-      pub asked_to_wake : (c : Course D) → drives (is_asked n c) path ≡ drives (waits n c (Spurious is_spurious)) via
-      asked_to_wake c = asked whether_spurious (waits n c) path path unmarked_wait refl via (Spurious is_spurious) same says
+    module _ (is_spurious : Bool) (via : Route) (says : Says Spurious path (whether_spurious (is_on path.exploring)) (Ok is_spurious) via) (same : IsSame path via) where
+      pub asked_to_wake : (c : Course D) → ShowsCourse c old path → drives (is_asked n c) path ≡ drives (waits n c (Spurious is_spurious)) via
+      asked_to_wake c shown =
+          asked_so c shown ∙ asked (whether_spurious (is_on path.exploring)) (waits n c) path path unmarked_wait refl via (Spurious is_spurious) same.0.0 says
 
       pub wait_stops : (stop : Stop) (mid : Progress D) → ((w : World D) → Shows w old.state → world_comes (enters_wait is_spurious n w) (Err stop) mid.state) → Along (is_asked n) old path (Err stop) mid via
       wait_stops (Failure failure) mid does c shown =
-          asked_to_wake c
+          asked_to_wake c shown
           ∙ ap (λ (tree : Tree (⊤ × World D)). drives (carried (one_passed c) tree >>= (λ after. schedule further_branches after.1)) via) (does c.world shown.world)
       wait_stops Memory mid does c shown = tt
 
@@ -390,9 +400,10 @@ module _ {D : Type 0} where
             record {
               world = come.1;
               order = subst (λ d. ShowsOrder c.order d) (sym kept) shown.order;
-              place = ap suc shown.place ∙ sym (answer_passes path.search (trail path) whether_spurious (Spurious is_spurious) (trail via) says ∙ plus_one path.position);
+              place = ap suc shown.place ∙ sym (answer_passes path.search (trail path) (whether_spurious (is_on path.exploring)) (Spurious is_spurious) (trail via) says ∙ plus_one path.position);
+              exploring = shown.exploring ∙ sym same.1;
             },
-            asked_to_wake c
+            asked_to_wake c shown
                 ∙ ap (λ (tree : Tree (⊤ × World D)). drives (carried (one_passed c) tree >>= (λ after. schedule further_branches after.1)) via) come.2,
           )
 
@@ -401,6 +412,44 @@ module _ {D : Type 0} where
       wait_goes mid does kept result new after onward c shown =
           let v = waiting mid does kept c shown in
           same_way (is_asked n c) (schedule further_branches v.0) path via result new after v.2 (onward v.0 v.1)
+
+  -- ---- a switch
+
+  module _ (todo : ExploreOp) (run : Progress D) (path after : Route) where
+    -- the tree as the switch makes it
+    switched_by : (c : Course D) → ShowsCourse c run path → (r : Result Exploring FailureKind) → switched todo path.exploring ≡ r
+        → switches todo c ≡ (came r >>= (λ exploring. Gives (turn.Reply c.world.active reply.Done, record c { exploring = exploring })))
+    switched_by c shown r e =
+        ap (λ (r : Result Exploring FailureKind). came r >>= (λ exploring. Gives (turn.Reply c.world.active reply.Done, record c { exploring = exploring })))
+        (ap (switched todo) shown.exploring ∙ e)
+
+    pub switches_so : (active : ℕ) → active ≡ run.state.scene.active → Switches path todo (Ok tt) after → Along (switches todo) run path (Ok (turn.Reply active reply.Done)) run after
+    switches_so active is h c shown = by (switched todo path.exploring) refl h
+      where
+        by : (r : Result Exploring FailureKind) → switched todo path.exploring ≡ r → SwitchesAs r path (Ok tt) after → Comes (switches todo c) path (Ok (turn.Reply active reply.Done)) run after
+        by (Err kind) e h = absurd (cc h.0)
+        by (Ok exploring) e h = (
+          record c { exploring = exploring },
+          record {
+            world = shown.world;
+            order = shown.order;
+            place = shown.place ∙ sym (ap (λ (r : Route). r.position) h.1);
+            exploring = sym (ap (λ (r : Route). r.exploring) h.1);
+          },
+          ap (λ (t : Tree (Turn D × Course D)). drives t path) (switched_by c shown (Ok exploring) e)
+              ∙ ap₂ (λ (t : ℕ) (p : Trail). (Ok (turn.Reply t reply.Done, record c { exploring = exploring }), p))
+              (ap (λ (w : World D). w.active) shown.world.rest ∙ sym is) (sym (ap trail h.1)),
+        )
+
+    pub switch_fails : (kind : FailureKind) → Switches path todo (Err kind) after → Along (switches todo) run path (Err (Failure (record { kind = kind; location = None }))) run after
+    switch_fails kind h c shown = by (switched todo path.exploring) refl h
+      where
+        by : (r : Result Exploring FailureKind) → switched todo path.exploring ≡ r → SwitchesAs r path (Err kind) after → drives (switches todo c) path ≡ (Err kind, trail after)
+        by (Ok exploring) e h = absurd (cc h.0)
+        by (Err other) e h =
+            let same : other ≡ kind = cc h.0 in
+            ap (λ (t : Tree (Turn D × Course D)). drives t path) (switched_by c shown (Err other) e)
+            ∙ ap₂ (λ (k : FailureKind) (p : Trail). (Err k, p)) same (sym (ap trail h.1))
 
   -- ---- the end
 
@@ -440,7 +489,7 @@ module _ {D : Type 0} where
           by : (result : Result (Turn D) Stop) → world_comes (ends c.world) result new.state → drives (closes c) path ≡ drives (carried c (ends c.world)) path → Comes (closes c) path result new path
           by (Ok turn) h e = (
             record c { world = h.0 },
-            record { world = h.1; order = subst (λ d. ShowsOrder c.order d) (sym kept) shown.order; place = shown.place },
+            record { world = h.1; order = subst (λ d. ShowsOrder c.order d) (sym kept) shown.order; place = shown.place; exploring = shown.exploring },
             e ∙ ap (λ (tree : Tree (Turn D × World D)). drives (carried c tree) path) h.2,
           )
           by (Err (Failure failure)) h e = e ∙ ap (λ (tree : Tree (Turn D × World D)). drives (carried c tree) path) h
@@ -482,7 +531,7 @@ module _ {D : Type 0} where
   started_course op entry old mid path starts c shown =
       let come = starts c shown.world shown.order in (
         grown_from c.world (record c { world = come.0 }),
-        record { world = come.2; order = come.3; place = shown.place },
+        record { world = come.2; order = come.3; place = shown.place; exploring = shown.exploring },
         ap (λ (tree : Tree (Entry D × World D)). drives (carried c tree >>= (λ started. goes_on (started.0, grown_from c.world started.1))) path) come.1,
       )
 

@@ -32,14 +32,15 @@ use Rattle.loom_walks.specs.Trees.Meeting.{Settings, Marking, every_at}
 use Rattle.loom_walks.specs.Walk.UnderWay.{mark_with}
 use Rattle.loom_walks.proofs.Trees.Binding.{onward, drive_bind, drive_then}
 use Rattle.loom_objects.specs.Asked.{which_thread, which_store, whether_spurious}
+use Rattle.loom_objects.specs.Exploring.{is_on}
 use Rattle.loom_runs.specs.Machine.{passes, chooses, further, further_branches, goes_on, is_asked, schedule, submit, waits}
 use Rattle.loom_runs.specs.Courses.{Course, carried, used_in}
 use Rattle.loom_machine.specs.Copies.{GivesCopy}
 use Rattle.loom_engine.specs.Execution.{Along, MayBeRefused, NeedsMemory, AllNeedMemory, Notes, ShowsCourse, Starts, itself, takes_turn}
 use Rattle.loom_engine.specs.declared.rt.execution.Progress.{Progress}
-use Rattle.loom_engine.proofs.Executing.{IsSchedule, asked, chosen_course, first_of, goes_on_by, marked_first, read_asks, scheduled, started_course, unmarked_load, unmarked_wait, waiting}
+use Rattle.loom_engine.proofs.Executing.{IsSchedule, asked, asked_so, chosen_course, first_of, goes_on_by, marked_first, read_asks, same_way, scheduled, started_course, unmarked_load, unmarked_wait, waiting}
 use Rattle.loom_path.specs.Nodes.{seen}
-use Rattle.loom_path.specs.Routes.{Route, trail, Says, Grows, drives}
+use Rattle.loom_path.specs.Routes.{Route, IsSame, trail, Says, Grows, drives}
 
 -- ---- no answer of a path makes it shorter
 
@@ -173,32 +174,32 @@ module _ {D : Type 0} where
   -- ---- one schedule
 
   module _ (old : Progress D) (offered : Offers) (places : List (Option ℕ)) (path mid : Route) (s : IsSchedule old offered places path mid) where
-    pub thread_refused : {B : Type 0} (after : Route) (stop : Stop) → Says Thread mid (which_thread offered places) (Err stop) after → ◌≡◌ {A = Result B Stop} (Err stop) (Err Memory) → AllNeedMemory passed.Turn passes old path
+    pub thread_refused : {B : Type 0} (after : Route) (stop : Stop) → Says Thread mid (which_thread (is_on mid.exploring) offered places) (Err stop) after → ◌≡◌ {A = Result B Stop} (Err stop) (Err Memory) → AllNeedMemory passed.Turn passes old path
     thread_refused after stop says e c shown =
-        needed_on passed.Turn (passes c) (Asks (which_thread offered places) (chooses c)) path path (scheduled old offered places path mid s c shown) (omega arith)
-        (refused_first Thread passed.Turn (which_thread offered places) (chooses c) path mid after stop (s.marks.0 offered) s.marks.1 says e)
+        needed_on passed.Turn (passes c) (Asks (which_thread (is_on mid.exploring) offered places) (chooses c)) path path (scheduled old offered places path mid s c shown) (omega arith)
+        (refused_first Thread passed.Turn (which_thread (is_on mid.exploring) offered places) (chooses c) path mid after stop (s.marks.0 (is_on mid.exploring) offered) s.marks.1.0.0 says e)
 
     -- the thread that was chosen needs memory as it goes on
-    pub thread_needs : (thread : ℕ) (after : Route) → after.search ≡ mid.search → Says Thread mid (which_thread offered places) (Ok (Some thread)) after → (run : Progress D)
+    pub thread_needs : (thread : ℕ) (after : Route) → IsSame mid after → Says Thread mid (which_thread (is_on mid.exploring) offered places) (Ok (Some thread)) after → (run : Progress D)
         → ((c : Course D) → ShowsCourse c old path → Notes (used_in thread c (use_at c.world.threads thread)) (Ok tt) run.dependence) → run.state ≡ old.state
         → AllNeedMemory passed.Turn (takes_turn thread) run after → AllNeedMemory passed.Turn passes old path
     thread_needs thread after same says run notes state needs c shown =
         let v = chosen_course old offered places path mid s after same thread says run notes state c shown in
         needed_on passed.Turn (passes c) (takes_turn thread v.0) path after v.2
-        (after_answer path mid after (which_thread offered places) (Thread (Some thread)) (s.marks.0 offered) says) (needs v.0 v.1)
+        (after_answer path mid after (which_thread (is_on mid.exploring) offered places) (Thread (Some thread)) (s.marks.0 (is_on mid.exploring) offered) says) (needs v.0 v.1)
 
   -- memory is refused for the node of a load
   pub load_refused : {B : Type 0} (t : ℕ) (load : Loading) (old mid : Progress D) (path via : Route) (stop : Stop)
-      → ((w : World D) → Shows w old.state → Resumes (resumes t w) (Ok (resumed.Load load)) mid.state) → mid.dependence ≡ old.dependence
-      → Says Load path (which_store load.readable) (Err stop) via → ◌≡◌ {A = Result B Stop} (Err stop) (Err Memory) → AllNeedMemory passed.Turn (takes_turn t) old path
+      → ((exploring : Bool) (w : World D) → Shows w old.state → Resumes exploring (resumes exploring t w) (Ok (resumed.Load load)) mid.state) → mid.dependence ≡ old.dependence
+      → Says Load path (which_store (is_on path.exploring) load.readable) (Err stop) via → ◌≡◌ {A = Result B Stop} (Err stop) (Err Memory) → AllNeedMemory passed.Turn (takes_turn t) old path
   load_refused t load old mid path via stop does kept says e c shown =
-      needed_on passed.Turn (takes_turn t c) (Asks (which_store load.readable) _) path path (read_asks t load old mid path via does kept c shown) (omega arith)
-      (refused_first Load passed.Turn (which_store load.readable) _ path path via stop (unmarked_load t load old mid path via does kept) refl says e)
+      needed_on passed.Turn (takes_turn t c) (Asks (which_store (is_on path.exploring) load.readable) _) path path (read_asks t load old mid path via does kept c shown) (omega arith)
+      (refused_first Load passed.Turn (which_store (is_on path.exploring) load.readable) _ path path via stop (unmarked_load t load old mid path via does kept) refl says e)
 
   -- a reader is given a copy, for which memory is refused
-  pub copy_refused : (t : ℕ) (old : Progress D) (path : Route) → ((w : World D) → Shows w old.state → GivesCopy (resumes t w)) → AllNeedMemory passed.Turn (takes_turn t) old path
+  pub copy_refused : (t : ℕ) (old : Progress D) (path : Route) → ((exploring : Bool) (w : World D) → Shows w old.state → GivesCopy (resumes exploring t w)) → AllNeedMemory passed.Turn (takes_turn t) old path
   copy_refused t old path gives c shown =
-      let copied = gives c.world shown.world in
+      let copied = gives (is_on c.exploring) c.world shown.world in
       inr (
         copied.0,
         copied.1,
@@ -215,28 +216,65 @@ module _ {D : Type 0} where
       needed_on itself (schedule more c) (passes c >>= further first.0) path path (ap (λ (t : Tree (Turn D × Course D)). drives t path) first.1) (omega arith)
       (needed_further first.0 (passes c) path (needs c shown))
 
-  pub further_needs : (old mid : Progress D) (path via : Route) (more left : ℕ) → more ≡ suc left → Along passes old path (Ok passed.AtBranch) mid via → via.search ≡ path.search
-      → AllNeedMemory itself (schedule left) mid via → AllNeedMemory itself (schedule more) old path
-  further_needs old mid path via more left e along same needs c shown =
-      let come = along c shown in
-      needed_on itself (schedule more c) (schedule left come.0) path via (goes_on_by more left e c come.0 path via come.2 same) (after_part (passes c) path via (Ok (passed.AtBranch, come.0)) come.2)
-      (needs come.0 come.1)
+  -- when so many more branch points may come: what the schedules from here on come to is what all come to, and need
+  pub record IsLeft (more : ℕ) (old : Progress D) (path : Route) (left : ℕ) (run : Progress D) (here : Route) : Type 0 where
+    pub reaches : (c : Course D) → ShowsCourse c old path → (v : Course D) × ShowsCourse v run here × (drives (schedule more c) path ≡ drives (schedule left v) here)
+        × (length path.nodes ≤ length here.nodes)
+    pub same : IsSame path here
+    pub steps : run.state.steps_left ≡ old.state.steps_left
+
+  module _ (more : ℕ) (old : Progress D) (path : Route) where
+    pub left_start : IsLeft more old path more old path
+    left_start = record { reaches = λ c shown. (c, shown, refl, omega arith); same = ((refl, refl, refl), refl); steps = refl }
+
+    module _ (left : ℕ) (run : Progress D) (here : Route) (is : IsLeft more old path left run here) where
+      -- one branch point more was passed
+      pub left_further : (fewer : ℕ) (mid : Progress D) (via : Route) → left ≡ suc fewer → Along passes run here (Ok passed.AtBranch) mid via → IsSame here via
+          → mid.state.steps_left ≡ run.state.steps_left → IsLeft more old path fewer mid via
+      left_further fewer mid via e along same steps =
+          record { reaches = reaches; same = joined; steps = steps ∙ is.steps }
+        where
+          reaches : (c : Course D) → ShowsCourse c old path
+              → (v : Course D) × ShowsCourse v mid via × (drives (schedule more c) path ≡ drives (schedule fewer v) via) × (length path.nodes ≤ length via.nodes)
+          reaches c shown =
+              let v = is.reaches c shown in
+              let come = along v.0 v.1 in (
+                come.0,
+                come.1,
+                v.2 ∙ goes_on_by left fewer e v.0 come.0 here via come.2 same.0.0,
+                omega (arith, v.3, after_part (passes v.0) here via (Ok (passed.AtBranch, come.0)) come.2),
+              )
+
+          joined : IsSame path via
+          joined = ((same.0.0 ∙ is.same.0.0, same.0.1 ∙ is.same.0.1, same.0.2 ∙ is.same.0.2), same.1 ∙ is.same.1)
+
+      -- they come to what is left
+      pub left_comes : (result : Result (Turn D) Stop) (new : Progress D) (after : Route) → Along (schedule left) run here result new after → Along (schedule more) old path result new after
+      left_comes result new after comes c shown =
+          let v = is.reaches c shown in
+          same_way (schedule more c) (schedule left v.0) path here result new after v.2 (comes v.0 v.1)
+
+      pub left_needs : AllNeedMemory itself (schedule left) run here → AllNeedMemory itself (schedule more) old path
+      left_needs needs c shown =
+          let v = is.reaches c shown in
+          needed_on itself (schedule more c) (schedule left v.0) path here v.2 v.3 (needs v.0 v.1)
 
   -- ---- a wait, and an operation
 
   -- memory is refused for the node of a spurious wake-up
-  pub wake_refused : {B : Type 0} (n : ℕ) (old : Progress D) (path mid : Route) (stop : Stop) → Says Spurious path whether_spurious (Err stop) mid → ◌≡◌ {A = Result B Stop} (Err stop) (Err Memory)
+  pub wake_refused : {B : Type 0} (n : ℕ) (old : Progress D) (path mid : Route) (stop : Stop) → Says Spurious path (whether_spurious (is_on path.exploring)) (Err stop) mid → ◌≡◌ {A = Result B Stop} (Err stop) (Err Memory)
       → AllNeedMemory itself (is_asked n) old path
   wake_refused n old path mid stop says e c shown =
-      refused_first Spurious itself whether_spurious (waits n c) path path mid stop (unmarked_wait n old path) refl says e
+      needed_on itself (is_asked n c) (Asks (whether_spurious (is_on path.exploring)) (waits n c)) path path (asked_so n old path c shown) (omega arith)
+      (refused_first Spurious itself (whether_spurious (is_on path.exploring)) (waits n c) path path mid stop (unmarked_wait n old path) refl says e)
 
-  pub wait_needs : (n : ℕ) (is_spurious : Bool) (old mid : Progress D) (path via : Route) → (says : Says Spurious path whether_spurious (Ok is_spurious) via) → (same : via.search ≡ path.search)
+  pub wait_needs : (n : ℕ) (is_spurious : Bool) (old mid : Progress D) (path via : Route) → (says : Says Spurious path (whether_spurious (is_on path.exploring)) (Ok is_spurious) via) → (same : IsSame path via)
       → ((w : World D) → Shows w old.state → world_comes (enters_wait is_spurious n w) (Ok tt) mid.state) → mid.dependence ≡ old.dependence
       → AllNeedMemory itself (schedule further_branches) mid via → AllNeedMemory itself (is_asked n) old path
   wait_needs n is_spurious old mid path via says same does kept needs c shown =
       let v = waiting n old path is_spurious via says same mid does kept c shown in
       needed_on itself (is_asked n c) (schedule further_branches v.0) path via v.2
-      (after_answer path path via whether_spurious (Spurious is_spurious) (unmarked_wait n old path) says) (needs v.0 v.1)
+      (after_answer path path via (whether_spurious (is_on path.exploring)) (Spurious is_spurious) (unmarked_wait n old path) says) (needs v.0 v.1)
 
   pub event_needs : (op : Op D ⊤) (entry : Entry D) (next : Course D → Tree (Turn D × Course D)) (old mid : Progress D) (path : Route) → ((v : Course D) → goes_on (entry, v) ≡ next v)
       → Starts op old (Ok entry) mid → AllNeedMemory itself next mid path → AllNeedMemory itself (submit op) old path

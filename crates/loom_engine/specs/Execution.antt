@@ -9,6 +9,7 @@ use Rattle.loom_objects.specs.declared.operation.Reply.TheVariants.{ReadLocked}
 use Rattle.loom_objects.specs.declared.operation.Turn.{Turn}
 use Rattle.loom_objects.specs.declared.operation.Turn.TheVariants.{Reply, Start, Ended}
 use Rattle.loom_objects.specs.Effects.{needs_memory}
+use Rattle.loom_objects.specs.Exploring.{is_on}
 use Rattle.loom_objects.specs.Tree.{Tree, Gives, Fails}
 use Rattle.loom_objects.specs.Shown.{Shows}
 use Rattle.loom_objects.specs.World.{World}
@@ -42,11 +43,13 @@ abbrev pub Notes : Result Order FailureKind → Result ⊤ Stop → Dependence �
 Notes (Ok order) result new = (result ≡ Ok tt) × ShowsOrder order new
 Notes (Err kind) result new = result ≡ Err (Failure (record { kind = kind; location = None }))
 
--- The run along this path shows the course: its state and its order of accesses, and the path has passed as many nodes.
+-- The run along this path shows the course: its state and its order of accesses; and the path has passed as many nodes, and
+-- explores as it does.
 pub record ShowsCourse {D : Type 0} (c : Course D) (run : Progress D) (path : Route) : Type 0 where
   pub world : Shows c.world run.state
   pub order : ShowsOrder c.order run.dependence
   pub place : c.passed ≡ path.position
+  pub exploring : c.exploring ≡ path.exploring
 
 module _ {D : Type 0} where
   -- The tree comes to this along the path, memory aside. If it doesn't fail, the run shows where the tree leads.
@@ -72,7 +75,7 @@ module _ {D : Type 0} where
 
   -- what the chosen thread has pending takes effect, once its node was passed
   abbrev pub takes_turn : ℕ → Course D → Tree (Passed D × Course D)
-  takes_turn t c = carried c (resumes t c.world)
+  takes_turn t c = carried c (resumes (is_on c.exploring) t c.world)
 
   -- a reader is told of a copy of a lock's data
   abbrev pub IsCopied : {A : Type 0} → (Turn D → A) → Result (A × Course D) FailureKind → Type 0

@@ -27,7 +27,7 @@ use Rattle.loom_objects.specs.Accessed.{accessed}
 use Rattle.loom_objects.specs.Question.{asked_store, slots, slots_from}
 use Rattle.loom_objects.specs.Rule.{check}
 use Rattle.loom_objects.specs.Rule as rule
-use Rattle.loom_objects.specs.Scene.{Stage, world_of, DoesAt, HasSlot, KeepsAt, KeepsSlots}
+use Rattle.loom_objects.specs.Scene.{world_of, DoesAt, HasSlot, KeepsAt, KeepsSlots}
 use Rattle.loom_objects.specs.Scene as scene
 use Rattle.loom_objects.specs.Shown.{Shows, Comes, Does, Resumes}
 use Rattle.loom_objects.specs.Steps.{asked, asks_slot, begins, read_by, read_slot, resumes, slot_of, told, turned}
@@ -100,23 +100,24 @@ module _ {D : Type 0} where
   by_choice load w (choice.Spurious answer) = refl
 
   -- an access that reads asks which store
-  asks : (load : Loading) (w : World D) (numbers : List ℕ) (lowest : ℕ) (others : List ℕ) → numbers ≡ lowest ∷ others
-      → (asks_slot numbers >>= (λ slot. read_slot load w slot >>= turned)) ≡ Asks (asked_store true numbers) (λ c. read_by load w c >>= turned)
-  asks load w numbers lowest others e =
-      ap (λ (s : List ℕ). asks_slot s >>= (λ slot. read_slot load w slot >>= turned)) e
-      ∙ (λ i. Asks (asked_store true (lowest ∷ others)) (λ c. by_choice load w c i))
-      ∙ ap (λ (s : List ℕ). Asks (asked_store true s) (λ c. read_by load w c >>= turned)) (sym e)
+  asks : (exploring : Bool) (load : Loading) (w : World D) (numbers : List ℕ) (lowest : ℕ) (others : List ℕ) → numbers ≡ lowest ∷ others
+      → (asks_slot exploring numbers >>= (λ slot. read_slot load w slot >>= turned)) ≡ Asks (asked_store exploring numbers) (λ c. read_by load w c >>= turned)
+  asks exploring load w numbers lowest others e =
+      ap (λ (s : List ℕ). asks_slot exploring s >>= (λ slot. read_slot load w slot >>= turned)) e
+      ∙ (λ i. Asks (asked_store exploring (lowest ∷ others)) (λ c. by_choice load w c i))
+      ∙ ap (λ (s : List ℕ). Asks (asked_store exploring s) (λ c. read_by load w c >>= turned)) (sym e)
 
-  resumes_at : (p : Points) (left : ℕ) (answer : Result (Resumed D × World D) FailureKind) (r : Result (Resumed D) FailureKind) (new : RunState D) → new.steps_left ≡ left
-      → scene.Comes p left answer r new.scene → IfOk r HasSlot → ((q : Points) → ShowsViews q new.scene.views → IfOk r (KeepsSlots q)) → Resumes (came answer >>= asked) (failing r) new
-  resumes_at p left (Ok x) (Ok (ThatPassed passed)) new same h slot kept =
+  resumes_at : (exploring : Bool) (p : Points) (left : ℕ) (answer : Result (Resumed D × World D) FailureKind) (r : Result (Resumed D) FailureKind) (new : RunState D) → new.steps_left ≡ left
+      → scene.Comes p left answer r new.scene → IfOk r HasSlot → ((q : Points) → ShowsViews q new.scene.views → IfOk r (KeepsSlots q))
+      → Resumes exploring (came answer >>= asked exploring) (failing r) new
+  resumes_at exploring p left (Ok x) (Ok (ThatPassed passed)) new same h slot kept =
       let e = h.0 in
       let is : x ≡ (ThatPassed passed, world_of x.1.points left new.scene) = cc in (
         world_of x.1.points new.steps_left new.scene,
         record { views = h.1; rest = refl },
-        ap asked is ∙ ap (λ (n : ℕ). Gives (passed, world_of x.1.points n new.scene)) (sym same),
+        ap (asked exploring) is ∙ ap (λ (n : ℕ). Gives (passed, world_of x.1.points n new.scene)) (sym same),
       )
-  resumes_at p left (Ok x) (Ok (Load load)) new same h slot kept =
+  resumes_at exploring p left (Ok x) (Ok (Load load)) new same h slot kept =
       let e = h.0 in
       let is : x ≡ (Load load, world_of x.1.points left new.scene) = cc in
       let w : World D = world_of x.1.points new.steps_left new.scene in
@@ -124,17 +125,18 @@ module _ {D : Type 0} where
         w,
         record { views = h.1; rest = refl },
         kept x.1.points h.1,
-        ap asked is ∙ ap (λ (n : ℕ). asked (Load load, world_of x.1.points n new.scene)) (sym same) ∙ asks load w (slots load.readable) l.0 l.1 l.2,
+        ap (asked exploring) is ∙ ap (λ (n : ℕ). asked exploring (Load load, world_of x.1.points n new.scene)) (sym same) ∙ asks exploring load w (slots load.readable) l.0 l.1 l.2,
       )
-  resumes_at p left (Ok x) (Err kind) new same h slot kept = absurd (cc)
-  resumes_at p left (Err kind) (Ok a) new same h slot kept = let e = h.0 in absurd (cc)
-  resumes_at p left (Err kind) (Err other) new same h slot kept = let is : kind ≡ other = cc in ap Fails is
+  resumes_at exploring p left (Ok x) (Err kind) new same h slot kept = absurd (cc)
+  resumes_at exploring p left (Err kind) (Ok a) new same h slot kept = let e = h.0 in absurd (cc)
+  resumes_at exploring p left (Err kind) (Err other) new same h slot kept = let is : kind ≡ other = cc in ap Fails is
 
   pub resumes_by : (t : ℕ) (old new : RunState D) (r : Result (Resumed D) FailureKind) → new.steps_left ≡ old.steps_left → scene.Does (chosen t) old.scene r new.scene
-      → IfOk r HasSlot → ((q : Points) → ShowsViews q new.scene.views → IfOk r (KeepsSlots q)) → (w : World D) → Shows w old → Resumes (resumes t w) (failing r) new
-  resumes_by t old new r same does slot kept = λ w shown.
-      subst (λ (v : World D). Resumes (resumes t v) (failing r) new) (sym shown.rest)
-      (resumes_at w.points old.steps_left (chosen t (world_of w.points old.steps_left old.scene)) r new same (does w.points old.steps_left shown.views) slot kept)
+      → IfOk r HasSlot → ((q : Points) → ShowsViews q new.scene.views → IfOk r (KeepsSlots q)) → (exploring : Bool) → (w : World D) → Shows w old
+      → Resumes exploring (resumes exploring t w) (failing r) new
+  resumes_by t old new r same does slot kept = λ exploring w shown.
+      subst (λ (v : World D). Resumes exploring (resumes exploring t v) (failing r) new) (sym shown.rest)
+      (resumes_at exploring w.points old.steps_left (chosen t (world_of w.points old.steps_left old.scene)) r new same (does w.points old.steps_left shown.views) slot kept)
 
   -- ---- an access goes on by its slot
 
@@ -166,15 +168,15 @@ module _ {D : Type 0} where
 
   -- ---- a copy
 
-  copy_at : (answer : Result (Resumed D × World D) FailureKind) (reader n : ℕ) (copy : D) → answer_of answer ≡ Ok (ThatPassed (passed.Turn (turn.Reply reader (reply.ReadLocked n copy))))
-      → GivesCopy (came answer >>= asked)
-  copy_at (Ok x) reader n copy e =
+  copy_at : (exploring : Bool) (answer : Result (Resumed D × World D) FailureKind) (reader n : ℕ) (copy : D) → answer_of answer ≡ Ok (ThatPassed (passed.Turn (turn.Reply reader (reply.ReadLocked n copy))))
+      → GivesCopy (came answer >>= asked exploring)
+  copy_at exploring (Ok x) reader n copy e =
       let is : x.0 ≡ ThatPassed (passed.Turn (turn.Reply reader (reply.ReadLocked n copy))) = cc in
-      (reader, n, copy, x.1, ap (λ (r : Resumed D). asked (r, x.1)) is)
-  copy_at (Err kind) reader n copy e = absurd (cc)
+      (reader, n, copy, x.1, ap (λ (r : Resumed D). asked exploring (r, x.1)) is)
+  copy_at exploring (Err kind) reader n copy e = absurd (cc)
 
   -- the chosen thread is a reader who is told of a copy
-  pub gives_copy : (t : ℕ) (old : RunState D) → TellsCopy (chosen t) old.scene → (w : World D) → Shows w old → GivesCopy (resumes t w)
-  gives_copy t old tells = λ w shown.
+  pub gives_copy : (t : ℕ) (old : RunState D) → TellsCopy (chosen t) old.scene → (exploring : Bool) → (w : World D) → Shows w old → GivesCopy (resumes exploring t w)
+  gives_copy t old tells = λ exploring w shown.
       let said = tells w.points old.steps_left shown.views in
-      copy_at (chosen t w) said.0 said.1 said.2 (ap (λ (v : World D). answer_of (chosen t v)) shown.rest ∙ said.3)
+      copy_at exploring (chosen t w) said.0 said.1 said.2 (ap (λ (v : World D). answer_of (chosen t v)) shown.rest ∙ said.3)

@@ -9,7 +9,7 @@ use Rattle.loom_objects.specs.declared.rt.run.Passed.TheVariants as passed
 use Rattle.loom_objects.specs.declared.rt.run.Resumed.{Resumed}
 use Rattle.loom_objects.specs.declared.rt.run.Resumed.TheVariants as resumed
 use Rattle.loom_objects.specs.declared.rt.thread.Task.{Task}
-use Rattle.loom_objects.specs.declared.rt.thread.Task.TheVariants.{Start, Body, Continue, Access, Lock, TryLock, Claim, Wait, Relock, Wake, Notify, Await, Rouse, Count, TryUnwrap, Join, Finish}
+use Rattle.loom_objects.specs.declared.rt.thread.Task.TheVariants.{Start, Body, Continue, Access, Lock, TryLock, Claim, Wait, Relock, Wake, Notify, Await, Rouse, Count, TryUnwrap, Join, Finish, Send, Receive, Drain, WakeBy, CloneWaker, DropWaker, Register, TakeWaker}
 use Rattle.loom_objects.specs.declared.rt.thread.Thread.{Thread}
 use Rattle.loom_objects.specs.RwLocks.{is_reading}
 use Rattle.loom_objects.specs.Scene.{Stage, world_of}
@@ -47,6 +47,14 @@ module _ {D : Type 0} where
   reads (TryUnwrap n) = false
   reads (Join t n) = false
   reads (Finish n value) = false
+  reads (Send n sent) = false
+  reads (Receive by n) = false
+  reads (Drain n taken) = false
+  reads (WakeBy n c after) = false
+  reads (CloneWaker c place) = false
+  reads (DropWaker c after) = false
+  reads (Register p c) = false
+  reads (TakeWaker by p) = false
 
   -- the same of a thread, if there is one
   abbrev pub reads_at : Option (Thread D) → Bool

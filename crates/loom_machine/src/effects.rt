@@ -8,14 +8,16 @@ ghost use Rattle.loom_views.specs.Table.{Points, ShowsViews};
 
 use loom_atomics::atomics;
 use loom_cells::{cells, counts, tracks};
+use loom_channels::channels;
 use loom_locks::{condvars, locks, rwlocks};
 use loom_objects::data::Data;
 use loom_objects::operation::{Op, Reply, Turn};
 use loom_objects::rt::run::{Entry, Passed, Resumed};
 use loom_objects::rt::scene::Scene;
 use loom_objects::rt::thread::Task;
-use loom_threads::{notifiers, threads};
+use loom_threads::{notifiers, threads, values};
 use loom_views::rt::failure::FailureKind;
+use loom_wakers::{places, wakers};
 use std::alloc::AllocError;
 
 /// What the active thread's operation does up to its branch point, or all of it, where it has none. An outer error only where
@@ -37,6 +39,12 @@ pub(crate) fn begin_op<D: Data>(
         Op::RwLock(op, _) => rwlocks::rwlock_begins(scene, op),
         Op::Condvar(op, _) => condvars::condvar_begins(scene, op),
         Op::Notify(op, _) => notifiers::notifier_begins(scene, op),
+        Op::Channel(op, _) => channels::channel_begins(scene, op),
+        Op::Waker(op, _) => wakers::waker_begins(scene, op),
+        Op::AtomicWaker(op, _) => places::place_begins(scene, op),
+        Op::Local(op, _) => values::local_begins(scene, op),
+        Op::Lazy(op, _) => values::lazy_begins(scene, op),
+        Op::Explore(op, _) => Ok(Ok(Entry::Explores(op))),
         Op::Thread(op, _) => threads::thread_begins(scene, op),
         Op::Fail(_) => Ok(Err(FailureKind::Assertion)),
         Op::Unreachable(_) => Ok(Err(FailureKind::Unreachable)),
@@ -113,5 +121,17 @@ fn take_effect<D: Data>(
         Task::Finish(notifier, value) => {
             Ok(told(threads::child_finish(scene, notifier, value), scene))
         }
+        Task::Send(channel, sent) => Ok(told(channels::send(scene, channel, sent), scene)),
+        Task::Receive(receiving, channel) => {
+            Ok(told(channels::receive(scene, receiving, channel), scene))
+        }
+        Task::Drain(channel, taken) => Ok(gone(channels::drain(scene, channel, taken))),
+        Task::WakeBy(notifier, waker, after) => {
+            Ok(gone(wakers::wake_by(scene, notifier, waker, after)))
+        }
+        Task::CloneWaker(waker, place) => Ok(gone(wakers::clone_waker(scene, waker, place))),
+        Task::DropWaker(waker, after) => Ok(gone(wakers::drop_waker(scene, waker, after))),
+        Task::Register(place, waker) => Ok(gone(places::register(scene, place, waker))),
+        Task::TakeWaker(taking, place) => Ok(gone(places::take_waker(scene, taking, place))),
     }
 }

@@ -1,5 +1,5 @@
 //! The steps of a run. Here failures of effects, and memory that is refused, stop it.
-ghost use Rattle.std.specs.Prelude.{◌≡◌, ◌≢◌, Err, ◌+◌, slice_get, true, IfOk, OnOk};
+ghost use Rattle.std.specs.Prelude.{◌≡◌, ◌≢◌, Bool, Err, ◌+◌, slice_get, true, IfOk, OnOk};
 ghost use Rattle.loom_machine.specs.Copies.{GivesCopy, reads_at};
 ghost use Rattle.loom_objects.specs.Effects as effects;
 ghost use Rattle.loom_objects.specs.Accessed.{accessed};
@@ -38,10 +38,10 @@ pub fn begin<D: Data>(run: &mut RunState<D>, op: Op<D, ()>) -> Result<Entry<D>, 
 /// The thread is chosen, and what it has pending takes effect; an access that reads from an atomic up to the choice of
 /// the store that it reads. `Memory` only where a reader gets a copy of a lock's data.
 pub fn resume<D: Data>(run: &mut RunState<D>, thread: u8) -> Result<Resumed<D>, Stop>
-    ensures does { (w : World D) → Shows w run.old → Resumes (rules.resumes thread w) result run.new }
+    ensures does { (exploring : Bool) → (w : World D) → Shows w run.old → Resumes exploring (rules.resumes exploring thread w) result run.new }
     ensures slot { IfOk result HasSlot }
     ensures steps { run.new.steps_left ≡ run.old.steps_left }
-    ensures growth { result ≡ Err Stop.Memory → (w : World D) → Shows w run.old → GivesCopy (rules.resumes thread w) }
+    ensures growth { result ≡ Err Stop.Memory → (exploring : Bool) → (w : World D) → Shows w run.old → GivesCopy (rules.resumes exploring thread w) }
     ensures reads { result ≡ Err Stop.Memory → reads_at (slice_get run.old.scene.threads thread) ≡ true }
 {
     match go_on(&mut run.scene, thread) {

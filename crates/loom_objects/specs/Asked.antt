@@ -1,5 +1,5 @@
 -- The questions that the machine asks.
-use Rattle.std.specs.Prelude.{ℕ, suc, true, List, [], ◌∷◌, Bool, Option, Some, None}
+use Rattle.std.specs.Prelude.{ℕ, suc, List, [], ◌∷◌, Bool, Option, Some, None}
 use Rattle.loom_objects.specs.declared.rt.thread.Offers.{Offers}
 use Rattle.loom_objects.specs.Question.{Question, WhichThread, WhetherSpurious, slots, asked_store}
 
@@ -13,14 +13,15 @@ pairs_from t (Some place ∷ places) = (place, t) ∷ pairs_from (suc t) places
 abbrev pub pairs : List (Option ℕ) → List (ℕ × ℕ)
 pairs places = pairs_from 0 places
 
--- a schedule, while the threads offer this, and are about to make accesses that aren't ordered after those at these places
-abbrev pub which_thread : Offers → List (Option ℕ) → Question
-which_thread offers places = WhichThread true (record { default = offers.default; abilities = offers.abilities; unordered = pairs places })
+-- a schedule, where the search explores or doesn't, while the threads offer this, and are about to make accesses that aren't
+-- ordered after those at these places
+abbrev pub which_thread : Bool → Offers → List (Option ℕ) → Question
+which_thread exploring offers places = WhichThread exploring (record { default = offers.default; abilities = offers.abilities; unordered = pairs places })
 
 -- a load, while these of the slots may be read
-abbrev pub which_store : List Bool → Question
-which_store readable = asked_store true (slots readable)
+abbrev pub which_store : Bool → List Bool → Question
+which_store exploring readable = asked_store exploring (slots readable)
 
 -- whether a thread wakes without a notification
-abbrev pub whether_spurious : Question
-whether_spurious = WhetherSpurious true
+abbrev pub whether_spurious : Bool → Question
+whether_spurious exploring = WhetherSpurious exploring

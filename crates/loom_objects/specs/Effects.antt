@@ -9,12 +9,14 @@ use Rattle.loom_views.specs.declared.rt.failure.FailureKind.{FailureKind}
 use Rattle.loom_objects.specs.declared.operation.Op.{Op}
 use Rattle.loom_objects.specs.declared.operation.Op.TheVariants as op
 use Rattle.loom_objects.specs.declared.rt.run.Entry.{Entry}
+use Rattle.loom_objects.specs.declared.rt.run.Entry.TheVariants.{Explores}
 use Rattle.loom_objects.specs.declared.rt.run.Passed.TheVariants as passed
 use Rattle.loom_objects.specs.declared.rt.run.Resumed.{Resumed}
 use Rattle.loom_objects.specs.declared.rt.run.Resumed.TheVariants as resumed
 use Rattle.loom_objects.specs.declared.rt.thread.Task.{Task}
-use Rattle.loom_objects.specs.declared.rt.thread.Task.TheVariants.{Start, Body, Continue, Access, Count, TryUnwrap, Lock, TryLock, Claim, Wait, Relock, Wake, Notify, Await, Rouse, Join, Finish}
+use Rattle.loom_objects.specs.declared.rt.thread.Task.TheVariants.{Start, Body, Continue, Access, Count, TryUnwrap, Lock, TryLock, Claim, Wait, Relock, Wake, Notify, Await, Rouse, Join, Finish, Send, Receive, Drain, WakeBy, CloneWaker, DropWaker, Register, TakeWaker}
 use Rattle.loom_objects.specs.Cells.{cell_begins, needs_memory as cell_needs_memory}
+use Rattle.loom_objects.specs.Channels.{channel_begins, drains, receives, sends, needs_memory as channel_needs_memory}
 use Rattle.loom_objects.specs.Condvars.{condvar_begins, falls_asleep, relocks, wakes, needs_memory as condvar_needs_memory}
 use Rattle.loom_objects.specs.Counts.{arc_begins, counts, tries_unwrap, needs_memory as arc_needs_memory}
 use Rattle.loom_objects.specs.Locks.{mutex_begins, lock, try_lock, needs_memory as mutex_needs_memory}
@@ -23,6 +25,8 @@ use Rattle.loom_objects.specs.RwLocks.{rwlock_begins, claims, needs_memory as rw
 use Rattle.loom_objects.specs.Schedules.{chooses}
 use Rattle.loom_objects.specs.Threads.{thread_begins, join, child_finish, needs_memory as thread_needs_memory}
 use Rattle.loom_objects.specs.Tracks.{track_begins, needs_memory as track_needs_memory}
+use Rattle.loom_objects.specs.Values.{lazy_begins, lazy_needs_memory, local_begins, local_needs_memory}
+use Rattle.loom_objects.specs.Wakers.{clones_waker, drops_waker, place_begins, place_needs_memory, registers, takes_waker, waker_begins, waker_needs_memory, wakes_by}
 use Rattle.loom_objects.specs.Turns.{replied, gone}
 use Rattle.loom_objects.specs.World.{World}
 
@@ -38,6 +42,12 @@ module _ {D : Type 0} where
   op_begins (op.RwLock todo place) w = rwlock_begins todo w
   op_begins (op.Condvar todo place) w = condvar_begins todo w
   op_begins (op.Notify todo place) w = notifier_begins todo w
+  op_begins (op.Channel todo place) w = channel_begins todo w
+  op_begins (op.Waker todo place) w = waker_begins todo w
+  op_begins (op.AtomicWaker todo place) w = place_begins todo w
+  op_begins (op.Local todo place) w = local_begins todo w
+  op_begins (op.Lazy todo place) w = lazy_begins todo w
+  op_begins (op.Explore todo place) w = Ok (Explores todo, w)
   op_begins (op.Thread todo place) w = thread_begins todo w
   op_begins (op.Fail place) w = Err Assertion
   op_begins (op.Unreachable place) w = Err Unreachable
@@ -52,6 +62,12 @@ module _ {D : Type 0} where
   needs_memory (op.RwLock todo place) = rwlock_needs_memory todo
   needs_memory (op.Condvar todo place) = condvar_needs_memory todo
   needs_memory (op.Notify todo place) = notifier_needs_memory todo
+  needs_memory (op.Channel todo place) = channel_needs_memory todo
+  needs_memory (op.Waker todo place) = waker_needs_memory todo
+  needs_memory (op.AtomicWaker todo place) = place_needs_memory todo
+  needs_memory (op.Local todo place) = local_needs_memory todo
+  needs_memory (op.Lazy todo place) = lazy_needs_memory todo
+  needs_memory (op.Explore todo place) = false
   needs_memory (op.Thread todo place) = thread_needs_memory todo
   needs_memory (op.Fence order place) = false
   needs_memory (op.Fail place) = false
@@ -83,6 +99,14 @@ module _ {D : Type 0} where
   takes_effect (TryUnwrap n) w = tries_unwrap n w >>= gone
   takes_effect (Join t n) w = join t n w >>= replied
   takes_effect (Finish n value) w = child_finish n value w >>= replied
+  takes_effect (Send n sent) w = sends n sent w >>= replied
+  takes_effect (Receive by n) w = receives by n w >>= replied
+  takes_effect (Drain n taken) w = drains n taken w >>= gone
+  takes_effect (WakeBy n c after) w = wakes_by n c after w >>= gone
+  takes_effect (CloneWaker c place) w = clones_waker c place w >>= gone
+  takes_effect (DropWaker c after) w = drops_waker c after w >>= gone
+  takes_effect (Register p c) w = registers p c w >>= gone
+  takes_effect (TakeWaker by p) w = takes_waker by p w >>= gone
 
   -- thread t is chosen, and what it has pending takes effect
   abbrev pub chosen : ℕ → World D → Result (Resumed D × World D) FailureKind

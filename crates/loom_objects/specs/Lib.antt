@@ -5,6 +5,7 @@ pub mod Rule
 pub mod Failing
 pub mod Operation
 pub mod Accessed
+pub mod Exploring
 pub mod Placed
 pub mod World
 pub mod Lent
@@ -24,6 +25,9 @@ pub mod Cells
 pub mod Counts
 pub mod Tracks
 pub mod Leaks
+pub mod Channels
+pub mod Wakers
+pub mod Values
 pub mod Ending
 pub mod Threads
 pub mod Schedules

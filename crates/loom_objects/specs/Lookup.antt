@@ -13,6 +13,9 @@ use Rattle.loom_objects.specs.declared.rt.sync.Notify.{Notify}
 use Rattle.loom_objects.specs.declared.rt.sync.Cell.{Cell}
 use Rattle.loom_objects.specs.declared.rt.sync.Arc.{Arc}
 use Rattle.loom_objects.specs.declared.rt.sync.Track.{Track}
+use Rattle.loom_objects.specs.declared.rt.sync.Channel.{Channel}
+use Rattle.loom_objects.specs.declared.rt.sync.Wakers.{Wakers}
+use Rattle.loom_objects.specs.declared.rt.sync.AtomicWaker.{AtomicWaker}
 
 -- what the reference shows now
 abbrev pub now_of : {A : Type 0} → Result (MutBor A) FailureKind → Result A FailureKind
@@ -40,6 +43,9 @@ module _ {D : Type 0} where
   atomic_in (object.Cell cell) = Err Misuse
   atomic_in (object.Arc arc) = Err Misuse
   atomic_in (object.Track track) = Err Misuse
+  atomic_in (object.Channel channel) = Err Misuse
+  atomic_in (object.Wakers wakers) = Err Misuse
+  atomic_in (object.AtomicWaker place) = Err Misuse
 
   abbrev pub atomic_at : ℕ → List (Object D) → Result Atomic FailureKind
   atomic_at n objects = looked_up atomic_in (slice_get objects n)
@@ -54,6 +60,9 @@ module _ {D : Type 0} where
   mutex_in (object.Cell cell) = Err Misuse
   mutex_in (object.Arc arc) = Err Misuse
   mutex_in (object.Track track) = Err Misuse
+  mutex_in (object.Channel channel) = Err Misuse
+  mutex_in (object.Wakers wakers) = Err Misuse
+  mutex_in (object.AtomicWaker place) = Err Misuse
 
   abbrev pub mutex_at : ℕ → List (Object D) → Result (Mutex D) FailureKind
   mutex_at n objects = looked_up mutex_in (slice_get objects n)
@@ -68,6 +77,9 @@ module _ {D : Type 0} where
   rwlock_in (object.Cell cell) = Err Misuse
   rwlock_in (object.Arc arc) = Err Misuse
   rwlock_in (object.Track track) = Err Misuse
+  rwlock_in (object.Channel channel) = Err Misuse
+  rwlock_in (object.Wakers wakers) = Err Misuse
+  rwlock_in (object.AtomicWaker place) = Err Misuse
 
   abbrev pub rwlock_at : ℕ → List (Object D) → Result (RwLock D) FailureKind
   rwlock_at n objects = looked_up rwlock_in (slice_get objects n)
@@ -82,6 +94,9 @@ module _ {D : Type 0} where
   condvar_in (object.Cell cell) = Err Misuse
   condvar_in (object.Arc arc) = Err Misuse
   condvar_in (object.Track track) = Err Misuse
+  condvar_in (object.Channel channel) = Err Misuse
+  condvar_in (object.Wakers wakers) = Err Misuse
+  condvar_in (object.AtomicWaker place) = Err Misuse
 
   abbrev pub condvar_at : ℕ → List (Object D) → Result Condvar FailureKind
   condvar_at n objects = looked_up condvar_in (slice_get objects n)
@@ -96,6 +111,9 @@ module _ {D : Type 0} where
   notifier_in (object.Cell cell) = Err Misuse
   notifier_in (object.Arc arc) = Err Misuse
   notifier_in (object.Track track) = Err Misuse
+  notifier_in (object.Channel channel) = Err Misuse
+  notifier_in (object.Wakers wakers) = Err Misuse
+  notifier_in (object.AtomicWaker place) = Err Misuse
 
   abbrev pub notifier_at : ℕ → List (Object D) → Result Notify FailureKind
   notifier_at n objects = looked_up notifier_in (slice_get objects n)
@@ -110,6 +128,9 @@ module _ {D : Type 0} where
   cell_in (object.Cell cell) = cond cell.content.is_taken (Err Misuse) (Ok cell)
   cell_in (object.Arc arc) = Err Misuse
   cell_in (object.Track track) = Err Misuse
+  cell_in (object.Channel channel) = Err Misuse
+  cell_in (object.Wakers wakers) = Err Misuse
+  cell_in (object.AtomicWaker place) = Err Misuse
 
   abbrev pub cell_at : ℕ → List (Object D) → Result (Cell D) FailureKind
   cell_at n objects = looked_up cell_in (slice_get objects n)
@@ -124,6 +145,9 @@ module _ {D : Type 0} where
   arc_in (object.Cell cell) = Err Misuse
   arc_in (object.Arc arc) = Ok arc
   arc_in (object.Track track) = Err Misuse
+  arc_in (object.Channel channel) = Err Misuse
+  arc_in (object.Wakers wakers) = Err Misuse
+  arc_in (object.AtomicWaker place) = Err Misuse
 
   abbrev pub arc_at : ℕ → List (Object D) → Result (Arc D) FailureKind
   arc_at n objects = looked_up arc_in (slice_get objects n)
@@ -138,6 +162,60 @@ module _ {D : Type 0} where
   track_in (object.Cell cell) = Err Misuse
   track_in (object.Arc arc) = Err Misuse
   track_in (object.Track track) = Ok track
+  track_in (object.Channel channel) = Err Misuse
+  track_in (object.Wakers wakers) = Err Misuse
+  track_in (object.AtomicWaker place) = Err Misuse
 
   abbrev pub track_at : ℕ → List (Object D) → Result (Track D) FailureKind
   track_at n objects = looked_up track_in (slice_get objects n)
+
+  -- the channel that the object is; any other object is a misuse
+  abbrev pub channel_in : Object D → Result (Channel D) FailureKind
+  channel_in (object.Atomic atomic) = Err Misuse
+  channel_in (object.Mutex mutex) = Err Misuse
+  channel_in (object.RwLock lock) = Err Misuse
+  channel_in (object.Condvar condvar) = Err Misuse
+  channel_in (object.Notify notifier) = Err Misuse
+  channel_in (object.Cell cell) = Err Misuse
+  channel_in (object.Arc arc) = Err Misuse
+  channel_in (object.Track track) = Err Misuse
+  channel_in (object.Channel channel) = Ok channel
+  channel_in (object.Wakers wakers) = Err Misuse
+  channel_in (object.AtomicWaker place) = Err Misuse
+
+  abbrev pub channel_at : ℕ → List (Object D) → Result (Channel D) FailureKind
+  channel_at n objects = looked_up channel_in (slice_get objects n)
+
+  -- the count of wakers that the object is; any other object is a misuse
+  abbrev pub wakers_in : Object D → Result Wakers FailureKind
+  wakers_in (object.Atomic atomic) = Err Misuse
+  wakers_in (object.Mutex mutex) = Err Misuse
+  wakers_in (object.RwLock lock) = Err Misuse
+  wakers_in (object.Condvar condvar) = Err Misuse
+  wakers_in (object.Notify notifier) = Err Misuse
+  wakers_in (object.Cell cell) = Err Misuse
+  wakers_in (object.Arc arc) = Err Misuse
+  wakers_in (object.Track track) = Err Misuse
+  wakers_in (object.Channel channel) = Err Misuse
+  wakers_in (object.Wakers wakers) = Ok wakers
+  wakers_in (object.AtomicWaker place) = Err Misuse
+
+  abbrev pub wakers_at : ℕ → List (Object D) → Result Wakers FailureKind
+  wakers_at n objects = looked_up wakers_in (slice_get objects n)
+
+  -- the place for a waker that the object is; any other object is a misuse
+  abbrev pub place_in : Object D → Result AtomicWaker FailureKind
+  place_in (object.Atomic atomic) = Err Misuse
+  place_in (object.Mutex mutex) = Err Misuse
+  place_in (object.RwLock lock) = Err Misuse
+  place_in (object.Condvar condvar) = Err Misuse
+  place_in (object.Notify notifier) = Err Misuse
+  place_in (object.Cell cell) = Err Misuse
+  place_in (object.Arc arc) = Err Misuse
+  place_in (object.Track track) = Err Misuse
+  place_in (object.Channel channel) = Err Misuse
+  place_in (object.Wakers wakers) = Err Misuse
+  place_in (object.AtomicWaker place) = Ok place
+
+  abbrev pub place_at : ℕ → List (Object D) → Result AtomicWaker FailureKind
+  place_at n objects = looked_up place_in (slice_get objects n)

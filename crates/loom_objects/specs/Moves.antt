@@ -1,10 +1,10 @@
 -- Threads and objects by number, and how threads wait for objects.
 use Rattle.std.specs.Prelude.{ℕ, ◌+◌, ◌==◌, Bool, true, false, [], ◌∷◌, List, ◌++◌, map, cond, nat_lt, slice_get, slice_set, Option, Some, None, Result, Ok, ⊤}
 use Rattle.std.specs.Option.{option_map}
-use Rattle.std.specs.declared.sync.atomic.Ordering.TheVariants.{Release}
+use Rattle.std.specs.declared.sync.atomic.Ordering.TheVariants.{Release, AcqRel}
 use Rattle.loom_views.specs.declared.rt.failure.FailureKind.{FailureKind}
 use Rattle.loom_views.specs.declared.rt.failure.FailureKind.TheVariants.{Misuse, TooManySteps}
-use Rattle.loom_views.specs.Table.{Points, points_after_raise, points_after_acquire, points_after_release, points_after_join, points_after_yield, points_with_point}
+use Rattle.loom_views.specs.Table.{Points, points_after_raise, points_after_acquire, points_after_release, points_after_join, points_after_yield, points_with_point, points_with_stamp, points_after_stamp, points_after_stamp_release, points_after_stamp_acquire}
 use Rattle.loom_views.specs.Limits.{highest_count}
 use Rattle.loom_objects.specs.declared.rt.object.Object.{Object}
 use Rattle.loom_objects.specs.declared.rt.sync.Arc.{Arc}
@@ -15,6 +15,9 @@ use Rattle.loom_objects.specs.declared.rt.sync.Mutex.{Mutex}
 use Rattle.loom_objects.specs.declared.rt.sync.Notify.{Notify}
 use Rattle.loom_objects.specs.declared.rt.sync.RwLock.{RwLock}
 use Rattle.loom_objects.specs.declared.rt.sync.Track.{Track}
+use Rattle.loom_objects.specs.declared.rt.sync.Channel.{Channel}
+use Rattle.loom_objects.specs.declared.rt.sync.Wakers.{Wakers}
+use Rattle.loom_objects.specs.declared.rt.sync.AtomicWaker.{AtomicWaker}
 use Rattle.loom_objects.specs.declared.rt.thread.Thread.{Thread}
 use Rattle.loom_objects.specs.declared.rt.thread.State.{State}
 use Rattle.loom_objects.specs.declared.rt.thread.State.TheVariants.{Runnable, Blocked, Parked, Sleeping, Yielding, Ended}
@@ -22,7 +25,7 @@ use Rattle.loom_objects.specs.declared.rt.thread.Phase.{Phase}
 use Rattle.loom_objects.specs.declared.rt.thread.Claim.TheVariants.{Read, TryRead, Write, TryWrite}
 use Rattle.loom_objects.specs.declared.rt.thread.Task.{Task}
 use Rattle.loom_objects.specs.declared.rt.thread.Task.TheVariants as task
-use Rattle.loom_objects.specs.Lookup.{atomic_at, mutex_at, rwlock_at, condvar_at, notifier_at, cell_at, arc_at, track_at}
+use Rattle.loom_objects.specs.Lookup.{atomic_at, mutex_at, rwlock_at, condvar_at, notifier_at, cell_at, arc_at, track_at, channel_at, wakers_at, place_at}
 use Rattle.loom_objects.specs.Uses.{use_of}
 use Rattle.loom_objects.specs.Rule.{◌>>=◌, check, found}
 use Rattle.loom_objects.specs.World.{World}
@@ -131,6 +134,45 @@ module _ {D : Type 0} where
   written (task.TryUnwrap n) = None
   written (task.Join t n) = None
   written (task.Finish n value) = None
+  written (task.Send n sent) = None
+  written (task.Receive receiving n) = None
+  written (task.Drain n taken) = None
+  written (task.WakeBy n c after) = None
+  written (task.CloneWaker c place) = None
+  written (task.DropWaker c after) = None
+  written (task.Register p c) = None
+  written (task.TakeWaker taking p) = None
+
+  -- the channel that it is about to receive from
+  abbrev pub received_from : Task D → Option ℕ
+  received_from (task.Receive receiving n) = Some n
+  received_from (task.Drain n taken) = Some n
+  received_from task.Start = None
+  received_from task.Body = None
+  received_from (task.Access access) = None
+  received_from task.Continue = None
+  received_from (task.Lock locking n) = None
+  received_from (task.TryLock n) = None
+  received_from (task.Claim claim n) = None
+  received_from (task.Wait locking n m value) = None
+  received_from (task.Relock locking m) = None
+  received_from (task.Wake waking n) = None
+  received_from (task.Notify n) = None
+  received_from (task.Await n) = None
+  received_from (task.Rouse n) = None
+  received_from (task.Count counting n) = None
+  received_from (task.TryUnwrap n) = None
+  received_from (task.Join t n) = None
+  received_from (task.Finish n value) = None
+  received_from (task.Send n sent) = None
+  received_from (task.WakeBy n c after) = None
+  received_from (task.CloneWaker c place) = None
+  received_from (task.DropWaker c after) = None
+  received_from (task.Register p c) = None
+  received_from (task.TakeWaker taking p) = None
+
+  abbrev pub receiving_with : ℕ → State → Thread D → Thread D
+  receiving_with n state thread = cond (is_number (received_from thread.task) n) (record thread { state = state }) thread
 
   abbrev pub writing_with : ℕ → State → Thread D → Thread D
   writing_with n state thread = cond (is_number (written thread.task) n) (record thread { state = state }) thread
@@ -151,6 +193,21 @@ module _ {D : Type 0} where
   -- it acquires what object n has
   abbrev pub acquires : ℕ → World D → World D
   acquires n w = with_points (points_after_acquire w.points w.active n) w
+
+  -- a stamp more, which nobody has released to
+  abbrev pub with_stamp : World D → World D
+  with_stamp w = with_points (points_with_stamp w.points) w
+
+  -- the stamp of number m is the point of object n, as that is now
+  abbrev pub stamps : ℕ → ℕ → World D → World D
+  stamps n m w = with_points (points_after_stamp w.points n m) w
+
+  -- the active thread releases to the stamp of number m, or acquires from it
+  abbrev pub releases_to_stamp : ℕ → World D → World D
+  releases_to_stamp m w = with_points (points_after_stamp_release w.points w.active m AcqRel) w
+
+  abbrev pub acquires_from_stamp : ℕ → World D → World D
+  acquires_from_stamp m w = with_points (points_after_stamp_acquire w.points w.active m) w
 
   -- it releases to object n
   abbrev pub releases : ℕ → World D → World D
@@ -197,6 +254,15 @@ module _ {D : Type 0} where
   abbrev pub a_track : ℕ → World D → Result (Track D) FailureKind
   a_track n w = track_at n w.objects
 
+  abbrev pub a_channel : ℕ → World D → Result (Channel D) FailureKind
+  a_channel n w = channel_at n w.objects
+
+  abbrev pub a_wakers : ℕ → World D → Result Wakers FailureKind
+  a_wakers n w = wakers_at n w.objects
+
+  abbrev pub a_place : ℕ → World D → Result AtomicWaker FailureKind
+  a_place n w = place_at n w.objects
+
   -- the object of this number is now so
   abbrev pub with_object : ℕ → Object D → World D → World D
   with_object n object w = record w { objects = slice_set w.objects n object }
@@ -215,6 +281,10 @@ module _ {D : Type 0} where
   -- who is pending to write lock n can't go on
   abbrev pub blocks_writers : ℕ → World D → World D
   blocks_writers n w = record w { threads = map (writing_with n Blocked) w.threads }
+
+  -- who is pending to receive from channel n can't go on
+  abbrev pub blocks_receivers : ℕ → World D → World D
+  blocks_receivers n w = record w { threads = map (receiving_with n Blocked) w.threads }
 
   -- the active thread has this pending, and can't go on while it is blocked
   abbrev pub pends : Task D → Bool → World D → World D

@@ -1,7 +1,7 @@
 -- An operation apart from what it starts.
 use Rattle.std.specs.Prelude.{Option, Some, None, ⊤}
 use Rattle.loom_objects.specs.declared.operation.Op.{Op}
-use Rattle.loom_objects.specs.declared.operation.Op.TheVariants.{Atomic, Fence, Cell, Arc, Track, Mutex, RwLock, Condvar, Notify, Thread, Fail, Unreachable}
+use Rattle.loom_objects.specs.declared.operation.Op.TheVariants.{Atomic, Fence, Cell, Arc, Track, Mutex, RwLock, Condvar, Notify, Channel, Waker, AtomicWaker, Local, Lazy, Explore, Thread, Fail, Unreachable}
 use Rattle.loom_objects.specs.declared.operation.ThreadOp.{ThreadOp}
 use Rattle.loom_objects.specs.declared.operation.ThreadOp.TheVariants.{Spawn, Join, Current, Park, Unpark, Yield, Finish, Exit, End}
 
@@ -28,6 +28,12 @@ module _ {D S : Type 0} where
   plain (RwLock op place) = RwLock op place
   plain (Condvar op place) = Condvar op place
   plain (Notify op place) = Notify op place
+  plain (Channel op place) = Channel op place
+  plain (Waker op place) = Waker op place
+  plain (AtomicWaker op place) = AtomicWaker op place
+  plain (Local op place) = Local op place
+  plain (Lazy op place) = Lazy op place
+  plain (Explore op place) = Explore op place
   plain (Thread op place) = Thread (plain_thread op) place
   plain (Fail place) = Fail place
   plain (Unreachable place) = Unreachable place
@@ -54,6 +60,12 @@ module _ {D S : Type 0} where
   started (RwLock op place) = None
   started (Condvar op place) = None
   started (Notify op place) = None
+  started (Channel op place) = None
+  started (Waker op place) = None
+  started (AtomicWaker op place) = None
+  started (Local op place) = None
+  started (Lazy op place) = None
+  started (Explore op place) = None
   started (Thread op place) = started_thread op
   started (Fail place) = None
   started (Unreachable place) = None

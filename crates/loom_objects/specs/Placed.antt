@@ -2,7 +2,7 @@
 use Rattle.std.specs.Prelude.{Some}
 use Rattle.loom_objects.specs.declared.rt.location.Location.{Location}
 use Rattle.loom_objects.specs.declared.operation.Op.{Op}
-use Rattle.loom_objects.specs.declared.operation.Op.TheVariants.{Atomic, Fence, Cell, Arc, Track, Mutex, RwLock, Condvar, Notify, Thread, Fail, Unreachable}
+use Rattle.loom_objects.specs.declared.operation.Op.TheVariants.{Atomic, Fence, Cell, Arc, Track, Mutex, RwLock, Condvar, Notify, Channel, Waker, AtomicWaker, Local, Lazy, Explore, Thread, Fail, Unreachable}
 
 module _ {D S : Type 0} where
   -- the operation at this place
@@ -16,6 +16,12 @@ module _ {D S : Type 0} where
   placed location (RwLock op place) = RwLock op (Some location)
   placed location (Condvar op place) = Condvar op (Some location)
   placed location (Notify op place) = Notify op (Some location)
+  placed location (Channel op place) = Channel op (Some location)
+  placed location (Waker op place) = Waker op (Some location)
+  placed location (AtomicWaker op place) = AtomicWaker op (Some location)
+  placed location (Local op place) = Local op (Some location)
+  placed location (Lazy op place) = Lazy op (Some location)
+  placed location (Explore op place) = Explore op (Some location)
   placed location (Thread op place) = Thread op (Some location)
   placed location (Fail place) = Fail (Some location)
   placed location (Unreachable place) = Unreachable (Some location)

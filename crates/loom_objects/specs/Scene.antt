@@ -5,6 +5,7 @@ use Rattle.loom_views.specs.Table.{Points, ShowsViews, IsSlotKept}
 use Rattle.loom_views.specs.declared.rt.failure.FailureKind.{FailureKind}
 use Rattle.loom_views.specs.declared.rt.table.Views.{Views}
 use Rattle.loom_objects.specs.declared.operation.AtomicOp.{AtomicOp}
+use Rattle.loom_objects.specs.declared.operation.Lazy.{Lazy}
 use Rattle.loom_objects.specs.declared.rt.object.Object.{Object}
 use Rattle.loom_objects.specs.declared.rt.run.Resumed.{Resumed}
 use Rattle.loom_objects.specs.declared.rt.run.Resumed.TheVariants.{Passed, Load}
@@ -18,13 +19,14 @@ pub record Stage (D : Type 0) : Type 0 where
   pub threads : List (Thread D)
   pub objects : List (Object D)
   pub views : Views
+  pub lazies : List (Lazy D)
   pub active : ℕ
   pub max_threads : ℕ
 
 module _ {D : Type 0} where
   -- the machine's state with these points, while so many operations are left, and with all else as the scene has it
   abbrev pub world_of : Points → ℕ → Stage D → World D
-  world_of points left s = record { threads = s.threads; objects = s.objects; points = points; active = s.active; steps_left = left; max_threads = s.max_threads }
+  world_of points left s = record { threads = s.threads; objects = s.objects; points = points; lazies = s.lazies; active = s.active; steps_left = left; max_threads = s.max_threads }
 
   -- the points of the state that a rule comes to; where it fails, they don't matter
   abbrev pub points_of : {A : Type 0} → Points → Result (A × World D) FailureKind → Points

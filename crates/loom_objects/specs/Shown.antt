@@ -1,5 +1,5 @@
 -- Which state of the machine a run shows, and when the code does what a step of the machine says.
-use Rattle.std.specs.Prelude.{ℕ, ◌≡◌, true, slice_get, Some, Result, Ok, Err}
+use Rattle.std.specs.Prelude.{ℕ, ◌≡◌, Bool, true, slice_get, Some, Result, Ok, Err}
 use Rattle.loom_views.specs.Table.{ShowsViews}
 use Rattle.loom_objects.specs.declared.failure.Stop.{Stop}
 use Rattle.loom_objects.specs.declared.failure.Stop.TheVariants.{Failure, Memory}
@@ -38,8 +38,8 @@ module _ {D : Type 0} where
 
   -- The same of a thread that was chosen: it came to a turn or to another branch point, or to the question which store an
   -- access reads.
-  abbrev pub Resumes : Tree (Passed D × World D) → Result (Resumed D) Stop → RunState D → Type 0
-  Resumes tree (Ok (resumed.Passed passed)) new = Comes tree (Ok passed) new
-  Resumes tree (Ok (resumed.Load load)) new =
-      (w : World D) × Shows w new × AreKept load w × (tree ≡ Asks (asked_store true (slots load.readable)) (λ choice. read_by load w choice >>= turned))
-  Resumes tree (Err stop) new = Comes {A = Passed D} tree (Err stop) new
+  abbrev pub Resumes : Bool → Tree (Passed D × World D) → Result (Resumed D) Stop → RunState D → Type 0
+  Resumes exploring tree (Ok (resumed.Passed passed)) new = Comes tree (Ok passed) new
+  Resumes exploring tree (Ok (resumed.Load load)) new =
+      (w : World D) × Shows w new × AreKept load w × (tree ≡ Asks (asked_store exploring (slots load.readable)) (λ choice. read_by load w choice >>= turned))
+  Resumes exploring tree (Err stop) new = Comes {A = Passed D} tree (Err stop) new

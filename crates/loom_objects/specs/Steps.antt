@@ -1,5 +1,5 @@
 -- The steps of the machine, as trees: where an access reads, which store it reads is asked.
-use Rattle.std.specs.Prelude.{ℕ, Bool, true, List, [], ◌∷◌, ⊤}
+use Rattle.std.specs.Prelude.{ℕ, Bool, List, [], ◌∷◌, ⊤}
 use Rattle.loom_views.specs.declared.rt.failure.FailureKind.TheVariants.{Misuse, NotDeterministic}
 use Rattle.loom_objects.specs.declared.choice.Choice.{Choice}
 use Rattle.loom_objects.specs.declared.choice.Choice.TheVariants as choice
@@ -27,13 +27,13 @@ slot_of (choice.Load slot) = Gives slot
 slot_of (choice.Thread t) = Fails NotDeterministic
 slot_of (choice.Spurious answer) = Fails NotDeterministic
 
-abbrev pub asks_slot : List ℕ → Tree ℕ
-asks_slot [] = Fails Misuse
-asks_slot (lowest ∷ others) = Asks (WhichStore true lowest others) slot_of
+abbrev pub asks_slot : Bool → List ℕ → Tree ℕ
+asks_slot exploring [] = Fails Misuse
+asks_slot exploring (lowest ∷ others) = Asks (WhichStore exploring lowest others) slot_of
 
 -- the run asks which of the stores is read that may be; a run's atomics always have one
-abbrev pub asks_store : List Bool → Tree ℕ
-asks_store readable = asks_slot (slots readable)
+abbrev pub asks_store : Bool → List Bool → Tree ℕ
+asks_store exploring readable = asks_slot exploring (slots readable)
 
 module _ {D : Type 0} where
   -- what an operation does up to its branch point, or all of it, where it has none
@@ -61,16 +61,17 @@ module _ {D : Type 0} where
   read_by load w choice = slot_of choice >>= read_slot load w
 
   -- an access that reads asks which store; all else has passed
-  abbrev pub asked : Resumed D × World D → Tree (Passed D × World D)
-  asked (resumed.Passed passed, w) = Gives (passed, w)
-  asked (resumed.Load load, w) = do
-    slot ← asks_store load.readable
+  abbrev pub asked : Bool → Resumed D × World D → Tree (Passed D × World D)
+  asked exploring (resumed.Passed passed, w) = Gives (passed, w)
+  asked exploring (resumed.Load load, w) = do
+    slot ← asks_store exploring load.readable
     turn ← read_slot load w slot
     turned turn
 
-  -- thread t is chosen, and what it has pending takes effect: a thread has its turn, or this one comes to another branch point
-  abbrev pub resumes : ℕ → World D → Tree (Passed D × World D)
-  resumes t w = came (chosen t w) >>= asked
+  -- thread t is chosen, and what it has pending takes effect: a thread has its turn, or this one comes to another branch point;
+  -- where a store is to be chosen the search explores or doesn't
+  abbrev pub resumes : Bool → ℕ → World D → Tree (Passed D × World D)
+  resumes exploring t w = came (chosen t w) >>= asked exploring
 
   -- the run ends, with main's result
   abbrev pub ends : World D → Tree (Turn D × World D)

@@ -16,17 +16,12 @@ use Rattle.loom_objects.specs.declared.rt.thread.State.TheVariants as state
 use Rattle.loom_objects.specs.declared.rt.thread.Phase.{Phase}
 use Rattle.loom_objects.specs.declared.rt.thread.Phase.TheVariants.{Working, Finished, Exited, Over}
 use Rattle.loom_objects.specs.Rule.{◌>>=◌, check}
+use Rattle.loom_objects.specs.Values.{is_working}
 use Rattle.loom_objects.specs.World.{World, child_thread}
 use Rattle.loom_objects.specs.declared.rt.thread.Name.{Name}
 use Rattle.loom_objects.specs.Moves.{a_notifier, active_thread, at_phase, changes_active, having, in_state, rests, takes_result, unparks, with_token, with_points, acquires, is_number, tells, with_new, pends, yields}
 use Rattle.loom_objects.specs.Notifiers.{notify, with_notifier}
 use Rattle.loom_objects.specs.declared.rt.sync.Spurious.TheVariants.{Never}
-
-abbrev pub is_working : Phase → Bool
-is_working Working = true
-is_working Finished = false
-is_working Exited = false
-is_working Over = false
 
 abbrev pub is_finished : Phase → Bool
 is_finished Finished = true
@@ -76,9 +71,10 @@ module _ {D : Type 0} where
     (value, taken) ← takes_result t w
     Ok (reply.Data value, acquires n (with_notifier n (record notifier { notified = false }) taken))
 
-  -- main has its result at once; another thread comes to a branch point, at which it is to notify
+  -- main has its result at once, and gives the values back that were made once; another thread comes to a branch point, at which
+  -- it is to notify
   abbrev pub finish_as : Option ℕ → D → World D → Result (Entry D × World D) FailureKind
-  finish_as None value w = Ok (Answered reply.Done, changes_active (having value) w)
+  finish_as None value w = Ok (Answered (reply.Lazies w.lazies), record (changes_active (having value) w) { lazies = [] })
   finish_as (Some n) value w = Ok (AtBranch, pends (task.Finish n value) false w)
 
   abbrev pub finish : D → World D → Result (Entry D × World D) FailureKind
@@ -93,11 +89,15 @@ module _ {D : Type 0} where
     after ← notify n w
     Ok (reply.Done, changes_active (having value) after.1)
 
+  abbrev pub without_locals : Thread D → Thread D
+  without_locals thread = record thread { locals = [] }
+
+  -- the thread gives its own values back
   abbrev pub exit : World D → Result (Entry D × World D) FailureKind
   exit w = do
     thread ← active_thread w
     _ ← check (is_finished thread.phase) Misuse
-    Ok (Answered reply.Done, changes_active (at_phase Exited) w)
+    Ok (Answered (reply.Locals thread.locals), changes_active without_locals (changes_active (at_phase Exited) w))
 
   -- the thread has ended before the branch point that it comes to
   abbrev pub end : World D → Result (Entry D × World D) FailureKind

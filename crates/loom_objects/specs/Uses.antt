@@ -2,7 +2,7 @@
 use Rattle.std.specs.Prelude.{ℕ, List, [], ◌∷◌, map, Option, Some, None, slice_get}
 use Rattle.std.specs.Option.{option_map}
 use Rattle.loom_dependence.specs.declared.rt.dependence.Action.{Action}
-use Rattle.loom_dependence.specs.declared.rt.dependence.Action.TheVariants.{Read, Change, Increment, Decrement, Inspect, Other}
+use Rattle.loom_dependence.specs.declared.rt.dependence.Action.TheVariants.{Read, Change, Increment, Decrement, Inspect, Send, Receive, Other}
 use Rattle.loom_dependence.specs.declared.rt.dependence.Use.{Use}
 use Rattle.loom_objects.specs.declared.operation.AtomicOp.{AtomicOp}
 use Rattle.loom_objects.specs.declared.operation.AtomicOp.TheVariants as atomic
@@ -58,6 +58,14 @@ module _ {D : Type 0} where
   use_of (task.TryUnwrap n) = Some (used Decrement n)
   use_of (task.Join t n) = Some (used Other n)
   use_of (task.Finish n value) = Some (used Other n)
+  use_of (task.Send n sent) = Some (used Send n)
+  use_of (task.Receive receiving n) = Some (used Receive n)
+  use_of (task.Drain n taken) = Some (used Receive n)
+  use_of (task.WakeBy n c after) = Some (used Other n)
+  use_of (task.CloneWaker c place) = Some (used Increment c)
+  use_of (task.DropWaker c after) = Some (used Decrement c)
+  use_of (task.Register p c) = Some (used Other p)
+  use_of (task.TakeWaker taking p) = Some (used Other p)
 
   abbrev pub use_by : Option (Thread D) → Option Use
   use_by None = None

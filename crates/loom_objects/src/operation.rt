@@ -7,6 +7,8 @@ use crate::rt::location::Location;
 use crate::rt::thread::Name;
 use loom_views::rt::change::Change;
 use loom_views::rt::num::Numbers;
+use loom_views::sequence::Sequence;
+use std::collections::LinkedList;
 use std::sync::atomic::Ordering;
 
 /// One operation, and the place in the source that it is at, if it names one. `D` is the data type, `S` what a
@@ -23,6 +25,12 @@ pub enum Op<D, S> {
     RwLock(RwLockOp<D>, Option<Location>),
     Condvar(CondvarOp<D>, Option<Location>),
     Notify(NotifyOp, Option<Location>),
+    Channel(ChannelOp<D>, Option<Location>),
+    Waker(WakerOp, Option<Location>),
+    AtomicWaker(AtomicWakerOp, Option<Location>),
+    Local(LocalOp<D>, Option<Location>),
+    Lazy(LazyOp<D>, Option<Location>),
+    Explore(ExploreOp, Option<Location>),
     Thread(ThreadOp<D, S>, Option<Location>),
     /// The body's own assertion failed.
     Fail(Option<Location>),
@@ -187,6 +195,122 @@ pub enum NotifyOp {
     Wait(usize),
 }
 
+/// The operations of a channel.
+#[derive(Drop)]
+pub enum ChannelOp<D> {
+    /// A channel, with one sender and its receiver.
+    New,
+    /// A sender sends the message.
+    Send(usize, D),
+    /// The receiver waits for a message.
+    Recv(usize),
+    /// The same, without waiting.
+    TryRecv(usize),
+    /// One sender more.
+    CloneSender(usize),
+    /// One sender fewer.
+    DropSender(usize),
+    /// The receiver takes the messages that are left, and is no more.
+    DropReceiver(usize),
+}
+
+/// The operations of a future's notifier and of its wakers, which are named by the number of their count.
+#[derive(Clone, Copy, Debug)]
+pub enum WakerOp {
+    /// A notifier for a future, with one waker.
+    New,
+    /// Waits for the notifier.
+    Wait(usize),
+    /// The future's own waker is dropped.
+    Finish(usize),
+    /// One waker more.
+    Clone(usize),
+    /// Notifies, and drops the waker.
+    Wake(usize),
+    /// Notifies.
+    WakeByRef(usize),
+    /// One waker fewer.
+    Drop(usize),
+}
+
+/// The operations of a place for a waker.
+#[derive(Clone, Copy, Debug)]
+pub enum AtomicWakerOp {
+    New,
+    /// The waker takes the place, where nobody else is about to; else it wakes.
+    Register(usize, usize),
+    /// The same of a clone of the waker.
+    RegisterByRef(usize, usize),
+    /// Takes the waker out, and wakes by it.
+    Wake(usize),
+    /// Takes the waker out.
+    TakeWaker(usize),
+    /// Answers the waker that is left.
+    Drop(usize),
+}
+
+/// The operations of a thread's own values, which are named by keys.
+#[derive(Drop)]
+pub enum LocalOp<D> {
+    /// A copy of the value, if there is one.
+    With(usize),
+    /// The same, where it may have been given back.
+    TryWith(usize),
+    /// The first value of the key.
+    Init(usize, D),
+    /// Another value takes the place of the one that is there.
+    Put(usize, D),
+}
+
+/// The operations of values that are made once a run, which are named by keys.
+#[derive(Drop)]
+pub enum LazyOp<D> {
+    /// A copy of the value, if there is one.
+    Get(usize),
+    /// The value, unless there is one.
+    Init(usize, D),
+}
+
+/// Whether the search goes on to other options at the nodes that come.
+#[derive(Clone, Copy, Debug, PartialEq, Eq)]
+pub enum ExploreOp {
+    /// It does from now on.
+    Explore,
+    /// It doesn't from now on.
+    StopExploring,
+    /// It doesn't up to the run's end.
+    SkipBranch,
+}
+
+/// A value with its key.
+#[derive(Drop)]
+pub struct Keyed<D> {
+    /// The number that the body names it by.
+    pub key: usize,
+    /// The value.
+    pub value: D,
+}
+
+/// A value that was made once in a run.
+#[derive(Drop)]
+pub struct Lazy<D> {
+    /// The number that the body names it by.
+    pub key: usize,
+    /// The value.
+    pub value: D,
+    /// The number of the point that its maker has released to.
+    pub stamp: usize,
+}
+
+/// A message of a channel.
+#[derive(Drop)]
+pub struct Message<D> {
+    /// What was sent, in a list of its own, so that it can go behind others without memory.
+    pub value: LinkedList<D>,
+    /// The number of the point that its sender has released to.
+    pub stamp: usize,
+}
+
 /// The operations of threads.
 #[derive(Drop)]
 pub enum ThreadOp<D, S> {
@@ -204,7 +328,7 @@ pub enum ThreadOp<D, S> {
     Yield,
     /// The thread's result.
     Finish(D),
-    /// The thread gives its locals back.
+    /// The thread gives its own values back.
     Exit,
     /// The thread's last operation.
     End,
@@ -254,6 +378,36 @@ pub enum Reply<D> {
     Condvar(usize),
     /// A new notifier.
     Notify(usize),
+    /// A new channel.
+    Channel(usize),
+    /// The channel has no message now.
+    Empty,
+    /// The channel has no message, and no sender is left.
+    RecvError,
+    /// The same, where the thread didn't wait.
+    Disconnected,
+    /// The channel has no receiver any more: the message is given back.
+    SendError(D),
+    /// The messages that a receiver has left, the one that was sent first first.
+    Messages(LinkedList<D>),
+    /// A new notifier for a future, by the number of its wakers' count.
+    BlockOn(usize),
+    /// A waker that was taken out of its place.
+    Waker(usize),
+    /// There is no waker in the place.
+    NoWaker,
+    /// A new place for a waker.
+    AtomicWaker(usize),
+    /// The key has no value yet.
+    Absent,
+    /// The key's value was given back.
+    AccessError,
+    /// A copy of the value that was made before, and the one that wasn't needed.
+    Stood(D, D),
+    /// The thread's own values, in the order made.
+    Locals(Sequence<Keyed<D>>),
+    /// The values that were made once in the run, in the order made.
+    Lazies(Sequence<Lazy<D>>),
     /// The thread itself, and its name.
     Thread(u8, Option<Name>),
     /// A new thread, its name, and the notifier that it notifies when it finishes.
@@ -286,6 +440,12 @@ impl<D, S> Op<D, S> {
             Op::RwLock(op, _) => Op::RwLock(op, Some(location)),
             Op::Condvar(op, _) => Op::Condvar(op, Some(location)),
             Op::Notify(op, _) => Op::Notify(op, Some(location)),
+            Op::Channel(op, _) => Op::Channel(op, Some(location)),
+            Op::Waker(op, _) => Op::Waker(op, Some(location)),
+            Op::AtomicWaker(op, _) => Op::AtomicWaker(op, Some(location)),
+            Op::Local(op, _) => Op::Local(op, Some(location)),
+            Op::Lazy(op, _) => Op::Lazy(op, Some(location)),
+            Op::Explore(op, _) => Op::Explore(op, Some(location)),
             Op::Thread(op, _) => Op::Thread(op, Some(location)),
             Op::Fail(_) => Op::Fail(Some(location)),
             Op::Unreachable(_) => Op::Unreachable(Some(location)),
@@ -307,6 +467,12 @@ impl<D, S> Op<D, S> {
             Op::RwLock(op, place) => (Op::RwLock(op, place), None),
             Op::Condvar(op, place) => (Op::Condvar(op, place), None),
             Op::Notify(op, place) => (Op::Notify(op, place), None),
+            Op::Channel(op, place) => (Op::Channel(op, place), None),
+            Op::Waker(op, place) => (Op::Waker(op, place), None),
+            Op::AtomicWaker(op, place) => (Op::AtomicWaker(op, place), None),
+            Op::Local(op, place) => (Op::Local(op, place), None),
+            Op::Lazy(op, place) => (Op::Lazy(op, place), None),
+            Op::Explore(op, place) => (Op::Explore(op, place), None),
             Op::Fail(place) => (Op::Fail(place), None),
             Op::Unreachable(place) => (Op::Unreachable(place), None),
             Op::Thread(op, place) => {

@@ -1,5 +1,6 @@
 //! The state of a run.
 pub mod ending;
+pub mod exploring;
 pub mod location;
 mod lookup;
 mod moves;
@@ -11,3 +12,4 @@ pub mod scene;
 pub mod sync;
 pub mod thread;
 pub mod uses;
+pub mod values;

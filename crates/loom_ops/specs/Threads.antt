@@ -3,9 +3,10 @@ use Rattle.std.specs.Prelude.{ℕ, Option, Some, None}
 use Rattle.loom_objects.specs.declared.operation.Op.{Op}
 use Rattle.loom_objects.specs.declared.operation.Op.TheVariants.{Thread as OnThread}
 use Rattle.loom_objects.specs.declared.operation.Reply.{Reply}
-use Rattle.loom_objects.specs.declared.operation.Reply.TheVariants.{Spawned, Thread as ThreadIs}
+use Rattle.loom_objects.specs.declared.operation.Reply.TheVariants.{AccessError as GivenBack, Spawned, Thread as ThreadIs}
 use Rattle.loom_objects.specs.declared.operation.ThreadOp.TheVariants.{Yield}
 use Rattle.loom_objects.specs.declared.rt.thread.Name.{Name}
+use Rattle.loom_ops.specs.declared.thread.AccessError.{AccessError}
 use Rattle.loom_ops.specs.declared.thread.JoinHandle.{JoinHandle}
 use Rattle.loom_ops.specs.declared.thread.Thread.{Thread}
 
@@ -23,6 +24,11 @@ module _ {D : Type 0} where
   abbrev pub thread_handle : Reply D → Option Thread
   thread_handle (ThreadIs thread name) = Some (named thread name)
   thread_handle _ = None
+
+  -- that the thread's own value was given back
+  abbrev pub access_error : Reply D → Option AccessError
+  access_error GivenBack = Some (record {})
+  access_error _ = None
 
 -- a thread lets others go first
 abbrev pub yielding : {D S : Type 0} → Op D S

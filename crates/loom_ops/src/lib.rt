@@ -5,15 +5,40 @@ ghost use Rattle.std.specs.Prelude.{◌≡◌, None};
 
 pub mod alloc;
 pub mod cell;
+pub mod future;
 pub mod hint;
+pub mod lazy_static;
 pub mod sync;
 pub mod thread;
 
-use loom_objects::operation::Op;
+use loom_objects::operation::{ExploreOp, Op};
 
 /// The body's own assertion failed, which ends the run (own).
 pub fn fail<D, S>() -> Op<D, S>
     ensures { result ≡ Op.Fail None }
 {
     Op::Fail(None)
+}
+
+/// The search tries other choices than the first from now on. Where it does so already that is the failure `ExploreSwitch`;
+/// after `skip_branch` nothing changes (loom's `rt/mod.rs`).
+pub fn explore<D, S>() -> Op<D, S>
+    ensures { result ≡ Op.Explore ExploreOp.Explore None }
+{
+    Op::Explore(ExploreOp::Explore, None)
+}
+
+/// The search makes the first choice alone from now on, up to `explore`. Where it does so already that is the failure
+/// `ExploreSwitch`; after `skip_branch` nothing changes (loom's `rt/mod.rs`).
+pub fn stop_exploring<D, S>() -> Op<D, S>
+    ensures { result ≡ Op.Explore ExploreOp.StopExploring None }
+{
+    Op::Explore(ExploreOp::StopExploring, None)
+}
+
+/// The search makes the first choice alone up to the run's end (loom's `rt/mod.rs`).
+pub fn skip_branch<D, S>() -> Op<D, S>
+    ensures { result ≡ Op.Explore ExploreOp.SkipBranch None }
+{
+    Op::Explore(ExploreOp::SkipBranch, None)
 }

@@ -1,7 +1,8 @@
-//! Handles of atomics, of the objects by which threads wait for one another, and of counted references.
+//! Handles of atomics, of the objects by which threads wait for one another, of channels, and of counted references.
 pub mod arc;
 pub mod atomic;
 pub mod condvar;
+pub mod mpsc;
 pub mod mutex;
 pub mod notify;
 pub mod rwlock;

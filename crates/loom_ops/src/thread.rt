@@ -1,10 +1,11 @@
-//! Threads: how they begin and how they end, who they are, and how they let others go first.
-ghost use Rattle.std.specs.Prelude.{◌≡◌, Some, None};
+//! Threads: how they begin and how they end, who they are, how they let others go first, and their own values.
+ghost use Rattle.std.specs.Prelude.{◌≡◌, Some, None, codes};
 ghost use Rattle.std.specs.Option.{option_map};
-ghost use Rattle.loom_ops.specs.Threads.{join_handle, thread_handle, named};
+ghost use Rattle.loom_ops.specs.Threads.{access_error, join_handle, thread_handle, named};
 
-use loom_objects::operation::{Op, Reply, ThreadOp};
+use loom_objects::operation::{LocalOp, Op, Reply, ThreadOp};
 use loom_objects::rt::thread::Name;
+use std::fmt;
 
 /// A thread that was spawned, and the notifier that it notifies when it finishes (loom's `thread.rs`).
 #[derive(Clone, Copy, Debug)]
@@ -36,6 +37,44 @@ pub struct Builder {
     /// Its name, if it is given one.
     pub name: Option<Name>,
 }
+
+/// A value that each thread has of its own (loom's `thread.rs`). In loom it has a function that makes it; here the body asks by
+/// `with`, and gives one by `init`.
+#[derive(Clone, Copy)]
+pub struct LocalKey {
+    /// The number that it is named by.
+    pub key: usize,
+}
+
+/// The thread has given its own value back (loom's `rt/thread.rs`).
+#[derive(Clone, Copy)]
+pub struct AccessError;
+
+impl fmt::Debug for LocalKey {
+    ghost debug_output = { λ _. Some (codes "LocalKey { .. }") };
+
+    fn fmt<W: fmt::Write>(&self, f: &mut fmt::Formatter<W>) -> fmt::Result {
+        f.pad("LocalKey { .. }")
+    }
+}
+
+impl fmt::Debug for AccessError {
+    ghost debug_output = { λ _. Some (codes "AccessError") };
+
+    fn fmt<W: fmt::Write>(&self, f: &mut fmt::Formatter<W>) -> fmt::Result {
+        f.write_str("AccessError")
+    }
+}
+
+impl fmt::Display for AccessError {
+    ghost output = { λ _. Some (codes "already destroyed") };
+
+    fn fmt<W: fmt::Write>(&self, f: &mut fmt::Formatter<W>) -> fmt::Result {
+        f.pad("already destroyed")
+    }
+}
+
+impl std::error::Error for AccessError {}
 
 impl JoinHandle {
     /// The thread that was spawned, if that is what the reply says (own).
@@ -133,6 +172,57 @@ impl Builder {
         ensures { result ≡ Op.Thread (ThreadOp.Spawn body self.name) None }
     {
         Op::Thread(ThreadOp::Spawn(body, self.name), None)
+    }
+}
+
+impl LocalKey {
+    /// The value that is named by this number. It is no operation (loom's `thread.rs`).
+    pub fn new(key: usize) -> LocalKey
+        ensures { result.key ≡ key }
+    {
+        LocalKey { key }
+    }
+
+    /// Replies a copy of the thread's own value, or `Absent`. Once `exit` has given it back that is the failure `LocalGone`
+    /// (loom's `thread.rs`).
+    pub fn with<D, S>(self) -> Op<D, S>
+        ensures { result ≡ Op.Local (LocalOp.With self.key) None }
+    {
+        Op::Local(LocalOp::With(self.key), None)
+    }
+
+    /// The same, but once `exit` has given it back the reply is `AccessError` (loom's `thread.rs`).
+    pub fn try_with<D, S>(self) -> Op<D, S>
+        ensures { result ≡ Op.Local (LocalOp.TryWith self.key) None }
+    {
+        Op::Local(LocalOp::TryWith(self.key), None)
+    }
+
+    /// Gives the thread its own value, and replies a copy of it. Where it has one, or had one, that is the failure `KeyTaken`
+    /// (loom's `thread.rs`).
+    pub fn init<D, S>(self, value: D) -> Op<D, S>
+        ensures { result ≡ Op.Local (LocalOp.Init self.key value) None }
+    {
+        Op::Local(LocalOp::Init(self.key, value), None)
+    }
+
+    /// Another value takes the place of the thread's own, which is replied. Where it has none that is a misuse (own).
+    pub fn put<D, S>(self, value: D) -> Op<D, S>
+        ensures { result ≡ Op.Local (LocalOp.Put self.key value) None }
+    {
+        Op::Local(LocalOp::Put(self.key, value), None)
+    }
+}
+
+impl AccessError {
+    /// That the value was given back, if that is what the reply says (own).
+    pub fn from_reply<D>(reply: &Reply<D>) -> Option<AccessError>
+        ensures { result ≡ access_error reply.now }
+    {
+        match reply {
+            Reply::AccessError => Some(AccessError),
+            _ => None,
+        }
     }
 }
 

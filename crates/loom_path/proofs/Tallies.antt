@@ -7,11 +7,11 @@ use Rattle.loom_objects.specs.declared.choice.Choice.TheVariants.{Thread}
 use Rattle.loom_objects.specs.Question.{Made}
 use Rattle.loom_walks.specs.Walk.Machine.{is_thread}
 use Rattle.loom_walks.specs.Walk.Choices.{same, pick}
-use Rattle.loom_walks.specs.Trees.Marks.{Place, schedules_down, switching}
+use Rattle.loom_walks.specs.Trees.Marks.{Place, from_exploring, schedules_down, switching}
 use Rattle.loom_walks.specs.Trees.Meeting.{Tally, start, preempts, tally_thread, tally_one, tally, count}
 use Rattle.loom_walks.proofs.Trees.Counting.{tally_more}
 use Rattle.loom_path.specs.declared.rt.node.Tally.{Tally as Kept}
-use Rattle.loom_path.specs.Tallies.{first_of, last_switch, goes_over, Tallies}
+use Rattle.loom_path.specs.Tallies.{first_of, last_switch, last_exploring, place_of, goes_over, Tallies}
 
 -- ---- the schedules among so many nodes
 
@@ -117,6 +117,24 @@ module _ (k : ℕ) (passes : List (Made × Choice)) (pass : Made × Choice) (siz
       ap (λ l. first_of (switching l)) down_end
       ∙ ap (λ b. first_of (switching (cond b ((k, pass.0, pass.1) ∷ schedules_down 0 k passes []) (schedules_down 0 k passes [])))) t
 
+  -- the nearest that explores, with a schedule more
+  pub exploring_more : is_thread pass.0.default ≡ true → last_exploring (suc k) (passes ++ pass ∷ []) ≡ cond pass.0.exploring (Some k) (last_exploring k passes)
+  exploring_more t =
+      let before : List Place = schedules_down 0 k passes [] in
+      ap (λ l. place_of (from_exploring l)) down_end
+      ∙ ap (λ b. place_of (from_exploring (cond b ((k, pass.0, pass.1) ∷ before) before))) t
+      ∙ go before pass.0.exploring
+    where
+      go : (before : List Place) (b : Bool) → place_of (cond b ((k, pass.0, pass.1) ∷ before) (from_exploring before)) ≡ cond b (Some k) (place_of (from_exploring before))
+      go before true = refl
+      go before false = refl
+
+  -- with another node more
+  pub exploring_same : is_thread pass.0.default ≡ false → last_exploring (suc k) (passes ++ pass ∷ []) ≡ last_exploring k passes
+  exploring_same t =
+      ap (λ l. place_of (from_exploring l)) down_end
+      ∙ ap (λ b. place_of (from_exploring (cond b ((k, pass.0, pass.1) ∷ schedules_down 0 k passes []) (schedules_down 0 k passes [])))) t
+
 -- ---- the count
 
 one_more : (t : Tally) (pass : Made × Choice) → (tally_one t pass).next ≤ suc t.next
@@ -143,8 +161,9 @@ module _ (k : ℕ) (passes : List (Made × Choice)) (pass : Made × Choice) (siz
       → new.preemptions ≡ cond (preempts (option_map Thread old.last) pass.0.default pass.1) (suc old.preemptions) old.preemptions
       → option_map Thread new.last ≡ Some pass.1
       → new.switch ≡ cond (pass.0.exploring && goes_over (option_map Thread old.last) pass.1) (Some k) old.switch
+      → new.nearest ≡ cond pass.0.exploring (Some k) old.nearest
       → Tallies (suc k) (passes ++ pass ∷ []) new
-  tallied new t counted last switched =
+  tallied new t counted last switched explored =
       let more : tally start (passes ++ pass ∷ []) ≡ tally_thread (tally start passes) pass.0.default pass.1 =
       tally_more start passes pass ∙ ap (λ b. cond b (tally_thread (tally start passes) pass.0.default pass.1) (tally start passes)) t in (
         counted
@@ -156,6 +175,7 @@ module _ (k : ℕ) (passes : List (Made × Choice)) (pass : Made × Choice) (siz
             ∙ ap (λ (o : Option Choice). cond (pass.0.exploring && goes_over o pass.1) (Some k) old.switch) held.1
             ∙ ap (λ (o : Option ℕ). cond (pass.0.exploring && goes_over (tally start passes).last pass.1) (Some k) o) held.2
             ∙ sym (switch_more k passes pass size t),
+        explored ∙ ap (λ (o : Option ℕ). cond pass.0.exploring (Some k) o) held.3 ∙ sym (exploring_more k passes pass size t),
       )
 
   -- what is no schedule changes nothing
@@ -166,4 +186,5 @@ module _ (k : ℕ) (passes : List (Made × Choice)) (pass : Made × Choice) (siz
         held.0 ∙ sym (ap (λ (u : Tally). u.next) more),
         held.1 ∙ sym (ap (λ (u : Tally). u.last) more),
         held.2 ∙ sym (switch_same k passes pass size t),
+        held.3 ∙ sym (exploring_same k passes pass size t),
       )

@@ -7,7 +7,6 @@ use Rattle.loom_walks.specs.Walk.UnderWay.{mark_with}
 use Rattle.loom_walks.specs.Trees.Drive.{passes_of, pass_of}
 use Rattle.loom_walks.specs.Trees.Marks.{schedules_down, from_exploring, adds_there, adds_any, is_off_bound}
 use Rattle.loom_walks.specs.Trees.Meeting.{count, front_of}
-use Rattle.loom_path.specs.Nodes.{seen}
 use Rattle.loom_path.specs.Routes.{Route, stored, trail}
 use Rattle.loom_path.specs.declared.rt.node.Node.{Node}
 use Rattle.std.specs.Prelude.{map}

@@ -102,9 +102,14 @@ seen (node.Spurious n) = seen_spurious n
 abbrev pub IsWellLoad : Load → Type 0
 IsWellLoad n = n.position < length (slots n.readable)
 
+-- A schedule that a run has made is at rest, explored or not: where it isn't explored a given choice may have passed the default
+-- over.
+abbrev pub IsWellSchedule : Schedule → Type 0
+IsWellSchedule n = IsAtRest (seen_threads n.first true n.statuses)
+
 -- a node that a run has made, with one choice, which is one of its options
 abbrev pub IsWell : Node → Type 0
-IsWell (node.Schedule n) = IsAtRest (seen_schedule n)
+IsWell (node.Schedule n) = IsWellSchedule n
 IsWell (node.Load n) = IsWellLoad n
 IsWell (node.Spurious n) = Unit {0}
 

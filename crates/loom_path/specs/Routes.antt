@@ -8,7 +8,10 @@ use Rattle.loom_objects.specs.declared.choice.Choice.TheVariants.{Load}
 use Rattle.loom_objects.specs.declared.failure.Stop.{Stop}
 use Rattle.loom_objects.specs.declared.failure.Stop.TheVariants.{Failure, Memory}
 use Rattle.loom_objects.specs.Asked.{which_thread}
+use Rattle.loom_objects.specs.Exploring.{initially, switched}
 use Rattle.loom_objects.specs.Question.{Question}
+use Rattle.loom_objects.specs.declared.operation.ExploreOp.{ExploreOp}
+use Rattle.loom_objects.specs.declared.rt.exploring.Exploring.{Exploring}
 use Rattle.loom_objects.specs.declared.rt.thread.Offers.{Offers}
 use Rattle.loom_objects.specs.Tree.{Tree}
 use Rattle.loom_path.specs.declared.rt.node.Node.{Node}
@@ -19,11 +22,14 @@ use Rattle.loom_walks.specs.Trees.Drive.{Trail, branch, drive, backtrack}
 use Rattle.loom_walks.specs.Trees.Marks.{marking}
 use Rattle.loom_path.specs.Nodes.{seen}
 
--- the settings of its search, the nodes, how many of them the run has passed, and the choices that new nodes take in turn
+-- the settings of its search, and whether its runs begin to explore; the nodes, how many of them the run has passed, whether it
+-- explores at those that come, and the choices that new nodes take in turn
 pub record Route : Type 0 where
   pub search : Settings
+  pub explores : Bool
   pub nodes : List Node
   pub position : ℕ
+  pub exploring : Exploring
   pub given : List Choice
 
 -- the settings of a walk that such a search has
@@ -31,8 +37,29 @@ abbrev pub settings : Search → Settings
 settings search = record { reduce = search.reduce; bound = search.bound; max_branches = search.max_branches }
 
 -- between two runs
-abbrev pub at_rest : Settings → List Node → Route
-at_rest search nodes = record { search = search; nodes = nodes; position = 0; given = [] }
+abbrev pub at_rest : Settings → Bool → List Node → Route
+at_rest search explores nodes = record { search = search; explores = explores; nodes = nodes; position = 0; exploring = initially explores; given = [] }
+
+-- before a run, which begins to explore or doesn't
+abbrev pub IsAtStart : Bool → Route → Type 0
+IsAtStart explores route = (route.position ≡ 0) × (route.explores ≡ explores) × (route.exploring ≡ initially explores)
+
+-- the settings, how its runs begin, and the given choices stay as they are
+abbrev pub IsSameSearch : Route → Route → Type 0
+IsSameSearch old new = (new.search ≡ old.search) × (new.explores ≡ old.explores) × (new.given ≡ old.given)
+
+-- and so does whether the run explores
+abbrev pub IsSame : Route → Route → Type 0
+IsSame old new = IsSameSearch old new × (new.exploring ≡ old.exploring)
+
+-- the run explores from now on, or doesn't, as the switch says; where that would change nothing it fails, and the path stays as
+-- it was
+abbrev pub SwitchesAs : Result Exploring FailureKind → Route → Result ⊤ FailureKind → Route → Type 0
+SwitchesAs (Ok exploring) old result new = (result ≡ Ok tt) × (new ≡ record old { exploring = exploring })
+SwitchesAs (Err kind) old result new = (result ≡ Err kind) × (new ≡ old)
+
+abbrev pub Switches : Route → ExploreOp → Result ⊤ FailureKind → Route → Type 0
+Switches old op result new = SwitchesAs (switched op old.exploring) old result new
 
 abbrev pub stored : List Node → List Stored
 stored nodes = map seen nodes
@@ -98,5 +125,5 @@ drives tree route = drive route.search (marking route.search.bound) tree (trail 
 -- threads offer there.
 abbrev pub Backtracks : Route → List (Option ℕ) → Route → Type 0
 Backtracks old places new =
-    ((offers : Offers) → trail new ≡ backtrack old.search (marking old.search.bound) (trail old) (which_thread offers places))
-    × (new.search ≡ old.search) × (new.given ≡ old.given)
+    ((exploring : Bool) (offers : Offers) → trail new ≡ backtrack old.search (marking old.search.bound) (trail old) (which_thread exploring offers places))
+    × IsSame old new

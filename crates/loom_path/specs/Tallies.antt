@@ -1,5 +1,5 @@
--- What the schedules of a path note of those before them: how many preemptions the run counts up to there, and where it last
--- went over to another thread.
+-- What the schedules of a path note of those before them: how many preemptions the run counts up to there, where it last went
+-- over to another thread, and which one explores.
 use Rattle.std.specs.Prelude.{ℕ, ◌≡◌, Bool, true, false, List, [], ◌∷◌, Option, Some, None, map, take, slice_get, IsSomeAnd}
 use Rattle.std.specs.Option.{option_map}
 use Rattle.loom_objects.specs.declared.choice.Choice.{Choice}
@@ -12,7 +12,7 @@ use Rattle.loom_path.specs.declared.rt.node.Tally.{Tally}
 use Rattle.loom_walks.specs.Walk.Machine.{is_thread}
 use Rattle.loom_walks.specs.Walk.Choices.{same, pick}
 use Rattle.loom_walks.specs.Trees.Drive.{pass_of}
-use Rattle.loom_walks.specs.Trees.Marks.{schedules_down, switching}
+use Rattle.loom_walks.specs.Trees.Marks.{Place, from_exploring, schedules_down, switching}
 use Rattle.loom_walks.specs.Trees.Meeting.{count, start, tally}
 use Rattle.loom_path.specs.Nodes.{seen}
 
@@ -29,6 +29,15 @@ first_of (k ∷ ks) = Some k
 abbrev pub last_switch : ℕ → List (Made × Choice) → Option ℕ
 last_switch k passes = first_of (switching (schedules_down 0 k passes []))
 
+-- the place of the first of these schedules
+abbrev pub place_of : List Place → Option ℕ
+place_of [] = None
+place_of (c ∷ places) = Some c.0
+
+-- the nearest schedule that explores, among those of these k nodes
+abbrev pub last_exploring : ℕ → List (Made × Choice) → Option ℕ
+last_exploring k passes = place_of (from_exploring (schedules_down 0 k passes []))
+
 -- another choice than the last one, or the first
 abbrev pub goes_over : Option Choice → Choice → Bool
 goes_over None chosen = true
@@ -36,7 +45,7 @@ goes_over (Some last) chosen = pick (same chosen last) false true
 
 -- the schedule notes what was passed before it, at k nodes
 abbrev pub Notes : ℕ → List (Made × Choice) → Schedule → Type 0
-Notes k passes n = (n.preemptions ≡ count passes) × (n.switch ≡ last_switch k passes)
+Notes k passes n = (n.preemptions ≡ count passes) × (n.switch ≡ last_switch k passes) × (n.nearest ≡ last_exploring k passes)
 
 -- a node before which the run has passed this
 abbrev pub IsNoted : ℕ → List (Made × Choice) → Node → Type 0
@@ -58,7 +67,7 @@ IsValueAt nodes k = IsSomeAnd (slice_get (map seen nodes) k) (λ n. is_thread n.
 
 -- the tally of a run that has passed these k nodes
 abbrev pub Tallies : ℕ → List (Made × Choice) → Tally → Type 0
-Tallies k passes t = (t.preemptions ≡ count passes) × (option_map Thread t.last ≡ (tally start passes).last) × (t.switch ≡ last_switch k passes)
+Tallies k passes t = (t.preemptions ≡ count passes) × (option_map Thread t.last ≡ (tally start passes).last) × (t.switch ≡ last_switch k passes) × (t.nearest ≡ last_exploring k passes)
 
 -- the tally of the first so many nodes
 abbrev pub IsTally : List Node → ℕ → Tally → Type 0

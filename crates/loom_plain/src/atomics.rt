@@ -1,11 +1,11 @@
 //! Atomics and fences.
-use crate::halt::{Halt, check};
+use crate::halt::{Halt, Told, check};
+use crate::lookup::atomic_in;
 use crate::numbers::{cast, changed};
-use crate::state::{Access, Accessed, Atomic, MISUSE, Machine, Object, Pending, Store, Touch};
+use crate::state::{Access, Accessed, Atomic, Machine, Object, Pending, Store, Touch};
 use crate::stores::{Reader, is_seen, kept, readable, seen_orders, store_in};
 use loom_objects::choice::Choice;
-use loom_objects::operation::{AtomicOp, Exchange, Reply};
-use loom_scripts::number::Number;
+use loom_objects::operation::{AtomicOp, Reply};
 use loom_views::rt::change::Change;
 use loom_views::rt::failure::FailureKind;
 use loom_views::rt::num::Numbers;
@@ -60,79 +60,45 @@ fn failing(order: Ordering) -> Ordering {
     }
 }
 
-// The atomic of this number, whole or not.
-fn atomic_in(objects: &Vec<Object>, number: usize) -> Result<&Atomic, Halt> {
-    match objects.get(number) {
-        Some(Object::Atomic(atomic)) => Ok(atomic),
-        Some(
-            Object::Cell(_)
-            | Object::Arc(_)
-            | Object::Track(_)
-            | Object::Mutex(_)
-            | Object::RwLock(_)
-            | Object::Condvar(_)
-            | Object::Notify(_),
-        )
-        | None => Err(MISUSE),
-    }
-}
-
 impl Machine {
-    // The atomic of this number, which is whole.
-    fn atomic(&mut self, number: usize) -> Result<&mut Atomic, Halt> {
-        match self.objects.get_mut(number) {
-            Some(Object::Atomic(atomic)) if atomic.is_whole => Ok(atomic),
-            Some(
-                Object::Atomic(_)
-                | Object::Cell(_)
-                | Object::Arc(_)
-                | Object::Track(_)
-                | Object::Mutex(_)
-                | Object::RwLock(_)
-                | Object::Condvar(_)
-                | Object::Notify(_),
-            )
-            | None => Err(MISUSE),
-        }
-    }
-
-    /// An operation of an atomic is handed over. Nothing is told where it comes to a branch point.
-    pub fn atomic_begins(&mut self, op: AtomicOp) -> Result<Option<Reply<Number>>, Halt> {
+    /// An operation of an atomic is handed over.
+    pub fn atomic_begins(&mut self, op: AtomicOp) -> Told {
         match op {
-            AtomicOp::New(numbers, value) => Ok(Some(self.atomic_new(numbers, value)?)),
+            AtomicOp::New(numbers, value) => self.atomic_new(numbers, value),
             AtomicOp::Load(number, _)
             | AtomicOp::Store(number, ..)
             | AtomicOp::Update(number, ..)
             | AtomicOp::CompareExchange(number, _)
             | AtomicOp::CompareAndSwap(number, ..) => {
                 self.atomic(number)?;
-                self.pends(Pending::Atomic(number, op), false)?;
-                Ok(None)
+                self.pends(Pending::Atomic(number, op), false)
             }
             AtomicOp::UnsyncLoad(number) => {
                 self.meets(number, Access::UnsyncLoad)?;
-                Ok(Some(Reply::Value(self.newest(number)?.value)))
+                self.tells_newest(number)
             }
             AtomicOp::IntoInner(number) => {
                 self.meets(number, Access::UnsyncLoad)?;
                 self.atomic(number)?.is_whole = false;
-                Ok(Some(Reply::Value(self.newest(number)?.value)))
+                self.tells_newest(number)
             }
             AtomicOp::WithMut(number) => {
                 self.meets(number, Access::Mutation)?;
                 let active = self.active;
                 self.atomic(number)?.mutator = Some(active);
-                Ok(Some(Reply::Value(self.newest(number)?.value)))
+                self.tells_newest(number)
             }
-            AtomicOp::WithMutEnd(number, value) => {
-                self.with_mut_end(number, value)?;
-                Ok(Some(Reply::Done))
-            }
+            AtomicOp::WithMutEnd(number, value) => self.with_mut_end(number, value),
         }
     }
 
+    // The value of the newest store is told.
+    fn tells_newest(&mut self, number: usize) -> Told {
+        Ok(Some(Reply::Value(self.newest(number)?.value)))
+    }
+
     // That the atomic was made counts as a mutation. Its first store releases.
-    fn atomic_new(&mut self, numbers: Numbers, value: u64) -> Result<Reply<Number>, Halt> {
+    fn atomic_new(&mut self, numbers: Numbers, value: u64) -> Told {
         let made = Accessed {
             access: Access::Mutation,
             point: self.present()?,
@@ -146,35 +112,27 @@ impl Machine {
         }))?;
         let start = self.fresh_point()?;
         self.makes_store(number, value, Ordering::Release, start)?;
-        Ok(Reply::Atomic(number))
+        Ok(Some(Reply::Atomic(number)))
     }
 
     // The newest store.
     fn newest(&mut self, number: usize) -> Result<&mut Store, Halt> {
-        match self.objects.get_mut(number) {
-            Some(Object::Atomic(atomic)) => atomic.stores.last_mut().ok_or(Halt::Broken),
-            Some(
-                Object::Cell(_)
-                | Object::Arc(_)
-                | Object::Track(_)
-                | Object::Mutex(_)
-                | Object::RwLock(_)
-                | Object::Condvar(_)
-                | Object::Notify(_),
-            )
-            | None => Err(MISUSE),
-        }
+        self.any_atomic(number)?
+            .stores
+            .last_mut()
+            .ok_or(Halt::Broken)
     }
 
     // The mutation of the active thread ends: it is closed, the newest store has the value, and the tests are made again.
-    fn with_mut_end(&mut self, number: usize, value: u64) -> Result<(), Halt> {
+    fn with_mut_end(&mut self, number: usize, value: u64) -> Told {
         let active = self.active;
         let atomic = self.atomic(number)?;
         check(atomic.mutator == Some(active), FailureKind::Misuse)?;
         atomic.mutator = None;
         let value = cast(atomic.numbers, value);
         self.newest(number)?.value = value;
-        self.meets(number, Access::Mutation)
+        self.meets(number, Access::Mutation)?;
+        Ok(Some(Reply::Done))
     }
 
     // An access of this kind: no mutation is open, and no earlier access that it conflicts with is outside of the active
@@ -196,35 +154,28 @@ impl Machine {
     }
 
     /// The access of the chosen thread takes effect.
-    pub fn accesses(&mut self, number: usize, op: AtomicOp) -> Result<Reply<Number>, Halt> {
+    pub fn accesses(&mut self, number: usize, op: AtomicOp) -> Told {
         self.raise()?;
         self.atomic(number)?;
         match op {
-            AtomicOp::Load(_, order) => Ok(Reply::Value(self.loads(number, order)?)),
+            AtomicOp::Load(_, order) => self.loads(number, order),
             AtomicOp::Store(_, value, order) => {
                 self.meets(number, Access::Store)?;
                 let start = self.fresh_point()?;
                 self.makes_store(number, value, order, start)?;
-                Ok(Reply::Done)
+                Ok(Some(Reply::Done))
             }
             AtomicOp::Update(_, change, order) => {
-                let read = self.updates(number, Becoming::Changed(change), order, order)?;
-                Ok(Reply::Value(read.unwrap_or_else(|value| value)))
+                self.tells_read(number, Becoming::Changed(change), order, order)
             }
             AtomicOp::CompareExchange(_, exchange) => {
-                Ok(Reply::Exchanged(self.exchanges(number, exchange)?))
+                let becoming = Becoming::Exchanged(exchange.expected, exchange.new);
+                let read = self.updates(number, becoming, exchange.success, exchange.failure)?;
+                Ok(Some(Reply::Exchanged(read)))
             }
             AtomicOp::CompareAndSwap(_, expected, new, order) => {
-                let read = self.exchanges(
-                    number,
-                    Exchange {
-                        expected,
-                        new,
-                        success: order,
-                        failure: failing(order),
-                    },
-                )?;
-                Ok(Reply::Value(read.unwrap_or_else(|value| value)))
+                let becoming = Becoming::Exchanged(expected, new);
+                self.tells_read(number, becoming, order, failing(order))
             }
             AtomicOp::New(..)
             | AtomicOp::UnsyncLoad(_)
@@ -234,17 +185,24 @@ impl Machine {
         }
     }
 
-    fn loads(&mut self, number: usize, order: Ordering) -> Result<u64, Halt> {
+    fn loads(&mut self, number: usize, order: Ordering) -> Told {
         let slot = self.chooses_slot(number, Some(order))?;
         self.meets(number, Access::Load)?;
         let read = self.reads_store(number, slot)?;
         self.acquires_by(read.sync, order)?;
-        Ok(read.value)
+        Ok(Some(Reply::Value(read.value)))
     }
 
-    fn exchanges(&mut self, number: usize, exchange: Exchange) -> Result<Result<u64, u64>, Halt> {
-        let becoming = Becoming::Exchanged(exchange.expected, exchange.new);
-        self.updates(number, becoming, exchange.success, exchange.failure)
+    // A read-modify-write, of which is told what was read.
+    fn tells_read(
+        &mut self,
+        number: usize,
+        becoming: Becoming,
+        success: Ordering,
+        failure: Ordering,
+    ) -> Told {
+        let (Ok(value) | Err(value)) = self.updates(number, becoming, success, failure)?;
+        Ok(Some(Reply::Value(value)))
     }
 
     // A read-modify-write: Ok of what was read where something is stored, and else Err of it.
@@ -368,7 +326,7 @@ impl Machine {
     }
 
     /// A fence.
-    pub fn fence(&mut self, order: Ordering) -> Result<Reply<Number>, Halt> {
+    pub fn fence(&mut self, order: Ordering) -> Told {
         check(order != Ordering::Relaxed, FailureKind::RelaxedFence)?;
         self.raise()?;
         if acquires(order) {
@@ -385,7 +343,7 @@ impl Machine {
             let present = self.present()?;
             self.global = self.graph.add(&[self.global, present], None)?;
         }
-        Ok(Reply::Done)
+        Ok(Some(Reply::Done))
     }
 
     // Through all atomics in order of creation.

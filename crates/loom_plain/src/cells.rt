@@ -1,5 +1,5 @@
 //! Cells.
-use crate::halt::{Halt, check};
+use crate::halt::{Halt, Told, check};
 use crate::state::{Cell, MISUSE, Machine, Object};
 use loom_objects::operation::{CellOp, Reply};
 use loom_scripts::number::Number;
@@ -13,68 +13,41 @@ impl Cell {
 }
 
 impl Machine {
-    // The cell of this number, which is whole.
-    fn cell(&mut self, number: usize) -> Result<&mut Cell, Halt> {
-        match self.objects.get_mut(number) {
-            Some(Object::Cell(cell)) if cell.is_whole => Ok(cell),
-            Some(
-                Object::Atomic(_)
-                | Object::Cell(_)
-                | Object::Arc(_)
-                | Object::Track(_)
-                | Object::Mutex(_)
-                | Object::RwLock(_)
-                | Object::Condvar(_)
-                | Object::Notify(_),
-            )
-            | None => Err(MISUSE),
-        }
-    }
-
     /// An operation of a cell.
-    pub fn cell_begins(&mut self, op: CellOp<Number>) -> Result<Reply<Number>, Halt> {
+    pub fn cell_begins(&mut self, op: CellOp<Number>) -> Told {
         match op {
             CellOp::New(value) => self.cell_new(value),
             CellOp::Read(number) => {
                 let value = self.cell_read(number)?;
-                Ok(Reply::Reading(number, value))
+                Ok(Some(Reply::Reading(number, value)))
             }
             CellOp::ReadEnd(number) => {
                 self.cell_read_end(number)?;
-                Ok(Reply::Done)
+                Ok(Some(Reply::Done))
             }
-            CellOp::Deref(number) => {
-                check(self.has_read_open(number)?, FailureKind::Misuse)?;
-                Ok(Reply::Data(self.cell(number)?.value.ok_or(MISUSE)?))
-            }
+            CellOp::Deref(number) => self.cell_deref(number),
             CellOp::Write(number) => {
                 let value = self.cell_write(number)?;
-                Ok(Reply::Writing(number, value))
+                Ok(Some(Reply::Writing(number, value)))
             }
-            CellOp::WriteEnd(number, value) => {
-                self.cell_write_end(number, value)?;
-                Ok(Reply::Done)
-            }
-            CellOp::IntoInner(number) => Ok(Reply::Data(self.cell_into_inner(number)?)),
+            CellOp::WriteEnd(number, value) => self.cell_write_end(number, value),
+            CellOp::IntoInner(number) => self.cell_into_inner(number),
             CellOp::Get(number) => {
                 let value = self.cell_read(number)?;
                 self.cell_read_end(number)?;
-                Ok(Reply::Data(value))
+                Ok(Some(Reply::Data(value)))
             }
             CellOp::Replace(number, value) => {
                 let old = self.cell_write(number)?;
                 self.cell_write_end(number, value)?;
-                Ok(Reply::Data(old))
+                Ok(Some(Reply::Data(old)))
             }
-            CellOp::Swap(one, other) => {
-                self.cell_swap(one, other)?;
-                Ok(Reply::Done)
-            }
+            CellOp::Swap(one, other) => self.cell_swap(one, other),
         }
     }
 
     // That the cell was made counts as a read and a write.
-    fn cell_new(&mut self, value: Number) -> Result<Reply<Number>, Halt> {
+    fn cell_new(&mut self, value: Number) -> Told {
         let present = self.present()?;
         let cell = Cell {
             value: Some(value),
@@ -84,23 +57,26 @@ impl Machine {
             reads: vec![in self.alloc; present]?,
             writes: vec![in self.alloc; present]?,
         };
-        Ok(Reply::Cell(self.add_object(Object::Cell(cell))?))
+        let number = self.add_object(Object::Cell(cell))?;
+        Ok(Some(Reply::Cell(number)))
     }
 
     // The cell is taken apart, unless a thread has it open.
-    fn cell_into_inner(&mut self, number: usize) -> Result<Number, Halt> {
+    fn cell_into_inner(&mut self, number: usize) -> Told {
         let cell = self.cell(number)?;
         let is_open = cell.writer.is_some() || cell.is_read();
         check(!is_open, FailureKind::OpenAccess)?;
         cell.is_whole = false;
-        cell.value.ok_or(MISUSE)
+        Ok(Some(Reply::Data(cell.value.ok_or(MISUSE)?)))
     }
 
-    // Whether the active thread has a read of the cell open.
-    fn has_read_open(&mut self, number: usize) -> Result<bool, Halt> {
+    // Another copy of the data, in a read that the active thread has open.
+    fn cell_deref(&mut self, number: usize) -> Told {
         let active = usize::from(self.active);
         let cell = self.cell(number)?;
-        Ok(*cell.readers.get(active).ok_or(Halt::Broken)? > 0)
+        let is_open = *cell.readers.get(active).ok_or(Halt::Broken)? > 0;
+        check(is_open, FailureKind::Misuse)?;
+        Ok(Some(Reply::Data(cell.value.ok_or(MISUSE)?)))
     }
 
     // A read begins, and has a copy of the data.
@@ -136,21 +112,22 @@ impl Machine {
     }
 
     // The write of the active thread ends, and leaves this data.
-    fn cell_write_end(&mut self, number: usize, value: Number) -> Result<(), Halt> {
+    fn cell_write_end(&mut self, number: usize, value: Number) -> Told {
         let active = self.active;
         let cell = self.cell(number)?;
         check(cell.writer == Some(active), FailureKind::Misuse)?;
         cell.writer = None;
         cell.value = Some(value);
-        self.meets_write(number)
+        self.meets_write(number)?;
+        Ok(Some(Reply::Done))
     }
 
     // The data of two cells are exchanged.
-    fn cell_swap(&mut self, one: usize, other: usize) -> Result<(), Halt> {
+    fn cell_swap(&mut self, one: usize, other: usize) -> Told {
         self.cell(one)?;
         self.cell(other)?;
         if one == other {
-            return Ok(());
+            return Ok(Some(Reply::Done));
         }
         let value = self.cell_write(one)?;
         let other_value = self.cell_write(other)?;

@@ -1,6 +1,7 @@
 //! The choices of one run: those that are given, and then defaults.
-use crate::halt::{Halt, check};
+use crate::halt::{Halt, Told, check};
 use loom_objects::choice::Choice;
+use loom_objects::operation::{ExploreOp, Reply};
 use loom_views::rt::failure::FailureKind;
 
 /// Where an access was made that a thread isn't ordered after.
@@ -30,6 +31,8 @@ pub struct Made {
     pub options: Vec<Choice>,
     /// Where a thread was chosen.
     pub standing: Option<Standing>,
+    /// Whether another option may be tried.
+    pub is_exploring: bool,
 }
 
 /// The choices of one run.
@@ -41,6 +44,10 @@ pub struct Choices {
     pub made: Vec<Made>,
     /// How many may be made.
     pub most: usize,
+    /// Whether other options are tried at the choices that come.
+    pub is_exploring: bool,
+    /// Whether that stays as it is up to the run's end.
+    pub is_settled: bool,
 }
 
 impl Choices {
@@ -61,7 +68,26 @@ impl Choices {
             choice,
             options,
             standing,
+            is_exploring: self.is_exploring,
         })?;
         Ok(choice)
+    }
+
+    /// Whether other options are tried changes, unless that is settled.
+    pub fn switches(&mut self, op: ExploreOp) -> Told {
+        let (explores, settles) = match op {
+            ExploreOp::Explore => (true, false),
+            ExploreOp::StopExploring => (false, false),
+            ExploreOp::SkipBranch => (false, true),
+        };
+        if !self.is_settled {
+            check(
+                settles || self.is_exploring != explores,
+                FailureKind::ExploreSwitch,
+            )?;
+            self.is_exploring = explores;
+            self.is_settled = settles;
+        }
+        Ok(Some(Reply::Done))
     }
 }

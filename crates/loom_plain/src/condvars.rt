@@ -1,53 +1,35 @@
 //! Condition variables.
-use crate::halt::{Halt, check};
-use crate::state::{Condvar, MISUSE, Machine, Object, Pending, State};
+use crate::halt::{Halt, Told, check};
+use crate::state::{Condvar, Machine, Object, Pending, State};
 use loom_objects::operation::{CondvarOp, Reply};
 use loom_scripts::number::Number;
 use loom_views::rt::failure::FailureKind;
 use std::mem;
 
 impl Machine {
-    // The condition variable of this number.
-    fn condvar(&mut self, number: usize) -> Result<&mut Condvar, Halt> {
-        match self.objects.get_mut(number) {
-            Some(Object::Condvar(condvar)) => Ok(condvar),
-            Some(
-                Object::Atomic(_)
-                | Object::Cell(_)
-                | Object::Arc(_)
-                | Object::Track(_)
-                | Object::Mutex(_)
-                | Object::RwLock(_)
-                | Object::Notify(_),
-            )
-            | None => Err(MISUSE),
-        }
-    }
-
-    /// An operation of a condition variable is handed over. Nothing is told where it comes to a branch point.
-    pub fn condvar_begins(&mut self, op: CondvarOp<Number>) -> Result<Option<Reply<Number>>, Halt> {
+    /// An operation of a condition variable is handed over.
+    pub fn condvar_begins(&mut self, op: CondvarOp<Number>) -> Told {
         match op {
             CondvarOp::New => {
                 let waiters = Vec::new(self.alloc);
                 let number = self.add_object(Object::Condvar(Condvar { waiters }))?;
-                return Ok(Some(Reply::Condvar(number)));
+                Ok(Some(Reply::Condvar(number)))
             }
             CondvarOp::Wait(number, mutex, value) => {
-                self.wait_on_begins(number, mutex, value, false)?;
+                self.wait_on_begins(number, mutex, value, false)
             }
             CondvarOp::WaitTimeout(number, mutex, value) => {
-                self.wait_on_begins(number, mutex, value, true)?;
+                self.wait_on_begins(number, mutex, value, true)
             }
             CondvarOp::NotifyOne(number) => {
                 self.condvar(number)?;
-                self.pends(Pending::NotifyOne(number), false)?;
+                self.pends(Pending::NotifyOne(number), false)
             }
             CondvarOp::NotifyAll(number) => {
                 self.condvar(number)?;
-                self.pends(Pending::NotifyAll(number), false)?;
+                self.pends(Pending::NotifyAll(number), false)
             }
         }
-        Ok(None)
     }
 
     fn wait_on_begins(
@@ -56,7 +38,7 @@ impl Machine {
         mutex: usize,
         value: Number,
         is_timed: bool,
-    ) -> Result<(), Halt> {
+    ) -> Told {
         self.condvar(number)?;
         let active = self.active;
         check(
@@ -67,13 +49,7 @@ impl Machine {
     }
 
     /// The active thread is the last waiter, and releases the mutex.
-    pub fn sleeps(
-        &mut self,
-        number: usize,
-        mutex: usize,
-        value: Number,
-        is_timed: bool,
-    ) -> Result<(), Halt> {
+    pub fn sleeps(&mut self, number: usize, mutex: usize, value: Number, is_timed: bool) -> Told {
         let active = self.active;
         self.condvar(number)?.waiters.push(active)?;
         self.unlock(mutex, value)?;
@@ -81,19 +57,19 @@ impl Machine {
     }
 
     /// The active thread was woken, and comes to the mutex.
-    pub fn wakes_up(&mut self, mutex: usize, is_timed: bool) -> Result<(), Halt> {
+    pub fn wakes_up(&mut self, mutex: usize, is_timed: bool) -> Told {
         let is_held = self.mutex(mutex)?.holder.is_some();
         self.pends(Pending::Relock(mutex, is_timed), is_held)
     }
 
     /// The active thread takes the mutex again.
-    pub fn relocks(&mut self, mutex: usize, is_timed: bool) -> Result<Reply<Number>, Halt> {
+    pub fn relocks(&mut self, mutex: usize, is_timed: bool) -> Told {
         let value = self.lock(mutex)?.ok_or(Halt::Broken)?;
-        if is_timed {
-            Ok(Reply::Waited(mutex, value, false))
+        Ok(Some(if is_timed {
+            Reply::Waited(mutex, value, false)
         } else {
-            Ok(Reply::Locked(mutex, value))
-        }
+            Reply::Locked(mutex, value)
+        }))
     }
 
     // The waiter, which has left the list, takes in what the active thread has seen, and is runnable.
@@ -104,23 +80,23 @@ impl Machine {
     }
 
     /// The first waiter is woken, if there is one.
-    pub fn wakes_one(&mut self, number: usize) -> Result<Reply<Number>, Halt> {
+    pub fn wakes_one(&mut self, number: usize) -> Told {
         let alloc = self.alloc;
         let waiters = mem::replace(&mut self.condvar(number)?.waiters, Vec::new(alloc));
         if let Some((first, others)) = waiters.as_slice().split_first() {
             self.condvar(number)?.waiters = others.to_vec(alloc)?;
             self.wakes(*first)?;
         }
-        Ok(Reply::Done)
+        Ok(Some(Reply::Done))
     }
 
     /// All waiters are woken, in order.
-    pub fn wakes_all(&mut self, number: usize) -> Result<Reply<Number>, Halt> {
+    pub fn wakes_all(&mut self, number: usize) -> Told {
         let alloc = self.alloc;
         let waiters = mem::replace(&mut self.condvar(number)?.waiters, Vec::new(alloc));
         for waiter in &waiters {
             self.wakes(*waiter)?;
         }
-        Ok(Reply::Done)
+        Ok(Some(Reply::Done))
     }
 }

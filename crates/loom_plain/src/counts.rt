@@ -1,29 +1,11 @@
 //! Counted references and tracked values.
-use crate::halt::{Halt, check};
+use crate::halt::{Halt, Told, check};
 use crate::state::{Counted, Counting, MISUSE, Machine, Object, Pending, Tracked};
 use loom_objects::operation::{ArcOp, Reply, TrackOp};
 use loom_scripts::number::Number;
 use loom_views::rt::failure::FailureKind;
 
 impl Machine {
-    // The counted reference of this number, of which some are left.
-    fn arc(&mut self, number: usize) -> Result<&mut Counted, Halt> {
-        match self.objects.get_mut(number) {
-            Some(Object::Arc(arc)) if arc.count > 0 => Ok(arc),
-            Some(
-                Object::Atomic(_)
-                | Object::Cell(_)
-                | Object::Arc(_)
-                | Object::Track(_)
-                | Object::Mutex(_)
-                | Object::RwLock(_)
-                | Object::Condvar(_)
-                | Object::Notify(_),
-            )
-            | None => Err(MISUSE),
-        }
-    }
-
     // The same, whose value isn't out.
     fn free_arc(&mut self, number: usize) -> Result<&mut Counted, Halt> {
         let arc = self.arc(number)?;
@@ -31,18 +13,18 @@ impl Machine {
         Ok(arc)
     }
 
-    /// An operation of a counted reference is handed over. Nothing is told where it comes to a branch point.
-    pub fn arc_begins(&mut self, op: ArcOp<Number>) -> Result<Option<Reply<Number>>, Halt> {
+    /// An operation of a counted reference is handed over.
+    pub fn arc_begins(&mut self, op: ArcOp<Number>) -> Told {
         match op {
             ArcOp::New(value) => {
-                let point = self.fresh_point()?;
                 let arc = Counted {
                     count: 1,
                     value: Some(value),
                     lent: None,
-                    point,
+                    point: self.fresh_point()?,
                 };
-                Ok(Some(Reply::Arc(self.add_object(Object::Arc(arc))?)))
+                let number = self.add_object(Object::Arc(arc))?;
+                Ok(Some(Reply::Arc(number)))
             }
             ArcOp::Clone(number) => self.count_begins(number, Counting::Clone),
             ArcOp::Drop(number) => self.count_begins(number, Counting::Drop),
@@ -64,22 +46,13 @@ impl Machine {
         }
     }
 
-    fn count_begins(
-        &mut self,
-        number: usize,
-        counting: Counting,
-    ) -> Result<Option<Reply<Number>>, Halt> {
+    fn count_begins(&mut self, number: usize, counting: Counting) -> Told {
         self.arc(number)?;
-        self.pends(Pending::Count(number, counting), false)?;
-        Ok(None)
+        self.pends(Pending::Count(number, counting), false)
     }
 
-    /// The operation of a counted reference takes effect. Nothing is told where it comes to another branch point.
-    pub fn counts(
-        &mut self,
-        number: usize,
-        counting: Counting,
-    ) -> Result<Option<Reply<Number>>, Halt> {
+    /// The operation of a counted reference takes effect.
+    pub fn counts(&mut self, number: usize, counting: Counting) -> Told {
         let arc = self.free_arc(number)?;
         let point = arc.point;
         match counting {
@@ -87,10 +60,10 @@ impl Machine {
                 arc.count = arc.count.checked_add(1).ok_or(Halt::Broken)?;
                 Ok(Some(Reply::Done))
             }
-            Counting::Drop => Ok(Some(self.drops_one(number)?)),
+            Counting::Drop => self.drops_one(number),
             Counting::GetMut => {
                 self.acquire(point)?;
-                Ok(Some(self.takes_out(number)?))
+                self.takes_out(number)
             }
             Counting::TryUnwrap => {
                 self.acquire(point)?;
@@ -101,7 +74,7 @@ impl Machine {
             }
             Counting::Unwrap => {
                 check(arc.count == 1, FailureKind::Misuse)?;
-                Ok(Some(self.drops_one(number)?))
+                self.drops_one(number)
             }
             Counting::StrongCount => {
                 self.acquire(point)?;
@@ -111,7 +84,7 @@ impl Machine {
     }
 
     // One reference fewer; who drops the last one acquires, and has the value.
-    fn drops_one(&mut self, number: usize) -> Result<Reply<Number>, Halt> {
+    fn drops_one(&mut self, number: usize) -> Told {
         let arc = self.arc(number)?;
         let point = arc.point;
         let point = self.released_to(point)?;
@@ -119,45 +92,27 @@ impl Machine {
         arc.point = point;
         arc.count = arc.count.checked_sub(1).ok_or(Halt::Broken)?;
         if arc.count > 0 {
-            return Ok(Reply::Done);
+            return Ok(Some(Reply::Done));
         }
         let value = arc.value.take().ok_or(Halt::Broken)?;
         self.acquire(point)?;
-        Ok(Reply::Data(value))
+        Ok(Some(Reply::Data(value)))
     }
 
     // The value goes out where there is one reference alone.
-    fn takes_out(&mut self, number: usize) -> Result<Reply<Number>, Halt> {
+    fn takes_out(&mut self, number: usize) -> Told {
         let active = self.active;
         let arc = self.arc(number)?;
         if arc.count != 1 {
-            return Ok(Reply::Shared);
+            return Ok(Some(Reply::Shared));
         }
         let value = arc.value.take().ok_or(Halt::Broken)?;
         arc.lent = Some(active);
-        Ok(Reply::Data(value))
-    }
-
-    // The tracked value of this number, which wasn't given back.
-    fn track(&mut self, number: usize) -> Result<&mut Tracked, Halt> {
-        match self.objects.get_mut(number) {
-            Some(Object::Track(track)) if track.is_tracked => Ok(track),
-            Some(
-                Object::Atomic(_)
-                | Object::Cell(_)
-                | Object::Arc(_)
-                | Object::Track(_)
-                | Object::Mutex(_)
-                | Object::RwLock(_)
-                | Object::Condvar(_)
-                | Object::Notify(_),
-            )
-            | None => Err(MISUSE),
-        }
+        Ok(Some(Reply::Data(value)))
     }
 
     /// An operation of a tracked value.
-    pub fn track_begins(&mut self, op: TrackOp<Number>) -> Result<Reply<Number>, Halt> {
+    pub fn track_begins(&mut self, op: TrackOp<Number>) -> Told {
         let active = self.active;
         match op {
             TrackOp::New(value) => {
@@ -166,30 +121,31 @@ impl Machine {
                     lent: None,
                     is_tracked: true,
                 };
-                Ok(Reply::Track(self.add_object(Object::Track(track))?))
+                let number = self.add_object(Object::Track(track))?;
+                Ok(Some(Reply::Track(number)))
             }
             TrackOp::GetRef(number) => {
                 let value = self.track(number)?.value.ok_or(MISUSE)?;
-                Ok(Reply::Data(value))
+                Ok(Some(Reply::Data(value)))
             }
             TrackOp::GetMut(number) => {
                 let track = self.track(number)?;
                 let value = track.value.take().ok_or(MISUSE)?;
                 track.lent = Some(active);
-                Ok(Reply::Data(value))
+                Ok(Some(Reply::Data(value)))
             }
             TrackOp::Put(number, value) => {
                 let track = self.track(number)?;
                 check(track.lent == Some(active), FailureKind::Misuse)?;
                 track.lent = None;
                 track.value = Some(value);
-                Ok(Reply::Done)
+                Ok(Some(Reply::Done))
             }
             TrackOp::IntoInner(number) | TrackOp::Drop(number) => {
                 let track = self.track(number)?;
                 let value = track.value.take().ok_or(MISUSE)?;
                 track.is_tracked = false;
-                Ok(Reply::Data(value))
+                Ok(Some(Reply::Data(value)))
             }
         }
     }

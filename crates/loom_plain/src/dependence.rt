@@ -17,12 +17,16 @@ pub enum Action {
     Decrement,
     /// It tells how many counted references there are.
     Inspect,
+    /// It sends to a channel.
+    Send,
+    /// It receives from a channel.
+    Receive,
     /// It uses a lock, a condition variable or a notifier.
     Other,
 }
 
 /// An object that a pending operation is on, and what is done to it.
-#[derive(Clone, Copy)]
+#[derive(Clone, Copy, PartialEq, Eq)]
 pub struct Use {
     pub object: usize,
     pub action: Action,
@@ -55,6 +59,8 @@ fn depends(action: Action, earlier: Action) -> bool {
         Action::Increment => earlier == Action::Inspect,
         Action::Decrement => earlier == Action::Decrement,
         Action::Inspect => earlier == Action::Increment || earlier == Action::Decrement,
+        Action::Send => earlier == Action::Send,
+        Action::Receive => earlier == Action::Receive,
         Action::Change | Action::Other => true,
     }
 }

@@ -1,4 +1,6 @@
 //! Why a plain run goes no further.
+use loom_objects::operation::Reply;
+use loom_scripts::number::Number;
 use loom_views::rt::failure::FailureKind;
 use std::alloc::{AllocError, AllocFailed};
 
@@ -14,6 +16,9 @@ pub enum Halt {
     /// The plain program is wrong: what must be there isn't.
     Broken,
 }
+
+/// What the active thread is told, or nothing where it comes to a branch point.
+pub type Told = Result<Option<Reply<Number>>, Halt>;
 
 impl From<AllocError> for Halt {
     fn from(_: AllocError) -> Halt {

@@ -5,6 +5,7 @@
 
 pub mod atomics;
 pub mod cells;
+pub mod channels;
 pub mod choices;
 pub mod condvars;
 pub mod counts;
@@ -12,6 +13,7 @@ pub mod dependence;
 pub mod graph;
 pub mod halt;
 pub mod locks;
+pub mod lookup;
 pub mod marks;
 pub mod notifiers;
 pub mod numbers;
@@ -21,3 +23,5 @@ pub mod search;
 pub mod state;
 pub mod stores;
 pub mod threads;
+pub mod values;
+pub mod wakers;

@@ -20,6 +20,14 @@ fn standing_at(made: &[Made], place: usize) -> Option<&Standing> {
     }
 }
 
+// Whether another option may be tried at this place.
+fn explores_at(made: &[Made], place: usize) -> bool {
+    match made.get(place) {
+        Some(each) => each.is_exploring,
+        None => false,
+    }
+}
+
 // What was chosen at this place, if that was a thread.
 fn thread_at(made: &[Made], place: usize) -> Option<Choice> {
     match made.get(place) {
@@ -50,14 +58,14 @@ pub fn preemptions(made: &[Made], place: usize) -> usize {
     count
 }
 
-// The nearest schedule from this place down.
+// The nearest exploring schedule from this place down.
 fn nearest(made: &[Made], place: usize) -> Option<usize> {
-    (0..place.saturating_add(1))
-        .rev()
-        .find(|here| standing_at(made, *here).is_some())
+    (0..place.saturating_add(1)).rev().find(|here| standing_at(made, *here).is_some()
+        && explores_at(made, *here))
 }
 
-// The nearest schedule before this place that chose another thread than the one before it, or else the first one.
+// The nearest exploring schedule before this place that chose another thread than the one before it, or else the first one, if that
+// explores.
 fn switch_before(made: &[Made], place: usize) -> Option<usize> {
     let mut later = None;
     for here in (0..place).rev() {
@@ -65,13 +73,14 @@ fn switch_before(made: &[Made], place: usize) -> Option<usize> {
             continue;
         };
         if let Some(place) = later
+            && explores_at(made, place)
             && thread_at(made, place) != Some(chosen)
         {
             return Some(place);
         }
         later = Some(here);
     }
-    later
+    later.filter(|first| explores_at(made, *first))
 }
 
 // The thread is added at the schedule: it is to be tried there, or each option where it was disabled. Nothing is where the schedule's count
@@ -156,7 +165,8 @@ pub fn choices_of(alloc: Global, made: &[Made]) -> Result<Vec<Choice>, Halt> {
     Ok(choices)
 }
 
-// For each other option of this place that is to be tried: the choices before, and the option.
+// For each other option of this place that is to be tried: the choices before, and the option. Where the search doesn't explore there is
+// none.
 fn alternatives_at(
     alloc: Global,
     settings: Settings,
@@ -168,6 +178,9 @@ fn alternatives_at(
     let (Some(before), Some(here)) = (made.get(..place), made.get(place)) else {
         return Err(Halt::Broken);
     };
+    if !here.is_exploring {
+        return Ok(());
+    }
     let tries_each = tries_each(settings, made, place);
     for option in &here.options {
         let option = *option;

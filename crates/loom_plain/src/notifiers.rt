@@ -1,29 +1,11 @@
 //! Notifiers.
-use crate::halt::{Halt, check};
-use crate::state::{MISUSE, Machine, Notify, Object, Pending, State};
+use crate::halt::{Halt, Told, check};
+use crate::state::{Machine, Notify, Object, Pending, State};
 use loom_objects::choice::Choice;
 use loom_objects::operation::{NotifyOp, Reply};
-use loom_scripts::number::Number;
 use loom_views::rt::failure::FailureKind;
 
 impl Machine {
-    /// The notifier of this number.
-    pub fn notify(&mut self, number: usize) -> Result<&mut Notify, Halt> {
-        match self.objects.get_mut(number) {
-            Some(Object::Notify(notify)) => Ok(notify),
-            Some(
-                Object::Atomic(_)
-                | Object::Cell(_)
-                | Object::Arc(_)
-                | Object::Track(_)
-                | Object::Mutex(_)
-                | Object::RwLock(_)
-                | Object::Condvar(_),
-            )
-            | None => Err(MISUSE),
-        }
-    }
-
     // The notifier of this number, which no thread has for its end.
     fn own_notify(&mut self, number: usize) -> Result<&mut Notify, Halt> {
         let notify = self.notify(number)?;
@@ -31,33 +13,32 @@ impl Machine {
         Ok(notify)
     }
 
-    /// An operation of a notifier is handed over. Nothing is told where it comes to a branch point.
-    pub fn notify_begins(&mut self, op: NotifyOp) -> Result<Option<Reply<Number>>, Halt> {
+    /// An operation of a notifier is handed over.
+    pub fn notify_begins(&mut self, op: NotifyOp) -> Told {
         match op {
-            NotifyOp::New => {
-                let point = self.fresh_point()?;
-                let notify = Notify {
-                    is_notified: false,
-                    is_of_thread: false,
-                    waiter: None,
-                    has_woken: false,
-                    point,
-                };
-                Ok(Some(Reply::Notify(self.add_object(Object::Notify(notify))?)))
-            }
+            NotifyOp::New => Ok(Some(Reply::Notify(self.notify_new(false)?))),
             NotifyOp::Notify(number) => {
                 self.own_notify(number)?;
-                self.pends(Pending::Notify(number), false)?;
-                Ok(None)
+                self.pends(Pending::Notify(number), false)
             }
-            NotifyOp::Wait(number) => {
-                self.wait_begins(number)?;
-                Ok(None)
-            }
+            NotifyOp::Wait(number) => self.wait_begins(number),
         }
     }
 
-    fn wait_begins(&mut self, number: usize) -> Result<(), Halt> {
+    /// A new notifier, by its number.
+    pub fn notify_new(&mut self, is_of_thread: bool) -> Result<usize, Halt> {
+        let point = self.fresh_point()?;
+        self.add_object(Object::Notify(Notify {
+            is_notified: false,
+            is_of_thread,
+            waiter: None,
+            has_woken: false,
+            point,
+        }))
+    }
+
+    /// The active thread comes to wait on the notifier, unless it wakes without a notification.
+    pub fn wait_begins(&mut self, number: usize) -> Told {
         let active = self.active;
         let notify = self.own_notify(number)?;
         check(notify.waiter.is_none(), FailureKind::SecondWaiter)?;
@@ -77,16 +58,15 @@ impl Machine {
     }
 
     /// The active thread has woken without a notification, and is told so.
-    pub fn rouses(&mut self, number: usize) -> Result<Reply<Number>, Halt> {
+    pub fn rouses(&mut self, number: usize) -> Told {
         self.notify(number)?.waiter = None;
-        Ok(Reply::Done)
+        Ok(Some(Reply::Done))
     }
 
     /// The active thread was notified, and is told so.
-    pub fn awaits(&mut self, number: usize) -> Result<Reply<Number>, Halt> {
+    pub fn awaits(&mut self, number: usize) -> Told {
         self.acquires_notice(number)?;
-        self.notify(number)?.waiter = None;
-        Ok(Reply::Done)
+        self.rouses(number)
     }
 
     /// The active thread acquires from the notifier, which isn't notified any more.
@@ -98,7 +78,7 @@ impl Machine {
     }
 
     /// The active thread notifies the notifier.
-    pub fn notifies(&mut self, number: usize) -> Result<(), Halt> {
+    pub fn notifies(&mut self, number: usize) -> Told {
         let point = self.notify(number)?.point;
         let point = self.released_to(point)?;
         let notify = self.notify(number)?;
@@ -113,7 +93,7 @@ impl Machine {
                 }
             }
         }
-        Ok(())
+        Ok(Some(Reply::Done))
     }
 
     // Whether the thread is another one, and is pending a wait on the notifier.

@@ -2,7 +2,7 @@
 use crate::choices::{Choices, Made, Standing, Unordered};
 use crate::dependence::Dependence;
 use crate::graph::Graph;
-use crate::halt::{Halt, check};
+use crate::halt::{Halt, Told, check};
 use crate::state::{Machine, Object, Pending, Phase, State};
 use crate::threads::new_thread;
 use loom_objects::body::Body;
@@ -10,6 +10,7 @@ use loom_objects::choice::Choice;
 use loom_objects::operation::{Op, Reply};
 use loom_scripts::number::Number;
 use loom_views::rt::failure::FailureKind;
+use loom_views::sequence::Sequence;
 use std::alloc::Global;
 use std::mem;
 
@@ -23,6 +24,8 @@ pub struct Settings {
     pub reduce: bool,
     /// How many preemptions a run may count, if that is bounded.
     pub bound: Option<usize>,
+    /// Whether other options are tried only once the body says so.
+    pub expect_explicit_explore: bool,
 }
 
 /// How a run ended.
@@ -65,7 +68,7 @@ fn opening(alloc: Global, settings: Settings, list: Vec<Choice>) -> Result<Machi
     let global = graph.add(&[], None)?;
     let present = graph.add(&[], None)?;
     let released = graph.add(&[], None)?;
-    let mut main = new_thread(present, released);
+    let mut main = new_thread(alloc, present, released);
     main.pending = Pending::Nothing;
     let mut threads = Vec::new(alloc);
     threads.push(main)?;
@@ -76,11 +79,14 @@ fn opening(alloc: Global, settings: Settings, list: Vec<Choice>) -> Result<Machi
         threads,
         objects: Vec::new(alloc),
         dependence: Dependence::new(alloc)?,
+        lazies: Sequence::new(alloc),
         active: 0,
         choices: Choices {
             list,
             made: Vec::new(alloc),
             most: settings.max_branches,
+            is_exploring: !settings.expect_explicit_explore,
+            is_settled: false,
         },
         max_threads: settings.max_threads,
     })
@@ -111,11 +117,11 @@ fn goes_on<B: Body<Data = Number>>(
 impl Machine {
     // The active thread hands the operation over. Gives what is told to the thread whose turn it is then, or nothing at the
     // run's end.
-    fn submit(&mut self, op: Op<Number, ()>) -> Result<Option<Reply<Number>>, Halt> {
+    fn submit(&mut self, op: Op<Number, ()>) -> Told {
         if let Some(reply) = self.begins(op)? {
             return Ok(Some(reply));
         }
-        for _ in 0..16 {
+        for _ in 0..self.choices.most.saturating_add(1) {
             if !self.schedule()? {
                 return Ok(None);
             }
@@ -126,17 +132,24 @@ impl Machine {
         Err(Halt::Broken)
     }
 
-    fn begins(&mut self, op: Op<Number, ()>) -> Result<Option<Reply<Number>>, Halt> {
+    // Nothing is told where the thread comes to a branch point.
+    fn begins(&mut self, op: Op<Number, ()>) -> Told {
         match op {
             Op::Atomic(op, _) => self.atomic_begins(op),
-            Op::Fence(order, _) => Ok(Some(self.fence(order)?)),
-            Op::Cell(op, _) => Ok(Some(self.cell_begins(op)?)),
+            Op::Fence(order, _) => self.fence(order),
+            Op::Cell(op, _) => self.cell_begins(op),
             Op::Arc(op, _) => self.arc_begins(op),
-            Op::Track(op, _) => Ok(Some(self.track_begins(op)?)),
+            Op::Track(op, _) => self.track_begins(op),
             Op::Mutex(op, _) => self.mutex_begins(op),
             Op::RwLock(op, _) => self.rwlock_begins(op),
             Op::Condvar(op, _) => self.condvar_begins(op),
             Op::Notify(op, _) => self.notify_begins(op),
+            Op::Channel(op, _) => self.channel_begins(op),
+            Op::Waker(op, _) => self.waker_begins(op),
+            Op::AtomicWaker(op, _) => self.place_begins(op),
+            Op::Local(op, _) => self.local_begins(op),
+            Op::Lazy(op, _) => self.lazy_begins(op),
+            Op::Explore(op, _) => self.choices.switches(op),
             Op::Thread(op, _) => self.thread_begins(op),
             Op::Fail(_) => Err(Halt::Fails(FailureKind::Assertion)),
             Op::Unreachable(_) => Err(Halt::Fails(FailureKind::Unreachable)),
@@ -144,37 +157,38 @@ impl Machine {
     }
 
     // What the chosen thread has pending takes effect. Nothing is told where it comes to another branch point.
-    fn takes_effect(&mut self) -> Result<Option<Reply<Number>>, Halt> {
-        let pending = self.me()?.pending;
-        self.me()?.pending = Pending::Nothing;
+    fn takes_effect(&mut self) -> Told {
+        let me = self.me()?;
+        let pending = me.pending;
+        me.pending = Pending::Nothing;
         match pending {
             Pending::Nothing => Err(Halt::Broken),
             Pending::Start => Ok(Some(Reply::Start)),
             Pending::Continue => Ok(Some(Reply::Done)),
-            Pending::Atomic(number, op) => Ok(Some(self.accesses(number, op)?)),
+            Pending::Atomic(number, op) => self.accesses(number, op),
             Pending::Count(number, counting) => self.counts(number, counting),
-            Pending::Lock(number) => Ok(Some(self.locks(number)?)),
-            Pending::TryLock(number) => Ok(Some(self.tries_lock(number)?)),
-            Pending::Claim(number, claim) => Ok(Some(self.claims(number, claim)?)),
+            Pending::Lock(number) => self.locks(number),
+            Pending::TryLock(number) => self.tries_lock(number),
+            Pending::Claim(number, claim) => self.claims(number, claim),
             Pending::Sleep(number, mutex, value, is_timed) => {
-                self.sleeps(number, mutex, value, is_timed)?;
-                Ok(None)
+                self.sleeps(number, mutex, value, is_timed)
             }
-            Pending::Awake(mutex, is_timed) => {
-                self.wakes_up(mutex, is_timed)?;
-                Ok(None)
-            }
-            Pending::Relock(mutex, is_timed) => Ok(Some(self.relocks(mutex, is_timed)?)),
-            Pending::NotifyOne(number) => Ok(Some(self.wakes_one(number)?)),
-            Pending::NotifyAll(number) => Ok(Some(self.wakes_all(number)?)),
-            Pending::Notify(number) => {
-                self.notifies(number)?;
-                Ok(Some(Reply::Done))
-            }
-            Pending::Await(number) => Ok(Some(self.awaits(number)?)),
-            Pending::Rouse(number) => Ok(Some(self.rouses(number)?)),
-            Pending::Join(thread, number) => Ok(Some(self.join(thread, number)?)),
-            Pending::Finish(number, value) => Ok(Some(self.finish(number, value)?)),
+            Pending::Awake(mutex, is_timed) => self.wakes_up(mutex, is_timed),
+            Pending::Relock(mutex, is_timed) => self.relocks(mutex, is_timed),
+            Pending::NotifyOne(number) => self.wakes_one(number),
+            Pending::NotifyAll(number) => self.wakes_all(number),
+            Pending::Notify(number) => self.notifies(number),
+            Pending::Await(number) => self.awaits(number),
+            Pending::Rouse(number) => self.rouses(number),
+            Pending::Join(thread, number) => self.join(thread, number),
+            Pending::Finish(number, value) => self.finish(number, value),
+            Pending::Send(number, value) => self.sends(number, value),
+            Pending::Receive(number, receiving) => self.receives(number, receiving),
+            Pending::Wake(notifier, waker, after) => self.wakes_by(notifier, waker, after),
+            Pending::CloneWaker(number, place) => self.clones_waker(number, place),
+            Pending::DropWaker(number, after) => self.drops_waker(number, after),
+            Pending::Register(number, waker) => self.registers(number, waker),
+            Pending::TakeWaker(number, wakes) => self.takes_waker(number, wakes),
         }
     }
 
@@ -285,37 +299,26 @@ impl Machine {
             .all(|thread| thread.phase == Phase::Over);
         check(has_ended, FailureKind::Deadlock)?;
         for object in &self.objects {
-            check(!is_arc_left(object), FailureKind::LeakArc)?;
-            check(!is_track_left(object), FailureKind::LeakTrack)?;
+            let (is_left, kind) = leak_of(object);
+            check(!is_left, kind)?;
         }
         self.thread(0)?.value.ok_or(Halt::Broken)
     }
 }
 
-// Whether it is a counted reference that wasn't dropped.
-fn is_arc_left(object: &Object) -> bool {
+// Whether something of the object is left that has to be given back, and what that is.
+fn leak_of(object: &Object) -> (bool, FailureKind) {
     match object {
-        Object::Arc(arc) => arc.count > 0,
+        Object::Arc(arc) => (arc.count > 0, FailureKind::LeakArc),
+        Object::Wakers(wakers) => (wakers.count > 0, FailureKind::LeakArc),
+        Object::Track(track) => (track.is_tracked, FailureKind::LeakTrack),
+        Object::Channel(channel) => (!channel.messages.is_empty(), FailureKind::LeakMessages),
         Object::Atomic(_)
         | Object::Cell(_)
-        | Object::Track(_)
         | Object::Mutex(_)
         | Object::RwLock(_)
         | Object::Condvar(_)
-        | Object::Notify(_) => false,
-    }
-}
-
-// Whether it is a tracked value that wasn't given back.
-fn is_track_left(object: &Object) -> bool {
-    match object {
-        Object::Track(track) => track.is_tracked,
-        Object::Atomic(_)
-        | Object::Cell(_)
-        | Object::Arc(_)
-        | Object::Mutex(_)
-        | Object::RwLock(_)
-        | Object::Condvar(_)
-        | Object::Notify(_) => false,
+        | Object::Notify(_)
+        | Object::Place(_) => (false, FailureKind::LeakArc),
     }
 }

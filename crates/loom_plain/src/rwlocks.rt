@@ -1,5 +1,5 @@
 //! Read-write locks.
-use crate::halt::{Halt, check};
+use crate::halt::{Halt, Told, check};
 use crate::state::{Claim, MISUSE, Machine, Object, Pending, RwLock, State};
 use loom_objects::operation::{Reply, RwLockOp};
 use loom_scripts::number::Number;
@@ -21,35 +21,17 @@ impl RwLock {
 }
 
 impl Machine {
-    // The read-write lock of this number, which is whole.
-    fn rwlock(&mut self, number: usize) -> Result<&mut RwLock, Halt> {
-        match self.objects.get_mut(number) {
-            Some(Object::RwLock(lock)) if lock.is_whole => Ok(lock),
-            Some(
-                Object::Atomic(_)
-                | Object::Cell(_)
-                | Object::Arc(_)
-                | Object::Track(_)
-                | Object::Mutex(_)
-                | Object::RwLock(_)
-                | Object::Condvar(_)
-                | Object::Notify(_),
-            )
-            | None => Err(MISUSE),
-        }
-    }
-
-    /// An operation of a read-write lock is handed over. Nothing is told where it comes to a branch point.
-    pub fn rwlock_begins(&mut self, op: RwLockOp<Number>) -> Result<Option<Reply<Number>>, Halt> {
+    /// An operation of a read-write lock is handed over.
+    pub fn rwlock_begins(&mut self, op: RwLockOp<Number>) -> Told {
         match op {
-            RwLockOp::New(value) => Ok(Some(self.rwlock_new(value)?)),
+            RwLockOp::New(value) => self.rwlock_new(value),
             RwLockOp::Read(number) => self.claim_begins(number, Claim::Read),
             RwLockOp::TryRead(number) => self.claim_begins(number, Claim::TryRead),
-            RwLockOp::ReadRelease(number) => Ok(Some(self.read_release(number)?)),
+            RwLockOp::ReadRelease(number) => self.read_release(number),
             RwLockOp::Write(number) => self.claim_begins(number, Claim::Write),
             RwLockOp::TryWrite(number) => self.claim_begins(number, Claim::TryWrite),
-            RwLockOp::WriteRelease(number, value) => Ok(Some(self.write_release(number, value)?)),
-            RwLockOp::GetMut(number) => Ok(Some(Reply::Data(self.rwlock_out(number)?))),
+            RwLockOp::WriteRelease(number, value) => self.write_release(number, value),
+            RwLockOp::GetMut(number) => self.rwlock_out(number, true),
             RwLockOp::Put(number, value) => {
                 let active = self.active;
                 let lock = self.rwlock(number)?;
@@ -58,15 +40,11 @@ impl Machine {
                 lock.value = Some(value);
                 Ok(Some(Reply::Done))
             }
-            RwLockOp::IntoInner(number) => {
-                let value = self.rwlock_out(number)?;
-                self.rwlock(number)?.is_whole = false;
-                Ok(Some(Reply::Data(value)))
-            }
+            RwLockOp::IntoInner(number) => self.rwlock_out(number, false),
         }
     }
 
-    fn rwlock_new(&mut self, value: Number) -> Result<Reply<Number>, Halt> {
+    fn rwlock_new(&mut self, value: Number) -> Told {
         let point = self.fresh_point()?;
         let lock = RwLock {
             value: Some(value),
@@ -76,45 +54,46 @@ impl Machine {
             is_whole: true,
             point,
         };
-        Ok(Reply::RwLock(self.add_object(Object::RwLock(lock))?))
+        let number = self.add_object(Object::RwLock(lock))?;
+        Ok(Some(Reply::RwLock(number)))
     }
 
     // A call that waits is blocked while the lock refuses it.
-    fn claim_begins(&mut self, number: usize, claim: Claim) -> Result<Option<Reply<Number>>, Halt> {
+    fn claim_begins(&mut self, number: usize, claim: Claim) -> Told {
         let is_refused = self.rwlock(number)?.refuses(claim);
         let is_blocked = match claim {
             Claim::Read | Claim::Write => is_refused,
             Claim::TryRead | Claim::TryWrite => false,
         };
-        self.pends(Pending::Claim(number, claim), is_blocked)?;
-        Ok(None)
+        self.pends(Pending::Claim(number, claim), is_blocked)
     }
 
-    // The data of a lock that nobody holds goes out.
-    fn rwlock_out(&mut self, number: usize) -> Result<Number, Halt> {
+    // The data of a lock that nobody holds goes out. Whether the lock stays whole.
+    fn rwlock_out(&mut self, number: usize, is_whole: bool) -> Told {
         let active = self.active;
         let lock = self.rwlock(number)?;
         check(!lock.refuses(Claim::Write), FailureKind::Misuse)?;
         check(lock.lent.is_none(), FailureKind::Misuse)?;
         let value = lock.value.take().ok_or(Halt::Broken)?;
         lock.lent = Some(active);
-        Ok(value)
+        lock.is_whole = is_whole;
+        Ok(Some(Reply::Data(value)))
     }
 
     /// The active thread takes the lock, or finds it taken.
-    pub fn claims(&mut self, number: usize, claim: Claim) -> Result<Reply<Number>, Halt> {
+    pub fn claims(&mut self, number: usize, claim: Claim) -> Told {
         let lock = self.rwlock(number)?;
         check(lock.lent.is_none(), FailureKind::Misuse)?;
         let is_refused = lock.refuses(claim);
         match claim {
-            Claim::TryRead | Claim::TryWrite if is_refused => Ok(Reply::WouldBlock),
+            Claim::TryRead | Claim::TryWrite if is_refused => Ok(Some(Reply::WouldBlock)),
             Claim::Read | Claim::Write if is_refused => Err(Halt::Broken),
             Claim::Read | Claim::TryRead => self.reads(number),
             Claim::Write | Claim::TryWrite => self.writes(number),
         }
     }
 
-    fn reads(&mut self, number: usize) -> Result<Reply<Number>, Halt> {
+    fn reads(&mut self, number: usize) -> Told {
         let active = usize::from(self.active);
         let lock = self.rwlock(number)?;
         let value = lock.value.ok_or(Halt::Broken)?;
@@ -123,7 +102,7 @@ impl Machine {
         let point = lock.point;
         self.acquire(point)?;
         self.block_writers(number);
-        Ok(Reply::ReadLocked(number, value))
+        Ok(Some(Reply::ReadLocked(number, value)))
     }
 
     // Each other thread that is pending a write of the lock is blocked.
@@ -136,7 +115,7 @@ impl Machine {
         }
     }
 
-    fn writes(&mut self, number: usize) -> Result<Reply<Number>, Halt> {
+    fn writes(&mut self, number: usize) -> Told {
         let active = self.active;
         let lock = self.rwlock(number)?;
         let value = lock.value.take().ok_or(Halt::Broken)?;
@@ -144,11 +123,11 @@ impl Machine {
         let point = lock.point;
         self.acquire(point)?;
         self.set_pending(number, State::Blocked);
-        Ok(Reply::WriteLocked(number, value))
+        Ok(Some(Reply::WriteLocked(number, value)))
     }
 
     // The active thread, which has a guard for reading, ends one.
-    fn read_release(&mut self, number: usize) -> Result<Reply<Number>, Halt> {
+    fn read_release(&mut self, number: usize) -> Told {
         let active = usize::from(self.active);
         let lock = self.rwlock(number)?;
         let count = lock.readers.get_mut(active).ok_or(Halt::Broken)?;
@@ -159,11 +138,11 @@ impl Machine {
         if !is_read {
             self.set_pending(number, State::Runnable);
         }
-        Ok(Reply::Done)
+        Ok(Some(Reply::Done))
     }
 
     // The active thread, which writes, writes no more.
-    fn write_release(&mut self, number: usize, value: Number) -> Result<Reply<Number>, Halt> {
+    fn write_release(&mut self, number: usize, value: Number) -> Told {
         let active = self.active;
         let lock = self.rwlock(number)?;
         check(lock.writer == Some(active), FailureKind::Misuse)?;
@@ -173,6 +152,6 @@ impl Machine {
         let point = self.released_to(point)?;
         self.rwlock(number)?.point = point;
         self.set_pending(number, State::Runnable);
-        Ok(Reply::Done)
+        Ok(Some(Reply::Done))
     }
 }

@@ -2,13 +2,15 @@
 use crate::choices::Choices;
 use crate::dependence::{Action, Dependence, Use};
 use crate::graph::Graph;
-use crate::halt::Halt;
-use loom_objects::operation::AtomicOp;
+use crate::halt::{Halt, Told};
+use loom_objects::operation::{AtomicOp, Lazy};
 use loom_objects::rt::thread::Name;
 use loom_scripts::number::Number;
 use loom_views::rt::failure::FailureKind;
 use loom_views::rt::num::Numbers;
+use loom_views::sequence::Sequence;
 use std::alloc::Global;
+use std::collections::LinkedList;
 
 /// What a thread waits for.
 #[derive(Clone, Copy, PartialEq, Eq)]
@@ -50,6 +52,24 @@ pub enum Counting {
     StrongCount,
 }
 
+/// How a message is received.
+#[derive(Clone, Copy)]
+pub enum Receiving {
+    Recv,
+    TryRecv,
+    /// The receiver is dropped, and takes what is left.
+    Drain,
+}
+
+/// What a thread does once it has dropped a waker.
+#[derive(Clone, Copy)]
+pub enum AfterDrop {
+    Nothing,
+    Yield,
+    /// It releases the lock of this place.
+    Free(usize),
+}
+
 /// What a thread does when it is chosen. Objects are named by their numbers.
 #[derive(Clone, Copy)]
 pub enum Pending {
@@ -79,6 +99,17 @@ pub enum Pending {
     Join(u8, usize),
     /// It notifies its own notifier, and keeps the result.
     Finish(usize, Number),
+    Send(usize, Number),
+    Receive(usize, Receiving),
+    /// It notifies this notifier by the waker, which it may drop then.
+    Wake(usize, usize, Option<AfterDrop>),
+    /// It makes a waker more, which may be for this place.
+    CloneWaker(usize, Option<usize>),
+    DropWaker(usize, AfterDrop),
+    /// The place, and the waker that is to take it.
+    Register(usize, usize),
+    /// Whether it wakes by the waker that it takes out.
+    TakeWaker(usize, bool),
 }
 
 // What the access does to its atomic.
@@ -128,32 +159,23 @@ impl Pending {
             | Pending::Notify(number)
             | Pending::Await(number)
             | Pending::Join(_, number)
-            | Pending::Finish(number, _) => (number, Action::Other),
+            | Pending::Finish(number, _)
+            | Pending::Wake(number, ..)
+            | Pending::Register(number, _)
+            | Pending::TakeWaker(number, _) => (number, Action::Other),
+            Pending::Send(number, _) => (number, Action::Send),
+            Pending::Receive(number, _) => (number, Action::Receive),
+            Pending::CloneWaker(number, _) => (number, Action::Increment),
+            Pending::DropWaker(number, _) => (number, Action::Decrement),
         };
         Some(Use { object, action })
     }
 
     /// The object that it is pending on.
     pub fn object(self) -> Option<usize> {
-        match self {
-            Pending::Nothing
-            | Pending::Start
-            | Pending::Continue
-            | Pending::Awake(..)
-            | Pending::Rouse(_) => None,
-            Pending::Atomic(number, _)
-            | Pending::Count(number, _)
-            | Pending::Lock(number)
-            | Pending::TryLock(number)
-            | Pending::Claim(number, _)
-            | Pending::Sleep(number, ..)
-            | Pending::Relock(number, _)
-            | Pending::NotifyOne(number)
-            | Pending::NotifyAll(number)
-            | Pending::Notify(number)
-            | Pending::Await(number)
-            | Pending::Join(_, number)
-            | Pending::Finish(number, _) => Some(number),
+        match self.used() {
+            Some(used) => Some(used.object),
+            None => None,
         }
     }
 
@@ -178,7 +200,14 @@ impl Pending {
             | Pending::Await(_)
             | Pending::Rouse(_)
             | Pending::Join(..)
-            | Pending::Finish(..) => false,
+            | Pending::Finish(..)
+            | Pending::Send(..)
+            | Pending::Receive(..)
+            | Pending::Wake(..)
+            | Pending::CloneWaker(..)
+            | Pending::DropWaker(..)
+            | Pending::Register(..)
+            | Pending::TakeWaker(..) => false,
         }
     }
 
@@ -201,9 +230,24 @@ impl Pending {
             | Pending::NotifyAll(_)
             | Pending::Notify(_)
             | Pending::Rouse(_)
-            | Pending::Finish(..) => false,
+            | Pending::Finish(..)
+            | Pending::Send(..)
+            | Pending::Receive(..)
+            | Pending::Wake(..)
+            | Pending::CloneWaker(..)
+            | Pending::DropWaker(..)
+            | Pending::Register(..)
+            | Pending::TakeWaker(..) => false,
         }
     }
+}
+
+/// A thread's own value.
+#[derive(Clone, Copy)]
+pub struct Local {
+    pub key: usize,
+    /// Nothing once it was given back.
+    pub value: Option<Number>,
 }
 
 /// A thread of the run.
@@ -229,6 +273,10 @@ pub struct Thread {
     pub notifier: Option<usize>,
     pub is_joined: bool,
     pub name: Option<Name>,
+    /// In the order made.
+    pub locals: Vec<Local>,
+    /// The messages that it has taken of a receiver that it drops.
+    pub taken: LinkedList<Number>,
 }
 
 /// That a thread touched a store, with the last point that had raised it then.
@@ -347,6 +395,38 @@ pub struct Notify {
     pub point: usize,
 }
 
+/// A message, and the point that is acquired with it.
+#[derive(Clone, Copy)]
+pub struct Message {
+    pub value: Number,
+    pub point: usize,
+}
+
+#[derive(Drop)]
+pub struct Channel {
+    pub senders: u64,
+    pub has_receiver: bool,
+    /// The one that was sent first first.
+    pub messages: LinkedList<Message>,
+    pub point: usize,
+}
+
+/// The wakers of a future, counted.
+#[derive(Clone, Copy)]
+pub struct Wakers {
+    pub notifier: usize,
+    pub count: u64,
+    pub point: usize,
+}
+
+/// A place for a waker, with its lock.
+#[derive(Clone, Copy)]
+pub struct Place {
+    pub holder: Option<u8>,
+    pub waker: Option<usize>,
+    pub point: usize,
+}
+
 #[derive(Drop)]
 pub enum Object {
     Atomic(Atomic),
@@ -357,6 +437,9 @@ pub enum Object {
     RwLock(RwLock),
     Condvar(Condvar),
     Notify(Notify),
+    Channel(Channel),
+    Wakers(Wakers),
+    Place(Place),
 }
 
 /// The whole state of a run.
@@ -371,6 +454,8 @@ pub struct Machine {
     /// In order of creation.
     pub objects: Vec<Object>,
     pub dependence: Dependence,
+    /// The values that were made once in the run, in the order made, each with the point that is acquired with it.
+    pub lazies: Sequence<Lazy<Number>>,
     /// The thread whose turn it is.
     pub active: u8,
     pub choices: Choices,
@@ -450,21 +535,21 @@ impl Machine {
     }
 
     /// The active thread comes to a branch point.
-    pub fn pends(&mut self, pending: Pending, is_blocked: bool) -> Result<(), Halt> {
+    pub fn pends(&mut self, pending: Pending, is_blocked: bool) -> Told {
         let me = self.me()?;
         me.pending = pending;
         if is_blocked {
             me.state = State::Blocked;
         }
-        Ok(())
+        Ok(None)
     }
 
     /// The active thread comes to a branch point without object, in this state.
-    pub fn steps_back(&mut self, state: State, pending: Pending) -> Result<(), Halt> {
+    pub fn steps_back(&mut self, state: State, pending: Pending) -> Told {
         let me = self.me()?;
         me.pending = pending;
         me.state = state;
-        Ok(())
+        Ok(None)
     }
 
     /// Each other thread that is pending on the object comes to this state.

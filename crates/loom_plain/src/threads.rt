@@ -1,13 +1,15 @@
 //! Threads: spawns, joins, tokens, yields, ends.
-use crate::halt::{Halt, check};
-use crate::state::{MISUSE, Machine, Notify, Object, Pending, Phase, State, Thread};
+use crate::halt::{Halt, Told, check};
+use crate::state::{MISUSE, Machine, Pending, Phase, State, Thread};
 use loom_objects::operation::{Reply, ThreadOp};
 use loom_objects::rt::thread::Name;
 use loom_scripts::number::Number;
 use loom_views::rt::failure::FailureKind;
+use std::alloc::Global;
+use std::collections::LinkedList;
 
 /// A thread that is to begin at this point.
-pub fn new_thread(present: usize, released: usize) -> Thread {
+pub fn new_thread(alloc: Global, present: usize, released: usize) -> Thread {
     Thread {
         state: State::Runnable,
         phase: Phase::Working,
@@ -22,43 +24,32 @@ pub fn new_thread(present: usize, released: usize) -> Thread {
         notifier: None,
         is_joined: false,
         name: None,
+        locals: Vec::new(alloc),
+        taken: LinkedList::new(alloc),
     }
 }
 
 impl Machine {
-    /// An operation of threads is handed over. Nothing is told where it comes to a branch point.
-    pub fn thread_begins(
-        &mut self,
-        op: ThreadOp<Number, ()>,
-    ) -> Result<Option<Reply<Number>>, Halt> {
+    /// An operation of threads is handed over.
+    pub fn thread_begins(&mut self, op: ThreadOp<Number, ()>) -> Told {
         match op {
-            ThreadOp::Spawn((), name) => Ok(Some(self.spawn(name)?)),
-            ThreadOp::Join(thread, notifier) => {
-                self.join_begins(thread, notifier)?;
-                Ok(None)
-            }
+            ThreadOp::Spawn((), name) => self.spawn(name),
+            ThreadOp::Join(thread, notifier) => self.join_begins(thread, notifier),
             ThreadOp::Current => {
                 let name = self.me()?.name;
                 Ok(Some(Reply::Thread(self.active, name)))
             }
             ThreadOp::Park => self.park(),
-            ThreadOp::Unpark(thread) => {
-                self.unpark(thread)?;
-                Ok(Some(Reply::Done))
-            }
-            ThreadOp::Yield => {
-                self.yields(Pending::Continue)?;
-                Ok(None)
-            }
+            ThreadOp::Unpark(thread) => self.unpark(thread),
+            ThreadOp::Yield => self.yields(Pending::Continue),
             ThreadOp::Finish(value) => self.finish_begins(value),
             ThreadOp::Exit => {
                 self.moves_on(Phase::Finished, Phase::Exited)?;
-                Ok(Some(Reply::Done))
+                self.takes_locals()
             }
             ThreadOp::End => {
                 self.moves_on(Phase::Exited, Phase::Over)?;
-                self.steps_back(State::Ended, Pending::Nothing)?;
-                Ok(None)
+                self.steps_back(State::Ended, Pending::Nothing)
             }
         }
     }
@@ -71,32 +62,27 @@ impl Machine {
         Ok(())
     }
 
-    fn spawn(&mut self, name: Option<Name>) -> Result<Reply<Number>, Halt> {
+    fn spawn(&mut self, name: Option<Name>) -> Told {
         let count = self.threads.len();
         check(count < self.max_threads, FailureKind::TooManyThreads)?;
-        let number = u8::try_from(count).map_err(|_| Halt::Broken)?;
+        let Ok(number) = u8::try_from(count) else {
+            return Err(Halt::Broken);
+        };
         let before = self.present()?;
         let begins = self.graph.add(&[before], Some(number))?;
         self.raise()?;
-        let point = self.fresh_point()?;
-        let notifier = self.add_object(Object::Notify(Notify {
-            is_notified: false,
-            is_of_thread: true,
-            waiter: None,
-            has_woken: false,
-            point,
-        }))?;
+        let notifier = self.notify_new(true)?;
         let released = self.fresh_point()?;
-        let mut thread = new_thread(begins, released);
+        let mut thread = new_thread(self.alloc, begins, released);
         thread.raised = Some(begins);
         thread.notifier = Some(notifier);
         thread.name = name;
         self.threads.push(thread)?;
         self.dependence.child(self.active)?;
-        Ok(Reply::Spawned(number, name, notifier))
+        Ok(Some(Reply::Spawned(number, name, notifier)))
     }
 
-    fn join_begins(&mut self, number: u8, notifier: usize) -> Result<(), Halt> {
+    fn join_begins(&mut self, number: u8, notifier: usize) -> Told {
         let thread = self.threads.get_mut(usize::from(number)).ok_or(MISUSE)?;
         check(thread.notifier == Some(notifier), FailureKind::Misuse)?;
         check(!thread.is_joined, FailureKind::Misuse)?;
@@ -106,23 +92,22 @@ impl Machine {
     }
 
     /// The active thread has joined this one.
-    pub fn join(&mut self, number: u8, notifier: usize) -> Result<Reply<Number>, Halt> {
+    pub fn join(&mut self, number: u8, notifier: usize) -> Told {
         self.acquires_notice(notifier)?;
         let value = self.thread(number)?.value.take().ok_or(Halt::Broken)?;
-        Ok(Reply::Data(value))
+        Ok(Some(Reply::Data(value)))
     }
 
-    fn park(&mut self) -> Result<Option<Reply<Number>>, Halt> {
+    fn park(&mut self) -> Told {
         let me = self.me()?;
         if me.has_token {
             me.has_token = false;
             return Ok(Some(Reply::Done));
         }
-        self.steps_back(State::Parked, Pending::Continue)?;
-        Ok(None)
+        self.steps_back(State::Parked, Pending::Continue)
     }
 
-    fn unpark(&mut self, number: u8) -> Result<(), Halt> {
+    fn unpark(&mut self, number: u8) -> Told {
         check(
             usize::from(number) < self.threads.len(),
             FailureKind::Misuse,
@@ -138,36 +123,32 @@ impl Machine {
                 thread.has_token = true;
             }
         }
-        Ok(())
+        Ok(Some(Reply::Done))
     }
 
     /// The active thread lets others go on first.
-    pub fn yields(&mut self, pending: Pending) -> Result<(), Halt> {
+    pub fn yields(&mut self, pending: Pending) -> Told {
         let me = self.me()?;
         me.yielded = Some(me.raised);
         me.yields = me.yields.saturating_add(1);
         self.steps_back(State::Yielding, pending)
     }
 
-    fn finish_begins(&mut self, value: Number) -> Result<Option<Reply<Number>>, Halt> {
+    fn finish_begins(&mut self, value: Number) -> Told {
         self.moves_on(Phase::Working, Phase::Finished)?;
         let me = self.me()?;
         match me.notifier {
             None => {
                 me.value = Some(value);
-                Ok(Some(Reply::Done))
+                self.takes_lazies()
             }
-            Some(notifier) => {
-                self.pends(Pending::Finish(notifier, value), false)?;
-                Ok(None)
-            }
+            Some(notifier) => self.pends(Pending::Finish(notifier, value), false),
         }
     }
 
     /// The active thread, which isn't main, finishes.
-    pub fn finish(&mut self, notifier: usize, value: Number) -> Result<Reply<Number>, Halt> {
-        self.notifies(notifier)?;
+    pub fn finish(&mut self, notifier: usize, value: Number) -> Told {
         self.me()?.value = Some(value);
-        Ok(Reply::Done)
+        self.notifies(notifier)
     }
 }

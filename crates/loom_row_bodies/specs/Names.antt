@@ -8,22 +8,36 @@ use Rattle.loom_row_bodies.specs.Scripts.First as first
 use Rattle.loom_row_bodies.specs.Scripts.Atomics as atomics
 use Rattle.loom_row_bodies.specs.Scripts.Cells as cells
 use Rattle.loom_row_bodies.specs.Scripts.Locks as locks
+use Rattle.loom_row_bodies.specs.Scripts.Channels as channels
+use Rattle.loom_row_bodies.specs.Scripts.Wakers as wakers
+use Rattle.loom_row_bodies.specs.Scripts.Values as values
+use Rattle.loom_row_bodies.specs.Scripts.Exploring as exploring
+use Rattle.loom_row_bodies.specs.Scripts.Limits as limits
 
 -- the settings that a builder begins with
 abbrev pub defaults : Builder
-defaults = record { max_threads = 5; max_branches = 1000; preemption_bound = None; max_steps = 1000000; reduce = true }
+defaults =
+    record { max_threads = 5; max_branches = 1000; preemption_bound = None; max_steps = 1000000; reduce = true; expect_explicit_explore = false }
 
 -- the same, but each schedule tries every thread that can go on
 abbrev pub whole_search : Builder
-whole_search = record { max_threads = 5; max_branches = 1000; preemption_bound = None; max_steps = 1000000; reduce = false }
+whole_search = record defaults { reduce = false }
 
 -- the defaults, but the threads of a run hand over ten operations at most
 abbrev pub ten_steps : Builder
-ten_steps = record { max_threads = 5; max_branches = 1000; preemption_bound = None; max_steps = 10; reduce = true }
+ten_steps = record defaults { max_steps = 10 }
 
 -- the defaults, but a run may have 100,000 nodes
 abbrev pub long_runs : Builder
-long_runs = record { max_threads = 5; max_branches = 100000; preemption_bound = None; max_steps = 1000000; reduce = true }
+long_runs = record defaults { max_branches = 100000 }
+
+-- the defaults, but a run may have three nodes
+abbrev pub three_nodes : Builder
+three_nodes = record defaults { max_branches = 3 }
+
+-- each schedule tries every thread that can go on, from where a run begins to explore
+abbrev pub explicit_search : Builder
+explicit_search = record whole_search { expect_explicit_explore = true }
 
 -- the script of these steps, by the defaults
 abbrev pub script : List ℕ → List Step → Named
@@ -40,6 +54,14 @@ short name steps = record { name = name; means = Steps steps; builder = ten_step
 -- the same in runs of 100,000 nodes at most
 abbrev pub long : List ℕ → List Step → Named
 long name steps = record { name = name; means = Steps steps; builder = long_runs }
+
+-- the same in runs of three nodes at most
+abbrev pub few : List ℕ → List Step → Named
+few name steps = record { name = name; means = Steps steps; builder = three_nodes }
+
+-- the same by a search that isn't reduced, from where a run begins to explore
+abbrev pub explicit : List ℕ → List Step → Named
+explicit name steps = record { name = name; means = Steps steps; builder = explicit_search }
 
 -- the thread that updates its atomic, with these two numbers, by the defaults
 abbrev pub updates : List ℕ → ℕ → ℕ → Named
@@ -110,6 +132,52 @@ lock_rows name =
 abbrev pub AreLockRows : List Named → Type 0
 AreLockRows rows = (name : Name) × (name.text.now ≡ codes "foobar") × (rows ≡ lock_rows name)
 
--- all of them, in which the named child is called foobar (a name's value holds where its text stands, so it has no definition)
+-- about channels, with the name that one script gives a thread
+abbrev pub channel_rows : Name → List Named
+channel_rows name =
+    script (codes "send_then_recv") channels.send_then_recv ∷ script (codes "recv_after_drop") channels.recv_after_drop ∷
+    script (codes "commutative_senders") channels.commutative_senders ∷
+    script (codes "non_commutative_senders1") channels.non_commutative_senders1 ∷
+    script (codes "try_recv_empty") channels.try_recv_empty ∷ script (codes "drop_receiver") channels.drop_receiver ∷
+    script (codes "message_left") channels.message_left ∷ script (codes "send_late") channels.send_late ∷
+    script (codes "name_sent") (channels.name_sent name) ∷ []
+
+-- the rows of channels, in which the named child is called foobar
+abbrev pub AreChannelRows : List Named → Type 0
+AreChannelRows rows = (name : Name) × (name.text.now ≡ codes "foobar") × (rows ≡ channel_rows name)
+
+-- about wakers
+abbrev pub waker_rows : List Named
+waker_rows =
+    script (codes "ready_at_once") wakers.ready_at_once ∷ script (codes "waker_leak") wakers.waker_leak ∷
+    script (codes "waker_round") wakers.waker_round ∷ script (codes "spurious_poll") wakers.spurious_poll ∷ []
+
+-- about threads' own values, and values that are made once a run
+abbrev pub value_rows : List Named
+value_rows =
+    script (codes "lazy_once") values.lazy_once ∷ script (codes "lazy_late") values.lazy_late ∷
+    script (codes "local_twice") values.local_twice ∷ script (codes "local_gone") values.local_gone ∷
+    script (codes "local_access_error") values.local_access_error ∷ script (codes "local_order") values.local_order ∷ []
+
+-- about runs that don't explore everywhere
+abbrev pub exploring_rows : List Named
+exploring_rows =
+    whole (codes "stop_exploring") exploring.stop_exploring ∷
+    whole (codes "stop_exploring_twice") exploring.stop_exploring_twice ∷ whole (codes "skip_branch") exploring.skip_branch ∷
+    explicit (codes "never_explore") first.lock_beside ∷ explicit (codes "explore_first") exploring.explore_first ∷ []
+
+-- about misuse and limits
+abbrev pub limit_rows : List Named
+limit_rows =
+    few (codes "spin_alone") limits.spin_alone ∷ script (codes "fences") limits.fences ∷
+    script (codes "too_many_fences") limits.too_many_fences ∷ long (codes "too_many_stores") limits.too_many_stores ∷
+    script (codes "finish_twice") limits.finish_twice ∷ script (codes "exit_first") limits.exit_first ∷
+    script (codes "put_absent") limits.put_absent ∷ script (codes "guard_left") limits.guard_left ∷ []
+
+-- all of them, in which both named children are called foobar (a name's value holds where its text stands, so it has no definition)
 abbrev pub IsTable : List Named → Type 0
-IsTable rows = (name : Name) × (name.text.now ≡ codes "foobar") × (rows ≡ first_rows ++ atomic_rows ++ cell_rows ++ lock_rows name)
+IsTable rows =
+    (name : Name) × (other : Name)
+    × (name.text.now ≡ codes "foobar")
+    × (other.text.now ≡ codes "foobar")
+    × (rows ≡ first_rows ++ atomic_rows ++ cell_rows ++ lock_rows name ++ channel_rows other ++ waker_rows ++ value_rows ++ exploring_rows ++ limit_rows)

@@ -3,7 +3,7 @@ use Rattle.std.specs.Prelude.{ℕ, ◌≡◌, List, [], ◌∷◌, Option, Some,
 use Rattle.std.specs.List.{find}
 use Rattle.std.specs.Str.{bytes_eq}
 use Rattle.loom.specs.Check.{ReportsAlone}
-use Rattle.loom.specs.Settings.{search_of}
+use Rattle.loom.specs.Settings.{explores, search_of}
 use Rattle.loom.specs.declared.model.Builder.{Builder}
 use Rattle.loom.specs.declared.model.Report.{Report}
 use Rattle.loom_runs.specs.Runs.{runs as runs_of}
@@ -29,12 +29,12 @@ meant_by rows words = None
 
 -- what a report says of the runs of a script, with these settings
 abbrev pub ReportsScript : List Step → Builder → Report → Type 0
-ReportsScript steps b = ReportsAlone (search_of b) (runs_of script.next_of b.max_threads b.max_steps (started steps))
+ReportsScript steps b = ReportsAlone (search_of b) (runs_of script.next_of (explores b) b.max_threads b.max_steps (started steps))
 
 -- what a report says of the runs of what is checked
 abbrev pub ReportsOf : Checked → Builder → Report → Type 0
 ReportsOf (Script steps) b = ReportsScript steps.now b
-ReportsOf (Updater one other) b = ReportsAlone (search_of b) (runs_of updates.next_of b.max_threads b.max_steps (updates.begun one other))
+ReportsOf (Updater one other) b = ReportsAlone (search_of b) (runs_of updates.next_of (explores b) b.max_threads b.max_steps (updates.begun one other))
 
 -- just the line of a report of which this holds was written, and the status is the report's
 abbrev pub PrintedSome : (Report → Type 0) → Option (List ℕ) → Option (List ℕ) → ℕ → Type 0
@@ -52,7 +52,7 @@ named_by table words = None
 -- what a report says of the runs of what a name means
 abbrev pub ReportsMeant : Meant → Builder → Report → Type 0
 ReportsMeant (Steps steps) b = ReportsScript steps b
-ReportsMeant (Updates one other) b = ReportsAlone (search_of b) (runs_of updates.next_of b.max_threads b.max_steps (updates.begun one other))
+ReportsMeant (Updates one other) b = ReportsAlone (search_of b) (runs_of updates.next_of (explores b) b.max_threads b.max_steps (updates.begun one other))
 
 -- the words mean a row of this table, and what was written is of a check of what it means
 abbrev pub PrintedBy : List Named → List (List ℕ) → Option (List ℕ) → Option (List ℕ) → ℕ → Type 0

@@ -4,3 +4,8 @@ pub mod First
 pub mod Atomics
 pub mod Cells
 pub mod Locks
+pub mod Channels
+pub mod Wakers
+pub mod Values
+pub mod Exploring
+pub mod Limits

@@ -2,7 +2,12 @@
 
 pub mod atomics;
 pub mod cells;
+pub mod channels;
+pub mod exploring;
+pub mod limits;
 pub mod locks;
+pub mod values;
+pub mod wakers;
 
 ghost use Rattle.std.specs.Prelude.{◌≡◌, map};
 ghost use Rattle.loom_row_bodies.specs.Meanings.{named};

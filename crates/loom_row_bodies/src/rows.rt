@@ -2,13 +2,13 @@
 ghost use Rattle.std.specs.Prelude.{◌≡◌, ◌⊎◌, IfOk, map, option_copied};
 ghost use Rattle.loom_runs.specs.Runs.{runs as runs_of};
 ghost use Rattle.loom.specs.Check.{ReportsAlone};
-ghost use Rattle.loom.specs.Settings.{search_of};
+ghost use Rattle.loom.specs.Settings.{explores, search_of};
 ghost use Rattle.loom_row_bodies.specs.Line.{PrintedOf};
 ghost use Rattle.loom_row_bodies.specs.Meanings.{named};
 ghost use Rattle.loom_row_bodies.specs.Names.{IsTable};
 ghost use Rattle.loom_row_bodies.specs.Rows.{PrintedNamed, PrintedRow, PrintedSome, ReportsOf, row_of};
 
-use crate::bodies::{self, atomics, cells, locks};
+use crate::bodies::{self, atomics, cells, channels, exploring, limits, locks, values, wakers};
 use crate::line::{self, ShownReport};
 use crate::updates::Updater;
 use loom::Body;
@@ -46,33 +46,37 @@ pub const DEFAULTS: Builder = Builder {
     preemption_bound: None,
     max_steps: 1_000_000,
     reduce: true,
+    expect_explicit_explore: false,
 };
 
 /// The same, but each schedule tries every thread that can go on.
 pub const WHOLE: Builder = Builder {
-    max_threads: 5,
-    max_branches: 1000,
-    preemption_bound: None,
-    max_steps: 1_000_000,
     reduce: false,
+    ..DEFAULTS
 };
 
 /// The defaults, but the threads of a run hand over ten operations at most.
 pub const TEN_STEPS: Builder = Builder {
-    max_threads: 5,
-    max_branches: 1000,
-    preemption_bound: None,
     max_steps: 10,
-    reduce: true,
+    ..DEFAULTS
 };
 
 /// The defaults, but a run may have 100,000 nodes.
 pub const LONG_RUNS: Builder = Builder {
-    max_threads: 5,
     max_branches: 100_000,
-    preemption_bound: None,
-    max_steps: 1_000_000,
-    reduce: true,
+    ..DEFAULTS
+};
+
+/// The defaults, but a run may have three nodes.
+pub const THREE_NODES: Builder = Builder {
+    max_branches: 3,
+    ..DEFAULTS
+};
+
+/// Each schedule tries every thread that can go on, from where a run begins to explore.
+pub const EXPLICIT: Builder = Builder {
+    expect_explicit_explore: true,
+    ..WHOLE
 };
 
 // The row of a script, which is checked with the defaults unless settings are given.
@@ -100,6 +104,11 @@ pub fn all_rows(alloc: Global) -> Result<Vec<Row>, AllocError>
     rows.extend_from_slice(atomics::rows())?;
     rows.extend_from_slice(cells::rows())?;
     rows.extend_from_slice(locks::rows())?;
+    rows.extend_from_slice(channels::rows())?;
+    rows.extend_from_slice(wakers::rows())?;
+    rows.extend_from_slice(values::rows())?;
+    rows.extend_from_slice(exploring::rows())?;
+    rows.extend_from_slice(limits::rows())?;
     Ok(rows)
 }
 
@@ -194,7 +203,7 @@ fn check_body<R: AllocGlobal, B: Body<Data = Number>, O: Write, E: Write>(
     out: &mut O,
     err: &mut E,
 ) -> io::Result<u8>
-    ensures { IfOk result (λ status. (status ≡ 2) ⊎ PrintedSome (ReportsAlone (search_of builder) (runs_of B.next builder.max_threads builder.max_steps body.now)) (O.contents out.old) (O.contents out.new) status) }
+    ensures { IfOk result (λ status. (status ≡ 2) ⊎ PrintedSome (ReportsAlone (search_of builder) (runs_of B.next (explores builder) builder.max_threads builder.max_steps body.now)) (O.contents out.old) (O.contents out.new) status) }
 {
     match builder.check(rt.alloc(), body) {
         Ok(report) => print_report(out, &report),

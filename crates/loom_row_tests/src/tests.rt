@@ -1,6 +1,10 @@
 mod bodies;
 mod cells;
+mod channels;
+mod each_operation;
+mod exploring;
 mod guide;
+mod limits;
 mod lists;
 mod litmus;
 mod locks;
@@ -8,9 +12,12 @@ mod plain;
 mod printed;
 mod replays;
 mod searches;
+mod shared;
 mod sizes;
+mod values;
+mod wakers;
 
-use loom::model::Report;
+use loom::model::{Builder, Report};
 use loom::visitor::Visitor;
 use loom::{Body, Choice};
 use loom_objects::operation::{Op, ThreadOp};
@@ -72,14 +79,23 @@ impl Visitor<Number> for Keeper {
     }
 }
 
-// The runs of a check that completes and isn't reduced, in the order in which they came.
-fn runs_of<B: Body<Data = Number>>(alloc: Global, body: &B) -> Result<Vec<Run>, Fail> {
+// The runs of a check that completes, in the order in which they came.
+fn runs_by<B: Body<Data = Number>>(
+    alloc: Global,
+    builder: Builder,
+    body: &B,
+) -> Result<Vec<Run>, Fail> {
     let mut keeper = Keeper {
         alloc,
         runs: Vec::new(alloc),
     };
-    match WHOLE.check_with(alloc, body, &mut keeper)? {
+    match builder.check_with(alloc, body, &mut keeper)? {
         Report::Complete { .. } => Ok(keeper.runs),
         _ => Err(Fail::from("the check is not complete")),
     }
+}
+
+// The same, where the check isn't reduced.
+fn runs_of<B: Body<Data = Number>>(alloc: Global, body: &B) -> Result<Vec<Run>, Fail> {
+    runs_by(alloc, WHOLE, body)
 }

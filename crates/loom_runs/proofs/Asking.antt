@@ -1,5 +1,5 @@
 -- The default thread of a question is able, and without one no thread is.
-use Rattle.std.proofs.Common.{◌≡◌, ◌≢◌, ◌≤◌, ℕ, List, length, Option, Some, None, subst}
+use Rattle.std.proofs.Common.{◌≡◌, ◌≢◌, ◌≤◌, ℕ, Bool, List, length, Option, Some, None, subst}
 use Rattle.std.specs.Prelude.{slice_get}
 use Rattle.loom_objects.specs.declared.rt.thread.Ability.{Ability}
 use Rattle.loom_objects.specs.declared.rt.thread.Ability.TheVariants.{Able}
@@ -15,5 +15,5 @@ pub none_is_able : (default : Option ℕ) (abilities : List Ability) → AreSoun
 none_is_able default abilities sound none = subst (λ (o : Option ℕ). AreSoundOffers o abilities) none sound
 
 -- the question which thread goes on is sound
-pub which_is_sound : (offers : Offers) (places : List (Option ℕ)) → AreSoundOffers offers.default offers.abilities → length offers.abilities ≤ 5 → IsSound (which_thread offers places)
-which_is_sound offers places sound few = (default_is_able offers.default offers.abilities sound, few)
+pub which_is_sound : (exploring : Bool) (offers : Offers) (places : List (Option ℕ)) → AreSoundOffers offers.default offers.abilities → length offers.abilities ≤ 5 → IsSound (which_thread exploring offers places)
+which_is_sound exploring offers places sound few = (default_is_able offers.default offers.abilities sound, few)

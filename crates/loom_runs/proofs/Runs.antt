@@ -15,6 +15,9 @@ pub mod Raising
 pub mod Cells
 pub mod Counts
 pub mod Tracks
+pub mod Channels
+pub mod Wakers
+pub mod Values
 pub mod Atomics
 pub mod Tables
 pub mod Answering
@@ -24,5 +27,13 @@ pub mod Steps
 pub mod Exclusive
 pub mod Holding
 pub mod Bodies
+pub mod Exploring
+pub mod Moving
+pub mod Lifting
+pub mod Making
+pub mod Telling
+pub mod Queues
+pub mod Receiving
+pub mod InOrder
 pub mod Rows
 pub mod Reduced

@@ -1,8 +1,11 @@
--- The course of a run: the state of the machine, the order of the accesses so far, and how many nodes the run has passed.
-use Rattle.std.specs.Prelude.{ℕ, suc, ◌-◌, List, length, Option, Some, None, Result, Ok, Err}
+-- The course of a run: the state of the machine, the order of the accesses so far, how many nodes the run has passed, and
+-- whether the search explores at those that come.
+use Rattle.std.specs.Prelude.{ℕ, suc, Bool, ◌-◌, List, length, Option, Some, None, Result, Ok, Err}
 use Rattle.loom_views.specs.declared.rt.failure.FailureKind.{FailureKind}
 use Rattle.loom_dependence.specs.Dependence.{Order, opening as no_accesses, grown, unordered, after_use}
 use Rattle.loom_dependence.specs.declared.rt.dependence.Use.{Use}
+use Rattle.loom_objects.specs.Exploring.{initially}
+use Rattle.loom_objects.specs.declared.rt.exploring.Exploring.{Exploring}
 use Rattle.loom_objects.specs.Tree.{Tree, Gives, Fails, Closes, Asks}
 use Rattle.loom_objects.specs.Uses.{use_at, uses}
 use Rattle.loom_objects.specs.World.{World, opening as first_world}
@@ -11,11 +14,12 @@ pub record Course (D : Type 0) : Type 0 where
   pub world : World D
   pub order : Order
   pub passed : ℕ
+  pub exploring : Exploring
 
 module _ {D : Type 0} where
-  -- main is about to hand over its first operation
-  abbrev pub opening : ℕ → ℕ → Course D
-  opening max_threads max_steps = record { world = first_world max_threads max_steps; order = no_accesses; passed = 0 }
+  -- main is about to hand over its first operation; the run begins to explore, or doesn't
+  abbrev pub opening : Bool → ℕ → ℕ → Course D
+  opening explores max_threads max_steps = record { world = first_world max_threads max_steps; order = no_accesses; passed = 0; exploring = initially explores }
 
   -- A step of the machine, on the way of a run: each question is a node that the run passes.
   abbrev pub one_passed : Course D → Course D

@@ -14,7 +14,7 @@ use Rattle.loom_objects.specs.declared.operation.Reply.TheVariants as reply
 use Rattle.loom_objects.specs.declared.operation.Turn.{Turn}
 use Rattle.loom_objects.specs.declared.operation.Turn.TheVariants as turn
 use Rattle.loom_objects.specs.declared.rt.object.Object.{Object}
-use Rattle.loom_objects.specs.declared.rt.object.Object.TheVariants.{Atomic, Mutex, RwLock, Condvar, Notify, Cell, Arc, Track}
+use Rattle.loom_objects.specs.declared.rt.object.Object.TheVariants.{Atomic, Mutex, RwLock, Condvar, Notify, Cell, Arc, Track, Channel, Wakers, AtomicWaker}
 use Rattle.loom_objects.specs.Moves.{is_number}
 use Rattle.loom_objects.specs.RwLocks.{is_unread}
 use Rattle.loom_objects.specs.Schedules.{or_else}
@@ -31,7 +31,7 @@ ComesTo (Asks question branches) a = (choice : Choice) × ComesTo (branches choi
 
 -- a state in which some history leaves the machine: the opening one, or one that an operation of the active thread leads to
 pub data IsReached {D : Type 0} (max_threads max_steps : ℕ) : Course D → Type 0 where
-  at_first : IsReached max_threads max_steps (opening max_threads max_steps)
+  at_first : (explores : Bool) → IsReached max_threads max_steps (opening explores max_threads max_steps)
   later : (c : Course D) (op : Op D ⊤) (turn : Turn D) (v : Course D) → IsReached max_threads max_steps c → ComesTo (submit op c) (turn, v) → IsReached max_threads max_steps v
 
 module _ {D : Type 0} where
@@ -46,6 +46,9 @@ module _ {D : Type 0} where
   is_exclusive (Cell cell) = true
   is_exclusive (Arc arc) = true
   is_exclusive (Track track) = true
+  is_exclusive (Channel channel) = true
+  is_exclusive (Wakers wakers) = true
+  is_exclusive (AtomicWaker place) = true
 
 -- over every history a mutex that is held keeps no data, and a read-write lock has one writer or some readers
 abbrev pub LocksLaw : Type 0 → Type 0
@@ -94,6 +97,21 @@ module _ {D : Type 0} where
   locked_by (reply.WriteLocked n value) = None
   locked_by (reply.Condvar n) = None
   locked_by (reply.Notify n) = None
+  locked_by (reply.Channel n) = None
+  locked_by reply.Empty = None
+  locked_by reply.RecvError = None
+  locked_by reply.Disconnected = None
+  locked_by (reply.SendError value) = None
+  locked_by (reply.Messages values) = None
+  locked_by (reply.BlockOn c) = None
+  locked_by (reply.Waker c) = None
+  locked_by reply.NoWaker = None
+  locked_by (reply.AtomicWaker p) = None
+  locked_by reply.Absent = None
+  locked_by reply.AccessError = None
+  locked_by (reply.Stood value other) = None
+  locked_by (reply.Locals values) = None
+  locked_by (reply.Lazies values) = None
   locked_by (reply.Thread t name) = None
   locked_by (reply.Spawned t name n) = None
 
@@ -122,6 +140,12 @@ module _ {D : Type 0} where
   opened_by (op.RwLock todo place) = None
   opened_by (op.Condvar todo place) = None
   opened_by (op.Notify todo place) = None
+  opened_by (op.Channel todo place) = None
+  opened_by (op.Waker todo place) = None
+  opened_by (op.AtomicWaker todo place) = None
+  opened_by (op.Local todo place) = None
+  opened_by (op.Lazy todo place) = None
+  opened_by (op.Explore todo place) = None
   opened_by (op.Thread todo place) = None
   opened_by (op.Fail place) = None
   opened_by (op.Unreachable place) = None
@@ -157,6 +181,12 @@ module _ {D : Type 0} where
   returned_by (op.Track todo place) = None
   returned_by (op.RwLock todo place) = None
   returned_by (op.Notify todo place) = None
+  returned_by (op.Channel todo place) = None
+  returned_by (op.Waker todo place) = None
+  returned_by (op.AtomicWaker todo place) = None
+  returned_by (op.Local todo place) = None
+  returned_by (op.Lazy todo place) = None
+  returned_by (op.Explore todo place) = None
   returned_by (op.Thread todo place) = None
   returned_by (op.Fail place) = None
   returned_by (op.Unreachable place) = None
@@ -168,7 +198,7 @@ module _ {D : Type 0} where
 -- Over every history: where two events give the data of one mutex out, an event after the first gives it back, the second at the
 -- latest, since another thread may have its turn by the very operation that gives it back.
 abbrev pub OneHolderLaw : Type 0 → Type 0
-OneHolderLaw D = (max_threads max_steps n : ℕ) (before between after : List (Event D)) (first second : Event D)
-    → IsHistory (opening max_threads max_steps) (before ++ first ∷ (between ++ second ∷ after))
+OneHolderLaw D = (explores : Bool) (max_threads max_steps n : ℕ) (before between after : List (Event D)) (first second : Event D)
+    → IsHistory (opening explores max_threads max_steps) (before ++ first ∷ (between ++ second ∷ after))
     → given_out first ≡ Some n → given_out second ≡ Some n
     → list_any (gives_back n) (between ++ second ∷ []) ≡ true

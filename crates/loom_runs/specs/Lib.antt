@@ -6,3 +6,5 @@ pub mod Rows
 pub mod Reduced
 pub mod Histories
 pub mod Growth
+pub mod Once
+pub mod Received

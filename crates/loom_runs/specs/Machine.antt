@@ -3,23 +3,27 @@ use Rattle.std.specs.Prelude.{ℕ, zero, suc, Bool, Some, None, ⊤}
 use Rattle.loom_views.specs.declared.rt.failure.FailureKind.TheVariants.{Deadlock, Misuse, NotDeterministic}
 use Rattle.loom_objects.specs.declared.choice.Choice.{Choice}
 use Rattle.loom_objects.specs.declared.choice.Choice.TheVariants.{Thread, Load, Spurious}
+use Rattle.loom_objects.specs.declared.operation.ExploreOp.{ExploreOp}
 use Rattle.loom_objects.specs.declared.operation.Op.{Op}
+use Rattle.loom_objects.specs.declared.operation.Reply.TheVariants as reply
 use Rattle.loom_objects.specs.declared.operation.Turn.{Turn}
 use Rattle.loom_objects.specs.declared.operation.Turn.TheVariants as turn
 use Rattle.loom_objects.specs.declared.rt.run.Entry.{Entry}
-use Rattle.loom_objects.specs.declared.rt.run.Entry.TheVariants.{Answered, AtBranch, Spurious as AtSpurious}
+use Rattle.loom_objects.specs.declared.rt.run.Entry.TheVariants.{Answered, AtBranch, Explores, Spurious as AtSpurious}
 use Rattle.loom_objects.specs.declared.rt.run.Passed.{Passed}
 use Rattle.loom_objects.specs.declared.rt.run.Passed.TheVariants as passed
 use Rattle.loom_objects.specs.Tree.{Tree, Gives, Fails, Closes, Asks, ◌>>=◌, came, check}
 use Rattle.loom_objects.specs.Ending.{all_ended}
+use Rattle.loom_objects.specs.Exploring.{is_on, switched}
 use Rattle.loom_objects.specs.Schedules.{offers}
 use Rattle.loom_objects.specs.Steps.{begins, ends, enters_wait, resumes}
 use Rattle.loom_runs.specs.Courses.{Course, accesses, carried, grown_from, one_passed, unordered_in}
 use Rattle.loom_objects.specs.Asked.{which_thread, whether_spurious}
 
--- A thread comes to three further branch points at most before it is told something, and there are five threads.
+-- An operation comes to as many further branch points as there are stages left of it and of those that it lets go on: a receiver
+-- that is dropped has one for each message. Each is a node, and no path has more than these.
 abbrev pub further_branches : ℕ
-further_branches = 15
+further_branches = 1000000
 
 -- whether a thread wakes without a notification, as it was chosen
 abbrev pub flag_of : Choice → Tree Bool
@@ -39,7 +43,7 @@ module _ {D : Type 0} where
 
   -- the thread's access is noted, its node is passed, and what it has pending takes effect
   abbrev pub goes_by : ℕ → Course D → Tree (Passed D × Course D)
-  goes_by t c = carried (one_passed c) (resumes t c.world)
+  goes_by t c = carried (one_passed c) (resumes (is_on c.exploring) t c.world)
 
   abbrev pub chooses : Course D → Choice → Tree (Passed D × Course D)
   chooses c (Thread (Some t)) = came (accesses t c) >>= goes_by t
@@ -49,7 +53,7 @@ module _ {D : Type 0} where
 
   -- at a branch point a schedule chooses the thread that goes on
   abbrev pub passes : Course D → Tree (Passed D × Course D)
-  passes c = Asks (which_thread (offers c.world) (unordered_in c)) (chooses c)
+  passes c = Asks (which_thread (is_on c.exploring) (offers c.world) (unordered_in c)) (chooses c)
 
   -- up to a turn; at another branch point it goes on again
   abbrev pub further : (Course D → Tree (Turn D × Course D)) → Passed D × Course D → Tree (Turn D × Course D)
@@ -70,12 +74,19 @@ module _ {D : Type 0} where
 
   -- whether it does is chosen first
   abbrev pub is_asked : ℕ → Course D → Tree (Turn D × Course D)
-  is_asked n c = Asks whether_spurious (waits n c)
+  is_asked n c = Asks (whether_spurious (is_on c.exploring)) (waits n c)
+
+  -- the search explores from now on, or doesn't
+  abbrev pub switches : ExploreOp → Course D → Tree (Turn D × Course D)
+  switches todo c = do
+    exploring ← came (switched todo c.exploring)
+    Gives (turn.Reply c.world.active reply.Done, record c { exploring = exploring })
 
   abbrev pub goes_on : Entry D × Course D → Tree (Turn D × Course D)
   goes_on (Answered reply, c) = Gives (turn.Reply c.world.active reply, c)
   goes_on (AtBranch, c) = schedule further_branches c
   goes_on (AtSpurious n, c) = is_asked n c
+  goes_on (Explores todo, c) = switches todo c
 
   -- the active thread hands over an operation; what it makes is there from then on
   abbrev pub submit : Op D ⊤ → Course D → Tree (Turn D × Course D)

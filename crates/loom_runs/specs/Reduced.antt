@@ -20,7 +20,7 @@ rounds s tree (suc more) nodes = round (rounds s tree more) (drive s (marking s.
 
 -- the runs of the body that a search makes, or the first forty
 abbrev pub searched : Settings → List Script → Script → List (List Choice)
-searched s scripts main = rounds s (runs (follows scripts) 5 1000 main) 40 []
+searched s scripts main = rounds s (runs (follows scripts) true 5 1000 main) 40 []
 
 -- a reduced search, with a bound on preemptions or none
 abbrev pub reduced : Option ℕ → Settings

@@ -1,5 +1,5 @@
 -- Small bodies, and what their runs come to.
-use Rattle.std.specs.Prelude.{ℕ, ◌≡◌, List, [], ◌∷◌, Option, Some, None, Result, Ok, Err, slice_index_or, ⊤}
+use Rattle.std.specs.Prelude.{ℕ, true, ◌≡◌, List, [], ◌∷◌, Option, Some, None, Result, Ok, Err, slice_index_or, ⊤}
 use Rattle.std.specs.declared.sync.atomic.Ordering.TheVariants.{Relaxed}
 use Rattle.loom_views.specs.declared.rt.failure.FailureKind.{FailureKind}
 use Rattle.loom_views.specs.declared.rt.failure.FailureKind.TheVariants.{Deadlock, Misuse, TooManyBranches, TooManySteps}
@@ -124,7 +124,7 @@ nobody = choice.Thread None
 
 -- what the run with these choices comes to, of at most so many nodes
 abbrev pub comes_to : ℕ → List Script → Script → List Choice → Option (Result ℕ FailureKind)
-comes_to room scripts main choices = outcome room (runs (follows scripts) 5 1000 main) choices
+comes_to room scripts main choices = outcome room (runs (follows scripts) true 5 1000 main) choices
 
 -- Runs of these bodies.
 pub record RowsLaw : Type 0 where
@@ -139,7 +139,7 @@ pub record RowsLaw : Type 0 where
   -- with room for three nodes it fails at the fourth
   pub few_branches : comes_to 3 (closing 0 ∷ []) lock_beside (t 0 ∷ t 1 ∷ t 1 ∷ []) ≡ Some (Err TooManyBranches)
   -- ten steps are too few for a body without end
-  pub few_steps : outcome 1000 (runs endless 5 10 tt) [] ≡ Some (Err TooManySteps)
+  pub few_steps : outcome 1000 (runs endless true 5 10 tt) [] ≡ Some (Err TooManySteps)
   -- each thread holds a mutex and waits for the other's
   pub deadlock : comes_to 1000 (locks_both 0 1 ∷ locks_both 1 0 ∷ []) lock_crosswise (t 1 ∷ t 1 ∷ t 2 ∷ t 2 ∷ nobody ∷ []) ≡ Some (Err Deadlock)
   -- one thread has both before the other begins

@@ -1,5 +1,5 @@
 -- The runs of a body: what its threads hand over, one operation after another.
-use Rattle.std.specs.Prelude.{ℕ, zero, suc, List, [], ◌∷◌, ◌++◌, Option, Some, None, slice_get, slice_set}
+use Rattle.std.specs.Prelude.{Bool, ℕ, zero, suc, List, [], ◌∷◌, ◌++◌, Option, Some, None, slice_get, slice_set}
 use Rattle.loom_views.specs.declared.rt.failure.FailureKind.TheVariants.{TooManySteps, Misuse}
 use Rattle.loom_objects.specs.declared.operation.Op.{Op}
 use Rattle.loom_objects.specs.declared.operation.Reply.{Reply}
@@ -40,6 +40,6 @@ module _ {D S : Type 0} where
     body ← found (slice_get bodies thread) Misuse
     handed (play next left) bodies c thread (next body answer)
 
-  -- all runs of a body, as a tree
-  abbrev pub runs : Meaning D S → ℕ → ℕ → S → Tree D
-  runs next max_threads max_steps body = play next (suc max_steps) (body ∷ []) (opening max_threads max_steps) 0 reply.Start
+  -- all runs of a body, as a tree; they begin to explore, or don't
+  abbrev pub runs : Meaning D S → Bool → ℕ → ℕ → S → Tree D
+  runs next explores max_threads max_steps body = play next (suc max_steps) (body ∷ []) (opening explores max_threads max_steps) 0 reply.Start

@@ -4,10 +4,18 @@ use Rattle.loom_objects.specs.declared.operation.ArcOp.{ArcOp}
 use Rattle.loom_objects.specs.declared.operation.ArcOp.TheVariants as arc
 use Rattle.loom_objects.specs.declared.operation.AtomicOp.{AtomicOp}
 use Rattle.loom_objects.specs.declared.operation.AtomicOp.TheVariants as atomic
+use Rattle.loom_objects.specs.declared.operation.AtomicWakerOp.{AtomicWakerOp}
+use Rattle.loom_objects.specs.declared.operation.AtomicWakerOp.TheVariants as place
 use Rattle.loom_objects.specs.declared.operation.CellOp.{CellOp}
 use Rattle.loom_objects.specs.declared.operation.CellOp.TheVariants as cell
+use Rattle.loom_objects.specs.declared.operation.ChannelOp.{ChannelOp}
+use Rattle.loom_objects.specs.declared.operation.ChannelOp.TheVariants as channel
 use Rattle.loom_objects.specs.declared.operation.CondvarOp.{CondvarOp}
 use Rattle.loom_objects.specs.declared.operation.CondvarOp.TheVariants as condvar
+use Rattle.loom_objects.specs.declared.operation.LazyOp.{LazyOp}
+use Rattle.loom_objects.specs.declared.operation.LazyOp.TheVariants as lazy
+use Rattle.loom_objects.specs.declared.operation.LocalOp.{LocalOp}
+use Rattle.loom_objects.specs.declared.operation.LocalOp.TheVariants as local
 use Rattle.loom_objects.specs.declared.operation.MutexOp.{MutexOp}
 use Rattle.loom_objects.specs.declared.operation.MutexOp.TheVariants as mutex
 use Rattle.loom_objects.specs.declared.operation.NotifyOp.{NotifyOp}
@@ -18,6 +26,8 @@ use Rattle.loom_objects.specs.declared.operation.ThreadOp.{ThreadOp}
 use Rattle.loom_objects.specs.declared.operation.ThreadOp.TheVariants as threads
 use Rattle.loom_objects.specs.declared.operation.TrackOp.{TrackOp}
 use Rattle.loom_objects.specs.declared.operation.TrackOp.TheVariants as track
+use Rattle.loom_objects.specs.declared.operation.WakerOp.{WakerOp}
+use Rattle.loom_objects.specs.declared.operation.WakerOp.TheVariants as waker
 use Rattle.loom_scripts.specs.declared.number.Number.{Number}
 use Rattle.loom_scripts.specs.declared.state.State.{State}
 use Rattle.loom_scripts.specs.declared.step.Value.{Value}
@@ -106,6 +116,44 @@ abbrev pub notify_op : State → NotifyOp → Option NotifyOp
 notify_op s notify.New = Some notify.New
 notify_op s (notify.Notify slot) = on (object s slot) (λ n. Some (notify.Notify n))
 notify_op s (notify.Wait slot) = on (object s slot) (λ n. Some (notify.Wait n))
+
+abbrev pub channel_op : State → ChannelOp Value → Option (ChannelOp Number)
+channel_op s channel.New = Some channel.New
+channel_op s (channel.Send slot value) = on (object s slot) (λ n. Some (channel.Send n (data_of s value)))
+channel_op s (channel.Recv slot) = on (object s slot) (λ n. Some (channel.Recv n))
+channel_op s (channel.TryRecv slot) = on (object s slot) (λ n. Some (channel.TryRecv n))
+channel_op s (channel.CloneSender slot) = on (object s slot) (λ n. Some (channel.CloneSender n))
+channel_op s (channel.DropSender slot) = on (object s slot) (λ n. Some (channel.DropSender n))
+channel_op s (channel.DropReceiver slot) = on (object s slot) (λ n. Some (channel.DropReceiver n))
+
+abbrev pub waker_op : State → WakerOp → Option WakerOp
+waker_op s waker.New = Some waker.New
+waker_op s (waker.Wait slot) = on (object s slot) (λ n. Some (waker.Wait n))
+waker_op s (waker.Finish slot) = on (object s slot) (λ n. Some (waker.Finish n))
+waker_op s (waker.Clone slot) = on (object s slot) (λ n. Some (waker.Clone n))
+waker_op s (waker.Wake slot) = on (object s slot) (λ n. Some (waker.Wake n))
+waker_op s (waker.WakeByRef slot) = on (object s slot) (λ n. Some (waker.WakeByRef n))
+waker_op s (waker.Drop slot) = on (object s slot) (λ n. Some (waker.Drop n))
+
+-- a waker is registered in the place in the first slot
+abbrev pub place_op : State → AtomicWakerOp → Option AtomicWakerOp
+place_op s place.New = Some place.New
+place_op s (place.Register slot by) = on (object s slot) (λ n. on (object s by) (λ c. Some (place.Register n c)))
+place_op s (place.RegisterByRef slot by) = on (object s slot) (λ n. on (object s by) (λ c. Some (place.RegisterByRef n c)))
+place_op s (place.Wake slot) = on (object s slot) (λ n. Some (place.Wake n))
+place_op s (place.TakeWaker slot) = on (object s slot) (λ n. Some (place.TakeWaker n))
+place_op s (place.Drop slot) = on (object s slot) (λ n. Some (place.Drop n))
+
+-- a step has the key itself
+abbrev pub local_op : State → LocalOp Value → LocalOp Number
+local_op s (local.With key) = local.With key
+local_op s (local.TryWith key) = local.TryWith key
+local_op s (local.Init key value) = local.Init key (data_of s value)
+local_op s (local.Put key value) = local.Put key (data_of s value)
+
+abbrev pub lazy_op : State → LazyOp Value → LazyOp Number
+lazy_op s (lazy.Get key) = lazy.Get key
+lazy_op s (lazy.Init key value) = lazy.Init key (data_of s value)
 
 -- a spawn's number is the step at which the new thread begins
 abbrev pub thread_op : Running → ThreadOp Value ℕ → Option (ThreadOp Number Running)

@@ -9,7 +9,7 @@ use Rattle.loom_scripts.specs.declared.number.Number.{Number}
 use Rattle.loom_scripts.specs.declared.step.Step.{Step}
 use Rattle.loom_scripts.specs.declared.step.Step.TheVariants.{Do, Store, Jump, Unless}
 use Rattle.loom_scripts.specs.declared.step.Value.{Value}
-use Rattle.loom_scripts.specs.Operations.{atomic_op, cell_op, arc_op, track_op, mutex_op, rwlock_op, condvar_op, notify_op, thread_op}
+use Rattle.loom_scripts.specs.Operations.{atomic_op, cell_op, arc_op, track_op, mutex_op, rwlock_op, condvar_op, notify_op, channel_op, waker_op, place_op, local_op, lazy_op, thread_op}
 use Rattle.loom_scripts.specs.Running.{Running, fetched, landing}
 use Rattle.loom_scripts.specs.Slots.{kept, number_of, object}
 
@@ -29,6 +29,12 @@ operation s (op.Mutex made place) = or_fails (mutex_op s.state made) (λ o. op.M
 operation s (op.RwLock made place) = or_fails (rwlock_op s.state made) (λ o. op.RwLock o place)
 operation s (op.Condvar made place) = or_fails (condvar_op s.state made) (λ o. op.Condvar o place)
 operation s (op.Notify made place) = or_fails (notify_op s.state made) (λ o. op.Notify o place)
+operation s (op.Channel made place) = or_fails (channel_op s.state made) (λ o. op.Channel o place)
+operation s (op.Waker made place) = or_fails (waker_op s.state made) (λ o. op.Waker o place)
+operation s (op.AtomicWaker made place) = or_fails (place_op s.state made) (λ o. op.AtomicWaker o place)
+operation s (op.Local made place) = op.Local (local_op s.state made) place
+operation s (op.Lazy made place) = op.Lazy (lazy_op s.state made) place
+operation s (op.Explore made place) = op.Explore made place
 operation s (op.Thread made place) = or_fails (thread_op s made) (λ o. op.Thread o place)
 operation s (op.Fail place) = op.Fail place
 operation s (op.Unreachable place) = op.Unreachable place

@@ -1,7 +1,11 @@
 -- What a thread of a script keeps: numbers in four registers, handles in eight slots.
-use Rattle.std.specs.Prelude.{ℕ, ◌+◌, ◌*◌, ◌%◌, ◌^◌, Option, Some, None, Ok, Err, slice_get, slice_set, slice_index}
+use Rattle.std.specs.Prelude.{ℕ, ◌+◌, ◌*◌, ◌%◌, ◌^◌, List, Option, Some, None, Ok, Err, slice_get, slice_set, slice_index}
+use Rattle.std.specs.List.{fold}
+use Rattle.loom_objects.specs.declared.operation.Keyed.{Keyed}
+use Rattle.loom_objects.specs.declared.operation.Lazy.{Lazy}
 use Rattle.loom_objects.specs.declared.operation.Reply.{Reply}
 use Rattle.loom_objects.specs.declared.operation.Reply.TheVariants as reply
+use Rattle.loom_objects.specs.declared.rt.thread.Name.{Name}
 use Rattle.loom_scripts.specs.declared.number.Number.{Number}
 use Rattle.loom_scripts.specs.Number.{number}
 use Rattle.loom_scripts.specs.declared.state.Handle.{Handle}
@@ -12,8 +16,29 @@ use Rattle.loom_scripts.specs.declared.state.Told.TheVariants as told
 use Rattle.loom_scripts.specs.declared.step.Value.{Value}
 use Rattle.loom_scripts.specs.declared.step.Value.TheVariants.{Plain, Held, Next, Both}
 
--- what a step keeps of the reply: what was made, the number that an object holds or that a thread finished with, or in the
--- last register what a compare-exchange found, or 1 where others share or have what was asked for
+-- the number with this one behind it, as a decimal digit
+abbrev pub with_digit : ℕ → ℕ → ℕ
+with_digit n digit = (n * 10 + digit) % 2 ^ 64
+
+-- a 1, and behind it the numbers
+abbrev pub digits : List Number → ℕ
+digits numbers = fold (λ n number. with_digit n number.0) 1 numbers
+
+-- a 1, and behind it the key and the number of each value
+abbrev pub local_digits : List (Keyed Number) → ℕ
+local_digits locals = fold (λ n local. with_digit (with_digit n local.key) local.value.0) 1 locals
+
+abbrev pub lazy_digits : List (Lazy Number) → ℕ
+lazy_digits lazies = fold (λ n lazy. with_digit (with_digit n lazy.key) lazy.value.0) 1 lazies
+
+-- what stands for a thread's name: 0 for none, and else the bytes of a 1 and of the text
+abbrev pub name_number : Option Name → ℕ
+name_number None = 0
+name_number (Some name) = fold (λ n byte. (n * 256 + byte) % 2 ^ 64) 1 name.text.now
+
+-- What a step keeps of the reply: what was made or taken out, the number that an object holds or that a thread finished with,
+-- or the digits of what is given back. Or in the last register what a compare-exchange found or a channel has sent back; or 1
+-- where others share or have what was asked for, or there is none yet, and 2 where there will be none.
 abbrev pub told_by : Reply Number → Told
 told_by reply.Start = told.Nothing
 told_by reply.Done = told.Nothing
@@ -37,7 +62,22 @@ told_by (reply.ReadLocked lock n) = told.Number n.0
 told_by (reply.WriteLocked lock n) = told.Number n.0
 told_by (reply.Condvar n) = told.Handle (Object n)
 told_by (reply.Notify n) = told.Handle (Object n)
-told_by (reply.Thread thread name) = told.Handle (Thread thread)
+told_by (reply.Channel n) = told.Handle (Object n)
+told_by reply.Empty = told.Instead 1
+told_by reply.RecvError = told.Instead 2
+told_by reply.Disconnected = told.Instead 2
+told_by (reply.SendError n) = told.Instead n.0
+told_by (reply.Messages numbers) = told.Number (digits numbers)
+told_by (reply.BlockOn n) = told.Handle (Object n)
+told_by (reply.Waker n) = told.Handle (Object n)
+told_by reply.NoWaker = told.Instead 1
+told_by (reply.AtomicWaker n) = told.Handle (Object n)
+told_by reply.Absent = told.Instead 1
+told_by reply.AccessError = told.Instead 2
+told_by (reply.Stood one other) = told.Number (with_digit one.0 other.0)
+told_by (reply.Locals locals) = told.Number (local_digits locals)
+told_by (reply.Lazies lazies) = told.Number (lazy_digits lazies)
+told_by (reply.Thread thread name) = told.Named (Thread thread) (name_number name)
 told_by (reply.Spawned thread name notifier) = told.Handle (Spawned thread notifier)
 
 -- the register holds the number, if there is such a register
@@ -53,6 +93,7 @@ kept_told s told.Nothing = s
 kept_told s (told.Number n) = put_number s s.keep n
 kept_told s (told.Instead n) = put_number s 3 n
 kept_told s (told.Handle handle) = put_handle s handle
+kept_told s (told.Named handle n) = put_number (put_handle s handle) s.keep n
 
 -- what the reply tells is kept where the last step says
 abbrev pub kept : State → Reply Number → State

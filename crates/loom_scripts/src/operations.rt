@@ -1,13 +1,14 @@
 //! Operations over slots, as a thread hands them over: by the numbers that its slots keep, and by what values stand for.
 ghost use Rattle.std.specs.Prelude.{◌≡◌, IfOk};
-ghost use Rattle.loom_scripts.specs.Operations.{atomic_op, cell_op, arc_op, track_op, mutex_op, rwlock_op, condvar_op, notify_op, thread_op};
+ghost use Rattle.loom_scripts.specs.Operations.{atomic_op, cell_op, arc_op, track_op, mutex_op, rwlock_op, condvar_op, notify_op, channel_op, waker_op, place_op, local_op, lazy_op, thread_op};
 
 use crate::number::Number;
 use crate::script::Script;
 use crate::state::State;
 use crate::step::Value;
 use loom_objects::operation::{
-    ArcOp, AtomicOp, CellOp, CondvarOp, MutexOp, NotifyOp, RwLockOp, ThreadOp, TrackOp,
+    ArcOp, AtomicOp, AtomicWakerOp, CellOp, ChannelOp, CondvarOp, LazyOp, LocalOp, MutexOp,
+    NotifyOp, RwLockOp, ThreadOp, TrackOp, WakerOp,
 };
 use std::alloc::AllocError;
 
@@ -161,6 +162,78 @@ impl State {
             NotifyOp::Notify(slot) => NotifyOp::Notify(self.object(slot)?),
             NotifyOp::Wait(slot) => NotifyOp::Wait(self.object(slot)?),
         })
+    }
+
+    /// The operation of a channel.
+    pub(crate) fn channel_op(&self, op: &ChannelOp<Value>) -> Option<ChannelOp<Number>>
+        ensures { result ≡ channel_op self.now op.now }
+    {
+        Some(match op {
+            ChannelOp::New => ChannelOp::New,
+            ChannelOp::Send(slot, value) => {
+                ChannelOp::Send(self.object(*slot)?, self.data_of(*value))
+            }
+            ChannelOp::Recv(slot) => ChannelOp::Recv(self.object(*slot)?),
+            ChannelOp::TryRecv(slot) => ChannelOp::TryRecv(self.object(*slot)?),
+            ChannelOp::CloneSender(slot) => ChannelOp::CloneSender(self.object(*slot)?),
+            ChannelOp::DropSender(slot) => ChannelOp::DropSender(self.object(*slot)?),
+            ChannelOp::DropReceiver(slot) => ChannelOp::DropReceiver(self.object(*slot)?),
+        })
+    }
+
+    /// The operation of a future's notifier, or of its wakers.
+    pub(crate) fn waker_op(&self, op: WakerOp) -> Option<WakerOp>
+        ensures { result ≡ waker_op self.now op }
+    {
+        Some(match op {
+            WakerOp::New => WakerOp::New,
+            WakerOp::Wait(slot) => WakerOp::Wait(self.object(slot)?),
+            WakerOp::Finish(slot) => WakerOp::Finish(self.object(slot)?),
+            WakerOp::Clone(slot) => WakerOp::Clone(self.object(slot)?),
+            WakerOp::Wake(slot) => WakerOp::Wake(self.object(slot)?),
+            WakerOp::WakeByRef(slot) => WakerOp::WakeByRef(self.object(slot)?),
+            WakerOp::Drop(slot) => WakerOp::Drop(self.object(slot)?),
+        })
+    }
+
+    /// The operation of a place for a waker.
+    pub(crate) fn place_op(&self, op: AtomicWakerOp) -> Option<AtomicWakerOp>
+        ensures { result ≡ place_op self.now op }
+    {
+        Some(match op {
+            AtomicWakerOp::New => AtomicWakerOp::New,
+            AtomicWakerOp::Register(slot, waker) => {
+                AtomicWakerOp::Register(self.object(slot)?, self.object(waker)?)
+            }
+            AtomicWakerOp::RegisterByRef(slot, waker) => {
+                AtomicWakerOp::RegisterByRef(self.object(slot)?, self.object(waker)?)
+            }
+            AtomicWakerOp::Wake(slot) => AtomicWakerOp::Wake(self.object(slot)?),
+            AtomicWakerOp::TakeWaker(slot) => AtomicWakerOp::TakeWaker(self.object(slot)?),
+            AtomicWakerOp::Drop(slot) => AtomicWakerOp::Drop(self.object(slot)?),
+        })
+    }
+
+    /// The operation of a thread's own values. A step has the key itself; so it is with values that are made once.
+    pub(crate) fn local_op(&self, op: &LocalOp<Value>) -> LocalOp<Number>
+        ensures { result ≡ local_op self.now op.now }
+    {
+        match op {
+            LocalOp::With(key) => LocalOp::With(*key),
+            LocalOp::TryWith(key) => LocalOp::TryWith(*key),
+            LocalOp::Init(key, value) => LocalOp::Init(*key, self.data_of(*value)),
+            LocalOp::Put(key, value) => LocalOp::Put(*key, self.data_of(*value)),
+        }
+    }
+
+    /// The operation of values that are made once a run.
+    pub(crate) fn lazy_op(&self, op: &LazyOp<Value>) -> LazyOp<Number>
+        ensures { result ≡ lazy_op self.now op.now }
+    {
+        match op {
+            LazyOp::Get(key) => LazyOp::Get(*key),
+            LazyOp::Init(key, value) => LazyOp::Init(*key, self.data_of(*value)),
+        }
     }
 }
 

@@ -29,6 +29,16 @@ impl Model for Script {
     ghost view = { λ script. record { steps = script.steps.now; state = script.state.value } };
 }
 
+// The operation that is made of this one. Where a slot keeps no such handle there is none, and the step fails.
+macro_rules! made_or_fails {
+    ($made:expr, $kind:ident, $place:expr) => {
+        match $made {
+            Some(op) => Op::$kind(op, *$place),
+            None => Op::Fail(None),
+        }
+    };
+}
+
 impl Script {
     /// A thread at the script's first step, without handles, and with 0 in each register. It fails only where a growth is
     /// refused.
@@ -79,43 +89,22 @@ impl Script {
     {
         let state = self.state();
         let made = match op {
-            Op::Atomic(op, place) => match state.atomic_op(*op) {
-                Some(op) => Op::Atomic(op, *place),
-                None => Op::Fail(None),
-            },
+            Op::Atomic(op, place) => made_or_fails!(state.atomic_op(*op), Atomic, place),
             Op::Fence(order, place) => Op::Fence(*order, *place),
-            Op::Cell(op, place) => match state.cell_op(op) {
-                Some(op) => Op::Cell(op, *place),
-                None => Op::Fail(None),
-            },
-            Op::Arc(op, place) => match state.arc_op(op) {
-                Some(op) => Op::Arc(op, *place),
-                None => Op::Fail(None),
-            },
-            Op::Track(op, place) => match state.track_op(op) {
-                Some(op) => Op::Track(op, *place),
-                None => Op::Fail(None),
-            },
-            Op::Mutex(op, place) => match state.mutex_op(op) {
-                Some(op) => Op::Mutex(op, *place),
-                None => Op::Fail(None),
-            },
-            Op::RwLock(op, place) => match state.rwlock_op(op) {
-                Some(op) => Op::RwLock(op, *place),
-                None => Op::Fail(None),
-            },
-            Op::Condvar(op, place) => match state.condvar_op(op) {
-                Some(op) => Op::Condvar(op, *place),
-                None => Op::Fail(None),
-            },
-            Op::Notify(op, place) => match state.notify_op(*op) {
-                Some(op) => Op::Notify(op, *place),
-                None => Op::Fail(None),
-            },
-            Op::Thread(op, place) => match self.thread_op(op)? {
-                Some(op) => Op::Thread(op, *place),
-                None => Op::Fail(None),
-            },
+            Op::Cell(op, place) => made_or_fails!(state.cell_op(op), Cell, place),
+            Op::Arc(op, place) => made_or_fails!(state.arc_op(op), Arc, place),
+            Op::Track(op, place) => made_or_fails!(state.track_op(op), Track, place),
+            Op::Mutex(op, place) => made_or_fails!(state.mutex_op(op), Mutex, place),
+            Op::RwLock(op, place) => made_or_fails!(state.rwlock_op(op), RwLock, place),
+            Op::Condvar(op, place) => made_or_fails!(state.condvar_op(op), Condvar, place),
+            Op::Notify(op, place) => made_or_fails!(state.notify_op(*op), Notify, place),
+            Op::Channel(op, place) => made_or_fails!(state.channel_op(op), Channel, place),
+            Op::Waker(op, place) => made_or_fails!(state.waker_op(*op), Waker, place),
+            Op::AtomicWaker(op, place) => made_or_fails!(state.place_op(*op), AtomicWaker, place),
+            Op::Local(op, place) => Op::Local(state.local_op(op), *place),
+            Op::Lazy(op, place) => Op::Lazy(state.lazy_op(op), *place),
+            Op::Explore(op, place) => Op::Explore(*op, *place),
+            Op::Thread(op, place) => made_or_fails!(self.thread_op(op)?, Thread, place),
             Op::Fail(place) => Op::Fail(*place),
             Op::Unreachable(place) => Op::Unreachable(*place),
         };

@@ -1,11 +1,13 @@
 //! How far a thread of a script is, and what it keeps.
 ghost use Rattle.std.specs.Prelude.{◌≡◌};
 ghost use Rattle.loom_scripts.specs.Running.{at_first, child, fetched, keep_of, landing};
-ghost use Rattle.loom_scripts.specs.Slots.{data_of, handle_at, held, kept, notifier, number_of, object, put_handle, put_number, thread, told_by};
+ghost use Rattle.loom_scripts.specs.Slots.{data_of, digits, handle_at, held, kept, lazy_digits, local_digits, name_number, notifier, number_of, object, put_handle, put_number, thread, told_by, with_digit};
 
 use crate::number::Number;
 use crate::step::{Step, Value};
-use loom_objects::operation::Reply;
+use loom_objects::operation::{Keyed, Lazy, Reply};
+use loom_objects::rt::thread::Name;
+use std::collections::LinkedList;
 
 // The last register.
 const LAST: usize = 3;
@@ -34,6 +36,8 @@ pub enum Told {
     Instead(u64),
     /// A handle, for the slot that the step names.
     Handle(Handle),
+    /// A handle, and a number for the register of the same number.
+    Named(Handle, u64),
 }
 
 /// How far a thread of a script is, and the numbers and handles that it was given.
@@ -71,6 +75,10 @@ impl State {
             Told::Number(number) => self.put_number(self.keep, number),
             Told::Instead(number) => self.put_number(LAST, number),
             Told::Handle(handle) => self.put_handle(handle),
+            Told::Named(handle, number) => {
+                self.put_handle(handle);
+                self.put_number(self.keep, number);
+            }
         }
     }
 
@@ -212,6 +220,52 @@ impl State {
     }
 }
 
+/// The number with this one behind it, as a decimal digit.
+fn with_digit(number: u64, digit: u64) -> u64
+    ensures { result ≡ with_digit number digit }
+{
+    number.wrapping_mul(10).wrapping_add(digit)
+}
+
+/// A 1, and behind it the numbers.
+fn digits(numbers: &LinkedList<Number>) -> u64
+    ensures { result ≡ digits numbers.now }
+{
+    numbers
+        .iter()
+        .fold(1, |number, digit| with_digit(number, digit.0))
+}
+
+/// A 1, and behind it the key and the number of each value.
+fn local_digits(locals: &[Keyed<Number>]) -> u64
+    ensures { result ≡ local_digits locals.now }
+{
+    locals.iter().fold(1, |number, local| {
+        with_digit(with_digit(number, local.key as u64), local.value.0)
+    })
+}
+
+/// The same of values that are made once a run.
+fn lazy_digits(lazies: &[Lazy<Number>]) -> u64
+    ensures { result ≡ lazy_digits lazies.now }
+{
+    lazies.iter().fold(1, |number, lazy| {
+        with_digit(with_digit(number, lazy.key as u64), lazy.value.0)
+    })
+}
+
+/// What stands for a thread's name: 0 for none, and else the bytes of a 1 and of the text.
+fn name_number(name: Option<Name>) -> u64
+    ensures { result ≡ name_number name }
+{
+    match name {
+        None => 0,
+        Some(name) => name.text.as_bytes().iter().fold(1, |number: u64, byte| {
+            number.wrapping_mul(256).wrapping_add(u64::from(*byte))
+        }),
+    }
+}
+
 /// What a step keeps of the reply.
 fn told_by(reply: &Reply<Number>) -> Told
     ensures { result ≡ told_by reply.now }
@@ -225,7 +279,11 @@ fn told_by(reply: &Reply<Number>) -> Told
         | Reply::Mutex(number)
         | Reply::RwLock(number)
         | Reply::Condvar(number)
-        | Reply::Notify(number) => Told::Handle(Handle::Object(*number)),
+        | Reply::Notify(number)
+        | Reply::Channel(number)
+        | Reply::BlockOn(number)
+        | Reply::Waker(number)
+        | Reply::AtomicWaker(number) => Told::Handle(Handle::Object(*number)),
         Reply::Value(number) => Told::Number(*number),
         Reply::Exchanged(Ok(number)) => Told::Number(*number),
         Reply::Exchanged(Err(number)) => Told::Instead(*number),
@@ -236,8 +294,16 @@ fn told_by(reply: &Reply<Number>) -> Told
         | Reply::Waited(_, number, _)
         | Reply::ReadLocked(_, number)
         | Reply::WriteLocked(_, number) => Told::Number(number.0),
-        Reply::Shared | Reply::WouldBlock => Told::Instead(1),
-        Reply::Thread(thread, _) => Told::Handle(Handle::Thread(*thread)),
+        Reply::Shared | Reply::WouldBlock | Reply::Empty | Reply::NoWaker | Reply::Absent => {
+            Told::Instead(1)
+        }
+        Reply::RecvError | Reply::Disconnected | Reply::AccessError => Told::Instead(2),
+        Reply::SendError(number) => Told::Instead(number.0),
+        Reply::Messages(numbers) => Told::Number(digits(numbers)),
+        Reply::Stood(one, other) => Told::Number(with_digit(one.0, other.0)),
+        Reply::Locals(locals) => Told::Number(local_digits(locals.as_slice())),
+        Reply::Lazies(lazies) => Told::Number(lazy_digits(lazies.as_slice())),
+        Reply::Thread(thread, name) => { Told::Named(Handle::Thread(*thread), name_number(*name)) }
         Reply::Spawned(thread, _, notifier) => Told::Handle(Handle::Spawned(*thread, *notifier)),
     }
 }

@@ -20,8 +20,10 @@ pub enum Value {
 pub enum Step {
     /// Makes this operation of the machine, in which a slot stands for each object and thread, and the place of a step for
     /// what a spawn starts. A join has the thread's slot twice: for the thread, and for its notifier. What the reply tells is
-    /// kept, a handle in the slot of this number, and a number in the register of it. In the last register instead goes
-    /// the number that a compare-exchange found and left there, and 1 where others share or have what was asked for.
+    /// kept, a handle in the slot of this number, and a number in the register of it. Of numbers that are given back the
+    /// register gets the digits, behind a 1, and of a thread's name the bytes, behind a 1; without a name it gets 0. In the last
+    /// register instead goes the number that a compare-exchange found and left there or that a channel didn't take, 1 where
+    /// others share or have what was asked for or there is none yet, and 2 where there will be none.
     Do(usize, Op<Value, usize>),
     /// Stores the value into the atomic in the slot. (An operation of an atomic holds its number, and no value.)
     Store(usize, Value, Ordering),

@@ -52,8 +52,8 @@ fn notify_begins<D: Drop>(scene: &mut Scene<D>, number: usize) -> Result<Entry<D
 }
 
 /// The thread comes to a branch point, blocked until it is notified; where it may wake without that, whether it does is to
-/// be chosen first.
-fn wait_begins<D: Drop>(scene: &mut Scene<D>, number: usize) -> Result<Entry<D>, FailureKind>
+/// be chosen first. `Misuse` where it is no notifier on which bodies wait, `SecondWaiter` where another thread is inside a wait.
+pub fn wait_begins<D: Drop>(scene: &mut Scene<D>, number: usize) -> Result<Entry<D>, FailureKind>
     ensures { Does (rules.wait_begins number) scene.old result scene.new }
 {
     let notify = scene.notifier(number)?;
@@ -91,8 +91,8 @@ pub fn enter_wait<D: Drop>(
     Ok(())
 }
 
-/// The active thread releases and notifies: who waits takes in its view, and is woken.
-pub(crate) fn notify_waiter<D: Drop>(scene: &mut Scene<D>, number: usize) -> Result<(), FailureKind>
+/// The active thread releases and notifies: who waits takes in its view, and is woken. `Misuse` where there is no such notifier.
+pub fn notify_waiter<D: Drop>(scene: &mut Scene<D>, number: usize) -> Result<(), FailureKind>
     ensures { Does (rules.notify number) scene.old result scene.new }
 {
     let notify = scene.notifier_mut(number)?;

@@ -1,6 +1,7 @@
 ghost use Rattle.std.specs.Prelude.{◌≡◌, IfOk, OnErr, true};
 ghost use Rattle.loom_objects.specs.Scene.{Does};
 ghost use Rattle.loom_objects.specs.Threads as rules;
+ghost use Rattle.loom_objects.specs.World.{child_thread};
 
 use crate::{notifiers, parking};
 use loom_objects::operation::{Reply, ThreadOp};
@@ -10,7 +11,8 @@ use loom_objects::rt::scene::Scene;
 use loom_objects::rt::sync::{Notify, Spurious};
 use loom_objects::rt::thread::{Name, Phase, State, Task, Thread};
 use loom_views::rt::failure::FailureKind;
-use std::alloc::AllocError;
+use loom_views::sequence::Sequence;
+use std::alloc::{AllocError, Global};
 
 /// What an operation of threads does up to its branch point, or all of it. An error of the outer result only where memory is
 /// refused.
@@ -53,7 +55,16 @@ fn spawn<D: Drop>(
         waiter: None,
         spurious: Spurious::Never,
     }))?;
-    scene.add_thread(Thread {
+    let thread = child(scene.alloc(), name, notifier);
+    scene.add_thread(thread)?;
+    Ok(Ok(Entry::Answered(Reply::Spawned(count as u8, name, notifier))))
+}
+
+/// A thread that is to start, with no values of its own yet.
+fn child<D>(alloc: Global, name: Option<Name>, notifier: usize) -> Thread<D>
+    ensures { result ≡ child_thread name notifier }
+{
+    Thread {
         state: State::Runnable,
         phase: Phase::Working,
         task: Task::Start,
@@ -62,8 +73,9 @@ fn spawn<D: Drop>(
         yields: 0,
         has_token: false,
         name,
-    })?;
-    Ok(Ok(Entry::Answered(Reply::Spawned(count as u8, name, notifier))))
+        keys: Sequence::new(alloc),
+        locals: Sequence::new(alloc),
+    }
 }
 
 /// The active thread is to wait for a thread's end, and comes to a branch point, blocked until it is notified.
@@ -106,7 +118,7 @@ pub fn join<D: Drop>(
     Ok(Reply::Data(value))
 }
 
-/// Main has its result at once. Another thread comes to a branch point, at which it is to notify.
+/// Main has its result at once, and gives the values back that were made once. Another thread comes to a branch point, at which it is to notify.
 fn finish<D: Drop>(scene: &mut Scene<D>, value: D) -> Result<Entry<D>, FailureKind>
     ensures { Does (rules.finish value) scene.old result scene.new }
 {
@@ -118,7 +130,7 @@ fn finish<D: Drop>(scene: &mut Scene<D>, value: D) -> Result<Entry<D>, FailureKi
     scene.set_phase(Phase::Finished);
     let Some(notifier) = notifier else {
         scene.set_result(value);
-        return Ok(Entry::Answered(Reply::Done));
+        return Ok(Entry::Answered(Reply::Lazies(scene.take_lazies())));
     };
     scene.pend(Task::Finish(notifier, value), false);
     Ok(Entry::AtBranch)
@@ -137,7 +149,7 @@ pub fn child_finish<D: Drop>(
     Ok(Reply::Done)
 }
 
-/// What is left of the thread is dropped: its end is next.
+/// The thread gives its own values back: its end is next.
 fn exit<D: Drop>(scene: &mut Scene<D>) -> Result<Entry<D>, FailureKind>
     ensures { Does rules.exit scene.old result scene.new }
 {
@@ -145,7 +157,7 @@ fn exit<D: Drop>(scene: &mut Scene<D>) -> Result<Entry<D>, FailureKind>
         return Err(FailureKind::Misuse);
     }
     scene.set_phase(Phase::Exited);
-    Ok(Entry::Answered(Reply::Done))
+    Ok(Entry::Answered(Reply::Locals(scene.take_locals())))
 }
 
 /// The thread has ended before the branch point that it comes to.

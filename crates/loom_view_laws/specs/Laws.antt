@@ -12,7 +12,7 @@ use Rattle.loom_views.specs.Versions.{within, versions_eq}
 use Rattle.loom_views.specs.Threads.{ThreadPoints}
 use Rattle.loom_views.specs.Atomic.{StorePoints, History, blank, readable}
 use Rattle.loom_views.specs.Cells.{Accesses}
-use Rattle.loom_views.specs.Table.{Place, Meets, Keeps, Records, Points, Accessed, ShowsViews, IsSlotKept, readable_slots_of, points_after_raise, points_after_acquire, points_after_release, points_after_release_fence, points_after_acquire_fence, points_after_yield, points_with_point, points_with_atomic, points_after_spawn, points_after_join, points_after_load, points_after_store, points_after_update_read, points_after_update_write, points_after_update_fail, points_after_unsync_load, points_after_with_mut, points_after_with_mut_end, points_with_cell, points_after_read, points_after_write, points_after_fence}
+use Rattle.loom_views.specs.Table.{Place, Meets, Keeps, Records, Points, Accessed, ShowsViews, IsSlotKept, readable_slots_of, points_after_raise, points_after_acquire, points_after_release, points_after_release_fence, points_after_acquire_fence, points_after_yield, points_with_point, points_with_stamp, points_after_stamp, points_after_stamp_release, points_after_stamp_acquire, points_with_atomic, points_after_spawn, points_after_join, points_after_load, points_after_store, points_after_update_read, points_after_update_write, points_after_update_fail, points_after_unsync_load, points_after_with_mut, points_after_with_mut_end, points_with_cell, points_after_read, points_after_write, points_after_fence}
 
 -- a sweep from a point finds the points that reach it
 abbrev pub PastLaw : Type 0
@@ -125,6 +125,10 @@ pub record GlobalStays (p : Points) : Type 0 where
   pub fence : (t : ℕ) (order : Ordering) → order ≢ SeqCst → IsGlobalKept p (points_after_fence p t order)
   pub yielding : (t : ℕ) → IsGlobalKept p (points_after_yield p t)
   pub new_point : IsGlobalKept p (points_with_point p)
+  pub new_stamp : IsGlobalKept p (points_with_stamp p)
+  pub stamp : (n m : ℕ) → IsGlobalKept p (points_after_stamp p n m)
+  pub release_to_stamp : (t m : ℕ) (order : Ordering) → IsGlobalKept p (points_after_stamp_release p t m order)
+  pub acquire_from_stamp : (t m : ℕ) → IsGlobalKept p (points_after_stamp_acquire p t m)
   pub new_atomic : (t value : ℕ) → IsGlobalKept p (points_with_atomic p t value)
   pub new_cell : (t : ℕ) → IsGlobalKept p (points_with_cell p t)
   pub spawn : (t : ℕ) → IfOk (points_after_spawn p t) (λ after. IsGlobalKept p after)

@@ -7,7 +7,7 @@ use Rattle.loom_views.specs.declared.rt.failure.FailureKind.TheVariants.{Race}
 use Rattle.loom_views.specs.Graph.{Graph, is_among, reaches}
 use Rattle.loom_views.specs.Threads.{ThreadPoints}
 use Rattle.loom_views.specs.Atomic.{History}
-use Rattle.loom_views.specs.Table.{Place, Keeps, Points, Accessed, opening, points_after_raise, points_after_acquire, points_after_release, points_after_yield, points_with_point, points_with_atomic, points_after_spawn, points_after_join, points_after_load, points_after_store, points_after_update_read, points_after_update_write, points_after_update_fail, points_after_unsync_load, points_after_with_mut, points_after_with_mut_end, points_with_cell, points_after_read, points_after_write, points_after_fence}
+use Rattle.loom_views.specs.Table.{Place, Keeps, Points, Accessed, opening, points_after_raise, points_after_acquire, points_after_release, points_after_yield, points_with_point, points_with_stamp, points_after_stamp, points_after_stamp_release, points_after_stamp_acquire, points_with_atomic, points_after_spawn, points_after_join, points_after_load, points_after_store, points_after_update_read, points_after_update_write, points_after_update_fail, points_after_unsync_load, points_after_with_mut, points_after_with_mut_end, points_with_cell, points_after_read, points_after_write, points_after_fence}
 use Rattle.loom_view_laws.specs.Laws.{HasOutside}
 use Rattle.loom_view_laws.specs.Reaching.{Extends, IsKnownByReaching, is_raising, reads_of, writes_of, loads_of, stored_of}
 
@@ -20,6 +20,10 @@ pub data Moves (p : Points) : Points → Type 0 where
   spawn : (t : ℕ) (after : Points) → points_after_spawn p t ≡ Ok after → Moves p after
   fence : (t : ℕ) (order : Ordering) (raised : Points) → points_after_raise p t ≡ Ok raised → Moves p (points_after_fence raised t order)
   new_point : Moves p (points_with_point p)
+  new_stamp : Moves p (points_with_stamp p)
+  stamp : (n m : ℕ) → Moves p (points_after_stamp p n m)
+  release_to_stamp : (t m : ℕ) (order : Ordering) → Moves p (points_after_stamp_release p t m order)
+  acquire_from_stamp : (t m : ℕ) → Moves p (points_after_stamp_acquire p t m)
   new_atomic : (t value : ℕ) → Moves p (points_with_atomic p t value)
   load : (t n slot : ℕ) (order : Ordering) (raised : Points) (after : Accessed) → points_after_raise p t ≡ Ok raised → points_after_load raised t n slot order ≡ Ok after → Moves p after.points
   store : (t n value : ℕ) (order : Ordering) (raised : Points) (after : Accessed) → points_after_raise p t ≡ Ok raised → points_after_store raised t n value order ≡ Ok after → Moves p after.points

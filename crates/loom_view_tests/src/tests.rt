@@ -16,6 +16,8 @@ const FIRST_TWO: [bool; 7] = [true, true, false, false, false, false, false];
 
 const SECOND: [bool; 7] = [false, true, false, false, false, false, false];
 
+const LAST_TWO: [bool; 7] = [false, true, true, false, false, false, false];
+
 const THIRD: [bool; 7] = [false, false, true, false, false, false, false];
 
 // Ends the test where a call didn't answer what it is to answer.
@@ -52,6 +54,28 @@ fn a_store_is_seen_once_it_was_released(rt: HostRuntime) -> Result<(), Fail> {
     views.acquire(1, 0);
     same(&rt, views.readable(1, 1, ANY), Ok(SECOND));
     same(&rt, views.load(1, 1, 1, Ordering::Relaxed), Ok(7));
+    Ok(())
+}
+
+// The sender stores 9 and releases that after the message was stamped.
+#[test]
+fn a_message_brings_what_was_released_before_it(rt: HostRuntime) -> Result<(), Fail> {
+    let mut views = stored(&rt)?;
+    let message = views.add_stamp()?;
+    let later = views.add_stamp()?;
+    same(&rt, [message, later], [0, 1]);
+    views.acquire_from_stamp(1, message);
+    same(&rt, views.readable(1, 1, ANY), Ok(FIRST_TWO));
+    views.release(0, 0, Ordering::Release);
+    views.stamp(0, message);
+    same(&rt, views.raise(0), Ok(()));
+    same(&rt, views.store(0, 1, 9, Ordering::Relaxed), Ok(()));
+    views.release(0, 0, Ordering::Release);
+    views.release_to_stamp(0, later, Ordering::Release);
+    views.acquire_from_stamp(1, message);
+    same(&rt, views.readable(1, 1, ANY), Ok(LAST_TWO));
+    views.acquire_from_stamp(1, later);
+    same(&rt, views.readable(1, 1, ANY), Ok(THIRD));
     Ok(())
 }
 

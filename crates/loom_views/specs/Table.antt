@@ -25,16 +25,18 @@ pub data Place : Type 0 where
   Keeps : History → Place
   Records : Accesses → Place
 
--- the points of a run: its graph, those of each thread, those of each object in the order made, and the global point
+-- the points of a run: its graph, those of each thread, those of each object in the order made, the stamps in the order made,
+-- which are points that messages and other values keep, and the global point
 pub record Points : Type 0 where
   pub graph : Graph
   pub threads : List ThreadPoints
   pub places : List Place
+  pub stamps : List ℕ
   pub global : ℕ
 
 -- main alone, with a present point and a released point that come after nothing, as the global point does
 abbrev pub opening : Points
-opening = record { graph = moved (moved (moved [] []) []) []; threads = child_points [] ∷ []; places = []; global = 2 }
+opening = record { graph = moved (moved (moved [] []) []) []; threads = child_points [] ∷ []; places = []; stamps = []; global = 2 }
 
 -- the graph and the points of thread t after a step of it
 abbrev pub with_thread : Points → ℕ → Graph → ThreadPoints → Points
@@ -97,6 +99,38 @@ points_after_yield p t = yield_by p t (slice_get p.threads t)
 -- an object with a point of its own, at which no thread has synchronized
 abbrev pub points_with_point : Points → Points
 points_with_point p = with_new_place p (moved p.graph []) (Meets (length p.graph))
+
+-- one more stamp, which nobody has released to
+abbrev pub points_with_stamp : Points → Points
+points_with_stamp p = record p { graph = moved p.graph []; stamps = p.stamps ++ length p.graph ∷ [] }
+
+-- stamp m is the point of object n, as that is now. Nothing happens where there is no such point
+abbrev pub stamp_by : Points → ℕ → Option Place → Points
+stamp_by p m None = p
+stamp_by p m (Some (Keeps history)) = p
+stamp_by p m (Some (Records cell)) = p
+stamp_by p m (Some (Meets k)) = record p { stamps = slice_set p.stamps m k }
+
+abbrev pub points_after_stamp : Points → ℕ → ℕ → Points
+points_after_stamp p n m = stamp_by p m (slice_get p.places n)
+
+-- thread t releases to stamp m by an ordering. Nothing happens where there is no such thread or stamp
+abbrev pub stamp_release_by : Points → ℕ → Ordering → Option ThreadPoints → Option ℕ → Points
+stamp_release_by p m order None stamp = p
+stamp_release_by p m order (Some own) None = p
+stamp_release_by p m order (Some own) (Some k) = record p { graph = graph_after_store p.graph own k order; stamps = slice_set p.stamps m (length p.graph) }
+
+abbrev pub points_after_stamp_release : Points → ℕ → ℕ → Ordering → Points
+points_after_stamp_release p t m order = stamp_release_by p m order (slice_get p.threads t) (slice_get p.stamps m)
+
+-- thread t acquires from stamp m. Nothing happens where there is no such thread or stamp
+abbrev pub stamp_acquire_by : Points → ℕ → Option ThreadPoints → Option ℕ → Points
+stamp_acquire_by p t None stamp = p
+stamp_acquire_by p t (Some own) None = p
+stamp_acquire_by p t (Some own) (Some k) = with_thread p t (graph_after_acquire p.graph own k) (with_present p.graph own)
+
+abbrev pub points_after_stamp_acquire : Points → ℕ → ℕ → Points
+points_after_stamp_acquire p t m = stamp_acquire_by p t (slice_get p.threads t) (slice_get p.stamps m)
 
 -- thread t spawns the next thread, of five at most, where t may raise once more
 abbrev pub spawn_by : Points → ℕ → Option ThreadPoints → Result Points FailureKind
@@ -302,6 +336,17 @@ ShowsPlaceAt g (Some place) (Some kept) = ShowsPlace g place kept
 abbrev pub ShowsPlaces : Graph → List Place → List Kept → Type 0
 ShowsPlaces g places kept = (n : ℕ) → ShowsPlaceAt g (slice_get places n) (slice_get kept n)
 
+abbrev pub ShowsStampAt : Graph → Option ℕ → Option (List ℕ) → Type 0
+ShowsStampAt g None None = Unit {0}
+ShowsStampAt g None (Some view) = ⊥
+ShowsStampAt g (Some k) None = ⊥
+ShowsStampAt g (Some k) (Some view) = Shows g k view
+
+-- what is kept of each stamp shows its point, and there are as many
+pub record ShowsStamps (g : Graph) (stamps : List ℕ) (kept : List (List ℕ)) : Type 0 where
+  pub count : length stamps ≡ length kept
+  pub each : (m : ℕ) → ShowsStampAt g (slice_get stamps m) (slice_get kept m)
+
 -- what is kept of a run shows its points, in a graph that moves made
 pub record ShowsViews (p : Points) (v : Views) : Type 0 where
   pub chained : IsChained p.graph
@@ -310,6 +355,7 @@ pub record ShowsViews (p : Points) (v : Views) : Type 0 where
   pub five : length v.threads ≡ 5
   pub threads : ShowsThreads p.graph p.threads v.threads
   pub places : ShowsPlaces p.graph p.places v.places
+  pub stamps : ShowsStamps p.graph p.stamps v.stamps
   pub global : Shows p.graph p.global v.global
 
 -- a move answers as its rule does, and shows the points that it leads to

@@ -1,15 +1,19 @@
 //! What a call comes to, as a table says it.
 use loom::alloc::Track;
 use loom::cell::{Cell, ConstPtr, MutPtr, UnsafeCell};
+use loom::future::{AtomicWaker, BlockOn, Waker};
 use loom::sync::atomic::{Atomic, FetchUpdate, Fetched};
+use loom::sync::mpsc::{Receiver, Sender};
 use loom::sync::{
     Arc, Condvar, Mutex, MutexGuard, Notify, RwLock, RwLockReadGuard, RwLockWriteGuard,
     WaitTimeoutResult,
 };
-use loom::thread::{JoinHandle, Thread, ThreadId};
+use loom::thread::{AccessError, JoinHandle, Thread, ThreadId};
 use loom::{FailureKind, Op, Reply};
+use loom_objects::operation::{Keyed, Lazy};
 use loom_scripts::number::Number;
 use loom_views::rt::num::Numeric;
+use std::collections::LinkedList;
 
 /// A call of a table, and what it comes to.
 #[derive(Drop)]
@@ -50,6 +54,28 @@ pub enum Answer {
     Read(u64),
     /// What an update has replaced, in 64 bits.
     Replaced(u64),
+    /// The channel has no message now.
+    Empty,
+    /// The channel has no message, and no sender is left.
+    NoSender,
+    /// The channel didn't take the data.
+    Back(u64),
+    /// The messages that are left.
+    Messages(&'static [u64]),
+    /// The waker of this number, which was taken out of its place.
+    Waker(usize),
+    /// There is no waker in the place.
+    NoWaker,
+    /// The key has no value yet.
+    Absent,
+    /// The key's value was given back.
+    Gone,
+    /// The value that was made before, and the one that wasn't needed.
+    Stood(u64, u64),
+    /// The thread's own values, with their keys.
+    Locals(&'static [(usize, u64)]),
+    /// The values that were made once, with their keys.
+    Lazies(&'static [(usize, u64)]),
     /// The thread itself, and its name.
     Thread(u8, Option<&'static str>),
     /// A new thread, and its name.
@@ -68,6 +94,9 @@ pub enum Object {
     RwLock,
     Condvar,
     Notify,
+    Channel,
+    BlockOn,
+    AtomicWaker,
 }
 
 /// What a thread holds of an object.
@@ -100,7 +129,30 @@ impl Object {
             Object::RwLock => Some(RwLock::from_reply(reply)?.number),
             Object::Condvar => Some(Condvar::from_reply(reply)?.number),
             Object::Notify => Some(Notify::from_reply(reply)?.number),
+            Object::Channel => both_ends(reply),
+            Object::BlockOn => lent(reply),
+            Object::AtomicWaker => Some(AtomicWaker::from_reply(reply)?.number),
         }
+    }
+}
+
+// The number of the channel, if it is that of both its ends.
+fn both_ends(reply: &Reply<Number>) -> Option<usize> {
+    let number = Sender::from_reply(reply)?.number;
+    if number == Receiver::from_reply(reply)?.number {
+        Some(number)
+    } else {
+        None
+    }
+}
+
+// The number of a future's count of wakers, if it is that of the waker that is lent.
+fn lent(reply: &Reply<Number>) -> Option<usize> {
+    let number = BlockOn::from_reply(reply)?.waker().number;
+    if number == Waker::from_reply(reply)?.number {
+        Some(number)
+    } else {
+        None
     }
 }
 
@@ -156,6 +208,43 @@ fn fetched<T: Numeric>(found: Fetched<T>) -> Result<u64, u64> {
     }
 }
 
+// Whether the messages are these.
+fn are_messages(found: &LinkedList<Number>, wanted: &[u64]) -> bool {
+    found.len() == wanted.len()
+        && found
+            .iter()
+            .zip(wanted)
+            .all(|(found, wanted)| found.0 == *wanted)
+}
+
+// Whether a thread's own values are these.
+fn are_locals(found: &[Keyed<Number>], wanted: &[(usize, u64)]) -> bool {
+    found.len() == wanted.len()
+        && found
+            .iter()
+            .zip(wanted)
+            .all(|(found, wanted)| (found.key, found.value.0) == *wanted)
+}
+
+// Whether values that were made once are these.
+fn are_lazies(found: &[Lazy<Number>], wanted: &[(usize, u64)]) -> bool {
+    found.len() == wanted.len()
+        && found
+            .iter()
+            .zip(wanted)
+            .all(|(found, wanted)| (found.key, found.value.0) == *wanted)
+}
+
+// Whether it is that a channel didn't take this.
+fn came_back(reply: &Reply<Number>, data: u64) -> bool {
+    matches!(reply, Reply::SendError(Number(found)) if *found == data)
+}
+
+// Whether it is that this value stood, and that one wasn't needed.
+fn stood(reply: &Reply<Number>, one: u64, other: u64) -> bool {
+    matches!(reply, Reply::Stood(Number(found), Number(back)) if *found == one && *back == other)
+}
+
 // Whether the thread that asked is this one.
 fn is_thread(thread: Thread, number: u8, name: Option<&'static str>) -> bool {
     thread.id() == ThreadId(number) && thread.name() == name
@@ -181,6 +270,23 @@ impl Answer {
             Answer::Exchanged(wanted) => exchanged(Atomic::<T>::exchanged(&reply)?, wanted),
             Answer::Read(value) => fetched(FetchUpdate::<T>::fetched(&reply)?) == Ok(value),
             Answer::Replaced(value) => fetched(FetchUpdate::<T>::fetched(&reply)?) == Err(value),
+            Answer::Empty => matches!(reply, Reply::Empty),
+            Answer::NoSender => matches!(reply, Reply::RecvError),
+            Answer::Back(number) => came_back(&reply, number),
+            Answer::Messages(numbers) => {
+                matches!(&reply, Reply::Messages(found) if are_messages(found, numbers))
+            }
+            Answer::Waker(number) => Waker::from_reply(&reply)?.number == number,
+            Answer::NoWaker => matches!(reply, Reply::NoWaker),
+            Answer::Absent => matches!(reply, Reply::Absent),
+            Answer::Gone => AccessError::from_reply(&reply).is_some(),
+            Answer::Stood(one, other) => stood(&reply, one, other),
+            Answer::Locals(values) => {
+                matches!(&reply, Reply::Locals(found) if are_locals(found.as_slice(), values))
+            }
+            Answer::Lazies(values) => {
+                matches!(&reply, Reply::Lazies(found) if are_lazies(found.as_slice(), values))
+            }
             Answer::Thread(number, name) => is_thread(Thread::from_reply(&reply)?, number, name),
             Answer::Spawned(number, name) => {
                 is_thread(JoinHandle::from_reply(&reply)?.thread(), number, name)

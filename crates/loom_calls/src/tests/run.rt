@@ -14,6 +14,7 @@ const SEARCH: Search = Search {
     reduce: true,
     bound: None,
     max_branches: 40,
+    explores: true,
 };
 
 /// Makes the calls, in a run of main, and of one thread more where main spawns it, where atomics hold a `T`. Answers the place of the first call that

@@ -25,7 +25,11 @@ pub enum Action {
     Decrement,
     /// It tells how many counted references there are.
     Inspect,
-    /// It uses a lock, a condition variable or a notifier.
+    /// It sends to a channel.
+    Send,
+    /// It receives from a channel.
+    Receive,
+    /// It uses a lock, a condition variable, a notifier or a place for a waker.
     Other,
 }
 

@@ -18,7 +18,7 @@ pub struct LastAccess {
 }
 
 /// The last accesses to an object, one for each question that an operation can ask (loom's `last_access` and its like in
-/// `rt/atomic.rs`, `rt/arc.rs`, `rt/mutex.rs` and the others).
+/// `rt/atomic.rs`, `rt/arc.rs`, `rt/mpsc.rs`, `rt/mutex.rs` and the others).
 #[derive(Clone, Copy, Debug)]
 pub struct LastAccesses {
     /// The last one of all.
@@ -31,6 +31,10 @@ pub struct LastAccesses {
     pub decrement: Option<LastAccess>,
     /// The last that made the number of references another one.
     pub recount: Option<LastAccess>,
+    /// The last that sent to a channel.
+    pub send: Option<LastAccess>,
+    /// The last that received from a channel.
+    pub receipt: Option<LastAccess>,
 }
 
 impl LastAccesses {
@@ -44,6 +48,8 @@ impl LastAccesses {
             inspection: None,
             decrement: None,
             recount: None,
+            send: None,
+            receipt: None,
         }
     }
 
@@ -57,6 +63,8 @@ impl LastAccesses {
             Action::Increment => self.inspection,
             Action::Decrement => self.decrement,
             Action::Inspect => self.recount,
+            Action::Send => self.send,
+            Action::Receive => self.receipt,
             Action::Other => self.latest,
         }
     }
@@ -75,6 +83,8 @@ impl LastAccesses {
                 self.recount = Some(*access);
             }
             Action::Inspect => self.inspection = Some(*access),
+            Action::Send => self.send = Some(*access),
+            Action::Receive => self.receipt = Some(*access),
             Action::Other => {}
         }
     }

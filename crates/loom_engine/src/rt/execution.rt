@@ -1,29 +1,30 @@
-ghost use Rattle.std.specs.Prelude.{◌≡◌, ◌≢◌, ◌≤◌, ◌+◌, ◌<◌, Err, Some, None, true, slice_get, IfOk, OnOk};
+ghost use Rattle.std.specs.Prelude.{Bool, ◌≡◌, ◌≢◌, ◌≤◌, ◌+◌, ◌<◌, Err, Some, None, true, slice_get, IfOk, OnOk};
 ghost use Rattle.std.specs.List.{Contains};
 ghost use Rattle.loom_objects.specs.declared.choice.Choice.{Choice};
 ghost use Rattle.loom_runs.specs.Courses.{Course, opening, used_in};
 ghost use Rattle.loom_engine.specs.Execution.{Notes, ShowsCourse, use_among, Starts, takes_turn, Along, AllNeedMemory, MayBeRefused, Submits, itself, over_after as answered_after};
 ghost use Rattle.loom_dependence.specs.Shown.{ShowsOrder};
 ghost use Rattle.loom_objects.specs.Effects.{needs_memory};
+ghost use Rattle.loom_objects.specs.Exploring.{is_on};
 ghost use Rattle.loom_objects.specs.Shown.{Shows};
 ghost use Rattle.loom_objects.specs.World.{World};
 ghost use Rattle.loom_runs.specs.Machine as machine;
-ghost use Rattle.loom_path.specs.Routes.{Route, Says};
+ghost use Rattle.loom_path.specs.Routes.{Route, IsAtStart, IsSame, IsSameSearch, Says, Switches};
 ghost use Rattle.loom_objects.specs.Asked.{which_store};
 
 use loom_dependence::rt::dependence::{Dependence, Use};
 use loom_machine::steps::{begin, end_run, enter_wait, read, resume};
 use loom_objects::data::Data;
 use loom_objects::failure::{Failure, Stop, failed};
-use loom_objects::operation::{Op, Turn};
+use loom_objects::operation::{ExploreOp, Op, Reply, Turn};
 use loom_objects::rt::run::{Entry, Passed, Resumed, RunState};
 use loom_path::rt::path::Path;
 use loom_views::rt::failure::FailureKind;
 use std::alloc::{AllocError, Global};
 use std::marker::Model;
 
-// a thread comes to three further branch points at most before it is told something
-const FURTHER_BRANCHES: u8 = 15;
+// as many as a path may have nodes: the path refuses the next one before this is used up
+const FURTHER_BRANCHES: u32 = 1_000_000;
 
 /// How much a run may use.
 #[derive(Clone, Copy, Debug)]
@@ -64,7 +65,7 @@ impl<D: Data> Execution<D> {
     pub fn new(alloc: Global, limits: Limits) -> Result<Execution<D>, AllocError>
         requires some { 1 ≤ limits.max_threads }
         requires few { limits.max_threads ≤ 5 }
-        ensures opens { IfOk result (λ execution. (path : Route) → path.position ≡ 0 → ShowsCourse (opening limits.max_threads limits.max_steps) execution.run path) }
+        ensures opens { IfOk result (λ execution. (explores : Bool) (path : Route) → IsAtStart explores path → ShowsCourse (opening explores limits.max_threads limits.max_steps) execution.run path) }
         ensures steps { IfOk result (λ execution. execution.run.state.steps_left ≡ limits.max_steps) }
         ensures over { IfOk result (λ execution. execution.over ≡ None) }
     {
@@ -84,7 +85,7 @@ impl<D: Data> Execution<D> {
     pub fn submit(&mut self, path: &mut Path, op: Op<D, ()>) -> Result<Turn<D>, Stop>
         ensures event { Submits self.old op path.old result self.new path.new }
         ensures steps { OnOk result (self.old.run.state.steps_left ≡ self.new.run.state.steps_left + 1) }
-        ensures same { (path.new.search ≡ path.old.search) × (path.new.given ≡ path.old.given) }
+        ensures same { IsSameSearch path.old path.new }
     {
         if let Some(stop) = self.over {
             return Err(stop);
@@ -118,13 +119,14 @@ fn hand_over<D: Data>(
     ensures along { Along (machine.submit op) run.old path.old result run.new path.new }
     ensures growth { result ≡ Err Stop.Memory → MayBeRefused op run.old path.old }
     ensures steps { OnOk result (run.old.state.steps_left ≡ run.new.state.steps_left + 1) }
-    ensures same { (path.new.search ≡ path.old.search) × (path.new.given ≡ path.old.given) }
+    ensures same { IsSameSearch path.old path.new }
 {
     match start(run, op) {
         Err(stop) => Err(stop),
         Ok(Entry::Answered(reply)) => Ok(Turn::Reply(run.state.scene.active(), reply)),
         Ok(Entry::AtBranch) => schedule(run, path, FURTHER_BRANCHES),
         Ok(Entry::Spurious(notifier)) => wait(run, path, notifier),
+        Ok(Entry::Explores(op)) => switch(run, path, op),
     }
 }
 
@@ -147,12 +149,40 @@ fn start<D: Data>(run: &mut Progress<D>, op: Op<D, ()>) -> Result<Entry<D>, Stop
     }
 }
 
+/// The path explores from now on, or doesn't.
+fn switch<D: Data>(run: &mut Progress<D>, path: &mut Path, op: ExploreOp) -> Result<Turn<D>, Stop>
+    ensures along { Along (machine.switches op) run.old path.old result run.new path.new }
+    ensures no_growth { result ≢ Err Stop.Memory }
+    ensures steps { run.new.state.steps_left ≡ run.old.state.steps_left }
+    ensures same { IsSameSearch path.old path.new }
+{
+    match switch_path(path, op) {
+        Ok(()) => Ok(Turn::Reply(run.state.scene.active(), Reply::Done)),
+        Err(kind) => Err(failed(kind)),
+    }
+}
+
+/// The switch of a path that the operation names.
+fn switch_path(path: &mut Path, op: ExploreOp) -> Result<(), FailureKind>
+    ensures switches { Switches path.old op result path.new }
+    ensures same { IsSameSearch path.old path.new }
+{
+    match op {
+        ExploreOp::Explore => path.explore_state(),
+        ExploreOp::StopExploring => path.critical(),
+        ExploreOp::SkipBranch => {
+            path.skip_branch();
+            Ok(())
+        }
+    }
+}
+
 /// Whether the active thread wakes from the notifier without a notification is chosen, and then it yields or waits.
 fn wait<D: Data>(run: &mut Progress<D>, path: &mut Path, notifier: usize) -> Result<Turn<D>, Stop>
     ensures along { Along (machine.is_asked notifier) run.old path.old result run.new path.new }
     ensures growth { result ≡ Err Stop.Memory → AllNeedMemory itself (machine.is_asked notifier) run.old path.old }
     ensures steps { run.new.state.steps_left ≡ run.old.state.steps_left }
-    ensures same { (path.new.search ≡ path.old.search) × (path.new.given ≡ path.old.given) }
+    ensures same { IsSame path.old path.new }
 {
     match path.branch_spurious() {
         Err(stop) => Err(stop),
@@ -164,20 +194,23 @@ fn wait<D: Data>(run: &mut Progress<D>, path: &mut Path, notifier: usize) -> Res
 }
 
 /// A schedule, and those after it, up to a turn. `Misuse` at one branch point more than there may be.
-fn schedule<D: Data>(run: &mut Progress<D>, path: &mut Path, more: u8) -> Result<Turn<D>, Stop>
+fn schedule<D: Data>(run: &mut Progress<D>, path: &mut Path, more: u32) -> Result<Turn<D>, Stop>
     ensures along { Along (machine.schedule more) run.old path.old result run.new path.new }
     ensures growth { result ≡ Err Stop.Memory → AllNeedMemory itself (machine.schedule more) run.old path.old }
     ensures steps { run.new.state.steps_left ≡ run.old.state.steps_left }
-    ensures same { (path.new.search ≡ path.old.search) × (path.new.given ≡ path.old.given) }
+    ensures same { IsSame path.old path.new }
 {
-    match pass(run, path) {
-        Err(stop) => Err(stop),
-        Ok(Passed::Turn(turn)) => Ok(turn),
-        Ok(Passed::AtBranch) => {
-            if more == 0 {
-                return Err(failed(FailureKind::Misuse));
+    let mut left = more;
+    'passes: loop {
+        match pass(run, path) {
+            Err(stop) => return Err(stop),
+            Ok(Passed::Turn(turn)) => return Ok(turn),
+            Ok(Passed::AtBranch) => {
+                if left == 0 {
+                    return Err(failed(FailureKind::Misuse));
+                }
+                left -= 1;
             }
-            schedule(run, path, more - 1)
         }
     }
 }
@@ -187,7 +220,7 @@ fn pass<D: Data>(run: &mut Progress<D>, path: &mut Path) -> Result<Passed<D>, St
     ensures along { Along machine.passes run.old path.old result run.new path.new }
     ensures growth { result ≡ Err Stop.Memory → AllNeedMemory Passed.Turn machine.passes run.old path.old }
     ensures steps { run.new.state.steps_left ≡ run.old.state.steps_left }
-    ensures same { (path.new.search ≡ path.old.search) × (path.new.given ≡ path.old.given) }
+    ensures same { IsSame path.old path.new }
 {
     let uses = run.state.scene.uses();
     path.backtrack(&run.dependence.unordered(&uses));
@@ -228,7 +261,7 @@ fn go_on<D: Data>(run: &mut Progress<D>, path: &mut Path, thread: u8) -> Result<
     ensures along { Along (takes_turn thread) run.old path.old result run.new path.new }
     ensures growth { result ≡ Err Stop.Memory → AllNeedMemory Passed.Turn (takes_turn thread) run.old path.old }
     ensures steps { run.new.state.steps_left ≡ run.old.state.steps_left }
-    ensures same { (path.new.search ≡ path.old.search) × (path.new.given ≡ path.old.given) }
+    ensures same { IsSame path.old path.new }
 {
     match resume(&mut run.state, thread) {
         Err(stop) => Err(stop),
@@ -246,9 +279,9 @@ fn go_on<D: Data>(run: &mut Progress<D>, path: &mut Path, thread: u8) -> Result<
 /// The path says which of the slots that may be read is.
 fn choose_slot(path: &mut Path, readable: &[bool; 7]) -> Result<u8, Stop>
     requires some { Contains readable.now true }
-    ensures says { Says Choice.Load path.old (which_store readable.now) result path.new }
+    ensures says { Says Choice.Load path.old (which_store (is_on path.old.exploring) readable.now) result path.new }
     ensures readable { IfOk result (λ slot. slice_get readable.now slot ≡ Some true) }
-    ensures same { (path.new.search ≡ path.old.search) × (path.new.given ≡ path.old.given) }
+    ensures same { IsSame path.old path.new }
 {
     path.push_load(readable)?;
     path.branch_load()

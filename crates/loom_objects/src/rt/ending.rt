@@ -26,6 +26,10 @@ fn leak_of<D>(object: &Object<D>) -> Option<FailureKind>
         Object::Arc(_) => None,
         Object::Track(track) if !track.content.is_taken => Some(FailureKind::LeakTrack),
         Object::Track(_) => None,
+        Object::Channel(channel) if !channel.is_empty() => Some(FailureKind::LeakMessages),
+        Object::Channel(_) => None,
+        Object::Wakers(wakers) if wakers.count > 0 => Some(FailureKind::LeakArc),
+        Object::Wakers(_) | Object::AtomicWaker(_) => None,
         Object::Atomic(_) | Object::Mutex(_) | Object::RwLock(_) => None,
         Object::Condvar(_) | Object::Notify(_) | Object::Cell(_) => None,
     }

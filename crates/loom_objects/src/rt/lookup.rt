@@ -12,9 +12,14 @@ ghost use Rattle.loom_objects.specs.contracts.rt.sync.Notify as notifier_row;
 ghost use Rattle.loom_objects.specs.contracts.rt.sync.Cell as cell_row;
 ghost use Rattle.loom_objects.specs.contracts.rt.sync.Arc as arc_row;
 ghost use Rattle.loom_objects.specs.contracts.rt.sync.Track as track_row;
+ghost use Rattle.loom_objects.specs.contracts.rt.sync.Channel as channel_row;
+ghost use Rattle.loom_objects.specs.contracts.rt.sync.Wakers as wakers_row;
+ghost use Rattle.loom_objects.specs.contracts.rt.sync.AtomicWaker as place_row;
 
 use crate::rt::object::Object;
-use crate::rt::sync::{Arc, Atomic, Cell, Condvar, Mutex, Notify, RwLock, Track};
+use crate::rt::sync::{
+    Arc, Atomic, AtomicWaker, Cell, Channel, Condvar, Mutex, Notify, RwLock, Track, Wakers,
+};
 use loom_views::rt::failure::FailureKind;
 use loom_views::sequence::Sequence;
 
@@ -37,7 +42,10 @@ fn as_atomic_mut<D>(object: &mut Object<D>) -> Result<&mut Atomic, FailureKind>
         | Object::Notify(_)
         | Object::Cell(_)
         | Object::Arc(_)
-        | Object::Track(_) => Err(FailureKind::Misuse),
+        | Object::Track(_)
+        | Object::Channel(_)
+        | Object::Wakers(_)
+        | Object::AtomicWaker(_) => Err(FailureKind::Misuse),
     }
 }
 
@@ -79,7 +87,10 @@ pub(crate) fn atomic_of<D>(
         | Object::Notify(_)
         | Object::Cell(_)
         | Object::Arc(_)
-        | Object::Track(_) => Err(FailureKind::Misuse),
+        | Object::Track(_)
+        | Object::Channel(_)
+        | Object::Wakers(_)
+        | Object::AtomicWaker(_) => Err(FailureKind::Misuse),
     }
 }
 
@@ -102,7 +113,10 @@ fn as_mutex_mut<D>(object: &mut Object<D>) -> Result<&mut Mutex<D>, FailureKind>
         | Object::Notify(_)
         | Object::Cell(_)
         | Object::Arc(_)
-        | Object::Track(_) => Err(FailureKind::Misuse),
+        | Object::Track(_)
+        | Object::Channel(_)
+        | Object::Wakers(_)
+        | Object::AtomicWaker(_) => Err(FailureKind::Misuse),
     }
 }
 
@@ -144,7 +158,10 @@ pub(crate) fn mutex_of<D>(
         | Object::Notify(_)
         | Object::Cell(_)
         | Object::Arc(_)
-        | Object::Track(_) => Err(FailureKind::Misuse),
+        | Object::Track(_)
+        | Object::Channel(_)
+        | Object::Wakers(_)
+        | Object::AtomicWaker(_) => Err(FailureKind::Misuse),
     }
 }
 
@@ -167,7 +184,10 @@ fn as_rwlock_mut<D>(object: &mut Object<D>) -> Result<&mut RwLock<D>, FailureKin
         | Object::Notify(_)
         | Object::Cell(_)
         | Object::Arc(_)
-        | Object::Track(_) => Err(FailureKind::Misuse),
+        | Object::Track(_)
+        | Object::Channel(_)
+        | Object::Wakers(_)
+        | Object::AtomicWaker(_) => Err(FailureKind::Misuse),
     }
 }
 
@@ -209,7 +229,10 @@ pub(crate) fn rwlock_of<D>(
         | Object::Notify(_)
         | Object::Cell(_)
         | Object::Arc(_)
-        | Object::Track(_) => Err(FailureKind::Misuse),
+        | Object::Track(_)
+        | Object::Channel(_)
+        | Object::Wakers(_)
+        | Object::AtomicWaker(_) => Err(FailureKind::Misuse),
     }
 }
 
@@ -226,7 +249,10 @@ fn as_condvar_mut<D>(object: &mut Object<D>) -> Result<&mut Condvar, FailureKind
         | Object::Notify(_)
         | Object::Cell(_)
         | Object::Arc(_)
-        | Object::Track(_) => Err(FailureKind::Misuse),
+        | Object::Track(_)
+        | Object::Channel(_)
+        | Object::Wakers(_)
+        | Object::AtomicWaker(_) => Err(FailureKind::Misuse),
     }
 }
 
@@ -262,7 +288,10 @@ pub(crate) fn condvar_of<D>(
         | Object::Notify(_)
         | Object::Cell(_)
         | Object::Arc(_)
-        | Object::Track(_) => Err(FailureKind::Misuse),
+        | Object::Track(_)
+        | Object::Channel(_)
+        | Object::Wakers(_)
+        | Object::AtomicWaker(_) => Err(FailureKind::Misuse),
     }
 }
 
@@ -279,7 +308,10 @@ fn as_notifier_mut<D>(object: &mut Object<D>) -> Result<&mut Notify, FailureKind
         | Object::Condvar(_)
         | Object::Cell(_)
         | Object::Arc(_)
-        | Object::Track(_) => Err(FailureKind::Misuse),
+        | Object::Track(_)
+        | Object::Channel(_)
+        | Object::Wakers(_)
+        | Object::AtomicWaker(_) => Err(FailureKind::Misuse),
     }
 }
 
@@ -315,7 +347,10 @@ pub(crate) fn notifier_of<D>(
         | Object::Condvar(_)
         | Object::Cell(_)
         | Object::Arc(_)
-        | Object::Track(_) => Err(FailureKind::Misuse),
+        | Object::Track(_)
+        | Object::Channel(_)
+        | Object::Wakers(_)
+        | Object::AtomicWaker(_) => Err(FailureKind::Misuse),
     }
 }
 
@@ -338,7 +373,10 @@ fn as_cell_mut<D>(object: &mut Object<D>) -> Result<&mut Cell<D>, FailureKind>
         | Object::Condvar(_)
         | Object::Notify(_)
         | Object::Arc(_)
-        | Object::Track(_) => Err(FailureKind::Misuse),
+        | Object::Track(_)
+        | Object::Channel(_)
+        | Object::Wakers(_)
+        | Object::AtomicWaker(_) => Err(FailureKind::Misuse),
     }
 }
 
@@ -380,7 +418,10 @@ pub(crate) fn cell_of<D>(
         | Object::Condvar(_)
         | Object::Notify(_)
         | Object::Arc(_)
-        | Object::Track(_) => Err(FailureKind::Misuse),
+        | Object::Track(_)
+        | Object::Channel(_)
+        | Object::Wakers(_)
+        | Object::AtomicWaker(_) => Err(FailureKind::Misuse),
     }
 }
 
@@ -397,7 +438,10 @@ fn as_arc_mut<D>(object: &mut Object<D>) -> Result<&mut Arc<D>, FailureKind>
         | Object::Condvar(_)
         | Object::Notify(_)
         | Object::Cell(_)
-        | Object::Track(_) => Err(FailureKind::Misuse),
+        | Object::Track(_)
+        | Object::Channel(_)
+        | Object::Wakers(_)
+        | Object::AtomicWaker(_) => Err(FailureKind::Misuse),
     }
 }
 
@@ -433,7 +477,10 @@ pub(crate) fn arc_of<D>(
         | Object::Condvar(_)
         | Object::Notify(_)
         | Object::Cell(_)
-        | Object::Track(_) => Err(FailureKind::Misuse),
+        | Object::Track(_)
+        | Object::Channel(_)
+        | Object::Wakers(_)
+        | Object::AtomicWaker(_) => Err(FailureKind::Misuse),
     }
 }
 
@@ -450,7 +497,10 @@ fn as_track_mut<D>(object: &mut Object<D>) -> Result<&mut Track<D>, FailureKind>
         | Object::Condvar(_)
         | Object::Notify(_)
         | Object::Cell(_)
-        | Object::Arc(_) => Err(FailureKind::Misuse),
+        | Object::Arc(_)
+        | Object::Channel(_)
+        | Object::Wakers(_)
+        | Object::AtomicWaker(_) => Err(FailureKind::Misuse),
     }
 }
 
@@ -486,6 +536,186 @@ pub(crate) fn track_of<D>(
         | Object::Condvar(_)
         | Object::Notify(_)
         | Object::Cell(_)
-        | Object::Arc(_) => Err(FailureKind::Misuse),
+        | Object::Arc(_)
+        | Object::Channel(_)
+        | Object::Wakers(_)
+        | Object::AtomicWaker(_) => Err(FailureKind::Misuse),
+    }
+}
+
+/// The channel that the object is.
+fn as_channel_mut<D>(object: &mut Object<D>) -> Result<&mut Channel<D>, FailureKind>
+    ensures* writes_back { sem 𝓛 (lends_kind D.row (channel_row.the_row D.row) Object.Channel object.entry result) }
+    ensures value { now_of result ≡ lookup.channel_in object.old }
+{
+    match object {
+        Object::Channel(channel) => Ok(channel),
+        Object::Atomic(_)
+        | Object::Mutex(_)
+        | Object::RwLock(_)
+        | Object::Condvar(_)
+        | Object::Notify(_)
+        | Object::Cell(_)
+        | Object::Arc(_)
+        | Object::Track(_)
+        | Object::Wakers(_)
+        | Object::AtomicWaker(_) => Err(FailureKind::Misuse),
+    }
+}
+
+/// The channel of this number, to change. Misuse where there is none.
+pub(crate) fn channel_in_mut<D>(
+    objects: &mut Sequence<Object<D>>,
+    number: usize,
+) -> Result<&mut Channel<D>, FailureKind>
+    ensures* writes_back { sem 𝓛 (lends_kind_at D.row (channel_row.the_row D.row) Object.Channel objects.entry number result) }
+    ensures value { now_of result ≡ lookup.channel_at number objects.old }
+{
+    if number >= objects.len() {
+        return Err(FailureKind::Misuse);
+    }
+    as_channel_mut(objects.at_mut(number))
+}
+
+/// The channel of this number, to read. Misuse where there is none.
+pub(crate) fn channel_of<D>(
+    objects: &Sequence<Object<D>>,
+    number: usize,
+) -> Result<&Channel<D>, FailureKind>
+    ensures { shown_of result ≡ lookup.channel_at number objects.now }
+{
+    if number >= objects.len() {
+        return Err(FailureKind::Misuse);
+    }
+    match objects.at(number) {
+        Object::Channel(channel) => Ok(channel),
+        Object::Atomic(_)
+        | Object::Mutex(_)
+        | Object::RwLock(_)
+        | Object::Condvar(_)
+        | Object::Notify(_)
+        | Object::Cell(_)
+        | Object::Arc(_)
+        | Object::Track(_)
+        | Object::Wakers(_)
+        | Object::AtomicWaker(_) => Err(FailureKind::Misuse),
+    }
+}
+
+/// The count of wakers that the object is.
+fn as_wakers_mut<D>(object: &mut Object<D>) -> Result<&mut Wakers, FailureKind>
+    ensures* writes_back { sem 𝓛 (lends_kind D.row (wakers_row.the_row) Object.Wakers object.entry result) }
+    ensures value { now_of result ≡ lookup.wakers_in object.old }
+{
+    match object {
+        Object::Wakers(wakers) => Ok(wakers),
+        Object::Atomic(_)
+        | Object::Mutex(_)
+        | Object::RwLock(_)
+        | Object::Condvar(_)
+        | Object::Notify(_)
+        | Object::Cell(_)
+        | Object::Arc(_)
+        | Object::Track(_)
+        | Object::Channel(_)
+        | Object::AtomicWaker(_) => Err(FailureKind::Misuse),
+    }
+}
+
+/// The count of wakers of this number, to change. Misuse where there is none.
+pub(crate) fn wakers_in_mut<D>(
+    objects: &mut Sequence<Object<D>>,
+    number: usize,
+) -> Result<&mut Wakers, FailureKind>
+    ensures* writes_back { sem 𝓛 (lends_kind_at D.row (wakers_row.the_row) Object.Wakers objects.entry number result) }
+    ensures value { now_of result ≡ lookup.wakers_at number objects.old }
+{
+    if number >= objects.len() {
+        return Err(FailureKind::Misuse);
+    }
+    as_wakers_mut(objects.at_mut(number))
+}
+
+/// The count of wakers of this number, to read. Misuse where there is none.
+pub(crate) fn wakers_of<D>(
+    objects: &Sequence<Object<D>>,
+    number: usize,
+) -> Result<&Wakers, FailureKind>
+    ensures { shown_of result ≡ lookup.wakers_at number objects.now }
+{
+    if number >= objects.len() {
+        return Err(FailureKind::Misuse);
+    }
+    match objects.at(number) {
+        Object::Wakers(wakers) => Ok(wakers),
+        Object::Atomic(_)
+        | Object::Mutex(_)
+        | Object::RwLock(_)
+        | Object::Condvar(_)
+        | Object::Notify(_)
+        | Object::Cell(_)
+        | Object::Arc(_)
+        | Object::Track(_)
+        | Object::Channel(_)
+        | Object::AtomicWaker(_) => Err(FailureKind::Misuse),
+    }
+}
+
+/// The place for a waker that the object is.
+fn as_place_mut<D>(object: &mut Object<D>) -> Result<&mut AtomicWaker, FailureKind>
+    ensures* writes_back { sem 𝓛 (lends_kind D.row (place_row.the_row) Object.AtomicWaker object.entry result) }
+    ensures value { now_of result ≡ lookup.place_in object.old }
+{
+    match object {
+        Object::AtomicWaker(place) => Ok(place),
+        Object::Atomic(_)
+        | Object::Mutex(_)
+        | Object::RwLock(_)
+        | Object::Condvar(_)
+        | Object::Notify(_)
+        | Object::Cell(_)
+        | Object::Arc(_)
+        | Object::Track(_)
+        | Object::Channel(_)
+        | Object::Wakers(_) => Err(FailureKind::Misuse),
+    }
+}
+
+/// The place for a waker of this number, to change. Misuse where there is none.
+pub(crate) fn place_in_mut<D>(
+    objects: &mut Sequence<Object<D>>,
+    number: usize,
+) -> Result<&mut AtomicWaker, FailureKind>
+    ensures* writes_back { sem 𝓛 (lends_kind_at D.row (place_row.the_row) Object.AtomicWaker objects.entry number result) }
+    ensures value { now_of result ≡ lookup.place_at number objects.old }
+{
+    if number >= objects.len() {
+        return Err(FailureKind::Misuse);
+    }
+    as_place_mut(objects.at_mut(number))
+}
+
+/// The place for a waker of this number, to read. Misuse where there is none.
+pub(crate) fn place_of<D>(
+    objects: &Sequence<Object<D>>,
+    number: usize,
+) -> Result<&AtomicWaker, FailureKind>
+    ensures { shown_of result ≡ lookup.place_at number objects.now }
+{
+    if number >= objects.len() {
+        return Err(FailureKind::Misuse);
+    }
+    match objects.at(number) {
+        Object::AtomicWaker(place) => Ok(place),
+        Object::Atomic(_)
+        | Object::Mutex(_)
+        | Object::RwLock(_)
+        | Object::Condvar(_)
+        | Object::Notify(_)
+        | Object::Cell(_)
+        | Object::Arc(_)
+        | Object::Track(_)
+        | Object::Channel(_)
+        | Object::Wakers(_) => Err(FailureKind::Misuse),
     }
 }

@@ -1,6 +1,6 @@
 //! What the active thread does to the views of a run, and to its threads and objects where these grow.
 ghost use Rattle.std.specs.Prelude.{◌≡◌, ◌++◌, ◌∷◌, [], ◌<◌, ◌≤◌, Ok, Err, OnOk, OnErr, length, slice_get};
-ghost use Rattle.std.specs.declared.sync.atomic.Ordering.TheVariants.{Release};
+ghost use Rattle.std.specs.declared.sync.atomic.Ordering.TheVariants.{AcqRel, Release};
 ghost use Rattle.loom_objects.specs.Moves.{told_points};
 ghost use Rattle.loom_objects.specs.World.{MAX_THREADS};
 ghost use Rattle.loom_views.specs.Table as table;
@@ -112,6 +112,40 @@ impl<D: Drop> Scene<D> {
     {
         self.views
             .release(self.active as usize, number, Ordering::Release);
+    }
+
+    /// One more stamp, which nobody has released to. It answers its number.
+    pub fn add_stamp(&mut self) -> Result<usize, AllocError>
+        ensures number { (p : Points) → ShowsViews p self.old.views → OnOk result (result ≡ Ok (length p.stamps)) }
+        ensures views { (p : Points) → ShowsViews p self.old.views → OnOk result (ShowsViews (table.points_with_stamp p) self.new.views) }
+        ensures rest { OnOk result (self.new ≡ record self.old { views = self.new.views }) }
+    {
+        self.views.add_stamp()
+    }
+
+    /// The stamp is the point of the object of this number, as that is now.
+    pub fn stamp(&mut self, number: usize, stamp: usize)
+        ensures views { (p : Points) → ShowsViews p self.old.views → ShowsViews (table.points_after_stamp p number stamp) self.new.views }
+        ensures rest { self.new ≡ record self.old { views = self.new.views } }
+    {
+        self.views.stamp(number, stamp);
+    }
+
+    /// It releases to the stamp, and takes nothing in.
+    pub fn release_to_stamp(&mut self, stamp: usize)
+        ensures views { (p : Points) → ShowsViews p self.old.views → ShowsViews (table.points_after_stamp_release p self.old.active stamp AcqRel) self.new.views }
+        ensures rest { self.new ≡ record self.old { views = self.new.views } }
+    {
+        self.views
+            .release_to_stamp(self.active as usize, stamp, Ordering::AcqRel);
+    }
+
+    /// It acquires from the stamp.
+    pub fn acquire_from_stamp(&mut self, stamp: usize)
+        ensures views { (p : Points) → ShowsViews p self.old.views → ShowsViews (table.points_after_stamp_acquire p self.old.active stamp) self.new.views }
+        ensures rest { self.new ≡ record self.old { views = self.new.views } }
+    {
+        self.views.acquire_from_stamp(self.active as usize, stamp);
     }
 
     /// It makes a fence.

@@ -1,4 +1,6 @@
-use crate::rt::sync::{Arc, Atomic, Cell, Condvar, Mutex, Notify, RwLock, Track};
+use crate::rt::sync::{
+    Arc, Atomic, AtomicWaker, Cell, Channel, Condvar, Mutex, Notify, RwLock, Track, Wakers,
+};
 
 /// An object of a run. Its number is its place in the order of creation (loom's `rt/object.rs`).
 #[derive(Drop)]
@@ -11,4 +13,7 @@ pub enum Object<D> {
     Cell(Cell<D>),
     Arc(Arc<D>),
     Track(Track<D>),
+    Channel(Channel<D>),
+    Wakers(Wakers),
+    AtomicWaker(AtomicWaker),
 }

@@ -1,7 +1,7 @@
 ghost use Rattle.std.specs.Prelude.{◌≡◌, map};
 ghost use Rattle.loom_objects.specs.Scene.{Does};
 ghost use Rattle.loom_objects.specs.Moves as moves;
-ghost use Rattle.loom_objects.specs.Moves.{pending_with, target as target_of, is_number, written, writing_with};
+ghost use Rattle.loom_objects.specs.Moves.{pending_with, target as target_of, is_number, received_from, receiving_with, written, writing_with};
 
 use crate::rt::scene::Scene;
 use crate::rt::thread::{Claim, Phase, State, Task, Thread};
@@ -61,6 +61,44 @@ fn is_writing<D>(task: &Task<D>, number: usize) -> bool
         Task::Notify(_) | Task::Await(_) | Task::Rouse(_) => false,
         Task::Count(_, _) | Task::TryUnwrap(_) => false,
         Task::Join(_, _) | Task::Finish(_, _) => false,
+        Task::Send(_, _) | Task::Receive(_, _) | Task::Drain(_, _) => false,
+        Task::WakeBy(_, _, _) | Task::CloneWaker(_, _) | Task::DropWaker(_, _) => false,
+        Task::Register(_, _) | Task::TakeWaker(_, _) => false,
+    }
+}
+
+/// Whether the thread is about to receive from the channel of this number.
+fn is_receiving<D>(task: &Task<D>, number: usize) -> bool
+    ensures { result ≡ is_number (received_from task.now) number }
+{
+    match task {
+        Task::Receive(_, target) | Task::Drain(target, _) => *target == number,
+        Task::Start | Task::Body | Task::Continue | Task::Access(_) => false,
+        Task::Lock(_, _) | Task::TryLock(_) | Task::Relock(_, _) | Task::Claim(_, _) => false,
+        Task::Wait(_, _, _, _) | Task::Wake(_, _) => false,
+        Task::Notify(_) | Task::Await(_) | Task::Rouse(_) => false,
+        Task::Count(_, _) | Task::TryUnwrap(_) => false,
+        Task::Join(_, _) | Task::Finish(_, _) | Task::Send(_, _) => false,
+        Task::WakeBy(_, _, _) | Task::CloneWaker(_, _) | Task::DropWaker(_, _) => false,
+        Task::Register(_, _) | Task::TakeWaker(_, _) => false,
+    }
+}
+
+/// The thread can't go on if it is about to receive from the channel.
+fn block_receiver<D>(thread: &mut Thread<D>, number: usize)
+    ensures { thread.new ≡ receiving_with number State.Blocked thread.old }
+{
+    if is_receiving(&thread.task, number) {
+        thread.state = State::Blocked;
+    }
+}
+
+/// Each thread that is about to receive from the channel can't go on.
+fn block_receiving<D>(threads: &mut Sequence<Thread<D>>, number: usize)
+    ensures { threads.new ≡ map (receiving_with number State.Blocked) threads.old }
+{
+    for i in 0..threads.len() {
+        block_receiver(threads.at_mut(i), number);
     }
 }
 
@@ -192,6 +230,13 @@ impl<D: Drop> Scene<D> {
         ensures { self.new ≡ record self.old { threads = map (moves.writing_with number State.Blocked) self.old.threads } }
     {
         block_writing(&mut self.threads, number);
+    }
+
+    /// Who is pending to receive from the channel can't go on.
+    pub fn block_receivers(&mut self, number: usize)
+        ensures { self.new ≡ record self.old { threads = map (moves.receiving_with number State.Blocked) self.old.threads } }
+    {
+        block_receiving(&mut self.threads, number);
     }
 
     /// Who is pending on the object can't go on.

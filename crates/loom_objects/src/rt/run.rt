@@ -3,7 +3,7 @@ ghost use Rattle.loom_objects.specs.Shown.{Shows};
 ghost use Rattle.loom_objects.specs.World.{MAX_THREADS, opening};
 
 use crate::data::Data;
-use crate::operation::{AtomicOp, Reply, Turn};
+use crate::operation::{AtomicOp, ExploreOp, Reply, Turn};
 use crate::rt::scene::Scene;
 use loom_views::rt::MAX_ATOMIC_HISTORY;
 use std::alloc::{AllocError, Global};
@@ -17,6 +17,8 @@ pub enum Entry<D> {
     AtBranch,
     /// Its thread is to wait on the notifier of this number, and whether it wakes without a notification is to be chosen.
     Spurious(usize),
+    /// Whether the search explores from now on is to be switched.
+    Explores(ExploreOp),
 }
 
 /// An access that reads, whose thread was chosen and has raised its version.

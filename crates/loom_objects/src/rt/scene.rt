@@ -15,16 +15,21 @@ ghost use Rattle.loom_objects.specs.contracts.rt.sync.Notify as notifier_row;
 ghost use Rattle.loom_objects.specs.contracts.rt.sync.Cell as cell_row;
 ghost use Rattle.loom_objects.specs.contracts.rt.sync.Arc as arc_row;
 ghost use Rattle.loom_objects.specs.contracts.rt.sync.Track as track_row;
+ghost use Rattle.loom_objects.specs.contracts.rt.sync.Channel as channel_row;
+ghost use Rattle.loom_objects.specs.contracts.rt.sync.Wakers as wakers_row;
+ghost use Rattle.loom_objects.specs.contracts.rt.sync.AtomicWaker as place_row;
 
-use crate::operation::{Reply, Turn};
+use crate::operation::{Lazy, Reply, Turn};
 use crate::rt::lookup::{
-    arc_in_mut, arc_of, atomic_in_mut, atomic_of, cell_in_mut, cell_of, condvar_in_mut, condvar_of,
-    mutex_in_mut, mutex_of, notifier_in_mut, notifier_of, rwlock_in_mut, rwlock_of, track_in_mut,
-    track_of,
+    arc_in_mut, arc_of, atomic_in_mut, atomic_of, cell_in_mut, cell_of, channel_in_mut, channel_of,
+    condvar_in_mut, condvar_of, mutex_in_mut, mutex_of, notifier_in_mut, notifier_of, place_in_mut,
+    place_of, rwlock_in_mut, rwlock_of, track_in_mut, track_of, wakers_in_mut, wakers_of,
 };
 use crate::rt::object::Object;
 use crate::rt::run::{Passed, Resumed};
-use crate::rt::sync::{Arc, Atomic, Cell, Condvar, Mutex, Notify, RwLock, Track};
+use crate::rt::sync::{
+    Arc, Atomic, AtomicWaker, Cell, Channel, Condvar, Mutex, Notify, RwLock, Track, Wakers,
+};
 use crate::rt::thread::{Phase, State, Task, Thread};
 use loom_views::rt::failure::FailureKind;
 use loom_views::rt::table::Views;
@@ -41,10 +46,14 @@ pub struct Scene<D> {
     pub(crate) objects: Sequence<Object<D>>,
     // of the threads, and of each object by its number
     pub(crate) views: Views,
+    // that were made once, in the order made
+    pub(crate) lazies: Sequence<Lazy<D>>,
     // the thread whose turn it is
     pub(crate) active: u8,
     // those that have ended counted
     pub(crate) max_threads: usize,
+    // what lists are made by
+    pub(crate) alloc: Global,
 }
 
 impl<D> Model for Scene<D> {
@@ -54,7 +63,7 @@ impl<D> Model for Scene<D> {
 
     ghost Value = { Stage D };
 
-    ghost view = { λ s. record { threads = s.threads; objects = s.objects; views = s.views; active = s.active; max_threads = s.max_threads } };
+    ghost view = { λ s. record { threads = s.threads; objects = s.objects; views = s.views; lazies = s.lazies; active = s.active; max_threads = s.max_threads } };
 
     ghost invariant = { λ s. (s.active < length s.threads) × (length s.threads ≤ s.max_threads) × (s.max_threads ≤ MAX_THREADS) };
 }
@@ -77,14 +86,23 @@ impl<D: Drop> Scene<D> {
             yields: 0,
             has_token: false,
             name: None,
+            keys: Sequence::new(alloc),
+            locals: Sequence::new(alloc),
         })?;
         Ok(Scene {
             threads,
             objects: Sequence::new(alloc),
             views: Views::new(alloc),
+            lazies: Sequence::new(alloc),
             active: 0,
             max_threads,
+            alloc,
         })
+    }
+
+    /// What lists are made by.
+    pub fn alloc(&self) -> Global {
+        self.alloc
     }
 
     /// The thread whose turn it is.
@@ -212,6 +230,51 @@ impl<D: Drop> Scene<D> {
         ensures value { now_of result ≡ lookup.track_at number self.old.objects }
     {
         track_in_mut(&mut self.objects, number)
+    }
+
+    /// The channel of this number, to read. Misuse where there is none.
+    pub fn channel(&self, number: usize) -> Result<&Channel<D>, FailureKind>
+        ensures { shown_of result ≡ lookup.channel_at number self.now.objects }
+    {
+        channel_of(&self.objects, number)
+    }
+
+    /// The channel of this number, to change. Misuse where there is none.
+    pub fn channel_mut(&mut self, number: usize) -> Result<&mut Channel<D>, FailureKind>
+        ensures* writes_back { sem 𝓛 (lends_in_scene D.row (channel_row.the_row D.row) Object.Channel self.entry number result) }
+        ensures value { now_of result ≡ lookup.channel_at number self.old.objects }
+    {
+        channel_in_mut(&mut self.objects, number)
+    }
+
+    /// The count of wakers of this number, to read. Misuse where there is none.
+    pub fn wakers(&self, number: usize) -> Result<&Wakers, FailureKind>
+        ensures { shown_of result ≡ lookup.wakers_at number self.now.objects }
+    {
+        wakers_of(&self.objects, number)
+    }
+
+    /// The count of wakers of this number, to change. Misuse where there is none.
+    pub fn wakers_mut(&mut self, number: usize) -> Result<&mut Wakers, FailureKind>
+        ensures* writes_back { sem 𝓛 (lends_in_scene D.row (wakers_row.the_row) Object.Wakers self.entry number result) }
+        ensures value { now_of result ≡ lookup.wakers_at number self.old.objects }
+    {
+        wakers_in_mut(&mut self.objects, number)
+    }
+
+    /// The place for a waker of this number, to read. Misuse where there is none.
+    pub fn place(&self, number: usize) -> Result<&AtomicWaker, FailureKind>
+        ensures { shown_of result ≡ lookup.place_at number self.now.objects }
+    {
+        place_of(&self.objects, number)
+    }
+
+    /// The place for a waker of this number, to change. Misuse where there is none.
+    pub fn place_mut(&mut self, number: usize) -> Result<&mut AtomicWaker, FailureKind>
+        ensures* writes_back { sem 𝓛 (lends_in_scene D.row (place_row.the_row) Object.AtomicWaker self.entry number result) }
+        ensures value { now_of result ≡ lookup.place_at number self.old.objects }
+    {
+        place_in_mut(&mut self.objects, number)
     }
 
     /// The thread whose turn it is, to read.

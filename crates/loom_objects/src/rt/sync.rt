@@ -1,15 +1,18 @@
 //! The objects of a run.
 mod arcs;
 mod cells;
+mod channels;
 mod condvars;
 mod lending;
 mod mutexes;
 mod notifiers;
 mod rwlocks;
 
+use crate::operation::Message;
 use arrayvec::ArrayVec;
 use loom_views::rt::MAX_THREADS;
 use loom_views::rt::num::Numbers;
+use std::collections::LinkedList;
 
 /// An atomic, whose stores are kept with the views (loom's `rt/atomic.rs`).
 #[derive(Clone, Copy, Debug)]
@@ -107,4 +110,33 @@ pub struct Notify {
     pub waiter: Option<u8>,
     /// Whether a thread has woken without one.
     pub spurious: Spurious,
+}
+
+/// A channel (loom's `rt/mpsc.rs`).
+#[derive(Drop)]
+pub struct Channel<D> {
+    /// How many senders there are.
+    pub senders: u64,
+    /// Whether its receiver is there.
+    pub has_receiver: bool,
+    /// The messages that are to be received, the one that was sent first first.
+    pub messages: LinkedList<Message<D>>,
+}
+
+/// How many wakers of a future there are (loom's `future/mod.rs`, where an `Arc` counts them).
+#[derive(Clone, Copy, Debug)]
+pub struct Wakers {
+    /// The number of the notifier by which they wake.
+    pub notifier: usize,
+    /// How many there are, the future's own one included.
+    pub count: u64,
+}
+
+/// A place for a waker, and the lock round it (loom's `future/atomic_waker.rs`).
+#[derive(Clone, Copy, Debug)]
+pub struct AtomicWaker {
+    /// The thread that holds the lock.
+    pub holder: Option<u8>,
+    /// The waker that is there, by the number of its count.
+    pub waker: Option<usize>,
 }

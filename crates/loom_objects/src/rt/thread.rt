@@ -1,5 +1,7 @@
-use crate::operation::AtomicOp;
+use crate::operation::{AtomicOp, Keyed, Message};
 use loom_views::rt::MAX_THREADS;
+use loom_views::sequence::Sequence;
+use std::collections::LinkedList;
 
 /// Whether a thread may be chosen (loom's `rt/thread.rs`).
 #[derive(Clone, Copy, Debug, PartialEq, Eq)]
@@ -73,6 +75,44 @@ pub enum Waking {
     All,
 }
 
+/// How a thread takes a message out of a channel when it is chosen.
+#[derive(Clone, Copy, Debug, PartialEq, Eq)]
+pub enum Receiving {
+    /// `recv`.
+    Recv,
+    /// `try_recv`.
+    TryRecv,
+}
+
+/// What a thread does with a waker that it has taken out of its place.
+#[derive(Clone, Copy, Debug, PartialEq, Eq)]
+pub enum Taking {
+    /// It has the waker.
+    Answer,
+    /// It wakes by it, and drops it.
+    Wake,
+}
+
+/// What follows once a waker was dropped.
+#[derive(Clone, Copy, Debug, PartialEq, Eq)]
+pub enum AfterDrop {
+    /// The thread is answered.
+    Done,
+    /// The thread yields.
+    Yield,
+    /// The place for a waker of this number is given free.
+    Free(usize),
+}
+
+/// What follows once a waker has notified.
+#[derive(Clone, Copy, Debug, PartialEq, Eq)]
+pub enum AfterWake {
+    /// The thread is answered.
+    Done,
+    /// The waker is dropped, and then this follows.
+    Drop(AfterDrop),
+}
+
 /// What a thread does when it is chosen.
 #[derive(Drop)]
 pub enum Task<D> {
@@ -110,6 +150,22 @@ pub enum Task<D> {
     Join(u8, usize),
     /// It notifies its notifier, and keeps its result.
     Finish(usize, D),
+    /// It sends the one message of the list to the channel of this number.
+    Send(usize, LinkedList<Message<D>>),
+    /// It takes a message out of the channel of this number.
+    Receive(Receiving, usize),
+    /// It takes out what is left in the channel of this number, as its receiver is dropped; it has taken these so far.
+    Drain(usize, LinkedList<D>),
+    /// It notifies the notifier of the first number, by a waker of the count of the second one.
+    WakeBy(usize, usize, AfterWake),
+    /// It makes one waker more, of the count of this number; and then registers it at the place for a waker of that one, if any.
+    CloneWaker(usize, Option<usize>),
+    /// It drops a waker, of the count of this number.
+    DropWaker(usize, AfterDrop),
+    /// It registers at the place of the first number a waker of the count of the second one.
+    Register(usize, usize),
+    /// It takes the waker out of the place of this number.
+    TakeWaker(Taking, usize),
 }
 
 /// What a thread offers to a schedule.
@@ -142,6 +198,10 @@ pub struct Thread<D> {
     pub has_token: bool,
     /// Its name, if it was given one.
     pub name: Option<Name>,
+    /// The keys that have or had a value of its own.
+    pub keys: Sequence<usize>,
+    /// Its own values, in the order made, until they are given back.
+    pub locals: Sequence<Keyed<D>>,
 }
 
 /// What the threads of a run offer to a schedule.

@@ -40,15 +40,19 @@ fn counting_action(counting: Counting) -> Action
     }
 }
 
+/// It does this to the object.
+fn use_as(object: usize, action: Action) -> Use
+    ensures { result ≡ rules.used action object }
+{
+    Use { object, action }
+}
+
 /// What the access does to its atomic, if it has one.
 fn access_use(access: AtomicOp) -> Option<Use>
     ensures { result ≡ option_map (rules.used (rules.atomic_action access)) (accessed access) }
 {
     match access.atomic() {
-        Some(object) => Some(Use {
-            object,
-            action: atomic_action(access),
-        }),
+        Some(object) => Some(use_as(object, atomic_action(access))),
         None => None,
     }
 }
@@ -60,14 +64,15 @@ impl<D> Task<D> {
     {
         match self {
             Task::Access(access) => access_use(*access),
-            Task::Count(counting, object) => Some(Use {
-                object: *object,
-                action: counting_action(*counting),
-            }),
-            Task::TryUnwrap(object) => Some(Use {
-                object: *object,
-                action: Action::Decrement,
-            }),
+            Task::Count(counting, object) => Some(use_as(*object, counting_action(*counting))),
+            Task::TryUnwrap(object) | Task::DropWaker(object, _) => {
+                Some(use_as(*object, Action::Decrement))
+            }
+            Task::CloneWaker(object, _) => Some(use_as(*object, Action::Increment)),
+            Task::Send(object, _) => Some(use_as(*object, Action::Send)),
+            Task::Receive(_, object) | Task::Drain(object, _) => {
+                Some(use_as(*object, Action::Receive))
+            }
             Task::Lock(_, object)
             | Task::TryLock(object)
             | Task::Claim(_, object)
@@ -76,10 +81,10 @@ impl<D> Task<D> {
             | Task::Notify(object)
             | Task::Await(object)
             | Task::Join(_, object)
-            | Task::Finish(object, _) => Some(Use {
-                object: *object,
-                action: Action::Other,
-            }),
+            | Task::Finish(object, _)
+            | Task::WakeBy(object, _, _)
+            | Task::Register(object, _)
+            | Task::TakeWaker(_, object) => Some(use_as(*object, Action::Other)),
             Task::Start | Task::Body | Task::Continue => None,
             Task::Relock(_, _) | Task::Rouse(_) => None,
         }

@@ -1,14 +1,13 @@
 -- A thread is added at a schedule of a path.
-use Rattle.std.proofs.Common.{◌≡◌, ◌≤◌, ◌<◌, ℕ, Bool, true, false, List, length, map, take, get_or, Some, refl, ap, sym, ◌∙◌, subst, arith}
+use Rattle.std.proofs.Common.{◌≡◌, ◌<◌, ℕ, Bool, true, false, length, get_or, Some, refl, ap, sym, ◌∙◌, subst, arith}
 use Rattle.std.specs.Prelude.{slice_get, slice_set}
-use Rattle.loom_walks.specs.Trees.Drive.{pass_of, passes_of}
+use Rattle.loom_walks.specs.Trees.Drive.{passes_of}
 use Rattle.loom_walks.specs.Trees.Marks.{is_off_bound}
-use Rattle.loom_walks.specs.Walk.Path.{IsAtRest}
 use Rattle.loom_walks.specs.Walk.UnderWay.{mark_with}
 use Rattle.loom_path.specs.declared.rt.node.Node.{Node}
 use Rattle.loom_path.specs.declared.rt.node.Node.TheVariants as node
 use Rattle.loom_path.specs.declared.rt.node.Schedule.{Schedule}
-use Rattle.loom_path.specs.Nodes.{seen_schedule, mark_added, AreWell}
+use Rattle.loom_path.specs.Nodes.{seen_schedule, mark_added, AreWell, IsWellSchedule}
 use Rattle.loom_path.specs.Routes.{Route, stored, trail}
 use Rattle.loom_path.specs.Marking.{IsScheduleAt, Adds, marks_at}
 use Rattle.loom_path.specs.Tallies.{last_switch, AreNoted}
@@ -36,7 +35,7 @@ module _ (p old : Route) (view : p ≡ old) (place : ℕ) (asked : IsScheduleAt 
     pub here : slice_get p.nodes place ≡ Some (node.Schedule s)
     here = there (node.Schedule s) is
 
-    pub rests : AreWell p.nodes → IsAtRest (seen_schedule s)
+    pub rests : AreWell p.nodes → IsWellSchedule s
     rests w = well_got p.nodes place (node.Schedule s) here w
 
     pub adds : (thread : ℕ) (new : Schedule) → AreNoted p.nodes

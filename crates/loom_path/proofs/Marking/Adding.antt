@@ -18,7 +18,7 @@ use Rattle.loom_walks.proofs.Walk.Resting.{mark_at_rest}
 use Rattle.loom_path.specs.declared.rt.node.Schedule.{Schedule}
 use Rattle.loom_path.specs.declared.rt.node.Status.{Status}
 use Rattle.loom_path.specs.declared.rt.node.Status.TheVariants.{Disabled, Skip, Yield, Pending, Active, Visited}
-use Rattle.loom_path.specs.Nodes.{ability_of, state_of, state_at, thread_state, is_active, active_thread, marked_status, mark_added, seen_threads, seen_schedule}
+use Rattle.loom_path.specs.Nodes.{ability_of, state_of, state_at, thread_state, is_active, active_thread, marked_status, mark_added, seen_threads, seen_schedule, IsWellSchedule}
 use Rattle.loom_path.proofs.Nodes.Statuses.{state_there, state_put, state_else, offers_put}
 
 -- ---- a schedule with marks
@@ -214,10 +214,15 @@ at_fixed n e t =
 marker : (Choice → Bool) → Machine
 marker marks = record { limit = 0; reduce = true; node = λ c. None; every = λ c. false; marks = λ r k o. marks o; fails = λ c. false }
 
-pub added_rests : (t : ℕ) (n : Stored) → IsAtRest n → IsAtRest (mark_added t n)
+added_at_rest : (t : ℕ) (n : Stored) → IsAtRest n → IsAtRest (mark_added t n)
 unfolding marker
-added_rests t n w = mark_at_rest (marker (adds_there (Some (n.made, n.present)) t)) [] 0 n w (λ o h. explores n.made.exploring (is_disabled n.made t || pick (same o (Thread (Some t))) true false) h)
+added_at_rest t n w = mark_at_rest (marker (adds_there (Some (n.made, n.present)) t)) [] 0 n w (λ o h. explores n.made.exploring (is_disabled n.made t || pick (same o (Thread (Some t))) true false) h)
   where
     explores : (a b : Bool) → (a && b) ≡ true → a ≡ true
     explores true b h = refl
     explores false b h = absurd (cc h)
+
+-- so is the schedule with other statuses, if adding comes to these where it explores
+pub added_rests : (t : ℕ) (n : Schedule) (us : List Status) → seen_threads n.first true us ≡ mark_added t (seen_threads n.first true n.statuses) → IsWellSchedule n
+    → IsAtRest (seen_threads n.first true us)
+added_rests t n us e w = subst IsAtRest (sym e) (added_at_rest t (seen_threads n.first true n.statuses) w)

@@ -1,8 +1,8 @@
 -- Marks at one node, at two, and for one thread after the other.
-use Rattle.std.proofs.Common.{◌≡◌, ◌≢◌, ◌≤◌, ◌<◌, ◌+◌, ℕ, zero, suc, Bool, true, false, ◌&&◌, ◌||◌, eqb, List, [], ◌∷◌, map, take, Option, Some, None, refl, ap, ap₂, sym, ◌∙◌, subst, arith, ◌⊎◌, inl, inr}
+use Rattle.std.proofs.Common.{◌≡◌, ◌≤◌, ◌+◌, ℕ, zero, suc, Bool, true, false, ◌&&◌, ◌||◌, eqb, List, [], ◌∷◌, map, take, Option, Some, None, refl, ap, ap₂, sym, ◌∙◌, arith, ◌⊎◌, inl, inr}
 use Rattle.std.specs.Prelude.{slice_get, slice_set}
 use mathlib.Core.Path.{fun_ext}
-use Rattle.std.proofs.lemmas.Bool.{eqb-true, eqb-false}
+use Rattle.std.proofs.lemmas.Bool.{eqb-true}
 use Rattle.loom_objects.specs.declared.choice.Choice.{Choice}
 use Rattle.loom_objects.specs.Question.{Made}
 use Rattle.loom_walks.specs.Walk.Path.{Status, Stored, mark_status}
@@ -10,7 +10,7 @@ use Rattle.loom_walks.specs.Walk.UnderWay.{mark_with}
 use Rattle.loom_walks.specs.Trees.Drive.{pass_of}
 use Rattle.loom_walks.specs.Trees.Marks.{Place, schedules_down, from_exploring, switching, added_from, added_at, adds_there, adds_any, is_in, is_off_bound}
 use Rattle.loom_walks.specs.Trees.Meeting.{count, front_of}
-use Rattle.loom_walks.proofs.Walk.UnderWay.{with_twice, with_none, with_same}
+use Rattle.loom_walks.proofs.Walk.UnderWay.{with_twice}
 use Rattle.loom_path.specs.Marking.{marks_for, marks_at}
 use Rattle.loom_path.specs.Tallies.{first_of}
 use Rattle.loom_path.proofs.Marking.Adding.{unmarked}

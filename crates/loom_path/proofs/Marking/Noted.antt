@@ -1,5 +1,5 @@
 -- A schedule that has a thread added, among the nodes of a path.
-use Rattle.std.proofs.Common.{◌≡◌, ◌≤◌, ◌<◌, ◌+◌, ℕ, zero, suc, Bool, true, false, ◌&&◌, eqb, List, [], ◌∷◌, length, map, take, get_or, Option, Some, None, refl, ap, ap₂, sym, ◌∙◌, subst, arith}
+use Rattle.std.proofs.Common.{◌≡◌, ◌≤◌, ◌<◌, ℕ, zero, suc, Bool, true, false, ◌&&◌, eqb, List, [], ◌∷◌, length, map, take, get_or, Option, Some, refl, ap, sym, ◌∙◌, subst, arith}
 use Rattle.std.specs.Prelude.{slice_get, slice_set, IsSomeAnd}
 use Rattle.std.specs.Option.{option_map}
 use Rattle.loom_objects.specs.declared.choice.Choice.TheVariants.{Thread}
@@ -7,7 +7,6 @@ use native.Mathlib.Decide.{ℕ_discrete}
 use mathlib.Core.Path.{fun_ext}
 use Rattle.loom_objects.specs.declared.choice.Choice.{Choice}
 use Rattle.loom_objects.specs.Question.{Made}
-use Rattle.loom_walks.specs.Walk.Path.{Stored}
 use Rattle.loom_walks.specs.Walk.Machine.{is_thread}
 use Rattle.loom_walks.specs.Walk.UnderWay.{mark_with}
 use Rattle.loom_walks.specs.Trees.Drive.{pass_of}
@@ -20,7 +19,7 @@ use Rattle.loom_path.specs.declared.rt.node.Tally.{Tally}
 use Rattle.loom_path.specs.Nodes.{seen, seen_schedule, mark_added, IsWell, AreWell}
 use Rattle.loom_path.specs.Routes.{stored}
 use Rattle.loom_path.specs.Marking.{IsScheduleAt, marks_at}
-use Rattle.loom_path.specs.Tallies.{first_of, passes_to, last_switch, IsNotedAt, AreNoted, IsTally}
+use Rattle.loom_path.specs.Tallies.{first_of, passes_to, last_exploring, last_switch, IsNotedAt, AreNoted, IsTally}
 use Rattle.loom_path.proofs.Marking.Marked.{with_marks, unmarked_node, one_marked, elsewhere}
 use Rattle.loom_path.proofs.Marking.Places.{down_front, front_passes}
 
@@ -76,11 +75,11 @@ module _ (nodes : List Node) (k : ℕ) (old new : Schedule) (here : slice_get no
   passes_after i = passes_set i k nodes (node.Schedule old) (node.Schedule new) here same
 
   noted_by : (i : ℕ) (n : Node) → IsNotedAt nodes i n → IsNotedAt after i n
-  noted_by i (node.Schedule n) w = (w.0 ∙ sym (ap count (passes_after i)), w.1 ∙ sym (ap (last_switch i) (passes_after i)))
+  noted_by i (node.Schedule n) w = (w.0 ∙ sym (ap count (passes_after i)), w.1 ∙ sym (ap (last_switch i) (passes_after i)), w.2 ∙ sym (ap (last_exploring i) (passes_after i)))
   noted_by i (node.Load n) w = w
   noted_by i (node.Spurious n) w = w
 
-  pub noted_set : (new.preemptions ≡ old.preemptions) × (new.switch ≡ old.switch) → AreNoted nodes → AreNoted after
+  pub noted_set : (new.preemptions ≡ old.preemptions) × (new.switch ≡ old.switch) × (new.nearest ≡ old.nearest) → AreNoted nodes → AreNoted after
   noted_set kept w i n h = go (ℕ_discrete k i)
     where
       go : Dec (k ≡ i) → IsNotedAt after i n
@@ -88,10 +87,10 @@ module _ (nodes : List Node) (k : ℕ) (old new : Schedule) (here : slice_get no
       go (yes e) =
           let is : node.Schedule new ≡ n = cc (got_set nodes k (node.Schedule new) (node.Schedule old) here, h, ap (slice_get after) e) in
           let it = w i (node.Schedule old) (ap (slice_get nodes) (sym e) ∙ here) in
-          subst (IsNotedAt after i) is (noted_by i (node.Schedule new) (kept.0 ∙ it.0, kept.1 ∙ it.1))
+          subst (IsNotedAt after i) is (noted_by i (node.Schedule new) (kept.0 ∙ it.0, kept.1 ∙ it.1, kept.2 ∙ it.2))
 
   pub tally_set : (p : ℕ) (t : Tally) → IsTally nodes p t → IsTally after p t
-  tally_set p t w = subst (λ l. (t.preemptions ≡ count l) × (option_map Thread t.last ≡ (tally start l).last) × (t.switch ≡ last_switch p l)) (sym (passes_after p)) w
+  tally_set p t w = subst (λ l. (t.preemptions ≡ count l) × (option_map Thread t.last ≡ (tally start l).last) × (t.switch ≡ last_switch p l) × (t.nearest ≡ last_exploring p l)) (sym (passes_after p)) w
 
 -- ---- a thread that is added
 

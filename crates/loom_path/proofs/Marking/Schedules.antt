@@ -1,17 +1,17 @@
 -- The marks of a schedule, for one thread after the other.
-use Rattle.std.proofs.Common.{◌≡◌, ◌≤◌, ◌<◌, ◌+◌, ℕ, zero, suc, Bool, true, false, List, [], ◌∷◌, length, drop, get_or, Option, Some, None, refl, ap, ap₂, sym, ◌∙◌, subst, arith}
+use Rattle.std.proofs.Common.{◌≡◌, ◌≤◌, ◌<◌, ◌+◌, ℕ, zero, suc, Bool, true, List, [], ◌∷◌, length, drop, get_or, Option, Some, None, refl, ap, ap₂, sym, ◌∙◌, subst, arith}
 use Rattle.loom_objects.specs.declared.choice.Choice.{Choice}
 use Rattle.loom_objects.specs.declared.rt.thread.Offers.{Offers}
 use Rattle.loom_objects.specs.Question.{Made}
 use Rattle.loom_objects.specs.Asked.{pairs, pairs_from, which_thread}
 use Rattle.loom_walks.specs.Walk.Path.{Stored}
 use Rattle.loom_walks.specs.Walk.UnderWay.{mark_with}
-use Rattle.loom_walks.specs.Trees.Drive.{Trail, marked, passes_of, backtrack}
+use Rattle.loom_walks.specs.Trees.Drive.{marked, passes_of, backtrack}
 use Rattle.loom_walks.specs.Trees.Marks.{marking}
 use Rattle.loom_path.specs.Routes.{Route, Backtracks, stored, trail}
 use Rattle.loom_path.specs.Marking.{marks_for, Marks}
 use Rattle.loom_path.proofs.Marking.Marked.{marks_more, marks_no_more}
-use Rattle.loom_path.proofs.Marking.Threads.{marked_passes, same_search}
+use Rattle.loom_path.proofs.Marking.Threads.{marked_passes}
 
 next_place : (places : List (Option ℕ)) (t : ℕ) (x d : Option ℕ) → t < length places → get_or places t d ≡ x → drop t places ≡ x ∷ drop (suc t) places
 next_place [] t x d h e = absurd (omega arith)
@@ -66,12 +66,15 @@ module _ (old : Route) (places : List (Option ℕ)) where
 
   -- the marks of all were made
   pub left_over : (t : ℕ) (now : Route) → old.search.reduce ≡ true → length places ≤ t → Left t now → Backtracks old places now
-  left_over t now reduced h w = ((λ offers. whole offers), ap (λ (r : Route). r.search) w.same, ap (λ (r : Route). r.given) w.same)
+  left_over t now reduced h w = (
+    λ exploring offers. whole exploring offers,
+    ((ap (λ (r : Route). r.search) w.same, ap (λ (r : Route). r.explores) w.same, ap (λ (r : Route). r.given) w.same), ap (λ (r : Route). r.exploring) w.same),
+  )
     where
       none : stored now.nodes ≡ with_pairs (pairs places) (stored old.nodes)
       none = sym (ap (λ l. with_pairs (pairs_from t l) (stored now.nodes)) (past_places places t h) ∙ marks_no_more old.search.bound passes (stored now.nodes)) ∙ w.all
 
-      whole : (offers : Offers) → trail now ≡ backtrack old.search (marking old.search.bound) (trail old) (which_thread offers places)
-      whole offers =
+      whole : (exploring : Bool) (offers : Offers) → trail now ≡ backtrack old.search (marking old.search.bound) (trail old) (which_thread exploring offers places)
+      whole exploring offers =
           ap (λ (r : Route). record (trail r) { nodes = stored now.nodes }) w.same ∙ ap (λ u. record (trail old) { nodes = u }) none
-          ∙ sym (ap (λ b. record (trail old) { nodes = marked b (marking old.search.bound passes (which_thread offers places)) (stored old.nodes) }) reduced)
+          ∙ sym (ap (λ b. record (trail old) { nodes = marked b (marking old.search.bound passes (which_thread exploring offers places)) (stored old.nodes) }) reduced)

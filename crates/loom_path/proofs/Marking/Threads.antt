@@ -1,6 +1,6 @@
 -- The marks for one thread after the other.
-use Rattle.std.proofs.Common.{◌≡◌, ◌⊎◌, ◌≤◌, ◌<◌, ◌+◌, ℕ, zero, suc, Bool, true, false, List, [], ◌∷◌, length, map, take, drop, Option, Some, None, refl, ap, ap₂, sym, ◌∙◌, subst, inl, inr, arith}
-use Rattle.std.specs.Prelude.{slice_get, IsSomeAnd}
+use Rattle.std.proofs.Common.{◌≡◌, ◌⊎◌, ℕ, Bool, true, false, List, [], map, take, Option, Some, None, refl, ap, ap₂, sym, ◌∙◌, subst}
+use Rattle.std.specs.Prelude.{IsSomeAnd}
 use Rattle.std.specs.Option.{is_some}
 use Rattle.loom_walks.specs.Walk.Machine.{is_thread}
 use Rattle.loom_objects.specs.declared.choice.Choice.{Choice}
@@ -8,10 +8,10 @@ use Rattle.loom_objects.specs.Question.{Made}
 use Rattle.loom_walks.specs.Walk.Path.{Stored}
 use Rattle.loom_walks.specs.Walk.UnderWay.{mark_with}
 use Rattle.loom_walks.specs.Trees.Drive.{pass_of, passes_of}
-use Rattle.loom_walks.specs.Trees.Marks.{schedules_down, from_exploring, switching}
-use Rattle.loom_path.specs.Tallies.{first_of, last_switch}
+use Rattle.loom_walks.specs.Trees.Marks.{schedules_down}
+use Rattle.loom_path.specs.Tallies.{last_switch}
 use Rattle.loom_path.specs.Routes.{Route, stored, trail}
-use Rattle.loom_path.specs.Marking.{marks_for, marks_at, IsMarked, Adds, Marks, IsNearest, IsScheduleAt}
+use Rattle.loom_path.specs.Marking.{marks_at, IsMarked, Adds, Marks, IsNearest, IsScheduleAt}
 use Rattle.loom_path.proofs.Marking.Places.{switch_schedule}
 use Rattle.loom_path.proofs.Marking.Marked.{same_passes, marks_none, marks_first, marks_both}
 

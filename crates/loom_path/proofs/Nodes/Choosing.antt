@@ -22,8 +22,8 @@ use Rattle.loom_path.proofs.Nodes.Statuses.{active_is, pending_is, is_open, left
 -- ---- what is left
 
 -- a schedule at rest without a default has nobody left
-none_left : (exploring : Bool) (statuses : List Status) (k : ℕ) (s : Status) → IsAtRest (seen_threads None exploring statuses) → slice_get statuses k ≡ Some s → is_left s ≡ true → ⊥
-none_left exploring statuses k s rest h l =
+none_left : (statuses : List Status) (k : ℕ) (s : Status) → IsAtRest (seen_threads None true statuses) → slice_get statuses k ≡ Some s → is_left s ≡ true → ⊥
+none_left statuses k s rest h l =
     elim (rest.closed (Thread (Some k)) (λ g. let there = open_there statuses k s h l in cc (g, there))) [ inl g ↦ cc g | inr g ↦ g ]
 
 -- the place of the first pending thread is one at which a thread is pending
@@ -136,7 +136,7 @@ stored first exploring offers present status = record {
   status = status;
 }
 
-module _ (first : ℕ) (exploring : Bool) (statuses : List Status) (a k : ℕ) (rest : IsAtRest (seen_threads (Some first) exploring statuses))
+module _ (first : ℕ) (exploring : Bool) (statuses : List Status) (a k : ℕ) (rest : IsAtRest (seen_threads (Some first) true statuses))
     (ia : active_thread statuses ≡ Some a) (s : Status) (left : is_left s ≡ true) (here : slice_get statuses k ≡ Some s) where
   active_there : slice_get statuses a ≡ Some Active
   active_there =
@@ -214,9 +214,9 @@ module _ (first : ℕ) (exploring : Bool) (statuses : List Status) (a k : ℕ) (
       ∙ ap (stored (Some first) exploring (map ability_of statuses) (Some k)) (fun_ext new_state)
 
 -- the thread that was active is visited, and one that is left is active: it is the node with that choice
-pub chosen_is : (first : Option ℕ) (exploring : Bool) (statuses : List Status) (k : ℕ) (s : Status) → IsAtRest (seen_threads first exploring statuses) → slice_get statuses k ≡ Some s → is_left s ≡ true
+pub chosen_is : (first : Option ℕ) (exploring : Bool) (statuses : List Status) (k : ℕ) (s : Status) → IsAtRest (seen_threads first true statuses) → slice_get statuses k ≡ Some s → is_left s ≡ true
     → seen_threads first exploring (slice_set (with_status (active_thread statuses) Visited statuses) k Active) ≡ choose (seen_threads first exploring statuses) (Thread (Some k))
-chosen_is None exploring statuses k s rest h l = absurd (none_left exploring statuses k s rest h l)
+chosen_is None exploring statuses k s rest h l = absurd (none_left statuses k s rest h l)
 chosen_is (Some first) exploring statuses k s rest h l = go (active_thread statuses) refl
   where
     go : (o : Option ℕ) → active_thread statuses ≡ o
@@ -224,18 +224,18 @@ chosen_is (Some first) exploring statuses k s rest h l = go (active_thread statu
     go None e = absurd (cc (rest.active, e))
     go (Some a) e = chosen_by first exploring statuses a k rest e s l h
 
--- and it is at rest
-pub chosen_rests : (first : Option ℕ) (exploring : Bool) (statuses : List Status) (k : ℕ) (s : Status) → IsAtRest (seen_threads first exploring statuses) → exploring ≡ true
-    → slice_get statuses k ≡ Some s → is_left s ≡ true → IsAtRest (choose (seen_threads first exploring statuses) (Thread (Some k)))
-chosen_rests None exploring statuses k s rest e h l = absurd (none_left exploring statuses k s rest h l)
-chosen_rests (Some first) exploring statuses k s rest e h l = choose_at_rest (seen_threads (Some first) exploring statuses) (Thread (Some k)) rest e (open_there statuses k s h l)
+-- and it is at rest, where the run explores
+pub chosen_rests : (first : Option ℕ) (statuses : List Status) (k : ℕ) (s : Status) → IsAtRest (seen_threads first true statuses)
+    → slice_get statuses k ≡ Some s → is_left s ≡ true → IsAtRest (choose (seen_threads first true statuses) (Thread (Some k)))
+chosen_rests None statuses k s rest h l = absurd (none_left statuses k s rest h l)
+chosen_rests (Some first) statuses k s rest h l = choose_at_rest (seen_threads (Some first) true statuses) (Thread (Some k)) rest refl (open_there statuses k s h l)
 
 -- ---- the next choice
 
 -- a node that explores goes on to its lowest pending thread
-pub goes_on : (first : Option ℕ) (exploring : Bool) (statuses : List Status) (k : ℕ) → IsAtRest (seen_threads first exploring statuses) → exploring ≡ true
+pub goes_on : (first : Option ℕ) (exploring : Bool) (statuses : List Status) (k : ℕ) → IsAtRest (seen_threads first true statuses) → exploring ≡ true
     → position_from is_pending 0 statuses ≡ Some k → advance (seen_threads first exploring statuses) ≡ Some (choose (seen_threads first exploring statuses) (Thread (Some k)))
-goes_on None exploring statuses k rest e h = absurd (none_left exploring statuses k Pending rest (pending_there statuses k h) refl)
+goes_on None exploring statuses k rest e h = absurd (none_left statuses k Pending rest (pending_there statuses k h) refl)
 goes_on (Some first) exploring statuses k rest e h =
     let n : Stored = seen_threads (Some first) exploring statuses in
     let lowest : first_pending n.status n.made.options ≡ Some (Thread (Some k)) =

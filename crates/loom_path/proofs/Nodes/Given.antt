@@ -50,22 +50,22 @@ not_open (Some first) statuses (Load slot) f h = cc h
 not_open None statuses (Spurious answer) f h = cc h
 not_open (Some first) statuses (Spurious answer) f h = cc h
 
-module _ (every : Bool) (n : Schedule) (offers : Offers) (sound : AreSoundOffers offers.default offers.abilities) (is_fresh : seen_schedule n ≡ fresh every (made_of (which_thread offers []))) where
+module _ (exploring every : Bool) (n : Schedule) (offers : Offers) (sound : AreSoundOffers offers.default offers.abilities) (is_fresh : seen_schedule n ≡ fresh every (made_of (which_thread exploring offers []))) where
   made : Made
-  made = made_of (which_thread offers [])
+  made = made_of (which_thread exploring offers [])
 
   default_is : Thread n.first ≡ made.default
   unfolding made
   default_is = ap (λ (x : Stored). x.made.default) is_fresh
 
   -- the default
-  pub at_default : (o : Choice) → o ≡ Thread n.first → Some (seen_schedule n) ≡ new_node every (made_of (which_thread offers [])) (Some o)
+  pub at_default : (o : Choice) → o ≡ Thread n.first → Some (seen_schedule n) ≡ new_node every (made_of (which_thread exploring offers [])) (Some o)
   unfolding made
   at_default o e = ap Some is_fresh ∙ sym (given_default every made o (e ∙ default_is) (default_offered offers sound))
 
   -- a thread that is left
   pub at_other : (o : Choice) (k : ℕ) (s : Status) → o ≡ Thread (Some k) → slice_get n.statuses k ≡ Some s → is_left s ≡ true
-      → Some (choose (seen_schedule n) (Thread (Some k))) ≡ new_node every (made_of (which_thread offers [])) (Some o)
+      → Some (choose (seen_schedule n) (Thread (Some k))) ≡ new_node every (made_of (which_thread exploring offers [])) (Some o)
   unfolding made
   at_other o k s e h l =
       let z = open_among every made (Thread (Some k))
@@ -74,7 +74,7 @@ module _ (every : Bool) (n : Schedule) (offers : Offers) (sound : AreSoundOffers
 
   -- no option
   pub at_none : (o : Choice) → (o ≡ Thread n.first → ⊥) → ((k : ℕ) (s : Status) → o ≡ Thread (Some k) → slice_get n.statuses k ≡ Some s → is_left s ≡ true → ⊥)
-      → ◌≡◌ {A = Option Stored} None (new_node every (made_of (which_thread offers [])) (Some o))
+      → ◌≡◌ {A = Option Stored} None (new_node every (made_of (which_thread exploring offers [])) (Some o))
   unfolding made
   at_none o f g =
       sym (given_none every made o (not_among every made o (λ e. f (e ∙ sym default_is)) (λ h. not_open n.first n.statuses o g (ap (λ (x : Stored). is_open (x.status o)) is_fresh ∙ h))))

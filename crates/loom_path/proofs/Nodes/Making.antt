@@ -123,9 +123,9 @@ among_able i (Unable ∷ abilities) o h = able_on i Unable abilities o (among_ab
 
 -- ---- the new node
 
-abbrev stored : Option ℕ → List Ability → Option ℕ → (Choice → State) → Stored
-stored first offers present status = record {
-  made = made_of (WhichThread true (record { default = first; abilities = offers; unordered = [] }));
+abbrev stored : Bool → Option ℕ → List Ability → Option ℕ → (Choice → State) → Stored
+stored exploring first offers present status = record {
+  made = made_of (WhichThread exploring (record { default = first; abilities = offers; unordered = [] }));
   present = Thread present;
   status = status;
 }
@@ -178,43 +178,43 @@ module _ (every : Bool) where
       go o (no f) (yes a) = elim a [ inl e ↦ absurd (f e) | inr e ↦ absurd e ]
       go o (no f) (no g) = not_other o f
 
-  made_with : (first : Option ℕ) (abilities : List Ability) → IsSoundDefault first abilities → (first ≡ None → (j : ℕ) → slice_get abilities j ≢ Some Able)
-      → seen_threads first true (with_status first Active (map (made_status every) abilities)) ≡ fresh every (made_of (WhichThread true (record { default = first; abilities = abilities; unordered = [] })))
-  made_with None abilities h g =
-      ap (λ l. stored None l (active_thread (map (made_status every) abilities)) (thread_state None (map (made_status every) abilities))) (offers_map every abilities)
-      ∙ ap (λ (o : Option ℕ). stored None abilities o (thread_state None (map (made_status every) abilities))) (none_active every 0 abilities)
-      ∙ ap (stored None abilities None) (fun_ext (λ o. none_state abilities o (g refl)))
-  made_with (Some k) abilities h g =
+  made_with : (exploring : Bool) (first : Option ℕ) (abilities : List Ability) → IsSoundDefault first abilities → (first ≡ None → (j : ℕ) → slice_get abilities j ≢ Some Able)
+      → seen_threads first exploring (with_status first Active (map (made_status every) abilities)) ≡ fresh every (made_of (WhichThread exploring (record { default = first; abilities = abilities; unordered = [] })))
+  made_with exploring None abilities h g =
+      ap (λ l. stored exploring None l (active_thread (map (made_status every) abilities)) (thread_state None (map (made_status every) abilities))) (offers_map every abilities)
+      ∙ ap (λ (o : Option ℕ). stored exploring None abilities o (thread_state None (map (made_status every) abilities))) (none_active every 0 abilities)
+      ∙ ap (stored exploring None abilities None) (fun_ext (λ o. none_state abilities o (g refl)))
+  made_with exploring (Some k) abilities h g =
       let statuses = slice_set (map (made_status every) abilities) k Active in
       let there : slice_get (map (made_status every) abilities) k ≡ Some (made_status every Able) = get_map every abilities k Able h in
-      ap (λ l. stored (Some k) l (active_thread statuses) (thread_state (Some k) statuses)) (offers_put (map (made_status every) abilities) k Active (made_status every Able) there (sym (offers_made every Able)) ∙ offers_map every abilities)
-      ∙ ap (λ (o : Option ℕ). stored (Some k) abilities o (thread_state (Some k) statuses)) (one_active every abilities k (made_status every Able) there)
-      ∙ ap (stored (Some k) abilities (Some k)) (fun_ext (λ o. some_state abilities k o h))
+      ap (λ l. stored exploring (Some k) l (active_thread statuses) (thread_state (Some k) statuses)) (offers_put (map (made_status every) abilities) k Active (made_status every Able) there (sym (offers_made every Able)) ∙ offers_map every abilities)
+      ∙ ap (λ (o : Option ℕ). stored exploring (Some k) abilities o (thread_state (Some k) statuses)) (one_active every abilities k (made_status every Able) there)
+      ∙ ap (stored exploring (Some k) abilities (Some k)) (fun_ext (λ o. some_state abilities k o h))
 
   -- a schedule with the default active and each other thread that is able pending is what a walk calls fresh
-  pub made_is : (offers : Offers) (places : List (Option ℕ)) → AreSoundOffers offers.default offers.abilities
-      → seen_threads offers.default true (with_status offers.default Active (map (made_status every) offers.abilities)) ≡ fresh every (made_of (which_thread offers places))
-  made_is offers places sound = made_with offers.default offers.abilities (default_is_able offers.default offers.abilities sound) (none_is_able offers.default offers.abilities sound)
+  pub made_is : (exploring : Bool) (offers : Offers) (places : List (Option ℕ)) → AreSoundOffers offers.default offers.abilities
+      → seen_threads offers.default exploring (with_status offers.default Active (map (made_status every) offers.abilities)) ≡ fresh every (made_of (which_thread exploring offers places))
+  made_is exploring offers places sound = made_with exploring offers.default offers.abilities (default_is_able offers.default offers.abilities sound) (none_is_able offers.default offers.abilities sound)
 
 -- a run that asks one question and ends
 one_question : Question → Tree (Unit {0})
 one_question question = Asks question (λ choice. Gives tt)
 
--- and it is at rest
-pub fresh_rests : (every : Bool) (offers : Offers) → AreSoundOffers offers.default offers.abilities → length offers.abilities ≡ 5 → IsAtRest (fresh every (made_of (which_thread offers [])))
+-- and it is at rest, where the run explores
+pub fresh_rests : (every : Bool) (offers : Offers) → AreSoundOffers offers.default offers.abilities → length offers.abilities ≡ 5 → IsAtRest (fresh every (made_of (which_thread true offers [])))
 unfolding one_question
 fresh_rests every offers is_sound size = go every
   where
-    sound : IsSoundTree (one_question (which_thread offers []))
+    sound : IsSoundTree (one_question (which_thread true offers []))
     sound = ((default_is_able offers.default offers.abilities is_sound, omega arith), λ choice a. tt)
 
-    rests : (reduce : Bool) → IsAtRest (fresh (not reduce && true && true) (made_of (which_thread offers [])))
+    rests : (reduce : Bool) → IsAtRest (fresh (not reduce && true && true) (made_of (which_thread true offers [])))
     rests reduce =
-        fresh_at_rest (machine_of (record { reduce = reduce; bound = None; max_branches = 1 }) (λ passes question k o. false) (one_question (which_thread offers [])))
-        (machine_law (record { reduce = reduce; bound = None; max_branches = 1 }) (λ passes question k o. false) (one_question (which_thread offers [])) sound (λ passes question k o e. absurd (cc e)))
-        [] (made_of (which_thread offers [])) refl
+        fresh_at_rest (machine_of (record { reduce = reduce; bound = None; max_branches = 1 }) (λ passes question k o. false) (one_question (which_thread true offers [])))
+        (machine_law (record { reduce = reduce; bound = None; max_branches = 1 }) (λ passes question k o. false) (one_question (which_thread true offers [])) sound (λ passes question k o e. absurd (cc e)))
+        [] (made_of (which_thread true offers [])) refl
 
-    go : (b : Bool) → IsAtRest (fresh b (made_of (which_thread offers [])))
+    go : (b : Bool) → IsAtRest (fresh b (made_of (which_thread true offers [])))
     go true = rests false
     go false = rests true
 

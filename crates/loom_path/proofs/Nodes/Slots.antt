@@ -140,16 +140,23 @@ loads_are (x ∷ xs) (y ∷ ys) e =
 
 -- ---- loads
 
+-- the test whether the run explores in both or in neither
+same_flag : (a b : Bool) → beq a b ≡ true → a ≡ b
+same_flag true true h = refl
+same_flag true false h = absurd (cc h)
+same_flag false true h = absurd (cc h)
+same_flag false false h = refl
+
 -- a load has its slots for options
-asked_loads : (xs : List ℕ) → 0 < length xs → (made_of (asked_store true xs)).options ≡ loads xs
+asked_loads : (exploring : Bool) (xs : List ℕ) → 0 < length xs → (made_of (asked_store exploring xs)).options ≡ loads xs
 unfolding loads
-asked_loads [] h = absurd (omega arith)
-asked_loads (x ∷ xs) h = refl
+asked_loads exploring [] h = absurd (omega arith)
+asked_loads exploring (x ∷ xs) h = refl
 
 -- in each search all its slots are to be tried
-pub every_load : (xs : List ℕ) (path : Route) → every_at path.search (passes_of (trail path)) (made_of (asked_store true xs)) ≡ true
-every_load [] path = refl
-every_load (x ∷ xs) path = refl
+pub every_load : (exploring : Bool) (xs : List ℕ) (path : Route) → every_at path.search (passes_of (trail path)) (made_of (asked_store exploring xs)) ≡ true
+every_load exploring [] path = refl
+every_load exploring (x ∷ xs) path = refl
 
 module _ (exploring : Bool) where
   asked_explores : (xs : List ℕ) → (made_of (asked_store exploring xs)).exploring ≡ exploring
@@ -157,9 +164,7 @@ module _ (exploring : Bool) where
   asked_explores (x ∷ xs) = refl
 
   has_loads : (xs : List ℕ) → 0 < length xs → (made_of (asked_store exploring xs)).options ≡ loads xs
-  unfolding loads
-  has_loads [] h = absurd (omega arith)
-  has_loads (x ∷ xs) h = refl
+  has_loads = asked_loads exploring
 
   -- a new load stands at its lowest slot
   pub load_fresh : (xs : List ℕ) → 0 < length xs → in_turn (asked_store exploring xs) (Load (slice_index xs 0)) ≡ fresh true (made_of (asked_store exploring xs))
@@ -209,21 +214,21 @@ module _ (exploring : Bool) where
       turn_stays (in_turn (asked_store exploring (slots readable)) (Load (slice_index (slots readable) p))) (asked_explores (slots readable) ∙ e)
 
   -- the load is the one that is asked for, if the same slots may be read
-  pub load_meets : (readable other : List Bool) (are : Bool) → exploring ≡ true → 0 < length (slots readable) → 0 < length (slots other) → length readable ≡ length other
-      → IsTrue are ↔ (readable ≡ other) → IsTrue are ↔ (made_of (asked_store exploring (slots readable)) ≡ made_of (asked_store true (slots other)))
-  load_meets readable other are e some others size test = (
-    λ t. ap₂ (λ (b : Bool) (l : List Bool). made_of (asked_store b (slots l))) e (test.0 t),
+  pub load_meets : (asked : Bool) (readable other : List Bool) (are : Bool) → beq exploring asked ≡ true → 0 < length (slots readable) → 0 < length (slots other) → length readable ≡ length other
+      → IsTrue are ↔ (readable ≡ other) → IsTrue are ↔ (made_of (asked_store exploring (slots readable)) ≡ made_of (asked_store asked (slots other)))
+  load_meets asked readable other are e some others size test = (
+    λ t. ap₂ (λ (b : Bool) (l : List Bool). made_of (asked_store b (slots l))) (same_flag exploring asked e) (test.0 t),
     λ f. test.1 (same_slots 0 readable other size (loads_are (slots readable) (slots other)
-        (sym (has_loads (slots readable) some) ∙ ap (λ (n : Made). n.options) f ∙ asked_loads (slots other) others))),
+        (sym (has_loads (slots readable) some) ∙ ap (λ (n : Made). n.options) f ∙ asked_loads asked (slots other) others))),
   )
 
   -- the slot that the load reads may be read
-  pub load_readable : (mine readable : List Bool) (p x : ℕ) → p < length (slots mine) → 0 < length (slots readable) → Load x ≡ Load (slice_index (slots mine) p)
-      → made_of (asked_store exploring (slots mine)) ≡ made_of (asked_store true (slots readable)) → slice_get readable x ≡ Some true
-  load_readable mine readable p x h some e same =
+  pub load_readable : (asked : Bool) (mine readable : List Bool) (p x : ℕ) → p < length (slots mine) → 0 < length (slots readable) → Load x ≡ Load (slice_index (slots mine) p)
+      → made_of (asked_store exploring (slots mine)) ≡ made_of (asked_store asked (slots readable)) → slice_get readable x ≡ Some true
+  load_readable asked mine readable p x h some e same =
       let there : slice_get (loads (slots mine)) p ≡ Some (Load x) = get_load (slots mine) p h ∙ ap Some (sym e) in
       let options : loads (slots mine) ≡ loads (slots readable) =
-      sym (has_loads (slots mine) (omega arith)) ∙ ap (λ (n : Made). n.options) same ∙ asked_loads (slots readable) some in
+      sym (has_loads (slots mine) (omega arith)) ∙ ap (λ (n : Made). n.options) same ∙ asked_loads asked (slots readable) some in
       let r = among_from readable 0 (Load x) (subst (Among (Load x)) options (get_among (loads (slots mine)) p (Load x) there)) in
       let place : r.0 ≡ x = omega (arith, slot_is x (0 + r.0) r.1) in
       ap (slice_get readable) (sym place) ∙ r.2

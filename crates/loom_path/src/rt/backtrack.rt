@@ -1,12 +1,11 @@
 //! The marks that a schedule makes at nodes before it (loom's `rt/path.rs`).
 ghost use Rattle.std.specs.Prelude.{◌≡◌, true, false};
-ghost use Rattle.loom_walks.specs.Walk.Path.{IsAtRest};
 ghost use Rattle.loom_walks.specs.Trees.Drive.{passes_of};
 ghost use Rattle.loom_walks.specs.Trees.Marks.{is_off_bound};
 ghost use Rattle.loom_path.specs.Marking.{Adds, Marks, IsNearest, IsScheduleAt, passes_in};
-ghost use Rattle.loom_path.specs.Nodes.{mark_added, seen_schedule};
+ghost use Rattle.loom_path.specs.Nodes.{IsWellSchedule, mark_added, seen_schedule};
 ghost use Rattle.loom_path.specs.Routes.{Backtracks, trail};
-ghost use Rattle.loom_path.specs.Tallies.{last_switch};
+ghost use Rattle.loom_path.specs.Tallies.{AreNoted, last_switch};
 
 use crate::rt::node::{Node, Schedule};
 use crate::rt::path::Path;
@@ -78,19 +77,20 @@ fn is_off_bound(bound: Option<u8>, preemptions: u32) -> bool
 
 /// The thread is added at the schedule, unless its count is the bound.
 fn add_off_bound(schedule: &mut Schedule, bound: Option<u8>, thread: usize)
-    requires { IsAtRest (seen_schedule schedule.old) }
+    requires { IsWellSchedule schedule.old }
     ensures added { is_off_bound bound schedule.old.preemptions ≡ true → seen_schedule schedule.new ≡ mark_added thread (seen_schedule schedule.old) }
     ensures same { is_off_bound bound schedule.old.preemptions ≡ false → schedule.new ≡ schedule.old }
-    ensures rests { IsAtRest (seen_schedule schedule.new) }
-    ensures noted { (schedule.new.preemptions ≡ schedule.old.preemptions) × (schedule.new.switch ≡ schedule.old.switch) }
+    ensures rests { IsWellSchedule schedule.new }
+    ensures noted { (schedule.new.preemptions ≡ schedule.old.preemptions) × (schedule.new.switch ≡ schedule.old.switch) × (schedule.new.nearest ≡ schedule.old.nearest) }
 {
     if is_off_bound(bound, schedule.preemptions) {
         schedule.add(thread);
     }
 }
 
-/// The place of the nearest of these schedules that explores, from this place down.
+/// The place of the nearest of these schedules that explores, from this place down. One that doesn't explore notes which that is.
 fn exploring_in(nodes: &[Node], place: usize) -> Option<usize>
+    requires { AreNoted nodes.now }
     ensures { IsNearest (passes_in nodes.now) place result }
 {
     let mut left = nodes.len().min(place.saturating_add(1));
@@ -100,6 +100,7 @@ fn exploring_in(nodes: &[Node], place: usize) -> Option<usize>
             if schedule.exploring {
                 return Some(left);
             }
+            return Some(schedule.nearest? as usize);
         }
     }
     None

@@ -3,10 +3,10 @@ ghost use Rattle.std.specs.List.{position_from, Contains};
 ghost use Rattle.std.specs.Option.{option_map};
 ghost use Rattle.loom_objects.specs.Question.{Made, made_of, slots, AreSoundOffers};
 ghost use Rattle.loom_objects.specs.Asked.{which_thread, which_store, whether_spurious};
-ghost use Rattle.loom_walks.specs.Walk.Path.{choose as chosen, fresh, IsAtRest};
+ghost use Rattle.loom_walks.specs.Walk.Path.{choose as chosen, fresh};
 ghost use Rattle.loom_walks.specs.Trees.Drive.{new_node, pass_of};
 ghost use Rattle.loom_walks.specs.Trees.Meeting.{preempts};
-ghost use Rattle.loom_path.specs.Nodes.{ability_of, made_status, marked_status, mark_added, is_active, is_pending, is_left, with_status as with_statuses, seen, seen_schedule, seen_load, seen_spurious, Advances, IsWell, IsWellLoad};
+ghost use Rattle.loom_path.specs.Nodes.{ability_of, made_status, marked_status, mark_added, is_active, is_pending, is_left, with_status as with_statuses, seen, seen_schedule, seen_load, seen_spurious, Advances, IsWell, IsWellSchedule, IsWellLoad};
 ghost use Rattle.loom_path.specs.Tallies.{Tallies, IsNoted, goes_over};
 
 use loom_objects::choice::Choice;
@@ -37,6 +37,8 @@ pub struct Schedule {
     /// The place of the last schedule before this one that explores and chose another thread than the one before it; or else
     /// of the first of all, if that explores. A mark goes there too, under a bound on preemptions.
     pub switch: Option<u32>,
+    /// The place of the nearest schedule before this one that explores.
+    pub nearest: Option<u32>,
     /// The thread that goes on by itself, or none, where none can.
     pub first: Option<u8>,
     /// Whether the run explores here, or takes the default and no other.
@@ -75,6 +77,8 @@ pub struct Tally {
     /// The place of the last one that explores and chose another thread than the one before it; or else of the first of all, if
     /// that explores.
     pub switch: Option<u32>,
+    /// The place of the last one that explores.
+    pub nearest: Option<u32>,
 }
 
 /// A node of the path.
@@ -194,19 +198,20 @@ fn with_status(mut statuses: [Status; 5], thread: Option<u8>, status: Status) ->
 }
 
 impl Schedule {
-    /// A new schedule, where these were passed: the default thread is the choice, and each other thread that can go on is to be
-    /// tried, or none is yet.
-    pub(crate) fn new(offers: &Offers, every: bool, passed: &Tally) -> Schedule
+    /// A new schedule, where these were passed, and the run explores or doesn't: the default thread is the choice, and each other
+    /// thread that can go on is to be tried, or none is yet.
+    pub(crate) fn new(exploring: bool, offers: &Offers, every: bool, passed: &Tally) -> Schedule
         requires { AreSoundOffers offers.now.default offers.now.abilities }
-        ensures made { (places : List (Option ℕ)) → seen_schedule result ≡ fresh every (made_of (which_thread offers.now places)) }
-        ensures rests { IsAtRest (seen_schedule result) }
-        ensures noted { (result.preemptions ≡ passed.now.preemptions) × (result.switch ≡ passed.now.switch) }
+        ensures made { (places : List (Option ℕ)) → seen_schedule result ≡ fresh every (made_of (which_thread exploring offers.now places)) }
+        ensures rests { IsWellSchedule result }
+        ensures noted { (result.preemptions ≡ passed.now.preemptions) × (result.switch ≡ passed.now.switch) × (result.nearest ≡ passed.now.nearest) }
     {
         Schedule {
             preemptions: passed.preemptions,
             switch: passed.switch,
+            nearest: passed.nearest,
             first: offers.default,
-            exploring: true,
+            exploring,
             statuses: with_status(
                 made_statuses(&offers.abilities, every),
                 offers.default,
@@ -218,17 +223,19 @@ impl Schedule {
     /// A new schedule at a choice that was given, or None where that is no option. The default, if it is passed over,
     /// counts as tried.
     pub(crate) fn at(
+        exploring: bool,
         offers: &Offers,
         every: bool,
         passed: &Tally,
         choice: Choice,
     ) -> Option<Schedule>
         requires { AreSoundOffers offers.now.default offers.now.abilities }
-        ensures made { (places : List (Option ℕ)) → option_map seen_schedule result ≡ new_node every (made_of (which_thread offers.now places)) (Some choice) }
-        ensures rests { IfSome result (λ schedule. IsAtRest (seen_schedule schedule)) }
-        ensures noted { IfSome result (λ schedule. (schedule.preemptions ≡ passed.now.preemptions) × (schedule.switch ≡ passed.now.switch)) }
+        ensures made { (places : List (Option ℕ)) → option_map seen_schedule result
+            ≡ new_node every (made_of (which_thread exploring offers.now places)) (Some choice) }
+        ensures rests { IfSome result IsWellSchedule }
+        ensures noted { IfSome result (λ schedule. (schedule.preemptions ≡ passed.now.preemptions) × (schedule.switch ≡ passed.now.switch) × (schedule.nearest ≡ passed.now.nearest)) }
     {
-        let mut schedule = Schedule::new(offers, every, passed);
+        let mut schedule = Schedule::new(exploring, offers, every, passed);
         let Choice::Thread(thread) = choice else {
             return None;
         };
@@ -281,22 +288,21 @@ impl Schedule {
     }
 
     /// Whether it is the schedule that would be made now, whatever was tried there.
-    pub(crate) fn meets(&self, offers: &Offers) -> bool
-        ensures { (places : List (Option ℕ)) → IsTrue result ↔ ((seen_schedule self.now).made ≡ made_of (which_thread offers.now places)) }
+    pub(crate) fn meets(&self, exploring: bool, offers: &Offers) -> bool
+        ensures { (places : List (Option ℕ)) → IsTrue result ↔ ((seen_schedule self.now).made ≡ made_of (which_thread exploring offers.now places)) }
     {
-        self.exploring
+        self.exploring == exploring
             && is_same_thread(self.first, offers.default)
             && are_same_abilities(&self.statuses.map(Status::ability), &offers.abilities)
     }
 
     /// Another thread is the choice, and the one that was is visited.
     fn choose(&mut self, thread: usize)
-        requires rests { IsAtRest (seen_schedule self.old) }
-        requires explores { self.old.exploring ≡ true }
+        requires rests { IsWellSchedule self.old }
         requires left { IsSomeAnd (slice_get self.old.statuses thread) (λ status. is_left status ≡ true) }
         ensures chosen { seen_schedule self.new ≡ chosen (seen_schedule self.old) (Choice.Thread (Some thread)) }
-        ensures rests { IsAtRest (seen_schedule self.new) }
-        ensures noted { (self.new.preemptions ≡ self.old.preemptions) × (self.new.switch ≡ self.old.switch) }
+        ensures rests { IsWellSchedule self.new }
+        ensures noted { (self.new.preemptions ≡ self.old.preemptions) × (self.new.switch ≡ self.old.switch) × (self.new.nearest ≡ self.old.nearest) }
     {
         self.statuses = with_status(self.statuses, self.active(), Status::Visited);
         self.statuses[thread] = Status::Active;
@@ -305,10 +311,10 @@ impl Schedule {
     /// The thread is added: it is to be tried unless it was, or, where it can't go on, each thread that can is. Nothing where
     /// the run doesn't explore.
     pub(crate) fn add(&mut self, thread: usize)
-        requires { IsAtRest (seen_schedule self.old) }
+        requires { IsWellSchedule self.old }
         ensures added { seen_schedule self.new ≡ mark_added thread (seen_schedule self.old) }
-        ensures rests { IsAtRest (seen_schedule self.new) }
-        ensures noted { (self.new.preemptions ≡ self.old.preemptions) × (self.new.switch ≡ self.old.switch) }
+        ensures rests { IsWellSchedule self.new }
+        ensures noted { (self.new.preemptions ≡ self.old.preemptions) × (self.new.switch ≡ self.old.switch) × (self.new.nearest ≡ self.old.nearest) }
     {
         if !self.exploring || thread >= 5 {
             return;
@@ -322,10 +328,10 @@ impl Schedule {
 
     /// Takes the lowest thread that is to be tried, if the run explores here and there is one.
     fn advance(&mut self) -> bool
-        requires { IsAtRest (seen_schedule self.old) }
+        requires { IsWellSchedule self.old }
         ensures advances { Advances (seen_schedule self.old) result (seen_schedule self.new) }
-        ensures rests { IsAtRest (seen_schedule self.new) }
-        ensures noted { (self.new.preemptions ≡ self.old.preemptions) × (self.new.switch ≡ self.old.switch) }
+        ensures rests { IsWellSchedule self.new }
+        ensures noted { (self.new.preemptions ≡ self.old.preemptions) × (self.new.switch ≡ self.old.switch) × (self.new.nearest ≡ self.old.nearest) }
     {
         if !self.exploring {
             return false;
@@ -349,6 +355,7 @@ impl Tally {
             preemptions: 0,
             last: None,
             switch: None,
+            nearest: None,
         }
     }
 
@@ -385,6 +392,9 @@ impl Tally {
         }
         if self.switches(schedule) {
             self.switch = Some(place);
+        }
+        if schedule.exploring {
+            self.nearest = Some(place);
         }
         self.last = Some(schedule.active());
     }
@@ -430,23 +440,24 @@ fn are_same_slots(one: &[bool; 7], other: &[bool; 7]) -> bool
 }
 
 impl Load {
-    /// A new load: the lowest slot is the choice, and each other one that may be read is to be tried.
-    pub(crate) fn new(readable: &[bool; 7]) -> Load
+    /// A new load, where the run explores or doesn't: the lowest slot is the choice, and each other one that may be read is to
+    /// be tried.
+    pub(crate) fn new(exploring: bool, readable: &[bool; 7]) -> Load
         requires some { Contains readable.now true }
-        ensures made { seen_load result ≡ fresh true (made_of (which_store readable.now)) }
+        ensures made { seen_load result ≡ fresh true (made_of (which_store exploring readable.now)) }
         ensures well { IsWellLoad result }
     {
         Load {
-            exploring: true,
+            exploring,
             readable: *readable,
             position: 0,
         }
     }
 
     /// A new load at a choice that was given, or None where that is no option. The slots below it count as tried.
-    pub(crate) fn at(readable: &[bool; 7], choice: Choice) -> Option<Load>
+    pub(crate) fn at(exploring: bool, readable: &[bool; 7], choice: Choice) -> Option<Load>
         requires some { Contains readable.now true }
-        ensures made { option_map seen_load result ≡ new_node true (made_of (which_store readable.now)) (Some choice) }
+        ensures made { option_map seen_load result ≡ new_node true (made_of (which_store exploring readable.now)) (Some choice) }
         ensures well { IfSome result IsWellLoad }
     {
         let Choice::Load(slot) = choice else {
@@ -456,7 +467,7 @@ impl Load {
             return None;
         }
         Some(Load {
-            exploring: true,
+            exploring,
             readable: *readable,
             position: count_slots(&readable[..slot as usize]) as u8,
         })
@@ -470,12 +481,12 @@ impl Load {
     }
 
     /// Whether it is the load that would be made now, whatever was tried there.
-    pub(crate) fn meets(&self, readable: &[bool; 7]) -> bool
+    pub(crate) fn meets(&self, exploring: bool, readable: &[bool; 7]) -> bool
         requires well { IsWellLoad self.now }
         requires some { Contains readable.now true }
-        ensures { IsTrue result ↔ ((seen_load self.now).made ≡ made_of (which_store readable.now)) }
+        ensures { IsTrue result ↔ ((seen_load self.now).made ≡ made_of (which_store exploring readable.now)) }
     {
-        self.exploring && are_same_slots(&self.readable, readable)
+        self.exploring == exploring && are_same_slots(&self.readable, readable)
     }
 
     /// Takes the next slot that may be read, if the run explores here and there is one.
@@ -493,34 +504,31 @@ impl Load {
 }
 
 impl Spurious {
-    /// A new node at which false is the choice, and true is to be tried.
-    pub(crate) fn new() -> Spurious
-        ensures { seen_spurious result ≡ fresh true (made_of whether_spurious) }
+    /// A new node, where the run explores or doesn't, at which false is the choice, and true is to be tried.
+    pub(crate) fn new(exploring: bool) -> Spurious
+        ensures { seen_spurious result ≡ fresh true (made_of (whether_spurious exploring)) }
     {
         Spurious {
-            exploring: true,
+            exploring,
             answer: false,
         }
     }
 
     /// A new node at a choice that was given, or None where that is no option. False counts as tried where true was given.
-    pub(crate) fn at(choice: Choice) -> Option<Spurious>
-        ensures { option_map seen_spurious result ≡ new_node true (made_of whether_spurious) (Some choice) }
+    pub(crate) fn at(exploring: bool, choice: Choice) -> Option<Spurious>
+        ensures { option_map seen_spurious result ≡ new_node true (made_of (whether_spurious exploring)) (Some choice) }
     {
         match choice {
-            Choice::Spurious(answer) => Some(Spurious {
-                exploring: true,
-                answer,
-            }),
+            Choice::Spurious(answer) => Some(Spurious { exploring, answer }),
             _ => None,
         }
     }
 
     /// Whether it is the node that would be made now, whatever was tried there.
-    pub(crate) fn meets(&self) -> bool
-        ensures { IsTrue result ↔ ((seen_spurious self.now).made ≡ made_of whether_spurious) }
+    pub(crate) fn meets(&self, exploring: bool) -> bool
+        ensures { IsTrue result ↔ ((seen_spurious self.now).made ≡ made_of (whether_spurious exploring)) }
     {
-        self.exploring
+        self.exploring == exploring
     }
 
     /// Takes true, if the run explores here and false is the choice.

@@ -3,16 +3,18 @@ ghost use Rattle.std.specs.List.{Contains};
 ghost use Rattle.std.specs.Option.{option_map};
 ghost use Rattle.loom_objects.specs.Question.{made_of, AreSoundOffers};
 ghost use Rattle.loom_objects.specs.Asked.{which_thread, which_store, whether_spurious};
-ghost use Rattle.loom_walks.specs.Walk.Path.{IsAtRest};
+ghost use Rattle.loom_objects.specs.Exploring.{is_on};
 ghost use Rattle.loom_walks.specs.Trees.Drive.{is_used_up, new_node, passes_of};
 ghost use Rattle.loom_walks.specs.Trees.Meeting.{every_at, whole_search};
-ghost use Rattle.loom_path.specs.Nodes.{seen, seen_schedule, seen_load, seen_spurious, AreWell, IsWell, IsWellLoad};
-ghost use Rattle.loom_path.specs.Routes.{Route, settings, at_rest, chosen, trail, Says, Pushes, IsAtLoad, PassesLoad, Steps};
+ghost use Rattle.loom_path.specs.Nodes.{seen, seen_schedule, seen_load, seen_spurious, AreWell, IsWell, IsWellSchedule, IsWellLoad};
+ghost use Rattle.loom_path.specs.Routes.{Route, settings, at_rest, chosen, trail, IsSame, Says, Pushes, IsAtLoad, PassesLoad, Steps, Switches};
 ghost use Rattle.loom_path.specs.Tallies.{Notes, IsNotedAt, AreNoted, IsValueAt};
 
 use crate::rt::node::{Load, Node, Schedule, Spurious, Tally};
 use loom_objects::choice::Choice;
 use loom_objects::failure::{Stop, failed};
+use loom_objects::operation::ExploreOp;
+use loom_objects::rt::exploring::Exploring;
 use loom_objects::rt::thread::Offers;
 use loom_views::rt::failure::FailureKind;
 use std::alloc::{AllocError, Global};
@@ -27,6 +29,8 @@ pub struct Search {
     pub bound: Option<u8>,
     /// How many nodes a run may have.
     pub max_branches: u32,
+    /// Whether runs begin to explore, or wait for the switch `explore`.
+    pub explores: bool,
 }
 
 /// The nodes at which the run has chosen, in order, with what is left to try at each (loom's `rt/path.rs`).
@@ -36,6 +40,8 @@ pub struct Path {
     pub(crate) nodes: Vec<Node>,
     // how many nodes the run has passed
     pub(crate) position: usize,
+    // whether the run explores at the nodes that come
+    exploring: Exploring,
     // what the next schedule notes of those among them
     tally: Tally,
     // what the new nodes take in turn
@@ -52,8 +58,10 @@ impl Model for Path {
 
     ghost view = { λ p. record {
       search = settings p.search;
+      explores = p.search.explores;
       nodes = p.nodes.items;
       position = p.position;
+      exploring = p.exploring;
       given = p.given.items;
     } };
 
@@ -64,12 +72,13 @@ impl Model for Path {
 impl Path {
     /// A path without nodes, of such a search.
     pub fn new(alloc: Global, search: Search) -> Path
-        ensures { result ≡ at_rest (settings search) [] }
+        ensures { result ≡ at_rest (settings search) search.explores [] }
     {
         Path {
             search,
             nodes: Vec::new(alloc),
             position: 0,
+            exploring: Exploring::new(search.explores),
             tally: Tally::new(),
             given: Vec::new(alloc),
         }
@@ -78,15 +87,17 @@ impl Path {
     /// A path without nodes whose new nodes take these choices in turn, then defaults. Its search is whole.
     pub fn following(
         alloc: Global,
+        explores: bool,
         max_branches: u32,
         choices: &[Choice],
     ) -> Result<Path, AllocError>
-        ensures { IfOk result (λ path. path ≡ record (at_rest (whole_search max_branches) []) { given = choices.now }) }
+        ensures { IfOk result (λ path. path ≡ record (at_rest (whole_search max_branches) explores []) { given = choices.now }) }
     {
         let search = Search {
             reduce: false,
             bound: None,
             max_branches,
+            explores,
         };
         let mut path = Path::new(alloc, search);
         path.given.extend_from_slice(choices)?;
@@ -98,6 +109,13 @@ impl Path {
         ensures { result ≡ slice_get self.now.given self.now.position }
     {
         self.given.get(self.position).copied()
+    }
+
+    /// Whether the run explores at the nodes that come.
+    fn is_exploring(&self) -> bool
+        ensures { result ≡ is_on self.now.exploring }
+    {
+        self.exploring.is_on()
     }
 
     /// Whether the run has passed as many nodes as the path may have.
@@ -120,29 +138,32 @@ impl Path {
         Ok(())
     }
 
-    /// Whether each option of a schedule that is made next is to be tried: in a search that isn't reduced, below the bound.
+    /// Whether each option of a schedule that is made next is to be tried: in a search that isn't reduced, where the run explores,
+    /// below the bound.
     fn tries_each(&self) -> bool
-        ensures { (offers : Offers) (places : List (Option ℕ)) → result ≡ every_at self.now.search (passes_of (trail self.now)) (made_of (which_thread offers places)) }
+        ensures { (offers : Offers) (places : List (Option ℕ)) → result
+            ≡ every_at self.now.search (passes_of (trail self.now)) (made_of (which_thread (is_on self.now.exploring) offers places)) }
     {
         let is_below = match self.search.bound {
             Some(bound) => self.tally.preemptions < bound as u32,
             None => true,
         };
-        !self.search.reduce && is_below
+        !self.search.reduce && self.is_exploring() && is_below
     }
 
     /// A new schedule: at the choice that was given for its place, if any, or else at its default.
     fn new_schedule(&self, offers: &Offers) -> Option<Schedule>
         requires { AreSoundOffers offers.now.default offers.now.abilities }
-        ensures made { (places : List (Option ℕ)) → option_map seen_schedule result
-            ≡ new_node (every_at self.now.search (passes_of (trail self.now)) (made_of (which_thread offers.now places))) (made_of (which_thread offers.now places)) (slice_get self.now.given self.now.position) }
-        ensures rests { IfSome result (λ schedule. IsAtRest (seen_schedule schedule)) }
+        ensures made { (places : List (Option ℕ)) → let made = made_of (which_thread (is_on self.now.exploring) offers.now places) in
+            option_map seen_schedule result ≡ new_node (every_at self.now.search (passes_of (trail self.now)) made) made (slice_get self.now.given self.now.position) }
+        ensures rests { IfSome result IsWellSchedule }
         ensures noted { IfSome result (λ schedule. Notes self.now.position (passes_of (trail self.now)) schedule) }
     {
+        let exploring = self.is_exploring();
         let every = self.tries_each();
         match self.given_here() {
-            Some(choice) => Schedule::at(offers, every, &self.tally, choice),
-            None => Some(Schedule::new(offers, every, &self.tally)),
+            Some(choice) => Schedule::at(exploring, offers, every, &self.tally, choice),
+            None => Some(Schedule::new(exploring, offers, every, &self.tally)),
         }
     }
 
@@ -166,15 +187,16 @@ impl Path {
     /// Passes a schedule: follows the stored node, or makes one. Where it fails the path stays as it was.
     pub fn branch_thread(&mut self, offers: &Offers) -> Result<Option<u8>, Stop>
         requires { AreSoundOffers offers.now.default offers.now.abilities }
-        ensures says { (places : List (Option ℕ)) → Says Choice.Thread self.old (which_thread offers.now places) result self.new }
+        ensures says { (places : List (Option ℕ)) → Says Choice.Thread self.old (which_thread (is_on self.old.exploring) offers.now places) result self.new }
         ensures within { IfOk result (λ chosen. IfSome chosen (λ thread. thread < 5)) }
-        ensures same { (self.new.search ≡ self.old.search) × (self.new.given ≡ self.old.given) }
+        ensures same { IsSame self.old self.new }
     {
+        let exploring = self.is_exploring();
         if self.position < self.nodes.len() {
             let Node::Schedule(schedule) = self.nodes[self.position] else {
                 return Err(failed(FailureKind::NotDeterministic));
             };
-            if !schedule.meets(offers) {
+            if !schedule.meets(exploring, offers) {
                 return Err(failed(FailureKind::NotDeterministic));
             }
             self.pass(&schedule);
@@ -201,15 +223,16 @@ impl Path {
     /// Where it fails the path stays as it was.
     pub fn push_load(&mut self, readable: &[bool; 7]) -> Result<(), Stop>
         requires some { Contains readable.now true }
-        ensures pushes { Pushes self.old (which_store readable.now) result self.new }
+        ensures pushes { Pushes self.old (which_store (is_on self.old.exploring) readable.now) result self.new }
         ensures readable { IfOk result (λ _. IsAtLoad readable.now self.new) }
-        ensures same { (self.new.search ≡ self.old.search) × (self.new.position ≡ self.old.position) × (self.new.given ≡ self.old.given) }
+        ensures same { IsSame self.old self.new × (self.new.position ≡ self.old.position) }
     {
+        let exploring = self.is_exploring();
         if self.position < self.nodes.len() {
             let Node::Load(load) = self.nodes[self.position] else {
                 return Err(failed(FailureKind::NotDeterministic));
             };
-            if !load.meets(readable) {
+            if !load.meets(exploring, readable) {
                 return Err(failed(FailureKind::NotDeterministic));
             }
             return Ok(());
@@ -217,7 +240,7 @@ impl Path {
         if self.is_full() {
             return Err(failed(FailureKind::TooManyBranches));
         }
-        let Some(load) = new_load(readable, self.given_here()) else {
+        let Some(load) = new_load(exploring, readable, self.given_here()) else {
             return Err(failed(FailureKind::NotDeterministic));
         };
         match self.push(Node::Load(load)) {
@@ -244,14 +267,15 @@ impl Path {
     /// Passes a spurious wake-up: follows the stored node, or makes one. It answers whether the thread wakes without a
     /// notification. Where it fails the path stays as it was.
     pub fn branch_spurious(&mut self) -> Result<bool, Stop>
-        ensures says { Says Choice.Spurious self.old whether_spurious result self.new }
-        ensures same { (self.new.search ≡ self.old.search) × (self.new.given ≡ self.old.given) }
+        ensures says { Says Choice.Spurious self.old (whether_spurious (is_on self.old.exploring)) result self.new }
+        ensures same { IsSame self.old self.new }
     {
+        let exploring = self.is_exploring();
         if self.position < self.nodes.len() {
             let Node::Spurious(spurious) = self.nodes[self.position] else {
                 return Err(failed(FailureKind::NotDeterministic));
             };
-            if !spurious.meets() {
+            if !spurious.meets(exploring) {
                 return Err(failed(FailureKind::NotDeterministic));
             }
             self.pass_value();
@@ -260,7 +284,7 @@ impl Path {
         if self.is_full() {
             return Err(failed(FailureKind::TooManyBranches));
         }
-        let Some(spurious) = new_spurious(self.given_here()) else {
+        let Some(spurious) = new_spurious(exploring, self.given_here()) else {
             return Err(failed(FailureKind::NotDeterministic));
         };
         match self.push(Node::Spurious(spurious)) {
@@ -270,6 +294,31 @@ impl Path {
             }
             Err(_) => Err(Stop::Memory),
         }
+    }
+
+    /// The run explores from now on: it goes on to other options at the nodes that come. `ExploreSwitch` where it does already,
+    /// unless the rest of the run is skipped; then nothing changes (loom's `rt/path.rs`).
+    pub fn explore_state(&mut self) -> Result<(), FailureKind>
+        ensures { Switches self.old ExploreOp.Explore result self.new }
+    {
+        self.exploring = self.exploring.switched(ExploreOp::Explore)?;
+        Ok(())
+    }
+
+    /// The run doesn't explore from now on. `ExploreSwitch` where it doesn't already, unless the rest of the run is skipped;
+    /// then nothing changes (loom's `rt/path.rs`).
+    pub fn critical(&mut self) -> Result<(), FailureKind>
+        ensures { Switches self.old ExploreOp.StopExploring result self.new }
+    {
+        self.exploring = self.exploring.switched(ExploreOp::StopExploring)?;
+        Ok(())
+    }
+
+    /// The run doesn't explore up to its end, whatever is switched (loom's `rt/path.rs`).
+    pub fn skip_branch(&mut self)
+        ensures { self.new ≡ record self.old { exploring = Exploring.Skipping } }
+    {
+        self.exploring = Exploring::Skipping;
     }
 
     /// How many nodes the run has passed: the place of the node that it passes next.
@@ -301,9 +350,10 @@ impl Path {
     /// dropped. False where no node has one.
     pub fn step(&mut self) -> bool
         ensures steps { Steps self.old.nodes result self.new.nodes }
-        ensures rest { self.new ≡ at_rest self.old.search self.new.nodes }
+        ensures rest { self.new ≡ at_rest self.old.search self.old.explores self.new.nodes }
     {
         self.position = 0;
+        self.exploring = Exploring::new(self.search.explores);
         self.tally = Tally::new();
         self.given.clear();
         step_nodes(&mut self.nodes)
@@ -318,24 +368,24 @@ fn choices_at(alloc: Global, nodes: &[Node]) -> Result<Vec<Choice>, AllocError>
 }
 
 /// A new load: at the choice that was given for its place, if any, or else at its default.
-fn new_load(readable: &[bool; 7], given: Option<Choice>) -> Option<Load>
+fn new_load(exploring: bool, readable: &[bool; 7], given: Option<Choice>) -> Option<Load>
     requires some { Contains readable.now true }
-    ensures made { option_map seen_load result ≡ new_node true (made_of (which_store readable.now)) given }
+    ensures made { option_map seen_load result ≡ new_node true (made_of (which_store exploring readable.now)) given }
     ensures well { IfSome result IsWellLoad }
 {
     match given {
-        Some(choice) => Load::at(readable, choice),
-        None => Some(Load::new(readable)),
+        Some(choice) => Load::at(exploring, readable, choice),
+        None => Some(Load::new(exploring, readable)),
     }
 }
 
 /// A new spurious wake-up: at the choice that was given for its place, if any, or else at its default.
-fn new_spurious(given: Option<Choice>) -> Option<Spurious>
-    ensures { option_map seen_spurious result ≡ new_node true (made_of whether_spurious) given }
+fn new_spurious(exploring: bool, given: Option<Choice>) -> Option<Spurious>
+    ensures { option_map seen_spurious result ≡ new_node true (made_of (whether_spurious exploring)) given }
 {
     match given {
-        Some(choice) => Spurious::at(choice),
-        None => Some(Spurious::new()),
+        Some(choice) => Spurious::at(exploring, choice),
+        None => Some(Spurious::new(exploring)),
     }
 }
 

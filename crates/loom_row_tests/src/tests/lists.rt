@@ -28,8 +28,8 @@ fn is_run(
     Ok(())
 }
 
-// The check has one run, with these choices and this result.
-fn has_one_run<B: Body<Data = Number>>(
+/// The check has one run, with these choices and this result.
+pub fn has_one_run<B: Body<Data = Number>>(
     rt: &(impl Abort + AllocGlobal),
     body: &B,
     choices: &[Choice],

@@ -1,7 +1,7 @@
 //! What a check finds is what the plain program finds.
 use super::cells::{SWAP_BESIDE_A_WRITE, SWAP_WITH_ITSELF};
 use super::sizes::{FIVE_THREADS, READ_THREE_TIMES};
-use super::{FIVE_SPAWNS, JOIN_TWICE, Keeper, Run, bodies, searches};
+use super::{FIVE_SPAWNS, JOIN_TWICE, Keeper, Run, bodies, searches, shared};
 use loom::model::{Builder, Report};
 use loom::{Body, Choice, FailureKind};
 use loom_plain::run::{Ending, Settings};
@@ -27,6 +27,7 @@ fn settings_of(builder: Builder) -> Settings {
         max_steps: builder.max_steps,
         reduce: builder.reduce,
         bound: builder.preemption_bound,
+        expect_explicit_explore: builder.expect_explicit_explore,
     }
 }
 
@@ -211,7 +212,7 @@ fn row_finds_the_same(rt: &(impl Abort + AllocGlobal), row: &Row) -> Result<(), 
 }
 
 // The rows with more than 300 runs, and those with more than 60,000 accesses or fences.
-static LARGE: [&str; 7] = [
+static LARGE: [&str; 10] = [
     "rwlock_writer_and_readers",
     "notify_all",
     "orders_equal",
@@ -219,6 +220,9 @@ static LARGE: [&str; 7] = [
     "fences_then_relaxed",
     "many_locks",
     "too_many_locks",
+    "fences",
+    "too_many_fences",
+    "too_many_stores",
 ];
 
 #[test]
@@ -303,6 +307,14 @@ fn bodies_of_locks_are_what_the_plain_program_finds(rt: HostRuntime) -> Result<(
 #[test]
 fn bodies_of_searches_are_what_the_plain_program_finds(rt: HostRuntime) -> Result<(), Fail> {
     for (name, steps) in searches::BODIES {
+        script_finds_the_same(&rt, steps, name)?;
+    }
+    Ok(())
+}
+
+#[test]
+fn bodies_that_share_are_what_the_plain_program_finds(rt: HostRuntime) -> Result<(), Fail> {
+    for (name, steps) in shared::BODIES {
         script_finds_the_same(&rt, steps, name)?;
     }
     Ok(())

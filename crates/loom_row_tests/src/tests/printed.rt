@@ -10,8 +10,8 @@ use std::io::{self, ErrorKind, Write};
 use std::process::Abort;
 use std::test::Fail;
 
-// Each row's line and status, but for the one whose line is long.
-static LINES: [(&str, &str, u8); 68] = [
+// Each row's line and status, but for those of runs as long as they may be.
+static LINES: [(&str, &str, u8); 97] = [
     ("finish_only", "complete 1\n", 0),
     ("spawn_only", "complete 1\n", 0),
     ("lock_beside", "complete 3\n", 0),
@@ -108,6 +108,35 @@ static LINES: [(&str, &str, u8); 68] = [
     ("yield_beside", "complete 1\n", 0),
     ("named_child", "complete 1\n", 0),
     ("unreachable", "failed 15 0\n", 1),
+    ("send_then_recv", "complete 1\n", 0),
+    ("recv_after_drop", "complete 1\n", 0),
+    ("commutative_senders", "complete 3\n", 0),
+    ("non_commutative_senders1", "failed 1 1 t1 t2 t2 t2 t0\n", 1),
+    ("try_recv_empty", "complete 1\n", 0),
+    ("drop_receiver", "complete 1\n", 0),
+    ("message_left", "failed 7 0 t0 t-\n", 1),
+    ("send_late", "complete 1\n", 0),
+    ("name_sent", "complete 2\n", 0),
+    ("ready_at_once", "complete 1\n", 0),
+    ("waker_leak", "failed 5 0 t0 t0 t-\n", 1),
+    ("waker_round", "complete 1\n", 0),
+    ("spurious_poll", "complete 35\n", 0),
+    ("lazy_once", "complete 1\n", 0),
+    ("lazy_late", "failed 17 0 t1\n", 1),
+    ("local_twice", "failed 22 0\n", 1),
+    ("local_gone", "failed 18 0\n", 1),
+    ("local_access_error", "complete 1\n", 0),
+    ("local_order", "complete 1\n", 0),
+    ("stop_exploring", "complete 1\n", 0),
+    ("stop_exploring_twice", "failed 19 0\n", 1),
+    ("skip_branch", "complete 1\n", 0),
+    ("never_explore", "complete 1\n", 0),
+    ("explore_first", "complete 3\n", 0),
+    ("spin_alone", "failed 9 0 t0 t0 t0\n", 1),
+    ("finish_twice", "failed 14 0\n", 1),
+    ("exit_first", "failed 14 0\n", 1),
+    ("put_absent", "failed 14 0\n", 1),
+    ("guard_left", "failed 2 0 t0 t1 t-\n", 1),
 ];
 
 // Runs the row of this name, which answers this status and writes nothing on standard error. Gives what it prints.
@@ -120,23 +149,40 @@ fn printed_by(rt: &(impl Abort + AllocGlobal), rows: &[Row], name: &str, status:
     out
 }
 
-#[test]
-fn each_row_prints_its_line(rt: HostRuntime) -> Result<(), Fail> {
+// The rows print these lines.
+fn print(rt: &(impl Abort + AllocGlobal), lines: &[(&str, &str, u8)]) -> Result<(), Fail> {
     let rows = rows::all_rows(rt.alloc())?;
     let rows = rows.as_slice();
-    for (name, line, status) in LINES {
-        let out = printed_by(&rt, rows, name, status);
+    for (name, line, status) in lines {
+        let out = printed_by(rt, rows, name, *status);
         assert_eq!(rt; out.as_slice(), line.as_bytes(), "{name}");
     }
     Ok(())
 }
 
-// The line of a main that fails by too many versions at the access past the last one that it may make.
-fn long_line(alloc: Global) -> Result<Vec<u8>, Fail> {
+#[test]
+fn each_row_prints_its_line(rt: HostRuntime) -> Result<(), Fail> {
+    print(&rt, LINES.as_slice())
+}
+
+#[test]
+fn fences_are_counted(rt: HostRuntime) -> Result<(), Fail> {
+    let lines = [
+        ("fences", "complete 1\n", 0),
+        ("too_many_fences", "failed 10 0\n", 1),
+    ];
+    print(&rt, lines.as_slice())
+}
+
+// A line that begins so, goes on with these choices of main and of the other thread, and ends.
+fn long_line(alloc: Global, begins: &[u8], main: usize, other: usize) -> Result<Vec<u8>, Fail> {
     let mut line = Vec::new(alloc);
-    line.extend_from_slice(b"failed 10 0".as_slice())?;
-    for _ in 0..65_535 {
+    line.extend_from_slice(begins)?;
+    for _ in 0..main {
         line.extend_from_slice(b" t0".as_slice())?;
+    }
+    for _ in 0..other {
+        line.extend_from_slice(b" t1".as_slice())?;
     }
     line.extend_from_slice(b"\n".as_slice())?;
     Ok(line)
@@ -144,7 +190,7 @@ fn long_line(alloc: Global) -> Result<Vec<u8>, Fail> {
 
 #[test]
 fn accesses_are_counted(rt: HostRuntime) -> Result<(), Fail> {
-    let line = long_line(rt.alloc())?;
+    let line = long_line(rt.alloc(), b"failed 10 0".as_slice(), 65_535, 0)?;
     let rows = rows::all_rows(rt.alloc())?;
     let out = printed_by(&rt, rows.as_slice(), "too_many_locks", 1);
     assert!(rt; out == line);
@@ -155,6 +201,15 @@ fn accesses_are_counted(rt: HostRuntime) -> Result<(), Fail> {
     let row = row_of(TOO_MANY_LOCKS, builder);
     let status = rows::check_row(&rt, &row, &mut out, &mut err)?;
     assert_eq!(rt; status, 1);
+    assert!(rt; out == line);
+    Ok(())
+}
+
+#[test]
+fn stores_are_counted(rt: HostRuntime) -> Result<(), Fail> {
+    let line = long_line(rt.alloc(), b"failed 11 0".as_slice(), 40_000, 25_536)?;
+    let rows = rows::all_rows(rt.alloc())?;
+    let out = printed_by(&rt, rows.as_slice(), "too_many_stores", 1);
     assert!(rt; out == line);
     Ok(())
 }

@@ -16,7 +16,24 @@ static FAIL_AFTER_A_LOCK: [Step; 3] = [
     FAIL,
 ];
 
-// Replays the list, and compares the failure's kind and the choices that the run made.
+// Replays the list, and compares the failure's kind. Gives the choices that the run made.
+fn made_by(
+    rt: &(impl Abort + AllocGlobal),
+    builder: Builder,
+    steps: &'static [Step],
+    list: &[Choice],
+    kind: FailureKind,
+) -> Result<Vec<Choice>, Fail> {
+    match builder.replay(rt.alloc(), &Script::new(rt.alloc(), steps)?, list)? {
+        Replay::Ended { .. } => Err(Fail::from("the run ended")),
+        Replay::Failed { failure, choices } => {
+            assert_eq!(rt; failure.kind, kind);
+            Ok(choices)
+        }
+    }
+}
+
+// The same with the defaults, and compares the choices.
 fn fails(
     rt: &(impl Abort + AllocGlobal),
     steps: &'static [Step],
@@ -24,13 +41,8 @@ fn fails(
     kind: FailureKind,
     made: &[Choice],
 ) -> Result<(), Fail> {
-    match Builder::new().replay(rt.alloc(), &Script::new(rt.alloc(), steps)?, list)? {
-        Replay::Ended { .. } => return Err(Fail::from("the run ended")),
-        Replay::Failed { failure, choices } => {
-            assert_eq!(rt; failure.kind, kind);
-            assert_eq!(rt; choices.as_slice(), made);
-        }
-    }
+    let choices = made_by(rt, Builder::new(), steps, list, kind)?;
+    assert_eq!(rt; choices.as_slice(), made);
     Ok(())
 }
 
@@ -60,24 +72,35 @@ fn a_failure_keeps_its_kind(rt: HostRuntime) -> Result<(), Fail> {
     fails(&rt, &FAIL_AFTER_A_LOCK, &[], assertion, &[ZERO])
 }
 
-/// A check finds a failure of this kind, whose choices lead to it again.
-pub fn finds(
+/// A check with these settings finds a failure of this kind, whose choices lead to it again.
+pub fn finds_by(
     rt: &(impl Abort + AllocGlobal),
+    builder: Builder,
     steps: &'static [Step],
     kind: FailureKind,
 ) -> Result<(), Fail> {
-    match Builder::new().check(rt.alloc(), &Script::new(rt.alloc(), steps)?)? {
+    match builder.check(rt.alloc(), &Script::new(rt.alloc(), steps)?)? {
         Report::Failed {
             failure,
             choices,
             ..
         } => {
             assert_eq!(rt; failure.kind, kind);
-            let made = choices.as_slice();
-            fails(rt, steps, made, kind, made)
+            let made = made_by(rt, builder, steps, choices.as_slice(), kind)?;
+            assert_eq!(rt; made.as_slice(), choices.as_slice());
+            Ok(())
         }
         _ => Err(Fail::from("no run failed")),
     }
+}
+
+/// The same with the defaults.
+pub fn finds(
+    rt: &(impl Abort + AllocGlobal),
+    steps: &'static [Step],
+    kind: FailureKind,
+) -> Result<(), Fail> {
+    finds_by(rt, Builder::new(), steps, kind)
 }
 
 #[test]

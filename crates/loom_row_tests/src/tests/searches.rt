@@ -368,8 +368,8 @@ static CASES: [Case; 35] = [
     reduced!("joined", JOINED, Some(1), 3, &[]),
 ];
 
-// The runs that end.
-fn ended<R: Abort + AllocGlobal>(
+/// The runs that end.
+pub fn ended<R: Abort + AllocGlobal>(
     rt: &R,
     steps: &'static [Step],
     reduce: bool,

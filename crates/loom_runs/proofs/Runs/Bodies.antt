@@ -38,4 +38,4 @@ module _ {D S : Type 0} (next : Meaning D S) where
       (λ turned over. turn_rests turned.0 turned.1 _ over))
 
 pub run_tree_law : {D S : Type 0} → RunTreeLaw D S
-run_tree_law next max_threads max_steps body = play_run next _ _ _ _ _
+run_tree_law next explores max_threads max_steps body = play_run next _ _ _ _ _

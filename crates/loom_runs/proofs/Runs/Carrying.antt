@@ -34,8 +34,8 @@ module _ {D : Type 0} where
     carried_event c tree (goes (a, w) h) = goes _ h
     carried_event c tree (fails kind fair) = fails kind fair
     carried_event c tree (closes rest h) = closes _ (carried_settles c rest h)
-    carried_event c tree (asks question branches sound exploring options opens) =
-        asks question _ sound exploring (λ choice among. carried_event (one_passed c) (branches choice) (options choice among))
+    carried_event c tree (asks question branches sound options opens) =
+        asks question _ sound (λ choice among. carried_event (one_passed c) (branches choice) (options choice among))
         (λ choice. carried_open P (one_passed c) (branches choice) (opens choice))
 
     pub carried_keeps : (c : Course D) (tree : Tree (A × World D)) → Keeps P tree → Keeps (InWorld P) (carried c tree)

@@ -23,10 +23,10 @@ able_length None abilities = refl
 able_length (Some k) abilities = set_length abilities k Able
 
 -- whatever the threads are, the question which of them goes on is sound
-pub offers_ask : {D : Type 0} (w : World D) (places : List (Option ℕ)) → IsSound (which_thread (offers w) places)
-offers_ask w places =
+pub offers_ask : {D : Type 0} (exploring : Bool) (w : World D) (places : List (Option ℕ)) → IsSound (which_thread exploring (offers w) places)
+offers_ask exploring w places =
     let few = able_length (offers w).default (map ability_in (standings w)) in
-    which_is_sound (offers w) places (offers_sound w.active (standings w)) (omega (arith, few))
+    which_is_sound exploring (offers w) places (offers_sound w.active (standings w)) (omega (arith, few))
 
 -- an option of a schedule is a thread
 abbrev pub IsThreadChoice : Choice → Type 0
@@ -46,8 +46,8 @@ thread_options_are None abilities choice (inl e) = subst IsThreadChoice (sym e) 
 thread_options_are None abilities choice (inr h) = absurd h
 thread_options_are (Some k) abilities choice h = able_are_threads abilities 0 choice h
 
-pub options_are_threads : (offers : Offers) (places : List (Option ℕ)) (choice : Choice) → Among choice (made_of (which_thread offers places)).options → IsThreadChoice choice
-options_are_threads offers places choice h = thread_options_are offers.default offers.abilities choice h
+pub options_are_threads : (exploring : Bool) (offers : Offers) (places : List (Option ℕ)) (choice : Choice) → Among choice (made_of (which_thread exploring offers places)).options → IsThreadChoice choice
+options_are_threads exploring offers places choice h = thread_options_are offers.default offers.abilities choice h
 
 -- ---- loads
 
@@ -74,7 +74,7 @@ IsFlagChoice (Thread k) = ⊥
 IsFlagChoice (Load slot) = ⊥
 IsFlagChoice (Spurious answer) = Unit {0}
 
-pub options_are_flags : (choice : Choice) → Among choice (made_of whether_spurious).options → IsFlagChoice choice
-options_are_flags choice (inl e) = subst IsFlagChoice (sym e) tt
-options_are_flags choice (inr (inl e)) = subst IsFlagChoice (sym e) tt
-options_are_flags choice (inr (inr h)) = absurd h
+pub options_are_flags : (exploring : Bool) (choice : Choice) → Among choice (made_of (whether_spurious exploring)).options → IsFlagChoice choice
+options_are_flags exploring choice (inl e) = subst IsFlagChoice (sym e) tt
+options_are_flags exploring choice (inr (inl e)) = subst IsFlagChoice (sym e) tt
+options_are_flags exploring choice (inr (inr h)) = absurd h

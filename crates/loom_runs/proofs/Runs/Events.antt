@@ -1,5 +1,5 @@
 -- What one operation that is handed over may come to.
-use Rattle.std.proofs.Common.{◌≡◌, ◌≢◌, Bool, true, false, Option, Some, None}
+use Rattle.std.proofs.Common.{◌≢◌, Bool, true, false, Option, Some, None}
 use Rattle.std.specs.Prelude.{⊤}
 use Rattle.loom_views.specs.declared.rt.failure.FailureKind.{FailureKind}
 use Rattle.loom_views.specs.declared.rt.failure.FailureKind.TheVariants.{NotDeterministic}
@@ -43,13 +43,13 @@ StaysOpen Goes (Fails kind) = Unit {0}
 StaysOpen Goes (Closes rest) = Unit {0}
 StaysOpen Goes (Asks question branches) = (choice : Choice) → StaysOpen Goes (branches choice)
 
--- An event: it ends a run only where the run is over, and then asks nothing. Its questions are sound and explore. By
--- options it comes to no failure that is a path's.
+-- An event: it ends a run only where the run is over, and then asks nothing. Its questions are sound. By options it comes to no
+-- failure that is a path's.
 pub data EventOf {A : Type 0} (Goes Over : A → Type 0) : Tree A → Type 0 where
   goes : (value : A) → Goes value → EventOf Goes Over (Gives value)
   fails : (kind : FailureKind) → kind ≢ NotDeterministic → EventOf Goes Over (Fails kind)
   closes : (rest : Tree A) → Settles Over rest → EventOf Goes Over (Closes rest)
-  asks : (question : Question) (branches : Choice → Tree A) → IsSound question → (made_of question).exploring ≡ true
+  asks : (question : Question) (branches : Choice → Tree A) → IsSound question
       → ((choice : Choice) → Among choice (made_of question).options → EventOf Goes Over (branches choice)) → ((choice : Choice) → StaysOpen Goes (branches choice)) → EventOf Goes Over (Asks question branches)
 
 module _ {A : Type 0} {Goes Over : A → Type 0} where
@@ -61,7 +61,7 @@ module _ {A : Type 0} {Goes Over : A → Type 0} where
   event_open tree (goes value h) = h
   event_open tree (fails kind fair) = tt
   event_open tree (closes rest h) = tt
-  event_open tree (asks question branches sound exploring options opens) = opens
+  event_open tree (asks question branches sound options opens) = opens
 
   pub then_event : {B : Type 0} {Q : B → Type 0} (tree : Tree B) (next : B → Tree A) → Settles Q tree → ((b : B) → Q b → EventOf Goes Over (next b)) → EventOf Goes Over (tree >>= next)
   then_event tree next (settles_at b q) h = h b q
@@ -83,8 +83,8 @@ module _ {A B : Type 0} {Goes Over : A → Type 0} {Goes' Over' : B → Type 0} 
   event_after tree (goes a h) = onward a h
   event_after tree (fails kind fair) = fails kind fair
   event_after tree (closes rest h) = closes (rest >>= next) (then_settles rest next h rests)
-  event_after tree (asks question branches sound exploring options opens) =
-      asks question _ sound exploring (λ choice a. event_after (branches choice) (options choice a)) (λ choice. stays_open (branches choice) (opens choice))
+  event_after tree (asks question branches sound options opens) =
+      asks question _ sound (λ choice a. event_after (branches choice) (options choice a)) (λ choice. stays_open (branches choice) (opens choice))
 
 module _ {D : Type 0} where
   -- with this turn a thread goes on
@@ -144,7 +144,7 @@ module _ {D W : Type 0} where
 -- ---- what comes after an event
 
 pub failing_run : {R : Type 0} (kind : FailureKind) → kind ≢ NotDeterministic → IsRunTree {A = R} (Fails kind)
-failing_run kind fair = record { sound = tt; closing = tt; exploring = tt; fair = fair }
+failing_run kind fair = record { sound = tt; closing = tt; fair = fair }
 
 pub found_run : {A R : Type 0} (o : Option A) (kind : FailureKind) (next : A → Tree R) → kind ≢ NotDeterministic → ((a : A) → IsRunTree (next a)) → IsRunTree (found o kind >>= next)
 found_run None kind next fair h = failing_run kind fair
@@ -170,10 +170,9 @@ module _ {D R W : Type 0} (next : Turn D × W → Tree R) where
   event_then tree (fails kind fair) goes_on rests = failing_run kind fair
   event_then tree (closes rest h) goes_on rests =
       let r : IsQuiet (rest >>= next) × IsFair (rest >>= next) = over_then rest h rests in
-      record { sound = r.0; closing = tt; exploring = tt; fair = r.1 }
-  event_then tree (asks question branches sound exploring options opens) goes_on rests = record {
+      record { sound = r.0; closing = tt; fair = r.1 }
+  event_then tree (asks question branches sound options opens) goes_on rests = record {
     sound = (sound, λ choice a. (event_then (branches choice) (options choice a) goes_on rests).sound);
     closing = λ choice. open_then (branches choice) (opens choice) (λ turned h. (goes_on turned h).closing);
-    exploring = (exploring, λ choice a. (event_then (branches choice) (options choice a) goes_on rests).exploring);
     fair = λ choice a. (event_then (branches choice) (options choice a) goes_on rests).fair;
   }

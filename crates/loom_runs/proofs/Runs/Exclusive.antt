@@ -1,5 +1,5 @@
 -- Each operation keeps locks sound, so every history does.
-use Rattle.std.proofs.Common.{◌≡◌, ℕ, zero, suc, List, [], ◌∷◌, Some, None}
+use Rattle.std.proofs.Common.{◌≡◌, ℕ, zero, suc, Bool, List, [], ◌∷◌, Some, None}
 use Rattle.std.specs.Prelude.{slice_get, Result, Ok, Err, ⊤}
 use Rattle.loom_views.specs.declared.rt.failure.FailureKind.{FailureKind}
 use Rattle.loom_objects.specs.declared.choice.Choice.{Choice}
@@ -8,7 +8,7 @@ use Rattle.loom_objects.specs.declared.operation.Op.{Op}
 use Rattle.loom_objects.specs.declared.operation.Reply.{Reply}
 use Rattle.loom_objects.specs.declared.operation.Turn.{Turn}
 use Rattle.loom_objects.specs.declared.rt.run.Entry.{Entry}
-use Rattle.loom_objects.specs.declared.rt.run.Entry.TheVariants.{Answered, AtBranch, Spurious as AtSpurious}
+use Rattle.loom_objects.specs.declared.rt.run.Entry.TheVariants.{Answered, AtBranch, Explores, Spurious as AtSpurious}
 use Rattle.loom_objects.specs.declared.rt.run.Loading.{Loading}
 use Rattle.loom_objects.specs.declared.rt.run.Passed.{Passed}
 use Rattle.loom_objects.specs.declared.rt.run.Passed.TheVariants as passed
@@ -17,6 +17,7 @@ use Rattle.loom_objects.specs.declared.rt.run.Resumed.TheVariants as resumed
 use Rattle.loom_objects.specs.Atomics.{reads}
 use Rattle.loom_objects.specs.Effects.{chosen, counted}
 use Rattle.loom_objects.specs.Ending.{all_ended, end_of}
+use Rattle.loom_objects.specs.Exploring.{is_on, switched}
 use Rattle.loom_objects.specs.Notifiers.{enters_wait as entered}
 use Rattle.loom_objects.specs.Question.{slots}
 use Rattle.loom_objects.specs.Steps.{asked, asks_slot, begins, ends, enters_wait, read_slot, resumes, slot_of, told, turned}
@@ -29,6 +30,7 @@ use Rattle.loom_runs.proofs.Runs.Keeping.{Keeps, gives, fails, closes, asks as q
 use Rattle.loom_runs.proofs.Runs.Tables.{Choosing, Ending, chosen_choosing, counted_entering, counted_opening, end_ending}
 use Rattle.loom_objects.specs.declared.operation.Turn.TheVariants as turn
 use Rattle.loom_runs.proofs.Runs.Atomics.{reads_keeping}
+use Rattle.loom_runs.proofs.Runs.Events.{Anything}
 use Rattle.loom_runs.proofs.Runs.Carrying.{InWorld, accesses_keeps, carried_keeps}
 use Rattle.loom_runs.proofs.Runs.Notifiers.{enters_wait_keeping}
 use Rattle.loom_runs.proofs.Runs.States.{Aim, Kept, Out, Ready, Soundness, Taken, Told, TurnTo, freed_at}
@@ -38,6 +40,10 @@ use Rattle.loom_runs.proofs.Runs.Replies.{reads_quiet, tells}
 came_keeps : {A : Type 0} {P : A → Type 0} (Q : A → Type 0) (r : Result A FailureKind) → Fairly Q r → ((a : A) → Q a → P a) → Keeps P (came r)
 came_keeps Q (Ok a) q h = gives a (h a q)
 came_keeps Q (Err kind) fair h = fails kind
+
+came_anything : {A : Type 0} (r : Result A FailureKind) → Keeps Anything (came r)
+came_anything (Ok a) = gives a tt
+came_anything (Err kind) = fails kind
 
 module _ {D : Type 0} (out : Aim) where
   told_kept : (answered : Reply D × World D) → Told out answered → Keeps (TurnTo out) (told answered)
@@ -60,16 +66,17 @@ module _ {D : Type 0} (out : Aim) where
     slot_kept (choice.Thread t) = fails _
     slot_kept (choice.Spurious answer) = fails _
 
-    slots_kept : (numbers : List ℕ) → Keeps (PassedTo out) (asks_slot numbers >>= (λ slot. read_slot load w slot >>= turned))
-    slots_kept [] = fails _
-    slots_kept (lowest ∷ others) = questions _ _ slot_kept
+    slots_kept : (exploring : Bool) (numbers : List ℕ) → Keeps (PassedTo out) (asks_slot exploring numbers >>= (λ slot. read_slot load w slot >>= turned))
+    slots_kept exploring [] = fails _
+    slots_kept exploring (lowest ∷ others) = questions _ _ slot_kept
 
-  asked_kept : (answered : Resumed D × World D) → ResumedTo out answered → Keeps (PassedTo out) (asked answered)
-  asked_kept (resumed.Passed passed, w) k = gives _ k
-  asked_kept (resumed.Load load, w) k = slots_kept load w k (slots load.readable)
+  asked_kept : (exploring : Bool) (answered : Resumed D × World D) → ResumedTo out answered → Keeps (PassedTo out) (asked exploring answered)
+  asked_kept exploring (resumed.Passed passed, w) k = gives _ k
+  asked_kept exploring (resumed.Load load, w) k = slots_kept load w k exploring (slots load.readable)
 
-  resumes_kept : (t : ℕ) (w : World D) → Kept out w → Keeps (PassedTo out) (resumes t w)
-  resumes_kept t w k = then_keeps {Q = ResumedTo out} (came (chosen t w)) asked (came_keeps (Choosing w) (chosen t w) (chosen_choosing t w) (λ answered q. q out k)) asked_kept
+  resumes_kept : (exploring : Bool) (t : ℕ) (w : World D) → Kept out w → Keeps (PassedTo out) (resumes exploring t w)
+  resumes_kept exploring t w k =
+      then_keeps {Q = ResumedTo out} (came (chosen t w)) (asked exploring) (came_keeps (Choosing w) (chosen t w) (chosen_choosing t w) (λ answered q. q out k)) (asked_kept exploring)
 
   -- ---- schedules, events, and histories
 
@@ -77,7 +84,7 @@ module _ {D : Type 0} (out : Aim) where
   closes_kept c k = check_keeps (all_ended c.world) _ _ (λ e. closes _ (carried_keeps c (ends c.world) (came_keeps (Ending c.world) (end_of c.world) (end_ending c.world) (λ answered q. q out k))))
 
   goes_by_kept : (t : ℕ) (c : Course D) → Kept out c.world → Keeps (InWorld (PassedTo out)) (goes_by t c)
-  goes_by_kept t c k = carried_keeps (one_passed c) (resumes t c.world) (resumes_kept t c.world k)
+  goes_by_kept t c k = carried_keeps (one_passed c) (resumes (is_on c.exploring) t c.world) (resumes_kept (is_on c.exploring) t c.world k)
 
   chooses_kept : (c : Course D) (o : Choice) → Kept out c.world → Keeps (InWorld (PassedTo out)) (chooses c o)
   chooses_kept c (choice.Thread (Some t)) k = accesses_keeps t c (goes_by t) (λ order. goes_by_kept t (record c { order = order }) k)
@@ -113,6 +120,7 @@ module _ {D : Type 0} (out : Aim) where
   goes_on_kept (Answered reply, c) k = gives _ k
   goes_on_kept (AtBranch, c) k = schedule_kept further_branches c k
   goes_on_kept (AtSpurious n, c) k = questions _ _ (λ o. waits_kept n c o k)
+  goes_on_kept (Explores todo, c) k = then_keeps {Q = Anything} (came (switched todo c.exploring)) _ (came_anything (switched todo c.exploring)) (λ exploring q. gives _ (k, λ n e. absurd (cc e)))
 
   -- an operation that doesn't give back the mutex that is out
   pub submit_kept : (todo : Op D ⊤) (c : Course D) → ((m : ℕ) → out ≡ Out m → returned_by todo ≡ Some m → ⊥) → Ready out c.world → Keeps (InWorld (TurnTo out)) (submit todo c)
@@ -126,6 +134,7 @@ module _ {D : Type 0} (out : Aim) where
   opens_kept n (Answered reply, c) k = gives _ k.1.1
   opens_kept n (AtBranch, c) k = absurd k
   opens_kept n (AtSpurious m, c) k = absurd k
+  opens_kept n (Explores todo, c) k = absurd k
 
   pub submit_opens : (todo : Op D ⊤) (n : ℕ) (c : Course D) → opened_by todo ≡ Some n → Ready out c.world → Keeps (λ turned. Taken out n turned.1.world) (submit todo c)
   submit_opens todo n c e k =
@@ -140,8 +149,8 @@ first_frees D (suc t) m e = cc e
 
 module _ {D : Type 0} where
   -- nothing is out before the first operation
-  pub opening_ready : (out : Aim) (max_threads max_steps : ℕ) → ((n : ℕ) → out ≡ Out n → ⊥) → Ready {D = D} out (opening max_threads max_steps).world
-  opening_ready out max_threads max_steps nothing = record {
+  pub opening_ready : (out : Aim) (explores : Bool) (max_threads max_steps : ℕ) → ((n : ℕ) → out ≡ Out n → ⊥) → Ready {D = D} out (opening explores max_threads max_steps).world
+  opening_ready out explores max_threads max_steps nothing = record {
     kept = record {
       sound = tt;
       held = λ f t m e. absurd (first_frees D t m e);
@@ -158,7 +167,7 @@ module _ {D : Type 0} where
   sound_ready (turn.Ended value, c) k = record { kept = k; idle = λ f. absurd f }
 
   reached_kept : (max_threads max_steps : ℕ) (c : Course D) → IsReached max_threads max_steps c → Ready Soundness c.world
-  reached_kept max_threads max_steps c at_first = opening_ready Soundness max_threads max_steps (λ n e. cc e)
+  reached_kept max_threads max_steps c (at_first explores) = opening_ready Soundness explores max_threads max_steps (λ n e. cc e)
   reached_kept max_threads max_steps c (later old todo turn v reached comes) =
       sound_ready (turn, v) (kept_value (submit todo old) (turn, v) (submit_kept Soundness todo old (λ n e f. cc e) (reached_kept max_threads max_steps old reached)) comes)
 

@@ -11,10 +11,19 @@ use Rattle.loom_objects.specs.declared.operation.ArcOp.{ArcOp}
 use Rattle.loom_objects.specs.declared.operation.ArcOp.TheVariants as arc_op
 use Rattle.loom_objects.specs.declared.operation.AtomicOp.{AtomicOp}
 use Rattle.loom_objects.specs.declared.operation.AtomicOp.TheVariants as atomic_op
+use Rattle.loom_objects.specs.declared.operation.AtomicWakerOp.{AtomicWakerOp}
+use Rattle.loom_objects.specs.declared.operation.AtomicWakerOp.TheVariants as place_op
 use Rattle.loom_objects.specs.declared.operation.CellOp.{CellOp}
 use Rattle.loom_objects.specs.declared.operation.CellOp.TheVariants as cell_op
+use Rattle.loom_objects.specs.declared.operation.ChannelOp.{ChannelOp}
+use Rattle.loom_objects.specs.declared.operation.ChannelOp.TheVariants as channel_op
 use Rattle.loom_objects.specs.declared.operation.CondvarOp.{CondvarOp}
 use Rattle.loom_objects.specs.declared.operation.CondvarOp.TheVariants as condvar_op
+use Rattle.loom_objects.specs.declared.operation.Keyed.{Keyed}
+use Rattle.loom_objects.specs.declared.operation.LazyOp.{LazyOp}
+use Rattle.loom_objects.specs.declared.operation.LazyOp.TheVariants as lazy_op
+use Rattle.loom_objects.specs.declared.operation.LocalOp.{LocalOp}
+use Rattle.loom_objects.specs.declared.operation.LocalOp.TheVariants as local_op
 use Rattle.loom_objects.specs.declared.operation.MutexOp.{MutexOp}
 use Rattle.loom_objects.specs.declared.operation.MutexOp.TheVariants as mutex_op
 use Rattle.loom_objects.specs.declared.operation.NotifyOp.{NotifyOp}
@@ -27,16 +36,24 @@ use Rattle.loom_objects.specs.declared.operation.ThreadOp.{ThreadOp}
 use Rattle.loom_objects.specs.declared.operation.ThreadOp.TheVariants as thread_op
 use Rattle.loom_objects.specs.declared.operation.TrackOp.{TrackOp}
 use Rattle.loom_objects.specs.declared.operation.TrackOp.TheVariants as track_op
+use Rattle.loom_objects.specs.declared.operation.WakerOp.{WakerOp}
+use Rattle.loom_objects.specs.declared.operation.WakerOp.TheVariants as waker_op
 use Rattle.loom_objects.specs.declared.rt.object.Object.{Object}
 use Rattle.loom_objects.specs.declared.rt.object.Object.TheVariants as object
 use Rattle.loom_objects.specs.declared.rt.run.Entry.{Entry}
+use Rattle.loom_objects.specs.declared.rt.sync.Channel.{Channel}
 use Rattle.loom_objects.specs.declared.rt.sync.Notify.{Notify}
+use Rattle.loom_objects.specs.declared.rt.thread.AfterDrop.TheVariants as dropped
+use Rattle.loom_objects.specs.declared.rt.thread.AfterWake.{AfterWake}
+use Rattle.loom_objects.specs.declared.rt.thread.AfterWake.TheVariants as woken
 use Rattle.loom_objects.specs.declared.rt.thread.Claim.{Claim}
 use Rattle.loom_objects.specs.declared.rt.thread.Claim.TheVariants.{Read, TryRead, Write, TryWrite}
 use Rattle.loom_objects.specs.declared.rt.thread.Counting.TheVariants as counting
 use Rattle.loom_objects.specs.declared.rt.thread.Locking.{Locking}
 use Rattle.loom_objects.specs.declared.rt.thread.Locking.TheVariants.{Timed, Untimed}
-use Rattle.loom_objects.specs.declared.rt.thread.Phase.TheVariants.{Finished, Over}
+use Rattle.loom_objects.specs.declared.rt.thread.Phase.TheVariants.{Exited, Finished, Over}
+use Rattle.loom_objects.specs.declared.rt.thread.Taking.{Taking}
+use Rattle.loom_objects.specs.declared.rt.thread.Taking.TheVariants as taking
 use Rattle.loom_objects.specs.declared.rt.thread.Task.{Task}
 use Rattle.loom_objects.specs.declared.rt.thread.Task.TheVariants as task
 use Rattle.loom_objects.specs.declared.rt.thread.Thread.{Thread}
@@ -44,18 +61,22 @@ use Rattle.loom_objects.specs.declared.rt.thread.Waking.{Waking}
 use Rattle.loom_objects.specs.declared.rt.thread.Waking.TheVariants.{All, One}
 use Rattle.loom_objects.specs.Atomics.{access_begins, atomic_begins, fence, is_relaxed, needs_memory as atomic_needs_memory}
 use Rattle.loom_objects.specs.Cells.{cell_begins, data_left, exchanges_cells, is_free, is_unread, opens_write, reads_open, swap_if, needs_memory as cell_needs_memory}
+use Rattle.loom_objects.specs.Channels.{by_receiver, by_sender, channel_begins, drains_if, tries_recv, wakes_if as wakes_receivers, needs_memory as channel_needs_memory}
 use Rattle.loom_objects.specs.Condvars.{condvar_begins, wait_begins, wake_begins, needs_memory as condvar_needs_memory}
 use Rattle.loom_objects.specs.Counts.{arc_begins, comes_to, needs_memory as arc_needs_memory}
 use Rattle.loom_objects.specs.Effects.{counted, needs_memory, op_begins}
+use Rattle.loom_objects.specs.Leaks.{is_none_left}
 use Rattle.loom_objects.specs.Lent.{handed_back, value_in}
 use Rattle.loom_objects.specs.Locks.{free_value, frees, mutex_begins, needs_memory as mutex_needs_memory}
-use Rattle.loom_objects.specs.Moves.{a_cell, a_condvar, a_mutex, a_notifier, a_rwlock, a_track, active_thread, an_arc, an_atomic, at_phase, changed_at, changes_active, is_number, unparks, with_object, with_points, with_thread, yields}
+use Rattle.loom_objects.specs.Moves.{a_cell, a_condvar, a_mutex, a_notifier, a_place, a_rwlock, a_track, active_thread, an_arc, an_atomic, at_phase, changed_at, changes_active, is_number, unparks, with_object, with_points, with_thread, yields}
 use Rattle.loom_objects.specs.Notifiers.{comes_to_wait, is_alone, is_for_waits, may_be_spurious, notifier_begins, needs_memory as notifier_needs_memory}
 use Rattle.loom_objects.specs.Accessed.{accessed}
 use Rattle.loom_objects.specs.Rule.{◌>>=◌, check, found}
 use Rattle.loom_objects.specs.RwLocks.{claim_begins, guards_of, is_unread as is_unread_lock, rwlock_begins, unlocked_value, wakes_if, with_one_fewer, needs_memory as rwlock_needs_memory}
-use Rattle.loom_objects.specs.Threads.{finish_as, has_own, is_exited, is_finished, is_working, parks_unless, thread_begins, needs_memory as thread_needs_memory}
+use Rattle.loom_objects.specs.Threads.{finish_as, has_own, is_exited, is_finished, parks_unless, thread_begins, needs_memory as thread_needs_memory}
 use Rattle.loom_objects.specs.Tracks.{track_begins, track_take, needs_memory as track_needs_memory}
+use Rattle.loom_objects.specs.Values.{is_working, lazy_begins, lazy_needs_memory, local_at, local_begins, local_needs_memory, puts_local}
+use Rattle.loom_objects.specs.Wakers.{place_begins, place_needs_memory, some_wakers, take_begins, wake_begins as wake_by_begins, waker_begins, waker_needs_memory, waker_pends}
 use Rattle.loom_objects.specs.World.{World}
 use Rattle.loom_runs.specs.Growth.{GrowthLaw, HasAsMany}
 use Rattle.loom_runs.proofs.Runs.Answering.{Answers, answers_then}
@@ -256,6 +277,71 @@ module _ {D : Type 0} (w : World D) where
       onward (a_notifier n w) _ (λ notifier. onward (check (is_for_waits notifier.spurious) Misuse) _ (λ u. onward (check (is_alone w.active notifier) SecondWaiter) _ (λ v.
       waits_stays (may_be_spurious notifier.spurious) n notifier)))
 
+  -- ---- channels, wakers, places for wakers, and values
+
+  tries_recv_stays : (is_empty : Bool) (n : ℕ) → Answers Stays (tries_recv is_empty n w)
+  tries_recv_stays true n = stayed
+  tries_recv_stays false n = by_thread w _ w.active stayed
+
+  wakes_receivers_stays : (wakes : Bool) (n : ℕ) (v : World D) → HasAsMany w v → HasAsMany w (wakes_receivers wakes n v)
+  wakes_receivers_stays true n v s = by_threads v _ s
+  wakes_receivers_stays false n v s = s
+
+  drains_if_stays : (is_some_left : Bool) (channel : Channel D) (n : ℕ) → Answers Stays (drains_if is_some_left channel n w)
+  drains_if_stays true channel n = by_thread w _ w.active stayed
+  drains_if_stays false channel n = by_object w n _ stayed
+
+  channel_stays : (todo : ChannelOp D) → channel_needs_memory todo ≡ false → Answers Stays (channel_begins todo w)
+  channel_stays channel_op.New h = absurd (cc h)
+  channel_stays (channel_op.Send n value) h = absurd (cc h)
+  channel_stays (channel_op.Recv n) h = onward (by_receiver n w) _ (λ channel. by_thread w _ w.active stayed)
+  channel_stays (channel_op.TryRecv n) h = onward (by_receiver n w) _ (λ channel. tries_recv_stays (is_none_left channel.messages) n)
+  channel_stays (channel_op.CloneSender n) h = onward (by_sender n w) _ (λ channel. onward (check (nat_lt channel.senders highest_count) TooManySteps) _ (λ u. by_object w n _ stayed))
+  channel_stays (channel_op.DropSender n) h =
+      onward (by_sender n w) _ (λ channel.
+      wakes_receivers_stays (channel.senders == 1) n _ (by_object w n (object.Channel (record channel { senders = channel.senders - 1 })) stayed))
+  channel_stays (channel_op.DropReceiver n) h = onward (by_receiver n w) _ (λ channel. drains_if_stays (nat_lt 0 (length channel.messages)) channel n)
+
+  pends_stays : (todo : Task D) (c : ℕ) → Answers Stays (waker_pends todo c w)
+  pends_stays todo c = onward (some_wakers c w) _ (λ wakers. by_thread w _ w.active stayed)
+
+  wake_by_stays : (after : AfterWake) (c : ℕ) → Answers Stays (wake_by_begins after c w)
+  wake_by_stays after c = onward (some_wakers c w) _ (λ wakers. by_thread w _ w.active stayed)
+
+  waker_stays : (todo : WakerOp) → waker_needs_memory todo ≡ false → Answers Stays (waker_begins todo w)
+  waker_stays waker_op.New h = absurd (cc h)
+  waker_stays (waker_op.Wait c) h = onward (some_wakers c w) _ (λ wakers. notifier_stays (notify_op.Wait wakers.notifier) refl)
+  waker_stays (waker_op.Finish c) h = pends_stays (task.DropWaker c dropped.Done) c
+  waker_stays (waker_op.Clone c) h = pends_stays (task.CloneWaker c None) c
+  waker_stays (waker_op.Wake c) h = wake_by_stays (woken.Drop dropped.Done) c
+  waker_stays (waker_op.WakeByRef c) h = wake_by_stays woken.Done c
+  waker_stays (waker_op.Drop c) h = pends_stays (task.DropWaker c dropped.Done) c
+
+  take_waker_stays : (by : Taking) (p : ℕ) → Answers Stays (take_begins by p w)
+  take_waker_stays by p = onward (a_place p w) _ (λ place. by_thread w _ w.active stayed)
+
+  place_stays : (todo : AtomicWakerOp) → place_needs_memory todo ≡ false → Answers Stays (place_begins todo w)
+  place_stays place_op.New h = absurd (cc h)
+  place_stays (place_op.Register p c) h = onward (a_place p w) _ (λ place. pends_stays (task.Register p c) c)
+  place_stays (place_op.RegisterByRef p c) h = onward (a_place p w) _ (λ place. pends_stays (task.CloneWaker c (Some p)) c)
+  place_stays (place_op.Wake p) h = take_waker_stays taking.Wake p
+  place_stays (place_op.TakeWaker p) h = take_waker_stays taking.Answer p
+  place_stays (place_op.Drop p) h = onward (a_place p w) _ (λ place. by_object w p _ stayed)
+
+  puts_local_stays : (key : ℕ) (value : D) (local : Option (Keyed D)) → Answers Stays (puts_local key value local w)
+  puts_local_stays key value None = tt
+  puts_local_stays key value (Some local) = by_thread w _ w.active stayed
+
+  local_stays : (todo : LocalOp D) → local_needs_memory todo ≡ false → Answers Stays (local_begins todo w)
+  local_stays (local_op.With key) h = absurd (cc h)
+  local_stays (local_op.TryWith key) h = absurd (cc h)
+  local_stays (local_op.Init key value) h = absurd (cc h)
+  local_stays (local_op.Put key value) h = onward (active_thread w) _ (λ thread. puts_local_stays key value (local_at key thread))
+
+  lazy_stays : (todo : LazyOp D) → lazy_needs_memory todo ≡ false → Answers Stays (lazy_begins todo w)
+  lazy_stays (lazy_op.Get key) h = absurd (cc h)
+  lazy_stays (lazy_op.Init key value) h = absurd (cc h)
+
   -- ---- threads
 
   finish_stays : (notifier : Option ℕ) (value : D) (v : World D) → HasAsMany w v → Answers Stays (finish_as notifier value v)
@@ -284,7 +370,8 @@ module _ {D : Type 0} (w : World D) where
   thread_stays (thread_op.Finish value) h =
       onward (active_thread w) _ (λ thread. onward (check (is_working thread.phase) Misuse) _ (λ u.
       finish_stays thread.notifier value (changes_active (at_phase Finished) w) (by_thread w _ w.active stayed)))
-  thread_stays thread_op.Exit h = onward (active_thread w) _ (λ thread. onward (check (is_finished thread.phase) Misuse) _ (λ u. by_thread w _ w.active stayed))
+  thread_stays thread_op.Exit h = onward (active_thread w) _ (λ thread. onward (check (is_finished thread.phase) Misuse) _ (λ u.
+      by_thread (changes_active (at_phase Exited) w) _ w.active (by_thread w _ w.active stayed)))
   thread_stays thread_op.End h =
       onward (active_thread w) _ (λ thread. onward (check (is_exited thread.phase) Misuse) _ (λ u.
       by_thread (changes_active (at_phase Over) w) _ w.active (by_thread w _ w.active stayed)))
@@ -301,6 +388,12 @@ module _ {D : Type 0} (w : World D) where
   op_stays (op.RwLock todo place) h = rwlock_stays todo h
   op_stays (op.Condvar todo place) h = condvar_stays todo h
   op_stays (op.Notify todo place) h = notifier_stays todo h
+  op_stays (op.Channel todo place) h = channel_stays todo h
+  op_stays (op.Waker todo place) h = waker_stays todo h
+  op_stays (op.AtomicWaker todo place) h = place_stays todo h
+  op_stays (op.Local todo place) h = local_stays todo h
+  op_stays (op.Lazy todo place) h = lazy_stays todo h
+  op_stays (op.Explore todo place) h = stayed
   op_stays (op.Thread todo place) h = thread_stays todo h
   op_stays (op.Fail place) h = tt
   op_stays (op.Unreachable place) h = tt

@@ -87,5 +87,5 @@ module _ {D : Type 0} where
       from_ready n before between after first second history.0 (on_before Holding event.turn history.0 before first (between ++ second ∷ after) comes.0 history.1.1.0) history.1.1.1 e f
 
 pub one_holder : {D : Type 0} → OneHolderLaw D
-one_holder max_threads max_steps n before between after first second history e f =
-    from_ready n before between after first second (opening max_threads max_steps) (opening_ready Holding max_threads max_steps (λ m h. cc h)) history e f
+one_holder explores max_threads max_steps n before between after first second history e f =
+    from_ready n before between after first second (opening explores max_threads max_steps) (opening_ready Holding explores max_threads max_steps (λ m h. cc h)) history e f

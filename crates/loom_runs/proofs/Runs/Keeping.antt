@@ -82,6 +82,9 @@ module _ {D : Type 0} where
   IsSoundLock (object.Track track) = Unit {0}
   IsSoundLock (object.Condvar condvar) = Unit {0}
   IsSoundLock (object.Notify notifier) = Unit {0}
+  IsSoundLock (object.Channel channel) = Unit {0}
+  IsSoundLock (object.Wakers wakers) = Unit {0}
+  IsSoundLock (object.AtomicWaker place) = Unit {0}
 
   abbrev pub AreSound : List (Object D) → Type 0
   AreSound [] = Unit {0}
@@ -131,6 +134,9 @@ module _ {D : Type 0} where
   sound_exclusive (object.Track track) s = refl
   sound_exclusive (object.Condvar condvar) s = refl
   sound_exclusive (object.Notify notifier) s = refl
+  sound_exclusive (object.Channel channel) s = refl
+  sound_exclusive (object.Wakers wakers) s = refl
+  sound_exclusive (object.AtomicWaker place) s = refl
 
   pub all_exclusive : (objects : List (Object D)) → AreSound objects → list_all is_exclusive objects ≡ true
   all_exclusive [] k = refl

@@ -16,7 +16,7 @@ use Rattle.loom_runs.specs.Histories.{locked_by, returned_by_mutex}
 use Rattle.loom_objects.specs.declared.rt.thread.State.TheVariants.{Runnable, Blocked}
 use Rattle.loom_objects.specs.declared.rt.thread.Task.TheVariants as task
 use Rattle.loom_objects.specs.declared.rt.run.Entry.{Entry}
-use Rattle.loom_objects.specs.declared.rt.run.Entry.TheVariants.{Answered, AtBranch, Spurious as AtSpurious}
+use Rattle.loom_objects.specs.declared.rt.run.Entry.TheVariants.{Answered, AtBranch, Explores, Spurious as AtSpurious}
 use Rattle.loom_runs.proofs.Runs.States.{IsHeldBy, Ready, Taken, freed_at, holds_there, mutex_ready, pending_ready, pends_ready, taken_out}
 use Rattle.loom_runs.proofs.Runs.Ruling.{Entering, Fairly, Keeping, Onward, OnwardBut, Opening, Telling, check_fairly, found_fairly, misuse, mutex_fairly, new_keeping, then_fairly}
 use Rattle.loom_runs.proofs.Runs.Replies.{after, enters}
@@ -116,6 +116,7 @@ module _ {D : Type 0} where
   opening_enters n w (Ok (Answered reply, v)) h = λ out other k. ((h out k).1.0, λ m e. absurd (cc ((h out k).0, e)))
   opening_enters n w (Ok (AtBranch, v)) h = λ out other k. absurd (h out k)
   opening_enters n w (Ok (AtSpurious m, v)) h = λ out other k. absurd (h out k)
+  opening_enters n w (Ok (Explores todo, v)) h = λ out other k. absurd (h out k)
   opening_enters n w (Err kind) h = h
 
   pub mutex_begins_entering : (todo : MutexOp D) (w : World D) → Fairly (Entering (returned_by_mutex todo) w) (mutex_begins todo w)

@@ -24,7 +24,7 @@ module _ {D : Type 0} where
   comes_to_wait_keeping true n notifier w = λ out k. k
   comes_to_wait_keeping false n notifier w = λ out k. pends_ready (task.Await n) (not notifier.notified) refl (set_keeping w n _ tt out k)
 
-  wait_begins_keeping : (n : ℕ) (w : World D) → Keeping w (notifiers.wait_begins n w)
+  pub wait_begins_keeping : (n : ℕ) (w : World D) → Keeping w (notifiers.wait_begins n w)
   wait_begins_keeping n w =
       fair_keeping (a_notifier n w) _ w (notifier_fair n w) (λ notifier. check_keeping (is_for_waits notifier.spurious) Misuse _ w misuse
       (λ e. check_keeping (is_alone w.active notifier) SecondWaiter _ w (λ f. cc) (λ f. comes_to_wait_keeping (may_be_spurious notifier.spurious) n notifier w)))

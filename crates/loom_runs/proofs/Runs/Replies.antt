@@ -1,5 +1,5 @@
 -- Only locks and waits are told the data of a mutex by their replies.
-use Rattle.std.proofs.Common.{◌≡◌, ℕ, Bool, true, false, Option, Some, None, refl}
+use Rattle.std.proofs.Common.{◌≡◌, ℕ, Bool, true, false, List, [], ◌∷◌, Option, Some, None, refl}
 use Rattle.std.specs.Prelude.{◌==◌, Result, Ok, Err, ⊤, is_none, length, nat_lt, not, slice_get, ◌-◌, ◌^◌}
 use Rattle.std.specs.declared.sync.atomic.Ordering.{Ordering}
 use Rattle.loom_views.specs.declared.rt.failure.FailureKind.{FailureKind}
@@ -8,8 +8,19 @@ use Rattle.loom_objects.specs.declared.operation.ArcOp.{ArcOp}
 use Rattle.loom_objects.specs.declared.operation.ArcOp.TheVariants as arc_op
 use Rattle.loom_objects.specs.declared.operation.AtomicOp.{AtomicOp}
 use Rattle.loom_objects.specs.declared.operation.AtomicOp.TheVariants as atomic_op
+use Rattle.loom_objects.specs.declared.operation.AtomicWakerOp.{AtomicWakerOp}
+use Rattle.loom_objects.specs.declared.operation.AtomicWakerOp.TheVariants as place_op
 use Rattle.loom_objects.specs.declared.operation.CellOp.{CellOp}
 use Rattle.loom_objects.specs.declared.operation.CellOp.TheVariants as cell_op
+use Rattle.loom_objects.specs.declared.operation.ChannelOp.{ChannelOp}
+use Rattle.loom_objects.specs.declared.operation.ChannelOp.TheVariants as channel_op
+use Rattle.loom_objects.specs.declared.operation.Keyed.{Keyed}
+use Rattle.loom_objects.specs.declared.operation.Lazy.{Lazy}
+use Rattle.loom_objects.specs.declared.operation.LazyOp.{LazyOp}
+use Rattle.loom_objects.specs.declared.operation.LazyOp.TheVariants as lazy_op
+use Rattle.loom_objects.specs.declared.operation.LocalOp.{LocalOp}
+use Rattle.loom_objects.specs.declared.operation.LocalOp.TheVariants as local_op
+use Rattle.loom_objects.specs.declared.operation.Message.{Message}
 use Rattle.loom_objects.specs.declared.operation.NotifyOp.{NotifyOp}
 use Rattle.loom_objects.specs.declared.operation.NotifyOp.TheVariants as notify_op
 use Rattle.loom_objects.specs.declared.operation.Reply.{Reply}
@@ -20,12 +31,15 @@ use Rattle.loom_objects.specs.declared.operation.ThreadOp.{ThreadOp}
 use Rattle.loom_objects.specs.declared.operation.ThreadOp.TheVariants as thread_op
 use Rattle.loom_objects.specs.declared.operation.TrackOp.{TrackOp}
 use Rattle.loom_objects.specs.declared.operation.TrackOp.TheVariants as track_op
+use Rattle.loom_objects.specs.declared.operation.WakerOp.{WakerOp}
+use Rattle.loom_objects.specs.declared.operation.WakerOp.TheVariants as waker_op
 use Rattle.loom_objects.specs.declared.rt.run.Entry.{Entry}
-use Rattle.loom_objects.specs.declared.rt.run.Entry.TheVariants.{Answered, AtBranch, Spurious as AtSpurious}
+use Rattle.loom_objects.specs.declared.rt.run.Entry.TheVariants.{Answered, AtBranch, Explores, Spurious as AtSpurious}
 use Rattle.loom_objects.specs.declared.rt.run.Passed.{Passed}
 use Rattle.loom_objects.specs.declared.rt.run.Passed.TheVariants as passed
 use Rattle.loom_objects.specs.declared.rt.run.Resumed.{Resumed}
 use Rattle.loom_objects.specs.declared.rt.run.Resumed.TheVariants as resumed
+use Rattle.loom_objects.specs.declared.rt.sync.Channel.{Channel}
 use Rattle.loom_objects.specs.declared.rt.sync.Notify.{Notify}
 use Rattle.loom_views.specs.declared.rt.atomic.Reader.{Reader}
 use Rattle.loom_views.specs.Slots.{slot_set}
@@ -35,29 +49,36 @@ use Rattle.loom_objects.specs.declared.rt.thread.Claim.{Claim}
 use Rattle.loom_objects.specs.declared.rt.thread.Claim.TheVariants.{Read, TryRead, Write, TryWrite}
 use Rattle.loom_objects.specs.declared.rt.thread.Counting.{Counting}
 use Rattle.loom_objects.specs.declared.rt.thread.Counting.TheVariants as counting
+use Rattle.loom_objects.specs.declared.rt.thread.Receiving.{Receiving}
+use Rattle.loom_objects.specs.declared.rt.thread.Receiving.TheVariants as receiving
 use Rattle.loom_objects.specs.declared.rt.thread.Task.{Task}
 use Rattle.loom_objects.specs.declared.rt.thread.Task.TheVariants as task
 use Rattle.loom_objects.specs.declared.rt.thread.Waking.{Waking}
 use Rattle.loom_objects.specs.Atomics.{opens, some_slot, access_begins, atomic_begins, exchanges, fence, reads, store, is_relaxed, swap_of, writes}
 use Rattle.loom_objects.specs.Cells.{cell_begins, exchanges_cells, swap_if, data_left, is_free, is_unread, opens_write, reads_open, records_read, records_write}
+use Rattle.loom_objects.specs.Channels.{by_receiver, by_sender, channel_begins, delivers, drains_if, first_of, fits_behind, none_left, receives, receives_from, sends, tries_recv}
 use Rattle.loom_objects.specs.Condvars.{wake_begins, wakes}
 use Rattle.loom_objects.specs.Counts.{is_free as is_free_arc, arc_begins, comes_to, counts, decrements, drops_last, shared_unless, tries_unwrap, unwraps_if, may_grow, sole_value, with_arc, with_one_fewer}
-use Rattle.loom_objects.specs.Notifiers.{awaits, comes_to_wait, notifier_begins, notifies, wakes_early, is_alone, is_for_waits, may_be_spurious, notify}
+use Rattle.loom_objects.specs.Leaks.{is_none_left}
+use Rattle.loom_objects.specs.Notifiers.{awaits, comes_to_wait, notifier_begins, notifies, wait_begins, wakes_early, is_alone, is_for_waits, may_be_spurious, notify}
 use Rattle.loom_objects.specs.Rule.{◌>>=◌, check, found}
 use Rattle.loom_objects.specs.RwLocks.{claim_begins, claims, is_refused, reads_lock, rwlock_begins, takes_unless, writes_lock, guards_of, unlocked_value}
-use Rattle.loom_objects.specs.Threads.{child_finish, finish_as, join, parks_unless, thread_begins, has_own, is_exited, is_finished, is_working}
+use Rattle.loom_objects.specs.Threads.{child_finish, finish_as, join, parks_unless, thread_begins, has_own, is_exited, is_finished}
 use Rattle.loom_objects.specs.Tracks.{track_begins, track_take}
+use Rattle.loom_objects.specs.Values.{are_open, is_taken, is_working, lazy_at, lazy_begins, local_at, local_begins, local_or, makes_lazy, none_there, puts_local, reads_lazy, reads_local}
+use Rattle.loom_objects.specs.Wakers.{place_begins, some_wakers, waker_begins}
 use Rattle.loom_objects.specs.World.{World}
 use Rattle.loom_runs.specs.Histories.{locked_by, locked_by_turn}
-use Rattle.loom_runs.proofs.Runs.Answering.{Answers, answers_then}
+use Rattle.loom_runs.proofs.Runs.Answering.{Answers, GoesQuietly, answers_then, waker_reply_quiet}
 use Rattle.loom_objects.specs.declared.operation.ArcOp.TheVariants.{Clone, Drop, GetMut, Put, StrongCount, TryUnwrap}
 use Rattle.loom_objects.specs.declared.operation.AtomicOp.TheVariants.{CompareAndSwap, CompareExchange, IntoInner, Load, New, Store, UnsyncLoad, Update, WithMut, WithMutEnd}
 use Rattle.loom_objects.specs.declared.operation.ThreadOp.TheVariants.{Current, End, Exit, Finish, Join, Park, Spawn, Unpark, Yield}
 use Rattle.loom_objects.specs.declared.operation.CellOp.TheVariants.{Deref, Get, ReadEnd, Replace, Swap, WriteEnd}
 use Rattle.loom_objects.specs.declared.rt.thread.Phase.TheVariants.{Finished}
 use Rattle.loom_objects.specs.declared.operation.TrackOp.TheVariants.{GetRef}
-use Rattle.loom_views.specs.declared.rt.failure.FailureKind.TheVariants.{Misuse, OpenAccess, RelaxedFence, SecondWaiter, TooManySteps, TooManyThreads}
-use Rattle.loom_objects.specs.Moves.{a_cell, a_condvar, a_notifier, a_rwlock, a_track, acquires, active_thread, an_arc, an_atomic, at_phase, changes_active, is_number, raises, releases, takes_result, unparks, with_points, yields}
+use Rattle.loom_views.specs.declared.rt.failure.FailureKind.TheVariants.{KeyTaken, LazyShutdown, Misuse, OpenAccess, RelaxedFence, SecondWaiter, TooManySteps, TooManyThreads}
+use Rattle.loom_views.specs.Limits.{highest_count}
+use Rattle.loom_objects.specs.Moves.{a_cell, a_condvar, a_notifier, a_place, a_rwlock, a_track, acquires, active_thread, an_arc, an_atomic, at_phase, changes_active, is_number, raises, releases, takes_result, unparks, with_points, yields}
 use Rattle.loom_objects.specs.Accessed.{accessed}
 use Rattle.loom_objects.specs.Lent.{kept, value_in}
 use Rattle.loom_views.specs.Table.{points_after_load, points_after_spawn, points_after_store, points_after_unsync_load, points_after_update_read, points_after_with_mut, points_after_with_mut_end}
@@ -65,12 +86,17 @@ use Rattle.loom_runs.proofs.Runs.States.{Aim, Ready}
 use Rattle.loom_runs.proofs.Runs.Ruling.{Entering, Fairly, Keeping, PassedTo, Telling}
 use Rattle.loom_objects.specs.Locks.{lock}
 
+none_left_quiet : (D : Type 0) (by : Receiving) → locked_by {D = D} (none_left by) ≡ None
+none_left_quiet D receiving.Recv = refl
+none_left_quiet D receiving.TryRecv = refl
+
 module _ {D : Type 0} where
-  -- what is answered is no data of a mutex
+  -- what is answered is no data of a mutex, and the search isn't switched
   abbrev pub Quiet : Entry D × World D → Type 0
   Quiet (Answered reply, w) = locked_by reply ≡ None
   Quiet (AtBranch, w) = Unit {0}
   Quiet (AtSpurious n, w) = Unit {0}
+  Quiet (Explores todo, w) = ⊥
 
   abbrev pub Unlocked : Reply D × World D → Type 0
   Unlocked (reply, w) = locked_by reply ≡ None
@@ -83,6 +109,7 @@ module _ {D : Type 0} where
   enters w returned (Ok (Answered reply, v)) kept quiet = λ out other k. (kept out k, λ n e. absurd (cc (quiet, e)))
   enters w returned (Ok (AtBranch, v)) kept quiet = λ out other k. (kept out k).kept
   enters w returned (Ok (AtSpurious n, v)) kept quiet = λ out other k. kept out k
+  enters w returned (Ok (Explores todo, v)) kept quiet = absurd quiet
   enters w returned (Err kind) kept quiet = kept
 
   pub tells : (w : World D) (r : Result (Reply D × World D) FailureKind) → Keeping w r → Answers Unlocked r → Fairly (Telling w) r
@@ -192,6 +219,76 @@ module _ {D : Type 0} where
   notifier_quiet (notify_op.Notify n) w = after (a_notifier n w) _ (λ notifier. after (check (is_for_waits notifier.spurious) Misuse) _ (λ u. tt))
   notifier_quiet (notify_op.Wait n) w = after (a_notifier n w) _ (λ notifier. after (check (is_for_waits notifier.spurious) Misuse) _ (λ u. after (check (is_alone w.active notifier) SecondWaiter) _ (λ v. waits_quiet (may_be_spurious notifier.spurious) n notifier w)))
 
+  tries_recv_quiet : (is_empty : Bool) (n : ℕ) (w : World D) → Answers Quiet (tries_recv is_empty n w)
+  tries_recv_quiet true n w = refl
+  tries_recv_quiet false n w = tt
+
+  drains_if_quiet : (is_some_left : Bool) (channel : Channel D) (n : ℕ) (w : World D) → Answers Quiet (drains_if is_some_left channel n w)
+  drains_if_quiet true channel n w = tt
+  drains_if_quiet false channel n w = refl
+
+  pub channel_quiet : (todo : ChannelOp D) (w : World D) → Answers Quiet (channel_begins todo w)
+  channel_quiet channel_op.New w = refl
+  channel_quiet (channel_op.Send n value) w = after (by_sender n w) _ (λ channel. tt)
+  channel_quiet (channel_op.Recv n) w = after (by_receiver n w) _ (λ channel. tt)
+  channel_quiet (channel_op.TryRecv n) w = after (by_receiver n w) _ (λ channel. tries_recv_quiet (is_none_left channel.messages) n w)
+  channel_quiet (channel_op.CloneSender n) w = after (by_sender n w) _ (λ channel. after (check (nat_lt channel.senders highest_count) TooManySteps) _ (λ u. refl))
+  channel_quiet (channel_op.DropSender n) w = after (by_sender n w) _ (λ channel. refl)
+  channel_quiet (channel_op.DropReceiver n) w = after (by_receiver n w) _ (λ channel. drains_if_quiet (nat_lt 0 (length channel.messages)) channel n w)
+
+  wait_quiet : (n : ℕ) (w : World D) → Answers Quiet (wait_begins n w)
+  wait_quiet n w = notifier_quiet (notify_op.Wait n) w
+
+  pub waker_quiet : (todo : WakerOp) (w : World D) → Answers Quiet (waker_begins todo w)
+  waker_quiet waker_op.New w = refl
+  waker_quiet (waker_op.Wait c) w = after (some_wakers c w) _ (λ wakers. wait_quiet wakers.notifier w)
+  waker_quiet (waker_op.Finish c) w = after (some_wakers c w) _ (λ wakers. tt)
+  waker_quiet (waker_op.Clone c) w = after (some_wakers c w) _ (λ wakers. tt)
+  waker_quiet (waker_op.Wake c) w = after (some_wakers c w) _ (λ wakers. tt)
+  waker_quiet (waker_op.WakeByRef c) w = after (some_wakers c w) _ (λ wakers. tt)
+  waker_quiet (waker_op.Drop c) w = after (some_wakers c w) _ (λ wakers. tt)
+
+  pub place_quiet : (todo : AtomicWakerOp) (w : World D) → Answers Quiet (place_begins todo w)
+  place_quiet place_op.New w = refl
+  place_quiet (place_op.Register p c) w = after (a_place p w) _ (λ place. after (some_wakers c w) _ (λ wakers. tt))
+  place_quiet (place_op.RegisterByRef p c) w = after (a_place p w) _ (λ place. after (some_wakers c w) _ (λ wakers. tt))
+  place_quiet (place_op.Wake p) w = after (a_place p w) _ (λ place. tt)
+  place_quiet (place_op.TakeWaker p) w = after (a_place p w) _ (λ place. tt)
+  place_quiet (place_op.Drop p) w = after (a_place p w) _ (λ place. waker_reply_quiet D place.waker)
+
+  none_there_quiet : (gone : Result (Entry D × World D) FailureKind) (was_there : Bool) (w : World D) → Answers Quiet gone → Answers Quiet (none_there gone was_there w)
+  none_there_quiet gone true w h = h
+  none_there_quiet gone false w h = refl
+
+  reads_local_quiet : (gone : Result (Entry D × World D) FailureKind) (was_there : Bool) (local : Option (Keyed D)) (w : World D) → Answers Quiet gone → Answers Quiet (reads_local gone was_there local w)
+  reads_local_quiet gone was_there None w h = none_there_quiet gone was_there w h
+  reads_local_quiet gone was_there (Some local) w h = refl
+
+  local_or_quiet : (gone : Result (Entry D × World D) FailureKind) (key : ℕ) (w : World D) → Answers Quiet gone → Answers Quiet (local_or gone key w)
+  local_or_quiet gone key w h = after (active_thread w) _ (λ thread. reads_local_quiet gone (is_taken key thread) (local_at key thread) w h)
+
+  puts_local_quiet : (key : ℕ) (value : D) (local : Option (Keyed D)) (w : World D) → Answers Quiet (puts_local key value local w)
+  puts_local_quiet key value None w = tt
+  puts_local_quiet key value (Some local) w = refl
+
+  pub local_quiet : (todo : LocalOp D) (w : World D) → Answers Quiet (local_begins todo w)
+  local_quiet (local_op.With key) w = local_or_quiet _ key w tt
+  local_quiet (local_op.TryWith key) w = local_or_quiet _ key w refl
+  local_quiet (local_op.Init key value) w = after (active_thread w) _ (λ thread. after (check (not (is_taken key thread)) KeyTaken) _ (λ u. refl))
+  local_quiet (local_op.Put key value) w = after (active_thread w) _ (λ thread. puts_local_quiet key value (local_at key thread) w)
+
+  reads_lazy_quiet : (lazy : Option (Lazy D)) (w : World D) → Answers Quiet (reads_lazy lazy w)
+  reads_lazy_quiet None w = refl
+  reads_lazy_quiet (Some lazy) w = refl
+
+  makes_lazy_quiet : (key : ℕ) (value : D) (lazy : Option (Lazy D)) (w : World D) → Answers Quiet (makes_lazy key value lazy w)
+  makes_lazy_quiet key value None w = refl
+  makes_lazy_quiet key value (Some lazy) w = refl
+
+  pub lazy_quiet : (todo : LazyOp D) (w : World D) → Answers Quiet (lazy_begins todo w)
+  lazy_quiet (lazy_op.Get key) w = after (check (are_open w) LazyShutdown) _ (λ u. reads_lazy_quiet (lazy_at key w) w)
+  lazy_quiet (lazy_op.Init key value) w = after (check (are_open w) LazyShutdown) _ (λ u. makes_lazy_quiet key value (lazy_at key w) w)
+
   finish_quiet : (notifier : Option ℕ) (value : D) (w : World D) → Answers Quiet (finish_as notifier value w)
   finish_quiet None value w = refl
   finish_quiet (Some n) value w = tt
@@ -285,6 +382,28 @@ module _ {D : Type 0} where
 
   pub child_finish_quiet : (n : ℕ) (value : D) (w : World D) → Answers Unlocked (child_finish n value w)
   child_finish_quiet n value w = next (notify n w) _ (λ after. refl)
+
+  delivers_quiet : (has_receiver : Bool) (channel : Channel D) (n : ℕ) (sent : List (Message D)) (message : Message D) (w : World D) → Answers Unlocked (delivers has_receiver channel n sent message w)
+  delivers_quiet false channel n sent message w = next (found (first_of message.value) Misuse) _ (λ value. refl)
+  delivers_quiet true channel n sent message w = next (check (fits_behind channel.messages sent) TooManySteps) _ (λ u. refl)
+
+  pub sends_quiet : (n : ℕ) (sent : List (Message D)) (w : World D) → Answers Unlocked (sends n sent w)
+  sends_quiet n sent w = next (by_sender n w) _ (λ channel. next (found (first_of sent) Misuse) _ (λ message. delivers_quiet channel.has_receiver channel n sent message w))
+
+  receives_from_quiet : (by : Receiving) (n : ℕ) (channel : Channel D) (messages : List (Message D)) (w : World D) → Answers Unlocked (receives_from by n channel messages w)
+  receives_from_quiet by n channel [] w = none_left_quiet D by
+  receives_from_quiet by n channel (message ∷ rest) w = next (found (first_of message.value) Misuse) _ (λ value. refl)
+
+  pub receives_quiet : (by : Receiving) (n : ℕ) (w : World D) → Answers Unlocked (receives by n w)
+  receives_quiet by n w = next (by_receiver n w) _ (λ channel. receives_from_quiet by n channel channel.messages w)
+
+  -- what goes on quietly gives no data of a mutex out
+  pub passes_quietly : (r : Result (Passed D × World D) FailureKind) → Answers GoesQuietly r → Answers QuietPass r
+  passes_quietly (Ok (passed.Turn (turn.Reply t reply), w)) h = h.1
+  passes_quietly (Ok (passed.Turn (turn.Start t), w)) h = absurd h
+  passes_quietly (Ok (passed.Turn (turn.Ended value), w)) h = absurd h
+  passes_quietly (Ok (passed.AtBranch, w)) h = tt
+  passes_quietly (Err kind) h = tt
 
   unwraps_quiet : (is_alone : Bool) (n : ℕ) (w : World D) → Answers QuietPass (unwraps_if is_alone n w)
   unwraps_quiet true n w = tt

@@ -9,13 +9,13 @@ use Rattle.loom_objects.specs.declared.rt.object.Object.TheVariants as object
 use Rattle.loom_objects.specs.declared.rt.sync.Mutex.{Mutex}
 use Rattle.loom_objects.specs.declared.rt.sync.RwLock.{RwLock}
 use Rattle.loom_objects.specs.declared.rt.run.Entry.{Entry}
-use Rattle.loom_objects.specs.declared.rt.run.Entry.TheVariants.{Answered, AtBranch, Spurious as AtSpurious}
+use Rattle.loom_objects.specs.declared.rt.run.Entry.TheVariants.{Answered, AtBranch, Explores, Spurious as AtSpurious}
 use Rattle.loom_objects.specs.declared.rt.run.Passed.{Passed}
 use Rattle.loom_objects.specs.declared.rt.run.Passed.TheVariants as passed
 use Rattle.loom_objects.specs.declared.rt.run.Resumed.{Resumed}
 use Rattle.loom_objects.specs.declared.rt.run.Resumed.TheVariants as resumed
-use Rattle.loom_objects.specs.Lookup.{looked_up, atomic_in, mutex_in, rwlock_in, condvar_in, notifier_in, cell_in, arc_in, track_in}
-use Rattle.loom_objects.specs.Moves.{a_mutex, a_rwlock, an_atomic, a_condvar, a_notifier, a_cell, an_arc, a_track, with_new, with_object}
+use Rattle.loom_objects.specs.Lookup.{looked_up, atomic_in, mutex_in, rwlock_in, condvar_in, notifier_in, cell_in, arc_in, track_in, channel_in, wakers_in, place_in}
+use Rattle.loom_objects.specs.Moves.{a_mutex, a_rwlock, an_atomic, a_condvar, a_notifier, a_cell, an_arc, a_track, a_channel, a_wakers, a_place, with_new, with_object}
 use Rattle.loom_objects.specs.Rule.{◌>>=◌, check, found}
 use Rattle.loom_objects.specs.World.{World}
 use Rattle.loom_runs.specs.Histories.{locked_by}
@@ -73,11 +73,12 @@ module _ {D : Type 0} where
   abbrev pub Telling : World D → Reply D × World D → Type 0
   Telling w answered = (out : Aim) → Ready out w → Told out answered
 
-  -- what the active thread is told where it has no branch point, or the state in which it comes to one
+  -- what the active thread is told where it has no branch point, or the state in which it comes to one or switches the search
   abbrev pub Entered : Aim → Entry D × World D → Type 0
   Entered out (Answered reply, w) = Told out (reply, w)
   Entered out (AtBranch, w) = Kept out w
   Entered out (AtSpurious n, w) = Ready out w
+  Entered out (Explores todo, w) = Ready out w
 
   -- from a state where it hands an operation over, unless that gives back the mutex that is followed
   abbrev pub Entering : Option ℕ → World D → Entry D × World D → Type 0
@@ -88,6 +89,7 @@ module _ {D : Type 0} where
   Opened out n (Answered reply, w) = (locked_by reply ≡ None) × (Ready out w × Taken out n w)
   Opened out n (AtBranch, w) = ⊥
   Opened out n (AtSpurious m, w) = ⊥
+  Opened out n (Explores todo, w) = ⊥
 
   abbrev pub Opening : ℕ → World D → Entry D × World D → Type 0
   Opening n w answered = (out : Aim) → Ready out w → Opened out n answered
@@ -161,6 +163,9 @@ module _ {D : Type 0} where
       by_object (Some (object.Cell cell)) = misuse
       by_object (Some (object.Arc arc)) = misuse
       by_object (Some (object.Track track)) = misuse
+      by_object (Some (object.Channel channel)) = misuse
+      by_object (Some (object.Wakers wakers)) = misuse
+      by_object (Some (object.AtomicWaker place)) = misuse
 
   pub condvar_fair : (n : ℕ) (w : World D) → IsFairResult (a_condvar n w)
   condvar_fair n w = by_object (slice_get w.objects n)
@@ -175,6 +180,9 @@ module _ {D : Type 0} where
       by_object (Some (object.Cell cell)) = misuse
       by_object (Some (object.Arc arc)) = misuse
       by_object (Some (object.Track track)) = misuse
+      by_object (Some (object.Channel channel)) = misuse
+      by_object (Some (object.Wakers wakers)) = misuse
+      by_object (Some (object.AtomicWaker place)) = misuse
 
   pub notifier_fair : (n : ℕ) (w : World D) → IsFairResult (a_notifier n w)
   notifier_fair n w = by_object (slice_get w.objects n)
@@ -189,6 +197,9 @@ module _ {D : Type 0} where
       by_object (Some (object.Cell cell)) = misuse
       by_object (Some (object.Arc arc)) = misuse
       by_object (Some (object.Track track)) = misuse
+      by_object (Some (object.Channel channel)) = misuse
+      by_object (Some (object.Wakers wakers)) = misuse
+      by_object (Some (object.AtomicWaker place)) = misuse
 
   pub cell_fair : (n : ℕ) (w : World D) → IsFairResult (a_cell n w)
   cell_fair n w = by_object (slice_get w.objects n)
@@ -203,6 +214,9 @@ module _ {D : Type 0} where
       by_object (Some (object.Notify notifier)) = misuse
       by_object (Some (object.Arc arc)) = misuse
       by_object (Some (object.Track track)) = misuse
+      by_object (Some (object.Channel channel)) = misuse
+      by_object (Some (object.Wakers wakers)) = misuse
+      by_object (Some (object.AtomicWaker place)) = misuse
 
   pub arc_fair : (n : ℕ) (w : World D) → IsFairResult (an_arc n w)
   arc_fair n w = by_object (slice_get w.objects n)
@@ -217,6 +231,9 @@ module _ {D : Type 0} where
       by_object (Some (object.Notify notifier)) = misuse
       by_object (Some (object.Cell cell)) = misuse
       by_object (Some (object.Track track)) = misuse
+      by_object (Some (object.Channel channel)) = misuse
+      by_object (Some (object.Wakers wakers)) = misuse
+      by_object (Some (object.AtomicWaker place)) = misuse
 
   pub track_fair : (n : ℕ) (w : World D) → IsFairResult (a_track n w)
   track_fair n w = by_object (slice_get w.objects n)
@@ -231,6 +248,60 @@ module _ {D : Type 0} where
       by_object (Some (object.Notify notifier)) = misuse
       by_object (Some (object.Cell cell)) = misuse
       by_object (Some (object.Arc arc)) = misuse
+      by_object (Some (object.Channel channel)) = misuse
+      by_object (Some (object.Wakers wakers)) = misuse
+      by_object (Some (object.AtomicWaker place)) = misuse
+
+  pub channel_fair : (n : ℕ) (w : World D) → IsFairResult (a_channel n w)
+  channel_fair n w = by_object (slice_get w.objects n)
+    where
+      by_object : (o : Option (Object D)) → IsFairResult (looked_up channel_in o)
+      by_object None = misuse
+      by_object (Some (object.Atomic atomic)) = misuse
+      by_object (Some (object.Mutex mutex)) = misuse
+      by_object (Some (object.RwLock lock)) = misuse
+      by_object (Some (object.Condvar condvar)) = misuse
+      by_object (Some (object.Notify notifier)) = misuse
+      by_object (Some (object.Cell cell)) = misuse
+      by_object (Some (object.Arc arc)) = misuse
+      by_object (Some (object.Track track)) = misuse
+      by_object (Some (object.Channel channel)) = tt
+      by_object (Some (object.Wakers wakers)) = misuse
+      by_object (Some (object.AtomicWaker place)) = misuse
+
+  pub wakers_fair : (n : ℕ) (w : World D) → IsFairResult (a_wakers n w)
+  wakers_fair n w = by_object (slice_get w.objects n)
+    where
+      by_object : (o : Option (Object D)) → IsFairResult (looked_up wakers_in o)
+      by_object None = misuse
+      by_object (Some (object.Atomic atomic)) = misuse
+      by_object (Some (object.Mutex mutex)) = misuse
+      by_object (Some (object.RwLock lock)) = misuse
+      by_object (Some (object.Condvar condvar)) = misuse
+      by_object (Some (object.Notify notifier)) = misuse
+      by_object (Some (object.Cell cell)) = misuse
+      by_object (Some (object.Arc arc)) = misuse
+      by_object (Some (object.Track track)) = misuse
+      by_object (Some (object.Channel channel)) = misuse
+      by_object (Some (object.Wakers wakers)) = tt
+      by_object (Some (object.AtomicWaker place)) = misuse
+
+  pub place_fair : (n : ℕ) (w : World D) → IsFairResult (a_place n w)
+  place_fair n w = by_object (slice_get w.objects n)
+    where
+      by_object : (o : Option (Object D)) → IsFairResult (looked_up place_in o)
+      by_object None = misuse
+      by_object (Some (object.Atomic atomic)) = misuse
+      by_object (Some (object.Mutex mutex)) = misuse
+      by_object (Some (object.RwLock lock)) = misuse
+      by_object (Some (object.Condvar condvar)) = misuse
+      by_object (Some (object.Notify notifier)) = misuse
+      by_object (Some (object.Cell cell)) = misuse
+      by_object (Some (object.Arc arc)) = misuse
+      by_object (Some (object.Track track)) = misuse
+      by_object (Some (object.Channel channel)) = misuse
+      by_object (Some (object.Wakers wakers)) = misuse
+      by_object (Some (object.AtomicWaker place)) = tt
 
   -- the mutex of this number stands there, and is a sound one
   pub mutex_fairly : {A : Type 0} (P : A → Type 0) (n : ℕ) (w : World D) (next : Mutex D → Result A FailureKind)
@@ -251,6 +322,9 @@ module _ {D : Type 0} where
       by_object (Some (object.Cell cell)) e s = misuse
       by_object (Some (object.Arc arc)) e s = misuse
       by_object (Some (object.Track track)) e s = misuse
+      by_object (Some (object.Channel channel)) e s = misuse
+      by_object (Some (object.Wakers wakers)) e s = misuse
+      by_object (Some (object.AtomicWaker place)) e s = misuse
 
   -- the same of a read-write lock
   pub rwlock_keeping : {A : Type 0} (n : ℕ) (w : World D) (next : RwLock D → Result (A × World D) FailureKind)
@@ -271,6 +345,9 @@ module _ {D : Type 0} where
       by_object (Some (object.Cell cell)) s = misuse
       by_object (Some (object.Arc arc)) s = misuse
       by_object (Some (object.Track track)) s = misuse
+      by_object (Some (object.Channel channel)) s = misuse
+      by_object (Some (object.Wakers wakers)) s = misuse
+      by_object (Some (object.AtomicWaker place)) s = misuse
 
   -- an object that is no mutex, and a new object
   pub set_keeping : (w : World D) (n : ℕ) (x : Object D) → IsSettled x → (out : Aim) → Ready out w → Ready out (with_object n x w)

@@ -12,7 +12,7 @@ use Rattle.loom_objects.specs.declared.rt.thread.State.{State}
 use Rattle.loom_objects.specs.declared.rt.thread.Task.{Task}
 use Rattle.loom_objects.specs.declared.rt.thread.Task.TheVariants as task
 use Rattle.loom_objects.specs.declared.rt.thread.Thread.{Thread}
-use Rattle.loom_objects.specs.Moves.{changed_at, with_thread, pending, resting, pending_with, writing_with, is_number, pends, target, with_active, written}
+use Rattle.loom_objects.specs.Moves.{changed_at, with_thread, pending, resting, pending_with, receiving_with, writing_with, is_number, pends, received_from, target, with_active, written}
 use Rattle.loom_objects.specs.Locks.{free_value, with_mutex}
 use Rattle.loom_objects.specs.Schedules.{all_run, runs_again}
 use Rattle.loom_objects.specs.World.{World}
@@ -50,6 +50,14 @@ module _ {D : Type 0} where
   freed_by (task.TryUnwrap n) = None
   freed_by (task.Join t n) = None
   freed_by (task.Finish n value) = None
+  freed_by (task.Send n sent) = None
+  freed_by (task.Receive receiving n) = None
+  freed_by (task.Drain n taken) = None
+  freed_by (task.WakeBy n c after) = None
+  freed_by (task.CloneWaker c place) = None
+  freed_by (task.DropWaker c after) = None
+  freed_by (task.Register p c) = None
+  freed_by (task.TakeWaker taking p) = None
 
   abbrev pub freed_at : Option (Thread D) → Option ℕ
   freed_at None = None
@@ -66,6 +74,9 @@ module _ {D : Type 0} where
   MutexAt P (Some (object.Track track)) = Unit {0}
   MutexAt P (Some (object.Condvar condvar)) = Unit {0}
   MutexAt P (Some (object.Notify notifier)) = Unit {0}
+  MutexAt P (Some (object.Channel channel)) = Unit {0}
+  MutexAt P (Some (object.Wakers wakers)) = Unit {0}
+  MutexAt P (Some (object.AtomicWaker place)) = Unit {0}
 
   abbrev pub IsHeldBy : ℕ → Mutex D → Type 0
   IsHeldBy t mutex = mutex.holder ≡ Some t
@@ -192,6 +203,11 @@ module _ {D : Type 0} where
   writing_ready {threads = threads} n state k =
       ready_by_threads _ (map_anew (writing_with n state) threads (λ thread m e. state_off (is_number (written thread.task) n) state thread m e)) k
 
+  pub receiving_ready : {out : Aim} {objects : List (Object D)} {threads : List (Thread D)} {active : ℕ} (n : ℕ) (state : State)
+      → IsReady out objects threads active → IsReady out objects (map (receiving_with n state) threads) active
+  receiving_ready {threads = threads} n state k =
+      ready_by_threads _ (map_anew (receiving_with n state) threads (λ thread m e. state_off (is_number (received_from thread.task) n) state thread m e)) k
+
   -- the active thread is about to wait, and holds a mutex that isn't followed
   pub waits_kept : (out : Aim) (m : ℕ) (todo : Task D) (is_blocked : Bool) (w : World D) → freed_by todo ≡ Some m → (out ≡ Out m → ⊥) → MutexAt (IsHeldBy w.active) (slice_get w.objects m)
       → Ready out w → Kept out (pends todo is_blocked w)
@@ -239,6 +255,9 @@ module _ {D : Type 0} where
   IsSettled (object.Track track) = Unit {0}
   IsSettled (object.Condvar condvar) = Unit {0}
   IsSettled (object.Notify notifier) = Unit {0}
+  IsSettled (object.Channel channel) = Unit {0}
+  IsSettled (object.Wakers wakers) = Unit {0}
+  IsSettled (object.AtomicWaker place) = Unit {0}
 
   settled_sound : (x : Object D) → IsSettled x → IsSoundLock x
   settled_sound (object.Mutex mutex) s = absurd s
@@ -249,6 +268,9 @@ module _ {D : Type 0} where
   settled_sound (object.Track track) s = tt
   settled_sound (object.Condvar condvar) s = tt
   settled_sound (object.Notify notifier) s = tt
+  settled_sound (object.Channel channel) s = tt
+  settled_sound (object.Wakers wakers) s = tt
+  settled_sound (object.AtomicWaker place) s = tt
 
   settled_at : (P : Mutex D → Type 0) (x : Object D) → IsSettled x → MutexAt P (Some x)
   settled_at P (object.Mutex mutex) s = absurd s
@@ -259,6 +281,9 @@ module _ {D : Type 0} where
   settled_at P (object.Track track) s = tt
   settled_at P (object.Condvar condvar) s = tt
   settled_at P (object.Notify notifier) s = tt
+  settled_at P (object.Channel channel) s = tt
+  settled_at P (object.Wakers wakers) s = tt
+  settled_at P (object.AtomicWaker place) s = tt
 
   -- of the mutex that stands there
   pub holds_there : (P : Mutex D → Type 0) (objects : List (Object D)) (n : ℕ) (mutex : Mutex D) → slice_get objects n ≡ Some (object.Mutex mutex) → MutexAt P (slice_get objects n) → P mutex

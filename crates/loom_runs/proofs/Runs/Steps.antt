@@ -1,15 +1,19 @@
 -- Each operation that is handed over is an event, in each state of the machine.
-use Rattle.std.proofs.Common.{◌≤◌, ℕ, zero, suc, List, [], ◌∷◌, length, Option, Some, None, arith, refl}
+use Rattle.std.proofs.Common.{◌≤◌, ℕ, zero, suc, Bool, List, [], ◌∷◌, length, Option, Some, None, arith}
 use Rattle.std.specs.Prelude.{Result, Ok, Err, ⊤}
 use Rattle.loom_views.specs.declared.rt.failure.FailureKind.{FailureKind}
-use Rattle.loom_views.specs.declared.rt.failure.FailureKind.TheVariants.{Deadlock, Misuse}
+use Rattle.loom_views.specs.declared.rt.failure.FailureKind.TheVariants.{Deadlock, ExploreSwitch, Misuse}
 use Rattle.loom_objects.specs.declared.choice.Choice.{Choice}
 use Rattle.loom_objects.specs.declared.choice.Choice.TheVariants as choice
+use Rattle.loom_objects.specs.declared.operation.ExploreOp.{ExploreOp}
+use Rattle.loom_objects.specs.declared.operation.ExploreOp.TheVariants as explore_op
 use Rattle.loom_objects.specs.declared.operation.Op.{Op}
 use Rattle.loom_objects.specs.declared.operation.Reply.{Reply}
 use Rattle.loom_objects.specs.declared.operation.Turn.{Turn}
+use Rattle.loom_objects.specs.declared.rt.exploring.Exploring.{Exploring}
+use Rattle.loom_objects.specs.declared.rt.exploring.Exploring.TheVariants.{On, Off, Skipping}
 use Rattle.loom_objects.specs.declared.rt.run.Entry.{Entry}
-use Rattle.loom_objects.specs.declared.rt.run.Entry.TheVariants.{Answered, AtBranch, Spurious as AtSpurious}
+use Rattle.loom_objects.specs.declared.rt.run.Entry.TheVariants.{Answered, AtBranch, Explores, Spurious as AtSpurious}
 use Rattle.loom_objects.specs.declared.rt.run.Loading.{Loading}
 use Rattle.loom_objects.specs.declared.rt.run.Passed.{Passed}
 use Rattle.loom_objects.specs.declared.rt.run.Passed.TheVariants as passed
@@ -18,6 +22,7 @@ use Rattle.loom_objects.specs.declared.rt.run.Resumed.TheVariants as resumed
 use Rattle.loom_objects.specs.Atomics.{reads}
 use Rattle.loom_objects.specs.Effects.{chosen, counted}
 use Rattle.loom_objects.specs.Ending.{all_ended, end_of}
+use Rattle.loom_objects.specs.Exploring.{is_on, switched}
 use Rattle.loom_objects.specs.Notifiers.{enters_wait as entered}
 use Rattle.loom_objects.specs.Question.{Among, made_of, slots}
 use Rattle.loom_objects.specs.Schedules.{offers}
@@ -26,7 +31,7 @@ use Rattle.loom_objects.specs.Tree.{Tree, ◌>>=◌, came}
 use Rattle.loom_objects.specs.World.{World}
 use Rattle.loom_objects.specs.Asked.{which_thread}
 use Rattle.loom_runs.specs.Courses.{Course, carried, grown_from, one_passed, unordered_in}
-use Rattle.loom_runs.specs.Machine.{chooses, closes as closes_run, further, further_branches, goes_by, goes_on, passes, schedule, submit, waits}
+use Rattle.loom_runs.specs.Machine.{chooses, closes as closes_run, further, further_branches, goes_by, goes_on, passes, schedule, submit, switches, waits}
 use Rattle.loom_runs.proofs.Runs.Answering.{Answers, ResumesOn, anything, chosen_goes, end_over}
 use Rattle.loom_runs.proofs.Runs.Atomics.{reads_keeping}
 use Rattle.loom_runs.proofs.Runs.Carrying.{accesses_event, carried_event, carried_settles}
@@ -41,6 +46,16 @@ use Rattle.loom_runs.proofs.Runs.Ruling.{Entering, Fairly, Onward, misuse}
 came_settles : {A : Type 0} {P : A → Type 0} (Q : A → Type 0) (r : Result A FailureKind) → Fairly Q r → Answers P r → Settles P (came r)
 came_settles Q (Ok answered) kept h = settles_at answered h
 came_settles Q (Err kind) fair h = fails_by_itself kind fair
+
+-- a switch that would change nothing is a failure of its own
+switched_settles : (todo : ExploreOp) (exploring : Exploring) → Settles Anything (came (switched todo exploring))
+switched_settles explore_op.Explore On = fails_by_itself ExploreSwitch (λ e. cc)
+switched_settles explore_op.Explore Off = settles_at On tt
+switched_settles explore_op.Explore Skipping = settles_at Skipping tt
+switched_settles explore_op.StopExploring On = settles_at Off tt
+switched_settles explore_op.StopExploring Off = fails_by_itself ExploreSwitch (λ e. cc)
+switched_settles explore_op.StopExploring Skipping = settles_at Skipping tt
+switched_settles explore_op.SkipBranch exploring = settles_at Skipping tt
 
 module _ {D : Type 0} where
   -- ---- accesses
@@ -65,17 +80,17 @@ module _ {D : Type 0} where
   slot_open load w (choice.Thread t) = tt
   slot_open load w (choice.Spurious answer) = tt
 
-  asks_pass : (load : Loading) (w : World D) (numbers : List ℕ) → length numbers ≤ 7 → IsPass (asks_slot numbers >>= (λ slot. read_slot load w slot >>= turned))
-  asks_pass load w [] few = fails Misuse misuse
-  asks_pass load w (lowest ∷ others) few =
-      asks _ _ (omega arith) refl (λ o h. slot_passes load w o (options_are_loads (lowest ∷ others) o h)) (slot_open load w)
+  asks_pass : (exploring : Bool) (load : Loading) (w : World D) (numbers : List ℕ) → length numbers ≤ 7 → IsPass (asks_slot exploring numbers >>= (λ slot. read_slot load w slot >>= turned))
+  asks_pass exploring load w [] few = fails Misuse misuse
+  asks_pass exploring load w (lowest ∷ others) few =
+      asks _ _ (omega arith) (λ o h. slot_passes load w o (options_are_loads (lowest ∷ others) o h)) (slot_open load w)
 
-  asked_pass : (answered : Resumed D × World D) → ResumesOn answered → IsPass (asked answered)
-  asked_pass (resumed.Passed passed, w) going = goes (passed, w) going
-  asked_pass (resumed.Load load, w) seven = let few = slots_few load.readable 0 in asks_pass load w (slots load.readable) (omega arith)
+  asked_pass : (exploring : Bool) (answered : Resumed D × World D) → ResumesOn answered → IsPass (asked exploring answered)
+  asked_pass exploring (resumed.Passed passed, w) going = goes (passed, w) going
+  asked_pass exploring (resumed.Load load, w) seven = let few = slots_few load.readable 0 in asks_pass exploring load w (slots load.readable) (omega arith)
 
-  resumes_event : (t : ℕ) (w : World D) → IsPass (resumes t w)
-  resumes_event t w = then_event {Q = ResumesOn} (came (chosen t w)) asked (came_settles (Choosing w) (chosen t w) (chosen_choosing t w) (chosen_goes t w)) asked_pass
+  resumes_event : (exploring : Bool) (t : ℕ) (w : World D) → IsPass (resumes exploring t w)
+  resumes_event exploring t w = then_event {Q = ResumesOn} (came (chosen t w)) (asked exploring) (came_settles (Choosing w) (chosen t w) (chosen_choosing t w) (chosen_goes t w)) (asked_pass exploring)
 
   ends_settles : (w : World D) → Settles IsOver (ends w)
   ends_settles w = came_settles (Ending w) (end_of w) (end_ending w) (end_over w)
@@ -86,16 +101,16 @@ module _ {D : Type 0} where
   closes_event c = check_event (all_ended c.world) Deadlock _ (λ e. cc) (closes _ (carried_settles c (ends c.world) (ends_settles c.world)))
 
   goes_by_event : (t : ℕ) (c : Course D) → IsPass (goes_by t c)
-  goes_by_event t c = carried_event (one_passed c) (resumes t c.world) (resumes_event t c.world)
+  goes_by_event t c = carried_event (one_passed c) (resumes (is_on c.exploring) t c.world) (resumes_event (is_on c.exploring) t c.world)
 
   chosen_event : (c : Course D) (o : Option ℕ) → IsPass (chooses c (choice.Thread o))
   chosen_event c (Some t) = accesses_event t c (goes_by t) (λ order. goes_by_event t (record c { order = order }))
   chosen_event c None = turned_pass _ (closes_event (one_passed c))
 
-  option_event : (c : Course D) (o : Choice) → Among o (made_of (which_thread (offers c.world) (unordered_in c))).options → IsPass (chooses c o)
+  option_event : (c : Course D) (o : Choice) → Among o (made_of (which_thread (is_on c.exploring) (offers c.world) (unordered_in c))).options → IsPass (chooses c o)
   option_event c (choice.Thread o) h = chosen_event c o
-  option_event c (choice.Load slot) h = absurd (options_are_threads (offers c.world) (unordered_in c) (choice.Load slot) h)
-  option_event c (choice.Spurious answer) h = absurd (options_are_threads (offers c.world) (unordered_in c) (choice.Spurious answer) h)
+  option_event c (choice.Load slot) h = absurd (options_are_threads (is_on c.exploring) (offers c.world) (unordered_in c) (choice.Load slot) h)
+  option_event c (choice.Spurious answer) h = absurd (options_are_threads (is_on c.exploring) (offers c.world) (unordered_in c) (choice.Spurious answer) h)
 
   choice_open : (c : Course D) (o : Choice) → StaysOpen GoesOn (chooses c o)
   choice_open c (choice.Thread o) = event_open _ (chosen_event c o)
@@ -103,7 +118,7 @@ module _ {D : Type 0} where
   choice_open c (choice.Spurious answer) = tt
 
   passes_event : (c : Course D) → IsPass (passes c)
-  passes_event c = asks _ _ (offers_ask c.world (unordered_in c)) refl (option_event c) (choice_open c)
+  passes_event c = asks _ _ (offers_ask (is_on c.exploring) c.world (unordered_in c)) (option_event c) (choice_open c)
 
   module _ (again : Course D → Tree (Turn D × Course D)) where
     further_over : (after : Passed D × Course D) → HasEnded after → Settles IsOver (further again after)
@@ -134,10 +149,14 @@ module _ {D : Type 0} where
   waits_open n c (choice.Thread t) = tt
   waits_open n c (choice.Load slot) = tt
 
+  switches_event : (todo : ExploreOp) (c : Course D) → IsEvent (switches todo c)
+  switches_event todo c = then_event {Q = Anything} (came (switched todo c.exploring)) _ (switched_settles todo c.exploring) (λ exploring q. goes _ tt)
+
   goes_on_event : (entered : Entry D × Course D) → IsEvent (goes_on entered)
   goes_on_event (Answered reply, c) = goes _ tt
   goes_on_event (AtBranch, c) = schedule_event further_branches c
-  goes_on_event (AtSpurious n, c) = asks _ _ tt refl (λ o h. waits_event n c o (options_are_flags o h)) (waits_open n c)
+  goes_on_event (AtSpurious n, c) = asks _ _ tt (λ o h. waits_event n c o (options_are_flags (is_on c.exploring) o h)) (waits_open n c)
+  goes_on_event (Explores todo, c) = switches_event todo c
 
   pub submit_event : (todo : Op D ⊤) (c : Course D) → IsEvent (submit todo c)
   submit_event todo c = then_event (carried c (begins todo c.world)) _

@@ -2,7 +2,7 @@
 use Rattle.std.proofs.Common.{◌≡◌, ◌≢◌, ℕ, Bool, List, [], ◌∷◌, Option, Some, None, refl, subst, sym}
 use Rattle.std.specs.Prelude.{◌-◌, true, false, if◌then◌else◌, slice_get, nat_lt, Result, Ok, Err, ⊤}
 use Rattle.loom_views.specs.declared.rt.failure.FailureKind.{FailureKind}
-use Rattle.loom_views.specs.declared.rt.failure.FailureKind.TheVariants.{LeakArc, LeakTrack, Misuse, NotDeterministic, TooManySteps}
+use Rattle.loom_views.specs.declared.rt.failure.FailureKind.TheVariants.{LeakArc, LeakMessages, LeakTrack, Misuse, NotDeterministic, TooManySteps}
 use Rattle.loom_views.specs.declared.rt.atomic.Reader.TheVariants as reader
 use Rattle.loom_objects.specs.declared.operation.AtomicOp.{AtomicOp}
 use Rattle.loom_objects.specs.declared.operation.AtomicOp.TheVariants as atomic_op
@@ -21,7 +21,7 @@ use Rattle.loom_objects.specs.Atomics.{accesses, store, opens}
 use Rattle.loom_objects.specs.Effects.{chosen, counted, op_begins, takes_effect}
 use Rattle.loom_objects.specs.Condvars.{falls_asleep}
 use Rattle.loom_objects.specs.Ending.{end_of}
-use Rattle.loom_objects.specs.Leaks.{check_leak, first_leak, first_of, leak_of}
+use Rattle.loom_objects.specs.Leaks.{check_leak, first_leak, first_of, is_none_left, leak_of}
 use Rattle.loom_objects.specs.Moves.{takes_result}
 use Rattle.loom_objects.specs.Rule.{◌>>=◌}
 use Rattle.loom_objects.specs.Schedules.{chooses}
@@ -32,19 +32,22 @@ use Rattle.loom_runs.proofs.Runs.Atomics.{atomic_begins_keeping, fence_keeping, 
 use Rattle.loom_runs.proofs.Runs.RwLocks.{claims_keeping, rwlock_begins_keeping}
 use Rattle.loom_runs.proofs.Runs.Threads.{child_finish_keeping, join_keeping, thread_begins_keeping}
 use Rattle.loom_runs.proofs.Runs.Cells.{cell_begins_keeping}
+use Rattle.loom_runs.proofs.Runs.Channels.{channel_begins_keeping, drains_keeping, receives_keeping, sends_keeping}
 use Rattle.loom_runs.proofs.Runs.Counts.{arc_begins_keeping, counts_keeping, tries_unwrap_keeping}
 use Rattle.loom_runs.proofs.Runs.Tracks.{track_begins_keeping}
+use Rattle.loom_runs.proofs.Runs.Values.{lazy_begins_keeping, local_begins_keeping}
+use Rattle.loom_runs.proofs.Runs.Wakers.{clones_waker_keeping, drops_waker_keeping, place_begins_keeping, registers_keeping, takes_waker_keeping, waker_begins_keeping, wakes_by_keeping}
 use Rattle.loom_runs.proofs.Runs.Notifiers.{awaits_keeping, notifier_begins_keeping, notifies_keeping, wakes_early_keeping}
 use Rattle.loom_runs.proofs.Runs.Mutexes.{lock_telling, try_lock_telling, get_mut_opening, into_inner_opening, mutex_begins_entering}
 use Rattle.loom_runs.proofs.Runs.Condvars.{falls_asleep_keeping, relocks_keeping, wakes_keeping, condvar_begins_entering}
 use Rattle.loom_objects.specs.declared.rt.run.Resumed.{Resumed}
 use Rattle.loom_views.specs.declared.rt.atomic.Reader.{Reader}
-use Rattle.loom_runs.proofs.Runs.Answering.{Answers}
+use Rattle.loom_runs.proofs.Runs.Answering.{Answers, GoesQuietly, clones_waker_goes, drains_goes, drops_waker_goes, registers_goes, takes_waker_goes, wakes_by_goes}
 use Rattle.loom_runs.specs.Histories.{returned_by, opened_by}
 use Rattle.loom_objects.specs.Locks.{lock, mutex_get_mut, mutex_into_inner}
 use Rattle.loom_runs.proofs.Runs.States.{Aim, Kept, Out, Ready, TurnTo, chosen_ready, freed_at, freed_by, kept_by_threads, set_anew}
 use Rattle.loom_runs.proofs.Runs.Ruling.{Entering, Fairly, Keeping, Opening, PassingBut, ResumedTo, Resuming, Telling, answer_fairly, check_fairly, found_fairly, misuse, then_fairly}
-use Rattle.loom_runs.proofs.Runs.Replies.{IsLoading, Passing, QuietPass, Unlocked, arc_quiet, atomic_quiet, awaits_quiet, cell_quiet, child_finish_quiet, claims_quiet, counts_quiet, enters, fence_quiet, join_quiet, notifier_quiet, notifies_quiet, opens_loads, passes_on, rwlock_quiet, store_quiet, tells, thread_quiet, track_quiet, tries_unwrap_quiet, wakes_early_quiet, wakes_quiet}
+use Rattle.loom_runs.proofs.Runs.Replies.{IsLoading, Passing, QuietPass, Unlocked, arc_quiet, atomic_quiet, awaits_quiet, cell_quiet, channel_quiet, child_finish_quiet, claims_quiet, counts_quiet, enters, fence_quiet, join_quiet, lazy_quiet, local_quiet, notifier_quiet, notifies_quiet, opens_loads, passes_on, passes_quietly, place_quiet, receives_quiet, rwlock_quiet, sends_quiet, store_quiet, tells, thread_quiet, track_quiet, tries_unwrap_quiet, waker_quiet, wakes_early_quiet, wakes_quiet}
 
 abbrev pub IsFairLeak : Option FailureKind → Type 0
 IsFairLeak None = Unit {0}
@@ -73,6 +76,12 @@ module _ {D : Type 0} where
   op_begins_entering (op.RwLock todo place) w = enters w None _ (rwlock_begins_keeping todo w) (rwlock_quiet todo w)
   op_begins_entering (op.Condvar todo place) w = condvar_begins_entering todo w
   op_begins_entering (op.Notify todo place) w = enters w None _ (notifier_begins_keeping todo w) (notifier_quiet todo w)
+  op_begins_entering (op.Channel todo place) w = enters w None _ (channel_begins_keeping todo w) (channel_quiet todo w)
+  op_begins_entering (op.Waker todo place) w = enters w None _ (waker_begins_keeping todo w) (waker_quiet todo w)
+  op_begins_entering (op.AtomicWaker todo place) w = enters w None _ (place_begins_keeping todo w) (place_quiet todo w)
+  op_begins_entering (op.Local todo place) w = enters w None _ (local_begins_keeping todo w) (local_quiet todo w)
+  op_begins_entering (op.Lazy todo place) w = enters w None _ (lazy_begins_keeping todo w) (lazy_quiet todo w)
+  op_begins_entering (op.Explore todo place) w = λ out other k. k
   op_begins_entering (op.Thread todo place) w = enters w None _ (thread_begins_keeping todo w) (thread_quiet todo w)
   op_begins_entering (op.Fail place) w = λ e. cc
   op_begins_entering (op.Unreachable place) w = λ e. cc
@@ -107,6 +116,12 @@ module _ {D : Type 0} where
   counted_opening (op.RwLock todo place) n w e = absurd (cc e)
   counted_opening (op.Condvar todo place) n w e = absurd (cc e)
   counted_opening (op.Notify todo place) n w e = absurd (cc e)
+  counted_opening (op.Channel todo place) n w e = absurd (cc e)
+  counted_opening (op.Waker todo place) n w e = absurd (cc e)
+  counted_opening (op.AtomicWaker todo place) n w e = absurd (cc e)
+  counted_opening (op.Local todo place) n w e = absurd (cc e)
+  counted_opening (op.Lazy todo place) n w e = absurd (cc e)
+  counted_opening (op.Explore todo place) n w e = absurd (cc e)
   counted_opening (op.Thread todo place) n w e = absurd (cc e)
   counted_opening (op.Fail place) n w e = absurd (cc e)
   counted_opening (op.Unreachable place) n w e = absurd (cc e)
@@ -121,6 +136,9 @@ module _ {D : Type 0} where
 
   gone_resuming : (r : Result (Passed D × World D) FailureKind) (w : World D) → Keeping w r → Answers QuietPass r → Fairly (Resuming None w) (r >>= gone)
   gone_resuming r w kept quiet = then_fairly (Passing w) (Resuming None w) r gone (passes_on w r kept quiet) (λ answered passed out other k. passed out k)
+
+  quietly_resuming : (r : Result (Passed D × World D) FailureKind) (w : World D) → Keeping w r → Answers GoesQuietly r → Fairly (Resuming None w) (r >>= gone)
+  quietly_resuming r w kept quiet = gone_resuming r w kept (passes_quietly r quiet)
 
   opens_resuming : (n : ℕ) (reader : Reader) (access : AtomicOp) (w : World D) → Fairly (Resuming None w) (opens n reader access w)
   opens_resuming n reader access w = loading (opens n reader access w) (opens_keeping n reader access w) (opens_loads n reader access w)
@@ -161,6 +179,14 @@ module _ {D : Type 0} where
   takes_effect_resuming (task.TryUnwrap n) w = gone_resuming _ w (tries_unwrap_keeping n w) (tries_unwrap_quiet n w)
   takes_effect_resuming (task.Join t n) w = replied_resuming _ w (join_keeping t n w) (join_quiet t n w)
   takes_effect_resuming (task.Finish n value) w = replied_resuming _ w (child_finish_keeping n value w) (child_finish_quiet n value w)
+  takes_effect_resuming (task.Send n sent) w = replied_resuming _ w (sends_keeping n sent w) (sends_quiet n sent w)
+  takes_effect_resuming (task.Receive by n) w = replied_resuming _ w (receives_keeping by n w) (receives_quiet by n w)
+  takes_effect_resuming (task.Drain n taken) w = quietly_resuming _ w (drains_keeping n taken w) (drains_goes n taken w)
+  takes_effect_resuming (task.WakeBy n c after) w = quietly_resuming _ w (wakes_by_keeping n c after w) (wakes_by_goes n c after w)
+  takes_effect_resuming (task.CloneWaker c place) w = quietly_resuming _ w (clones_waker_keeping c place w) (clones_waker_goes c place w)
+  takes_effect_resuming (task.DropWaker c after) w = quietly_resuming _ w (drops_waker_keeping c after w) (drops_waker_goes c after w)
+  takes_effect_resuming (task.Register p c) w = quietly_resuming _ w (registers_keeping p c w) (registers_goes p c w)
+  takes_effect_resuming (task.TakeWaker by p) w = quietly_resuming _ w (takes_waker_keeping by p w) (takes_waker_goes by p w)
 
   -- a thread is chosen, and what it had pending takes effect
   abbrev pub Choosing : World D → Resumed D × World D → Type 0
@@ -190,6 +216,9 @@ module _ {D : Type 0} where
   leak_fair (object.RwLock lock) = tt
   leak_fair (object.Condvar condvar) = tt
   leak_fair (object.Notify notifier) = tt
+  leak_fair (object.Channel channel) = fair_if (is_none_left channel.messages) None (Some LeakMessages) tt (λ e. cc)
+  leak_fair (object.Wakers wakers) = fair_if (nat_lt 0 wakers.count) (Some LeakArc) None (λ e. cc) tt
+  leak_fair (object.AtomicWaker place) = tt
 
   first_fair : (objects : List (Object D)) → IsFairLeak (first_leak objects)
   first_fair [] = tt

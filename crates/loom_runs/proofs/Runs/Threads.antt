@@ -10,7 +10,8 @@ use Rattle.loom_objects.specs.declared.rt.thread.Phase.TheVariants.{Finished, Ex
 use Rattle.loom_objects.specs.declared.rt.thread.Task.TheVariants as task
 use Rattle.loom_objects.specs.Moves.{a_notifier, at_phase, changes_active, takes_result, unparks, yields, having, with_token, in_state, unparked, unparked_from}
 use Rattle.loom_objects.specs.Notifiers.{notify}
-use Rattle.loom_objects.specs.Threads.{child_finish, end, exit, finish, finish_as, has_own, is_exited, is_finished, is_working, join, join_begins, parks_unless, spawn, thread_begins, unpark}
+use Rattle.loom_objects.specs.Threads.{child_finish, end, exit, finish, finish_as, has_own, is_exited, is_finished, join, join_begins, parks_unless, spawn, thread_begins, unpark, without_locals}
+use Rattle.loom_objects.specs.Values.{is_working}
 use Rattle.loom_objects.specs.World.{World}
 use Rattle.loom_runs.proofs.Runs.Fairness.{spawn_fair}
 use Rattle.loom_runs.proofs.Runs.Notifiers.{notify_keeping, yields_keeping}
@@ -52,7 +53,8 @@ module _ {D : Type 0} where
   child_finish_keeping n value w = then_keeping (notify n w) _ w (notify_keeping n w) (λ after out k. changed_ready (having value) after.1.active (λ t m i. i) k)
 
   exit_keeping : (w : World D) → Keeping w (exit w)
-  exit_keeping w = found_keeping (slice_get w.threads w.active) Misuse _ w misuse (λ thread e. check_keeping (is_finished thread.phase) Misuse _ w misuse (λ f out k. changed_ready (at_phase Exited) w.active (λ t m i. i) k))
+  exit_keeping w = found_keeping (slice_get w.threads w.active) Misuse _ w misuse (λ thread e. check_keeping (is_finished thread.phase) Misuse _ w misuse (λ f out k.
+      changed_ready without_locals w.active (λ t m i. i) (changed_ready (at_phase Exited) w.active (λ t m i. i) k)))
 
   end_keeping : (w : World D) → Keeping w (end w)
   end_keeping w = found_keeping (slice_get w.threads w.active) Misuse _ w misuse (λ thread e. check_keeping (is_exited thread.phase) Misuse _ w misuse (λ f out k.

@@ -13,11 +13,11 @@ use Rattle.loom_views.specs.Threads.{ThreadPoints, with_present, graph_after_rai
 use Rattle.loom_views.specs.Fences.{Standing, after_stores}
 use Rattle.loom_views.specs.Atomic.{Scene, Answer, History, new_history, in_slot, load_step, store_step, update_read_step, update_write_step, unsync_load_step, mutate_step, mutate_end_step, scene_read, scene_loaded, scene_made, scene_recorded_load, scene_recorded_store, scene_recorded_mutation, with_newest}
 use Rattle.loom_views.specs.Cells.{Accesses, read_step, write_step}
-use Rattle.loom_views.specs.Table.{Place, Meets, Keeps, Records, Points, Accessed, stores_at, with_thread, with_place, scene_of, points_of, accessed, access, access_by, recorded, record_by, acquire_by, release_by, fence_by, yield_by, spawn_by, join_by, add_atomic_by, add_cell_by, update_fail_by, acquire_fence_by, meet_by, points_after_raise, points_after_fence, points_after_acquire_fence, points_after_release_fence, points_after_load, points_after_store, points_after_update_read, points_after_update_write, points_after_unsync_load, points_after_with_mut, points_after_with_mut_end, points_after_read, points_after_write, points_after_spawn}
+use Rattle.loom_views.specs.Table.{Place, Meets, Keeps, Records, Points, Accessed, stores_at, with_thread, with_place, scene_of, points_of, accessed, access, access_by, recorded, record_by, acquire_by, release_by, stamp_by, stamp_release_by, stamp_acquire_by, fence_by, yield_by, spawn_by, join_by, add_atomic_by, add_cell_by, update_fail_by, acquire_fence_by, meet_by, points_after_raise, points_after_fence, points_after_acquire_fence, points_after_release_fence, points_after_load, points_after_store, points_after_update_read, points_after_update_write, points_after_unsync_load, points_after_with_mut, points_after_with_mut_end, points_after_read, points_after_write, points_after_spawn}
 use Rattle.loom_views.proofs.Growth.{GrownBy, same, quiet, raising, grown-joined, scene_read-grown, scene_loaded-grown, scene_made-grown}
 use Rattle.loom_views.proofs.Table.Lists.{get-set_same}
 use Rattle.loom_views.proofs.Table.Fences.{after_stores-grown}
-use Rattle.loom_view_laws.specs.Moves.{Moves, Leads, acquire, release, join, yielding, spawn, fence, new_point, new_atomic, load, store, update, update_fail, unsync_load, with_mut, with_mut_end, new_cell, begin_read, end_read, begin_write, end_write, none, later}
+use Rattle.loom_view_laws.specs.Moves.{Moves, Leads, acquire, release, join, yielding, spawn, fence, new_point, new_stamp, stamp, release_to_stamp, acquire_from_stamp, new_atomic, load, store, update, update_fail, unsync_load, with_mut, with_mut_end, new_cell, begin_read, end_read, begin_write, end_write, none, later}
 use Rattle.loom_view_laws.specs.Reaching.{Extends, is_raising}
 use Rattle.loom_view_laws.proofs.Reaching.Raising.{extends-itself, extends-more, extends-grown, raising-extends, new-raises, Raised, raise-leads}
 use Rattle.loom_view_laws.proofs.Reaching.Beginning.{if-passed, if-room}
@@ -78,6 +78,29 @@ module _ (p : Points) (five : length p.threads ≤ 5) where
       let grown : GrownBy 5 p.graph g = quiet _ same in
       adds-set p (with_place p n g (Meets (length p.graph))) n (Meets k) (Meets (length p.graph)) (extends-grown grown) five e refl (record { reads = more-none []; writes = more-none []; loads = raising-none g []; stored = raising-none g [] })
 
+  -- stamps are written where they stand, and no object changes
+  stamp_write-adds : (m k : ℕ) (g : Graph) → Extends p.graph g → Adds p (record p { graph = g; stamps = slice_set p.stamps m k })
+  stamp_write-adds m k g h = adds-quiet p _ h five refl
+
+  stamp-adds : (m : ℕ) (q : Option Place) → Adds p (stamp_by p m q)
+  stamp-adds m None = adds-same p five
+  stamp-adds m (Some (Keeps history)) = adds-same p five
+  stamp-adds m (Some (Records cell)) = adds-same p five
+  stamp-adds m (Some (Meets k)) = stamp_write-adds m k p.graph (extends-itself p.graph)
+
+  stamp_release-adds : (m : ℕ) (order : Ordering) (o : Option ThreadPoints) (q : Option ℕ) → Adds p (stamp_release_by p m order o q)
+  stamp_release-adds m order None q = adds-same p five
+  stamp_release-adds m order (Some own) None = adds-same p five
+  stamp_release-adds m order (Some own) (Some k) =
+      let g = graph_after_store p.graph own k order in
+      let grown : GrownBy 5 p.graph g = quiet _ same in
+      stamp_write-adds m (length p.graph) g (extends-grown grown)
+
+  stamp_acquire-adds : (t : ℕ) (o : Option ThreadPoints) (q : Option ℕ) → Adds p (stamp_acquire_by p t o q)
+  stamp_acquire-adds t None q = adds-same p five
+  stamp_acquire-adds t (Some own) None = adds-same p five
+  stamp_acquire-adds t (Some own) (Some k) = grown-adds t (graph_after_acquire p.graph own k) (with_present p.graph own) (quiet (own.present ∷ k ∷ []) same)
+
   release_fence-adds : (t : ℕ) (o : Option ThreadPoints) → Adds p (fence_by p t o)
   release_fence-adds t None = adds-same p five
   release_fence-adds t (Some own) = grown-adds t (graph_after_release_fence p.graph own) (record own { released = length p.graph }) (quiet (own.released ∷ own.present ∷ []) same)
@@ -112,6 +135,9 @@ module _ (p : Points) (five : length p.threads ≤ 5) where
 
   point-adds : Adds p (record p { graph = record { after = []; raises = None } ∷ p.graph; places = p.places ++ Meets (length p.graph) ∷ [] })
   point-adds = adds-new p _ (Meets (length p.graph)) (extends-more _ p.graph p.graph (extends-itself p.graph)) five refl refl refl
+
+  new_stamp-adds : Adds p (record p { graph = record { after = []; raises = None } ∷ p.graph; stamps = p.stamps ++ length p.graph ∷ [] })
+  new_stamp-adds = adds-quiet p _ (extends-more _ p.graph p.graph (extends-itself p.graph)) five refl
 
   spawn-adds : (t : ℕ) (o : Option ThreadPoints) → IfOk (spawn_by p t o) (λ after. Adds p after)
   spawn-adds t None = tt
@@ -286,6 +312,10 @@ move-adds p _ five (yielding t) = yield-adds p five t (slice_get p.threads t)
 move-adds p _ five (spawn t after e) = from-ok (λ (after : Points). Adds p after) (points_after_spawn p t) after e (spawn-adds p five t (slice_get p.threads t))
 move-adds p _ five (fence t order raised e) = adds-joined p raised _ (first p raised t five e) (fence-adds raised (first p raised t five e).five t order)
 move-adds p _ five new_point = point-adds p five
+move-adds p _ five new_stamp = new_stamp-adds p five
+move-adds p _ five (stamp n m) = stamp-adds p five m (slice_get p.places n)
+move-adds p _ five (release_to_stamp t m order) = stamp_release-adds p five m order (slice_get p.threads t) (slice_get p.stamps m)
+move-adds p _ five (acquire_from_stamp t m) = stamp_acquire-adds p five t (slice_get p.threads t) (slice_get p.stamps m)
 move-adds p _ five (new_atomic t value) = atomic-adds p five t value (slice_get p.threads t)
 move-adds p _ five (load t n slot order raised after d e) = then-access p raised t five d _ after e (load-adds raised (first p raised t five d).five t n slot order (at p raised t five d))
 move-adds p _ five (store t n value order raised after d e) = then-access p raised t five d _ after e (store-adds raised (first p raised t five d).five t n value order (at p raised t five d))

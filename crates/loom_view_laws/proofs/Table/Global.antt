@@ -10,7 +10,7 @@ use Rattle.loom_views.specs.Graph.{Graph, raised}
 use Rattle.loom_views.specs.Threads.{ThreadPoints}
 use Rattle.loom_views.specs.Atomic.{Scene, Answer, load_step, store_step, update_read_step, update_write_step, unsync_load_step, mutate_step, mutate_end_step}
 use Rattle.loom_views.specs.Cells.{Accesses, read_step, write_step}
-use Rattle.loom_views.specs.Table.{Place, Meets, Keeps, Records, Points, add_cell_by, recorded, record_by, accessed, access, access_by, scene_of, raise_by, acquire_by, release_by, fence_by, yield_by, spawn_by, join_by, add_atomic_by, update_fail_by, acquire_fence_by, points_after_fence, points_after_acquire_fence}
+use Rattle.loom_views.specs.Table.{Place, Meets, Keeps, Records, Points, add_cell_by, recorded, record_by, accessed, access, access_by, scene_of, raise_by, acquire_by, release_by, stamp_by, stamp_release_by, stamp_acquire_by, fence_by, yield_by, spawn_by, join_by, add_atomic_by, update_fail_by, acquire_fence_by, points_after_fence, points_after_acquire_fence}
 use Rattle.loom_view_laws.specs.Laws.{IsGlobalKept, GlobalLaw}
 
 module _ (p : Points) where
@@ -59,6 +59,22 @@ module _ (p : Points) where
       tested : (a : Bool) (r : Result Points FailureKind) → IfOk r (λ after. IsGlobalKept p after) → IfOk (if a then Err TooManyThreads else r) (λ after. IsGlobalKept p after)
       tested true r h = tt
       tested false r h = h
+
+  stamp-kept : (m : ℕ) (q : Option Place) → IsGlobalKept p (stamp_by p m q)
+  stamp-kept m None = refl
+  stamp-kept m (Some (Meets k)) = refl
+  stamp-kept m (Some (Keeps history)) = refl
+  stamp-kept m (Some (Records cell)) = refl
+
+  stamp_release-kept : (m : ℕ) (order : Ordering) (o : Option ThreadPoints) (q : Option ℕ) → IsGlobalKept p (stamp_release_by p m order o q)
+  stamp_release-kept m order None q = refl
+  stamp_release-kept m order (Some own) None = refl
+  stamp_release-kept m order (Some own) (Some k) = refl
+
+  stamp_acquire-kept : (t : ℕ) (o : Option ThreadPoints) (q : Option ℕ) → IsGlobalKept p (stamp_acquire_by p t o q)
+  stamp_acquire-kept t None q = refl
+  stamp_acquire-kept t (Some own) None = refl
+  stamp_acquire-kept t (Some own) (Some k) = refl
 
   join-kept : (t : ℕ) (o q : Option ThreadPoints) → IsGlobalKept p (join_by p t o q)
   join-kept t None q = refl
@@ -120,6 +136,10 @@ global_stays_law p = record {
   fence = fence-kept p;
   yielding = λ t. yield-kept p t (slice_get p.threads t);
   new_point = refl;
+  new_stamp = refl;
+  stamp = λ n m. stamp-kept p m (slice_get p.places n);
+  release_to_stamp = λ t m order. stamp_release-kept p m order (slice_get p.threads t) (slice_get p.stamps m);
+  acquire_from_stamp = λ t m. stamp_acquire-kept p t (slice_get p.threads t) (slice_get p.stamps m);
   new_atomic = λ t value. atomic-kept p t value (slice_get p.threads t);
   new_cell = λ t. cell-kept p (slice_get p.threads t);
   spawn = λ t. spawn-kept p t (slice_get p.threads t);

@@ -22,7 +22,7 @@ use Rattle.loom_views.specs.Table.{Place, Meets, Keeps, Records, has_slot, reada
 use Rattle.loom_views.specs.Slots.{number_in_slot}
 use Rattle.loom_views.proofs.Choices.{readable-bounds}
 use Rattle.loom_views.proofs.Growth.{GrownBy, shows-grown, grown-joined, scene_read-grown, scene_loaded-grown, scene_made-grown}
-use Rattle.loom_views.proofs.Table.Carried.{Found, found, FoundAtomic, found_atomic, threads-set, places-set, places-grown, place-added}
+use Rattle.loom_views.proofs.Table.Carried.{Found, found, FoundAtomic, found_atomic, threads-set, places-set, places-grown, stamps-grown, place-added}
 
 -- what holds of the scene that an access leads to, if it leads to one
 abbrev pub LeadsTo : (Scene → Type 0) → Result Answer FailureKind → Type 0
@@ -99,6 +99,7 @@ module _ (p : Points) (v : Views) (t n : ℕ) (d : ThreadViews) (state : State) 
         five = length-set v.threads t views ∙ z.five;
         threads = threads-set r p.threads v.threads s.thread views f.there (omega arith) z.threads y.present y.thread;
         places = places-set s.graph p.places v.places n (Keeps s.history) (Atomic new) (slice_get_within p.places n (Keeps o.history) o.is) (slice_get_within v.places n (Atomic state) kept) (places-grown r p.places v.places z.places) (y.history, h);
+        stamps = stamps-grown r p.stamps v.stamps z.stamps;
         global = shows-grown r p.global v.global z.global;
       }
 

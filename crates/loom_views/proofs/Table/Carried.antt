@@ -3,7 +3,7 @@ use Rattle.std.proofs.Common.{zero, suc, subst, ◌≡◌, ◌≢◌, ℕ, ◌<�
 use Rattle.std.specs.Prelude.{OnOk}
 use Rattle.std.specs.List.{slice_get}
 use Rattle.std.proofs.lemmas.Bool.{cases_eq, ne_eqb}
-use Rattle.std.proofs.lemmas.List.{length-set}
+use Rattle.std.proofs.lemmas.List.{length-set, length-append}
 use Rattle.std.proofs.lemmas.Option.{slice_get-get_or}
 use Rattle.loom_views.specs.declared.rt.atomic.State.{State}
 use Rattle.loom_views.specs.declared.rt.cell.AccessRecords.{AccessRecords}
@@ -16,11 +16,11 @@ use Rattle.loom_views.specs.Threads.{ThreadPoints, ShowsThread, child_points}
 use Rattle.loom_views.specs.Atomic.{History}
 use Rattle.loom_views.specs.Cells.{Accesses, ShowsAccesses}
 use Rattle.loom_views.specs.Shown.{ShowsState}
-use Rattle.loom_views.specs.Table.{Place, Meets, Keeps, Records, Points, with_thread, with_place, with_new_place, ShowsThreadAt, ShowsThreads, ShowsPlace, ShowsPlaceAt, ShowsPlaces, ShowsViews}
+use Rattle.loom_views.specs.Table.{Place, Meets, Keeps, Records, Points, with_thread, with_place, with_new_place, ShowsThreadAt, ShowsThreads, ShowsPlace, ShowsPlaceAt, ShowsPlaces, ShowsStampAt, ShowsStamps, ShowsViews}
 use Rattle.loom_views.proofs.Views.{raised-no}
 use Rattle.loom_views.proofs.Cells.{accesses-grown}
 use Rattle.loom_views.proofs.Growth.{GrownBy, same, quiet, raising, shows-grown, thread-grown, state-grown, present-grown}
-use Rattle.loom_views.proofs.Table.Lists.{get-set_same, get-set_other}
+use Rattle.loom_views.proofs.Table.Lists.{get-set_same, get-set_other, get-append_same, get-append_other}
 
 -- another thread that has raised nothing has still raised nothing
 pub none-grown : {t : ℕ} {g g' : Graph} → GrownBy t g g' → (u : ℕ) → t ≢ u → raised g u ≡ [] → raised g' u ≡ []
@@ -53,6 +53,15 @@ place_at-grown r (Some place) (Some kept) h = place-grown r place kept h
 pub places-grown : {t : ℕ} {g g' : Graph} → GrownBy t g g' → (places : List Place) (kept : List Kept) → ShowsPlaces g places kept → ShowsPlaces g' places kept
 places-grown r places kept h = λ n. place_at-grown r (slice_get places n) (slice_get kept n) (h n)
 
+stamp_at-grown : {t : ℕ} {g g' : Graph} → GrownBy t g g' → (stamp : Option ℕ) (kept : Option (List ℕ)) → ShowsStampAt g stamp kept → ShowsStampAt g' stamp kept
+stamp_at-grown r None None h = tt
+stamp_at-grown r None (Some view) h = absurd h
+stamp_at-grown r (Some k) None h = absurd h
+stamp_at-grown r (Some k) (Some view) h = shows-grown r k view h
+
+pub stamps-grown : {t : ℕ} {g g' : Graph} → GrownBy t g g' → (stamps : List ℕ) (kept : List (List ℕ)) → ShowsStamps g stamps kept → ShowsStamps g' stamps kept
+stamps-grown r stamps kept h = record { count = h.count; each = λ m. stamp_at-grown r (slice_get stamps m) (slice_get kept m) (h.each m) }
+
 -- points that raise no thread leave all threads as they were
 pub threads-grown : {g g' : Graph} → GrownBy 5 g g' → (threads : List ThreadPoints) (kept : List ThreadViews) → ShowsThreads g threads kept → ShowsThreads g' threads kept
 threads-grown r threads kept h = λ u m. thread_at-grown r u (omega arith) (slice_get threads u) (slice_get kept u) (h u m)
@@ -84,6 +93,28 @@ places-more g [] (k ∷ kept) place new h s n = absurd (h 0)
 places-more g (p ∷ places) [] place new h s n = absurd (h 0)
 places-more g (p ∷ places) (k ∷ kept) place new h s zero = h 0
 places-more g (p ∷ places) (k ∷ kept) place new h s (suc n) = places-more g places kept place new (λ i. h (suc i)) s n
+
+-- one stamp is written, or added
+pub stamps-set : (g : Graph) (stamps : List ℕ) (kept : List (List ℕ)) (m k : ℕ) (view : List ℕ) → m < length kept → ShowsStamps g stamps kept → Shows g k view → ShowsStamps g (set stamps m k) (set kept m view)
+stamps-set g stamps kept m k view l h s = record {
+  count = length-set stamps m k ∙ h.count ∙ sym (length-set kept m view);
+  each = λ i. ⊎_elim
+      (λ e. subst (λ w. ShowsStampAt g (slice_get (set stamps m k) w) (slice_get (set kept m view) w)) (sym e) at)
+      (λ d. rw (get-set_other stamps m i k d, get-set_other kept m i view d) (h.each i))
+      (cases_eq i m);
+}
+  where
+    at : ShowsStampAt g (slice_get (set stamps m k) m) (slice_get (set kept m view) m)
+    at = let count = h.count in rw (get-set_same stamps m k (omega arith), get-set_same kept m view l) s
+
+pub stamps-more : (g : Graph) (stamps : List ℕ) (kept : List (List ℕ)) (k : ℕ) (view : List ℕ) → ShowsStamps g stamps kept → Shows g k view → ShowsStamps g (stamps ++ k ∷ []) (kept ++ view ∷ [])
+stamps-more g stamps kept k view h s = let count = h.count in record {
+  count = length-append stamps (k ∷ []) ∙ omega (arith, length-append kept (view ∷ []));
+  each = λ i. ⊎_elim
+      (λ e. rw (get-append_same stamps i k e, get-append_same kept i view (e ∙ h.count)) s)
+      (λ d. rw (get-append_other stamps i k d, get-append_other kept i view (λ e. d (e ∙ sym h.count))) (h.each i))
+      (cases_eq i (length stamps));
+}
 
 -- a thread that is there, with the views that are kept of it
 pub record Found (p : Points) (t : ℕ) (views : ThreadViews) : Type 0 where
@@ -149,6 +180,19 @@ found_cell p v n records e z = let h = z.places n in go (slice_get p.places n) r
     go (Some (Keeps history)) q h = absurd h
     go (Some (Records cell)) q h = record { cell = cell; is = q; shown = h }
 
+-- a stamp
+pub record FoundStamp (p : Points) (m : ℕ) (view : List ℕ) : Type 0 where
+  pub point : ℕ
+  pub is : slice_get p.stamps m ≡ Some point
+  pub shown : Shows p.graph point view
+
+pub found_stamp : (p : Points) (v : Views) (m : ℕ) (view : List ℕ) → slice_get v.stamps m ≡ Some view → ShowsViews p v → FoundStamp p m view
+found_stamp p v m view e z = let h = z.stamps.each m in go (slice_get p.stamps m) refl (rw e at h)
+  where
+    go : (o : Option ℕ) → slice_get p.stamps m ≡ o → ShowsStampAt p.graph o (Some view) → FoundStamp p m view
+    go None q h = absurd h
+    go (Some k) q h = record { point = k; is = q; shown = h }
+
 -- a step of thread t in a graph that it alone has grown
 pub thread-stepped : (p : Points) (v : Views) (t : ℕ) (g : Graph) (own : ThreadPoints) (views : ThreadViews) → t < length p.threads → GrownBy t p.graph g → IsChained g → IsPresent g t own.present → ShowsThread g t own views → ShowsViews p v → ShowsViews (with_thread p t g own) (record v { threads = set v.threads t views })
 thread-stepped p v t g own views l r c i s z =
@@ -161,6 +205,7 @@ thread-stepped p v t g own views l r c i s z =
       five = length-set v.threads t views ∙ z.five;
       threads = threads-set r p.threads v.threads own views l (omega arith) z.threads i s;
       places = places-grown r p.places v.places z.places;
+      stamps = stamps-grown r p.stamps v.stamps z.stamps;
       global = shows-grown r p.global v.global z.global;
     }
 
@@ -173,6 +218,7 @@ place-stepped p v n g place kept l m r c s z = record {
   five = z.five;
   threads = threads-grown r p.threads v.threads z.threads;
   places = places-set g p.places v.places n place kept l m (places-grown r p.places v.places z.places) s;
+  stamps = stamps-grown r p.stamps v.stamps z.stamps;
   global = shows-grown r p.global v.global z.global;
 }
 
@@ -185,6 +231,33 @@ place-added p v g place kept r c s z = record {
   five = z.five;
   threads = threads-grown r p.threads v.threads z.threads;
   places = places-more g p.places v.places place kept (places-grown r p.places v.places z.places) s;
+  stamps = stamps-grown r p.stamps v.stamps z.stamps;
+  global = shows-grown r p.global v.global z.global;
+}
+
+-- stamp m becomes another point, in such a graph
+pub stamp-stepped : (p : Points) (v : Views) (m : ℕ) (g : Graph) (k : ℕ) (view : List ℕ) → m < length v.stamps → GrownBy 5 p.graph g → IsChained g → Shows g k view → ShowsViews p v → ShowsViews (record p { graph = g; stamps = set p.stamps m k }) (record v { stamps = set v.stamps m view })
+stamp-stepped p v m g k view l r c s z = record {
+  chained = c;
+  count = z.count;
+  most = z.most;
+  five = z.five;
+  threads = threads-grown r p.threads v.threads z.threads;
+  places = places-grown r p.places v.places z.places;
+  stamps = stamps-set g p.stamps v.stamps m k view l (stamps-grown r p.stamps v.stamps z.stamps) s;
+  global = shows-grown r p.global v.global z.global;
+}
+
+-- one more stamp, in such a graph
+pub stamp-more : (p : Points) (v : Views) (g : Graph) (k : ℕ) (view : List ℕ) → GrownBy 5 p.graph g → IsChained g → Shows g k view → ShowsViews p v → ShowsViews (record p { graph = g; stamps = p.stamps ++ k ∷ [] }) (record v { stamps = v.stamps ++ view ∷ [] })
+stamp-more p v g k view r c s z = record {
+  chained = c;
+  count = z.count;
+  most = z.most;
+  five = z.five;
+  threads = threads-grown r p.threads v.threads z.threads;
+  places = places-grown r p.places v.places z.places;
+  stamps = stamps-more g p.stamps v.stamps k view (stamps-grown r p.stamps v.stamps z.stamps) s;
   global = shows-grown r p.global v.global z.global;
 }
 
@@ -197,6 +270,7 @@ global-stepped p v g k view r c s z = record {
   five = z.five;
   threads = threads-grown r p.threads v.threads z.threads;
   places = places-grown r p.places v.places z.places;
+  stamps = stamps-grown r p.stamps v.stamps z.stamps;
   global = s;
 }
 

@@ -1,5 +1,5 @@
 -- Elements by their index, where a list is written or appended to.
-use Rattle.std.proofs.Common.{zero, suc, ◌≡◌, ◌≢◌, ℕ, ◌<◌, List, [], ◌∷◌, ◌++◌, length, set, refl, ap, sym, arith, Some}
+use Rattle.std.proofs.Common.{zero, suc, ◌≡◌, ◌≢◌, ℕ, ◌<◌, ◌≤◌, List, [], ◌∷◌, ◌++◌, length, set, refl, ap, sym, arith, Some}
 use Rattle.std.specs.List.{slice_get}
 
 pub get-set_same : {X : Type 0} (xs : List X) (i : ℕ) (x : X) → i < length xs → slice_get (set xs i x) i ≡ Some x
@@ -32,3 +32,9 @@ pub set-same : {X : Type 0} (xs : List X) (i : ℕ) (x : X) → slice_get xs i �
 set-same [] i x e = refl
 set-same (y ∷ xs) zero x e = let d : y ≡ x = cc in ap (λ z. z ∷ xs) (sym d)
 set-same (y ∷ xs) (suc i) x e = ap (λ zs. y ∷ zs) (set-same xs i x e)
+
+-- an element written past the end
+pub set-past : {X : Type 0} (xs : List X) (i : ℕ) (x : X) → length xs ≤ i → set xs i x ≡ xs
+set-past [] i x h = refl
+set-past (y ∷ xs) zero x h = absurd (omega arith)
+set-past (y ∷ xs) (suc i) x h = ap (λ ys. y ∷ ys) (set-past xs i x (omega arith))

@@ -16,7 +16,7 @@ use Rattle.loom_views.proofs.Views.{chained-moved, chained-raising, present-old,
 use Rattle.loom_views.proofs.ThreadMoves.{child-chained}
 use Rattle.loom_views.proofs.Growth.{GrownBy, same, quiet, raising, shows-grown, present-grown}
 use Rattle.loom_views.proofs.Table.Lists.{get-set_same, get-set_other, get-append_same, get-append_other}
-use Rattle.loom_views.proofs.Table.Carried.{found, thread_at-grown, places-grown}
+use Rattle.loom_views.proofs.Table.Carried.{found, thread_at-grown, places-grown, stamps-grown}
 
 -- where a thread has raised nothing, every point is its present one
 none-present : (g : Graph) (t k : ℕ) → raised g t ≡ [] → IsPresent g t k
@@ -46,7 +46,7 @@ unfolding start
 first-raised t = raised-no start mains t refl ∙ raised-no start (moved [] []) t refl ∙ raised-no start [] t refl ∙ none-raised t
 
 -- main alone
-pub opening-shown : ShowsViews opening (let views : ThreadViews = record { present = zeros; released = zeros; last_yield = None } in record { threads = views ∷ views ∷ views ∷ views ∷ views ∷ []; count = 1; places = []; global = zeros })
+pub opening-shown : ShowsViews opening (let views : ThreadViews = record { present = zeros; released = zeros; last_yield = None } in record { threads = views ∷ views ∷ views ∷ views ∷ views ∷ []; count = 1; places = []; stamps = []; global = zeros })
 unfolding start
 opening-shown = record {
   chained = chained-moved mains [] chained;
@@ -55,6 +55,7 @@ opening-shown = record {
   five = refl;
   threads = threads;
   places = λ n. tt;
+  stamps = record { count = refl; each = λ m. tt };
   global = shows-start mains chained;
 }
   where
@@ -143,6 +144,7 @@ module _ (p : Points) (v : Views) (t : ℕ) (own : ThreadPoints) (views child : 
         five = length-set parents_views v.count child ∙ length-set v.threads t views ∙ z.five;
         threads = λ u h. ⊎_elim (λ e. subst IsShownAt (sym e) shown_at-child) (λ a. ⊎_elim (λ e. subst IsShownAt (sym e) shown_at-parent) (shown_at-other u h a) (cases_eq u t)) (cases_eq u v.count);
         places = places-grown two p.places v.places (places-grown one p.places v.places z.places);
+        stamps = stamps-grown two p.stamps v.stamps (stamps-grown one p.stamps v.stamps z.stamps);
         global = shows-grown two p.global v.global (shows-grown one p.global v.global z.global);
       }
 

@@ -4,11 +4,11 @@
 //! nothing, and one that answers something answers `Misuse`. Source: loom's `rt/execution.rs` and `rt/object.rs`, where each
 //! thread and each object keeps its own.
 
-ghost use Rattle.std.specs.Prelude.{◌≡◌, ◌++◌, ◌∷◌, ◌<◌, ◌≤◌, [], Err, OnErr, OnOk, slice_get};
+ghost use Rattle.std.specs.Prelude.{◌≡◌, ◌++◌, ◌∷◌, ◌<◌, ◌≤◌, [], Ok, Err, OnErr, OnOk, length, slice_get};
 ghost use Rattle.loom_views.specs.declared.rt.failure.FailureKind.TheVariants.{Misuse};
 ghost use Rattle.loom_views.specs.declared.rt.table.Kept.TheVariants.{Point};
 ghost use Rattle.loom_views.specs.Versions.{zeros};
-ghost use Rattle.loom_views.specs.Table.{Points, ShowsViews, MovesAs, LoadsAs, StoresAs, OffersAs, IsSlotKept, opening, points_after_raise, points_after_acquire, points_after_release, points_after_release_fence, points_after_yield, points_with_point, points_after_spawn, points_after_join, points_with_atomic, points_after_load, points_after_store, points_after_update_read, points_after_update_write, points_after_update_fail, points_after_unsync_load, points_after_with_mut, points_after_with_mut_end, points_after_acquire_fence, points_after_meet_global, points_after_fence, points_with_cell, points_after_read, points_after_write, readable_slots_of};
+ghost use Rattle.loom_views.specs.Table.{Points, ShowsViews, MovesAs, LoadsAs, StoresAs, OffersAs, IsSlotKept, opening, points_after_raise, points_after_acquire, points_after_release, points_after_release_fence, points_after_yield, points_with_point, points_with_stamp, points_after_stamp, points_after_stamp_release, points_after_stamp_acquire, points_after_spawn, points_after_join, points_with_atomic, points_after_load, points_after_store, points_after_update_read, points_after_update_write, points_after_update_fail, points_after_unsync_load, points_after_with_mut, points_after_with_mut_end, points_after_acquire_fence, points_after_meet_global, points_after_fence, points_with_cell, points_after_read, points_after_write, readable_slots_of};
 
 use crate::rt::atomic::{Reader, State};
 use crate::rt::cell::AccessRecords;
@@ -47,6 +47,8 @@ pub struct Views {
     threads: [ThreadViews; MAX_THREADS],
     count: usize,
     places: Sequence<Kept>,
+    // of messages and of other values that keep what their maker had released
+    stamps: Sequence<Synchronize>,
     global: VersionVec,
 }
 
@@ -59,6 +61,7 @@ impl Views {
             threads: [ThreadViews::new(); MAX_THREADS],
             count: 1,
             places: Sequence::new(alloc),
+            stamps: Sequence::new(alloc),
             global: VersionVec::new(),
         }
     }
@@ -105,6 +108,55 @@ impl Views {
         if let Kept::Point(sync) = self.places.at_mut(place) {
             sync.sync_store(&views, order);
         }
+    }
+
+    /// One more stamp, which nobody has released to. It answers its number. An error where a growth was refused; then nothing
+    /// changes (own; loom's channels keep a copy of their point with each message, and its lazy values a point each).
+    pub fn add_stamp(&mut self) -> Result<usize, AllocError>
+        ensures number { OnOk result (result ≡ Ok (length self.old.stamps)) }
+        ensures shown { (p : Points) → ShowsViews p self.old → OnOk result (ShowsViews (points_with_stamp p) self.new) }
+        ensures err { OnErr result (self.new ≡ self.old) }
+    {
+        let number = self.stamps.len();
+        self.stamps.push(Synchronize::new())?;
+        Ok(number)
+    }
+
+    /// The stamp is a copy of the point of an object that threads synchronize at (loom's `rt/mpsc.rs`).
+    pub fn stamp(&mut self, place: usize, stamp: usize)
+        ensures { (p : Points) → ShowsViews p self.old → ShowsViews (points_after_stamp p place stamp) self.new }
+    {
+        if place >= self.places.len() || stamp >= self.stamps.len() {
+            return;
+        }
+        if let Kept::Point(sync) = self.places.at(place) {
+            *self.stamps.at_mut(stamp) = *sync;
+        }
+    }
+
+    /// A thread releases to a stamp, by an ordering (loom's `lazy_static.rs`).
+    pub fn release_to_stamp(&mut self, thread: usize, stamp: usize, order: Ordering)
+        ensures { (p : Points) → ShowsViews p self.old → ShowsViews (points_after_stamp_release p thread stamp order) self.new }
+    {
+        if thread >= self.count || thread >= MAX_THREADS || stamp >= self.stamps.len() {
+            return;
+        }
+        let views = self.threads[thread];
+        self.stamps.at_mut(stamp).sync_store(&views, order);
+    }
+
+    /// A thread acquires from a stamp (loom's `rt/mpsc.rs` and `lazy_static.rs`).
+    pub fn acquire_from_stamp(&mut self, thread: usize, stamp: usize)
+        ensures { (p : Points) → ShowsViews p self.old → ShowsViews (points_after_stamp_acquire p thread stamp) self.new }
+    {
+        if thread >= self.count || thread >= MAX_THREADS || stamp >= self.stamps.len() {
+            return;
+        }
+        let mut views = self.threads[thread];
+        self.stamps
+            .at(stamp)
+            .sync_load(&mut views, Ordering::Acquire);
+        self.threads[thread] = views;
     }
 
     /// A thread's release fence: its later stores release what has come to it so far (loom's `rt/atomic.rs`).

@@ -1,16 +1,18 @@
-use Rattle.std.proofs.Common.{◌∙◌, refl, rules}
+use Rattle.std.proofs.Common.{refl, rules}
 use Rattle.loom_runs.specs.Courses.{opening}
+use Rattle.loom.specs.Settings.{explores}
+use Rattle.loom.proofs.Handing.{joined}
 use Rattle.loom.proofs.model.Builder.run.Goals as goal
 
 pub loop-bodies-init : goal.loop-bodies-init
 loop-bodies-init g c = record {
   under_way = record {
-    course = opening c.args.self.now.max_threads c.args.self.now.max_steps;
-    shown = c.in_ok-execution.ensures.opens c.args.path.now c.requires.starts;
+    course = opening (explores c.args.self.now) c.args.self.now.max_threads c.args.self.now.max_steps;
+    shown = c.in_ok-execution.ensures.opens (explores c.args.self.now) c.args.path.now c.requires.starts;
     left = search rules;
   };
   going = c.in_ok-execution.ensures.over;
-  same = refl;
+  same = (refl, refl, refl);
 }
 
 pub loop-bodies-preserved-in-Ok-Reply : goal.loop-bodies-preserved-in-Ok-Reply
@@ -20,7 +22,7 @@ loop-bodies-preserved-in-Ok-Reply g c =
     record {
       under_way = e _ c.loop-bodies.invariant.under_way;
       going = o;
-      same = c.hand_over.ensures.same ∙ c.loop-bodies.invariant.same;
+      same = joined c.args.path.now c.loop-bodies.path c.hand_over.new.path c.loop-bodies.invariant.same c.hand_over.ensures.same;
     }
 
 pub loop-bodies-preserved : goal.loop-bodies-preserved
@@ -30,7 +32,7 @@ loop-bodies-preserved g c =
     record {
       under_way = e _ c.loop-bodies.invariant.under_way;
       going = o;
-      same = c.hand_over.ensures.same ∙ c.loop-bodies.invariant.same;
+      same = joined c.args.path.now c.loop-bodies.path c.hand_over.new.path c.loop-bodies.invariant.same c.hand_over.ensures.same;
     }
 
 pub returns-in-Failure-clause-along : goal.returns-in-Failure-clause-along

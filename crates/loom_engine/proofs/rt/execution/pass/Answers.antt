@@ -33,7 +33,7 @@ returns-in-Err-access-clause-along g c =
     } in
     let says = rw c.in-Ok-Some.field-0-is at c.in-Ok-Some.ensures.says in
     let within = rw c.in-Ok-Some.field-0-is at c.in-Ok-Some.ensures.within in
-    access_refused c.args.run.now c.offers.result c.unordered.result c.args.path.now c.backtrack.new.self s c.branch_thread.new.self c.branch_thread.ensures.same.0 c.in-Ok-Some.thread
+    access_refused c.args.run.now c.offers.result c.unordered.result c.args.path.now c.backtrack.new.self s c.branch_thread.new.self c.branch_thread.ensures.same c.in-Ok-Some.thread
     (says c.unordered.result) c.in-Err-access.stop c.access.new.run
     (noted_by c.args.run.now c.offers.result c.unordered.result c.args.path.now c.backtrack.new.self s c.uses-uses.result c.in-Ok-Some.thread c.position-place.result (Err c.in-Err-access.stop)
     c.access.new.run.dependence c.uses-uses.ensures within c.position-place.ensures c.in-Err-access.ensures.notes)
@@ -47,7 +47,7 @@ returns-in-Ok-clause-along g c =
     } in
     let says = rw c.in-Ok-Some.field-0-is at c.in-Ok-Some.ensures.says in
     let within = rw c.in-Ok-Some.field-0-is at c.in-Ok-Some.ensures.within in
-    thread_chosen c.args.run.now c.offers.result c.unordered.result c.args.path.now c.backtrack.new.self s c.branch_thread.new.self c.branch_thread.ensures.same.0 c.in-Ok-Some.thread
+    thread_chosen c.args.run.now c.offers.result c.unordered.result c.args.path.now c.backtrack.new.self s c.branch_thread.new.self c.branch_thread.ensures.same c.in-Ok-Some.thread
     (says c.unordered.result) c.access.new.run
     (noted_by c.args.run.now c.offers.result c.unordered.result c.args.path.now c.backtrack.new.self s c.uses-uses.result c.in-Ok-Some.thread c.position-place.result (Ok tt)
     c.access.new.run.dependence c.uses-uses.ensures within c.position-place.ensures c.in-Ok.ensures.notes)
@@ -62,7 +62,7 @@ returns-in-Ok-clause-growth g c = λ e.
     } in
     let says = rw c.in-Ok-Some.field-0-is at c.in-Ok-Some.ensures.says in
     let within = rw c.in-Ok-Some.field-0-is at c.in-Ok-Some.ensures.within in
-    thread_needs c.args.run.now c.offers.result c.unordered.result c.args.path.now c.backtrack.new.self s c.in-Ok-Some.thread c.branch_thread.new.self c.branch_thread.ensures.same.0
+    thread_needs c.args.run.now c.offers.result c.unordered.result c.args.path.now c.backtrack.new.self s c.in-Ok-Some.thread c.branch_thread.new.self c.branch_thread.ensures.same
     (says c.unordered.result) c.access.new.run
     (noted_by c.args.run.now c.offers.result c.unordered.result c.args.path.now c.backtrack.new.self s c.uses-uses.result c.in-Ok-Some.thread c.position-place.result (Ok tt)
     c.access.new.run.dependence c.uses-uses.ensures within c.position-place.ensures c.in-Ok.ensures.notes)
@@ -76,7 +76,7 @@ returns-in-Err-close-clause-along g c =
       marks = c.backtrack.ensures;
     } in
     let says = rw c.in-Ok-None.field-0-is at c.in-Ok-None.ensures.says in
-    nobody_chosen c.args.run.now c.offers.result c.unordered.result c.args.path.now c.backtrack.new.self s c.branch_thread.new.self c.branch_thread.ensures.same.0
+    nobody_chosen c.args.run.now c.offers.result c.unordered.result c.args.path.now c.backtrack.new.self s c.branch_thread.new.self c.branch_thread.ensures.same
     (says c.unordered.result) (Err c.in-Err-close.stop) c.close.new.run c.branch_thread.new.self c.in-Err-close.ensures.along
 
 pub returns-in-Ok-close-clause-along : goal.returns-in-Ok-close-clause-along
@@ -87,5 +87,5 @@ returns-in-Ok-close-clause-along g c =
       marks = c.backtrack.ensures;
     } in
     let says = rw c.in-Ok-None.field-0-is at c.in-Ok-None.ensures.says in
-    nobody_chosen c.args.run.now c.offers.result c.unordered.result c.args.path.now c.backtrack.new.self s c.branch_thread.new.self c.branch_thread.ensures.same.0
+    nobody_chosen c.args.run.now c.offers.result c.unordered.result c.args.path.now c.backtrack.new.self s c.branch_thread.new.self c.branch_thread.ensures.same
     (says c.unordered.result) (Ok c.in-Ok-close.turn) c.close.new.run c.branch_thread.new.self c.in-Ok-close.ensures.along

@@ -1,13 +1,15 @@
-use Rattle.std.proofs.Common.{◌≡◌, ◌-◌, ◌<◌, ◌+◌, [], suc, length, map, refl, ap, sym, ◌∙◌, arith, rules}
-use Rattle.std.specs.Prelude.{min}
+use Rattle.std.proofs.Common.{◌≡◌, ◌-◌, ◌<◌, suc, length, ap, subst, sym, ◌∙◌, arith, rules}
+use Rattle.std.specs.Prelude.{min, Some, None}
 use Rattle.loom_walks.specs.Trees.Marks.{from_exploring}
 use Rattle.std.proofs.lemmas.List.{length-map}
 use Rattle.loom_walks.specs.Trees.Drive.{pass_of}
 use Rattle.loom_path.specs.Nodes.{seen}
 use Rattle.loom_path.specs.Routes.{stored}
-use Rattle.loom_path.specs.Marking.{passes_in}
+use Rattle.loom_path.specs.Marking.{IsNearest, passes_in}
 use Rattle.loom_path.proofs.Marking.Places.{down_within}
-use Rattle.loom_path.proofs.Marking.Nearest.{explores_here, goes_past, goes_past_other}
+use Rattle.loom_path.proofs.Marking.Nearest.{explores_here, goes_past, goes_past_other, nearest_noted}
+use Rattle.loom_path.proofs.Marking.Noted.{got_node}
+use Rattle.loom_path.specs.declared.rt.node.Node.TheVariants as node
 use Rattle.loom_path.proofs.rt.backtrack.exploring_in.Goals as goal
 
 pub loop-left-init : goal.loop-left-init
@@ -27,12 +29,25 @@ returns-then-schedule c =
     let l = c.loop-left in
     explores_here c.args.nodes.now c.args.place l.left _ c.loop-left-test.true l.invariant.within l.invariant.same c.in-Schedule.schedule c.in-Schedule.is c.if-schedule.true
 
-pub loop-left-preserved-else-schedule : goal.loop-left-preserved-else-schedule
-loop-left-preserved-else-schedule c =
-    let l = c.loop-left in record {
-      within = omega arith;
-      same = goes_past c.args.nodes.now c.args.place l.left _ c.loop-left-test.true l.invariant.within l.invariant.same c.in-Schedule.schedule c.in-Schedule.is c.if-schedule.false;
-    }
+-- a schedule that doesn't explore notes the nearest before it
+pub returns-in_err-schedule : goal.returns-in_err-schedule
+returns-in_err-schedule c =
+    let l = c.loop-left in
+    let nodes = c.args.nodes.now in
+    let s = c.in-Schedule.schedule in
+    let there = got_node nodes (l.left - 1) (node.Schedule s) _ (omega (arith, c.loop-left-test.true, l.invariant.within)) c.in-Schedule.is in
+    subst (IsNearest (passes_in nodes) c.args.place) (sym c.from_residual.ensures)
+    (nearest_noted nodes c.args.place (l.left - 1) s there c.requires
+    (goes_past nodes c.args.place l.left _ c.loop-left-test.true l.invariant.within l.invariant.same s c.in-Schedule.is c.if-schedule.false) None c.in_err-schedule.was)
+
+pub returns-in-Schedule : goal.returns-in-Schedule
+returns-in-Schedule c =
+    let l = c.loop-left in
+    let nodes = c.args.nodes.now in
+    let s = c.in-Schedule.schedule in
+    let there = got_node nodes (l.left - 1) (node.Schedule s) _ (omega (arith, c.loop-left-test.true, l.invariant.within)) c.in-Schedule.is in
+    nearest_noted nodes c.args.place (l.left - 1) s there c.requires
+    (goes_past nodes c.args.place l.left _ c.loop-left-test.true l.invariant.within l.invariant.same s c.in-Schedule.is c.if-schedule.false) (Some c.in_ok-schedule.field-0) c.in_ok-schedule.was
 
 pub loop-left-preserved : goal.loop-left-preserved
 loop-left-preserved c =

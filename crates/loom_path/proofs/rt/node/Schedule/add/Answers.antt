@@ -1,7 +1,8 @@
-use Rattle.std.proofs.Common.{◌≡◌, ap, sym, subst, ◌∙◌, rules, arith}
+use Rattle.std.proofs.Common.{ap, map, sym, subst, true, refl, ◌∙◌, rules, arith}
+use Rattle.std.specs.Prelude.{slice_set}
 use Rattle.loom_walks.specs.Walk.Path.{IsAtRest}
-use Rattle.loom_path.specs.Nodes.{seen_schedule}
-use Rattle.loom_path.specs.declared.rt.node.Status.TheVariants.{Disabled}
+use Rattle.loom_path.specs.Nodes.{marked_status, seen_schedule, seen_threads}
+use Rattle.loom_path.specs.declared.rt.node.Status.TheVariants.{Disabled, Pending}
 use Rattle.loom_path.proofs.Marking.Adding.{at_disabled, at_skipped, at_other, at_nobody, at_fixed, added_rests}
 use Rattle.loom_path.proofs.rt.node.Schedule.add.Goals as goal
 use Rattle.loom_path.proofs.rt.node.Schedule.add.Goals.{then-not-self-via-then-not-self, then-not-self-via-else-not-self+then-thread-ge5}
@@ -19,14 +20,17 @@ returns-in-Disabled-clause-added c =
 
 pub returns-in-Disabled-clause-rests : goal.returns-in-Disabled-clause-rests
 returns-in-Disabled-clause-rests c =
-    subst IsAtRest (sym (returns-in-Disabled-clause-added c)) (added_rests c.args.thread (seen_schedule c.args.self.now) c.requires)
+    let n = c.args.self.now in
+    subst (λ l. IsAtRest (seen_threads n.first true l)) (sym c.marked_statuses-self.ensures)
+    (added_rests c.args.thread n (map marked_status n.statuses) (at_disabled (record n { exploring = true }) refl c.args.thread Disabled (search rules) c.in-Disabled.is) c.requires)
 
 pub returns-in-Skip-clause-added : goal.returns-in-Skip-clause-added
 returns-in-Skip-clause-added c = at_skipped c.args.self.now c.if-not-self.false c.args.thread Disabled (search rules) c.in-Skip.is
 
 pub returns-in-Skip-clause-rests : goal.returns-in-Skip-clause-rests
 returns-in-Skip-clause-rests c =
-    subst IsAtRest (sym (returns-in-Skip-clause-added c)) (added_rests c.args.thread (seen_schedule c.args.self.now) c.requires)
+    let n = c.args.self.now in
+    added_rests c.args.thread n (slice_set n.statuses c.args.thread Pending) (at_skipped (record n { exploring = true }) refl c.args.thread Disabled (search rules) c.in-Skip.is) c.requires
 
 pub returns-in-Yield-clause-added : goal.returns-in-Yield-clause-added
 returns-in-Yield-clause-added c =

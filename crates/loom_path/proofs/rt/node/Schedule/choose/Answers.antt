@@ -1,4 +1,4 @@
-use Rattle.std.proofs.Common.{◌≡◌, subst, ap, sym, ◌∙◌}
+use Rattle.std.proofs.Common.{◌≡◌, true, subst, ap, sym, ◌∙◌}
 use Rattle.std.specs.Prelude.{slice_set}
 use Rattle.loom_walks.specs.Walk.Path.{IsAtRest}
 use Rattle.loom_path.specs.declared.rt.node.Status.TheVariants.{Active, Visited}
@@ -19,4 +19,8 @@ pub returns-clause-rests : goal.returns-clause-rests
 returns-clause-rests c =
     let n = c.args.self.now in
     let left = some_left n.statuses c.args.thread c.requires.left in
-    subst IsAtRest (sym (returns-clause-chosen c)) (chosen_rests n.first n.exploring n.statuses c.args.thread left.0 c.requires.rests c.requires.explores left.1 left.2)
+    let active : c.active.result ≡ active_thread n.statuses = cc c.active.ensures.present in
+    subst IsAtRest (sym (
+    ap (λ l. seen_threads n.first true (slice_set l c.args.thread Active)) (c.with_status-self.ensures ∙ ap (λ o. with_status o Visited n.statuses) active)
+    ∙ chosen_is n.first true n.statuses c.args.thread left.0 c.requires.rests left.1 left.2
+    )) (chosen_rests n.first n.statuses c.args.thread left.0 c.requires.rests left.1 left.2)

@@ -1,4 +1,5 @@
 use Rattle.std.proofs.Common.{◌≡◌, ◌≤◌, ◌<◌, ◌+◌, [], ◌∷◌, ◌++◌, length, true, refl, ap, ◌∙◌, subst, sym, arith, rules}
+use Rattle.loom_objects.specs.Exploring.{is_on}
 use Rattle.loom_objects.specs.Question.{made_of}
 use Rattle.loom_objects.specs.declared.choice.Choice.TheVariants.{Spurious}
 use Rattle.loom_walks.specs.Trees.Drive.{new_node}
@@ -26,6 +27,6 @@ returns-in-Ok-clause-says c =
     let held : length (the_view c.self.inside).nodes ≤ (the_view c.self.inside).position = omega (arith, c.self.inside.nodes.ok.0) in
     let past : length p.nodes ≤ p.position = past_end (the_view c.self.inside) p c.self.view_is held in
     let room : p.position < p.search.max_branches = search rules in
-    makes p whether_spurious past room true refl (node.Spurious c.in-Some.spurious) (Spurious c.in-Some.spurious.answer) c.pass_value-in-Ok.new.self
-    (c.in-Some.ensures ∙ ap (new_node true (made_of whether_spurious)) c.given_here.ensures) refl
+    makes p (whether_spurious (is_on p.exploring)) past room true refl (node.Spurious c.in-Some.spurious) (Spurious c.in-Some.spurious.answer) c.pass_value-in-Ok.new.self
+    (c.in-Some.ensures ∙ ap (λ b. new_node true (made_of (whether_spurious b)) c.given_here.result) c.is_exploring-exploring.ensures ∙ ap (new_node true (made_of (whether_spurious (is_on p.exploring)))) c.given_here.ensures) refl
     (c.pass_value-in-Ok.ensures ∙ ap (λ (r : Route). record r { position = r.position + 1 }) c.in-Ok.ensures.made)

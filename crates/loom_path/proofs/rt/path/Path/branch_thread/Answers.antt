@@ -1,6 +1,7 @@
 use Rattle.std.proofs.Common.{◌≡◌, ◌≤◌, ◌<◌, ◌+◌, length, Some, refl, ap, sym, ◌∙◌, subst, arith, rules}
 use Rattle.std.specs.Prelude.{slice_get}
-use Rattle.loom_objects.specs.Question.{Question}
+use Rattle.loom_objects.specs.Exploring.{is_on}
+use Rattle.loom_objects.specs.Question.{Question, made_of}
 use Rattle.loom_objects.specs.declared.choice.Choice.TheVariants.{Thread}
 use Rattle.loom_path.specs.declared.rt.node.Node.{Node}
 use Rattle.loom_path.specs.declared.rt.node.Node.TheVariants as node
@@ -29,9 +30,10 @@ pub returns-then-not-meets-clause-says : goal.returns-then-not-meets-clause-says
 returns-then-not-meets-clause-says c = λ places.
     let p : Route = the_view c.self.inside in
     let n : Node = node.Schedule c.in-Schedule.schedule in
+    let on : c.is_exploring-exploring.result ≡ is_on p.exploring = c.is_exploring-exploring.ensures ∙ ap (λ (r : Route). is_on r.exploring) (sym c.self.view_is) in
     rw (c.failed-then-not-meets.ensures, ← c.self.view_is) (
-      differs p (which_thread c.args.offers.now places) n (omega (arith, c.self.inside.nodes.ok.0)) (rw c.in-Schedule.is at c.index.ensures)
-          (λ e. let met = (c.if-not-meets.ensures places).1 e in cc met),
+      differs p (which_thread (is_on p.exploring) c.args.offers.now places) n (omega (arith, c.self.inside.nodes.ok.0)) (rw c.in-Schedule.is at c.index.ensures)
+          (λ e. let met = (c.if-not-meets.ensures places).1 (e ∙ ap (λ b. made_of (which_thread b c.args.offers.now places)) (sym on)) in cc met),
       refl,
     )
 
@@ -39,9 +41,9 @@ pub returns-then-self-len-clause-says : goal.returns-then-self-len-clause-says
 returns-then-self-len-clause-says c = λ places.
     let p : Route = the_view c.self.inside in
     let n : Node = node.Schedule c.in-Schedule.schedule in
-    let question : Question = which_thread c.args.offers.now places in
+    let question : Question = which_thread (is_on c.args.self.now.exploring) c.args.offers.now places in
     passed_on p c.args.self.now question (Thread c.active.result) c.pass.new.self c.self.view_is
-    (follows p question n (Thread c.active.result) (omega (arith, c.self.inside.nodes.ok.0)) (rw c.in-Schedule.is at c.index.ensures) ((c.if-not-meets.ensures places).0 refl) c.active.ensures.present)
+    (follows p question n (Thread c.active.result) (omega (arith, c.self.inside.nodes.ok.0)) (rw c.in-Schedule.is at c.index.ensures) ((c.if-not-meets.ensures places).0 refl ∙ ap (λ b. made_of (which_thread b c.args.offers.now places)) c.is_exploring-exploring.ensures) c.active.ensures.present)
     c.pass.ensures
 
 pub returns-then-is_full-clause-says : goal.returns-then-is_full-clause-says
@@ -49,12 +51,12 @@ returns-then-is_full-clause-says c = λ places.
     let p : Route = c.args.self.now in
     let held : length (the_view c.self.inside).nodes ≤ (the_view c.self.inside).position = omega (arith, c.self.inside.nodes.ok.0) in
     let past : length p.nodes ≤ p.position = past_end (the_view c.self.inside) p c.self.view_is held in
-    rw c.failed-then-is_full.ensures (full p (which_thread c.args.offers.now places) past (c.if-is_full.ensures.0 refl), refl)
+    rw c.failed-then-is_full.ensures (full p (which_thread (is_on p.exploring) c.args.offers.now places) past (c.if-is_full.ensures.0 refl), refl)
 
 pub returns-in_default-new_schedule-clause-says : goal.returns-in_default-new_schedule-clause-says
 returns-in_default-new_schedule-clause-says c = λ places.
     let p : Route = c.args.self.now in
-    let question : Question = which_thread c.args.offers.now places in
+    let question : Question = which_thread (is_on p.exploring) c.args.offers.now places in
     let held : length (the_view c.self.inside).nodes ≤ (the_view c.self.inside).position = omega (arith, c.self.inside.nodes.ok.0) in
     let past : length p.nodes ≤ p.position = past_end (the_view c.self.inside) p c.self.view_is held in
     let room : p.position < p.search.max_branches = search rules in
@@ -63,7 +65,7 @@ returns-in_default-new_schedule-clause-says c = λ places.
 pub returns-in-Err-clause-says : goal.returns-in-Err-clause-says
 returns-in-Err-clause-says c = λ places.
     let p : Route = c.args.self.now in
-    let question : Question = which_thread c.args.offers.now places in
+    let question : Question = which_thread (is_on p.exploring) c.args.offers.now places in
     let held : length (the_view c.self.inside).nodes ≤ (the_view c.self.inside).position = omega (arith, c.self.inside.nodes.ok.0) in
     let past : length p.nodes ≤ p.position = past_end (the_view c.self.inside) p c.self.view_is held in
     let room : p.position < p.search.max_branches = search rules in
@@ -72,7 +74,7 @@ returns-in-Err-clause-says c = λ places.
 pub returns-in-Ok-clause-says : goal.returns-in-Ok-clause-says
 returns-in-Ok-clause-says c = λ places.
     let p : Route = c.args.self.now in
-    let question : Question = which_thread c.args.offers.now places in
+    let question : Question = which_thread (is_on p.exploring) c.args.offers.now places in
     let held : length (the_view c.self.inside).nodes ≤ (the_view c.self.inside).position = omega (arith, c.self.inside.nodes.ok.0) in
     let past : length p.nodes ≤ p.position = past_end (the_view c.self.inside) p c.self.view_is held in
     let room : p.position < p.search.max_branches = search rules in

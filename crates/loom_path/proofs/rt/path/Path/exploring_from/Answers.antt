@@ -1,9 +1,16 @@
-use Rattle.std.proofs.Common.{take, ap, subst, ◌∙◌}
+use Rattle.std.proofs.Common.{take, ap, subst, sym, ◌∙◌}
 use Rattle.loom_walks.specs.Trees.Drive.{passes_of}
 use Rattle.loom_path.specs.Routes.{trail}
 use Rattle.loom_path.specs.Marking.{IsNearest, passes_in}
+use Rattle.loom_path.specs.Tallies.{AreNoted}
+use Rattle.loom_path.proofs.Notes.{noted_front}
 use Rattle.loom_path.proofs.Marking.Nearest.{passes_taken}
 use Rattle.loom_path.proofs.rt.path.Path.exploring_from.Goals as goal
+
+pub exploring_in-requires : goal.exploring_in-requires
+exploring_in-requires c =
+    let p = c.self.inside in
+    subst (λ l. AreNoted (take p.position l)) (sym c.deref.ensures.value) (noted_front p.nodes.items p.position c.self.invariant.3)
 
 pub returns : goal.returns
 returns c =

@@ -1,4 +1,4 @@
-use Rattle.std.proofs.Common.{◌≡◌, inl, inr, ap, sym, ◌∙◌}
+use Rattle.std.proofs.Common.{inl, inr, sym, ◌∙◌}
 use Rattle.loom_path.specs.Routes.{Route}
 use Rattle.loom_path.specs.contracts.rt.path.Path.{the_view}
 use Rattle.loom_path.proofs.Marking.Threads.{none_nearest, nearest_schedule, first_alone, switch_passed, first_and_switch, bounded, unbounded}

@@ -1,0 +1,3 @@
+mod Finding
+mod Going
+mod Taking

@@ -1,0 +1,4 @@
+//! What channels do.
+#![tactic(auto)]
+
+pub mod channels;

@@ -1,0 +1,10 @@
+use Rattle.loom_engine.proofs.Growing.{IsLeft}
+use Rattle.loom_engine.proofs.rt.execution.schedule.Given as goal
+
+-- what the schedules that are left come to is what all come to
+abbrev pub invariant-passes : goal.invariant-passes
+invariant-passes g l = IsLeft l.fn.more l.fn.run l.fn.path l.left l.run l.path
+
+-- each branch point leaves room for one less
+abbrev pub decreases-passes : goal.decreases-passes
+decreases-passes g l = l.left

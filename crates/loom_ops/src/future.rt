@@ -1,0 +1,111 @@
+//! Futures: a thread waits until a waker of its future notifies it. The body polls, in place of a future.
+ghost use Rattle.std.specs.Prelude.{◌≡◌, None};
+ghost use Rattle.loom_ops.specs.Wakers.{block_on_handle, waker_handle};
+
+pub mod atomic_waker;
+
+pub use crate::future::atomic_waker::AtomicWaker;
+use loom_objects::operation::{Op, Reply, WakerOp};
+
+/// What drives a future to its end: make it and poll; while the future is pending, wait and poll again; then finish (loom's
+/// `block_on` in `future/mod.rs`).
+#[derive(Clone, Copy, Debug)]
+pub struct BlockOn {
+    /// The place of its count of wakers in the order in which objects were made.
+    pub number: usize,
+}
+
+/// A waker of a future (loom's `future/mod.rs`). The wakers that were made and not dropped are counted, not the handles: a
+/// handle that is copied or dropped does nothing. Where some are left at the run's end, it fails as `LeakArc`.
+#[derive(Clone, Copy, Debug)]
+pub struct Waker {
+    /// The place of its count in the order in which objects were made.
+    pub number: usize,
+}
+
+impl BlockOn {
+    /// A notifier for a future, which isn't notified, with a count of one waker (loom's `future/mod.rs`).
+    #[allow(clippy::new_ret_no_self)]
+    pub fn new<D, S>() -> Op<D, S>
+        ensures { result ≡ Op.Waker WakerOp.New None }
+    {
+        Op::Waker(WakerOp::New, None)
+    }
+
+    /// What was made, if that is what the reply says (own).
+    pub fn from_reply<D>(reply: &Reply<D>) -> Option<BlockOn>
+        ensures { result ≡ block_on_handle reply.now }
+    {
+        match reply {
+            Reply::BlockOn(number) => Some(BlockOn { number: *number }),
+            _ => None,
+        }
+    }
+
+    /// The waker that a poll is lent: it isn't counted, and the poll must not drop it, nor wake by it but by reference. It is
+    /// no operation (loom's `future/mod.rs`).
+    pub fn waker(self) -> Waker
+        ensures { result.number ≡ self.number }
+    {
+        Waker {
+            number: self.number,
+        }
+    }
+
+    /// Waits until a waker notifies. Once in a run, one wait may also end without that (loom's `future/mod.rs`).
+    pub fn wait<D, S>(self) -> Op<D, S>
+        ensures { result ≡ Op.Waker (WakerOp.Wait self.number) None }
+    {
+        Op::Waker(WakerOp::Wait(self.number), None)
+    }
+
+    /// The future is ready: one waker fewer, which is the notifier's own (loom's `future/mod.rs`).
+    pub fn finish<D, S>(self) -> Op<D, S>
+        ensures { result ≡ Op.Waker (WakerOp.Finish self.number) None }
+    {
+        Op::Waker(WakerOp::Finish(self.number), None)
+    }
+}
+
+impl Waker {
+    /// The waker, if that is what the reply says: the one that was taken out of its place, or the first one of what was made,
+    /// which is lent (own).
+    pub fn from_reply<D>(reply: &Reply<D>) -> Option<Waker>
+        ensures { result ≡ waker_handle reply.now }
+    {
+        match reply {
+            Reply::BlockOn(number) => Some(Waker { number: *number }),
+            Reply::Waker(number) => Some(Waker { number: *number }),
+            _ => None,
+        }
+    }
+
+    /// One waker more, by the same handle (loom's `future/mod.rs`).
+    #[allow(clippy::should_implement_trait)]
+    pub fn clone<D, S>(self) -> Op<D, S>
+        ensures { result ≡ Op.Waker (WakerOp.Clone self.number) None }
+    {
+        Op::Waker(WakerOp::Clone(self.number), None)
+    }
+
+    /// Notifies the thread that waits, or else the next wait, and then there is one waker fewer (loom's `future/mod.rs`).
+    pub fn wake<D, S>(self) -> Op<D, S>
+        ensures { result ≡ Op.Waker (WakerOp.Wake self.number) None }
+    {
+        Op::Waker(WakerOp::Wake(self.number), None)
+    }
+
+    /// Notifies the thread that waits, or else the next wait (loom's `future/mod.rs`).
+    pub fn wake_by_ref<D, S>(self) -> Op<D, S>
+        ensures { result ≡ Op.Waker (WakerOp.WakeByRef self.number) None }
+    {
+        Op::Waker(WakerOp::WakeByRef(self.number), None)
+    }
+
+    /// One waker fewer: in loom the drop. Where none is left any operation of a waker is a misuse (loom's `future/mod.rs`).
+    pub fn drop<D, S>(self) -> Op<D, S>
+        ensures { result ≡ Op.Waker (WakerOp.Drop self.number) None }
+    {
+        Op::Waker(WakerOp::Drop(self.number), None)
+    }
+}

@@ -1,0 +1,47 @@
+//! Values that are made once a run.
+ghost use Rattle.std.specs.Prelude.{◌≡◌, Some, None, codes};
+
+pub use crate::thread::{AccessError, yield_now};
+use loom_objects::operation::{LazyOp, Op};
+use std::fmt;
+
+/// A value that is made once a run, by the first thread that gives it (loom's `lazy_static.rs`). In loom it has a function that
+/// makes it; here the body asks by `get`, and gives one by `init`.
+#[derive(Clone, Copy)]
+pub struct Lazy {
+    /// The number that it is named by.
+    pub key: usize,
+}
+
+impl fmt::Debug for Lazy {
+    ghost debug_output = { λ _. Some (codes "Lazy { .. }") };
+
+    fn fmt<W: fmt::Write>(&self, f: &mut fmt::Formatter<W>) -> fmt::Result {
+        f.pad("Lazy { .. }")
+    }
+}
+
+impl Lazy {
+    /// The value that is named by this number. It is no operation (loom's `lazy_static.rs`).
+    pub fn new(key: usize) -> Lazy
+        ensures { result.key ≡ key }
+    {
+        Lazy { key }
+    }
+
+    /// Replies a copy of the value, or `Absent`. Once main has finished that is the failure `LazyShutdown` (loom's
+    /// `lazy_static.rs`).
+    pub fn get<D, S>(self) -> Op<D, S>
+        ensures { result ≡ Op.Lazy (LazyOp.Get self.key) None }
+    {
+        Op::Lazy(LazyOp::Get(self.key), None)
+    }
+
+    /// Gives the value, and replies a copy of it. Where one was given before, that one stays, and it replies `Stood` with a copy
+    /// and with what wasn't needed. Once main has finished that is the failure `LazyShutdown` (loom's `lazy_static.rs`).
+    pub fn init<D, S>(self, value: D) -> Op<D, S>
+        ensures { result ≡ Op.Lazy (LazyOp.Init self.key value) None }
+    {
+        Op::Lazy(LazyOp::Init(self.key, value), None)
+    }
+}

@@ -1,0 +1,99 @@
+//! Channels: many threads send messages, and one receives them.
+ghost use Rattle.std.specs.Prelude.{◌≡◌, None};
+ghost use Rattle.loom_ops.specs.Channels.{receiver_handle, sender_handle};
+
+use loom_objects::operation::{ChannelOp, Op, Reply};
+
+/// A sender of a channel of the run (loom's `sync/mpsc.rs`). The senders that were made and not dropped are counted, not the
+/// handles: a handle that is copied or dropped does nothing.
+#[derive(Clone, Copy, Debug)]
+pub struct Sender {
+    /// The channel's place in the order in which objects were made.
+    pub number: usize,
+}
+
+/// The receiver of a channel of the run (loom's `sync/mpsc.rs`). A handle that is copied or dropped does nothing. Where messages
+/// are left at the run's end, it fails as `LeakMessages`.
+#[derive(Clone, Copy, Debug)]
+pub struct Receiver {
+    /// The channel's place in the order in which objects were made.
+    pub number: usize,
+}
+
+/// A new channel, with one sender and its receiver, which both come of its reply (loom's `sync/mpsc.rs`).
+pub fn channel<D, S>() -> Op<D, S>
+    ensures { result ≡ Op.Channel ChannelOp.New None }
+{
+    Op::Channel(ChannelOp::New, None)
+}
+
+impl Sender {
+    /// The first sender of the channel that was made, if that is what the reply says (own).
+    pub fn from_reply<D>(reply: &Reply<D>) -> Option<Sender>
+        ensures { result ≡ sender_handle reply.now }
+    {
+        match reply {
+            Reply::Channel(number) => Some(Sender { number: *number }),
+            _ => None,
+        }
+    }
+
+    /// Sends the message, which goes last. Once the receiver is dropped it replies `SendError` with the message (loom's
+    /// `sync/mpsc.rs`).
+    pub fn send<D, S>(self, message: D) -> Op<D, S>
+        ensures { result ≡ Op.Channel (ChannelOp.Send self.number message) None }
+    {
+        Op::Channel(ChannelOp::Send(self.number, message), None)
+    }
+
+    /// One sender more, by the same handle (loom's `sync/mpsc.rs`).
+    #[allow(clippy::should_implement_trait)]
+    pub fn clone<D, S>(self) -> Op<D, S>
+        ensures { result ≡ Op.Channel (ChannelOp.CloneSender self.number) None }
+    {
+        Op::Channel(ChannelOp::CloneSender(self.number), None)
+    }
+
+    /// One sender fewer: in loom the drop. After the last one any operation of a sender is a misuse (loom's `sync/mpsc.rs`).
+    pub fn drop<D, S>(self) -> Op<D, S>
+        ensures { result ≡ Op.Channel (ChannelOp.DropSender self.number) None }
+    {
+        Op::Channel(ChannelOp::DropSender(self.number), None)
+    }
+}
+
+impl Receiver {
+    /// The receiver of the channel that was made, if that is what the reply says (own).
+    pub fn from_reply<D>(reply: &Reply<D>) -> Option<Receiver>
+        ensures { result ≡ receiver_handle reply.now }
+    {
+        match reply {
+            Reply::Channel(number) => Some(Receiver { number: *number }),
+            _ => None,
+        }
+    }
+
+    /// Replies the message that was sent first. It waits while there is none and a sender is left; without one it replies
+    /// `RecvError` (loom's `sync/mpsc.rs`).
+    pub fn recv<D, S>(self) -> Op<D, S>
+        ensures { result ≡ Op.Channel (ChannelOp.Recv self.number) None }
+    {
+        Op::Channel(ChannelOp::Recv(self.number), None)
+    }
+
+    /// The same, where there is a message. Where there is none it replies `Empty`, also without senders, and doesn't wait;
+    /// where another thread has taken it since, and no sender is left, `Disconnected` (loom's `sync/mpsc.rs`).
+    pub fn try_recv<D, S>(self) -> Op<D, S>
+        ensures { result ≡ Op.Channel (ChannelOp.TryRecv self.number) None }
+    {
+        Op::Channel(ChannelOp::TryRecv(self.number), None)
+    }
+
+    /// Receives the messages that are left, and replies them; then the receiver is no more, and a later operation of it is a
+    /// misuse (loom's `sync/mpsc.rs`).
+    pub fn drop<D, S>(self) -> Op<D, S>
+        ensures { result ≡ Op.Channel (ChannelOp.DropReceiver self.number) None }
+    {
+        Op::Channel(ChannelOp::DropReceiver(self.number), None)
+    }
+}

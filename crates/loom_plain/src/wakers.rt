@@ -1,0 +1,182 @@
+//! Wakers of futures, and places for wakers.
+use crate::halt::{Halt, Told, check};
+use crate::state::{AfterDrop, Machine, Object, Pending, Place, State, Wakers};
+use loom_objects::operation::{AtomicWakerOp, Reply, WakerOp};
+use loom_scripts::number::Number;
+use loom_views::rt::failure::FailureKind;
+
+impl Machine {
+    /// An operation of a future's notifier or of its wakers is handed over.
+    pub fn waker_begins(&mut self, op: WakerOp) -> Told {
+        match op {
+            WakerOp::New => self.block_on_new(),
+            WakerOp::Wait(number) => {
+                let notifier = self.wakers(number)?.notifier;
+                self.wait_begins(notifier)
+            }
+            WakerOp::Clone(number) => {
+                self.wakers(number)?;
+                self.pends(Pending::CloneWaker(number, None), false)
+            }
+            WakerOp::Finish(number) | WakerOp::Drop(number) => {
+                self.wakers(number)?;
+                self.pends(Pending::DropWaker(number, AfterDrop::Nothing), false)
+            }
+            WakerOp::Wake(number) => self.wake_begins(number, Some(AfterDrop::Nothing)),
+            WakerOp::WakeByRef(number) => self.wake_begins(number, None),
+        }
+    }
+
+    // A notifier, and then the count of its wakers.
+    fn block_on_new(&mut self) -> Told {
+        let notifier = self.notify_new(false)?;
+        let wakers = Wakers {
+            notifier,
+            count: 1,
+            point: self.fresh_point()?,
+        };
+        let number = self.add_object(Object::Wakers(wakers))?;
+        Ok(Some(Reply::BlockOn(number)))
+    }
+
+    // The active thread comes to wake by the waker.
+    fn wake_begins(&mut self, number: usize, after: Option<AfterDrop>) -> Told {
+        let notifier = self.wakers(number)?.notifier;
+        self.pends(Pending::Wake(notifier, number, after), false)
+    }
+
+    /// The active thread wakes by the waker, and may come to drop that.
+    pub fn wakes_by(&mut self, notifier: usize, number: usize, after: Option<AfterDrop>) -> Told {
+        self.wakers(number)?;
+        let told = self.notifies(notifier)?;
+        match after {
+            Some(after) => self.pends(Pending::DropWaker(number, after), false),
+            None => Ok(told),
+        }
+    }
+
+    /// One waker more, which may be about to take a place.
+    pub fn clones_waker(&mut self, number: usize, place: Option<usize>) -> Told {
+        let wakers = self.wakers(number)?;
+        wakers.count = wakers.count.checked_add(1).ok_or(Halt::Broken)?;
+        match place {
+            Some(place) => self.pends(Pending::Register(place, number), false),
+            None => Ok(Some(Reply::Done)),
+        }
+    }
+
+    /// One waker fewer; who drops the last one acquires.
+    pub fn drops_waker(&mut self, number: usize, after: AfterDrop) -> Told {
+        let point = self.wakers(number)?.point;
+        let point = self.released_to(point)?;
+        let wakers = self.wakers(number)?;
+        wakers.point = point;
+        wakers.count = wakers.count.checked_sub(1).ok_or(Halt::Broken)?;
+        if wakers.count == 0 {
+            self.acquire(point)?;
+        }
+        match after {
+            AfterDrop::Nothing => Ok(Some(Reply::Done)),
+            AfterDrop::Yield => self.yields(Pending::Continue),
+            AfterDrop::Free(place) => self.frees_place(place),
+        }
+    }
+
+    /// An operation of a place for wakers is handed over.
+    pub fn place_begins(&mut self, op: AtomicWakerOp) -> Told {
+        match op {
+            AtomicWakerOp::New => self.place_new(),
+            AtomicWakerOp::Register(number, waker) => {
+                self.register_begins(number, waker, Pending::Register(number, waker))
+            }
+            AtomicWakerOp::RegisterByRef(number, waker) => {
+                self.register_begins(number, waker, Pending::CloneWaker(waker, Some(number)))
+            }
+            AtomicWakerOp::Wake(number) => self.take_begins(number, true),
+            AtomicWakerOp::TakeWaker(number) => self.take_begins(number, false),
+            AtomicWakerOp::Drop(number) => {
+                let waker = self.place(number)?.waker.take();
+                Ok(Some(waker_reply(waker)))
+            }
+        }
+    }
+
+    fn place_new(&mut self) -> Told {
+        let place = Place {
+            holder: None,
+            waker: None,
+            point: self.fresh_point()?,
+        };
+        let number = self.add_object(Object::Place(place))?;
+        Ok(Some(Reply::AtomicWaker(number)))
+    }
+
+    // The active thread comes to a branch point with a place and a waker that are there.
+    fn register_begins(&mut self, number: usize, waker: usize, pending: Pending) -> Told {
+        self.place(number)?;
+        self.wakers(waker)?;
+        self.pends(pending, false)
+    }
+
+    // The active thread comes to take the waker out, and is blocked while the place is held.
+    fn take_begins(&mut self, number: usize, wakes: bool) -> Told {
+        let is_held = self.place(number)?.holder.is_some();
+        self.pends(Pending::TakeWaker(number, wakes), is_held)
+    }
+
+    // The active thread holds the place, and leaves this waker there. Gives the old one.
+    fn holds_place(&mut self, number: usize, waker: Option<usize>) -> Result<Option<usize>, Halt> {
+        let active = self.active;
+        let place = self.place(number)?;
+        check(place.holder.is_none(), FailureKind::Misuse)?;
+        place.holder = Some(active);
+        let (old, point) = (place.waker, place.point);
+        place.waker = waker;
+        self.acquire(point)?;
+        self.set_pending(number, State::Blocked);
+        Ok(old)
+    }
+
+    // The active thread holds the place no more.
+    fn frees_place(&mut self, number: usize) -> Told {
+        let point = self.place(number)?.point;
+        let point = self.released_to(point)?;
+        let place = self.place(number)?;
+        place.holder = None;
+        place.point = point;
+        self.set_pending(number, State::Runnable);
+        Ok(Some(Reply::Done))
+    }
+
+    /// The waker takes the place, and an old one is dropped while the place is held; where another thread holds it, the waker
+    /// wakes and is dropped, and the active thread yields.
+    pub fn registers(&mut self, number: usize, waker: usize) -> Told {
+        self.wakers(waker)?;
+        if self.place(number)?.holder.is_some() {
+            return self.wake_begins(waker, Some(AfterDrop::Yield));
+        }
+        match self.holds_place(number, Some(waker))? {
+            Some(old) => self.pends(Pending::DropWaker(old, AfterDrop::Free(number)), false),
+            None => self.frees_place(number),
+        }
+    }
+
+    /// The waker is taken out of the place, and may be about to wake.
+    pub fn takes_waker(&mut self, number: usize, wakes: bool) -> Told {
+        let waker = self.holds_place(number, None)?;
+        let told = self.frees_place(number)?;
+        match waker {
+            Some(waker) if wakes => self.wake_begins(waker, Some(AfterDrop::Nothing)),
+            None if wakes => Ok(told),
+            Some(_) | None => Ok(Some(waker_reply(waker))),
+        }
+    }
+}
+
+// What is told of a waker that was taken out of its place.
+fn waker_reply(waker: Option<usize>) -> Reply<Number> {
+    match waker {
+        Some(number) => Reply::Waker(number),
+        None => Reply::NoWaker,
+    }
+}

@@ -1,0 +1,374 @@
+//! Bodies that aren't rows, in which threads meet at channels, at wakers and their places, and at values, and bodies that
+//! explore in parts.
+use loom::sync::atomic::Ordering::Relaxed;
+use loom_objects::operation::{
+    AtomicOp, AtomicWakerOp, CellOp, ChannelOp, ExploreOp, LazyOp, LocalOp, MutexOp, NotifyOp, Op,
+    ThreadOp, WakerOp,
+};
+use loom_scripts::step::{END, EXIT, Step, Value, YIELD};
+use loom_views::rt::num::Numbers;
+
+const CHANNEL: Step = Step::Do(0, Op::Channel(ChannelOp::New, None));
+
+const SEND: Step = Step::Do(0, Op::Channel(ChannelOp::Send(0, Value::Plain(1)), None));
+
+const SEND_2: Step = Step::Do(0, Op::Channel(ChannelOp::Send(0, Value::Plain(2)), None));
+
+const RECV: Step = Step::Do(0, Op::Channel(ChannelOp::Recv(0), None));
+
+const TRY_RECV: Step = Step::Do(0, Op::Channel(ChannelOp::TryRecv(0), None));
+
+const DROP_SENDER: Step = Step::Do(0, Op::Channel(ChannelOp::DropSender(0), None));
+
+const DROP_RECEIVER: Step = Step::Do(0, Op::Channel(ChannelOp::DropReceiver(0), None));
+
+const PLACE: Step = Step::Do(0, Op::AtomicWaker(AtomicWakerOp::New, None));
+
+const BLOCK_ON: Step = Step::Do(1, Op::Waker(WakerOp::New, None));
+
+const CLONE: Step = Step::Do(0, Op::Waker(WakerOp::Clone(1), None));
+
+const REGISTER: Step = Step::Do(0, Op::AtomicWaker(AtomicWakerOp::Register(0, 1), None));
+
+const DROP_LEFT: Step = Step::Do(3, Op::AtomicWaker(AtomicWakerOp::Drop(0), None));
+
+const WAKER_DROP: Step = Step::Do(0, Op::Waker(WakerOp::Drop(1), None));
+
+const LAST_DROP: Step = Step::Do(0, Op::Waker(WakerOp::Drop(3), None));
+
+const CELL: Step = Step::Do(4, Op::Cell(CellOp::New(Value::Plain(0)), None));
+
+const GET: Step = Step::Do(0, Op::Cell(CellOp::Get(4), None));
+
+const REPLACE: Step = Step::Do(0, Op::Cell(CellOp::Replace(4, Value::Plain(3)), None));
+
+const JOIN: Step = Step::Do(1, Op::Thread(ThreadOp::Join(2, 2), None));
+
+// The first number that the thread was told, and the second one.
+const FINISH: Step = Step::Do(0, Op::Thread(ThreadOp::Finish(Value::Both(0, 1)), None));
+
+// What the thread didn't get.
+const FINISH_INSTEAD: Step = Step::Do(0, Op::Thread(ThreadOp::Finish(Value::Held(3)), None));
+
+const FINISH_PLAIN: Step = Step::Do(0, Op::Thread(ThreadOp::Finish(Value::Plain(7)), None));
+
+const MUTEX: Step = Step::Do(0, Op::Mutex(MutexOp::New(Value::Plain(0)), None));
+
+const LOCK: Step = Step::Do(0, Op::Mutex(MutexOp::Lock(0), None));
+
+const RELEASE: Step = Step::Do(0, Op::Mutex(MutexOp::Release(0, Value::Plain(0)), None));
+
+const ATOMIC: Step = Step::Do(0, Op::Atomic(AtomicOp::New(Numbers::U64, 0), None));
+
+const STORE: Step = Step::Do(0, Op::Atomic(AtomicOp::Store(0, 1, Relaxed), None));
+
+const LOAD: Step = Step::Do(0, Op::Atomic(AtomicOp::Load(0, Relaxed), None));
+
+const EXPLORE: Step = Step::Do(0, Op::Explore(ExploreOp::Explore, None));
+
+const STOP: Step = Step::Do(0, Op::Explore(ExploreOp::StopExploring, None));
+
+const SKIP: Step = Step::Do(0, Op::Explore(ExploreOp::SkipBranch, None));
+
+// Main drops the receiver beside a thread that sends twice.
+const DROP_BESIDE_SENDS: &[Step] = &[
+    CHANNEL,
+    Step::Do(2, Op::Thread(ThreadOp::Spawn(8, None), None)),
+    YIELD,
+    DROP_RECEIVER,
+    JOIN,
+    FINISH,
+    EXIT,
+    END,
+    SEND,
+    SEND_2,
+    DROP_SENDER,
+    FINISH_INSTEAD,
+    EXIT,
+    END,
+];
+
+// A thread takes the one message that main is about to take without waiting. Main, which is the one sender, is blocked then.
+const TRY_BESIDE_RECV: &[Step] = &[
+    CHANNEL,
+    SEND,
+    Step::Do(2, Op::Thread(ThreadOp::Spawn(9, None), None)),
+    TRY_RECV,
+    DROP_SENDER,
+    JOIN,
+    FINISH,
+    EXIT,
+    END,
+    RECV,
+    FINISH,
+    EXIT,
+    END,
+];
+
+// Main drops a receiver with two messages, of which a thread takes one. The sender is dropped before.
+const DRAIN_BESIDE_RECV: &[Step] = &[
+    CHANNEL,
+    SEND,
+    SEND_2,
+    DROP_SENDER,
+    Step::Do(2, Op::Thread(ThreadOp::Spawn(10, None), None)),
+    YIELD,
+    DROP_RECEIVER,
+    FINISH,
+    EXIT,
+    END,
+    RECV,
+    FINISH,
+    EXIT,
+    END,
+];
+
+// A thread writes a cell and sends. Main receives, and reads the cell.
+const READ_BEHIND_RECV: &[Step] = &[
+    CHANNEL,
+    CELL,
+    Step::Do(2, Op::Thread(ThreadOp::Spawn(8, None), None)),
+    RECV,
+    GET,
+    FINISH,
+    EXIT,
+    END,
+    REPLACE,
+    SEND,
+    DROP_SENDER,
+    FINISH,
+    EXIT,
+    END,
+];
+
+// The same, but the thread has sent another message before, which doesn't tell of the write.
+const READ_TOO_EARLY: &[Step] = &[
+    CHANNEL,
+    CELL,
+    Step::Do(2, Op::Thread(ThreadOp::Spawn(9, None), None)),
+    RECV,
+    GET,
+    RECV,
+    FINISH,
+    EXIT,
+    END,
+    SEND,
+    REPLACE,
+    SEND_2,
+    FINISH,
+    EXIT,
+    END,
+];
+
+// Main waits for a message beside a thread that drops the last of two senders.
+const RECV_BESIDE_DROPS: &[Step] = &[
+    CHANNEL,
+    Step::Do(2, Op::Thread(ThreadOp::Spawn(7, None), None)),
+    RECV,
+    JOIN,
+    FINISH_INSTEAD,
+    EXIT,
+    END,
+    Step::Do(0, Op::Channel(ChannelOp::CloneSender(0), None)),
+    DROP_SENDER,
+    YIELD,
+    DROP_SENDER,
+    FINISH,
+    EXIT,
+    END,
+];
+
+// Two threads register wakers in a place that has one. What is left there is dropped.
+const REGISTER_TWICE: &[Step] = &[
+    PLACE,
+    BLOCK_ON,
+    CLONE,
+    CLONE,
+    REGISTER,
+    Step::Do(2, Op::Thread(ThreadOp::Spawn(13, None), None)),
+    Step::Do(0, Op::AtomicWaker(AtomicWakerOp::RegisterByRef(0, 1), None)),
+    JOIN,
+    DROP_LEFT,
+    LAST_DROP,
+    FINISH_PLAIN,
+    EXIT,
+    END,
+    REGISTER,
+    WAKER_DROP,
+    FINISH,
+    EXIT,
+    END,
+];
+
+// Main registers a waker in a place, from which a thread wakes, and takes out what is left.
+const WAKE_BESIDE_REGISTER: &[Step] = &[
+    PLACE,
+    BLOCK_ON,
+    CLONE,
+    Step::Do(2, Op::Thread(ThreadOp::Spawn(12, None), None)),
+    REGISTER,
+    JOIN,
+    Step::Do(3, Op::AtomicWaker(AtomicWakerOp::TakeWaker(0), None)),
+    Step::Unless(3, 0, 9),
+    LAST_DROP,
+    WAKER_DROP,
+    FINISH_INSTEAD,
+    Step::Jump(14),
+    Step::Do(0, Op::AtomicWaker(AtomicWakerOp::Wake(0), None)),
+    FINISH,
+    EXIT,
+    END,
+];
+
+// Main waits beside a thread that wakes by a lent waker, and then drops its own.
+const WAIT_BESIDE_WAKE: &[Step] = &[
+    PLACE,
+    BLOCK_ON,
+    CLONE,
+    Step::Do(2, Op::Thread(ThreadOp::Spawn(8, None), None)),
+    Step::Do(0, Op::Waker(WakerOp::Wait(1), None)),
+    Step::Do(0, Op::Waker(WakerOp::Finish(1), None)),
+    FINISH,
+    Step::Jump(11),
+    Step::Do(0, Op::Waker(WakerOp::WakeByRef(1), None)),
+    WAKER_DROP,
+    FINISH,
+    EXIT,
+    END,
+];
+
+// A thread writes a cell and drops a waker. Main drops the other one, and reads the cell, which is a race unless that was the last.
+const READ_BEHIND_DROPS: &[Step] = &[
+    BLOCK_ON,
+    CLONE,
+    CELL,
+    Step::Do(2, Op::Thread(ThreadOp::Spawn(10, None), None)),
+    YIELD,
+    WAKER_DROP,
+    GET,
+    FINISH,
+    EXIT,
+    END,
+    REPLACE,
+    WAKER_DROP,
+    FINISH,
+    EXIT,
+    END,
+];
+
+// Two threads make a value that is made once. Main reads what the other thread has written before, if that made it.
+const LAZY_BESIDE: &[Step] = &[
+    MUTEX,
+    CELL,
+    Step::Do(2, Op::Thread(ThreadOp::Spawn(12, None), None)),
+    LOCK,
+    RELEASE,
+    Step::Do(0, Op::Lazy(LazyOp::Init(1, Value::Plain(5)), None)),
+    Step::Unless(0, 65, 8),
+    GET,
+    JOIN,
+    FINISH,
+    EXIT,
+    END,
+    LOCK,
+    RELEASE,
+    REPLACE,
+    Step::Do(0, Op::Lazy(LazyOp::Get(1), None)),
+    Step::Do(0, Op::Lazy(LazyOp::Init(1, Value::Plain(6)), None)),
+    FINISH,
+    EXIT,
+    END,
+];
+
+// Two threads have values of their own, by the same key.
+const LOCALS_BESIDE: &[Step] = &[
+    Step::Do(0, Op::Local(LocalOp::Init(1, Value::Plain(4)), None)),
+    Step::Do(2, Op::Thread(ThreadOp::Spawn(7, None), None)),
+    JOIN,
+    Step::Do(0, Op::Local(LocalOp::With(1), None)),
+    FINISH,
+    Step::Do(1, Op::Thread(ThreadOp::Exit, None)),
+    END,
+    Step::Do(0, Op::Local(LocalOp::TryWith(1), None)),
+    Step::Do(0, Op::Local(LocalOp::Init(1, Value::Plain(6)), None)),
+    Step::Do(1, Op::Local(LocalOp::Put(1, Value::Plain(8)), None)),
+    FINISH,
+    EXIT,
+    Step::Do(0, Op::Local(LocalOp::Init(2, Value::Plain(9)), None)),
+    Step::Do(0, Op::Local(LocalOp::TryWith(1), None)),
+    END,
+];
+
+// Main locks three times beside a thread that locks, and doesn't explore at the second time.
+const STOP_BETWEEN: &[Step] = &[
+    MUTEX,
+    Step::Do(2, Op::Thread(ThreadOp::Spawn(13, None), None)),
+    LOCK,
+    RELEASE,
+    STOP,
+    LOCK,
+    RELEASE,
+    EXPLORE,
+    LOCK,
+    RELEASE,
+    FINISH,
+    EXIT,
+    END,
+    LOCK,
+    RELEASE,
+    Step::Jump(10),
+];
+
+// Main loads beside a thread that stores and then skips the branch, after which no switch changes anything.
+const SKIP_BESIDE: &[Step] = &[
+    ATOMIC,
+    Step::Do(2, Op::Thread(ThreadOp::Spawn(7, None), None)),
+    LOAD,
+    LOAD,
+    FINISH,
+    EXIT,
+    END,
+    STORE,
+    SKIP,
+    EXPLORE,
+    STORE,
+    Step::Jump(4),
+];
+
+// Main waits for a notification without exploring, beside a thread that notifies, and then waits again.
+const WAIT_WITHOUT: &[Step] = &[
+    Step::Do(0, Op::Notify(NotifyOp::New, None)),
+    Step::Do(2, Op::Thread(ThreadOp::Spawn(10, None), None)),
+    STOP,
+    WAIT,
+    EXPLORE,
+    NOTIFY,
+    WAIT,
+    FINISH,
+    EXIT,
+    END,
+    NOTIFY,
+    Step::Jump(7),
+];
+
+const WAIT: Step = Step::Do(0, Op::Notify(NotifyOp::Wait(0), None));
+
+const NOTIFY: Step = Step::Do(0, Op::Notify(NotifyOp::Notify(0), None));
+
+pub static BODIES: [(&str, &[Step]); 15] = [
+    ("drop beside sends", DROP_BESIDE_SENDS),
+    ("try beside receive", TRY_BESIDE_RECV),
+    ("drain beside receive", DRAIN_BESIDE_RECV),
+    ("read behind receive", READ_BEHIND_RECV),
+    ("read too early", READ_TOO_EARLY),
+    ("receive beside drops", RECV_BESIDE_DROPS),
+    ("register twice", REGISTER_TWICE),
+    ("wake beside register", WAKE_BESIDE_REGISTER),
+    ("wait beside wake", WAIT_BESIDE_WAKE),
+    ("read behind drops", READ_BEHIND_DROPS),
+    ("lazy beside", LAZY_BESIDE),
+    ("locals beside", LOCALS_BESIDE),
+    ("stop between", STOP_BETWEEN),
+    ("skip beside", SKIP_BESIDE),
+    ("wait without", WAIT_WITHOUT),
+];
