@@ -28,6 +28,7 @@ pub mod Exclusive
 pub mod Holding
 pub mod Bodies
 pub mod Exploring
+pub mod Kept
 pub mod Moving
 pub mod Lifting
 pub mod Making

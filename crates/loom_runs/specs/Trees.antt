@@ -4,7 +4,7 @@ use Rattle.loom_objects.specs.declared.operation.Op.{Op}
 use Rattle.loom_objects.specs.declared.operation.Op.TheVariants.{Atomic, Fence, Cell, Arc, Track, Mutex, RwLock, Condvar, Notify, Channel, Waker, AtomicWaker, Local, Lazy, Explore, Thread, Fail, Unreachable}
 use Rattle.loom_objects.specs.declared.operation.Reply.{Reply}
 use Rattle.loom_objects.specs.Tree.{Tree}
-use Rattle.loom_walks.specs.Trees.Sound.{IsSoundTree, IsClosing, ExploresTree, IsFair}
+use Rattle.loom_walks.specs.Trees.Sound.{IsSoundTree, IsClosing, ExploresTree, IsFair, EndsUnchosen}
 use Rattle.loom_runs.specs.Runs.{Meaning, runs}
 
 -- what holds of each body's tree of runs
@@ -44,3 +44,7 @@ is_switch (Unreachable place) = false
 abbrev pub ExploresLaw : Type 0 → Type 0 → Type 0
 ExploresLaw D S = (next : Meaning D S) (max_threads max_steps : ℕ) (body : S) → ((state : S) (reply : Reply D) → is_switch (next state reply).1 ≡ false)
     → ExploresTree (runs next true max_threads max_steps body)
+
+-- After a schedule without a default thread each body's runs ask nothing: they are over, or have failed.
+abbrev pub UnchosenLaw : Type 0 → Type 0 → Type 0
+UnchosenLaw D S = (next : Meaning D S) (explores : Bool) (max_threads max_steps : ℕ) (body : S) → EndsUnchosen (runs next explores max_threads max_steps body)

@@ -12,5 +12,8 @@ pub mod Example
 pub mod Foreign
 pub mod Rounds
 pub mod Replays
+pub mod Calm
 pub mod Reporting
+pub mod Resuming
+pub mod Unchosen
 pub mod Binding

@@ -10,5 +10,6 @@ pub mod Drive
 pub mod Check
 pub mod Replays
 pub mod Reports
+pub mod Resuming
 pub mod Example
 pub mod Foreign

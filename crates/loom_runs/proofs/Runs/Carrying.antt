@@ -5,11 +5,12 @@ use Rattle.loom_views.specs.declared.rt.failure.FailureKind.{FailureKind}
 use Rattle.loom_views.specs.declared.rt.failure.FailureKind.TheVariants.{TooManyVersions}
 use Rattle.loom_dependence.specs.Dependence.{Order, used_by}
 use Rattle.loom_dependence.specs.declared.rt.dependence.Use.{Use}
+use Rattle.loom_objects.specs.declared.choice.Choice.TheVariants.{Thread}
 use Rattle.loom_objects.specs.Tree.{Tree, Gives, Fails, Closes, Asks, ◌>>=◌, came}
 use Rattle.loom_objects.specs.Uses.{use_at}
 use Rattle.loom_objects.specs.World.{World}
 use Rattle.loom_runs.specs.Courses.{Course, accesses, carried, one_passed, used_in, with_order}
-use Rattle.loom_runs.proofs.Runs.Events.{EventOf, Settles, StaysOpen, asks, closes, fails, fails_by_itself, goes, settles_at}
+use Rattle.loom_runs.proofs.Runs.Events.{EventOf, IsShut, Settles, StaysOpen, asks, closes, fails, fails_by_itself, goes, settles_at}
 use Rattle.loom_runs.proofs.Runs.Fairness.{IsFairResult}
 use Rattle.loom_runs.proofs.Runs.Keeping.{Keeps}
 use Rattle.loom_runs.proofs.Runs.Keeping as keeping
@@ -25,6 +26,12 @@ module _ {D : Type 0} where
   carried_open P c (Closes rest) opens = tt
   carried_open P c (Asks question branches) opens = λ choice. carried_open P (one_passed c) (branches choice) (opens choice)
 
+  carried_shut : {A : Type 0} (c : Course D) (tree : Tree (A × World D)) → IsShut tree → IsShut (carried c tree)
+  carried_shut c (Gives answered) shut = absurd shut
+  carried_shut c (Fails kind) shut = tt
+  carried_shut c (Closes rest) shut = tt
+  carried_shut c (Asks question branches) shut = absurd shut
+
   pub carried_settles : {A : Type 0} {P : A × World D → Type 0} (c : Course D) (tree : Tree (A × World D)) → Settles P tree → Settles (InWorld P) (carried c tree)
   carried_settles c tree (settles_at (a, w) h) = settles_at _ h
   carried_settles c tree (fails_by_itself kind fair) = fails_by_itself kind fair
@@ -34,9 +41,9 @@ module _ {D : Type 0} where
     carried_event c tree (goes (a, w) h) = goes _ h
     carried_event c tree (fails kind fair) = fails kind fair
     carried_event c tree (closes rest h) = closes _ (carried_settles c rest h)
-    carried_event c tree (asks question branches sound options opens) =
+    carried_event c tree (asks question branches sound options opens shut) =
         asks question _ sound (λ choice among. carried_event (one_passed c) (branches choice) (options choice among))
-        (λ choice. carried_open P (one_passed c) (branches choice) (opens choice))
+        (λ choice. carried_open P (one_passed c) (branches choice) (opens choice)) (λ none. carried_shut (one_passed c) (branches (Thread None)) (shut none))
 
     pub carried_keeps : (c : Course D) (tree : Tree (A × World D)) → Keeps P tree → Keeps (InWorld P) (carried c tree)
     carried_keeps c tree (keeping.gives (a, w) h) = keeping.gives _ h

@@ -1,19 +1,19 @@
 -- What one operation that is handed over may come to.
-use Rattle.std.proofs.Common.{◌≢◌, Bool, true, false, Option, Some, None}
+use Rattle.std.proofs.Common.{◌≡◌, ◌≢◌, Bool, true, false, Option, Some, None, subst}
 use Rattle.std.specs.Prelude.{⊤}
 use Rattle.loom_views.specs.declared.rt.failure.FailureKind.{FailureKind}
 use Rattle.loom_views.specs.declared.rt.failure.FailureKind.TheVariants.{NotDeterministic}
 use Rattle.loom_objects.specs.declared.choice.Choice.{Choice}
+use Rattle.loom_objects.specs.declared.choice.Choice.TheVariants.{Thread}
 use Rattle.loom_objects.specs.declared.operation.Turn.{Turn}
 use Rattle.loom_objects.specs.declared.operation.Turn.TheVariants.{Reply, Start, Ended}
 use Rattle.loom_objects.specs.declared.rt.run.Passed.{Passed}
 use Rattle.loom_objects.specs.declared.rt.run.Passed.TheVariants as passed
 use Rattle.loom_objects.specs.Question.{Question, Among, made_of, IsSound}
 use Rattle.loom_objects.specs.Tree.{Tree, Gives, Fails, Closes, Asks, ◌>>=◌, check, found}
-use Rattle.loom_walks.specs.Trees.Sound.{IsClosing}
-use Rattle.loom_walks.specs.Trees.Sound.{IsQuiet}
+use Rattle.loom_walks.specs.Trees.Sound.{IsClosing, IsQuiet, IsFair, EndsUnchosen}
+use Rattle.loom_walks.proofs.Trees.Machines.{sound_default}
 use Rattle.loom_runs.specs.Trees.{IsRunTree}
-use Rattle.loom_walks.specs.Trees.Sound.{IsFair}
 
 -- It settles without a choice: it gives such a value, or it fails, but not because a path does not meet it.
 pub data Settles {A : Type 0} (P : A → Type 0) : Tree A → Type 0 where
@@ -43,14 +43,28 @@ StaysOpen Goes (Fails kind) = Unit {0}
 StaysOpen Goes (Closes rest) = Unit {0}
 StaysOpen Goes (Asks question branches) = (choice : Choice) → StaysOpen Goes (branches choice)
 
+-- no thread goes on there: the run is over, or fails
+abbrev pub IsShut : {A : Type 0} → Tree A → Type 0
+IsShut (Gives value) = ⊥
+IsShut (Fails kind) = Unit {0}
+IsShut (Closes rest) = Unit {0}
+IsShut (Asks question branches) = ⊥
+
+pub shut_then : {A B : Type 0} (tree : Tree A) (next : A → Tree B) → IsShut tree → IsShut (tree >>= next)
+shut_then (Gives value) next h = absurd h
+shut_then (Fails kind) next h = tt
+shut_then (Closes rest) next h = tt
+shut_then (Asks question branches) next h = absurd h
+
 -- An event: it ends a run only where the run is over, and then asks nothing. Its questions are sound. By options it comes to no
--- failure that is a path's.
+-- failure that is a path's. Without a default no thread goes on.
 pub data EventOf {A : Type 0} (Goes Over : A → Type 0) : Tree A → Type 0 where
   goes : (value : A) → Goes value → EventOf Goes Over (Gives value)
   fails : (kind : FailureKind) → kind ≢ NotDeterministic → EventOf Goes Over (Fails kind)
   closes : (rest : Tree A) → Settles Over rest → EventOf Goes Over (Closes rest)
   asks : (question : Question) (branches : Choice → Tree A) → IsSound question
-      → ((choice : Choice) → Among choice (made_of question).options → EventOf Goes Over (branches choice)) → ((choice : Choice) → StaysOpen Goes (branches choice)) → EventOf Goes Over (Asks question branches)
+      → ((choice : Choice) → Among choice (made_of question).options → EventOf Goes Over (branches choice)) → ((choice : Choice) → StaysOpen Goes (branches choice))
+      → ((made_of question).default ≡ Thread None → IsShut (branches (Thread None))) → EventOf Goes Over (Asks question branches)
 
 module _ {A : Type 0} {Goes Over : A → Type 0} where
   pub going_event : (tree : Tree A) → Settles Goes tree → EventOf Goes Over tree
@@ -61,7 +75,7 @@ module _ {A : Type 0} {Goes Over : A → Type 0} where
   event_open tree (goes value h) = h
   event_open tree (fails kind fair) = tt
   event_open tree (closes rest h) = tt
-  event_open tree (asks question branches sound options opens) = opens
+  event_open tree (asks question branches sound options opens shut) = opens
 
   pub then_event : {B : Type 0} {Q : B → Type 0} (tree : Tree B) (next : B → Tree A) → Settles Q tree → ((b : B) → Q b → EventOf Goes Over (next b)) → EventOf Goes Over (tree >>= next)
   then_event tree next (settles_at b q) h = h b q
@@ -83,8 +97,9 @@ module _ {A B : Type 0} {Goes Over : A → Type 0} {Goes' Over' : B → Type 0} 
   event_after tree (goes a h) = onward a h
   event_after tree (fails kind fair) = fails kind fair
   event_after tree (closes rest h) = closes (rest >>= next) (then_settles rest next h rests)
-  event_after tree (asks question branches sound options opens) =
+  event_after tree (asks question branches sound options opens shut) =
       asks question _ sound (λ choice a. event_after (branches choice) (options choice a)) (λ choice. stays_open (branches choice) (opens choice))
+      (λ none. shut_then (branches (Thread None)) next (shut none))
 
 module _ {D : Type 0} where
   -- with this turn a thread goes on
@@ -171,8 +186,23 @@ module _ {D R W : Type 0} (next : Turn D × W → Tree R) where
   event_then tree (closes rest h) goes_on rests =
       let r : IsQuiet (rest >>= next) × IsFair (rest >>= next) = over_then rest h rests in
       record { sound = r.0; closing = tt; fair = r.1 }
-  event_then tree (asks question branches sound options opens) goes_on rests = record {
+  event_then tree (asks question branches sound options opens shut) goes_on rests = record {
     sound = (sound, λ choice a. (event_then (branches choice) (options choice a) goes_on rests).sound);
     closing = λ choice. open_then (branches choice) (opens choice) (λ turned h. (goes_on turned h).closing);
     fair = λ choice a. (event_then (branches choice) (options choice a) goes_on rests).fair;
   }
+
+  quiet_then : (tree : Tree (Turn D × W)) → IsEvent tree → IsShut tree → RestsAfter → IsQuiet (tree >>= next)
+  quiet_then tree (goes turned h) shut rests = absurd shut
+  quiet_then tree (fails kind fair) shut rests = tt
+  quiet_then tree (closes rest h) shut rests = (over_then rest h rests).0
+  quiet_then tree (asks question branches sound options opens only) shut rests = absurd shut
+
+  pub event_unchosen : (tree : Tree (Turn D × W)) → IsEvent tree → ((turned : Turn D × W) → IsGoing turned → EndsUnchosen (next turned)) → RestsAfter → EndsUnchosen (tree >>= next)
+  event_unchosen tree (goes turned h) goes_on rests = goes_on turned h
+  event_unchosen tree (fails kind fair) goes_on rests = tt
+  event_unchosen tree (closes rest h) goes_on rests = tt
+  event_unchosen tree (asks question branches sound options opens shut) goes_on rests = (
+    λ none. quiet_then (branches (Thread None)) (options (Thread None) (subst (λ o. Among o (made_of question).options) none (sound_default question sound))) (shut none) rests,
+    λ choice a. event_unchosen (branches choice) (options choice a) goes_on rests,
+  )

@@ -50,7 +50,8 @@ use Rattle.loom_runs.proofs.Runs.Answering.{Answers, answers_then}
 use Rattle.loom_runs.proofs.Runs.Carrying.{InWorld}
 use Rattle.loom_runs.proofs.Runs.Keeping.{Keeps, kept_value}
 use Rattle.loom_runs.proofs.Runs.Lifting.{EnteredTo, ReplyTo, ResumedTo, event_kept}
-use Rattle.loom_runs.proofs.Runs.Moving.{HasNotifier, KeptByMoves, Within, begins_moves, effect_moves, enters_wait_moves, reads_moves, stated, takes_result_moves}
+use Rattle.loom_runs.proofs.Runs.Kept.{HasNotifier, KeptByMoves, stated}
+use Rattle.loom_runs.proofs.Runs.Moving.{Within, begins_moves, effect_moves, enters_wait_moves, reads_moves, takes_result_moves}
 
 -- ---- booleans
 

@@ -20,7 +20,7 @@ use Rattle.loom_objects.specs.Moves.{changed_at, with_thread}
 use Rattle.loom_objects.specs.Rule.{◌>>=◌, check, found}
 use Rattle.loom_objects.specs.World.{World}
 use Rattle.loom_runs.proofs.Runs.Answering.{Answers}
-use Rattle.loom_runs.proofs.Runs.Moving.{AwayAt, Doing, Drains, IsAway, KeptByMoves, Receives, Sends, doing, value_of}
+use Rattle.loom_runs.proofs.Runs.Kept.{AwayAt, Doing, Drains, IsAway, KeptByMoves, Receives, Sends, doing, value_of}
 
 -- of a test on all of a list
 pub neither : (b c : Bool) → (b || c) ≡ false → (b ≡ false) × (c ≡ false)

@@ -53,7 +53,8 @@ use Rattle.loom_runs.proofs.Runs.Answering.{Answers, answers_then}
 use Rattle.loom_runs.proofs.Runs.Carrying.{InWorld}
 use Rattle.loom_runs.proofs.Runs.Keeping.{Keeps}
 use Rattle.loom_runs.proofs.Runs.Lifting.{EnteredTo, PassedTo, ReplyTo, ResumedTo, event_kept}
-use Rattle.loom_runs.proofs.Runs.Moving.{Doing, Drains, Receives, Sends, Within, begins_moves, doing, effect_moves, enters_wait_moves, reads_moves, stated, value_of}
+use Rattle.loom_runs.proofs.Runs.Kept.{Doing, Drains, Receives, Sends, doing, stated, value_of}
+use Rattle.loom_runs.proofs.Runs.Moving.{Within, begins_moves, effect_moves, enters_wait_moves, reads_moves}
 use Rattle.loom_runs.proofs.Runs.Telling.{TellsActive, effect_tells}
 use Rattle.loom_runs.proofs.Runs.Queues.{Held, IsHeld, Kind, cond_here, cond_off, decided, doing_at, doing_for, draining, drains_for, found_so, held_by_moves, idles, kind_of, map_doing, map_there, more_same, receiver_so, receives_for, receiving_by, sender_so, sending, sends_for, set_doing_here, set_doing_off, set_off, set_same, set_stays, set_there, single, values_at, sending, receiving_by, draining, idles}
 

@@ -1,5 +1,5 @@
 -- Each operation that is handed over is an event, in each state of the machine.
-use Rattle.std.proofs.Common.{◌≤◌, ℕ, zero, suc, Bool, List, [], ◌∷◌, length, Option, Some, None, arith}
+use Rattle.std.proofs.Common.{◌≤◌, ℕ, zero, suc, Bool, true, false, List, [], ◌∷◌, length, Option, Some, None, arith}
 use Rattle.std.specs.Prelude.{Result, Ok, Err, ⊤}
 use Rattle.loom_views.specs.declared.rt.failure.FailureKind.{FailureKind}
 use Rattle.loom_views.specs.declared.rt.failure.FailureKind.TheVariants.{Deadlock, ExploreSwitch, Misuse}
@@ -27,7 +27,7 @@ use Rattle.loom_objects.specs.Notifiers.{enters_wait as entered}
 use Rattle.loom_objects.specs.Question.{Among, made_of, slots}
 use Rattle.loom_objects.specs.Schedules.{offers}
 use Rattle.loom_objects.specs.Steps.{asked, asks_slot, begins, ends, read_slot, resumes, slot_of, told, turned}
-use Rattle.loom_objects.specs.Tree.{Tree, ◌>>=◌, came}
+use Rattle.loom_objects.specs.Tree.{Tree, Closes, ◌>>=◌, came, check}
 use Rattle.loom_objects.specs.World.{World}
 use Rattle.loom_objects.specs.Asked.{which_thread}
 use Rattle.loom_runs.specs.Courses.{Course, carried, grown_from, one_passed, unordered_in}
@@ -36,7 +36,7 @@ use Rattle.loom_runs.proofs.Runs.Answering.{Answers, ResumesOn, anything, chosen
 use Rattle.loom_runs.proofs.Runs.Atomics.{reads_keeping}
 use Rattle.loom_runs.proofs.Runs.Carrying.{accesses_event, carried_event, carried_settles}
 use Rattle.loom_runs.proofs.Runs.Defaults.{offers_ask, options_are_flags, options_are_loads, options_are_threads, slots_few, IsFlagChoice, IsLoadChoice}
-use Rattle.loom_runs.proofs.Runs.Events.{Anything, GoesOn, HasEnded, IsEvent, IsOpen, IsOver, IsPass, Settles, StaysOpen, asks, check_event, closes, event_after, event_open, fails, fails_by_itself, goes, settles_at, then_event, turned_pass}
+use Rattle.loom_runs.proofs.Runs.Events.{Anything, GoesOn, HasEnded, IsEvent, IsOpen, IsOver, IsPass, IsShut, Settles, StaysOpen, asks, check_event, closes, event_after, event_open, shut_then, fails, fails_by_itself, goes, settles_at, then_event, turned_pass}
 use Rattle.loom_runs.proofs.Runs.Tables.{Choosing, Ending, chosen_choosing, counted_entering, end_ending}
 use Rattle.loom_runs.proofs.Runs.Notifiers.{enters_wait_keeping}
 use Rattle.loom_runs.specs.Histories.{returned_by}
@@ -83,7 +83,7 @@ module _ {D : Type 0} where
   asks_pass : (exploring : Bool) (load : Loading) (w : World D) (numbers : List ℕ) → length numbers ≤ 7 → IsPass (asks_slot exploring numbers >>= (λ slot. read_slot load w slot >>= turned))
   asks_pass exploring load w [] few = fails Misuse misuse
   asks_pass exploring load w (lowest ∷ others) few =
-      asks _ _ (omega arith) (λ o h. slot_passes load w o (options_are_loads (lowest ∷ others) o h)) (slot_open load w)
+      asks _ _ (omega arith) (λ o h. slot_passes load w o (options_are_loads (lowest ∷ others) o h)) (slot_open load w) (λ e. absurd (cc e))
 
   asked_pass : (exploring : Bool) (answered : Resumed D × World D) → ResumesOn answered → IsPass (asked exploring answered)
   asked_pass exploring (resumed.Passed passed, w) going = goes (passed, w) going
@@ -117,8 +117,18 @@ module _ {D : Type 0} where
   choice_open c (choice.Load slot) = tt
   choice_open c (choice.Spurious answer) = tt
 
+  closes_shut : (c : Course D) → IsShut (closes_run c)
+  closes_shut c = by_test (all_ended c.world)
+    where
+      by_test : (passes : Bool) → IsShut (check passes Deadlock >>= (λ u. Closes (carried c (ends c.world))))
+      by_test true = tt
+      by_test false = tt
+
+  none_shut : (c : Course D) → IsShut (chooses c (choice.Thread None))
+  none_shut c = shut_then (closes_run (one_passed c)) _ (closes_shut (one_passed c))
+
   passes_event : (c : Course D) → IsPass (passes c)
-  passes_event c = asks _ _ (offers_ask (is_on c.exploring) c.world (unordered_in c)) (option_event c) (choice_open c)
+  passes_event c = asks _ _ (offers_ask (is_on c.exploring) c.world (unordered_in c)) (option_event c) (choice_open c) (λ e. none_shut c)
 
   module _ (again : Course D → Tree (Turn D × Course D)) where
     further_over : (after : Passed D × Course D) → HasEnded after → Settles IsOver (further again after)
@@ -155,7 +165,7 @@ module _ {D : Type 0} where
   goes_on_event : (entered : Entry D × Course D) → IsEvent (goes_on entered)
   goes_on_event (Answered reply, c) = goes _ tt
   goes_on_event (AtBranch, c) = schedule_event further_branches c
-  goes_on_event (AtSpurious n, c) = asks _ _ tt (λ o h. waits_event n c o (options_are_flags (is_on c.exploring) o h)) (waits_open n c)
+  goes_on_event (AtSpurious n, c) = asks _ _ tt (λ o h. waits_event n c o (options_are_flags (is_on c.exploring) o h)) (waits_open n c) (λ e. absurd (cc e))
   goes_on_event (Explores todo, c) = switches_event todo c
 
   pub submit_event : (todo : Op D ⊤) (c : Course D) → IsEvent (submit todo c)

@@ -6,7 +6,7 @@ ghost use Rattle.loom_runs.specs.Once.{MadeOnceLaw};
 ghost use Rattle.loom_runs.specs.Received.{InOrderLaw};
 ghost use Rattle.loom_runs.specs.Reduced.{ReducedRowsLaw};
 ghost use Rattle.loom_runs.specs.Rows.{RowsLaw, SharedRowsLaw};
-ghost use Rattle.loom_runs.specs.Trees.{RunTreeLaw, ExploresLaw};
+ghost use Rattle.loom_runs.specs.Trees.{RunTreeLaw, ExploresLaw, UnchosenLaw};
 
 /// The runs of each body are a tree with sound questions. It comes to a value only where the run is over, and asks nothing
 /// after that. No run fails because a path doesn't meet it.
@@ -17,6 +17,11 @@ pub fn runs_are_sound<D, S>()
 /// The runs of a body that never switches whether the search explores do so at each node, where they begin so.
 pub fn runs_explore_throughout<D, S>()
     ensures { ExploresLaw D S }
+{}
+
+/// After a schedule at which no thread can go on the runs of a body ask nothing.
+pub fn runs_end_unchosen<D, S>()
+    ensures { UnchosenLaw D S }
 {}
 
 /// An operation that needs no memory makes no thread and no object when it is handed over: there are as many of both after it,

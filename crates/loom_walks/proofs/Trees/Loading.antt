@@ -1,14 +1,14 @@
--- A path that was loaded: its first run meets its nodes, or is told apart from them, or fails before it has met them all.
-use Rattle.std.proofs.Common.{◌≡◌, ℕ, zero, suc, ◌+◌, ◌<◌, ◌≤◌, Bool, true, false, ◌&&◌, List, [], ◌∷◌, ◌++◌, length, map, take, Some, None, refl, ap, ap₂, sym, ◌∙◌, subst, arith, append-nil, length-append}
+-- A path that was loaded: its first run meets its nodes, or parts from them.
+use Rattle.std.proofs.Common.{◌≡◌, ◌≢◌, ℕ, zero, suc, ◌+◌, ◌<◌, ◌≤◌, Bool, true, false, ◌&&◌, List, [], ◌∷◌, ◌++◌, length, map, take, Some, None, refl, ap, ap₂, sym, ◌∙◌, subst, arith, append-nil, length-append}
 use Rattle.std.specs.Prelude.{cond, nat_le, Result, Ok, Err}
 use Rattle.loom_objects.specs.declared.choice.Choice.{Choice}
 use Rattle.loom_objects.specs.Question.{Made, Among, Question, made_of}
 use Rattle.loom_walks.specs.Walk.Machine.{Machine}
 use Rattle.loom_walks.specs.Walk.Choices.{pick}
 use Rattle.loom_walks.specs.Walk.Path.{Stored, choices, fresh}
-use Rattle.loom_walks.specs.Walk.UnderWay.{IsUnderWay, begins, follows, makes}
+use Rattle.loom_walks.specs.Walk.UnderWay.{IsUnderWay, begins, follows, makes, IsPartedAt}
 use Rattle.loom_walks.proofs.Walk.Lists.{choices_append}
-use Rattle.loom_walks.proofs.Walk.UnderWay.{over_law}
+use Rattle.loom_walks.proofs.Walk.UnderWay.{over_law, parted}
 use Rattle.loom_views.specs.declared.rt.failure.FailureKind.{FailureKind}
 use Rattle.loom_views.specs.declared.rt.failure.FailureKind.TheVariants.{NotDeterministic}
 use Rattle.loom_walks.specs.Trees.Comparing.{same_made}
@@ -46,9 +46,9 @@ module _ {A : Type 0} (s : Settings) (adds : Marking) (root : Tree A) (sound : I
 
   -- how the run comes out
   data Comes (d : Result A FailureKind × Trail) : Type 0 where
-    strange : d.0 ≡ Err NotDeterministic → Comes d
+    strange : (front rest : List Stored) → IsPartedAt m p (choices front) → d ≡ (Err NotDeterministic, at_here front rest) → Comes d
     whole : (left : List Stored) (marks : ℕ → Choice → Bool) → IsUnderWay m p (choices left) marks left → m.node (choices left) ≡ None → Comes d
-    early : (front rest : List Stored) (n : Stored) (failure : FailureKind) → d.0 ≡ Err failure → d.1 ≡ at_here front (n ∷ rest)
+    early : (front rest : List Stored) (failure : FailureKind) → IsPartedAt m p (choices front) → d ≡ (Err failure, at_here front rest)
         → outcome s.max_branches root (choices front) ≡ Some (Err failure) → Comes d
 
   abbrev Goes : Tree A → Type 0
@@ -59,6 +59,10 @@ module _ {A : Type 0} (s : Settings) (adds : Marking) (root : Tree A) (sound : I
   over_here : (front : List Stored) (t : ℕ → Choice → Bool) (d : Result A FailureKind × Trail) → IsUnderWay m p (choices front) t (front ++ []) → m.node (choices front) ≡ None → Comes d
   over_here front t d way over = whole front t (subst (λ q. IsUnderWay m p (choices front) t q) (append-nil front) way) over
 
+  -- where the path's next node isn't the one that the run comes to
+  parted_here : (front rest : List Stored) (n : Stored) (t : ℕ → Choice → Bool) → IsUnderWay m p (choices front) t (front ++ n ∷ rest) → m.node (choices front) ≢ Some n.made → IsPartedAt m p (choices front)
+  parted_here front rest n t way other = parted m p (front ++ n ∷ rest) (choices front) t n way (node_next front n rest) other
+
   goes_by : (question : Question) (branches : Choice → Tree A) (room : ℕ) (front : List Stored) (n : Stored) (rest : List Stored) (t acc : ℕ → Choice → Bool)
       → Here s adds root room (Asks question branches) (choices front) (map pass_of front) acc → IsUnderWay m p (choices front) t (front ++ n ∷ rest)
       → ((k : ℕ) (o : Choice) → t k o ≡ (s.reduce && marked_too (adds (map pass_of front) question) acc k o)) → AllOffer (n ∷ rest) → IsSoundTree (Asks question branches)
@@ -68,7 +72,11 @@ module _ {A : Type 0} (s : Settings) (adds : Marking) (root : Tree A) (sound : I
   unfolding AllOffer
   goes_by question branches zero front n rest t acc here way same offer wise shut fit ih d = absurd (omega (arith, fit))
   goes_by question branches (suc room) front n rest t acc here way same offer wise shut fit ih (no f) =
-      subst (λ (y : Answer). Comes (drive_on (λ choice after. drive s adds (branches choice) after) y)) (sym (branch_strange s front n rest question f)) (strange refl)
+      subst (λ (y : Answer). Comes (drive_on (λ choice after. drive s adds (branches choice) after) y)) (sym (branch_strange s front n rest question f))
+      (strange front (n ∷ rest) (parted_here front rest n t way (λ e. f (cc (e, some)))) refl)
+    where
+      some : m.node (choices front) ≡ Some (made_of question)
+      some = ap m.node (sym (append-nil (choices front))) ∙ here.node []
   goes_by question branches (suc room) front n rest t acc here way same offer wise shut fit ih (yes is) =
       let some : m.node (choices front) ≡ Some (made_of question) = ap m.node (sym (append-nil (choices front))) ∙ here.node [] in
       let found : m.node (choices front) ≡ Some n.made = some ∙ ap Some (sym is) in
@@ -155,10 +163,17 @@ module _ {A : Type 0} (s : Settings) (adds : Marking) (root : Tree A) (sound : I
   comes (Gives value) room front rest t acc here way same offer wise shut fit = absurd shut
   comes (Fails failure) room front [] t acc here way same offer wise shut fit = over_here front t _ way (ap m.node (sym (append-nil (choices front))) ∙ here.node [])
   comes (Fails failure) room front (n ∷ rest) t acc here way same offer wise shut fit =
-      early front rest n failure refl refl (ap (outcome s.max_branches root) (sym (append-nil (choices front))) ∙ here.ending [])
+      early front (n ∷ rest) failure (parted_here front rest n t way (λ e. cc (e, ended))) refl (ap (outcome s.max_branches root) (sym (append-nil (choices front))) ∙ here.ending [])
+    where
+      ended : m.node (choices front) ≡ None
+      ended = ap m.node (sym (append-nil (choices front))) ∙ here.node []
   comes (Closes later) room front [] t acc here way same offer wise shut fit = over_here front t _ way (ap m.node (sym (append-nil (choices front))) ∙ here.node [])
   comes (Closes later) room front (n ∷ rest) t acc here way same offer wise shut fit =
-      strange (ap (λ (b : Bool). (cond b (drive s adds later (at_here front (n ∷ rest))) (Err NotDeterministic, at_here front (n ∷ rest))).0) (not_used front n rest))
+      strange front (n ∷ rest) (parted_here front rest n t way (λ e. cc (e, ended)))
+      (ap (λ (b : Bool). cond b (drive s adds later (at_here front (n ∷ rest))) (Err NotDeterministic, at_here front (n ∷ rest))) (not_used front n rest))
+    where
+      ended : m.node (choices front) ≡ None
+      ended = ap m.node (sym (append-nil (choices front))) ∙ here.node []
   comes (Asks question branches) room front rest t acc here way same offer wise shut fit =
       marks_by question branches room front rest t acc here way same offer wise shut fit (λ x. comes (branches x))
 
@@ -172,11 +187,19 @@ module _ {A : Type 0} where
       no_and true = refl
       no_and false = refl
 
-      go : Comes s adds tree sound fair p (drive s adds tree (at_start p)) → FirstRun s adds tree p (drive s adds tree (at_start p))
-      go (strange e) = told_apart e
+      d : Result A FailureKind × Trail
+      d = drive s adds tree (at_start p)
+
+      -- the choices that were passed
+      front_is : (o : Result A FailureKind) (front rest : List Stored) → d ≡ (o, at_here front rest) → choices (take d.1.position d.1.nodes) ≡ choices front
+      front_is o front rest e = ap (λ (y : Result A FailureKind × Trail). choices (take y.1.position y.1.nodes)) e ∙ ap choices (take_front front rest)
+
+      go : Comes s adds tree sound fair p d → FirstRun s adds tree p d
+      go (strange front rest apart e) =
+          told_apart (subst (IsPartedAt (machine_of s adds tree) p) (sym (front_is (Err NotDeterministic) front rest e)) apart) (ap (λ (y : Result A FailureKind × Trail). y.0) e)
       go (whole left marks way over) =
           all_met (record { meets = (over_law (machine_of s adds tree) p left (choices left) marks (machine_law s adds tree sound fair) way over refl).0; rest = rests })
-      go (early front rest n failure e f g) =
-          let d = drive s adds tree (at_start p) in
-          let front_is : take d.1.position d.1.nodes ≡ front = ap (λ (y : Trail). take y.position y.nodes) f ∙ take_front front (n ∷ rest) in
-          fails_early failure e (ap (λ l. outcome s.max_branches tree (choices l)) front_is ∙ g)
+      go (early front rest failure apart e g) =
+          let same = front_is (Err failure) front rest e in
+          fails_early (subst (IsPartedAt (machine_of s adds tree) p) (sym same) apart) failure (ap (λ (y : Result A FailureKind × Trail). y.0) e)
+          (ap (outcome s.max_branches tree) same ∙ g)

@@ -1,12 +1,12 @@
 -- The path while a run is under way.
-use Rattle.std.proofs.Common.{◌≡◌, ◌⊎◌, ℕ, zero, suc, ◌+◌, ◌<◌, ◌≤◌, Bool, true, false, ◌&&◌, ◌||◌, List, [], ◌∷◌, ◌++◌, length, Option, Some, None, refl, ap, ap₂, sym, ◌∙◌, subst, inl, inr, arith, append_assoc, append-nil, length-append}
+use Rattle.std.proofs.Common.{◌≡◌, ◌≢◌, ◌⊎◌, ℕ, zero, suc, ◌+◌, ◌<◌, ◌≤◌, Bool, true, false, ◌&&◌, ◌||◌, List, [], ◌∷◌, ◌++◌, length, Option, Some, None, refl, ap, ap₂, sym, ◌∙◌, subst, inl, inr, arith, append_assoc, append-nil, length-append}
 use mathlib.Core.Path.{fun_ext}
 use Rattle.loom_objects.specs.declared.choice.Choice.{Choice}
 use Rattle.loom_objects.specs.Question.{Made}
 use Rattle.loom_walks.specs.Walk.Machine.{Machine, run}
 use Rattle.loom_walks.specs.Walk.Sound.{IsMachine}
 use Rattle.loom_walks.specs.Walk.Path.{Status, Closed, Skip, Pending, Active, Visited, Stored, choices, node_at, new_nodes, fresh, mark, mark_all, mark_status, after_run}
-use Rattle.loom_walks.specs.Walk.UnderWay.{mark_with, IsUnderWay, begins, follows, makes, marks_more, Meets, OverLaw, MeetingLaw}
+use Rattle.loom_walks.specs.Walk.UnderWay.{mark_with, IsUnderWay, begins, follows, makes, marks_more, Meets, IsPartedAt, OverLaw, MeetingLaw}
 use Rattle.loom_walks.proofs.Walk.Lists.{node_chooses, chooses_node, node_on, choices_append, snoc_append, TwoSplits, earlier, same_place, later, two_splits}
 use Rattle.loom_walks.proofs.Walk.After.{node_in, append_there, append_back, new_choices}
 
@@ -312,3 +312,26 @@ meeting_law m p q c t meets way = (met, used)
 
     used : m.node c ≡ None → c ≡ choices q
     used h = end h (stage m p c z.u z.plain) ∙ sym (ap choices z.is ∙ with_choices t zero z.u)
+
+-- where the path's next node isn't the one that the machine meets, the run parts from the path that it began with
+pub parted : (m : Machine) (p q : List Stored) (c : List Choice) (t : ℕ → Choice → Bool) (n : Stored) → IsUnderWay m p c t q → node_at q c ≡ Some n → m.node c ≢ Some n.made → IsPartedAt m p c
+parted m p q c t n way h other = go (plain_of m p c t q way)
+  where
+    go : Plain m p c t q → IsPartedAt m p c
+    go z = by_stage (stage m p c z.u z.plain)
+      where
+        b : (k : Stored) × (node_at z.u c ≡ Some k) × (n.made ≡ k.made) × (n.present ≡ k.present)
+        b = with_back t zero z.u c n (sym (ap (λ y. node_at y c) z.is) ∙ h)
+
+        by_stage : Stage m p c z.u → IsPartedAt m p c
+        by_stage (following e i j) = record {
+          before = λ front x rest k f g. passed m p c z.u z.plain front x rest k f (ap (λ y. node_at y front) j ∙ g);
+          node = b.0;
+          stands = sym (ap (λ y. node_at y c) j) ∙ b.1;
+          other = λ f. other (f ∙ ap Some (sym b.2));
+        }
+        by_stage (growing w i j k) = absurd (no_node_at_end z.u c b.0 j b.1)
+
+-- it isn't one of the machine's
+pub parted_foreign : (m : Machine) (p : List Stored) (c : List Choice) → IsPartedAt m p c → Meets m p → ⊥
+parted_foreign m p c z meets = z.other (meets c z.node z.stands)

@@ -4,6 +4,7 @@ use Rattle.loom_objects.specs.declared.choice.Choice.{Choice}
 use Rattle.loom_walks.specs.Walk.Machine.{run}
 use Rattle.loom_walks.specs.Walk.Runs.{Reachable}
 use Rattle.loom_walks.specs.Walk.Path.{Stored, choices, IsResting, Rest, step, node_at, IsAtRest}
+use Rattle.loom_walks.specs.Walk.UnderWay.{IsPartedAt}
 use Rattle.loom_walks.specs.Walk.Walks.{IsStopped}
 use Rattle.loom_walks.specs.Walk.Lists.{IsWalkList, IsAllowed, IsInOrder}
 use Rattle.loom_views.specs.declared.rt.failure.FailureKind.{FailureKind}
@@ -85,12 +86,13 @@ ReplayLaw A = (s : Settings) (adds : Marking) (tree : Tree A) (c : List Choice) 
     → (choices (drive s adds tree (following c)).1.nodes ≡ run (machine_of s adds tree) c)
     × (outcome s.max_branches tree (run (machine_of s adds tree) c) ≡ Some (drive s adds tree (following c)).0)
 
--- What the first run along a path comes to that was loaded: it tells the path apart from the tree's nodes; or it has met
--- each node of the path; or it fails before, and the choices that it has passed lead to that failure.
+-- What the first run along a path comes to that was loaded: it has met each node of the path; or it parts from the path, and
+-- tells it apart, or has failed; then the choices that it has passed lead to that failure.
 pub data FirstRun {A : Type 0} (s : Settings) (adds : Marking) (tree : Tree A) (p : List Stored) (d : Result A FailureKind × Trail) : Type 0 where
-  told_apart : d.0 ≡ Err NotDeterministic → FirstRun s adds tree p d
   all_met : IsResting (machine_of s adds tree) p → FirstRun s adds tree p d
-  fails_early : (failure : FailureKind) → d.0 ≡ Err failure → outcome s.max_branches tree (choices (take d.1.position d.1.nodes)) ≡ Some (Err failure) → FirstRun s adds tree p d
+  told_apart : IsPartedAt (machine_of s adds tree) p (choices (take d.1.position d.1.nodes)) → d.0 ≡ Err NotDeterministic → FirstRun s adds tree p d
+  fails_early : IsPartedAt (machine_of s adds tree) p (choices (take d.1.position d.1.nodes)) → (failure : FailureKind) → d.0 ≡ Err failure
+      → outcome s.max_branches tree (choices (take d.1.position d.1.nodes)) ≡ Some (Err failure) → FirstRun s adds tree p d
 
 -- The first run along any path of nodes at rest, no more than there may be, comes to one of these.
 abbrev pub FirstRunLaw : Type 0 → Type 0

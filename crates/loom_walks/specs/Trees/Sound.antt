@@ -1,7 +1,8 @@
 -- What holds of the trees that are a body's runs.
-use Rattle.std.specs.Prelude.{◌≡◌, ◌≢◌, true}
+use Rattle.std.specs.Prelude.{◌≡◌, ◌≢◌, true, None}
 use Rattle.loom_views.specs.declared.rt.failure.FailureKind.TheVariants.{NotDeterministic}
 use Rattle.loom_objects.specs.declared.choice.Choice.{Choice}
+use Rattle.loom_objects.specs.declared.choice.Choice.TheVariants.{Thread}
 use Rattle.loom_objects.specs.Question.{Among, made_of, IsSound}
 use Rattle.loom_objects.specs.Tree.{Tree, Gives, Fails, Closes, Asks}
 
@@ -39,3 +40,11 @@ IsFair (Gives value) = Unit {0}
 IsFair (Fails kind) = kind ≢ NotDeterministic
 IsFair (Closes rest) = IsFair rest
 IsFair (Asks question branches) = (choice : Choice) → Among choice (made_of question).options → IsFair (branches choice)
+
+-- after a schedule without a default thread, which has no other option, it asks nothing
+abbrev pub EndsUnchosen : {A : Type 0} → Tree A → Type 0
+EndsUnchosen (Gives value) = Unit {0}
+EndsUnchosen (Fails failure) = Unit {0}
+EndsUnchosen (Closes rest) = Unit {0}
+EndsUnchosen (Asks question branches) = ((made_of question).default ≡ Thread None → IsQuiet (branches (Thread None)))
+    × ((choice : Choice) → Among choice (made_of question).options → EndsUnchosen (branches choice))

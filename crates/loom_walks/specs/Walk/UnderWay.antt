@@ -1,5 +1,5 @@
 -- The path while a run is under way.
-use Rattle.std.specs.Prelude.{ℕ, zero, suc, ◌<◌, ◌≡◌, Bool, true, false, ◌&&◌, ◌||◌, List, [], ◌∷◌, ◌++◌, length, Some, None}
+use Rattle.std.specs.Prelude.{ℕ, zero, suc, ◌<◌, ◌≡◌, ◌≢◌, Bool, true, false, ◌&&◌, ◌||◌, List, [], ◌∷◌, ◌++◌, length, Some, None}
 use Rattle.loom_objects.specs.declared.choice.Choice.{Choice}
 use Rattle.loom_objects.specs.Question.{Made}
 use Rattle.loom_walks.specs.Walk.Machine.{Machine, run}
@@ -27,6 +27,14 @@ pub data IsUnderWay (m : Machine) (p : List Stored) : List Choice → (ℕ → C
 -- the nodes of the path are those that the machine meets
 abbrev pub Meets : Machine → List Stored → Type 0
 Meets m p = (before : List Choice) (n : Stored) → node_at p before ≡ Some n → m.node before ≡ Some n.made
+
+-- The machine meets the path's nodes up to the one after these choices, which isn't the one that it meets there, if it
+-- meets any.
+pub record IsPartedAt (m : Machine) (p : List Stored) (c : List Choice) : Type 0 where
+  pub before : (front : List Choice) (x : Choice) (rest : List Choice) (n : Stored) → c ≡ front ++ x ∷ rest → node_at p front ≡ Some n → m.node front ≡ Some n.made
+  pub node : Stored
+  pub stands : node_at p c ≡ Some node
+  pub other : m.node c ≢ Some node.made
 
 -- When a run is over and no stored node is left over, it was the path's run, it met each of the path's nodes, and with
 -- the marks that the machine says it has left the path as it is to be after the run.

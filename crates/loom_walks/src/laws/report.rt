@@ -1,7 +1,8 @@
-//! Laws of what a check reports, and of runs that are replayed. The definitions stand in `specs/Trees/Reports.antt` and
-//! `specs/Trees/Replay.antt`.
+//! Laws of what a check reports, and of runs that are replayed. The definitions stand in `specs/Trees/Reports.antt`,
+//! `specs/Trees/Resuming.antt` for a check that begins with a path, and `specs/Trees/Replay.antt`.
 ghost use Rattle.loom_walks.specs.Trees.Replays.{AllowedReplayLaw, ReplayFollowsLaw};
 ghost use Rattle.loom_walks.specs.Trees.Reports.{CompleteReportLaw, FailedReportLaw, RefusedReplayLaw, SearchLaw, StoppedReportLaw};
+ghost use Rattle.loom_walks.specs.Trees.Resuming.{CompleteFromLaw, DefaultsLaw, FailedFromLaw, JoinedLaw, ResumedRunsLaw, StoppedFromLaw};
 
 /// With the marks that schedules make any settings give a search, reduced or not and bounded or not.
 pub fn marks_search<A>()
@@ -36,4 +37,34 @@ pub fn allowed_replay<A>()
 /// Choices replay as not deterministic only where one of them is no option, or is left over.
 pub fn refused_replay<A>()
     ensures { RefusedReplayLaw A }
+{}
+
+/// A complete check that began with a path has made what was left from it, each run once, and none of that fails.
+pub fn complete_from_path<A>()
+    ensures { CompleteFromLaw A }
+{}
+
+/// A check that began with a path and was stopped has made a part of what was left, and the path that it came to leaves the other.
+pub fn stopped_from_path<A>()
+    ensures { StoppedFromLaw A }
+{}
+
+/// A check that began with a path and failed did so by a run that was left, or by its first run, and then the path isn't the tree's.
+pub fn failed_from_path<A>()
+    ensures { FailedFromLaw A }
+{}
+
+/// The runs of a check and of one that goes on where it stopped are what one check makes.
+pub fn join_checks<A>()
+    ensures { JoinedLaw A }
+{}
+
+/// A check that goes on where one without a path stopped makes no run but reachable ones.
+pub fn resumed_runs<A>()
+    ensures { ResumedRunsLaw A }
+{}
+
+/// A path between two runs holds no schedule without a default thread.
+pub fn paths_have_defaults<A>()
+    ensures { DefaultsLaw A }
 {}
