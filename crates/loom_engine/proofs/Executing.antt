@@ -1,6 +1,6 @@
 -- Schedules along a path, from what the chosen threads come to.
 use Rattle.std.proofs.Common.{◌≡◌, ◌+◌, ◌-◌, ◌<◌, length, ℕ, zero, suc, Bool, true, false, List, [], ◌∷◌, ap, ap₂, refl, sym, ◌∙◌, subst, arith}
-use Rattle.std.specs.Prelude.{◌&&◌, cond, map, nat_lt, slice_get, Option, Some, None, Result, Ok, Err, ⊤}
+use Rattle.std.specs.Prelude.{◌&&◌, cond, nat_lt, slice_get, Option, Some, None, Result, Ok, Err, ⊤}
 use Rattle.loom_views.specs.Table.{Points}
 use Rattle.loom_views.specs.declared.rt.failure.FailureKind.{FailureKind}
 use Rattle.loom_views.specs.declared.rt.failure.FailureKind.TheVariants.{Deadlock, Misuse, NotDeterministic, TooManyBranches}
@@ -42,7 +42,7 @@ use Rattle.loom_runs.proofs.Runs.Growing.{made_needs_memory}
 use Rattle.loom_dependence.specs.Shown.{ShowsOrder}
 use Rattle.loom_objects.specs.Uses.{use_at, uses}
 use Rattle.loom_engine.specs.declared.rt.execution.Progress.{Progress}
-use Rattle.loom_engine.specs.Execution.{ExecutionState, Notes, Starts, ShowsCourse, use_among, use_found, Comes, Along, MayBeRefused, Submits, SubmitsAt, over_after, takes_turn}
+use Rattle.loom_engine.specs.Execution.{ExecutionState, Notes, Starts, ShowsCourse, IsMarked, Comes, Along, MayBeRefused, Submits, SubmitsAt, over_after, takes_turn}
 use Rattle.loom_path.specs.Routes.{Route, IsSame, Switches, SwitchesAs, trail, Says, Backtracks, drives}
 use Rattle.loom_runs.specs.Courses.{Course, carried, grown_from, one_passed, unordered_in, used_in, with_order}
 use Rattle.loom_runs.specs.Machine.{closes, chooses, goes_by, goes_on, is_asked, passes, turned, further, further_branches, schedule, submit, switches, waits}
@@ -72,6 +72,10 @@ unmarked s path question none =
     (no_marks s.reduce (marking s.bound (passes_of path) question) path.nodes
     (λ k o. ap (λ pairs. is_off_bound s.bound (count (front_of k (passes_of path))) && adds_any s.bound (passes_of path) k o pairs) none
     ∙ none_both (is_off_bound s.bound (count (front_of k (passes_of path))))))
+
+-- and a search that isn't reduced marks nothing
+pub whole_unmarked : (s : Settings) (path : Trail) (question : Question) → s.reduce ≡ false → backtrack s (marking s.bound) path question ≡ path
+whole_unmarked s path question whole = ap (λ (reduce : Bool). record path { nodes = marked reduce (marking s.bound (passes_of path) question) path.nodes }) whole
 
 module _ {A : Type 0} (question : Question) (branches : Choice → Tree A) (path mid : Route) (marks : trail mid ≡ backtrack path.search (marking path.search.bound) (trail path) question) (search : mid.search ≡ path.search) where
   abbrev pub going : Choice → Trail → Result A FailureKind × Trail
@@ -134,15 +138,6 @@ came_so : {A : Type 0} (r : Result A FailureKind) (a : A) → came r ≡ Gives a
 came_so (Ok b) a e = let is : b ≡ a = cc e in ap Ok is
 came_so (Err kind) a e = absurd (cc e)
 
--- of the five threads
-five : {A : Type 0} (f : ℕ → A) (t : ℕ) → t < 5 → slice_get (map f (0 ∷ 1 ∷ 2 ∷ 3 ∷ 4 ∷ [])) t ≡ Some (f t)
-five f zero l = refl
-five f (suc zero) l = refl
-five f (suc (suc zero)) l = refl
-five f (suc (suc (suc zero))) l = refl
-five f (suc (suc (suc (suc zero)))) l = refl
-five f (suc (suc (suc (suc (suc t))))) l = absurd (omega (arith, l))
-
 module _ {D : Type 0} where
   -- a tree that goes the same way
   pub same_way : {A : Type 0} (tree other : Tree (A × Course D)) (path via : Route) (result : Result A Stop) (new : Progress D) (after : Route) → drives tree path ≡ drives other via
@@ -162,66 +157,82 @@ module _ {D : Type 0} where
   turned_comes tree path (Err (Failure failure)) new after come = drive_fails path.search (marking path.search.bound) tree turned (trail path) (trail after) failure.kind come
   turned_comes tree path (Err Memory) new after come = tt
 
-  -- what the chosen thread is about to do
-  use_of_chosen : (c : Course D) (named : List (Option Use)) (t : ℕ) → named ≡ uses c.world → t < 5 → use_among t named ≡ use_at c.world.threads t
-  use_of_chosen c named t is l = ap (use_among t) is ∙ ap use_found (five (use_at c.world.threads) t l)
-
   -- ---- one schedule
 
-  -- what a schedule asks by the code, when it has made its marks
-  pub record IsSchedule (old : Progress D) (offered : Offers) (places : List (Option ℕ)) (path mid : Route) : Type 0 where
-    pub offered_is : (points : Points) (left : ℕ) → offered ≡ offers (world_of points left old.state.scene)
-    pub places_are : (c : Course D) → ShowsCourse c old path → places ≡ unordered_in c
-    pub marks : Backtracks path places mid
-
   -- the places are those of the course
-  pub places_named : (old : Progress D) (path : Route) (named : List (Option Use)) (places : List (Option ℕ))
+  places_named : (old : Progress D) (path : Route) (named : List (Option Use)) (places : List (Option ℕ))
       → ((points : Points) (left : ℕ) → named ≡ uses (world_of points left old.state.scene)) → ((o : Order) → ShowsOrder o old.dependence → places ≡ unordered o named)
       → (c : Course D) → ShowsCourse c old path → places ≡ unordered_in c
   places_named old path named places us ps c shown =
       ps c.order shown.order ∙ ap (unordered c.order) (us c.world.points old.state.steps_left ∙ ap (λ w. uses w) (sym shown.world.rest))
 
-  module _ (old : Progress D) (offered : Offers) (places : List (Option ℕ)) (path mid : Route) (s : IsSchedule old offered places path mid) where
-    -- what the code notes of the chosen thread's access
-    pub noted_by : (named : List (Option Use)) (t place : ℕ) (result : Result ⊤ Stop) (kept : Dependence) → ((points : Points) (left : ℕ) → named ≡ uses (world_of points left old.state.scene))
-        → t < 5 → place ≡ mid.position → ((c : Course D) → ShowsOrder c.order old.dependence → c.passed ≡ place → Notes (used_in t c (use_among t named)) result kept)
-        → (c : Course D) → ShowsCourse c old path → Notes (used_in t c (use_at c.world.threads t)) result kept
-    noted_by named t place result kept us l at notes c shown =
-        subst (λ (u : Option Use). Notes (used_in t c u) result kept)
-        (use_of_chosen c named t (us c.world.points old.state.steps_left ∙ ap (λ w. uses w) (sym shown.world.rest)) l)
-        (notes c shown.order (shown.place ∙ sym (at ∙ ap (λ (trail : Trail). trail.position) (s.marks.0 (is_on mid.exploring) offered))))
+  -- the marks of those places are the schedule's
+  pub marked_at : (old : Progress D) (path mid : Route) (named : List (Option Use)) (places : List (Option ℕ))
+      → ((points : Points) (left : ℕ) → named ≡ uses (world_of points left old.state.scene)) → ((o : Order) → ShowsOrder o old.dependence → places ≡ unordered o named)
+      → Backtracks path places mid → IsMarked old path mid
+  marked_at old path mid named places us ps marks c shown =
+      subst (λ (p : List (Option ℕ)). Backtracks path p mid) (places_named old path named places us ps c shown) marks
+
+  -- a search that isn't reduced makes none
+  pub left_unmarked : (old : Progress D) (path : Route) → path.search.reduce ≡ false → IsMarked old path path
+  left_unmarked old path whole c shown =
+      ((λ exploring offers. sym (whole_unmarked path.search (trail path) (which_thread exploring offers (unordered_in c)) whole)), ((refl, refl, refl), refl))
+
+  -- what the code notes of the chosen thread's access
+  pub noted_by : (old : Progress D) (path : Route) (t place : ℕ) (result : Result ⊤ Stop) (kept : Dependence) → place ≡ path.position
+      → ((c : Course D) → ShowsOrder c.order old.dependence → c.passed ≡ place → Notes (used_in t c (use_at old.state.scene.threads t)) result kept)
+      → (c : Course D) → ShowsCourse c old path → Notes (used_in t c (use_at c.world.threads t)) result kept
+  noted_by old path t place result kept at notes c shown =
+      subst (λ (w : World D). Notes (used_in t c (use_at w.threads t)) result kept) (sym shown.world.rest)
+      (notes c shown.order (shown.place ∙ sym at))
+
+  -- what a schedule asks by the code, when it has made its marks
+  pub record IsSchedule (old : Progress D) (offered : Offers) (path mid : Route) : Type 0 where
+    pub offered_is : (points : Points) (left : ℕ) → offered ≡ offers (world_of points left old.state.scene)
+    pub marks : IsMarked old path mid
+    pub same : IsSame path mid
+
+  module _ (old : Progress D) (offered : Offers) (path mid : Route) (s : IsSchedule old offered path mid) where
+    -- the question as the course asks it
+    abbrev pub asks_of : Course D → Question
+    asks_of c = which_thread (is_on mid.exploring) offered (unordered_in c)
+
+    pub marks_of : (c : Course D) → ShowsCourse c old path → trail mid ≡ backtrack path.search (marking path.search.bound) (trail path) (asks_of c)
+    marks_of c shown = (s.marks c shown).0 (is_on mid.exploring) offered
 
     -- the schedule as the code asks it
-    pub scheduled : (c : Course D) → ShowsCourse c old path → drives (passes c) path ≡ drives (Asks (which_thread (is_on mid.exploring) offered places) (chooses c)) path
+    pub scheduled : (c : Course D) → ShowsCourse c old path → drives (passes c) path ≡ drives (Asks (asks_of c) (chooses c)) path
     scheduled c shown =
-        ap (λ (b : Bool). drives (Asks (which_thread b (offers c.world) (unordered_in c)) (chooses c)) path) (ap is_on (shown.exploring ∙ sym s.marks.1.1))
+        ap (λ (b : Bool). drives (Asks (which_thread b (offers c.world) (unordered_in c)) (chooses c)) path) (ap is_on (shown.exploring ∙ sym s.same.1))
         ∙ ap (λ (o : Offers). drives (Asks (which_thread (is_on mid.exploring) o (unordered_in c)) (chooses c)) path) (ap (λ w. offers w) shown.world.rest ∙ sym (s.offered_is c.world.points old.state.steps_left))
-        ∙ ap (λ (p : List (Option ℕ)). drives (Asks (which_thread (is_on mid.exploring) offered p) (chooses c)) path) (sym (s.places_are c shown))
 
-    pub schedule_refused : (after : Route) (stop : Stop) → Says Thread mid (which_thread (is_on mid.exploring) offered places) (Err stop) after → Along passes old path (Err stop) old after
+    pub schedule_refused : (after : Route) (stop : Stop) → ((places : List (Option ℕ)) → Says Thread mid (which_thread (is_on mid.exploring) offered places) (Err stop) after) → Along passes old path (Err stop) old after
     schedule_refused after (Failure failure) says c shown =
-        scheduled c shown ∙ refused (which_thread (is_on mid.exploring) offered places) (chooses c) path mid (s.marks.0 (is_on mid.exploring) offered) s.marks.1.0.0 failure.kind says.0
-        ∙ ap (λ (p : Route). (Err failure.kind, trail p)) (sym says.1)
+        scheduled c shown ∙ refused (asks_of c) (chooses c) path mid (marks_of c shown) s.same.0.0 failure.kind (says (unordered_in c)).0
+        ∙ ap (λ (p : Route). (Err failure.kind, trail p)) (sym (says (unordered_in c)).1)
     schedule_refused after Memory says c shown = tt
 
     module _ (after : Route) (same : IsSame mid after) where
-      chosen_on : (choice : Choice) → branch mid.search (trail mid) (which_thread (is_on mid.exploring) offered places) ≡ (Ok choice, trail after) → (c : Course D) → ShowsCourse c old path
-          → drives (passes c) path ≡ drives (chooses c choice) after
-      chosen_on choice says c shown = scheduled c shown ∙ asked (which_thread (is_on mid.exploring) offered places) (chooses c) path mid (s.marks.0 (is_on mid.exploring) offered) s.marks.1.0.0 after choice same.0.0 says
+      -- the path answers whatever isn't ordered
+      abbrev pub Chooses : Option ℕ → Type 0
+      Chooses thread = (places : List (Option ℕ)) → Says Thread mid (which_thread (is_on mid.exploring) offered places) (Ok thread) after
+
+      chosen_on : (thread : Option ℕ) → Chooses thread → (c : Course D) → ShowsCourse c old path → drives (passes c) path ≡ drives (chooses c (Thread thread)) after
+      chosen_on thread says c shown = scheduled c shown ∙ asked (asks_of c) (chooses c) path mid (marks_of c shown) s.same.0.0 after (Thread thread) same.0.0 (says (unordered_in c))
 
       -- the path has passed one node more
-      one_further : (choice : Choice) → branch mid.search (trail mid) (which_thread (is_on mid.exploring) offered places) ≡ (Ok choice, trail after) → after.position ≡ path.position + 1
-      one_further choice says =
-          answer_passes mid.search (trail mid) (which_thread (is_on mid.exploring) offered places) choice (trail after) says ∙ ap (λ (t : Trail). t.position + 1) (s.marks.0 (is_on mid.exploring) offered)
+      one_further : (thread : Option ℕ) → Chooses thread → (c : Course D) → ShowsCourse c old path → after.position ≡ path.position + 1
+      one_further thread says c shown =
+          answer_passes mid.search (trail mid) (asks_of c) (Thread thread) (trail after) (says (unordered_in c)) ∙ ap (λ (t : Trail). t.position + 1) (marks_of c shown)
 
       -- and explores as before
       as_before : (c : Course D) → ShowsCourse c old path → c.exploring ≡ after.exploring
-      as_before c shown = shown.exploring ∙ sym (same.1 ∙ s.marks.1.1)
+      as_before c shown = shown.exploring ∙ sym (same.1 ∙ s.same.1)
 
       -- the access can't be noted
-      pub access_refused : (thread : ℕ) → Says Thread mid (which_thread (is_on mid.exploring) offered places) (Ok (Some thread)) after → (stop : Stop) (new : Progress D)
+      pub access_refused : (thread : ℕ) → Chooses (Some thread) → (stop : Stop) (new : Progress D)
           → ((c : Course D) → ShowsCourse c old path → Notes (used_in thread c (use_at c.world.threads thread)) (Err stop) new.dependence) → Along passes old path (Err stop) new after
-      access_refused thread says stop new notes c shown = by stop (used_in thread c (use_at c.world.threads thread)) (notes c shown) (chosen_on (Thread (Some thread)) says c shown)
+      access_refused thread says stop new notes c shown = by stop (used_in thread c (use_at c.world.threads thread)) (notes c shown) (chosen_on (Some thread) says c shown)
         where
           by : (stop : Stop) (r : Result Order FailureKind) → Notes r (Err stop) new.dependence → drives (passes c) path ≡ drives (came (with_order c r) >>= goes_by thread) after
               → Comes (passes c) path (Err stop) new after
@@ -238,28 +249,28 @@ module _ {D : Type 0} where
       noted thread c (Err kind) run h w place on = absurd (cc h)
 
       -- the course on which the thread goes on
-      pub chosen_course : (thread : ℕ) → Says Thread mid (which_thread (is_on mid.exploring) offered places) (Ok (Some thread)) after → (run : Progress D)
+      pub chosen_course : (thread : ℕ) → Chooses (Some thread) → (run : Progress D)
           → ((c : Course D) → ShowsCourse c old path → Notes (used_in thread c (use_at c.world.threads thread)) (Ok tt) run.dependence) → run.state ≡ old.state
           → (c : Course D) → ShowsCourse c old path → (v : Course D) × ShowsCourse v run after × (drives (passes c) path ≡ drives (takes_turn thread v) after)
       chosen_course thread says run notes state c shown =
           let n = noted thread c (used_in thread c (use_at c.world.threads thread)) run (notes c shown) (subst (λ r. Shows c.world r) (sym state) shown.world)
-          (ap suc shown.place ∙ sym (one_further (Thread (Some thread)) says ∙ plus_one path.position)) (as_before c shown) in
-          (n.0, n.2, chosen_on (Thread (Some thread)) says c shown ∙ ap (λ (t : Tree (Passed D × Course D)). drives t after) n.1)
+          (ap suc shown.place ∙ sym (one_further (Some thread) says c shown ∙ plus_one path.position)) (as_before c shown) in
+          (n.0, n.2, chosen_on (Some thread) says c shown ∙ ap (λ (t : Tree (Passed D × Course D)). drives t after) n.1)
 
       -- and it goes on
-      pub thread_chosen : (thread : ℕ) → Says Thread mid (which_thread (is_on mid.exploring) offered places) (Ok (Some thread)) after → (run : Progress D)
+      pub thread_chosen : (thread : ℕ) → Chooses (Some thread) → (run : Progress D)
           → ((c : Course D) → ShowsCourse c old path → Notes (used_in thread c (use_at c.world.threads thread)) (Ok tt) run.dependence) → run.state ≡ old.state
           → (result : Result (Passed D) Stop) (new : Progress D) (end : Route) → Along (takes_turn thread) run after result new end → Along passes old path result new end
       thread_chosen thread says run notes state result new end along c shown =
           let v = chosen_course thread says run notes state c shown in
           same_way (passes c) (takes_turn thread v.0) path after result new end v.2 (along v.0 v.1)
 
-      pub nobody_chosen : Says Thread mid (which_thread (is_on mid.exploring) offered places) (Ok None) after → (result : Result (Turn D) Stop) (new : Progress D) (end : Route)
+      pub nobody_chosen : Chooses None → (result : Result (Turn D) Stop) (new : Progress D) (end : Route)
           → Along closes old after result new end → Along passes old path (passed_with result) new end
       nobody_chosen says result new end along c shown =
-          same_way (passes c) (closes (one_passed c) >>= turned) path after (passed_with result) new end (chosen_on (Thread None) says c shown)
+          same_way (passes c) (closes (one_passed c) >>= turned) path after (passed_with result) new end (chosen_on None says c shown)
           (turned_comes (closes (one_passed c)) after result new end
-          (along (one_passed c) (record { world = shown.world; order = shown.order; place = ap suc shown.place ∙ sym (one_further (Thread None) says ∙ plus_one path.position); exploring = as_before c shown })))
+          (along (one_passed c) (record { world = shown.world; order = shown.order; place = ap suc shown.place ∙ sym (one_further None says c shown ∙ plus_one path.position); exploring = as_before c shown })))
 
   -- ---- schedules up to a turn
 

@@ -34,11 +34,11 @@ use Rattle.loom_walks.proofs.Trees.Binding.{onward, drive_bind, drive_then}
 use Rattle.loom_objects.specs.Asked.{which_thread, which_store, whether_spurious}
 use Rattle.loom_objects.specs.Exploring.{is_on}
 use Rattle.loom_runs.specs.Machine.{passes, chooses, further, further_branches, goes_on, is_asked, schedule, submit, waits}
-use Rattle.loom_runs.specs.Courses.{Course, carried, used_in}
+use Rattle.loom_runs.specs.Courses.{Course, carried, unordered_in, used_in}
 use Rattle.loom_machine.specs.Copies.{GivesCopy}
 use Rattle.loom_engine.specs.Execution.{Along, MayBeRefused, NeedsMemory, AllNeedMemory, Notes, ShowsCourse, Starts, itself, takes_turn}
 use Rattle.loom_engine.specs.declared.rt.execution.Progress.{Progress}
-use Rattle.loom_engine.proofs.Executing.{IsSchedule, asked, asked_so, chosen_course, first_of, goes_on_by, marked_first, read_asks, same_way, scheduled, started_course, unmarked_load, unmarked_wait, waiting}
+use Rattle.loom_engine.proofs.Executing.{Chooses, IsSchedule, asked, asked_so, asks_of, chosen_course, first_of, goes_on_by, marked_first, marks_of, read_asks, same_way, scheduled, started_course, unmarked_load, unmarked_wait, waiting}
 use Rattle.loom_path.specs.Nodes.{seen}
 use Rattle.loom_path.specs.Routes.{Route, IsSame, trail, Says, Grows, drives}
 
@@ -173,20 +173,21 @@ module _ {D : Type 0} where
 
   -- ---- one schedule
 
-  module _ (old : Progress D) (offered : Offers) (places : List (Option ℕ)) (path mid : Route) (s : IsSchedule old offered places path mid) where
-    pub thread_refused : {B : Type 0} (after : Route) (stop : Stop) → Says Thread mid (which_thread (is_on mid.exploring) offered places) (Err stop) after → ◌≡◌ {A = Result B Stop} (Err stop) (Err Memory) → AllNeedMemory passed.Turn passes old path
+  module _ (old : Progress D) (offered : Offers) (path mid : Route) (s : IsSchedule old offered path mid) where
+    pub thread_refused : {B : Type 0} (after : Route) (stop : Stop) → ((places : List (Option ℕ)) → Says Thread mid (which_thread (is_on mid.exploring) offered places) (Err stop) after)
+        → ◌≡◌ {A = Result B Stop} (Err stop) (Err Memory) → AllNeedMemory passed.Turn passes old path
     thread_refused after stop says e c shown =
-        needed_on passed.Turn (passes c) (Asks (which_thread (is_on mid.exploring) offered places) (chooses c)) path path (scheduled old offered places path mid s c shown) (omega arith)
-        (refused_first Thread passed.Turn (which_thread (is_on mid.exploring) offered places) (chooses c) path mid after stop (s.marks.0 (is_on mid.exploring) offered) s.marks.1.0.0 says e)
+        needed_on passed.Turn (passes c) (Asks (asks_of old offered path mid s c) (chooses c)) path path (scheduled old offered path mid s c shown) (omega arith)
+        (refused_first Thread passed.Turn (asks_of old offered path mid s c) (chooses c) path mid after stop (marks_of old offered path mid s c shown) s.same.0.0 (says (unordered_in c)) e)
 
     -- the thread that was chosen needs memory as it goes on
-    pub thread_needs : (thread : ℕ) (after : Route) → IsSame mid after → Says Thread mid (which_thread (is_on mid.exploring) offered places) (Ok (Some thread)) after → (run : Progress D)
+    pub thread_needs : (thread : ℕ) (after : Route) (same : IsSame mid after) → Chooses old offered path mid s after same (Some thread) → (run : Progress D)
         → ((c : Course D) → ShowsCourse c old path → Notes (used_in thread c (use_at c.world.threads thread)) (Ok tt) run.dependence) → run.state ≡ old.state
         → AllNeedMemory passed.Turn (takes_turn thread) run after → AllNeedMemory passed.Turn passes old path
     thread_needs thread after same says run notes state needs c shown =
-        let v = chosen_course old offered places path mid s after same thread says run notes state c shown in
+        let v = chosen_course old offered path mid s after same thread says run notes state c shown in
         needed_on passed.Turn (passes c) (takes_turn thread v.0) path after v.2
-        (after_answer path mid after (which_thread (is_on mid.exploring) offered places) (Thread (Some thread)) (s.marks.0 (is_on mid.exploring) offered) says) (needs v.0 v.1)
+        (after_answer path mid after (asks_of old offered path mid s c) (Thread (Some thread)) (marks_of old offered path mid s c shown) (says (unordered_in c))) (needs v.0 v.1)
 
   -- memory is refused for the node of a load
   pub load_refused : {B : Type 0} (t : ℕ) (load : Loading) (old mid : Progress D) (path via : Route) (stop : Stop)

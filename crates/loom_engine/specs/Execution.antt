@@ -1,5 +1,5 @@
 -- One execution: the run so far, and whether it is over.
-use Rattle.std.specs.Prelude.{ℕ, ◌≡◌, ◌⊎◌, true, Option, Some, None, Result, Ok, Err, ⊤, List, slice_get}
+use Rattle.std.specs.Prelude.{ℕ, ◌≡◌, ◌⊎◌, true, Option, Some, None, Result, Ok, Err, ⊤}
 use Rattle.loom_views.specs.declared.rt.failure.FailureKind.TheVariants.{Misuse}
 use Rattle.loom_views.specs.declared.rt.failure.FailureKind.{FailureKind}
 use Rattle.loom_objects.specs.declared.failure.Stop.{Stop}
@@ -16,27 +16,18 @@ use Rattle.loom_objects.specs.World.{World}
 use Rattle.loom_objects.specs.declared.rt.run.Entry.{Entry}
 use Rattle.loom_dependence.specs.Dependence.{Order}
 use Rattle.loom_dependence.specs.declared.rt.dependence.Dependence.{Dependence}
-use Rattle.loom_dependence.specs.declared.rt.dependence.Use.{Use}
 use Rattle.loom_dependence.specs.Shown.{ShowsOrder}
 use Rattle.loom_engine.specs.declared.rt.execution.Progress.{Progress}
 use Rattle.loom_objects.specs.declared.rt.run.Passed.{Passed}
 use Rattle.loom_objects.specs.Steps.{begins, resumes}
-use Rattle.loom_runs.specs.Courses.{Course, carried, grown_from}
+use Rattle.loom_runs.specs.Courses.{Course, carried, grown_from, unordered_in}
 use Rattle.loom_runs.specs.Machine.{submit}
-use Rattle.loom_path.specs.Routes.{Route, trail, drives, Grows}
+use Rattle.loom_path.specs.Routes.{Route, trail, drives, Backtracks, Grows}
 
 -- the run so far, and what every further operation is answered once the run is over
 pub record ExecutionState (D : Type 0) : Type 0 where
   pub run : Progress D
   pub over : Option Stop
-
--- what the thread of this number is about to do
-abbrev pub use_found : Option (Option Use) → Option Use
-use_found None = None
-use_found (Some used) = used
-
-abbrev pub use_among : ℕ → List (Option Use) → Option Use
-use_among t uses = use_found (slice_get uses t)
 
 -- the order that an access leads to is kept, or the access stops the run
 abbrev pub Notes : Result Order FailureKind → Result ⊤ Stop → Dependence → Type 0
@@ -80,6 +71,10 @@ module _ {D : Type 0} where
   -- a reader is told of a copy of a lock's data
   abbrev pub IsCopied : {A : Type 0} → (Turn D → A) → Result (A × Course D) FailureKind → Type 0
   IsCopied by_turn comes = (reader n : ℕ) × (copy : D) × (after : Course D) × (comes ≡ Ok (by_turn (Reply reader (ReadLocked n copy)), after))
+
+  -- the path has made the marks of a schedule, at which threads aren't ordered as in each course that was shown
+  abbrev pub IsMarked : Progress D → Route → Route → Type 0
+  IsMarked run path after = (c : Course D) → ShowsCourse c run path → Backtracks path (unordered_in c) after
 
   -- memory is needed on the way through the tree along the path: a node is made, or it comes to a copy
   abbrev pub NeedsMemory : {A : Type 0} → (Turn D → A) → Tree (A × Course D) → Route → Type 0

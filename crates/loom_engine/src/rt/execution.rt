@@ -2,11 +2,12 @@ ghost use Rattle.std.specs.Prelude.{Bool, ◌≡◌, ◌≢◌, ◌≤◌, ◌+�
 ghost use Rattle.std.specs.List.{Contains};
 ghost use Rattle.loom_objects.specs.declared.choice.Choice.{Choice};
 ghost use Rattle.loom_runs.specs.Courses.{Course, opening, used_in};
-ghost use Rattle.loom_engine.specs.Execution.{Notes, ShowsCourse, use_among, Starts, takes_turn, Along, AllNeedMemory, MayBeRefused, Submits, itself, over_after as answered_after};
+ghost use Rattle.loom_engine.specs.Execution.{Notes, ShowsCourse, IsMarked, Starts, takes_turn, Along, AllNeedMemory, MayBeRefused, Submits, itself, over_after};
 ghost use Rattle.loom_dependence.specs.Shown.{ShowsOrder};
 ghost use Rattle.loom_objects.specs.Effects.{needs_memory};
 ghost use Rattle.loom_objects.specs.Exploring.{is_on};
 ghost use Rattle.loom_objects.specs.Shown.{Shows};
+ghost use Rattle.loom_objects.specs.Uses.{use_at};
 ghost use Rattle.loom_objects.specs.World.{World};
 ghost use Rattle.loom_runs.specs.Machine as machine;
 ghost use Rattle.loom_path.specs.Routes.{Route, IsAtStart, IsSame, IsSameSearch, Says, Switches};
@@ -15,7 +16,7 @@ ghost use Rattle.loom_objects.specs.Asked.{which_store};
 use loom_dependence::rt::dependence::{Dependence, Use};
 use loom_machine::steps::{begin, end_run, enter_wait, read, resume};
 use loom_objects::data::Data;
-use loom_objects::failure::{Failure, Stop, failed};
+use loom_objects::failure::{Stop, failed};
 use loom_objects::operation::{ExploreOp, Op, Reply, Turn};
 use loom_objects::rt::run::{Entry, Passed, Resumed, RunState};
 use loom_path::rt::path::Path;
@@ -91,22 +92,20 @@ impl<D: Data> Execution<D> {
             return Err(stop);
         }
         let answer = hand_over(&mut self.run, path, op);
-        self.over = over_after(&answer);
+        record_end(&mut self.over, &answer);
         answer
     }
 }
 
-/// What every operation after this answer is answered.
-fn over_after<D>(answer: &Result<Turn<D>, Stop>) -> Option<Stop>
-    ensures { result ≡ answered_after answer.now }
+/// Keeps what every operation after this answer is answered, if the run is over by it.
+fn record_end<D>(over: &mut Option<Stop>, answer: &Result<Turn<D>, Stop>)
+    requires { over.old ≡ None }
+    ensures { over.new ≡ over_after answer.now }
 {
     match answer {
-        Ok(Turn::Ended(_)) => Some(Stop::Failure(Failure {
-            kind: FailureKind::Misuse,
-            location: None,
-        })),
-        Ok(_) => None,
-        Err(stop) => Some(*stop),
+        Ok(Turn::Ended(_)) => *over = Some(failed(FailureKind::Misuse)),
+        Ok(Turn::Reply(..)) | Ok(Turn::Start(_)) => {}
+        Err(stop) => *over = Some(*stop),
     }
 }
 
@@ -222,12 +221,11 @@ fn pass<D: Data>(run: &mut Progress<D>, path: &mut Path) -> Result<Passed<D>, St
     ensures steps { run.new.state.steps_left ≡ run.old.state.steps_left }
     ensures same { IsSame path.old path.new }
 {
-    let uses = run.state.scene.uses();
-    path.backtrack(&run.dependence.unordered(&uses));
     let place = path.position();
+    mark(run, path);
     match path.branch_thread(&run.state.scene.offers()) {
         Err(stop) => Err(stop),
-        Ok(Some(thread)) => match access(run, &uses, thread as usize, place) {
+        Ok(Some(thread)) => match access(run, thread, place) {
             Err(stop) => Err(stop),
             Ok(()) => go_on(run, path, thread),
         },
@@ -238,21 +236,41 @@ fn pass<D: Data>(run: &mut Progress<D>, path: &mut Path) -> Result<Passed<D>, St
     }
 }
 
+/// The schedule's marks are made. A search that isn't reduced makes none, so nothing is looked up for it.
+fn mark<D: Data>(run: &Progress<D>, path: &mut Path)
+    ensures marks { IsMarked run.now path.old path.new }
+    ensures same { IsSame path.old path.new }
+{
+    if !path.is_reduced() {
+        return;
+    }
+    let uses = run.state.scene.uses();
+    path.backtrack(&run.dependence.unordered(&uses));
+}
+
+/// What the thread of this number is about to do to its object.
+fn use_by<D: Data>(run: &Progress<D>, thread: u8) -> Option<Use>
+    ensures { result ≡ use_at run.now.state.scene.threads thread }
+{
+    match run.state.scene.thread(thread) {
+        Ok(chosen) => chosen.task.used(),
+        Err(_) => None,
+    }
+}
+
 /// What the thread is about to do, chosen at this place, is an access, unless it is on no object.
-fn access<D>(
-    run: &mut Progress<D>,
-    uses: &[Option<Use>; 5],
-    thread: usize,
-    place: usize,
-) -> Result<(), Stop>
+fn access<D: Data>(run: &mut Progress<D>, thread: u8, place: usize) -> Result<(), Stop>
     requires { thread < 5 }
-    ensures notes { (c : Course D) → ShowsOrder c.order run.old.dependence → c.passed ≡ place → Notes (used_in thread c (use_among thread uses.now)) result run.new.dependence }
+    ensures notes { (c : Course D) → ShowsOrder c.order run.old.dependence → c.passed ≡ place → Notes (used_in thread c (use_at run.old.state.scene.threads thread)) result run.new.dependence }
     ensures state { run.new.state ≡ run.old.state }
     ensures no_growth { result ≢ Err Stop.Memory }
 {
-    match uses.get(thread) {
-        Some(Some(used)) => run.dependence.record(thread, *used, place).map_err(failed),
-        Some(None) | None => Ok(()),
+    match use_by(run, thread) {
+        Some(used) => run
+            .dependence
+            .record(thread as usize, used, place)
+            .map_err(failed),
+        None => Ok(()),
     }
 }
 

@@ -328,6 +328,13 @@ impl Path {
         self.position
     }
 
+    /// Whether the search is reduced. One that isn't makes no marks.
+    pub fn is_reduced(&self) -> bool
+        ensures { result ≡ self.now.search.reduce }
+    {
+        self.search.reduce
+    }
+
     /// Whether the run has met all that the path holds.
     pub fn is_used_up(&self) -> bool
         ensures { result ≡ is_used_up (trail self.now) }

@@ -6,4 +6,4 @@ pub returns-clause-event : goal.returns-clause-event
 returns-clause-event g c =
     rw (← c.self.view_is)
     (submits_by (the_view g.row.D c.self.inside) _ c.args.op c.args.path.now c.hand_over-answer.new.path c.hand_over-answer.result c.in_default.is c.hand_over-answer.ensures.along
-    c.over_after-self-inside.ensures c.hand_over-answer.ensures.growth)
+    c.record_end.ensures c.hand_over-answer.ensures.growth)
