@@ -2,3 +2,5 @@ pub mod Marking
 pub mod Nodes
 pub mod Notes
 pub mod Tallies
+pub mod Alike
+pub mod WellFormed

@@ -2,3 +2,4 @@ pub mod Nodes
 pub mod Routes
 pub mod Tallies
 pub mod Marking
+pub mod WellFormed

@@ -107,10 +107,10 @@ IsWellLoad n = n.position < length (slots n.readable)
 abbrev pub IsWellSchedule : Schedule → Type 0
 IsWellSchedule n = IsAtRest (seen_threads n.first true n.statuses)
 
--- a node that a run has made, with one choice, which is one of its options
+-- a node that a run has made, of five threads or seven slots, with one choice, which is one of its options
 abbrev pub IsWell : Node → Type 0
-IsWell (node.Schedule n) = IsWellSchedule n
-IsWell (node.Load n) = IsWellLoad n
+IsWell (node.Schedule n) = IsWellSchedule n × (length n.statuses ≡ 5)
+IsWell (node.Load n) = IsWellLoad n × (length n.readable ≡ 7)
 IsWell (node.Spurious n) = Unit {0}
 
 -- each of the nodes is so

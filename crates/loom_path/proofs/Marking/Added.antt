@@ -36,7 +36,7 @@ module _ (p old : Route) (view : p ≡ old) (place : ℕ) (asked : IsScheduleAt 
     here = there (node.Schedule s) is
 
     pub rests : AreWell p.nodes → IsWellSchedule s
-    rests w = well_got p.nodes place (node.Schedule s) here w
+    rests w = (well_got p.nodes place (node.Schedule s) here w).0
 
     pub adds : (thread : ℕ) (new : Schedule) → AreNoted p.nodes
         → (is_off_bound p.search.bound s.preemptions ≡ true → seen_schedule new ≡ mark_added thread (seen_schedule s)) → (is_off_bound p.search.bound s.preemptions ≡ false → new ≡ s)

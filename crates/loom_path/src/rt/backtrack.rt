@@ -1,5 +1,5 @@
 //! The marks that a schedule makes at nodes before it (loom's `rt/path.rs`).
-ghost use Rattle.std.specs.Prelude.{◌≡◌, true, false};
+ghost use Rattle.std.specs.Prelude.{◌≡◌, true, false, length};
 ghost use Rattle.loom_walks.specs.Trees.Drive.{passes_of};
 ghost use Rattle.loom_walks.specs.Trees.Marks.{is_off_bound};
 ghost use Rattle.loom_path.specs.Marking.{Adds, Marks, IsNearest, IsScheduleAt, passes_in};
@@ -81,6 +81,7 @@ fn add_off_bound(schedule: &mut Schedule, bound: Option<u8>, thread: usize)
     ensures added { is_off_bound bound schedule.old.preemptions ≡ true → seen_schedule schedule.new ≡ mark_added thread (seen_schedule schedule.old) }
     ensures same { is_off_bound bound schedule.old.preemptions ≡ false → schedule.new ≡ schedule.old }
     ensures rests { IsWellSchedule schedule.new }
+    ensures five { length schedule.new.statuses ≡ 5 }
     ensures noted { (schedule.new.preemptions ≡ schedule.old.preemptions) × (schedule.new.switch ≡ schedule.old.switch) × (schedule.new.nearest ≡ schedule.old.nearest) }
 {
     if is_off_bound(bound, schedule.preemptions) {

@@ -494,6 +494,7 @@ impl Load {
         requires { IsWellLoad self.old }
         ensures advances { Advances (seen_load self.old) result (seen_load self.new) }
         ensures well { IsWellLoad self.new }
+        ensures seven { length self.new.readable ≡ 7 }
     {
         if !self.exploring || self.position as usize + 1 >= count_slots(&self.readable) {
             return false;

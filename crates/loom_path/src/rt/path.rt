@@ -7,8 +7,9 @@ ghost use Rattle.loom_objects.specs.Exploring.{is_on};
 ghost use Rattle.loom_walks.specs.Trees.Drive.{is_used_up, new_node, passes_of};
 ghost use Rattle.loom_walks.specs.Trees.Meeting.{every_at, whole_search};
 ghost use Rattle.loom_path.specs.Nodes.{seen, seen_schedule, seen_load, seen_spurious, AreWell, IsWell, IsWellSchedule, IsWellLoad};
-ghost use Rattle.loom_path.specs.Routes.{Route, settings, at_rest, chosen, trail, IsSame, Says, Pushes, IsAtLoad, PassesLoad, Steps, Switches};
+ghost use Rattle.loom_path.specs.Routes.{Route, settings, at_rest, chosen, stored, trail, IsSame, Says, Pushes, IsAtLoad, PassesLoad, Steps, Switches};
 ghost use Rattle.loom_path.specs.Tallies.{Notes, IsNotedAt, AreNoted, IsValueAt};
+ghost use Rattle.loom_path.specs.WellFormed.{AreAlike, AreAtRest, AreWellFormed, Appends};
 
 use crate::rt::node::{Load, Node, Schedule, Spurious, Tally};
 use loom_objects::choice::Choice;
@@ -102,6 +103,105 @@ impl Path {
         let mut path = Path::new(alloc, search);
         path.given.extend_from_slice(choices)?;
         Ok(path)
+    }
+
+    /// A path at rest with these nodes, of such a search. The notes of its schedules are computed anew.
+    pub fn from_nodes(alloc: Global, search: Search, nodes: &[Node]) -> Result<Path, AllocError>
+        requires fits { length nodes.now ≤ search.max_branches }
+        requires well_formed { AreWellFormed nodes.now }
+        ensures rests { IfOk result (λ path. path ≡ at_rest (settings search) search.explores path.nodes) }
+        ensures nodes { IfOk result (λ path. AreAlike path.nodes nodes.now) }
+    {
+        let mut path = Path::new(alloc, search);
+        for node in nodes {
+            path.append(*node)?;
+        }
+        path.position = 0;
+        path.tally = Tally::new();
+        Ok(path)
+    }
+
+    /// Adds the node behind those that were passed, with the notes of its place, and passes it.
+    fn append(&mut self, node: Node) -> Result<(), AllocError>
+        requires past { length self.old.nodes ≡ self.old.position }
+        requires room { self.old.position < self.old.search.max_branches }
+        requires well { IsWell node }
+        ensures { IfOk result (λ _. Appends self.old node self.new) }
+    {
+        match node {
+            Node::Schedule(schedule) => {
+                let schedule = self.noted(schedule);
+                self.push(Node::Schedule(schedule))?;
+                self.pass(&schedule);
+            }
+            Node::Load(_) | Node::Spurious(_) => {
+                self.push(node)?;
+                self.pass_value();
+            }
+        }
+        Ok(())
+    }
+
+    /// The schedule with the notes of the place that is passed next.
+    fn noted(&self, schedule: Schedule) -> Schedule
+        ensures same { (result.first ≡ schedule.first) × (result.exploring ≡ schedule.exploring) × (result.statuses ≡ schedule.statuses) }
+        ensures noted { Notes self.now.position (passes_of (trail self.now)) result }
+    {
+        Schedule {
+            preemptions: self.tally.preemptions,
+            switch: self.tally.switch,
+            nearest: self.tally.nearest,
+            ..schedule
+        }
+    }
+
+    /// A copy of the path.
+    pub fn try_clone(&self, alloc: Global) -> Result<Path, AllocError>
+        ensures { IfOk result (λ path. path ≡ self.now) }
+    {
+        let mut nodes = Vec::new(alloc);
+        nodes.extend_from_slice(&self.nodes)?;
+        let mut given = Vec::new(alloc);
+        given.extend_from_slice(&self.given)?;
+        Ok(Path {
+            search: self.search,
+            nodes,
+            position: self.position,
+            exploring: self.exploring,
+            tally: self.tally,
+            given,
+        })
+    }
+
+    /// What the search tries.
+    pub fn search(&self) -> Search
+        ensures settings { settings result ≡ self.now.search }
+        ensures explores { result.explores ≡ self.now.explores }
+    {
+        self.search
+    }
+
+    /// The nodes, in order.
+    pub fn nodes(&self) -> &[Node]
+        ensures nodes { result.now ≡ self.now.nodes }
+        ensures fits { length self.now.nodes ≤ self.now.search.max_branches }
+    {
+        &self.nodes
+    }
+
+    /// The nodes of a path are well formed where they are at rest, as a walk sees them, and have defaults.
+    pub fn well_formed_rests(&self)
+        ensures { AreWellFormed self.now.nodes ↔ AreAtRest (stored self.now.nodes) }
+    {
+        let _ = &self.nodes;
+    }
+
+    /// Two paths whose nodes are the same but for their notes have the same nodes.
+    pub fn notes_follow(&self, other: &Path)
+        ensures { AreAlike self.now.nodes other.now.nodes → self.now.nodes ≡ other.now.nodes }
+    {
+        let _ = &self.nodes;
+        let _ = &other.nodes;
     }
 
     /// The choice that was given for the node that is made next.

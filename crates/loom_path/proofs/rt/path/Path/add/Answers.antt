@@ -27,7 +27,7 @@ invariant_of-self-2 c =
     let size = length-set p.nodes c.args.place (node.Schedule new) in (
       omega (arith, size, c.self.invariant.0),
       omega (arith, size, c.self.invariant.1),
-      well_set p.nodes c.args.place (node.Schedule new) c.self.invariant.2 c.add_off_bound.ensures.rests,
+      well_set p.nodes c.args.place (node.Schedule new) c.self.invariant.2 (c.add_off_bound.ensures.rests, c.add_off_bound.ensures.five),
       noted_set p.nodes c.args.place old new is same c.add_off_bound.ensures.noted c.self.invariant.3,
       tally_set p.nodes c.args.place old new is same p.position c.self.inside.tally c.self.invariant.4,
     )

@@ -18,7 +18,7 @@ use Rattle.loom_path.proofs.rt.path.Path.push_load.Goals as goal
 pub meets-requires-clause-well : goal.meets-requires-clause-well
 meets-requires-clause-well c =
     let p : Route = the_view c.self.inside in
-    well_at p.nodes p.position (node.Load c.in-Load.load) (omega (arith, c.self.inside.nodes.ok.0)) (rw c.in-Load.is at c.index.ensures) c.self.invariant.2
+    (well_at p.nodes p.position (node.Load c.in-Load.load) (omega (arith, c.self.inside.nodes.ok.0)) (rw c.in-Load.is at c.index.ensures) c.self.invariant.2).0
 
 pub returns-then-not-meets-clause-pushes : goal.returns-then-not-meets-clause-pushes
 returns-then-not-meets-clause-pushes c =
@@ -53,7 +53,7 @@ returns-then-self-len-clause-readable c =
       slot,
       choice_stored p (node.Load load) inside (rw c.in-Load.is at c.index.ensures),
       load_readable load.exploring c.is_exploring-exploring.result load.readable c.args.readable.now load.position slot
-          (well_at p.nodes p.position (node.Load load) inside (rw c.in-Load.is at c.index.ensures) c.self.invariant.2)
+          (well_at p.nodes p.position (node.Load load) inside (rw c.in-Load.is at c.index.ensures) c.self.invariant.2).0
           (some_slot c.args.readable.now c.requires.some) refl (c.if-not-meets.ensures.0 refl),
     )
 

@@ -1,0 +1,12 @@
+use Rattle.std.proofs.Common.{◌≡◌, ℕ, ◌<◌, length, get_or, Some}
+use Rattle.loom_path.specs.declared.rt.node.Status.{Status}
+use Rattle.serde_json.specs.declared.value.Value.{Value}
+use Rattle.serde_json.specs.View.{view}
+use Rattle.loom_checkpoint.specs.Reading.{status_of}
+use Rattle.loom_checkpoint.proofs.read.read_statuses.Given as goal
+
+abbrev pub invariant-loop-thread : goal.invariant-loop-thread
+invariant-loop-thread l = record {
+  five : length l.statuses ≡ 5;
+  done : (k : ℕ) (v : Value) (s : Status) → k < l.thread → status_of (view (get_or l.items.items k v)) ≡ Some (get_or l.statuses k s);
+}

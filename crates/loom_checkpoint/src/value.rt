@@ -1,0 +1,135 @@
+//! A path as a JSON value.
+ghost use Rattle.std.specs.Prelude.{◌≡◌, ◌≤◌, ◌⊎◌, ◌↔◌, List, length, Some, None, IfOk, IfErr, IsTrue, map};
+ghost use Rattle.serde_json.specs.View.{view};
+ghost use Rattle.loom_path.specs.declared.rt.node.Node.{Node};
+ghost use Rattle.loom_path.specs.Routes.{at_rest, settings};
+ghost use Rattle.loom_path.specs.WellFormed.{AreWellFormed};
+ghost use Rattle.loom_checkpoint.specs.Checkpoint.{IsPathOf, IsRefused, IsMemory, ValueLaw};
+ghost use Rattle.loom_checkpoint.specs.Grammar.{path_data};
+ghost use Rattle.loom_checkpoint.specs.Reading.{each, node_of};
+
+use crate::error::PathError;
+use crate::read::{Parts, read_node, read_parts, read_version};
+use crate::write::write_nodes;
+use loom_path::rt::node::Node;
+use loom_path::rt::path::{Path, Search};
+use serde_json::{Value, json};
+use std::alloc::{AllocError, Global};
+
+/// The JSON value of a path between two runs.
+#[tactic(auto, unfolding(crate::specs::Grammar::path_data, crate::specs::Grammar::shape_data))]
+pub fn to_value(alloc: Global, path: &Path) -> Result<Value, AllocError>
+    ensures value { IfOk result (λ value. view value ≡ path_data path.now.search path.now.explores path.now.nodes) }
+    ensures fits { IfOk result (λ _. length path.now.nodes ≤ path.now.search.max_branches) }
+{
+    let search = path.search();
+    let nodes = write_nodes(alloc, path.nodes())?;
+    json!(in alloc; {
+        "exploring": search.explores,
+        "nodes": nodes,
+        "preemption_bound": search.bound,
+        "reduce": search.reduce,
+        "version": 1u64,
+    })
+}
+
+/// The value of a path tells its nodes, but for their notes, which follow from the rest.
+pub fn value_tells_nodes()
+    ensures { ValueLaw }
+{}
+
+/// The path that a JSON value is, of such a search. It is accepted exactly if it is the value of well-formed nodes that the
+/// search may have.
+pub fn from_value(alloc: Global, value: &Value, search: Search) -> Result<Path, PathError>
+    ensures ok { IfOk result (λ path. (path ≡ at_rest (settings search) search.explores path.nodes)
+        × IsPathOf (settings search) search.explores (view value.now) path.nodes) }
+    ensures err { IfErr result (IsRefused (settings search) search.explores (view value.now)) }
+    ensures exact { IfErr result (λ error. ¬ IsMemory error
+        → (nodes : List Node) → ¬ IsPathOf (settings search) search.explores (view value.now) nodes) }
+{
+    find_path(alloc, value, search)
+}
+
+/// A path between two runs is read from its value as it was written.
+pub fn reread(alloc: Global, path: &Path) -> Result<Path, PathError>
+    requires { AreWellFormed path.now.nodes }
+    ensures same { IfOk result (λ read. read ≡ at_rest path.now.search path.now.explores path.now.nodes) }
+    ensures err { IfErr result IsMemory }
+{
+    let value = match to_value(alloc, path) {
+        Ok(value) => value,
+        Err(refused) => return Err(PathError::Memory(refused)),
+    };
+    match from_value(alloc, &value, path.search()) {
+        Ok(read) => {
+            read.notes_follow(path);
+            Ok(read)
+        }
+        Err(error) => Err(error),
+    }
+}
+
+fn find_path(alloc: Global, value: &Value, search: Search) -> Result<Path, PathError>
+    ensures ok { IfOk result (λ path. (path ≡ at_rest (settings search) search.explores path.nodes)
+        × IsPathOf (settings search) search.explores (view value.now) path.nodes) }
+    ensures err { IfErr result (IsRefused (settings search) search.explores (view value.now)) }
+{
+    match read_version(value) {
+        None => return Err(PathError::WrongShape),
+        Some(version) => {
+            if version != 1 {
+                return Err(PathError::WrongVersion);
+            }
+        }
+    }
+    let parts = match read_parts(value) {
+        Some(parts) => parts,
+        None => return Err(PathError::WrongShape),
+    };
+    if !has_settings(parts, search) {
+        return Err(PathError::OtherSettings);
+    }
+    if parts.nodes.len() > search.max_branches as usize {
+        return Err(PathError::TooManyNodes);
+    }
+    let nodes = match read_nodes(alloc, parts.nodes) {
+        Ok(nodes) => nodes,
+        Err(error) => return Err(error),
+    };
+    match Path::from_nodes(alloc, search, &nodes) {
+        Ok(path) => Ok(path),
+        Err(refused) => Err(PathError::Memory(refused)),
+    }
+}
+
+fn has_settings(parts: Parts<'_>, search: Search) -> bool
+    ensures { IsTrue result ↔ ((parts.entry.exploring ≡ search.explores)
+        × (parts.entry.preemption_bound ≡ search.bound)
+        × (parts.entry.reduce ≡ search.reduce)) }
+{
+    let bound = match (parts.preemption_bound, search.bound) {
+        (None, None) => true,
+        (Some(written), Some(bound)) => written == bound as u64,
+        _ => false,
+    };
+    bound && parts.exploring == search.explores && parts.reduce == search.reduce
+}
+
+fn read_nodes(alloc: Global, items: &Vec<Value>) -> Result<Vec<Node>, PathError>
+    ensures ok { IfOk result (λ nodes. each node_of (map view items.now.items) ≡ Some nodes.items) }
+    ensures err { IfErr result (λ error. IsMemory error
+        ⊎ ((error ≡ PathError.BadNode) × (each node_of (map view items.now.items) ≡ None))) }
+{
+    let mut nodes = Vec::new(alloc);
+    for item in items {
+        match read_node(item) {
+            Some(node) => {
+                if let Err(refused) = nodes.push(node) {
+                    return Err(PathError::Memory(refused.into()));
+                }
+            }
+            None => return Err(PathError::BadNode),
+        }
+    }
+    Ok(nodes)
+}

@@ -1,0 +1,185 @@
+use loom_checkpoint::error::PathError;
+use loom_checkpoint::text::{from_text, to_text};
+use loom_path::rt::path::{Path, Search};
+use std::alloc::{AllocError, Global};
+use std::test::Fail;
+
+const TWO_NODES: &str =
+    "{\"exploring\":true,\"nodes\":[{\"exploring\":true,\"first\":0,\"schedule\":[\"Visited\",\"Active\",\"Disabled\",\"Disabled\",\"Disabled\"]},{\"exploring\":true,\"first\":1,\"schedule\":[\"Active\",\"Visited\",\"Disabled\",\"Disabled\",\"Disabled\"]}],\"preemption_bound\":null,\"reduce\":false,\"version\":1}";
+
+const NO_NODES: &str =
+    "{\"exploring\":true,\"nodes\":[],\"preemption_bound\":null,\"reduce\":false,\"version\":1}";
+
+fn whole() -> Search {
+    Search {
+        reduce: false,
+        bound: None,
+        max_branches: 1000,
+        explores: true,
+    }
+}
+
+// The number of the error that a text gives, or 0.
+fn refusal(alloc: Global, text: &[u8], search: Search) -> u8 {
+    match from_text(alloc, text, search) {
+        Ok(_) => 0,
+        Err(PathError::NotJson) => 7,
+        Err(PathError::WrongShape) => 8,
+        Err(PathError::WrongVersion) => 9,
+        Err(PathError::OtherSettings) => 10,
+        Err(PathError::TooManyNodes) => 11,
+        Err(PathError::BadNode) => 12,
+        Err(PathError::Memory(_)) => 14,
+    }
+}
+
+// Whether a text is read, and written again as it was.
+fn is_rewritten(alloc: Global, text: &str) -> Result<bool, Fail> {
+    let path = from_text(alloc, text.as_bytes(), whole())?;
+    Ok(to_text(alloc, &path)?.as_str() == text)
+}
+
+#[test]
+fn texts_are_read_and_written_again(rt: HostRuntime) -> Result<(), Fail> {
+    let path = Path::new(rt.alloc(), whole());
+    assert_eq!(rt; to_text(rt.alloc(), &path)?.as_str(), NO_NODES);
+    for text in [NO_NODES, TWO_NODES] {
+        assert!(rt; is_rewritten(rt.alloc(), text)?);
+    }
+    Ok(())
+}
+
+#[test]
+fn a_beginning_is_no_text(rt: HostRuntime) {
+    let text = TWO_NODES.as_bytes();
+    for len in 0..text.len() {
+        assert_eq!(rt; refusal(rt.alloc(), &text[..len], whole()), 7);
+    }
+    assert_eq!(rt; refusal(rt.alloc(), b"\xff", whole()), 7);
+}
+
+#[test]
+fn whole_values(rt: HostRuntime) {
+    // The members may come in any order, and of two with one key the last stays.
+    let table = [
+        ("[]", 8),
+        ("{}", 8),
+        ("{\"version\":\"1\"}", 8),
+        ("{\"version\":1.0}", 8),
+        ("{\"version\":-1}", 8),
+        ("{\"version\":-0}", 8),
+        ("{\"version\":1e999}", 7),
+        ("{\"version\":1}", 8),
+        ("{\"version\":2}", 9),
+        ("{\"version\":7}", 9),
+        ("{\"version\":1", 7),
+        (
+            "{\"exploring\":\"true\",\"nodes\":[],\"preemption_bound\":null,\"reduce\":false,\"version\":1}",
+            8,
+        ),
+        (
+            "{\"exploring\":true,\"nodes\":[],\"preemption_bound\":null,\"reduce\":false,\"sixth\":0,\"version\":1}",
+            8,
+        ),
+        (
+            "{\"exploring\":true,\"nodes\":[7],\"preemption_bound\":null,\"reduce\":false,\"version\":1}",
+            12,
+        ),
+        (
+            " {\"version\":7,\"version\":1,\"nodes\":[],\"reduce\":false,\"preemption_bound\":null,\"exploring\":true}\n",
+            0,
+        ),
+    ];
+    for (text, number) in table {
+        assert_eq!(rt; refusal(rt.alloc(), text.as_bytes(), whole()), number);
+    }
+}
+
+// A search with these settings.
+fn search(reduce: bool, bound: Option<u8>, max_branches: u32, explores: bool) -> Search {
+    Search {
+        reduce,
+        bound,
+        max_branches,
+        explores,
+    }
+}
+
+#[test]
+fn other_settings(rt: HostRuntime) {
+    let table = [
+        (search(true, None, 1000, true), 10),
+        (search(false, Some(1), 1000, true), 10),
+        (search(false, None, 1000, false), 10),
+        (search(true, None, 1, true), 10),
+        (search(false, None, 1, true), 11),
+        (search(false, None, 2, true), 0),
+    ];
+    for (search, number) in table {
+        assert_eq!(rt; refusal(rt.alloc(), TWO_NODES.as_bytes(), search), number);
+    }
+}
+
+// What a text gives that has this node after the first of the two.
+fn node_refusal(alloc: Global, node: &str) -> Result<u8, AllocError> {
+    let text = format!(in alloc;
+        "{{\"exploring\":true,\"nodes\":[{{\"exploring\":true,\"first\":0,\"schedule\":[\"Visited\",\"Active\",\"Disabled\",\"Disabled\",\"Disabled\"]}},{node}],\"preemption_bound\":null,\"reduce\":false,\"version\":1}}"
+    )?;
+    Ok(refusal(alloc, text.as_str().as_bytes(), whole()))
+}
+
+#[test]
+fn nodes(rt: HostRuntime) -> Result<(), Fail> {
+    let table = [
+        (
+            "{\"exploring\":true,\"first\":1,\"schedule\":[\"Active\",\"Active\",\"Disabled\",\"Disabled\",\"Disabled\"]}",
+            12,
+        ),
+        (
+            "{\"exploring\":true,\"first\":1,\"schedule\":[\"Visited\",\"Visited\",\"Disabled\",\"Disabled\",\"Disabled\"]}",
+            12,
+        ),
+        (
+            "{\"exploring\":true,\"first\":5,\"schedule\":[\"Active\",\"Visited\",\"Disabled\",\"Disabled\",\"Disabled\"]}",
+            12,
+        ),
+        (
+            "{\"exploring\":true,\"first\":2,\"schedule\":[\"Active\",\"Visited\",\"Disabled\",\"Disabled\",\"Disabled\"]}",
+            12,
+        ),
+        (
+            "{\"exploring\":true,\"first\":1,\"schedule\":[\"Active\",\"Visited\",\"Disabled\",\"Disabled\"]}",
+            12,
+        ),
+        (
+            "{\"exploring\":true,\"first\":1,\"schedule\":[\"Active\",\"Visited\",\"Off\",\"Disabled\",\"Disabled\"]}",
+            12,
+        ),
+        (
+            "{\"exploring\":true,\"first\":null,\"schedule\":[\"Active\",\"Disabled\",\"Disabled\",\"Disabled\",\"Disabled\"]}",
+            12,
+        ),
+        (
+            "{\"exploring\":false,\"first\":0,\"schedule\":[\"Active\",\"Pending\",\"Disabled\",\"Disabled\",\"Disabled\"]}",
+            12,
+        ),
+        (
+            "{\"exploring\":true,\"first\":0,\"schedule\":[\"Active\",\"Pending\",\"Skip\",\"Yield\",\"Disabled\"]}",
+            0,
+        ),
+        ("{\"at\":1,\"exploring\":true,\"load\":[0]}", 12),
+        ("{\"at\":0,\"exploring\":true,\"load\":[1,0]}", 12),
+        ("{\"at\":0,\"exploring\":true,\"load\":[0,0]}", 12),
+        ("{\"at\":0,\"exploring\":true,\"load\":[7]}", 12),
+        ("{\"at\":0,\"exploring\":true,\"load\":[]}", 12),
+        ("{\"at\":1,\"exploring\":false,\"load\":[0,6]}", 12),
+        ("{\"at\":1,\"exploring\":true,\"load\":[0,6]}", 0),
+        ("{\"exploring\":false,\"spurious\":true}", 12),
+        ("{\"exploring\":true,\"spurious\":true}", 0),
+        ("{\"exploring\":true,\"spurious\":true,\"x\":0}", 12),
+    ];
+    for (node, number) in table {
+        assert_eq!(rt; node_refusal(rt.alloc(), node)?, number);
+    }
+    Ok(())
+}
