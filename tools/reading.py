@@ -1,13 +1,15 @@
 #!/usr/bin/env python3
 """How much there is to read, to know what a check promises.
 
-Follows the imports from the file that states the theorem and from the definition of a body's runs, and prints each file of
-this repository that they come to, with its lines, and the sum. A file of `specs` counts whole. A type of the code counts with
-the lines of its declaration, and so do the types that it names. The rules of the operations, with the state that they are
-about, and the operations of each kind of object are named apart and not followed: the files that are read hand them on and
-never look into them.
+Follows the imports from the file that says what a check from the beginning promises, and from the definition of a body's runs,
+and prints each file of this repository that they come to, with its lines, and the sum. Then it prints what there is to read
+besides, to know what is promised of a check that begins with a path's text. A file of `specs` counts whole. A type of the code
+counts with the lines of its declaration, and so do the types that it names. The rules of the operations, with the state that
+they are about, and the operations of each kind of object are named apart and not followed: the files that are read hand them on
+and never look into them.
 
-Ends with status 1 where the sum is above the limit, or where the theorem speaks of how the code keeps a path or a run.
+Ends with status 1 where a sum is above its limit, or where what is said of a check from the beginning speaks of how the code
+keeps a path or a run.
 
     tools/reading.py
 """
@@ -15,9 +17,10 @@ import re
 import sys
 from pathlib import Path
 
-LIMIT = 1500
 CRATES = Path(__file__).resolve().parent.parent / "crates"
-START = ["loom/specs/Check.antt", "loom_runs/specs/Runs.antt"]
+# where to begin, and how many lines there may be to read
+BEGINNING = ["loom/specs/Beginning.antt", "loom_runs/specs/Runs.antt"], 1500
+WITH_A_PATH = ["loom/specs/Check.antt"], 2000
 # what each operation does to the state of the machine, and that state
 RULES = {
     f"loom_objects/specs/{name}.antt"
@@ -118,40 +121,71 @@ def imports(crate, text, specs, types):
                 specs.append(file)
 
 
+class Reading:
+    """What is to be read, and how many lines it has."""
+
+    def __init__(self):
+        self.specs, self.types, self.rules = {}, {}, set()
+
+    def total(self):
+        return sum(self.specs.values()) + sum(self.types.values())
+
+    def follow(self, start):
+        specs, types = [CRATES / name for name in start], []
+        while specs or types:
+            if specs:
+                self.read_file(specs.pop(0), specs, types)
+            else:
+                self.read_type(*types.pop(0), types)
+
+    def read_file(self, file, specs, types):
+        name = str(file.relative_to(CRATES))
+        if name in RULES:
+            self.rules.add(name)
+        elif name not in self.specs:
+            text = file.read_text()
+            self.specs[name] = text.count("\n")
+            imports(name.split("/")[0], text, specs, types)
+
+    def read_type(self, file, name, types):
+        key = (str(file.relative_to(CRATES)), name)
+        if OPERATIONS.match(name):
+            self.rules.add(f"{key[0]}: {name}")
+        elif key not in self.types:
+            lines = block(file.read_text(), name)
+            self.types[key] = len(lines)
+            types.extend(named(key[0].split("/")[0], file, lines))
+
+    def print_since(self, specs, types):
+        """Prints what isn't among these."""
+        for name, lines in self.specs.items():
+            if name not in specs:
+                print(f"{lines:5} {name}")
+        new = {key: lines for key, lines in self.types.items() if key not in types}
+        for file in sorted({file for file, _ in new}):
+            parts = {name: lines for (of, name), lines in new.items() if of == file}
+            print(f"{sum(parts.values()):5} {file}: {', '.join(sorted(parts))}")
+
+
 def main():
-    specs, types = [CRATES / name for name in START], []
-    read, rules, declarations = {}, set(), {}
-    while specs or types:
-        if specs:
-            file = specs.pop(0)
-            name = str(file.relative_to(CRATES))
-            if name in RULES:
-                rules.add(name)
-            elif name not in read:
-                text = file.read_text()
-                read[name] = text.count("\n")
-                imports(name.split("/")[0], text, specs, types)
-        else:
-            file, name = types.pop(0)
-            key = (str(file.relative_to(CRATES)), name)
-            if OPERATIONS.match(name):
-                rules.add(f"{key[0]}: {name}")
-            elif key not in declarations:
-                lines = block(file.read_text(), name)
-                declarations[key] = len(lines)
-                types.extend(named(key[0].split("/")[0], file, lines))
-    for name, lines in read.items():
-        print(f"{lines:5} {name}")
-    for file in sorted({file for file, _ in declarations}):
-        parts = {name: lines for (of, name), lines in declarations.items() if of == file}
-        print(f"{sum(parts.values()):5} {file}: {', '.join(sorted(parts))}")
-    total = sum(read.values()) + sum(declarations.values())
-    print(f"{total:5} in all, of at most {LIMIT}")
-    print(f"apart from the rules of the operations: {', '.join(sorted(rules))}")
-    layout = sorted({name for _, name in declarations} & LAYOUT)
+    reading = Reading()
+    (start, most), (further, most_besides) = BEGINNING, WITH_A_PATH
+    print("a check from the beginning")
+    reading.follow(start)
+    reading.print_since({}, {})
+    total = reading.total()
+    print(f"{total:5} in all, of at most {most}")
+    print(f"apart from the rules of the operations: {', '.join(sorted(reading.rules))}")
+    layout = sorted({name for _, name in reading.types} & LAYOUT)
     if layout:
         print(f"how the code keeps things: {', '.join(layout)}")
-    return 1 if total > LIMIT or layout else 0
+    print("besides, a check that begins with a path's text")
+    specs, types = dict(reading.specs), dict(reading.types)
+    reading.follow(further)
+    reading.print_since(specs, types)
+    besides = reading.total() - total
+    print(f"{besides:5} in all, of at most {most_besides}")
+    return 1 if total > most or besides > most_besides or layout else 0
 
 
 if __name__ == "__main__":

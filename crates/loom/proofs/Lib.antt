@@ -1,3 +1,6 @@
-pub mod Handing
-pub mod Walking
+pub mod Paths
+pub mod Checking
+pub mod Errors
+pub mod Unheard
+pub mod Numbers
 pub mod Replaying

@@ -13,8 +13,8 @@ use Rattle.loom_walks.specs.Trees.Meeting.{whole_search}
 use Rattle.loom_runs.specs.Trees.{IsRunTree}
 use Rattle.loom_walks.proofs.Trees.Marks.{marking_law}
 use Rattle.loom_walks.proofs.Trees.Replays.{replayed_as, allowed_replay_law}
-use Rattle.loom.specs.Check.{IsReplay}
-use Rattle.loom.proofs.Walking.{take_all}
+use Rattle.loom.specs.Beginning.{IsReplay}
+use Rattle.loom.proofs.Checking.{take_all}
 
 pub replays : {D : Type 0} (explores : Bool) (max_branches : ℕ) (tree : Tree D) (given : List Choice) (path after : Route) (list : List Choice) (comes : Result D FailureKind) → IsRunTree tree
     → path ≡ record (at_rest (whole_search max_branches) explores []) { given = given } → drives tree path ≡ (comes, trail after) → list ≡ chosen after

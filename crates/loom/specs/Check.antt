@@ -1,111 +1,179 @@
--- What a check promises. The runs of a body are a tree: `runs` in `loom_runs/specs/Runs.antt` says which. A run is the list of
--- the choices that it makes, and the machine of a tree says which node a run meets after which choices. What a report says of
--- these runs, and of those that the visitor was given, is `Reports`; what a replay does is `Replays`. The settings say which runs
--- are made: the one that takes defaults throughout, and with each run those that it calls for (`Reachable`, `marking`). A report
--- says that just these are made. None says that reduction or a bound leaves no failure out.
-use Rattle.std.specs.Prelude.{◌≡◌, ◌≢◌, ◌≤◌, ℕ, false, List, [], ◌∷◌, ◌++◌, Some, None, Result, Ok, Err, length, ◌↔◌}
+-- What a check promises: what a report says of a body's runs, and of those that the visitor was given, is `Reports`. A check that
+-- begins with a path makes the runs that are left from it (`Left`), and one that is stopped says with which path to go on. Where
+-- the store gave no text, a report says besides what `Beginning.antt` says of a check from the beginning (`fresh`).
+use Rattle.std.specs.Prelude.{◌≡◌, ◌≤◌, ◌<◌, ℕ, Bool, false, List, [], ◌++◌, Option, Some, None, String, length, string_bytes}
+use Rattle.std.specs.Duration.{as_nanos}
+use Rattle.std.specs.declared.alloc.Global.{Global}
+use Rattle.std.specs.declared.time.Duration.{Duration}
 use Rattle.loom_views.specs.declared.rt.failure.FailureKind.{FailureKind}
-use Rattle.loom_views.specs.declared.rt.failure.FailureKind.TheVariants.{NotDeterministic}
-use Rattle.loom_views.specs.Limits.{highest_count}
 use Rattle.loom_objects.specs.declared.choice.Choice.{Choice}
 use Rattle.loom_objects.specs.Tree.{Tree}
-use Rattle.loom_walks.specs.Walk.Machine.{Machine, run}
-use Rattle.loom_walks.specs.Walk.Runs.{Reachable}
-use Rattle.loom_walks.specs.Walk.Lists.{IsWalkList, IsInOrder, IsAllowed}
+use Rattle.loom_walks.specs.Walk.Path.{IsResting, Rest}
+use Rattle.loom_walks.specs.Trees.Check.{Makes, MakesAll}
 use Rattle.loom_walks.specs.Trees.Marks.{marking}
-use Rattle.loom_walks.specs.Trees.Meeting.{Settings, whole_search, count, machine_of}
-use Rattle.loom_walks.specs.Trees.Outcomes.{outcome, passed, AreRuns, choices_made}
-use Rattle.loom_walks.specs.Trees.Replay.{replayed}
-use Rattle.loom_walks.specs.Trees.Sound.{ExploresTree}
-use Rattle.loom.specs.declared.model.Replay.{Replay}
-use Rattle.loom.specs.declared.model.Replay.TheVariants as replay
+use Rattle.loom_walks.specs.Trees.Meeting.{Settings}
+use Rattle.loom_walks.specs.Trees.Resuming.{HasCompletedFrom, WasStoppedFrom, HasFailedFrom}
+use Rattle.loom_runs.specs.Trees.{IsRunTree}
+use Rattle.loom_path.specs.declared.rt.node.Node.{Node}
+use Rattle.loom_path.specs.Routes.{stored}
+use Rattle.serde_json.specs.Written.{compact_text}
+use Rattle.loom_checkpoint.specs.Checkpoint.{IsPathOf, OfText}
+use Rattle.loom_checkpoint.specs.Grammar.{path_data}
+use Rattle.loom.specs.Settings.{explores, most_runs, search_of}
+use Rattle.loom.specs.Beginning.{machine, IsCompleteReport, IsStoppedReport, IsFailedReport, WasGiven}
+use Rattle.loom.specs.declared.builder.Builder.{Builder}
+use Rattle.loom.specs.declared.model.Limit.TheVariants.{Permutations, Duration as Lasting}
 use Rattle.loom.specs.declared.model.Report.{Report}
 use Rattle.loom.specs.declared.model.Report.TheVariants.{Complete, Stopped, Failed}
 
--- ---- the runs
+-- ---- paths and texts
+
+-- the text is that of a path with these nodes
+abbrev pub IsTextOf : Settings → Bool → List ℕ → List Node → Type 0
+IsTextOf s explores text nodes = OfText text (λ d. IsPathOf s explores d nodes)
+
+-- the text reads as a path of these nodes; without a text there are none
+abbrev pub ReadsAs : Settings → Bool → Option (List ℕ) → List Node → Type 0
+ReadsAs s explores None path = path ≡ []
+ReadsAs s explores (Some text) path = IsTextOf s explores text path
+
+-- ---- checks that begin with a path
 
 module _ {D : Type 0} (s : Settings) (tree : Tree D) where
-  -- the machine of a body's runs, searched by these settings
-  abbrev pub machine : Machine
-  machine = machine_of s (marking s.bound) tree
+  -- the path is one of this body's: its runs meet each node of it
+  abbrev pub IsOfBody : List Node → Type 0
+  IsOfBody path = IsResting (machine s tree) (stored path)
 
-  -- these are the reachable runs, all of them
-  pub record AreAllRuns (list : List (List Choice)) : Type 0 where
-    -- each stands there once, and those that share a beginning stand together
-    pub walk : IsWalkList (Reachable machine) list
-    -- without reduction they stand in order, bounded or not
-    pub in_order : s.reduce ≡ false → IsInOrder machine list
-    -- with neither reduction nor a bound, and where no run stops exploring, they are what the tree can come to
-    pub every_run : s.reduce ≡ false → s.bound ≡ None → ExploresTree tree
-        → (x : List Choice) → Reachable machine x ↔ ((o : Result D FailureKind) × (outcome s.max_branches tree x ≡ Some o))
-    -- under a bound none of them counts more preemptions at any of its nodes
-    pub within_bound : (bound : ℕ) → s.bound ≡ Some bound
-        → (x : List Choice) → Reachable machine x → (before rest : List Choice) → x ≡ before ++ rest → count (passed tree before) ≤ bound
+  -- the runs that are left from a path
+  abbrev pub Left : List Node → List Choice → Type 0
+  Left path = Rest (machine s tree) (stored path)
 
-  -- what is known of a check that is complete, with the choices and the value of each run
-  pub record IsCompleteReport (runs : List (List Choice × D)) : Type 0 where
-    -- each is a run, and comes to its value
-    pub are_runs : AreRuns s.max_branches tree runs
-    pub all_runs : AreAllRuns (choices_made runs)
-    pub none_fails : (x : List Choice) → Reachable machine x → (value : D) × (outcome s.max_branches tree x ≡ Some (Ok value))
+  -- A check that began with this path is complete. It made just the runs that were left, each once, none of which fails
+  -- (`HasCompletedFrom`).
+  pub record Completes (path : List Node) (runs : List (List Choice × D)) : Type 0 where
+    pub made : MakesAll s (marking s.bound) tree (stored path) runs
+    pub complete : HasCompletedFrom s (marking s.bound) tree (stored path) runs
+    -- from the beginning they are the reachable runs
+    pub fresh : path ≡ [] → IsCompleteReport s tree runs
 
-  -- what is known of a check that was stopped before another run
-  pub record IsStoppedReport (runs : List (List Choice × D)) : Type 0 where
-    pub are_runs : AreRuns s.max_branches tree runs
-    -- the reachable runs that it didn't make, of which there are some
-    pub more : List (List Choice)
-    pub unfinished : more ≢ []
-    pub all_runs : AreAllRuns (choices_made runs ++ more)
+  -- One that made these runs is to go on with another path. What was left are these runs and, apart from them, what is left from
+  -- the other path; these runs and then those of a check that goes on there and is complete are what was left, each once
+  -- (`WasStoppedFrom`).
+  pub record GoesOn (path : List Node) (runs : List (List Choice × D)) (last : List Node) : Type 0 where
+    pub made : Makes s (marking s.bound) tree (stored path) runs (stored last)
+    pub stopped : WasStoppedFrom s (marking s.bound) tree (stored path) runs (stored last)
+    -- from the beginning there are more of the reachable runs
+    pub fresh : path ≡ [] → IsStoppedReport s tree runs
 
-  -- what is known of a check in which the run with these choices failed, after the others
-  pub record IsFailedReport (runs : List (List Choice × D)) (failure : FailureKind) (failing : List Choice) : Type 0 where
-    pub are_runs : AreRuns s.max_branches tree runs
-    -- the reachable runs that it didn't make
-    pub more : List (List Choice)
-    pub all_runs : AreAllRuns (choices_made runs ++ failing ∷ more)
-    pub reachable : Reachable machine failing
-    pub fails : outcome s.max_branches tree failing ≡ Some (Err failure)
-    -- it isn't that the body isn't deterministic
-    pub own : failure ≢ NotDeterministic
-    -- its choices lead to the failure again
-    pub replays : replayed s.max_branches tree failing ≡ (failing, Err failure)
+  -- In one the run with these choices failed, after the others. It was left, and fails by itself; or it was the first one, and
+  -- the path isn't one of this body's: then it is not deterministic, or it failed before that was seen (`HasFailedFrom`).
+  pub record Fails (path : List Node) (runs : List (List Choice × D)) (failure : FailureKind) (failing : List Choice) : Type 0 where
+    pub failed : HasFailedFrom s (marking s.bound) tree (stored path) runs failure failing
+    -- from the beginning it is a reachable run
+    pub fresh : path ≡ [] → IsFailedReport s tree runs failure failing
 
--- ---- the visitor
+  -- ---- checks one after another
 
--- the visitor was given these runs, one after another: choices and main's result
-abbrev pub Given : {V D : Type 0} → (V → List Choice → D → V → Type 0) → V → List (List Choice × D) → V → Type 0
-Given takes old [] new = new ≡ old
-Given takes old (made ∷ runs) new = (mid : _) × takes old made.0 made.1 mid × Given takes mid runs new
+  -- Checks from a path on, each of which but the last was stopped, and each of which went on with a text of the path to which
+  -- the one before had come.
+  pub data AreTogether : List Node → List (List Choice × D) → Type 0 where
+    ends : (path : List Node) (runs : List (List Choice × D)) → Completes path runs → AreTogether path runs
+    goes_on : (explores : Bool) (text : List ℕ) (path last next : List Node) (runs more : List (List Choice × D)) → GoesOn path runs last
+        → IsTextOf s explores text last → IsTextOf s explores text next → AreTogether next more → AreTogether path (runs ++ more)
 
-module _ {V D : Type 0} (takes : V → List Choice → D → V → Type 0) (old new : V) where
-  -- the visitor was given these runs, so many
-  pub record WasGiven (runs : List (List Choice × D)) (count : ℕ) : Type 0 where
-    pub given : Given takes old runs new
-    pub counted : length runs ≡ count
+-- Their runs, one after another, are what one check makes: from the beginning the reachable runs, each once.
+abbrev pub TogetherLaw : Type 0 → Type 0
+TogetherLaw D = (s : Settings) (explores : Bool) (tree : Tree D) (text : Option (List ℕ)) (path : List Node) (runs : List (List Choice × D)) → IsRunTree tree
+    → ReadsAs s explores text path → AreTogether s tree path runs → Completes s tree path runs
 
-  -- ---- reports
+-- ---- stores
 
-  module _ (s : Settings) (tree : Tree D) where
-    -- What a report says of the runs of a body, which are this tree, and of what the visitor was given.
-    abbrev pub Reports : Report → Type 0
-    Reports (Complete count) = (runs : List (List Choice × D)) × WasGiven runs count × IsCompleteReport s tree runs
-    Reports (Stopped count limit) = (runs : List (List Choice × D)) × WasGiven runs count × IsStoppedReport s tree runs × (count ≡ highest_count)
-    Reports (Failed count failure choices) = (runs : List (List Choice × D)) × WasGiven runs count × IsFailedReport s tree runs failure.kind choices.items
+-- What a store may hold at a report is a text of a path that the check has come to, after all but the last runs, no more than
+-- the interval.
+pub record IsHeld {D : Type 0} (b : Builder) (tree : Tree D) (holds : Option (List ℕ) → Type 0) (path : List Node) (runs : List (List Choice × D)) : Type 0 where
+  pub text : Option (List ℕ)
+  pub held : holds text
+  pub last : List Node
+  pub reads : ReadsAs (search_of b) (explores b) text last
+  pub before : List (List Choice × D)
+  pub behind : List (List Choice × D)
+  pub splits : runs ≡ before ++ behind
+  pub few : length behind ≤ b.checkpoint_interval
+  pub goes_on : GoesOn (search_of b) tree path before last
 
--- what a report says where nobody is given the runs
-abbrev pub ReportsAlone : {D : Type 0} → Settings → Tree D → Report → Type 0
-ReportsAlone s tree report = Reports {V = Unit {0}} (λ old choices value new. Unit {0}) tt tt s tree report
+-- ---- limits
 
--- ---- replays
+-- the time that the clock has answered last is as long as that, or longer
+abbrev pub HasLasted : (Duration → Type 0) → Option Duration → Type 0
+HasLasted answered None = ⊥
+HasLasted answered (Some longest) = (time : Duration) × answered time × (as_nanos longest ≤ as_nanos time)
 
-module _ {D : Type 0} (max_branches : ℕ) (tree : Tree D) (given : List Choice) where
-  -- The run that takes the given choices and then defaults made these choices, and came to this. Where each given choice
-  -- is an option where it comes, it is the machine's run after them. That doesn't rest on what a search tries.
-  pub record IsReplay (made : List Choice) (comes : Result D FailureKind) : Type 0 where
-    pub replayed : replayed max_branches tree given ≡ (made, comes)
-    pub allowed : IsAllowed (machine (whole_search max_branches) tree) given
-        → (made ≡ run (machine (whole_search max_branches) tree) given) × (outcome max_branches tree made ≡ Some comes)
+-- No report counts more runs than there may be, and a limit stops a check only where it is reached.
+abbrev pub StopsBy : (Duration → Type 0) → Builder → Report → Type 0
+StopsBy answered b (Complete count) = count ≤ most_runs b
+StopsBy answered b (Stopped count Permutations checkpoint) = count ≡ most_runs b
+StopsBy answered b (Stopped count Lasting checkpoint) = (count ≤ most_runs b) × HasLasted answered b.max_duration
+StopsBy answered b (Failed count failure choices) = count < most_runs b
 
-  abbrev pub Replays : Replay D → Type 0
-  Replays (replay.Ended choices value) = IsReplay choices.items (Ok value)
-  Replays (replay.Failed failure choices) = IsReplay choices.items (Err failure.kind)
+-- ---- places
+
+-- a failure has no place where none is asked for
+abbrev pub IsPlaced : Builder → Report → Type 0
+IsPlaced b (Complete count) = Unit {0}
+IsPlaced b (Stopped count limit checkpoint) = Unit {0}
+IsPlaced b (Failed count failure choices) = b.location ≡ false → failure.location ≡ None
+
+-- ---- reports
+
+-- how many runs a report counts
+abbrev pub runs_in : Report → ℕ
+runs_in (Complete count) = count
+runs_in (Stopped count limit checkpoint) = count
+runs_in (Failed count failure choices) = count
+
+module _ {D : Type 0} (b : Builder) (tree : Tree D) (holds : Option (List ℕ) → Type 0) (path : List Node) (runs : List (List Choice × D)) where
+  -- the text is that of the path with which to go on, and a store that tells its text holds it
+  pub record StopsAt (checkpoint : List ℕ) : Type 0 where
+    pub last : List Node
+    pub reads : IsTextOf (search_of b) (explores b) checkpoint last
+    -- it is the compact text of the path's value
+    pub compact : checkpoint ≡ compact_text (path_data (search_of b) (explores b) last)
+    pub held : holds (Some checkpoint)
+    pub goes_on : GoesOn (search_of b) tree path runs last
+
+  -- what a report says of a check that began with this path and gave these runs
+  abbrev pub Says : Report → Type 0
+  Says (Complete count) = Completes (search_of b) tree path runs
+  Says (Stopped count limit checkpoint) = StopsAt (string_bytes checkpoint)
+  Says (Failed count failure choices) = Fails (search_of b) tree path runs failure.kind choices.items
+
+-- What a report says of the runs of a body, which are this tree, and of what the visitor was given: where the store gave what it
+-- may give, and holds what it may hold, and where the clock has answered so.
+pub record Reports {V D : Type 0} (takes : V → List Choice → D → V → Type 0) (old new : V) (b : Builder) (tree : Tree D) (gives holds : Option (List ℕ) → Type 0) (answered : Duration → Type 0)
+    (report : Report) : Type 0 where
+  -- the path with which the check began
+  pub text : Option (List ℕ)
+  pub gave : gives text
+  pub path : List Node
+  pub reads : ReadsAs (search_of b) (explores b) text path
+  -- what the visitor was given
+  pub runs : List (List Choice × D)
+  pub given : WasGiven takes old new runs (runs_in report)
+  pub says : Says b tree holds path runs report
+  pub limits : StopsBy answered b report
+  pub placed : IsPlaced b report
+  pub held : IsHeld b tree holds path runs
+
+-- what a report says where nobody is given the runs, no time passes, and nothing is known of what the store holds
+abbrev pub ReportsUnheard : {D : Type 0} → Builder → Tree D → (Option (List ℕ) → Type 0) → Report → Type 0
+ReportsUnheard b tree gives report =
+    Reports {V = Unit {0}} (λ old choices value new. Unit {0}) tt tt b tree gives (λ text. Unit {0}) (λ time. time ≡ record { secs = 0; nanos = 0 }) report
+
+-- no file gives no text
+abbrev pub gives_file : Option (String Global) → Option (List ℕ) → Type 0
+gives_file None text = text ≡ None
+gives_file (Some name) text = Unit {0}
+
+-- and a file is the store, if there is one
+abbrev pub ReportsAlone : {D : Type 0} → Builder → Tree D → Report → Type 0
+ReportsAlone b tree report = ReportsUnheard b tree (gives_file b.checkpoint_file) report

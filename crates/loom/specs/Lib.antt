@@ -1,4 +1,7 @@
 pub mod Errors
 pub mod Settings
-pub mod Ending
+pub mod Environment
+pub mod Refusals
+pub mod Beginning
 pub mod Check
+pub mod Loop

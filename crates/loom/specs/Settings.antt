@@ -1,9 +1,11 @@
 -- Which settings a check takes, and which search they make.
 use Rattle.std.specs.Prelude.{ℕ, ◌||◌, ⊤, Bool, true, false, not, Option, Some, None, Result, Ok, Err, cond, nat_lt}
+use Rattle.std.specs.Option.{unwrap_or}
+use Rattle.loom_views.specs.Limits.{highest_count}
 use Rattle.loom_walks.specs.Trees.Meeting.{Settings}
 use Rattle.loom.specs.declared.error.CheckError.{CheckError}
-use Rattle.loom.specs.declared.error.CheckError.TheVariants.{MaxThreads, MaxBranches, PreemptionBound, MaxSteps}
-use Rattle.loom.specs.declared.model.Builder.{Builder}
+use Rattle.loom.specs.declared.error.CheckError.TheVariants.{MaxThreads, MaxBranches, PreemptionBound, CheckpointInterval, MaxSteps}
+use Rattle.loom.specs.declared.builder.Builder.{Builder}
 
 -- a bound on preemptions is 255 at most
 abbrev pub is_above : Option ℕ → Bool
@@ -16,8 +18,9 @@ tested b =
     cond (nat_lt b.max_threads 1 || nat_lt 5 b.max_threads) (Err MaxThreads)
     (cond (nat_lt b.max_branches 1 || nat_lt 1000000 b.max_branches) (Err MaxBranches)
     (cond (is_above b.preemption_bound) (Err PreemptionBound)
+    (cond (nat_lt b.checkpoint_interval 1) (Err CheckpointInterval)
     (cond (nat_lt b.max_steps 1) (Err MaxSteps)
-    (Ok tt))))
+    (Ok tt)))))
 
 -- the search that a builder asks for
 abbrev pub search_of : Builder → Settings
@@ -29,4 +32,21 @@ explores b = not b.expect_explicit_explore
 
 -- the settings that a builder begins with
 abbrev pub defaults : Builder
-defaults = record { max_threads = 5; max_branches = 1000; max_steps = 1000000; reduce = true; preemption_bound = None; expect_explicit_explore = false }
+defaults = record {
+  max_threads = 5;
+  max_branches = 1000;
+  max_steps = 1000000;
+  max_permutations = None;
+  max_duration = None;
+  reduce = true;
+  preemption_bound = None;
+  checkpoint_file = None;
+  checkpoint_interval = 20000;
+  expect_explicit_explore = false;
+  location = false;
+  log = false;
+}
+
+-- how many runs a check makes at most
+abbrev pub most_runs : Builder → ℕ
+most_runs b = unwrap_or b.max_permutations highest_count

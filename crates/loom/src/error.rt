@@ -1,7 +1,10 @@
 ghost use Rattle.std.specs.Prelude.{◌≡◌};
 ghost use Rattle.loom.specs.Errors.{number_of};
+ghost use Rattle.loom.specs.Refusals.{of_path, of_store};
 ghost use Rattle.loom.specs.declared.error.CheckError.TheVariants.{Memory};
 
+use loom_checkpoint::error::PathError;
+use loom_stores::store::StoreError;
 use std::alloc::AllocError;
 use thiserror::Error;
 
@@ -52,5 +55,32 @@ impl From<AllocError> for CheckError {
 
     fn from(_e: AllocError) -> CheckError {
         CheckError::Memory
+    }
+}
+
+impl From<PathError> for CheckError {
+    ghost from_gives = { λ why e. e ≡ of_path why };
+
+    fn from(why: PathError) -> CheckError {
+        match why {
+            PathError::NotJson => CheckError::NotJson,
+            PathError::WrongShape => CheckError::WrongShape,
+            PathError::WrongVersion => CheckError::WrongVersion,
+            PathError::OtherSettings => CheckError::OtherSettings,
+            PathError::TooManyNodes => CheckError::TooManyNodes,
+            PathError::BadNode => CheckError::BadNode,
+            PathError::Memory(_) => CheckError::Memory,
+        }
+    }
+}
+
+impl From<StoreError> for CheckError {
+    ghost from_gives = { λ why e. e ≡ of_store why };
+
+    fn from(why: StoreError) -> CheckError {
+        match why {
+            StoreError::Fault => CheckError::Store,
+            StoreError::Memory => CheckError::Memory,
+        }
     }
 }

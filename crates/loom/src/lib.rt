@@ -2,8 +2,14 @@
 //! search tries, and what a complete check has made is a stated set of runs.
 #![tactic(auto)]
 
+pub mod builder;
+pub mod env;
 pub mod error;
+pub mod laws;
 pub mod model;
+mod progress;
+mod receiver;
+mod search;
 pub mod visitor;
 
 pub use loom_objects::body::Body;
@@ -16,8 +22,22 @@ pub use loom_ops::{
     alloc, cell, explore, fail, future, hint, lazy_static, skip_branch, stop_exploring, sync,
     thread,
 };
+pub use loom_stores::clock::{Clock, NoClock};
+pub use loom_stores::file::FileStore;
+pub use loom_stores::memory::MemoryStore;
+pub use loom_stores::store::{CheckpointStore, StoreError};
 pub use loom_views::rt::MAX_THREADS;
 pub use loom_views::rt::failure::FailureKind;
+
+/// What a check keeps while it is under way: a path as a JSON value and as a text, and the stores of texts.
+pub mod checkpoint {
+    pub use loom_checkpoint::error::PathError;
+    pub use loom_checkpoint::text::{from_text, to_text};
+    pub use loom_checkpoint::value::{from_value, to_value};
+    pub use loom_stores::file::FileStore;
+    pub use loom_stores::memory::MemoryStore;
+    pub use loom_stores::store::{CheckpointStore, StoreError};
+}
 
 /// The parts of a run, public for their contracts' sake.
 pub mod rt {

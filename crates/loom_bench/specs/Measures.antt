@@ -4,6 +4,7 @@ use Rattle.std.specs.Io.KnownBytes.{Appends}
 use Rattle.std.specs.List.{find}
 use Rattle.std.specs.Str.{bytes_eq}
 use Rattle.loom.specs.declared.model.Report.{Report}
+use Rattle.loom_row_bodies.specs.Builders.{builder_of}
 use Rattle.loom_row_bodies.specs.Line.{report_text, status_of}
 use Rattle.loom_row_bodies.specs.Rows.{ReportsScript}
 use Rattle.loom_bench.specs.Table.{Named, all}
@@ -26,7 +27,7 @@ abbrev pub PrintedBody : List Measured → List ℕ → Option (List ℕ) → Op
 PrintedBody bodies name old new status =
     (body : Measured) × (report : Report)
     × (body_of bodies name ≡ Some body)
-    × ReportsScript body.steps.now body.builder report
+    × ReportsScript body.steps.now (builder_of body.settings) report
     × PrintedLine name report old new status
 
 -- what a name means by a table: the first of it that has the name
@@ -38,5 +39,5 @@ abbrev pub PrintedNamed : List ℕ → Option (List ℕ) → Option (List ℕ) �
 PrintedNamed name old new status =
     (body : Named) × (report : Report)
     × (named_by all name ≡ Some body)
-    × ReportsScript body.steps body.builder report
+    × ReportsScript body.steps (builder_of body.settings) report
     × PrintedLine name report old new status

@@ -1,8 +1,8 @@
 -- The table of the program: each name, the steps that it means, how they are checked, and how often.
 use Rattle.std.specs.Prelude.{ℕ, Bool, true, false, List, [], ◌∷◌, ◌++◌, Option, Some, None, codes}
-use Rattle.loom.specs.declared.model.Builder.{Builder}
 use Rattle.loom_scripts.specs.declared.step.Step.{Step}
 use Rattle.loom_row_bodies.specs.Names.{defaults}
+use Rattle.loom_row_bodies.specs.declared.settings.Settings.{Settings}
 use Rattle.loom_row_bodies.specs.Scripts.Atomics.{three_adds, acq_rel}
 use Rattle.loom_row_bodies.specs.Scripts.First.{two_mutexes_deadlock}
 use Rattle.loom_bench.specs.Scripts.{store_buffering, locks_in_turn, writers_beside_a_reader, wait_and_notify, three_threads, stores_apart, long_line, long_line_10000, long_turn}
@@ -12,19 +12,19 @@ use Rattle.loom_bench.specs.declared.bodies.Measured.{Measured}
 pub record Named : Type 0 where
   pub name : List ℕ
   pub steps : List Step
-  pub builder : Builder
+  pub settings : Settings
   pub checks : ℕ
 
 abbrev pub named : Measured → Named
-named body = record { name = body.name.now; steps = body.steps.now; builder = body.builder; checks = body.checks }
+named body = record { name = body.name.now; steps = body.steps.now; settings = body.settings; checks = body.checks }
 
 -- a search of runs with so many nodes at most, reduced or not, and with a bound on preemptions, if there is one
-abbrev pub search : ℕ → Bool → Option ℕ → Builder
+abbrev pub search : ℕ → Bool → Option ℕ → Settings
 search max_branches reduce bound =
     record defaults { max_branches = max_branches; preemption_bound = bound; reduce = reduce }
 
-abbrev pub measured : List ℕ → List Step → ℕ → Builder → Named
-measured name steps checks builder = record { name = name; steps = steps; builder = builder; checks = checks }
+abbrev pub measured : List ℕ → List Step → ℕ → Settings → Named
+measured name steps checks settings = record { name = name; steps = steps; settings = settings; checks = checks }
 
 -- a body by six searches: not reduced and reduced, without a bound and with the bounds 1 and 2
 abbrev pub six : List ℕ → List Step → ℕ → List Named

@@ -4,11 +4,11 @@ ghost use Rattle.loom_bench.specs.Measures.{body_of};
 ghost use Rattle.loom_bench.specs.Table as table;
 ghost use Rattle.loom_bench.specs.Table.{named};
 
-use loom::model::Builder;
 use loom_objects::operation::{AtomicOp, CondvarOp, MutexOp, Op, RwLockOp, ThreadOp};
 use loom_row_bodies::bodies::TWO_MUTEXES_DEADLOCK;
 use loom_row_bodies::bodies::atomics::{ACQ_REL, THREE_ADDS};
 use loom_row_bodies::rows::{DEFAULTS, LONG_RUNS, WHOLE};
+use loom_row_bodies::settings::Settings;
 use loom_scripts::step::{END, EXIT, Step, Value, YIELD};
 use loom_views::rt::num::Numbers;
 use std::alloc::{AllocError, Global};
@@ -237,54 +237,54 @@ pub struct Measured {
     /// The steps of its threads.
     pub steps: &'static [Step],
     /// How it is checked.
-    pub builder: Builder,
+    pub settings: Settings,
     /// How many checks are made, one after another.
     pub checks: u64,
 }
 
 /// A search that isn't reduced, of runs with one preemption at most.
-const WHOLE_1: Builder = Builder {
+const WHOLE_1: Settings = Settings {
     preemption_bound: Some(1),
     ..WHOLE
 };
 
 /// The same with two preemptions at most.
-const WHOLE_2: Builder = Builder {
+const WHOLE_2: Settings = Settings {
     preemption_bound: Some(2),
     ..WHOLE
 };
 
 /// The defaults with one preemption at most.
-const REDUCED_1: Builder = Builder {
+const REDUCED_1: Settings = Settings {
     preemption_bound: Some(1),
     ..DEFAULTS
 };
 
 /// The same with two preemptions at most.
-const REDUCED_2: Builder = Builder {
+const REDUCED_2: Settings = Settings {
     preemption_bound: Some(2),
     ..DEFAULTS
 };
 
 /// The defaults without a preemption, but a run may have 100,000 nodes.
-const LONG_RUNS_0: Builder = Builder {
+const LONG_RUNS_0: Settings = Settings {
     preemption_bound: Some(0),
     ..LONG_RUNS
 };
 
 /// The same with one preemption at most.
-const LONG_RUNS_1: Builder = Builder {
+const LONG_RUNS_1: Settings = Settings {
     preemption_bound: Some(1),
     ..LONG_RUNS
 };
 
 // A body that is checked so often, with these settings.
 macro_rules! measured {
-    ($name:expr, $steps:expr, $checks:expr, $builder:expr) => {
+    ($name:expr, $steps:expr, $checks:expr, $settings:expr) => {
         Measured {
             name: $name,
             steps: $steps,
-            builder: $builder,
+            settings: $settings,
             checks: $checks,
         }
     };

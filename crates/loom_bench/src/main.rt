@@ -3,6 +3,7 @@
 
 ghost use Rattle.std.specs.Prelude.{◌≡◌, ◌⊎◌, ◌-◌, ◌*◌, ◌/◌, ◌^◌, IfOk, IfSome, min, max};
 ghost use Rattle.std.specs.Duration.{as_nanos};
+ghost use Rattle.loom_row_bodies.specs.Builders.{builder_of};
 ghost use Rattle.loom_row_bodies.specs.Rows.{ReportsScript};
 ghost use Rattle.loom_bench.specs.Measures.{PrintedBody, PrintedLine, PrintedNamed};
 
@@ -12,7 +13,6 @@ use crate::bodies::{Measured, all_bodies, body_of};
 use loom::model::Report;
 use loom_row_bodies::line::{self, ShownReport};
 use loom_scripts::script::Script;
-use std::alloc::Global;
 use std::env;
 use std::io::{self, Write};
 use std::process::ExitCode;
@@ -106,7 +106,7 @@ fn measure<O: Write, E: Write>(
         return Ok(2);
     };
     let start = Instant::now(rt)?;
-    let report = check_often(rt.alloc(), body);
+    let report = check_often(rt, body);
     let taken = start.elapsed(rt)?;
     let Some(report) = report else {
         writeln!(err, "{name}: no report")?;
@@ -118,13 +118,15 @@ fn measure<O: Write, E: Write>(
 }
 
 /// The report of the last check, once all checks were made; None where memory is refused, or none is to be made.
-fn check_often(alloc: Global, body: &Measured) -> Option<Report>
-    ensures { IfSome result (ReportsScript body.now.steps.now body.now.builder) }
+fn check_often(rt: &HostRuntime, body: &Measured) -> Option<Report>
+    ensures { IfSome result (ReportsScript body.now.steps.now (builder_of body.now.settings)) }
 {
+    let alloc = rt.alloc();
     let script = Script::new(alloc, body.steps).ok()?;
+    let builder = body.settings.builder();
     let mut found = None;
     for _ in 0..body.checks {
-        found = Some(body.builder.check(alloc, &script).ok()?);
+        found = Some(builder.check(rt, alloc, &script).ok()?);
     }
     found
 }

@@ -120,6 +120,28 @@ fn other_settings(rt: HostRuntime) {
     }
 }
 
+// The path that is read from the text of a path.
+fn read_back(alloc: Global, path: &Path) -> Result<Path, Fail> {
+    let text = to_text(alloc, path)?;
+    Ok(from_text(alloc, text.as_str().as_bytes(), path.search())?)
+}
+
+#[test]
+fn paths_are_told_apart(rt: HostRuntime) -> Result<(), Fail> {
+    let mut path = Path::new(rt.alloc(), whole());
+    assert!(rt; path == Path::new(rt.alloc(), whole()));
+    assert!(rt; path != Path::new(rt.alloc(), search(false, None, 999, true)));
+    assert!(rt; path.branch_spurious().is_ok());
+    // What is read back has passed no node yet.
+    let read = read_back(rt.alloc(), &path)?;
+    assert!(rt; read != path);
+    // The node takes its other answer, and the path is at its start too.
+    assert!(rt; path.step());
+    assert!(rt; read != path);
+    assert!(rt; read_back(rt.alloc(), &path)? == path);
+    Ok(())
+}
+
 // What a text gives that has this node after the first of the two.
 fn node_refusal(alloc: Global, node: &str) -> Result<u8, AllocError> {
     let text = format!(in alloc;

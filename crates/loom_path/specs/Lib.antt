@@ -3,3 +3,4 @@ pub mod Routes
 pub mod Tallies
 pub mod Marking
 pub mod WellFormed
+pub mod Same

@@ -4,7 +4,7 @@ use Rattle.std.specs.Option.{option_map}
 use Rattle.std.specs.Prelude.{Option, Some}
 use Rattle.std.specs.List.{find}
 use Rattle.std.specs.Str.{bytes_eq}
-use Rattle.loom.specs.declared.model.Builder.{Builder}
+use Rattle.loom.specs.declared.builder.Builder.{Builder}
 use Rattle.loom.specs.declared.model.Report.{Report}
 use Rattle.loom_row_bodies.specs.declared.rows.Checked.{Checked}
 use Rattle.loom_row_bodies.specs.declared.rows.Checked.TheVariants.{Script, Updater}
@@ -28,7 +28,8 @@ found (first ∷ rows) name = chosen (bytes_eq first.name.now name) first (find 
 meant_found : (rows : List Row) (words : List (List ℕ)) → named_by (map named rows) words ≡ option_map named (meant_by rows words)
 meant_found rows [] = refl
 meant_found rows (name ∷ []) = found rows name
-meant_found rows (name ∷ other ∷ words) = refl
+meant_found rows (name ∷ file ∷ []) = found rows name
+meant_found rows (name ∷ file ∷ other ∷ words) = refl
 
 -- what a report says
 pub reports_meant : (checked : Checked) (b : Builder) (report : Report) → ReportsOf checked b report → ReportsMeant (meant checked) b report
@@ -38,7 +39,8 @@ reports_meant (Updater one other) b report r = r
 -- what was printed of a row was printed by the table
 pub printed_by : (rows : List Row) (words : List (List ℕ)) (old new : Option (List ℕ)) (status : ℕ)
     → IsTable (map named rows) → PrintedRow rows words old new status → PrintedNamed words old new status
-printed_by rows words old new status t (row, m, (report, r, p)) = (map named rows, t, (named row, meant_found rows words ∙ ap (option_map named) m, (report, reports_meant row.checked row.builder report r, p)))
+printed_by rows words old new status t (row, m, (b, i, (report, r, p))) =
+    (map named rows, t, (named row, meant_found rows words ∙ ap (option_map named) m, b, i, (report, reports_meant row.checked b report r, p)))
 
 -- the same where the status may be 2
 pub printed_or_not : (rows items : List Row) (words : List (List ℕ)) (old new : Option (List ℕ)) (status : ℕ) → rows ≡ items

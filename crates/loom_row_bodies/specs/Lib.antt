@@ -1,3 +1,4 @@
+pub mod Builders
 pub mod Guide
 pub mod Line
 pub mod Meanings

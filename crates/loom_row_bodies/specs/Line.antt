@@ -24,14 +24,14 @@ choices_text choices = flat_map after_space choices
 
 abbrev pub report_text : Report → List ℕ
 report_text (Complete runs) = codes "complete " ++ decimal runs
-report_text (Stopped runs limit) = codes "stopped " ++ decimal runs
+report_text (Stopped runs limit checkpoint) = codes "stopped " ++ decimal runs
 report_text (Failed runs failure choices) =
     codes "failed " ++ decimal (number_of failure.kind) ++ codes " " ++ decimal runs ++ choices_text choices.items
 
 -- 1 where a run failed
 abbrev pub status_of : Report → ℕ
 status_of (Complete runs) = 0
-status_of (Stopped runs limit) = 0
+status_of (Stopped runs limit checkpoint) = 0
 status_of (Failed runs failure choices) = 1
 
 -- a writer that held the old bytes holds the report's line behind them, and the status is the report's

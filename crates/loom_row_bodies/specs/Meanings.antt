@@ -1,10 +1,10 @@
 -- What is checked, as lists and numbers.
 use Rattle.std.specs.Prelude.{ℕ, List}
-use Rattle.loom.specs.declared.model.Builder.{Builder}
 use Rattle.loom_scripts.specs.declared.step.Step.{Step}
 use Rattle.loom_row_bodies.specs.declared.rows.Checked.{Checked}
 use Rattle.loom_row_bodies.specs.declared.rows.Checked.TheVariants.{Script, Updater}
 use Rattle.loom_row_bodies.specs.declared.rows.Row.{Row}
+use Rattle.loom_row_bodies.specs.declared.settings.Settings.{Settings}
 
 -- a script of these steps, or the thread that updates its atomic, with these two numbers
 pub data Meant : Type 0 where
@@ -19,7 +19,7 @@ meant (Updater one other) = Updates one other
 pub record Named : Type 0 where
   pub name : List ℕ
   pub means : Meant
-  pub builder : Builder
+  pub settings : Settings
 
 abbrev pub named : Row → Named
-named row = record { name = row.name.now; means = meant row.checked; builder = row.builder }
+named row = record { name = row.name.now; means = meant row.checked; settings = row.settings }

@@ -1,6 +1,5 @@
 -- The table of the program's rows: each name, what it means, and how this is checked.
-use Rattle.std.specs.Prelude.{ℕ, ◌≡◌, List, [], ◌∷◌, ◌++◌, None, true, false, codes}
-use Rattle.loom.specs.declared.model.Builder.{Builder}
+use Rattle.std.specs.Prelude.{ℕ, ◌≡◌, List, [], ◌∷◌, ◌++◌, Some, None, true, false, codes}
 use Rattle.loom_objects.specs.declared.rt.thread.Name.{Name}
 use Rattle.loom_scripts.specs.declared.step.Step.{Step}
 use Rattle.loom_row_bodies.specs.Meanings.{Steps, Updates, Named}
@@ -13,65 +12,82 @@ use Rattle.loom_row_bodies.specs.Scripts.Wakers as wakers
 use Rattle.loom_row_bodies.specs.Scripts.Values as values
 use Rattle.loom_row_bodies.specs.Scripts.Exploring as exploring
 use Rattle.loom_row_bodies.specs.Scripts.Limits as limits
+use Rattle.loom_row_bodies.specs.declared.settings.Settings.{Settings}
 
 -- the settings that a builder begins with
-abbrev pub defaults : Builder
-defaults =
-    record { max_threads = 5; max_branches = 1000; preemption_bound = None; max_steps = 1000000; reduce = true; expect_explicit_explore = false }
+abbrev pub defaults : Settings
+defaults = record {
+  max_threads = 5;
+  max_branches = 1000;
+  max_steps = 1000000;
+  max_permutations = None;
+  reduce = true;
+  preemption_bound = None;
+  expect_explicit_explore = false;
+}
 
 -- the same, but each schedule tries every thread that can go on
-abbrev pub whole_search : Builder
+abbrev pub whole_search : Settings
 whole_search = record defaults { reduce = false }
 
+-- the same, but two runs are made at most
+abbrev pub two_runs : Settings
+two_runs = record whole_search { max_permutations = Some 2 }
+
 -- the defaults, but the threads of a run hand over ten operations at most
-abbrev pub ten_steps : Builder
+abbrev pub ten_steps : Settings
 ten_steps = record defaults { max_steps = 10 }
 
 -- the defaults, but a run may have 100,000 nodes
-abbrev pub long_runs : Builder
+abbrev pub long_runs : Settings
 long_runs = record defaults { max_branches = 100000 }
 
 -- the defaults, but a run may have three nodes
-abbrev pub three_nodes : Builder
+abbrev pub three_nodes : Settings
 three_nodes = record defaults { max_branches = 3 }
 
 -- each schedule tries every thread that can go on, from where a run begins to explore
-abbrev pub explicit_search : Builder
+abbrev pub explicit_search : Settings
 explicit_search = record whole_search { expect_explicit_explore = true }
 
 -- the script of these steps, by the defaults
 abbrev pub script : List ℕ → List Step → Named
-script name steps = record { name = name; means = Steps steps; builder = defaults }
+script name steps = record { name = name; means = Steps steps; settings = defaults }
 
 -- the same by a search that isn't reduced
 abbrev pub whole : List ℕ → List Step → Named
-whole name steps = record { name = name; means = Steps steps; builder = whole_search }
+whole name steps = record { name = name; means = Steps steps; settings = whole_search }
+
+-- the same, of which two runs are made at most
+abbrev pub limited : List ℕ → List Step → Named
+limited name steps = record { name = name; means = Steps steps; settings = two_runs }
 
 -- the same by ten operations at most
 abbrev pub short : List ℕ → List Step → Named
-short name steps = record { name = name; means = Steps steps; builder = ten_steps }
+short name steps = record { name = name; means = Steps steps; settings = ten_steps }
 
 -- the same in runs of 100,000 nodes at most
 abbrev pub long : List ℕ → List Step → Named
-long name steps = record { name = name; means = Steps steps; builder = long_runs }
+long name steps = record { name = name; means = Steps steps; settings = long_runs }
 
 -- the same in runs of three nodes at most
 abbrev pub few : List ℕ → List Step → Named
-few name steps = record { name = name; means = Steps steps; builder = three_nodes }
+few name steps = record { name = name; means = Steps steps; settings = three_nodes }
 
 -- the same by a search that isn't reduced, from where a run begins to explore
 abbrev pub explicit : List ℕ → List Step → Named
-explicit name steps = record { name = name; means = Steps steps; builder = explicit_search }
+explicit name steps = record { name = name; means = Steps steps; settings = explicit_search }
 
 -- the thread that updates its atomic, with these two numbers, by the defaults
 abbrev pub updates : List ℕ → ℕ → ℕ → Named
-updates name one other = record { name = name; means = Updates one other; builder = defaults }
+updates name one other = record { name = name; means = Updates one other; settings = defaults }
 
 -- the first ones
 abbrev pub first_rows : List Named
 first_rows =
     script (codes "finish_only") first.finish_only ∷ script (codes "spawn_only") first.spawn_only ∷
     whole (codes "lock_beside") first.lock_beside ∷ script (codes "lock_beside_reduced") first.lock_beside ∷
+    limited (codes "lock_beside_two") first.lock_beside ∷
     short (codes "mutex_forever") first.mutex_forever ∷
     script (codes "fail_at_once") first.fail_at_once ∷ script (codes "two_mutexes_deadlock") first.two_mutexes_deadlock ∷
     whole (codes "load_beside") first.load_beside ∷ script (codes "load_beside_reduced") first.load_beside ∷

@@ -13,7 +13,7 @@ ghost use Rattle.std.specs.Prelude.{◌≡◌, map};
 ghost use Rattle.loom_row_bodies.specs.Meanings.{named};
 ghost use Rattle.loom_row_bodies.specs.Names.{first_rows};
 
-use crate::rows::{DEFAULTS, Row, TEN_STEPS, WHOLE, row};
+use crate::rows::{DEFAULTS, Row, TEN_STEPS, TWO_RUNS, WHOLE, row};
 use loom::sync::atomic::Ordering::{Acquire, Relaxed, Release};
 use loom_objects::operation::{AtomicOp, MutexOp, Op, ThreadOp};
 use loom_scripts::step::{END, EXIT, FAIL, Step, Value};
@@ -217,11 +217,12 @@ pub const CHECKS_FAIL: &[Step] = &[
     END,
 ];
 
-static FIRST_ROWS: [Row; 15] = [
+static FIRST_ROWS: [Row; 16] = [
     row!("finish_only", FINISH_ONLY),
     row!("spawn_only", SPAWN_ONLY),
     row!("lock_beside", LOCK_BESIDE, WHOLE),
     row!("lock_beside_reduced", LOCK_BESIDE),
+    row!("lock_beside_two", LOCK_BESIDE, TWO_RUNS),
     row!("mutex_forever", MUTEX_FOREVER, TEN_STEPS),
     row!("fail_at_once", FAIL_AT_ONCE),
     row!("two_mutexes_deadlock", TWO_MUTEXES_DEADLOCK),

@@ -5,4 +5,5 @@ pub mod bodies;
 pub mod guide;
 pub mod line;
 pub mod rows;
+pub mod settings;
 pub mod updates;

@@ -50,7 +50,7 @@ impl fmt::Display for ShownReport<'_> {
     fn fmt<W: fmt::Write>(&self, f: &mut fmt::Formatter<W>) -> fmt::Result {
         match self.0 {
             Report::Complete { runs } => write!(f, "complete {runs}"),
-            Report::Stopped { runs, limit: _ } => write!(f, "stopped {runs}"),
+            Report::Stopped { runs, .. } => write!(f, "stopped {runs}"),
             Report::Failed {
                 runs,
                 failure,

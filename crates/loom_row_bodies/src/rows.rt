@@ -2,14 +2,15 @@
 ghost use Rattle.std.specs.Prelude.{◌≡◌, ◌⊎◌, IfOk, map, option_copied};
 ghost use Rattle.loom_runs.specs.Runs.{runs as runs_of};
 ghost use Rattle.loom.specs.Check.{ReportsAlone};
-ghost use Rattle.loom.specs.Settings.{explores, search_of};
+ghost use Rattle.loom.specs.Settings.{explores};
 ghost use Rattle.loom_row_bodies.specs.Line.{PrintedOf};
 ghost use Rattle.loom_row_bodies.specs.Meanings.{named};
 ghost use Rattle.loom_row_bodies.specs.Names.{IsTable};
-ghost use Rattle.loom_row_bodies.specs.Rows.{PrintedNamed, PrintedRow, PrintedSome, ReportsOf, row_of};
+ghost use Rattle.loom_row_bodies.specs.Rows.{PrintedChecked, PrintedNamed, PrintedRow, PrintedSome, row_of};
 
 use crate::bodies::{self, atomics, cells, channels, exploring, limits, locks, values, wakers};
 use crate::line::{self, ShownReport};
+use crate::settings::Settings;
 use crate::updates::Updater;
 use loom::Body;
 use loom::model::{Builder, Report};
@@ -18,6 +19,7 @@ use loom_scripts::script::Script;
 use loom_scripts::step::Step;
 use std::alloc::{AllocError, Global};
 use std::io::{self, Write};
+use std::rt::Files;
 
 /// What a row checks.
 #[derive(Clone, Copy)]
@@ -36,45 +38,52 @@ pub struct Row {
     /// What is checked.
     pub checked: Checked,
     /// How it is checked.
-    pub builder: Builder,
+    pub settings: Settings,
 }
 
 /// The settings that a builder begins with.
-pub const DEFAULTS: Builder = Builder {
+pub const DEFAULTS: Settings = Settings {
     max_threads: 5,
     max_branches: 1000,
-    preemption_bound: None,
     max_steps: 1_000_000,
+    max_permutations: None,
     reduce: true,
+    preemption_bound: None,
     expect_explicit_explore: false,
 };
 
 /// The same, but each schedule tries every thread that can go on.
-pub const WHOLE: Builder = Builder {
+pub const WHOLE: Settings = Settings {
     reduce: false,
     ..DEFAULTS
 };
 
+/// The same, but two runs are made at most.
+pub const TWO_RUNS: Settings = Settings {
+    max_permutations: Some(2),
+    ..WHOLE
+};
+
 /// The defaults, but the threads of a run hand over ten operations at most.
-pub const TEN_STEPS: Builder = Builder {
+pub const TEN_STEPS: Settings = Settings {
     max_steps: 10,
     ..DEFAULTS
 };
 
 /// The defaults, but a run may have 100,000 nodes.
-pub const LONG_RUNS: Builder = Builder {
+pub const LONG_RUNS: Settings = Settings {
     max_branches: 100_000,
     ..DEFAULTS
 };
 
 /// The defaults, but a run may have three nodes.
-pub const THREE_NODES: Builder = Builder {
+pub const THREE_NODES: Settings = Settings {
     max_branches: 3,
     ..DEFAULTS
 };
 
 /// Each schedule tries every thread that can go on, from where a run begins to explore.
-pub const EXPLICIT: Builder = Builder {
+pub const EXPLICIT: Settings = Settings {
     expect_explicit_explore: true,
     ..WHOLE
 };
@@ -84,11 +93,11 @@ macro_rules! row {
     ($name:expr, $steps:expr) => {
         row!($name, $steps, DEFAULTS)
     };
-    ($name:expr, $steps:expr, $builder:expr) => {
+    ($name:expr, $steps:expr, $settings:expr) => {
         $crate::rows::Row {
             name: $name,
             checked: $crate::rows::Checked::Script($steps),
-            builder: $builder,
+            settings: $settings,
         }
     };
 }
@@ -119,9 +128,9 @@ pub fn row_of<'a>(rows: &'a [Row], name: &str) -> Option<&'a Row>
     rows.iter().find(|row| row.name == name)
 }
 
-/// Checks what the one word means by the table of the program, prints what the check finds, and answers the exit status. It is 2
+/// Checks what the words mean by the table of the program, prints what the check finds, and answers the exit status. It is 2
 /// where the words mean nothing, and where memory or a writer fails.
-pub fn run_named<R: AllocGlobal, O: Write, E: Write>(
+pub fn run_named<R: AllocGlobal + Files, O: Write, E: Write>(
     rt: &R,
     words: &[&str],
     out: &mut O,
@@ -135,9 +144,9 @@ pub fn run_named<R: AllocGlobal, O: Write, E: Write>(
     }
 }
 
-/// Checks the row that the words mean, prints what the check finds, and answers the exit status. It is 2 where the words mean
-/// no row, and where memory or a writer fails.
-pub fn run_row<R: AllocGlobal, O: Write, E: Write>(
+/// Checks the row that the first word means, prints what the check finds, and answers the exit status. The second word names the
+/// checkpoint file, if there is one. The status is 2 where the words mean no row, and where memory or a writer fails.
+pub fn run_row<R: AllocGlobal + Files, O: Write, E: Write>(
     rt: &R,
     rows: &[Row],
     words: &[&str],
@@ -149,7 +158,7 @@ pub fn run_row<R: AllocGlobal, O: Write, E: Write>(
     check_words(rt, rows, words, out, err).unwrap_or(2)
 }
 
-fn check_words<R: AllocGlobal, O: Write, E: Write>(
+fn check_words<R: AllocGlobal + Files, O: Write, E: Write>(
     rt: &R,
     rows: &[Row],
     words: &[&str],
@@ -158,12 +167,13 @@ fn check_words<R: AllocGlobal, O: Write, E: Write>(
 ) -> io::Result<u8>
     ensures { IfOk result (λ status. (status ≡ 2) ⊎ PrintedRow rows.now (map (λ word. word.now) words.now) (O.contents out.old) (O.contents out.new) status) }
 {
-    let row = match words {
-        [name] => row_of(rows, name),
-        _ => None,
+    let (row, file) = match words {
+        [name] => (row_of(rows, name), None),
+        [name, file] => (row_of(rows, name), Some(*file)),
+        _ => (None, None),
     };
     match row {
-        Some(row) => check_row(rt, row, out, err),
+        Some(row) => check_row(rt, row, file, out, err),
         None => refuse(err),
     }
 }
@@ -175,37 +185,39 @@ fn refuse<W: Write>(err: &mut W) -> io::Result<u8>
     Ok(2)
 }
 
-/// Checks the row, prints what the check finds, and answers the exit status.
-pub fn check_row<R: AllocGlobal, O: Write, E: Write>(
+/// Checks the row with this checkpoint file, if there is one, prints what the check finds, and answers the exit status.
+pub fn check_row<R: AllocGlobal + Files, O: Write, E: Write>(
     rt: &R,
     row: &Row,
+    file: Option<&str>,
     out: &mut O,
     err: &mut E,
 ) -> io::Result<u8>
-    ensures { IfOk result (λ status. (status ≡ 2) ⊎ PrintedSome (ReportsOf row.now.checked row.now.builder) (O.contents out.old) (O.contents out.new) status) }
+    ensures { IfOk result (λ status. (status ≡ 2) ⊎ PrintedChecked row.now.checked row.now.settings (option_copied file.entry) (O.contents out.old) (O.contents out.new) status) }
 {
+    let builder = row.settings.builder_with(rt.alloc(), file)?;
     match row.checked {
         Checked::Script(steps) => {
             let script = Script::new(rt.alloc(), steps)?;
-            check_body(rt, row.builder, &script, out, err)
+            check_body(rt, &builder, &script, out, err)
         }
         Checked::Updater(one, other) => {
             let updater = Updater::main(one, other);
-            check_body(rt, row.builder, &updater, out, err)
+            check_body(rt, &builder, &updater, out, err)
         }
     }
 }
 
-fn check_body<R: AllocGlobal, B: Body<Data = Number>, O: Write, E: Write>(
+fn check_body<R: AllocGlobal + Files, B: Body<Data = Number>, O: Write, E: Write>(
     rt: &R,
-    builder: Builder,
+    builder: &Builder,
     body: &B,
     out: &mut O,
     err: &mut E,
 ) -> io::Result<u8>
-    ensures { IfOk result (λ status. (status ≡ 2) ⊎ PrintedSome (ReportsAlone (search_of builder) (runs_of B.next (explores builder) builder.max_threads builder.max_steps body.now)) (O.contents out.old) (O.contents out.new) status) }
+    ensures { IfOk result (λ status. (status ≡ 2) ⊎ PrintedSome (ReportsAlone builder.now (runs_of B.next (explores builder.now) builder.now.max_threads builder.now.max_steps body.now)) (O.contents out.old) (O.contents out.new) status) }
 {
-    match builder.check(rt.alloc(), body) {
+    match builder.check(rt, rt.alloc(), body) {
         Ok(report) => print_report(out, &report),
         Err(error) => {
             let number = error.number();

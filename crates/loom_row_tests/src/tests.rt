@@ -17,11 +17,12 @@ mod sizes;
 mod values;
 mod wakers;
 
-use loom::model::{Builder, Report};
+use loom::model::Report;
 use loom::visitor::Visitor;
-use loom::{Body, Choice};
+use loom::{Body, Choice, MemoryStore, NoClock};
 use loom_objects::operation::{Op, ThreadOp};
 use loom_row_bodies::rows::WHOLE;
+use loom_row_bodies::settings::Settings;
 use loom_scripts::number::Number;
 use loom_scripts::step::{END, EXIT, Step, Value};
 use std::alloc::{AllocError, Global};
@@ -82,14 +83,17 @@ impl Visitor<Number> for Keeper {
 // The runs of a check that completes, in the order in which they came.
 fn runs_by<B: Body<Data = Number>>(
     alloc: Global,
-    builder: Builder,
+    settings: Settings,
     body: &B,
 ) -> Result<Vec<Run>, Fail> {
     let mut keeper = Keeper {
         alloc,
         runs: Vec::new(alloc),
     };
-    match builder.check_with(alloc, body, &mut keeper)? {
+    let builder = settings.builder();
+    let mut store = None::<MemoryStore>;
+    let log = None::<HostRuntime>;
+    match builder.check_with(alloc, body, &mut keeper, &mut NoClock, &mut store, &log)? {
         Report::Complete { .. } => Ok(keeper.runs),
         _ => Err(Fail::from("the check is not complete")),
     }

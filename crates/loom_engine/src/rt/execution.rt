@@ -95,6 +95,13 @@ impl<D: Data> Execution<D> {
         record_end(&mut self.over, &answer);
         answer
     }
+
+    /// The thread whose turn it is: whose operation took effect last, or was handed over last.
+    pub fn active(&self) -> u8
+        ensures { result ≡ self.now.run.state.scene.active }
+    {
+        self.run.state.scene.active()
+    }
 }
 
 /// Keeps what every operation after this answer is answered, if the run is over by it.

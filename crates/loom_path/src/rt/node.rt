@@ -30,7 +30,7 @@ pub enum Status {
 }
 
 /// A node at which a thread is chosen.
-#[derive(Clone, Copy, Debug)]
+#[derive(Clone, Copy, Debug, PartialEq, Eq)]
 pub struct Schedule {
     /// How many preemptions the run counts up to here (loom's `rt/path.rs`).
     pub preemptions: u32,
@@ -48,7 +48,7 @@ pub struct Schedule {
 }
 
 /// A node at which the store is chosen that a load reads.
-#[derive(Clone, Copy, Debug)]
+#[derive(Clone, Copy, Debug, PartialEq, Eq)]
 pub struct Load {
     /// Whether the run explores here, or takes the lowest slot and no other.
     pub exploring: bool,
@@ -59,7 +59,7 @@ pub struct Load {
 }
 
 /// A node at which it is chosen whether a thread wakes without a notification.
-#[derive(Clone, Copy, Debug)]
+#[derive(Clone, Copy, Debug, PartialEq, Eq)]
 pub struct Spurious {
     /// Whether the run explores here, or takes false.
     pub exploring: bool,
@@ -82,7 +82,7 @@ pub struct Tally {
 }
 
 /// A node of the path.
-#[derive(Clone, Copy, Debug)]
+#[derive(Clone, Copy, Debug, PartialEq, Eq)]
 pub enum Node {
     /// Which thread goes on.
     Schedule(Schedule),

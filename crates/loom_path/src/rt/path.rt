@@ -22,7 +22,7 @@ use std::alloc::{AllocError, Global};
 use std::marker::Model;
 
 /// What a search tries (loom's `rt/path.rs`).
-#[derive(Clone, Copy, Debug)]
+#[derive(Clone, Copy, Debug, PartialEq, Eq)]
 pub struct Search {
     /// Whether a schedule tries another thread only where an access calls for it.
     pub reduce: bool,
@@ -68,6 +68,32 @@ impl Model for Path {
 
     ghost invariant = { λ p. (p.position ≤ length p.nodes.items) × (length p.nodes.items ≤ p.search.max_branches) × AreWell p.nodes.items
         × AreNoted p.nodes.items × IsTally p.nodes.items p.position p.tally };
+}
+
+/// Two paths are equal where callers see the same. Nothing is allocated, and each node is compared once at most.
+impl PartialEq for Path {
+    ghost use Rattle.std.specs.Cmp.{partial_equiv_from_equiv};
+    ghost use Rattle.loom_path.specs.Same.{same_routes, same_routes_equiv};
+
+    ghost eq = { same_routes };
+
+    ghost laws = { partial_equiv_from_equiv same_routes_equiv };
+
+    fn eq(&self, other: &Path) -> bool
+        ensures { IsTrue result ↔ (self.now ≡ other.now) }
+    {
+        self.search == other.search
+            && self.position == other.position
+            && self.exploring == other.exploring
+            && self.nodes.as_slice() == other.nodes.as_slice()
+            && self.given.as_slice() == other.given.as_slice()
+    }
+}
+
+impl Eq for Path {
+    ghost use Rattle.loom_path.specs.Same.{same_routes_equiv};
+
+    ghost laws = { same_routes_equiv };
 }
 
 impl Path {

@@ -314,7 +314,7 @@ static ATOMIC_ROWS: [Row; 14] = [
     Row {
         name: "fetch_update_once",
         checked: Checked::Updater(NUM_A, NUM_B),
-        builder: DEFAULTS,
+        settings: DEFAULTS,
     },
 ];
 

@@ -234,12 +234,12 @@ fn each_operation_finds_memory(rt: HostRuntime) -> Result<(), Fail> {
     ];
     for (name, steps) in complete {
         let body = Script::new(rt.alloc(), steps)?;
-        let report = Builder::new().check(rt.alloc(), &body)?;
+        let report = Builder::new().check(&rt, rt.alloc(), &body)?;
         assert!(rt; matches!(report, Report::Complete { .. }), "{name}");
     }
     for steps in [FAIL_AT_ONCE, UNREACHABLE] {
         let body = Script::new(rt.alloc(), steps)?;
-        let report = Builder::new().check(rt.alloc(), &body)?;
+        let report = Builder::new().check(&rt, rt.alloc(), &body)?;
         assert!(rt; matches!(report, Report::Failed { .. }));
     }
     Ok(())

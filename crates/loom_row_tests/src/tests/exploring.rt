@@ -1,13 +1,13 @@
 //! Runs that don't explore everywhere: what their rows find.
 use super::replays::finds;
 use super::{NONE, ONE, ZERO, runs_by};
-use loom::model::Builder;
 use loom::{Choice, FailureKind};
 use loom_row_bodies::bodies::LOCK_BESIDE;
 use loom_row_bodies::bodies::exploring::{
     EXPLORE_FIRST, SKIP_BRANCH, STOP_EXPLORING, STOP_EXPLORING_TWICE,
 };
 use loom_row_bodies::rows::{EXPLICIT, WHOLE};
+use loom_row_bodies::settings::Settings;
 use loom_scripts::number::Number;
 use loom_scripts::script::Script;
 use loom_scripts::step::Step;
@@ -17,11 +17,11 @@ use std::test::Fail;
 // The script has these runs by this search, in this order, each of which main finishes with 7.
 fn has_runs(
     rt: &(impl Abort + AllocGlobal),
-    builder: Builder,
+    settings: Settings,
     steps: &'static [Step],
     lists: &[&[Choice]],
 ) -> Result<(), Fail> {
-    let runs = runs_by(rt.alloc(), builder, &Script::new(rt.alloc(), steps)?)?;
+    let runs = runs_by(rt.alloc(), settings, &Script::new(rt.alloc(), steps)?)?;
     assert_eq!(rt; runs.len(), lists.len());
     for (run, choices) in runs.iter().zip(lists) {
         assert_eq!(rt; run.choices.as_slice(), *choices);

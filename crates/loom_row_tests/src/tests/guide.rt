@@ -7,7 +7,7 @@ use std::test::Fail;
 
 #[test]
 fn no_thread_is_counted_third(rt: HostRuntime) -> Result<(), Fail> {
-    let report = WHOLE.check(rt.alloc(), &Counter::main(2))?;
+    let report = WHOLE.builder().check(&rt, rt.alloc(), &Counter::main(2))?;
     match report {
         Report::Complete { runs } => assert_eq!(rt; runs, 4),
         _ => return Err(Fail::from("the check is not complete")),
@@ -22,7 +22,7 @@ fn main_is_not_always_first(rt: HostRuntime) -> Result<(), Fail> {
         runs,
         failure,
         choices,
-    } = WHOLE.check(rt.alloc(), &body)?
+    } = WHOLE.builder().check(&rt, rt.alloc(), &body)?
     else {
         return Err(Fail::from("no run failed"));
     };

@@ -21,7 +21,7 @@ fn as_many_fences_as_may_be(rt: HostRuntime) -> Result<(), Fail> {
 #[test]
 fn as_many_stores_as_may_be(rt: HostRuntime) -> Result<(), Fail> {
     let body = Script::new(rt.alloc(), MANY_STORES)?;
-    match LONG_RUNS.replay(rt.alloc(), &body, &[])? {
+    match LONG_RUNS.builder().replay(rt.alloc(), &body, &[])? {
         Replay::Ended { .. } => Ok(()),
         Replay::Failed { .. } => Err(Fail::from("the run failed")),
     }

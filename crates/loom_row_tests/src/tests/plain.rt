@@ -2,14 +2,15 @@
 use super::cells::{SWAP_BESIDE_A_WRITE, SWAP_WITH_ITSELF};
 use super::sizes::{FIVE_THREADS, READ_THREE_TIMES};
 use super::{FIVE_SPAWNS, JOIN_TWICE, Keeper, Run, bodies, searches, shared};
-use loom::model::{Builder, Report};
-use loom::{Body, Choice, FailureKind};
-use loom_plain::run::{Ending, Settings};
+use loom::model::Report;
+use loom::{Body, Choice, FailureKind, MemoryStore, NoClock};
+use loom_plain::run::{Ending, Settings as PlainSettings};
 use loom_plain::search::{Found, least_set, runs_in_order};
 use loom_row_bodies::bodies::atomics::{ORDERS_EQUAL, THREE_ADDS};
 use loom_row_bodies::bodies::locks::{NOTIFY_ALL, RWLOCK_WRITER_AND_READERS};
 use loom_row_bodies::guide::Counter;
 use loom_row_bodies::rows::{Checked, DEFAULTS, Row, all_rows};
+use loom_row_bodies::settings::Settings;
 use loom_row_bodies::updates::Updater;
 use loom_scripts::number::Number;
 use loom_scripts::script::Script;
@@ -20,14 +21,14 @@ use std::test::Fail;
 // How many runs a body may have here, and one more.
 const MOST: usize = 301;
 
-fn settings_of(builder: Builder) -> Settings {
-    Settings {
-        max_threads: builder.max_threads,
-        max_branches: builder.max_branches,
-        max_steps: builder.max_steps,
-        reduce: builder.reduce,
-        bound: builder.preemption_bound,
-        expect_explicit_explore: builder.expect_explicit_explore,
+fn settings_of(settings: Settings) -> PlainSettings {
+    PlainSettings {
+        max_threads: settings.max_threads,
+        max_branches: settings.max_branches,
+        max_steps: settings.max_steps,
+        reduce: settings.reduce,
+        bound: settings.preemption_bound,
+        expect_explicit_explore: settings.expect_explicit_explore,
     }
 }
 
@@ -41,7 +42,7 @@ struct Checking {
 // The number of the runs in the report is right.
 fn check_of<R: Abort + AllocGlobal, B: Body<Data = Number>>(
     rt: &R,
-    builder: Builder,
+    settings: Settings,
     body: &B,
     name: &str,
 ) -> Result<Checking, Fail> {
@@ -50,7 +51,12 @@ fn check_of<R: Abort + AllocGlobal, B: Body<Data = Number>>(
         alloc,
         runs: Vec::new(alloc),
     };
-    let (count, failure) = match builder.check_with(alloc, body, &mut keeper)? {
+    let builder = settings.builder();
+    let mut store = None::<MemoryStore>;
+    let log = None::<HostRuntime>;
+    let runs = &mut keeper;
+    let report = builder.check_with(alloc, body, runs, &mut NoClock, &mut store, &log)?;
+    let (count, failure) = match report {
         Report::Complete { runs } => (runs, None),
         Report::Failed {
             runs,
@@ -90,12 +96,12 @@ fn is_failure(found: &Found, kind: FailureKind, choices: &[Choice]) -> bool {
 // A check that isn't reduced finds what the plain program does, in the same order.
 fn finds_in_order<R: Abort + AllocGlobal, B: Body<Data = Number>>(
     rt: &R,
-    builder: Builder,
+    settings: Settings,
     body: &B,
     name: &str,
 ) -> Result<(), Fail> {
-    let found = runs_in_order(rt.alloc(), settings_of(builder), body, MOST)?;
-    let checking = check_of(rt, builder, body, name)?;
+    let found = runs_in_order(rt.alloc(), settings_of(settings), body, MOST)?;
+    let checking = check_of(rt, settings, body, name)?;
     let count = checking.runs.len();
     for (plain, run) in found.iter().zip(&checking.runs) {
         assert!(rt; is_same(plain, run), "{name}");
@@ -113,12 +119,12 @@ fn finds_in_order<R: Abort + AllocGlobal, B: Body<Data = Number>>(
 // A check makes runs of the least set, each once: all of it, or one that fails as the last one.
 fn finds_the_set<R: Abort + AllocGlobal, B: Body<Data = Number>>(
     rt: &R,
-    builder: Builder,
+    settings: Settings,
     body: &B,
     name: &str,
 ) -> Result<(), Fail> {
-    let found = least_set(rt.alloc(), settings_of(builder), body, MOST)?;
-    let checking = check_of(rt, builder, body, name)?;
+    let found = least_set(rt.alloc(), settings_of(settings), body, MOST)?;
+    let checking = check_of(rt, settings, body, name)?;
     let runs = checking.runs.as_slice();
     for plain in &found {
         let times = runs.iter().filter(|run| is_same(plain, *run)).count();
@@ -140,14 +146,14 @@ fn finds_the_set<R: Abort + AllocGlobal, B: Body<Data = Number>>(
 
 fn finds_the_same<R: Abort + AllocGlobal, B: Body<Data = Number>>(
     rt: &R,
-    builder: Builder,
+    settings: Settings,
     body: &B,
     name: &str,
 ) -> Result<(), Fail> {
-    if builder.reduce {
-        finds_the_set(rt, builder, body, name)
+    if settings.reduce {
+        finds_the_set(rt, settings, body, name)
     } else {
-        finds_in_order(rt, builder, body, name)
+        finds_in_order(rt, settings, body, name)
     }
 }
 
@@ -170,19 +176,22 @@ const BOUNDED: &[Search] = &[
     (false, Some(2)),
 ];
 
-// The same by each of these searches.
+// The same by each of these searches, none of which is limited.
 fn searches_find_the_same<R: Abort + AllocGlobal, B: Body<Data = Number>>(
     rt: &R,
-    builder: Builder,
+    settings: Settings,
     body: &B,
     searches: &[Search],
     name: &str,
 ) -> Result<(), Fail> {
     for (reduce, bound) in searches {
-        let mut builder = builder;
-        builder.reduce = *reduce;
-        builder.preemption_bound = *bound;
-        finds_the_same(rt, builder, body, name)?;
+        let settings = Settings {
+            max_permutations: None,
+            reduce: *reduce,
+            preemption_bound: *bound,
+            ..settings
+        };
+        finds_the_same(rt, settings, body, name)?;
     }
     Ok(())
 }
@@ -190,23 +199,23 @@ fn searches_find_the_same<R: Abort + AllocGlobal, B: Body<Data = Number>>(
 // The same by each search: reduced and not, without a bound on preemptions and with the bounds 0, 1 and 2.
 fn each_search_finds_the_same<R: Abort + AllocGlobal, B: Body<Data = Number>>(
     rt: &R,
-    builder: Builder,
+    settings: Settings,
     body: &B,
     name: &str,
 ) -> Result<(), Fail> {
-    searches_find_the_same(rt, builder, body, &[(true, None), (false, None)], name)?;
-    searches_find_the_same(rt, builder, body, BOUNDED, name)
+    searches_find_the_same(rt, settings, body, &[(true, None), (false, None)], name)?;
+    searches_find_the_same(rt, settings, body, BOUNDED, name)
 }
 
 fn row_finds_the_same(rt: &(impl Abort + AllocGlobal), row: &Row) -> Result<(), Fail> {
     match row.checked {
         Checked::Script(steps) => {
             let body = Script::new(rt.alloc(), steps)?;
-            each_search_finds_the_same(rt, row.builder, &body, row.name)
+            each_search_finds_the_same(rt, row.settings, &body, row.name)
         }
         Checked::Updater(one, other) => {
             let body = Updater::main(one, other);
-            each_search_finds_the_same(rt, row.builder, &body, row.name)
+            each_search_finds_the_same(rt, row.settings, &body, row.name)
         }
     }
 }

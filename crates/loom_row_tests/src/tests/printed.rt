@@ -1,21 +1,23 @@
 //! What the rows print.
 use super::{FIVE_SPAWNS, JOIN_TWICE};
-use loom::model::Builder;
 use loom_row_bodies::bodies::LOCK_BESIDE;
 use loom_row_bodies::bodies::locks::TOO_MANY_LOCKS;
-use loom_row_bodies::rows::{self, Checked, LONG_RUNS, Row, WHOLE};
+use loom_row_bodies::rows::{self, Checked, DEFAULTS, LONG_RUNS, Row, WHOLE};
+use loom_row_bodies::settings::Settings;
 use loom_scripts::step::Step;
 use std::alloc::Global;
 use std::io::{self, ErrorKind, Write};
 use std::process::Abort;
+use std::rt::Files;
 use std::test::Fail;
 
 // Each row's line and status, but for those of runs as long as they may be.
-static LINES: [(&str, &str, u8); 97] = [
+static LINES: [(&str, &str, u8); 98] = [
     ("finish_only", "complete 1\n", 0),
     ("spawn_only", "complete 1\n", 0),
     ("lock_beside", "complete 3\n", 0),
     ("lock_beside_reduced", "complete 1\n", 0),
+    ("lock_beside_two", "stopped 2\n", 0),
     ("mutex_forever", "failed 12 0\n", 1),
     ("fail_at_once", "failed 1 0\n", 1),
     ("two_mutexes_deadlock", "failed 2 3 t1 t1 t2 t2 t-\n", 1),
@@ -140,7 +142,12 @@ static LINES: [(&str, &str, u8); 97] = [
 ];
 
 // Runs the row of this name, which answers this status and writes nothing on standard error. Gives what it prints.
-fn printed_by(rt: &(impl Abort + AllocGlobal), rows: &[Row], name: &str, status: u8) -> Vec<u8> {
+fn printed_by(
+    rt: &(impl Abort + AllocGlobal + Files),
+    rows: &[Row],
+    name: &str,
+    status: u8,
+) -> Vec<u8> {
     let mut out = Vec::new(rt.alloc());
     let mut err = Vec::new(rt.alloc());
     let answer = rows::run_row(rt, rows, &[name], &mut out, &mut err);
@@ -150,7 +157,7 @@ fn printed_by(rt: &(impl Abort + AllocGlobal), rows: &[Row], name: &str, status:
 }
 
 // The rows print these lines.
-fn print(rt: &(impl Abort + AllocGlobal), lines: &[(&str, &str, u8)]) -> Result<(), Fail> {
+fn print(rt: &(impl Abort + AllocGlobal + Files), lines: &[(&str, &str, u8)]) -> Result<(), Fail> {
     let rows = rows::all_rows(rt.alloc())?;
     let rows = rows.as_slice();
     for (name, line, status) in lines {
@@ -194,12 +201,14 @@ fn accesses_are_counted(rt: HostRuntime) -> Result<(), Fail> {
     let rows = rows::all_rows(rt.alloc())?;
     let out = printed_by(&rt, rows.as_slice(), "too_many_locks", 1);
     assert!(rt; out == line);
-    let mut builder = LONG_RUNS;
-    builder.reduce = false;
+    let settings = Settings {
+        reduce: false,
+        ..LONG_RUNS
+    };
     let mut out = Vec::new(rt.alloc());
     let mut err = Vec::new(rt.alloc());
-    let row = row_of(TOO_MANY_LOCKS, builder);
-    let status = rows::check_row(&rt, &row, &mut out, &mut err)?;
+    let row = row_of(TOO_MANY_LOCKS, settings);
+    let status = rows::check_row(&rt, &row, None, &mut out, &mut err)?;
     assert_eq!(rt; status, 1);
     assert!(rt; out == line);
     Ok(())
@@ -234,7 +243,7 @@ fn other_words_print_the_usage(rt: HostRuntime) -> Result<(), Fail> {
     let rows = rows.as_slice();
     let usage = b"usage: loom_rows NAME [FILE]\n".as_slice();
     let words = ["no_such_row", "lock_beside", "lock_beside"];
-    for (from, to) in [(0usize, 0usize), (0, 1), (1, 3), (0, 3)] {
+    for (from, to) in [(0usize, 0usize), (0, 1), (0, 3)] {
         let mut out = Vec::new(rt.alloc());
         let mut err = Vec::new(rt.alloc());
         let answer = rows::run_row(&rt, rows, &words[from..to], &mut out, &mut err);
@@ -259,20 +268,24 @@ fn a_writer_that_fails_gives_status_2(rt: HostRuntime) -> Result<(), Fail> {
 }
 
 // A row of a script, checked with these settings.
-fn row_of(steps: &'static [Step], builder: Builder) -> Row {
+fn row_of(steps: &'static [Step], settings: Settings) -> Row {
     Row {
         name: "a row of a test",
         checked: Checked::Script(steps),
-        builder,
+        settings,
     }
 }
 
 // Checks lock_beside with these settings, and compares what is printed on standard error.
-fn refuses(rt: &(impl Abort + AllocGlobal), builder: Builder, line: &str) -> Result<(), Fail> {
-    let row = row_of(LOCK_BESIDE, builder);
+fn refuses(
+    rt: &(impl Abort + AllocGlobal + Files),
+    settings: Settings,
+    line: &str,
+) -> Result<(), Fail> {
+    let row = row_of(LOCK_BESIDE, settings);
     let mut out = Vec::new(rt.alloc());
     let mut err = Vec::new(rt.alloc());
-    let status = rows::check_row(rt, &row, &mut out, &mut err)?;
+    let status = rows::check_row(rt, &row, None, &mut out, &mut err)?;
     assert_eq!(rt; status, 2, "{line}");
     assert!(rt; out.is_empty(), "{line}");
     assert_eq!(rt; err.as_slice(), line.as_bytes());
@@ -281,32 +294,38 @@ fn refuses(rt: &(impl Abort + AllocGlobal), builder: Builder, line: &str) -> Res
 
 #[test]
 fn settings_out_of_range_are_refused(rt: HostRuntime) -> Result<(), Fail> {
-    let defaults = Builder::new();
     for (max_threads, max_branches, line) in [
-        (0, defaults.max_branches, "error 1\n"),
-        (6, defaults.max_branches, "error 1\n"),
-        (defaults.max_threads, 0, "error 2\n"),
-        (defaults.max_threads, 1_000_001, "error 2\n"),
+        (0, DEFAULTS.max_branches, "error 1\n"),
+        (6, DEFAULTS.max_branches, "error 1\n"),
+        (DEFAULTS.max_threads, 0, "error 2\n"),
+        (DEFAULTS.max_threads, 1_000_001, "error 2\n"),
     ] {
-        let mut builder = Builder::new();
-        builder.max_threads = max_threads;
-        builder.max_branches = max_branches;
-        builder.preemption_bound = Some(256);
-        builder.max_steps = 0;
-        refuses(&rt, builder, line)?;
+        let settings = Settings {
+            max_threads,
+            max_branches,
+            preemption_bound: Some(256),
+            max_steps: 0,
+            ..DEFAULTS
+        };
+        refuses(&rt, settings, line)?;
     }
-    let mut builder = Builder::new();
-    builder.max_steps = 0;
-    refuses(&rt, builder, "error 5\n")?;
-    builder.preemption_bound = Some(256);
-    refuses(&rt, builder, "error 3\n")
+    let no_steps = Settings {
+        max_steps: 0,
+        ..DEFAULTS
+    };
+    refuses(&rt, no_steps, "error 5\n")?;
+    let large_bound = Settings {
+        preemption_bound: Some(256),
+        ..no_steps
+    };
+    refuses(&rt, large_bound, "error 3\n")
 }
 
 // Checks the row, and compares the line that is printed of a failure.
-fn fails(rt: &(impl Abort + AllocGlobal), row: Row, line: &str) -> Result<(), Fail> {
+fn fails(rt: &(impl Abort + AllocGlobal + Files), row: Row, line: &str) -> Result<(), Fail> {
     let mut out = Vec::new(rt.alloc());
     let mut err = Vec::new(rt.alloc());
-    let status = rows::check_row(rt, &row, &mut out, &mut err)?;
+    let status = rows::check_row(rt, &row, None, &mut out, &mut err)?;
     assert_eq!(rt; status, 1, "{line}");
     assert_eq!(rt; out.as_slice(), line.as_bytes());
     Ok(())
@@ -314,17 +333,15 @@ fn fails(rt: &(impl Abort + AllocGlobal), row: Row, line: &str) -> Result<(), Fa
 
 #[test]
 fn limits_fail_a_run(rt: HostRuntime) -> Result<(), Fail> {
-    let mut short = WHOLE;
-    short.max_branches = 3;
+    let short = Settings {
+        max_branches: 3,
+        ..WHOLE
+    };
     fails(&rt, row_of(LOCK_BESIDE, short), "failed 9 0 t0 t1 t1\n")?;
-    fails(&rt, row_of(&FIVE_SPAWNS, Builder::new()), "failed 8 0\n")
+    fails(&rt, row_of(&FIVE_SPAWNS, DEFAULTS), "failed 8 0\n")
 }
 
 #[test]
 fn a_thread_is_joined_once(rt: HostRuntime) -> Result<(), Fail> {
-    fails(
-        &rt,
-        row_of(&JOIN_TWICE, Builder::new()),
-        "failed 14 0 t1 t1 t0\n",
-    )
+    fails(&rt, row_of(&JOIN_TWICE, DEFAULTS), "failed 14 0 t1 t1 t0\n")
 }

@@ -1,13 +1,16 @@
 use super::{NONE, ONE, TWO, ZERO};
-use loom::model::{Builder, Replay, Report};
+use loom::model::{Replay, Report};
 use loom::{Choice, FailureKind};
 use loom_objects::operation::{MutexOp, Op};
 use loom_row_bodies::bodies::{
     CHECK_ORDERING_INVALID_1, CHECKS_FAIL, LOCK_BESIDE, TWO_MUTEXES_DEADLOCK,
 };
+use loom_row_bodies::rows::DEFAULTS;
+use loom_row_bodies::settings::Settings;
 use loom_scripts::script::Script;
 use loom_scripts::step::{FAIL, Step, Value};
 use std::process::Abort;
+use std::rt::Files;
 use std::test::Fail;
 
 static FAIL_AFTER_A_LOCK: [Step; 3] = [
@@ -19,12 +22,13 @@ static FAIL_AFTER_A_LOCK: [Step; 3] = [
 // Replays the list, and compares the failure's kind. Gives the choices that the run made.
 fn made_by(
     rt: &(impl Abort + AllocGlobal),
-    builder: Builder,
+    settings: Settings,
     steps: &'static [Step],
     list: &[Choice],
     kind: FailureKind,
 ) -> Result<Vec<Choice>, Fail> {
-    match builder.replay(rt.alloc(), &Script::new(rt.alloc(), steps)?, list)? {
+    let body = Script::new(rt.alloc(), steps)?;
+    match settings.builder().replay(rt.alloc(), &body, list)? {
         Replay::Ended { .. } => Err(Fail::from("the run ended")),
         Replay::Failed { failure, choices } => {
             assert_eq!(rt; failure.kind, kind);
@@ -41,7 +45,7 @@ fn fails(
     kind: FailureKind,
     made: &[Choice],
 ) -> Result<(), Fail> {
-    let choices = made_by(rt, Builder::new(), steps, list, kind)?;
+    let choices = made_by(rt, DEFAULTS, steps, list, kind)?;
     assert_eq!(rt; choices.as_slice(), made);
     Ok(())
 }
@@ -74,19 +78,20 @@ fn a_failure_keeps_its_kind(rt: HostRuntime) -> Result<(), Fail> {
 
 /// A check with these settings finds a failure of this kind, whose choices lead to it again.
 pub fn finds_by(
-    rt: &(impl Abort + AllocGlobal),
-    builder: Builder,
+    rt: &(impl Abort + AllocGlobal + Files),
+    settings: Settings,
     steps: &'static [Step],
     kind: FailureKind,
 ) -> Result<(), Fail> {
-    match builder.check(rt.alloc(), &Script::new(rt.alloc(), steps)?)? {
+    let body = Script::new(rt.alloc(), steps)?;
+    match settings.builder().check(rt, rt.alloc(), &body)? {
         Report::Failed {
             failure,
             choices,
             ..
         } => {
             assert_eq!(rt; failure.kind, kind);
-            let made = made_by(rt, builder, steps, choices.as_slice(), kind)?;
+            let made = made_by(rt, settings, steps, choices.as_slice(), kind)?;
             assert_eq!(rt; made.as_slice(), choices.as_slice());
             Ok(())
         }
@@ -96,11 +101,11 @@ pub fn finds_by(
 
 /// The same with the defaults.
 pub fn finds(
-    rt: &(impl Abort + AllocGlobal),
+    rt: &(impl Abort + AllocGlobal + Files),
     steps: &'static [Step],
     kind: FailureKind,
 ) -> Result<(), Fail> {
-    finds_by(rt, Builder::new(), steps, kind)
+    finds_by(rt, DEFAULTS, steps, kind)
 }
 
 #[test]

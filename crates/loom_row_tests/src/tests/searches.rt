@@ -1,11 +1,13 @@
 //! Small bodies with the runs of their searches, each of which tells a search from one that is a little wrong.
 use super::{Keeper, Run};
 use loom::sync::atomic::Ordering::Relaxed;
+use loom::{MemoryStore, NoClock};
 use loom_objects::operation::{ArcOp, AtomicOp, MutexOp, Op, ThreadOp};
 use loom_row_bodies::bodies::atomics::{ACQ_REL, THREE_ADDS};
 use loom_row_bodies::bodies::{LOAD_BESIDE, LOCK_BESIDE, TWO_MUTEXES_DEADLOCK};
 use loom_row_bodies::line::ShownChoices;
 use loom_row_bodies::rows::DEFAULTS;
+use loom_row_bodies::settings::Settings;
 use loom_scripts::number::Number;
 use loom_scripts::script::Script;
 use loom_scripts::step::{END, EXIT, PARK, Step, Value, YIELD};
@@ -376,14 +378,20 @@ pub fn ended<R: Abort + AllocGlobal>(
     bound: Option<usize>,
 ) -> Result<Vec<Run>, Fail> {
     let alloc = rt.alloc();
-    let mut builder = DEFAULTS;
-    builder.reduce = reduce;
-    builder.preemption_bound = bound;
+    let settings = Settings {
+        reduce,
+        preemption_bound: bound,
+        ..DEFAULTS
+    };
     let mut keeper = Keeper {
         alloc,
         runs: Vec::new(alloc),
     };
-    builder.check_with(alloc, &Script::new(alloc, steps)?, &mut keeper)?;
+    let body = Script::new(alloc, steps)?;
+    let builder = settings.builder();
+    let mut store = None::<MemoryStore>;
+    let log = None::<HostRuntime>;
+    builder.check_with(alloc, &body, &mut keeper, &mut NoClock, &mut store, &log)?;
     Ok(keeper.runs)
 }
 

@@ -1,0 +1,13 @@
+use Rattle.std.proofs.Common.{ℕ, ap, refl}
+use Rattle.std.specs.Prelude.{Option}
+use Rattle.loom_walks.specs.Trees.Meeting.{Settings}
+use Rattle.loom.proofs.builder.Builder.path_search.Goals as goal
+
+pub returns-clause-settings : goal.returns-clause-settings
+returns-clause-settings c =
+    let b = c.args.self.now in
+    let with_bound : Option ℕ → Settings = λ bound. record { reduce = b.reduce; bound = bound; max_branches = b.max_branches } in
+    ap with_bound c.as_byte-bound.ensures
+
+pub returns-clause-explores : goal.returns-clause-explores
+returns-clause-explores c = refl
