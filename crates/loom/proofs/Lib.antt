@@ -4,3 +4,4 @@ pub mod Errors
 pub mod Unheard
 pub mod Numbers
 pub mod Replaying
+pub mod Bounds

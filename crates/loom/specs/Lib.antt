@@ -5,3 +5,4 @@ pub mod Refusals
 pub mod Beginning
 pub mod Check
 pub mod Loop
+pub mod Rising

@@ -9,14 +9,17 @@ pub mod laws;
 pub mod model;
 mod progress;
 mod receiver;
+mod report;
+pub mod rising;
 mod search;
 pub mod visitor;
 
+pub use loom_choices::choices::{Choices, ChoicesError, ShownChoices};
 pub use loom_objects::body::Body;
 pub use loom_objects::choice::Choice;
 pub use loom_objects::data::Data;
 pub use loom_objects::failure::Failure;
-pub use loom_objects::operation::{Op, Reply};
+pub use loom_objects::operation::{Exchange, Op, Reply, Turn};
 pub use loom_objects::rt::location::Location;
 pub use loom_ops::{
     alloc, cell, explore, fail, future, hint, lazy_static, skip_branch, stop_exploring, sync,
@@ -28,6 +31,7 @@ pub use loom_stores::memory::MemoryStore;
 pub use loom_stores::store::{CheckpointStore, StoreError};
 pub use loom_views::rt::MAX_THREADS;
 pub use loom_views::rt::failure::FailureKind;
+pub use loom_views::rt::num::Numeric;
 
 /// What a check keeps while it is under way: a path as a JSON value and as a text, and the stores of texts.
 pub mod checkpoint {

@@ -87,7 +87,7 @@ impl Builder {
     }
 
     /// A check in which nobody is given the runs, with this store.
-    fn check_alone<B: Body, S: CheckpointStore>(
+    pub(crate) fn check_alone<B: Body, S: CheckpointStore>(
         &self,
         alloc: Global,
         body: &B,

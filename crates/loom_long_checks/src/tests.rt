@@ -5,6 +5,7 @@ mod limits;
 mod mutations;
 mod places;
 mod progress;
+mod rising;
 mod saves;
 mod texts;
 

@@ -1,0 +1,3 @@
+mod Called
+pub mod Within
+mod Example
