@@ -25,11 +25,12 @@ WITH_A_PATH = ["loom/specs/Check.antt"], 2000
 RULES = {
     f"loom_objects/specs/{name}.antt"
     for name in [
-        "Atomics", "Cells", "Channels", "Condvars", "Counts", "Effects", "Ending", "Exploring", "Leaks", "Lent", "Locks",
-        "Lookup", "Moves", "Notifiers", "Rule", "RwLocks", "Schedules", "Steps", "Threads", "Tracks", "Turns", "Uses", "Values",
+        "Atomics", "Cells", "Channels", "Condvars", "Counts", "Effects", "Ending", "Exploring", "Leaks", "Locks", "Lookup",
+        "Moves", "Notifiers", "Rule", "RwLocks", "Schedules", "Steps", "Threads", "Tracks", "Turns", "Uses", "Values",
         "Wakers", "World",
     ]
-} | {"loom_dependence/specs/Depends.antt", "loom_views/specs/Graph.antt"}
+} | {f"loom_parts/specs/{name}.antt" for name in ["Defaults", "Leaks", "Lent"]}
+RULES |= {"loom_dependence/specs/Depends.antt", "loom_views/specs/Graph.antt"}
 # the operations of one kind of object each: a body's runs hand them on to those rules
 OPERATIONS = re.compile(r"^(?!Op$)\w+Op$|^Exchange$|^Change$|^Numbers$")
 # how the code keeps the nodes of a path and the state of a run
@@ -50,9 +51,19 @@ def spec_file(crate, path):
 
 
 def source_file(crate, modules):
-    """The file of `src` that keeps a module."""
+    """The file of `src` that keeps a module, also one that is handed on from another crate."""
     source = CRATES / crate / "src"
-    return source / "lib.rt" if not modules else source / ("/".join(modules) + ".rt")
+    if not modules:
+        return source / "lib.rt"
+    file = source / ("/".join(modules) + ".rt")
+    above = source_file(crate, modules[:-1])
+    if file.is_file() or not above.is_file():
+        return file
+    for use in re.finditer(r"^pub use (loom_\w+)((?:::\w+)+);", above.read_text(), re.M):
+        inner = use.group(2).split("::")[1:]
+        if inner[-1] == modules[-1]:
+            return source_file(use.group(1), inner)
+    return file
 
 
 def declared(crate, path):
@@ -86,15 +97,13 @@ def named(crate, file, lines):
         if re.search(DECLARATION.format(name=name), text, re.M):
             yield file, name
             continue
-        for use in re.finditer(r"^use (crate|loom_\w+)((?:::\w+)*)::(?:\{([^}]*)\}|(\w+));", text, re.M):
+        for use in re.finditer(r"^(?:pub )?use (crate|loom_\w+)((?:::\w+)*)::(?:\{([^}]*)\}|(\w+));", text, re.M):
             if name in re.findall(r"\w+", use.group(3) or use.group(4)):
                 home = crate if use.group(1) == "crate" else use.group(1)
-                target = source_file(home, use.group(2).split("::")[1:])
-                for found in reexported(home, target, name):
-                    yield found
+                yield from reexported(source_file(home, use.group(2).split("::")[1:]), name)
 
 
-def reexported(crate, file, name):
+def reexported(file, name):
     """Where a name stands that a module declares or hands on."""
     if not file.is_file():
         return
@@ -102,10 +111,14 @@ def reexported(crate, file, name):
     if re.search(DECLARATION.format(name=name), text, re.M):
         yield file, name
         return
-    for use in re.finditer(r"^pub use (?:self::)?(\w+)::(?:\{([^}]*)\}|(\w+));", text, re.M):
-        if name in re.findall(r"\w+", use.group(2) or use.group(3)):
-            inner = file.with_suffix("") / f"{use.group(1)}.rt"
-            yield from reexported(crate, inner, name)
+    for use in re.finditer(r"^pub use (?:self::)?(\w+)((?:::\w+)*)::(?:\{([^}]*)\}|(\w+));", text, re.M):
+        if name in re.findall(r"\w+", use.group(3) or use.group(4)):
+            modules = use.group(2).split("::")[1:]
+            if use.group(1).startswith("loom_"):
+                inner = source_file(use.group(1), modules)
+            else:
+                inner = file.with_suffix("") / ("/".join([use.group(1), *modules]) + ".rt")
+            yield from reexported(inner, name)
 
 
 def imports(crate, text, specs, types):

@@ -3,7 +3,7 @@ use Rattle.std.proofs.Common.{◌≡◌, ◌+◌, ℕ, inl, inr, List, [], ◌�
 use Rattle.std.proofs.lemmas.List.{append_assoc}
 use Rattle.std.specs.Prelude.{◌≤◌, ◌<◌, Bool, true, false, Option, Some, None, Ok, Err, Result, String, Vec, string_bytes}
 use Rattle.loom_views.specs.declared.rt.failure.FailureKind.{FailureKind}
-use Rattle.loom_objects.specs.declared.choice.Choice.{Choice}
+use Rattle.loom_parts.specs.declared.choice.Choice.{Choice}
 use Rattle.loom_objects.specs.Tree.{Tree}
 use Rattle.loom_walks.specs.Walk.Path.{choices}
 use Rattle.loom_walks.specs.Trees.Meeting.{Settings}
@@ -16,7 +16,7 @@ use Rattle.loom_path.specs.Routes.{Route, at_rest, stored, trail, chosen, drives
 use Rattle.loom_runs.specs.Trees.{IsRunTree}
 use Rattle.loom_stores.specs.Stores.{Keeps}
 use Rattle.loom_walks.proofs.Trees.Rounds.{another_round, final_round}
-use Rattle.loom_objects.specs.declared.failure.Failure.{Failure}
+use Rattle.loom_parts.specs.declared.failure.Failure.{Failure}
 use Rattle.serde_json.specs.Written.{compact_text}
 use Rattle.loom_checkpoint.specs.Grammar.{path_data}
 use Rattle.std.specs.declared.alloc.Global.{Global}

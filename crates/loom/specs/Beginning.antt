@@ -8,7 +8,7 @@
 use Rattle.std.specs.Prelude.{◌≡◌, ◌≢◌, ◌≤◌, ℕ, false, List, [], ◌∷◌, ◌++◌, Some, None, Result, Ok, Err, length, ◌↔◌}
 use Rattle.loom_views.specs.declared.rt.failure.FailureKind.{FailureKind}
 use Rattle.loom_views.specs.declared.rt.failure.FailureKind.TheVariants.{NotDeterministic}
-use Rattle.loom_objects.specs.declared.choice.Choice.{Choice}
+use Rattle.loom_parts.specs.declared.choice.Choice.{Choice}
 use Rattle.loom_objects.specs.Tree.{Tree}
 use Rattle.loom_walks.specs.Walk.Machine.{Machine, run}
 use Rattle.loom_walks.specs.Walk.Runs.{Reachable}

@@ -3,7 +3,7 @@ use Rattle.std.specs.Prelude.{ℕ, ◌≡◌, ◌<◌, ◌≤◌, ◌+◌, ◌�
 use Rattle.std.specs.declared.time.Duration.{Duration}
 use Rattle.serde_json.specs.Written.{compact_text}
 use Rattle.loom_checkpoint.specs.Grammar.{path_data}
-use Rattle.loom_objects.specs.declared.choice.Choice.{Choice}
+use Rattle.loom_parts.specs.declared.choice.Choice.{Choice}
 use Rattle.loom_objects.specs.Tree.{Tree}
 use Rattle.loom_path.specs.Routes.{Route, at_rest, chosen, drives, trail, Steps}
 use Rattle.loom_stores.specs.Stores.{Keeps}

@@ -1,5 +1,8 @@
 //! Loom explores the interleavings of concurrent code: a body is run once for each choice of the scheduled thread that the
-//! search tries, and what a complete check has made is a stated set of runs.
+//! search tries, and what a complete check has made is a stated set of runs. `builder` and `env` have the settings, `model`
+//! checks and replays, `search` is the loop of a check, `rising` raises its bound, `error` says why there is no report, and
+//! `laws` what a report means. Everything else stands under loom's paths, handed on from the crates below. Programs and tests
+//! use this crate.
 #![tactic(auto)]
 
 pub mod builder;
@@ -16,15 +19,16 @@ pub mod visitor;
 
 pub use loom_choices::choices::{Choices, ChoicesError, ShownChoices};
 pub use loom_objects::body::Body;
-pub use loom_objects::choice::Choice;
 pub use loom_objects::data::Data;
-pub use loom_objects::failure::Failure;
 pub use loom_objects::operation::{Exchange, Op, Reply, Turn};
-pub use loom_objects::rt::location::Location;
 pub use loom_ops::{
     alloc, cell, explore, fail, future, hint, lazy_static, skip_branch, stop_exploring, sync,
     thread,
 };
+pub use loom_parts::choice::{Choice, ParseChoiceError};
+pub use loom_parts::failure::Failure;
+pub use loom_parts::label::Label;
+pub use loom_parts::location::Location;
 pub use loom_stores::clock::{Clock, NoClock};
 pub use loom_stores::file::FileStore;
 pub use loom_stores::memory::MemoryStore;
@@ -47,6 +51,7 @@ pub mod checkpoint {
 pub mod rt {
     pub use loom_dependence::rt::dependence;
     pub use loom_engine::rt::execution;
-    pub use loom_objects::rt::{location, run};
+    pub use loom_objects::rt::run;
+    pub use loom_parts::location;
     pub use loom_path::rt::{node, path};
 }

@@ -1,7 +1,7 @@
 //! Who is given the runs of a check, and where its checkpoints go, if anywhere.
 ghost use Rattle.std.specs.Prelude.{List, OnOk};
 ghost use Rattle.loom_path.specs.Routes.{chosen};
-ghost use Rattle.loom_objects.specs.declared.choice.Choice.{Choice};
+ghost use Rattle.loom_parts.specs.declared.choice.Choice.{Choice};
 
 use crate::visitor::Visitor;
 use loom_path::rt::path::Path;

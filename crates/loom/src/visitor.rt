@@ -1,5 +1,5 @@
 ghost use Rattle.std.specs.Prelude.{List, OnOk};
-ghost use Rattle.loom_objects.specs.declared.choice.Choice.{Choice};
+ghost use Rattle.loom_parts.specs.declared.choice.Choice.{Choice};
 
 use loom_objects::choice::Choice;
 use std::alloc::AllocError;

@@ -1,4 +1,6 @@
-//! Measures checks: prints what each finds, and on standard error how long it took.
+//! Measures checks: prints what each finds, and on standard error how long it took. `bodies` lists what is measured, by name,
+//! with its settings; a word of the command line picks one. It checks the rows of `loom_row_bodies` by `loom`.
+//! docs/BENCHMARKS.md has what it found. Nothing stands on it.
 #![tactic(auto)]
 
 ghost use Rattle.std.specs.Prelude.{◌≡◌, ◌⊎◌, ◌-◌, ◌*◌, ◌/◌, ◌^◌, IfOk, IfSome, min, max};

@@ -1,8 +1,8 @@
 -- The runs of the example.
 use Rattle.std.proofs.Common.{zero, suc, Some, None, arith, refl}
 use native.Mathlib.Decide.{ℕ_discrete}
-use Rattle.loom_objects.specs.declared.choice.Choice.{Choice}
-use Rattle.loom_objects.specs.declared.choice.Choice.TheVariants.{Thread, Load, Spurious}
+use Rattle.loom_parts.specs.declared.choice.Choice.{Choice}
+use Rattle.loom_parts.specs.declared.choice.Choice.TheVariants.{Thread, Load, Spurious}
 use Rattle.loom_walks.specs.Walk.Choices.{same, same_thread, same_flag, among}
 use Rattle.loom_walks.specs.Walk.Path.{step}
 use Rattle.loom_walks.specs.Trees.Comparing.{same_made, same_ability, same_choices, same_offers}

@@ -1,9 +1,9 @@
 -- A run without a preemption that only a bound of 1 makes.
 use Rattle.std.specs.Prelude.{ℕ, zero, suc, ◌≡◌, true, List, [], ◌∷◌, Some, Err}
 use Rattle.loom_views.specs.declared.rt.failure.FailureKind.TheVariants.{Assertion}
-use Rattle.loom_objects.specs.declared.choice.Choice.{Choice}
-use Rattle.loom_objects.specs.declared.choice.Choice.TheVariants.{Thread}
-use Rattle.loom_objects.specs.declared.rt.thread.Ability.TheVariants.{Able, Unable}
+use Rattle.loom_parts.specs.declared.choice.Choice.{Choice}
+use Rattle.loom_parts.specs.declared.choice.Choice.TheVariants.{Thread}
+use Rattle.loom_parts.specs.declared.ability.Ability.TheVariants.{Able, Unable}
 use Rattle.loom_objects.specs.Question.{Question, WhichThread}
 use Rattle.loom_objects.specs.Tree.{Tree, Gives, Fails, Closes, Asks}
 use Rattle.loom_walks.specs.Trees.Example.{runs_by}

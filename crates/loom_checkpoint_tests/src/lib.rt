@@ -1,4 +1,5 @@
-//! Texts of paths, good and bad. There are tests alone here, so that `loom_checkpoint` is proved without them.
+//! Texts of paths, good and bad: which are read, and why others are refused. There are tests alone here, so that
+//! `loom_checkpoint` is proved without them. Each gives a text to the reader and compares what comes. Nothing stands on it.
 #![tactic(auto)]
 
 #[cfg(test)]

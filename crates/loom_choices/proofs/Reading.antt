@@ -4,10 +4,11 @@ use Rattle.std.proofs.Common.{◌≡◌, ℕ, zero, suc, ◌+◌, ◌-◌, ◌<�
 use Rattle.std.specs.Prelude.{cond, decimal, ◌==◌}
 use Rattle.std.specs.Fmt.{digits}
 use Rattle.std.specs.Option.{option_map}
-use Rattle.loom_objects.specs.declared.choice.Choice.{Choice}
-use Rattle.loom_objects.specs.declared.choice.Choice.TheVariants.{Thread, Load, Spurious}
-use Rattle.loom_choices.specs.Reading.{after_word, AreShort, before, choice_in, choices_in, digit_in, IsShort, is_space, ReadsBackLaw, word_ends}
-use Rattle.loom_choices.specs.Texts.{choice_text, choices_text, others_text}
+use Rattle.loom_parts.specs.declared.choice.Choice.{Choice}
+use Rattle.loom_parts.specs.declared.choice.Choice.TheVariants.{Thread, Load, Spurious}
+use Rattle.loom_parts.specs.Words.{choice_in, choice_text, digit_in}
+use Rattle.loom_choices.specs.Reading.{after_word, AreShort, before, choices_in, IsShort, is_space, ReadsBackLaw, word_ends}
+use Rattle.loom_choices.specs.Texts.{choices_text, others_text}
 
 -- these choices, and then those, if they are
 abbrev pub put_before : List Choice → Option (List Choice) → Option (List Choice)

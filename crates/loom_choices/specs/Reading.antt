@@ -1,25 +1,13 @@
 -- What a text of choices is read as.
-use Rattle.std.specs.Prelude.{ℕ, ◌≡◌, ◌<◌, ◌-◌, ◌||◌, Bool, true, false, cond, ◌==◌, List, [], ◌∷◌, Option, Some, None}
-use Rattle.std.specs.Char.{is_ascii_digit}
-use Rattle.std.specs.Option.{option_map}
-use Rattle.loom_objects.specs.declared.choice.Choice.{Choice}
-use Rattle.loom_objects.specs.declared.choice.Choice.TheVariants.{Thread, Load, Spurious}
+use Rattle.std.specs.Prelude.{ℕ, ◌≡◌, ◌<◌, ◌||◌, Bool, true, cond, ◌==◌, List, [], ◌∷◌, Option, Some, None}
+use Rattle.loom_parts.specs.declared.choice.Choice.{Choice}
+use Rattle.loom_parts.specs.declared.choice.Choice.TheVariants.{Thread, Load, Spurious}
+use Rattle.loom_parts.specs.Words.{choice_in}
 use Rattle.loom_choices.specs.Texts.{choices_text}
 
 -- a space, a tab, or the end of a line
 abbrev pub is_space : ℕ → Bool
 is_space byte = (byte == 32) || (byte == 9) || (byte == 10) || (byte == 13)
-
-abbrev pub digit_in : ℕ → Option ℕ
-digit_in sign = cond (is_ascii_digit sign) (Some (sign - 48)) None
-
--- `t0` to `t9`, `t-`, `l0` to `l9`, `s0`, `s1`: a letter and a sign
-abbrev pub choice_in : ℕ → ℕ → Option Choice
-choice_in letter sign =
-    cond (letter == 116) (cond (sign == 45) (Some (Thread None)) (option_map (λ thread. Thread (Some thread)) (digit_in sign)))
-    (cond (letter == 108) (option_map (λ slot. Load slot) (digit_in sign))
-    (cond (letter == 115) (cond (sign == 48) (Some (Spurious false)) (cond (sign == 49) (Some (Spurious true)) None))
-    None))
 
 -- a word ends here
 abbrev pub word_ends : List ℕ → Bool

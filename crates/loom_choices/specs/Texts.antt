@@ -1,15 +1,8 @@
 -- The choices of a run as a text.
-use Rattle.std.specs.Prelude.{ℕ, List, [], ◌∷◌, ◌++◌, true, false, Some, None, codes, decimal}
+use Rattle.std.specs.Prelude.{ℕ, List, [], ◌∷◌, ◌++◌, codes}
 use Rattle.std.specs.List.{flat_map}
-use Rattle.loom_objects.specs.declared.choice.Choice.{Choice}
-use Rattle.loom_objects.specs.declared.choice.Choice.TheVariants.{Thread, Load, Spurious}
-
-abbrev pub choice_text : Choice → List ℕ
-choice_text (Thread None) = codes "t-"
-choice_text (Thread (Some thread)) = codes "t" ++ decimal thread
-choice_text (Load slot) = codes "l" ++ decimal slot
-choice_text (Spurious false) = codes "s0"
-choice_text (Spurious true) = codes "s1"
+use Rattle.loom_parts.specs.declared.choice.Choice.{Choice}
+use Rattle.loom_parts.specs.Words.{choice_text}
 
 abbrev pub after_space : Choice → List ℕ
 after_space choice = codes " " ++ choice_text choice

@@ -3,8 +3,8 @@ ghost use Rattle.loom_choices.specs.Reading.{choices_in};
 ghost use Rattle.loom_choices.specs.Texts.{choices_text, others_text};
 ghost use Rattle.loom_choices.specs.declared.choices.ChoicesError.TheVariants.{Memory};
 
-use crate::word::{Word, first_word, is_space};
-use loom_objects::choice::Choice;
+use crate::word::{first_word, is_space};
+use loom_parts::choice::Choice;
 use std::alloc::{AllocError, Global};
 use std::fmt;
 use thiserror::Error;
@@ -47,7 +47,7 @@ impl fmt::Display for ShownChoices<'_> {
         match self.0.split_first() {
             None => Ok(()),
             Some((first, others)) => {
-                let first = Word(*first);
+                let first = *first;
                 let others = Others(others);
                 write!(f, "{first}{others}")
             }
@@ -60,7 +60,7 @@ impl fmt::Display for Others<'_> {
 
     fn fmt<W: fmt::Write>(&self, f: &mut fmt::Formatter<W>) -> fmt::Result {
         for choice in self.0 {
-            let word = Word(*choice);
+            let word = *choice;
             write!(f, " {word}")?;
         }
         Ok(())

@@ -1,5 +1,7 @@
 //! The order of accesses to objects, as far as they depend on each other: which accesses a schedule has to try the other way
-//! round.
+//! round. Contracts see a graph with lists of accesses; the code keeps one vector for each thread and the last accesses of
+//! each object, in `rt::dependence`. `laws` says that the two come to the same. It uses the graphs of `loom_views` and their
+//! laws. The execution in `loom_engine` keeps one for each run, and asks it at each schedule.
 #![tactic(auto)]
 
 pub mod laws;

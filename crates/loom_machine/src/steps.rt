@@ -7,7 +7,7 @@ ghost use Rattle.loom_objects.specs.Scene.{HasSlot, KeepsAt};
 ghost use Rattle.loom_objects.specs.Shown.{Comes, Does, Shows, Resumes};
 ghost use Rattle.loom_objects.specs.Steps as rules;
 ghost use Rattle.loom_objects.specs.World.{World};
-ghost use Rattle.loom_objects.specs.declared.choice.Choice.{Choice};
+ghost use Rattle.loom_parts.specs.declared.choice.Choice.{Choice};
 
 use crate::effects::{begin_op, go_on};
 use loom_atomics::atomics;

@@ -18,7 +18,7 @@ use Rattle.loom_objects.specs.declared.rt.thread.Counting.{Counting}
 use Rattle.loom_objects.specs.declared.rt.thread.Counting.TheVariants as counting
 use Rattle.loom_objects.specs.declared.rt.thread.Task.{Task}
 use Rattle.loom_objects.specs.declared.rt.thread.Task.TheVariants as task
-use Rattle.loom_objects.specs.Lent.{kept, value_in, handed_out, lent_to, put_back, where_in}
+use Rattle.loom_parts.specs.Lent.{kept, value_in, handed_out, lent_to, put_back, where_in}
 use Rattle.loom_objects.specs.Rule.{◌>>=◌, check, found}
 use Rattle.loom_objects.specs.World.{World}
 use Rattle.loom_objects.specs.Moves.{an_arc, acquires, is_number, pends, releases, with_new, with_object}

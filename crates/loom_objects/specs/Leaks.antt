@@ -4,15 +4,12 @@ use Rattle.loom_views.specs.declared.rt.failure.FailureKind.{FailureKind}
 use Rattle.loom_views.specs.declared.rt.failure.FailureKind.TheVariants.{LeakArc, LeakMessages, LeakTrack}
 use Rattle.loom_objects.specs.declared.rt.object.Object.{Object}
 use Rattle.loom_objects.specs.declared.rt.object.Object.TheVariants.{Arc, Atomic, AtomicWaker, Cell, Channel, Condvar, Mutex, Notify, RwLock, Track, Wakers}
+use Rattle.loom_parts.specs.Leaks as parts
 
 -- it goes on where there is no leak
 abbrev pub check_leak : Option FailureKind → Result ⊤ FailureKind
 check_leak None = Ok tt
 check_leak (Some kind) = Err kind
-
-abbrev pub first_of : Option FailureKind → Option FailureKind → Option FailureKind
-first_of None next = next
-first_of (Some kind) next = Some kind
 
 -- a list without values
 abbrev pub is_none_left : {A : Type 0} → List A → Bool
@@ -37,5 +34,4 @@ module _ {D : Type 0} where
 
   -- the first leak, in the order in which objects were made
   abbrev pub first_leak : List (Object D) → Option FailureKind
-  first_leak [] = None
-  first_leak (object ∷ objects) = first_of (leak_of object) (first_leak objects)
+  first_leak objects = parts.first_leak leak_of objects

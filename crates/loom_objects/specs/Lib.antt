@@ -1,3 +1,4 @@
+pub use Rattle.loom_parts.specs.Lent
 pub mod Question
 pub mod Asked
 pub mod Tree
@@ -6,9 +7,8 @@ pub mod Failing
 pub mod Operation
 pub mod Accessed
 pub mod Exploring
-pub mod Placed
+pub mod Labels
 pub mod World
-pub mod Lent
 pub mod Lookup
 pub mod Borrowing
 pub mod Uses

@@ -15,7 +15,7 @@ use Rattle.loom_objects.specs.declared.rt.thread.Task.TheVariants as task
 use Rattle.loom_objects.specs.Rule.{◌>>=◌, check, found}
 use Rattle.loom_objects.specs.World.{World}
 use Rattle.loom_objects.specs.declared.rt.sync.Mutex.{Mutex}
-use Rattle.loom_objects.specs.Lent.{kept, value_in, handed_out, handed_back, lent_to, put_back, taken_apart}
+use Rattle.loom_parts.specs.Lent.{kept, value_in, handed_out, handed_back, lent_to, put_back, taken_apart}
 use Rattle.loom_objects.specs.Moves.{a_mutex, acquires, releases, with_object, with_new, is_number, wakes_pending, blocks_pending, pends}
 
 module _ {D : Type 0} where

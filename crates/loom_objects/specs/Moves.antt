@@ -1,5 +1,5 @@
 -- Threads and objects by number, and how threads wait for objects.
-use Rattle.std.specs.Prelude.{ℕ, ◌+◌, ◌==◌, Bool, true, false, [], ◌∷◌, List, ◌++◌, map, cond, nat_lt, slice_get, slice_set, Option, Some, None, Result, Ok, ⊤}
+use Rattle.std.specs.Prelude.{ℕ, ◌+◌, Bool, true, false, [], ◌∷◌, List, ◌++◌, map, cond, nat_lt, slice_get, slice_set, Option, Some, None, Result, Ok, ⊤}
 use Rattle.std.specs.Option.{option_map}
 use Rattle.std.specs.declared.sync.atomic.Ordering.TheVariants.{Release, AcqRel}
 use Rattle.loom_views.specs.declared.rt.failure.FailureKind.{FailureKind}
@@ -29,11 +29,7 @@ use Rattle.loom_objects.specs.Lookup.{atomic_at, mutex_at, rwlock_at, condvar_at
 use Rattle.loom_objects.specs.Uses.{use_of}
 use Rattle.loom_objects.specs.Rule.{◌>>=◌, check, found}
 use Rattle.loom_objects.specs.World.{World}
-
--- the option is this number
-abbrev pub is_number : Option ℕ → ℕ → Bool
-is_number None n = false
-is_number (Some m) n = m == n
+pub use Rattle.loom_parts.specs.Lent.{is_number}
 
 -- the state of a thread that comes to a branch point: one that isn't blocked there stays as it is
 abbrev pub blocked_if : Bool → State → State

@@ -1,9 +1,9 @@
 -- What a run asks for: a thread, a store, or whether a thread wakes without a notification.
 use Rattle.std.specs.Prelude.{ℕ, suc, ◌≡◌, ◌≢◌, ◌≤◌, Bool, true, false, List, [], ◌∷◌, map, ◌⊎◌, length, Option, Some, None, slice_get}
-use Rattle.loom_objects.specs.declared.choice.Choice.{Choice}
-use Rattle.loom_objects.specs.declared.choice.Choice.TheVariants.{Thread, Load, Spurious}
-use Rattle.loom_objects.specs.declared.rt.thread.Ability.{Ability}
-use Rattle.loom_objects.specs.declared.rt.thread.Ability.TheVariants.{Able, Yielding, Unable}
+use Rattle.loom_parts.specs.declared.choice.Choice.{Choice}
+use Rattle.loom_parts.specs.declared.choice.Choice.TheVariants.{Thread, Load, Spurious}
+use Rattle.loom_parts.specs.declared.ability.Ability.{Ability}
+use Rattle.loom_parts.specs.declared.ability.Ability.TheVariants.{Able, Yielding, Unable}
 
 -- A schedule as it is made: the default thread, what each thread offers (the default one is able), and the pairs of a
 -- node and a thread that is about to make an access to an object that isn't ordered after the one made at the node

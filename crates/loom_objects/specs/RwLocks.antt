@@ -20,7 +20,7 @@ use Rattle.loom_objects.specs.Cells.{count_of, is_zero}
 use Rattle.loom_objects.specs.Rule.{◌>>=◌, check, found}
 use Rattle.loom_objects.specs.World.{World}
 use Rattle.loom_objects.specs.Lookup.{rwlock_at}
-use Rattle.loom_objects.specs.Lent.{kept, value_in, handed_out, handed_back, lent_to, put_back, taken_apart}
+use Rattle.loom_parts.specs.Lent.{kept, value_in, handed_out, handed_back, lent_to, put_back, taken_apart}
 use Rattle.loom_objects.specs.Moves.{a_rwlock, acquires, releases, with_object, with_new, is_number, wakes_pending, blocks_pending, blocks_writers, pends}
 
 -- a thread that takes a lock so waits for it

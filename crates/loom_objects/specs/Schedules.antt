@@ -1,12 +1,11 @@
 -- What threads offer to a schedule, and how one is chosen.
-use Rattle.std.specs.Prelude.{ℕ, suc, Bool, true, false, nat_lt, List, [], ◌∷◌, map, cond, Option, Some, None, Result, Ok, slice_get, slice_set}
-use Rattle.std.specs.List.{position_from}
-use Rattle.std.specs.Option.{option_map}
+use Rattle.std.specs.Prelude.{ℕ, List, [], ◌∷◌, map, Option, Some, None, Result, Ok, slice_get, slice_set}
 use Rattle.loom_views.specs.declared.rt.failure.FailureKind.{FailureKind}
 use Rattle.loom_views.specs.declared.rt.failure.FailureKind.TheVariants.{Misuse}
-use Rattle.loom_objects.specs.declared.rt.thread.Ability.{Ability}
-use Rattle.loom_objects.specs.declared.rt.thread.Ability.TheVariants as ability
-use Rattle.loom_objects.specs.declared.rt.thread.Ability.TheVariants.{Able, Unable}
+use Rattle.loom_parts.specs.declared.ability.Ability.{Ability}
+use Rattle.loom_parts.specs.declared.ability.Ability.TheVariants as ability
+use Rattle.loom_parts.specs.declared.ability.Ability.TheVariants.{Able, Unable}
+use Rattle.loom_parts.specs.Defaults.{default_thread}
 use Rattle.loom_objects.specs.declared.rt.thread.Offers.{Offers}
 use Rattle.loom_objects.specs.declared.rt.thread.State.{State}
 use Rattle.loom_objects.specs.declared.rt.thread.State.TheVariants.{Runnable, Blocked, Parked, Sleeping, Yielding, Ended}
@@ -26,40 +25,6 @@ ability_of Sleeping = Unable
 ability_of Ended = Unable
 
 -- Standings: what each thread's state lets it do, and how often it has yielded.
-
-abbrev pub is_able : Option (Ability × ℕ) → Bool
-is_able (Some (Able, yields)) = true
-is_able (Some (ability.Yielding, yields)) = false
-is_able (Some (Unable, yields)) = false
-is_able None = false
-
-abbrev pub is_yielding : Ability × ℕ → Bool
-is_yielding (ability.Yielding, yields) = true
-is_yielding (Able, yields) = false
-is_yielding (Unable, yields) = false
-
--- of the best thread so far, with its yields, and one with so many, the one that has yielded less, the first on a tie
-abbrev pub fewer : Option (ℕ × ℕ) → ℕ → ℕ → ℕ × ℕ
-fewer None t yields = (t, yields)
-fewer (Some (best, least)) t yields = cond (nat_lt yields least) (t, yields) (best, least)
-
-abbrev pub better : Option (ℕ × ℕ) → ℕ → Ability × ℕ → Option (ℕ × ℕ)
-better best t (Able, yields) = Some (fewer best t yields)
-better best t (ability.Yielding, yields) = best
-better best t (Unable, yields) = best
-
--- of those that can go on, from thread t on, the one with the fewest yields, the first on ties
-abbrev pub fewest : Option (ℕ × ℕ) → ℕ → List (Ability × ℕ) → Option ℕ
-fewest best t [] = option_map (λ found. found.0) best
-fewest best t (standing ∷ rest) = fewest (better best t standing) (suc t) rest
-
-abbrev pub or_else : Option ℕ → Option ℕ → Option ℕ
-or_else None other = other
-or_else (Some t) other = Some t
-
--- the active thread if it can go on, or else the one with the fewest yields that can, or else the first that has yielded
-abbrev pub default_thread : ℕ → List (Ability × ℕ) → Option ℕ
-default_thread active standings = cond (is_able (slice_get standings active)) (Some active) (or_else (fewest None 0 standings) (position_from is_yielding 0 standings))
 
 abbrev pub ability_in : Ability × ℕ → Ability
 ability_in standing = standing.0

@@ -9,7 +9,7 @@ use Rattle.loom_objects.specs.declared.rt.object.Object.TheVariants as object
 use Rattle.loom_objects.specs.declared.rt.run.Entry.{Entry}
 use Rattle.loom_objects.specs.declared.rt.run.Entry.TheVariants.{Answered}
 use Rattle.loom_objects.specs.declared.rt.sync.Track.{Track}
-use Rattle.loom_objects.specs.Lent.{kept, value_in, lent_to, put_back, taken_apart}
+use Rattle.loom_parts.specs.Lent.{kept, value_in, lent_to, put_back, taken_apart}
 use Rattle.loom_objects.specs.Rule.{◌>>=◌, check, found}
 use Rattle.loom_objects.specs.World.{World}
 use Rattle.loom_objects.specs.Moves.{a_track, is_number, with_new, with_object}

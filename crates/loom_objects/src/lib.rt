@@ -1,9 +1,14 @@
-//! Operations and their replies; the threads and objects of a run, and the rules of what operations do to them.
+//! What a run is made of: the operations that a body hands over with the replies to them, and the scene of threads and
+//! objects on which they work. The rules of the machine stand in `specs/`, a file for each kind of object: what an operation
+//! does when it is handed over, and when its thread is chosen. The scene's methods are the moves of which effects are made.
+//! It uses `loom_parts` for what is small, `loom_dependence` for accesses and `loom_views` for views. The crates of effects
+//! (`loom_atomics` to `loom_wakers`) work on the scene, and all above speak of its operations and questions.
 #![tactic(auto)]
 
 pub mod body;
-pub mod choice;
 pub mod data;
 pub mod failure;
 pub mod operation;
 pub mod rt;
+
+pub use loom_parts::choice;

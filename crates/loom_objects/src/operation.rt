@@ -1,41 +1,42 @@
 ghost use Rattle.std.specs.Prelude.{◌≡◌};
 ghost use Rattle.loom_objects.specs.Accessed.{accessed};
 ghost use Rattle.loom_objects.specs.Operation.{plain, plain_thread, started, started_thread};
-ghost use Rattle.loom_objects.specs.Placed.{placed};
+ghost use Rattle.loom_objects.specs.Labels as labels;
 
-use crate::rt::location::Location;
 use crate::rt::thread::Name;
+use loom_parts::label::{Label, named, placed};
+use loom_parts::location::Location;
 use loom_views::rt::change::Change;
 use loom_views::rt::num::Numbers;
 use loom_views::sequence::Sequence;
 use std::collections::LinkedList;
 use std::sync::atomic::Ordering;
 
-/// One operation, and the place in the source that it is at, if it names one. `D` is the data type, `S` what a
+/// One operation, and how its body's author calls it, if that was said. `D` is the data type, `S` what a
 /// spawn starts. Objects are named by their numbers, in order of creation.
-#[derive(Drop)]
+#[derive(Debug, Drop)]
 pub enum Op<D, S> {
-    Atomic(AtomicOp, Option<Location>),
+    Atomic(AtomicOp, Option<Label>),
     /// A fence.
-    Fence(Ordering, Option<Location>),
-    Cell(CellOp<D>, Option<Location>),
-    Arc(ArcOp<D>, Option<Location>),
-    Track(TrackOp<D>, Option<Location>),
-    Mutex(MutexOp<D>, Option<Location>),
-    RwLock(RwLockOp<D>, Option<Location>),
-    Condvar(CondvarOp<D>, Option<Location>),
-    Notify(NotifyOp, Option<Location>),
-    Channel(ChannelOp<D>, Option<Location>),
-    Waker(WakerOp, Option<Location>),
-    AtomicWaker(AtomicWakerOp, Option<Location>),
-    Local(LocalOp<D>, Option<Location>),
-    Lazy(LazyOp<D>, Option<Location>),
-    Explore(ExploreOp, Option<Location>),
-    Thread(ThreadOp<D, S>, Option<Location>),
+    Fence(Ordering, Option<Label>),
+    Cell(CellOp<D>, Option<Label>),
+    Arc(ArcOp<D>, Option<Label>),
+    Track(TrackOp<D>, Option<Label>),
+    Mutex(MutexOp<D>, Option<Label>),
+    RwLock(RwLockOp<D>, Option<Label>),
+    Condvar(CondvarOp<D>, Option<Label>),
+    Notify(NotifyOp, Option<Label>),
+    Channel(ChannelOp<D>, Option<Label>),
+    Waker(WakerOp, Option<Label>),
+    AtomicWaker(AtomicWakerOp, Option<Label>),
+    Local(LocalOp<D>, Option<Label>),
+    Lazy(LazyOp<D>, Option<Label>),
+    Explore(ExploreOp, Option<Label>),
+    Thread(ThreadOp<D, S>, Option<Label>),
     /// The body's own assertion failed.
-    Fail(Option<Location>),
+    Fail(Option<Label>),
     /// Code was reached that is never to be.
-    Unreachable(Option<Location>),
+    Unreachable(Option<Label>),
 }
 
 /// The operations of an atomic, whose values are the `u64` that stands for them. A value is cast to the type of what the
@@ -75,7 +76,7 @@ pub struct Exchange {
 }
 
 /// The operations of a cell.
-#[derive(Drop)]
+#[derive(Debug, Drop)]
 pub enum CellOp<D> {
     New(D),
     /// Begins to read, and answers a copy of the data.
@@ -99,7 +100,7 @@ pub enum CellOp<D> {
 }
 
 /// The operations of a counted reference.
-#[derive(Drop)]
+#[derive(Debug, Drop)]
 pub enum ArcOp<D> {
     New(D),
     /// One reference more.
@@ -119,7 +120,7 @@ pub enum ArcOp<D> {
 }
 
 /// The operations of a tracked value.
-#[derive(Drop)]
+#[derive(Debug, Drop)]
 pub enum TrackOp<D> {
     New(D),
     /// A copy of the value.
@@ -135,7 +136,7 @@ pub enum TrackOp<D> {
 }
 
 /// The operations of a mutex.
-#[derive(Drop)]
+#[derive(Debug, Drop)]
 pub enum MutexOp<D> {
     New(D),
     Lock(usize),
@@ -152,7 +153,7 @@ pub enum MutexOp<D> {
 }
 
 /// The operations of a read-write lock.
-#[derive(Drop)]
+#[derive(Debug, Drop)]
 pub enum RwLockOp<D> {
     New(D),
     /// A thread more reads.
@@ -176,7 +177,7 @@ pub enum RwLockOp<D> {
 }
 
 /// The operations of a condition variable.
-#[derive(Drop)]
+#[derive(Debug, Drop)]
 pub enum CondvarOp<D> {
     New,
     /// The condition variable, the mutex that the thread holds, and the data that goes back into it.
@@ -196,7 +197,7 @@ pub enum NotifyOp {
 }
 
 /// The operations of a channel.
-#[derive(Drop)]
+#[derive(Debug, Drop)]
 pub enum ChannelOp<D> {
     /// A channel, with one sender and its receiver.
     New,
@@ -250,7 +251,7 @@ pub enum AtomicWakerOp {
 }
 
 /// The operations of a thread's own values, which are named by keys.
-#[derive(Drop)]
+#[derive(Debug, Drop)]
 pub enum LocalOp<D> {
     /// A copy of the value, if there is one.
     With(usize),
@@ -263,7 +264,7 @@ pub enum LocalOp<D> {
 }
 
 /// The operations of values that are made once a run, which are named by keys.
-#[derive(Drop)]
+#[derive(Debug, Drop)]
 pub enum LazyOp<D> {
     /// A copy of the value, if there is one.
     Get(usize),
@@ -283,7 +284,7 @@ pub enum ExploreOp {
 }
 
 /// A value with its key.
-#[derive(Drop)]
+#[derive(Debug, Drop)]
 pub struct Keyed<D> {
     /// The number that the body names it by.
     pub key: usize,
@@ -292,7 +293,7 @@ pub struct Keyed<D> {
 }
 
 /// A value that was made once in a run.
-#[derive(Drop)]
+#[derive(Debug, Drop)]
 pub struct Lazy<D> {
     /// The number that the body names it by.
     pub key: usize,
@@ -303,7 +304,7 @@ pub struct Lazy<D> {
 }
 
 /// A message of a channel.
-#[derive(Drop)]
+#[derive(Debug, Drop)]
 pub struct Message<D> {
     /// What was sent, in a list of its own, so that it can go behind others without memory.
     pub value: LinkedList<D>,
@@ -312,7 +313,7 @@ pub struct Message<D> {
 }
 
 /// The operations of threads.
-#[derive(Drop)]
+#[derive(Debug, Drop)]
 pub enum ThreadOp<D, S> {
     /// What it runs, and its name.
     Spawn(S, Option<Name>),
@@ -335,7 +336,7 @@ pub enum ThreadOp<D, S> {
 }
 
 /// What an operation answers.
-#[derive(Drop)]
+#[derive(Debug, Drop)]
 pub enum Reply<D> {
     /// The first reply of every thread.
     Start,
@@ -415,7 +416,7 @@ pub enum Reply<D> {
 }
 
 /// Whose turn it is now, or how the run ended.
-#[derive(Drop)]
+#[derive(Debug, Drop)]
 pub enum Turn<D> {
     /// The thread is told the reply to its last operation.
     Reply(u8, Reply<D>),
@@ -426,29 +427,71 @@ pub enum Turn<D> {
 }
 
 impl<D, S> Op<D, S> {
-    /// The operation, at a place in the source.
+    /// The operation, at a place in the source. A name that it was given stays.
     pub fn at(self, location: Location) -> Op<D, S>
-        ensures { result ≡ placed location self }
+        ensures { result ≡ labels.placed location self }
+    {
+        let label = placed(self.label(), location);
+        self.with_label(label)
+    }
+
+    /// The operation, with a name for what it makes. A place that it was given stays (own).
+    pub fn named(self, name: &'static str) -> Op<D, S>
+        ensures { result ≡ labels.named name.entry self }
+    {
+        let label = named(self.label(), name);
+        self.with_label(label)
+    }
+
+    /// How its body's author calls it, if that was said (own).
+    pub fn label(&self) -> Option<Label>
+        ensures { result ≡ labels.label_in self.now }
     {
         match self {
-            Op::Atomic(op, _) => Op::Atomic(op, Some(location)),
-            Op::Fence(order, _) => Op::Fence(order, Some(location)),
-            Op::Cell(op, _) => Op::Cell(op, Some(location)),
-            Op::Arc(op, _) => Op::Arc(op, Some(location)),
-            Op::Track(op, _) => Op::Track(op, Some(location)),
-            Op::Mutex(op, _) => Op::Mutex(op, Some(location)),
-            Op::RwLock(op, _) => Op::RwLock(op, Some(location)),
-            Op::Condvar(op, _) => Op::Condvar(op, Some(location)),
-            Op::Notify(op, _) => Op::Notify(op, Some(location)),
-            Op::Channel(op, _) => Op::Channel(op, Some(location)),
-            Op::Waker(op, _) => Op::Waker(op, Some(location)),
-            Op::AtomicWaker(op, _) => Op::AtomicWaker(op, Some(location)),
-            Op::Local(op, _) => Op::Local(op, Some(location)),
-            Op::Lazy(op, _) => Op::Lazy(op, Some(location)),
-            Op::Explore(op, _) => Op::Explore(op, Some(location)),
-            Op::Thread(op, _) => Op::Thread(op, Some(location)),
-            Op::Fail(_) => Op::Fail(Some(location)),
-            Op::Unreachable(_) => Op::Unreachable(Some(location)),
+            Op::Atomic(_, label) => *label,
+            Op::Fence(_, label) => *label,
+            Op::Cell(_, label) => *label,
+            Op::Arc(_, label) => *label,
+            Op::Track(_, label) => *label,
+            Op::Mutex(_, label) => *label,
+            Op::RwLock(_, label) => *label,
+            Op::Condvar(_, label) => *label,
+            Op::Notify(_, label) => *label,
+            Op::Channel(_, label) => *label,
+            Op::Waker(_, label) => *label,
+            Op::AtomicWaker(_, label) => *label,
+            Op::Local(_, label) => *label,
+            Op::Lazy(_, label) => *label,
+            Op::Explore(_, label) => *label,
+            Op::Thread(_, label) => *label,
+            Op::Fail(label) => *label,
+            Op::Unreachable(label) => *label,
+        }
+    }
+
+    /// The operation with this label, in place of its own (own).
+    pub fn with_label(self, label: Option<Label>) -> Op<D, S>
+        ensures { result ≡ labels.labelled label self }
+    {
+        match self {
+            Op::Atomic(op, _) => Op::Atomic(op, label),
+            Op::Fence(order, _) => Op::Fence(order, label),
+            Op::Cell(op, _) => Op::Cell(op, label),
+            Op::Arc(op, _) => Op::Arc(op, label),
+            Op::Track(op, _) => Op::Track(op, label),
+            Op::Mutex(op, _) => Op::Mutex(op, label),
+            Op::RwLock(op, _) => Op::RwLock(op, label),
+            Op::Condvar(op, _) => Op::Condvar(op, label),
+            Op::Notify(op, _) => Op::Notify(op, label),
+            Op::Channel(op, _) => Op::Channel(op, label),
+            Op::Waker(op, _) => Op::Waker(op, label),
+            Op::AtomicWaker(op, _) => Op::AtomicWaker(op, label),
+            Op::Local(op, _) => Op::Local(op, label),
+            Op::Lazy(op, _) => Op::Lazy(op, label),
+            Op::Explore(op, _) => Op::Explore(op, label),
+            Op::Thread(op, _) => Op::Thread(op, label),
+            Op::Fail(_) => Op::Fail(label),
+            Op::Unreachable(_) => Op::Unreachable(label),
         }
     }
 
@@ -458,26 +501,26 @@ impl<D, S> Op<D, S> {
         ensures started { result.1 ≡ started self }
     {
         match self {
-            Op::Atomic(op, place) => (Op::Atomic(op, place), None),
-            Op::Fence(order, place) => (Op::Fence(order, place), None),
-            Op::Cell(op, place) => (Op::Cell(op, place), None),
-            Op::Arc(op, place) => (Op::Arc(op, place), None),
-            Op::Track(op, place) => (Op::Track(op, place), None),
-            Op::Mutex(op, place) => (Op::Mutex(op, place), None),
-            Op::RwLock(op, place) => (Op::RwLock(op, place), None),
-            Op::Condvar(op, place) => (Op::Condvar(op, place), None),
-            Op::Notify(op, place) => (Op::Notify(op, place), None),
-            Op::Channel(op, place) => (Op::Channel(op, place), None),
-            Op::Waker(op, place) => (Op::Waker(op, place), None),
-            Op::AtomicWaker(op, place) => (Op::AtomicWaker(op, place), None),
-            Op::Local(op, place) => (Op::Local(op, place), None),
-            Op::Lazy(op, place) => (Op::Lazy(op, place), None),
-            Op::Explore(op, place) => (Op::Explore(op, place), None),
-            Op::Fail(place) => (Op::Fail(place), None),
-            Op::Unreachable(place) => (Op::Unreachable(place), None),
-            Op::Thread(op, place) => {
+            Op::Atomic(op, label) => (Op::Atomic(op, label), None),
+            Op::Fence(order, label) => (Op::Fence(order, label), None),
+            Op::Cell(op, label) => (Op::Cell(op, label), None),
+            Op::Arc(op, label) => (Op::Arc(op, label), None),
+            Op::Track(op, label) => (Op::Track(op, label), None),
+            Op::Mutex(op, label) => (Op::Mutex(op, label), None),
+            Op::RwLock(op, label) => (Op::RwLock(op, label), None),
+            Op::Condvar(op, label) => (Op::Condvar(op, label), None),
+            Op::Notify(op, label) => (Op::Notify(op, label), None),
+            Op::Channel(op, label) => (Op::Channel(op, label), None),
+            Op::Waker(op, label) => (Op::Waker(op, label), None),
+            Op::AtomicWaker(op, label) => (Op::AtomicWaker(op, label), None),
+            Op::Local(op, label) => (Op::Local(op, label), None),
+            Op::Lazy(op, label) => (Op::Lazy(op, label), None),
+            Op::Explore(op, label) => (Op::Explore(op, label), None),
+            Op::Fail(label) => (Op::Fail(label), None),
+            Op::Unreachable(label) => (Op::Unreachable(label), None),
+            Op::Thread(op, label) => {
                 let (op, body) = op.split();
-                (Op::Thread(op, place), body)
+                (Op::Thread(op, label), body)
             }
         }
     }

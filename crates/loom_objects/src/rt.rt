@@ -1,7 +1,6 @@
 //! The state of a run.
 pub mod ending;
 pub mod exploring;
-pub mod location;
 mod lookup;
 mod moves;
 pub mod object;
@@ -13,3 +12,5 @@ pub mod sync;
 pub mod thread;
 pub mod uses;
 pub mod values;
+
+pub use loom_parts::location;

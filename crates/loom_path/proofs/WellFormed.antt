@@ -5,10 +5,10 @@ use Rattle.std.specs.List.{position_from}
 use Rattle.std.proofs.lemmas.Bool.{false≢true, eqb-true, eq-eqb}
 use Rattle.std.proofs.lemmas.List.Sums.{sum_by-cons}
 use borrow.Author.Tests.{ltb-true}
-use Rattle.loom_objects.specs.declared.choice.Choice.{Choice}
-use Rattle.loom_objects.specs.declared.choice.Choice.TheVariants.{Thread, Load, Spurious}
-use Rattle.loom_objects.specs.declared.rt.thread.Ability.{Ability}
-use Rattle.loom_objects.specs.declared.rt.thread.Ability.TheVariants.{Able}
+use Rattle.loom_parts.specs.declared.choice.Choice.{Choice}
+use Rattle.loom_parts.specs.declared.choice.Choice.TheVariants.{Thread, Load, Spurious}
+use Rattle.loom_parts.specs.declared.ability.Ability.{Ability}
+use Rattle.loom_parts.specs.declared.ability.Ability.TheVariants.{Able}
 use Rattle.loom_objects.specs.Question.{Made, Among, able_threads, slots_from, slots, asked_store, made_of}
 use Rattle.loom_walks.specs.Walk.Machine.{is_thread}
 use Rattle.loom_walks.specs.Walk.Choices.{same, among, pick}

@@ -1,6 +1,6 @@
 -- What the marks of a schedule do to a path, one thread after the other.
 use Rattle.std.specs.Prelude.{ℕ, suc, ◌≡◌, Bool, true, ◌&&◌, eqb, List, [], ◌∷◌, Option, Some, None, slice_get, IsSomeAnd}
-use Rattle.loom_objects.specs.declared.choice.Choice.{Choice}
+use Rattle.loom_parts.specs.declared.choice.Choice.{Choice}
 use Rattle.loom_objects.specs.Question.{Made}
 use Rattle.loom_walks.specs.Walk.Machine.{is_thread}
 use Rattle.loom_walks.specs.Walk.UnderWay.{mark_with}

@@ -1,11 +1,11 @@
 -- A node of the path as a walk sees it.
 use Rattle.std.specs.Prelude.{ℕ, zero, suc, ◌≡◌, ◌<◌, Bool, true, false, List, [], ◌∷◌, map, length, Option, Some, None, slice_set, slice_index}
 use Rattle.std.specs.List.{position_from}
-use Rattle.loom_objects.specs.declared.choice.Choice.{Choice}
-use Rattle.loom_objects.specs.declared.choice.Choice.TheVariants as choice
-use Rattle.loom_objects.specs.declared.choice.Choice.TheVariants.{Thread}
-use Rattle.loom_objects.specs.declared.rt.thread.Ability.{Ability}
-use Rattle.loom_objects.specs.declared.rt.thread.Ability.TheVariants.{Able, Yielding, Unable}
+use Rattle.loom_parts.specs.declared.choice.Choice.{Choice}
+use Rattle.loom_parts.specs.declared.choice.Choice.TheVariants as choice
+use Rattle.loom_parts.specs.declared.choice.Choice.TheVariants.{Thread}
+use Rattle.loom_parts.specs.declared.ability.Ability.{Ability}
+use Rattle.loom_parts.specs.declared.ability.Ability.TheVariants.{Able, Yielding, Unable}
 use Rattle.loom_objects.specs.Question.{WhichThread, WhetherSpurious, Question, slots, asked_store, made_of}
 use Rattle.loom_walks.specs.Walk.Path.{Status as State, Closed, Skip as Skipped, Pending as ToTry, Active as Chosen, Visited as Tried, Stored, IsAtRest, advance, mark_status}
 use Rattle.loom_walks.specs.Trees.Drive.{value_status}

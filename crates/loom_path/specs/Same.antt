@@ -7,10 +7,10 @@ use Rattle.std.specs.Cmp.Lexicographic.{pointwise, pointwise_decides}
 use Rattle.std.specs.Option.{option_eq}
 use Rattle.std.proofs.lemmas.Bool.Decides.{Decides-and, Decides-like}
 use denote.Enum.Bare.{same_true, true_same}
-use Rattle.loom_objects.specs.contracts.choice.ChoicePartialEq.TheImpl as choices
+use Rattle.loom_parts.specs.contracts.choice.ChoicePartialEq.TheImpl as choices
 use Rattle.loom_objects.specs.contracts.rt.exploring.Exploring as exploring
 use Rattle.loom_objects.specs.contracts.rt.exploring.ExploringPartialEq.TheImpl as switches
-use Rattle.loom_objects.specs.declared.choice.Choice.TheVariants as choice
+use Rattle.loom_parts.specs.declared.choice.Choice.TheVariants as choice
 use Rattle.loom_path.specs.contracts.rt.node.NodePartialEq.TheImpl as nodes
 use Rattle.loom_path.specs.contracts.rt.node.Status as status
 use Rattle.loom_path.specs.contracts.rt.node.StatusPartialEq.TheImpl as statuses

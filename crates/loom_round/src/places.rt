@@ -2,7 +2,8 @@ ghost use Rattle.std.specs.Prelude.{Bool, ◌≡◌, false, None};
 ghost use Rattle.loom_round.specs.Places.{place_in};
 
 use loom_objects::operation::Op;
-use loom_objects::rt::location::Location;
+use loom_parts::label::location_in;
+use loom_parts::location::Location;
 
 /// Keeps the places of the operations that threads have handed over last, or doesn't.
 pub trait Places {
@@ -69,24 +70,5 @@ impl Places for LastPlaces {
 pub fn place_of<D>(op: &Op<D, ()>) -> Option<Location>
     ensures { result ≡ place_in op.now }
 {
-    match op {
-        Op::Atomic(_, place) => *place,
-        Op::Fence(_, place) => *place,
-        Op::Cell(_, place) => *place,
-        Op::Arc(_, place) => *place,
-        Op::Track(_, place) => *place,
-        Op::Mutex(_, place) => *place,
-        Op::RwLock(_, place) => *place,
-        Op::Condvar(_, place) => *place,
-        Op::Notify(_, place) => *place,
-        Op::Channel(_, place) => *place,
-        Op::Waker(_, place) => *place,
-        Op::AtomicWaker(_, place) => *place,
-        Op::Local(_, place) => *place,
-        Op::Lazy(_, place) => *place,
-        Op::Explore(_, place) => *place,
-        Op::Thread(_, place) => *place,
-        Op::Fail(place) => *place,
-        Op::Unreachable(place) => *place,
-    }
+    location_in(op.label())
 }

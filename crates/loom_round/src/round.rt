@@ -10,7 +10,6 @@ use loom_engine::rt::execution::{Execution, Limits};
 use loom_objects::body::Body;
 use loom_objects::failure::{Failure, Stop, failed};
 use loom_objects::operation::{Op, Reply, Turn};
-use loom_objects::rt::location::Location;
 use loom_path::rt::path::Path;
 use loom_views::rt::failure::FailureKind;
 use std::alloc::{AllocError, Global};
@@ -51,7 +50,7 @@ pub fn run<B: Body, P: Places>(
                 Stop::Memory => return Err(AllocError),
                 Stop::Failure(failure) => {
                     let place = places.place(execution.active() as usize);
-                    return Ok(Ending::Failed(located(failure, place)));
+                    return Ok(Ending::Failed(failure.at(place)));
                 }
             },
             Ok(Turn::Ended(value)) => return Ok(Ending::Ended(value)),
@@ -64,16 +63,6 @@ pub fn run<B: Body, P: Places>(
                 reply = Reply::Start;
             }
         }
-    }
-}
-
-/// The failure, at this place.
-fn located(failure: Failure, location: Option<Location>) -> Failure
-    ensures { result ≡ record failure { location = location } }
-{
-    Failure {
-        location,
-        ..failure
     }
 }
 

@@ -1,4 +1,6 @@
-//! The bodies that `loom_rows` checks, by name, and what it prints of a report. The program and its tests stand above.
+//! The bodies that `loom_rows` checks, by name, and what it prints of a report. `rows` has the list of names, `settings` how
+//! each is checked, `bodies` the scripts, `guide` and `updates` bodies with states of their own, and `line` the printed line.
+//! It uses the scripts of `loom_scripts` and the checks of `loom`. The program, its tests and the measurements stand above.
 #![tactic(auto)]
 
 pub mod bodies;

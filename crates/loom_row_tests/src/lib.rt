@@ -1,4 +1,6 @@
-//! What the rows print and find. There are tests alone here, so that nothing else is proved again with them.
+//! What the rows print and find, and that the plain program finds the same. There are tests alone here, so that nothing else
+//! is proved again with them. Each checks named bodies of `loom_row_bodies`, and compares a line, a list of runs, or what
+//! `loom_plain` makes of the same script. Nothing stands on it.
 #![tactic(auto)]
 
 #[cfg(test)]

@@ -1,4 +1,6 @@
-//! Prints what a check of a named row finds.
+//! The program: it prints what a check of a named row finds, and may keep a checkpoint in a file. Its first word is the row's
+//! name, its second, if there is one, the file. The rows and the printed line stand in `loom_row_bodies`, the one crate that
+//! this one uses. Its tests stand in `loom_row_tests`.
 #![tactic(auto)]
 
 use loom_row_bodies::rows;

@@ -1,7 +1,7 @@
 -- The states that a run may be in between two operations, and what holds of locks in all of them.
 use Rattle.std.specs.Prelude.{ℕ, ◌≡◌, ◌&&◌, Bool, true, not, is_some, List, [], ◌∷◌, ◌++◌, Option, Some, None, ⊤}
 use Rattle.std.specs.List.{list_all, list_any}
-use Rattle.loom_objects.specs.declared.choice.Choice.{Choice}
+use Rattle.loom_parts.specs.declared.choice.Choice.{Choice}
 use Rattle.loom_objects.specs.declared.operation.CondvarOp.{CondvarOp}
 use Rattle.loom_objects.specs.declared.operation.CondvarOp.TheVariants as condvar_op
 use Rattle.loom_objects.specs.declared.operation.MutexOp.{MutexOp}
@@ -17,7 +17,7 @@ use Rattle.loom_objects.specs.declared.rt.object.Object.{Object}
 use Rattle.loom_objects.specs.declared.rt.object.Object.TheVariants.{Atomic, Mutex, RwLock, Condvar, Notify, Cell, Arc, Track, Channel, Wakers, AtomicWaker}
 use Rattle.loom_objects.specs.Moves.{is_number}
 use Rattle.loom_objects.specs.RwLocks.{is_unread}
-use Rattle.loom_objects.specs.Schedules.{or_else}
+use Rattle.loom_parts.specs.Defaults.{or_else}
 use Rattle.loom_objects.specs.Tree.{Tree, Gives, Fails, Closes, Asks}
 use Rattle.loom_runs.specs.Courses.{Course, opening}
 use Rattle.loom_runs.specs.Machine.{submit}

@@ -1,4 +1,7 @@
-//! What threads do to one another: spawns, joins, ends, notifiers, parking, yields and values of their own.
+//! What threads do to one another: one function for each rule, with a contract that cites it. `threads` has spawns, joins and
+//! ends, `notifiers` waits for notifications, `parking` tokens and yields, and `values` a thread's own values and those that
+//! are made once a run. It uses the scene and the rules of `loom_objects`. `loom_wakers` wakes by its notifiers, and
+//! `loom_machine` calls both from its tables.
 #![tactic(auto)]
 
 pub mod notifiers;

@@ -1,6 +1,7 @@
-//! Laws of views, of the vectors that show them, and of the choice of a store. A law is the contract of a function that does
-//! nothing; it is stated in `specs/Laws`, `specs/Reaching` or `specs/Moves`, and what the layers above need too in `specs/Kept` of
-//! `loom_views`. `loom_dependence` stands on it.
+//! Laws of views, of the vectors that show them, and of the choice of a store: that the definitions of `loom_views` mean what
+//! one expects of a memory model. A law is the contract of a function that does nothing; it is stated in `specs/Laws`,
+//! `specs/Reaching` or `specs/Moves`, and what the layers above need too in `specs/Kept` of `loom_views`. It stands apart so
+//! that `loom_views` is proved without it. `loom_dependence` stands on it.
 #![tactic(auto)]
 
 ghost use Rattle.loom_view_laws.specs.Ends.{EndLaw};

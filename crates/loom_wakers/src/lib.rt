@@ -1,4 +1,6 @@
-//! What wakers of futures and places for wakers do.
+//! What operations of wakers of futures do to a scene, and of places for wakers: one function for each rule, with a contract
+//! that cites it. `wakers` counts and wakes, `places` registers and takes out, and `turns` is what they share. It uses the
+//! notifiers of `loom_threads`, and the scene and the rules of `loom_objects`. `loom_machine` calls it from its tables.
 #![tactic(auto)]
 
 pub mod places;

@@ -1,6 +1,6 @@
 ghost use Rattle.std.specs.Prelude.{Bool, ◌≡◌, ◌≢◌, ◌≤◌, ◌+◌, ◌<◌, Err, Some, None, true, slice_get, IfOk, OnOk};
 ghost use Rattle.std.specs.List.{Contains};
-ghost use Rattle.loom_objects.specs.declared.choice.Choice.{Choice};
+ghost use Rattle.loom_parts.specs.declared.choice.Choice.{Choice};
 ghost use Rattle.loom_runs.specs.Courses.{Course, opening, used_in};
 ghost use Rattle.loom_engine.specs.Execution.{Notes, ShowsCourse, IsMarked, Starts, takes_turn, Along, AllNeedMemory, MayBeRefused, Submits, itself, over_after};
 ghost use Rattle.loom_dependence.specs.Shown.{ShowsOrder};

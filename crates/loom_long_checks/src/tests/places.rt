@@ -1,6 +1,6 @@
 //! A failure has the place of its operation where it is asked for.
 use loom::model::{Builder, Replay, Report};
-use loom::{Choice, Failure, Location};
+use loom::{Choice, Failure, Label, Location};
 use loom_objects::operation::{MutexOp, Op, ThreadOp};
 use loom_scripts::script::Script;
 use loom_scripts::step::{Step, Value};
@@ -9,19 +9,28 @@ use std::process::Abort;
 use std::rt::Files;
 use std::test::Fail;
 
-const LINE_3: Option<Location> = Some(Location {
-    file: "body.rs",
-    line: 3,
+const LINE_3: Option<Label> = Some(Label {
+    name: Some("list"),
+    location: Some(Location {
+        file: "body.rs",
+        line: 3,
+    }),
 });
 
-const LINE_5: Option<Location> = Some(Location {
-    file: "body.rs",
-    line: 5,
+const LINE_5: Option<Label> = Some(Label {
+    name: None,
+    location: Some(Location {
+        file: "body.rs",
+        line: 5,
+    }),
 });
 
-const LINE_7: Option<Location> = Some(Location {
-    file: "body.rs",
-    line: 7,
+const LINE_7: Option<Label> = Some(Label {
+    name: None,
+    location: Some(Location {
+        file: "body.rs",
+        line: 7,
+    }),
 });
 
 // Main releases a mutex that nobody has locked.
@@ -101,14 +110,14 @@ fn a_failure_has_its_place(rt: HostRuntime) -> Result<(), Fail> {
         ..Builder::new()
     };
     let without = Builder::new();
-    let (misused, failed) = (
-        "an operation was misused",
-        "an assertion of the body failed",
-    );
-    let (at_7, at_5) = (
-        "an operation was misused at body.rs:7",
-        "an assertion of the body failed at body.rs:5",
-    );
+    let misused =
+        "an operation was misused: its object isn't there or was taken out, or its thread may not do this to it now";
+    let failed =
+        "an assertion of the body failed: replay its choices to see how the run came there";
+    let at_7 =
+        "body.rs:7: an operation was misused: its object isn't there or was taken out, or its thread may not do this to it now";
+    let at_5 =
+        "body.rs:5: an assertion of the body failed: replay its choices to see how the run came there";
     fails_by(&rt, &with_places, &RELEASE_UNLOCKED, at_7)?;
     fails_by(&rt, &with_places, &RELEASE_NOWHERE, misused)?;
     fails_by(&rt, &with_places, &CHILD_FAILS, at_5)?;

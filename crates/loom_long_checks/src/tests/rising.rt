@@ -46,12 +46,12 @@ fn the_bound_rises_up_to_a_failure(rt: HostRuntime) -> Result<(), Fail> {
         (
             1,
             1,
-            "failed after 5 runs: an assertion of the body failed\nreplay: t0 l0 t1 t2",
+            "failed after 5 runs: an assertion of the body failed: replay its choices to see how the run came there\nreplay: t0 l0 t1 t2",
         ),
         (
             2,
             1,
-            "failed after 5 runs: an assertion of the body failed\nreplay: t0 l0 t1 t2",
+            "failed after 5 runs: an assertion of the body failed: replay its choices to see how the run came there\nreplay: t0 l0 t1 t2",
         ),
     ];
     for (up_to, last, text) in table {

@@ -8,8 +8,8 @@ use crate::operation::Turn;
 use crate::rt::object::Object;
 use crate::rt::scene::Scene;
 use crate::rt::thread::{State, Thread};
+use loom_parts::leaks::{Leaks, first_leak};
 use loom_views::rt::failure::FailureKind;
-use loom_views::sequence::Sequence;
 
 fn has_ended<D>(thread: &Thread<D>) -> bool
     ensures { result ≡ rules.has_ended thread.now }
@@ -17,34 +17,23 @@ fn has_ended<D>(thread: &Thread<D>) -> bool
     matches!(thread.state, State::Ended)
 }
 
-/// What it would be to leave the object at the run's end.
-fn leak_of<D>(object: &Object<D>) -> Option<FailureKind>
-    ensures { result ≡ leaks.leak_of object.now }
-{
-    match object {
-        Object::Arc(arc) if arc.count > 0 => Some(FailureKind::LeakArc),
-        Object::Arc(_) => None,
-        Object::Track(track) if !track.content.is_taken => Some(FailureKind::LeakTrack),
-        Object::Track(_) => None,
-        Object::Channel(channel) if !channel.is_empty() => Some(FailureKind::LeakMessages),
-        Object::Channel(_) => None,
-        Object::Wakers(wakers) if wakers.count > 0 => Some(FailureKind::LeakArc),
-        Object::Wakers(_) | Object::AtomicWaker(_) => None,
-        Object::Atomic(_) | Object::Mutex(_) | Object::RwLock(_) => None,
-        Object::Condvar(_) | Object::Notify(_) | Object::Cell(_) => None,
-    }
-}
+impl<D> Leaks for Object<D> {
+    ghost leak_of = { λ object. leaks.leak_of object };
 
-/// The first leak, in the order in which objects were made.
-fn first_leak<D>(objects: &Sequence<Object<D>>) -> Option<FailureKind>
-    ensures { result ≡ leaks.first_leak objects.now }
-{
-    for i in 0..objects.len() {
-        if let Some(kind) = leak_of(objects.at(i)) {
-            return Some(kind);
+    fn leak(&self) -> Option<FailureKind> {
+        match self {
+            Object::Arc(arc) if arc.count > 0 => Some(FailureKind::LeakArc),
+            Object::Arc(_) => None,
+            Object::Track(track) if !track.content.is_taken => Some(FailureKind::LeakTrack),
+            Object::Track(_) => None,
+            Object::Channel(channel) if !channel.is_empty() => Some(FailureKind::LeakMessages),
+            Object::Channel(_) => None,
+            Object::Wakers(wakers) if wakers.count > 0 => Some(FailureKind::LeakArc),
+            Object::Wakers(_) | Object::AtomicWaker(_) => None,
+            Object::Atomic(_) | Object::Mutex(_) | Object::RwLock(_) => None,
+            Object::Condvar(_) | Object::Notify(_) | Object::Cell(_) => None,
         }
     }
-    None
 }
 
 impl<D: Drop> Scene<D> {

@@ -11,6 +11,7 @@ use crate::rt::object::Object;
 use crate::rt::scene::Scene;
 use crate::rt::sync::{Atomic, Cell};
 use crate::rt::thread::Thread;
+use loom_parts::telling::tell;
 use loom_views::rt::MAX_ATOMIC_HISTORY;
 use loom_views::rt::atomic::Reader;
 use loom_views::rt::failure::FailureKind;
@@ -169,8 +170,7 @@ impl<D: Drop> Scene<D> {
         ensures views { (p : Points) → ShowsViews p self.old.views → ShowsViews (table.points_after_join p thread self.old.active) self.new.views }
         ensures rest { self.new ≡ record self.old { views = self.new.views } }
     {
-        self.views
-            .join_thread(thread as usize, self.active as usize);
+        tell(&mut self.views, thread, self.active);
     }
 
     /// Who waits, if any thread does, takes in the active thread's view.

@@ -3,13 +3,13 @@ mod arcs;
 mod cells;
 mod channels;
 mod condvars;
-mod lending;
 mod mutexes;
 mod notifiers;
 mod rwlocks;
 
 use crate::operation::Message;
 use arrayvec::ArrayVec;
+pub use loom_parts::lent::Lent;
 use loom_views::rt::MAX_THREADS;
 use loom_views::rt::num::Numbers;
 use std::collections::LinkedList;
@@ -23,17 +23,6 @@ pub struct Atomic {
     pub is_taken: bool,
     /// The thread that has a mutation of it open.
     pub opened: Option<u8>,
-}
-
-/// Data that an object hands out and takes back.
-#[derive(Drop)]
-pub struct Lent<D> {
-    /// The data, while nobody has it.
-    pub value: Option<D>,
-    /// The thread that has the data out, without holding the object.
-    pub lent: Option<u8>,
-    /// Whether it was taken apart.
-    pub is_taken: bool,
 }
 
 /// A mutex (loom's `rt/mutex.rs`).

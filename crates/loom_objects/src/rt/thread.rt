@@ -1,4 +1,5 @@
 use crate::operation::{AtomicOp, Keyed, Message};
+pub use loom_parts::ability::Ability;
 use loom_views::rt::MAX_THREADS;
 use loom_views::sequence::Sequence;
 use std::collections::LinkedList;
@@ -166,17 +167,6 @@ pub enum Task<D> {
     Register(usize, usize),
     /// It takes the waker out of the place of this number.
     TakeWaker(Taking, usize),
-}
-
-/// What a thread offers to a schedule.
-#[derive(Clone, Copy, Debug, PartialEq, Eq)]
-pub enum Ability {
-    /// It can go on.
-    Able,
-    /// It is in the yield state.
-    Yielding,
-    /// It can't go on, or isn't there.
-    Unable,
 }
 
 /// A thread of a run.

@@ -5,9 +5,9 @@ use Rattle.std.specs.List.{position_from}
 use Rattle.std.specs.Option.{option_map}
 use mathlib.Core.Path.{fun_ext}
 use native.Mathlib.Decide.{ℕ_discrete}
-use Rattle.loom_objects.specs.declared.choice.Choice.{Choice}
-use Rattle.loom_objects.specs.declared.choice.Choice.TheVariants.{Thread, Load, Spurious}
-use Rattle.loom_objects.specs.declared.rt.thread.Ability.{Ability}
+use Rattle.loom_parts.specs.declared.choice.Choice.{Choice}
+use Rattle.loom_parts.specs.declared.choice.Choice.TheVariants.{Thread, Load, Spurious}
+use Rattle.loom_parts.specs.declared.ability.Ability.{Ability}
 use Rattle.loom_objects.specs.Question.{Among, WhichThread, able_threads, made_of}
 use Rattle.loom_walks.specs.Walk.Machine.{is_thread}
 use Rattle.loom_walks.specs.Walk.Choices.{same, pick}

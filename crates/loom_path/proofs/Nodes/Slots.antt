@@ -5,8 +5,8 @@ use Rattle.std.proofs.Math.Bool.{beq}
 use lib.Pointwise.{pointwise}
 use Rattle.std.specs.List.{Contains}
 use Rattle.std.proofs.lemmas.Grind.{common_steps}
-use Rattle.loom_objects.specs.declared.choice.Choice.{Choice}
-use Rattle.loom_objects.specs.declared.choice.Choice.TheVariants.{Load}
+use Rattle.loom_parts.specs.declared.choice.Choice.{Choice}
+use Rattle.loom_parts.specs.declared.choice.Choice.TheVariants.{Load}
 use Rattle.loom_objects.specs.Question.{Made, Among, made_of}
 use Rattle.loom_walks.specs.Walk.Path.{fresh, advance}
 use Rattle.loom_walks.specs.Trees.Meeting.{every_at}

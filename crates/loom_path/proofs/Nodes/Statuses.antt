@@ -2,7 +2,7 @@
 use Rattle.std.proofs.Common.{◌≡◌, ℕ, zero, suc, ◌+◌, ◌<◌, Bool, true, false, List, [], ◌∷◌, map, Option, Some, None, refl, ap, sym, ◌∙◌, subst, arith}
 use Rattle.std.specs.Prelude.{slice_get, slice_set, cond, IsSomeAnd}
 use Rattle.std.specs.List.{position_from}
-use Rattle.loom_objects.specs.declared.rt.thread.Ability.TheVariants.{Able}
+use Rattle.loom_parts.specs.declared.ability.Ability.TheVariants.{Able}
 use Rattle.loom_walks.specs.Walk.Path.{Status as State, Closed, Skip as Skipped, Pending as ToTry, Active as Chosen, Visited as Tried}
 use Rattle.loom_path.specs.declared.rt.node.Status.{Status}
 use Rattle.loom_path.specs.declared.rt.node.Status.TheVariants.{Disabled, Skip, Yield, Pending, Active, Visited}

@@ -5,7 +5,7 @@ use Rattle.loom_views.specs.declared.rt.failure.FailureKind.{FailureKind}
 use Rattle.loom_views.specs.declared.rt.failure.FailureKind.TheVariants.{TooManyVersions}
 use Rattle.loom_dependence.specs.Dependence.{Order, used_by}
 use Rattle.loom_dependence.specs.declared.rt.dependence.Use.{Use}
-use Rattle.loom_objects.specs.declared.choice.Choice.TheVariants.{Thread}
+use Rattle.loom_parts.specs.declared.choice.Choice.TheVariants.{Thread}
 use Rattle.loom_objects.specs.Tree.{Tree, Gives, Fails, Closes, Asks, ◌>>=◌, came}
 use Rattle.loom_objects.specs.Uses.{use_at}
 use Rattle.loom_objects.specs.World.{World}

@@ -4,8 +4,8 @@ use Rattle.std.specs.Prelude.{slice_get, Result, Ok, Err, ⊤}
 use Rattle.loom_views.specs.declared.rt.failure.FailureKind.{FailureKind}
 use Rattle.loom_views.specs.declared.rt.failure.FailureKind.TheVariants.{Deadlock, Misuse, TooManySteps}
 use Rattle.loom_dependence.specs.Dependence.{Order}
-use Rattle.loom_objects.specs.declared.choice.Choice.{Choice}
-use Rattle.loom_objects.specs.declared.choice.Choice.TheVariants as choice
+use Rattle.loom_parts.specs.declared.choice.Choice.{Choice}
+use Rattle.loom_parts.specs.declared.choice.Choice.TheVariants as choice
 use Rattle.loom_objects.specs.declared.operation.CondvarOp.{CondvarOp}
 use Rattle.loom_objects.specs.declared.operation.CondvarOp.TheVariants as condvar_op
 use Rattle.loom_objects.specs.declared.operation.MutexOp.{MutexOp}

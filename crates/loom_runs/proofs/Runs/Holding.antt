@@ -6,7 +6,7 @@ use Rattle.std.specs.List.{list_any}
 use Rattle.loom_objects.specs.declared.operation.Turn.{Turn}
 use Rattle.loom_objects.specs.declared.operation.Turn.TheVariants as turn
 use Rattle.loom_objects.specs.Moves.{is_number}
-use Rattle.loom_objects.specs.Schedules.{or_else}
+use Rattle.loom_parts.specs.Defaults.{or_else}
 use Rattle.loom_runs.specs.Courses.{Course, opening}
 use Rattle.loom_runs.specs.Histories.{ComesTo, Event, IsHistory, MayFollow, OneHolderLaw, given_out, gives_back, locked_by, locked_by_turn, opened_by, returned_by}
 use Rattle.loom_runs.specs.Machine.{submit}

@@ -18,7 +18,7 @@ use Rattle.loom_objects.specs.declared.operation.Reply.{Reply}
 use Rattle.loom_objects.specs.declared.operation.Reply.TheVariants as reply
 use Rattle.loom_objects.specs.declared.operation.Turn.{Turn}
 use Rattle.loom_objects.specs.declared.operation.Turn.TheVariants as turn
-use Rattle.loom_objects.specs.declared.rt.location.Location.{Location}
+use Rattle.loom_parts.specs.declared.label.Label.{Label}
 use Rattle.loom_objects.specs.declared.rt.run.Entry.{Entry}
 use Rattle.loom_objects.specs.declared.rt.run.Entry.TheVariants as entry
 use Rattle.loom_objects.specs.declared.rt.run.Passed.TheVariants as passed
@@ -364,11 +364,11 @@ module _ {D : Type 0} where
   abbrev pub Nowhere : World D → Type 0
   Nowhere w = ⊥
 
-  init_event : (P : World D → Type 0) (key : ℕ) (value : D) (place : Option Location) (c : Course D)
+  init_event : (P : World D → Type 0) (key : ℕ) (value : D) (label : Option Label) (c : Course D)
       → ((w : World D) → w.threads ≡ c.world.threads → w.lazies ≡ c.world.lazies → are_open w ≡ true → Answers (EnteredTo Nowhere (Saying P)) (makes_lazy key value (lazy_at key w) w))
-      → Keeps (InWorld (Saying P)) (submit (op.Lazy (lazy_op.Init key value) place) c)
-  init_event P key value place c h =
-      event_kept Nowhere (Saying P) (λ t w k. absurd k) (λ w k. absurd k) (op.Lazy (lazy_op.Init key value) place) c (by_steps (nat_lt 0 c.world.steps_left))
+      → Keeps (InWorld (Saying P)) (submit (op.Lazy (lazy_op.Init key value) label) c)
+  init_event P key value label c h =
+      event_kept Nowhere (Saying P) (λ t w k. absurd k) (λ w k. absurd k) (op.Lazy (lazy_op.Init key value) label) c (by_steps (nat_lt 0 c.world.steps_left))
     where
       fewer : World D
       fewer = record c.world { steps_left = c.world.steps_left - 1 }

@@ -43,7 +43,7 @@ use Rattle.loom_objects.specs.declared.operation.TrackOp.{TrackOp}
 use Rattle.loom_objects.specs.declared.operation.TrackOp.TheVariants as track_op
 use Rattle.loom_objects.specs.declared.operation.WakerOp.{WakerOp}
 use Rattle.loom_objects.specs.declared.operation.WakerOp.TheVariants as waker_op
-use Rattle.loom_objects.specs.declared.rt.location.Location.{Location}
+use Rattle.loom_parts.specs.declared.label.Label.{Label}
 use Rattle.loom_objects.specs.declared.rt.object.Object.{Object}
 use Rattle.loom_objects.specs.declared.rt.object.Object.TheVariants as object
 use Rattle.loom_objects.specs.declared.rt.run.Entry.{Entry}
@@ -664,7 +664,7 @@ module _ {D : Type 0} (R : World D → Type 0) (k : KeptByMoves R) where
   -- ---- each operation, and each effect, but for those that the property says itself
 
   pub begins_moves : (todo : Op D ⊤) (w : World D) → ((value : D) → Answers (Within R) (finish value w))
-      → ((asked : ChannelOp D) (place : Option Location) → todo ≡ op.Channel asked place → Answers (Within R) (channel_begins asked w)) → ((todo : LazyOp D) → Answers (Within R) (lazy_begins todo w)) → R w → Answers (Within R) (op_begins todo w)
+      → ((asked : ChannelOp D) (label : Option Label) → todo ≡ op.Channel asked label → Answers (Within R) (channel_begins asked w)) → ((todo : LazyOp D) → Answers (Within R) (lazy_begins todo w)) → R w → Answers (Within R) (op_begins todo w)
   begins_moves (op.Atomic todo place) w f c l s = atomic_moves todo w s
   begins_moves (op.Fence order place) w f c l s = fence_moves order w s
   begins_moves (op.Cell todo place) w f c l s = cell_moves todo w s

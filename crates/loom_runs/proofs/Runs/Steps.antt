@@ -3,8 +3,8 @@ use Rattle.std.proofs.Common.{◌≤◌, ℕ, zero, suc, Bool, true, false, List
 use Rattle.std.specs.Prelude.{Result, Ok, Err, ⊤}
 use Rattle.loom_views.specs.declared.rt.failure.FailureKind.{FailureKind}
 use Rattle.loom_views.specs.declared.rt.failure.FailureKind.TheVariants.{Deadlock, ExploreSwitch, Misuse}
-use Rattle.loom_objects.specs.declared.choice.Choice.{Choice}
-use Rattle.loom_objects.specs.declared.choice.Choice.TheVariants as choice
+use Rattle.loom_parts.specs.declared.choice.Choice.{Choice}
+use Rattle.loom_parts.specs.declared.choice.Choice.TheVariants as choice
 use Rattle.loom_objects.specs.declared.operation.ExploreOp.{ExploreOp}
 use Rattle.loom_objects.specs.declared.operation.ExploreOp.TheVariants as explore_op
 use Rattle.loom_objects.specs.declared.operation.Op.{Op}

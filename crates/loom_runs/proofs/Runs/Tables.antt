@@ -21,7 +21,8 @@ use Rattle.loom_objects.specs.Atomics.{accesses, store, opens}
 use Rattle.loom_objects.specs.Effects.{chosen, counted, op_begins, takes_effect}
 use Rattle.loom_objects.specs.Condvars.{falls_asleep}
 use Rattle.loom_objects.specs.Ending.{end_of}
-use Rattle.loom_objects.specs.Leaks.{check_leak, first_leak, first_of, is_none_left, leak_of}
+use Rattle.loom_objects.specs.Leaks.{check_leak, first_leak, is_none_left, leak_of}
+use Rattle.loom_parts.specs.Leaks.{first_of}
 use Rattle.loom_objects.specs.Moves.{takes_result}
 use Rattle.loom_objects.specs.Rule.{◌>>=◌}
 use Rattle.loom_objects.specs.Schedules.{chooses}

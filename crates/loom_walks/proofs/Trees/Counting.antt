@@ -2,7 +2,7 @@
 use Rattle.std.proofs.Common.{◌≡◌, ◌≢◌, ◌⊎◌, ℕ, zero, suc, ◌<◌, ◌≤◌, Bool, true, false, ◌&&◌, ◌||◌, not, List, [], ◌∷◌, ◌++◌, length, Option, Some, None, refl, ap, sym, ◌∙◌, subst, inl, inr, arith, append_assoc}
 use Rattle.std.specs.Prelude.{slice_get, cond, nat_lt, IsSomeAnd, Result, Ok, Err}
 use Rattle.std.proofs.lemmas.Option.{slice_get_within}
-use Rattle.loom_objects.specs.declared.choice.Choice.{Choice}
+use Rattle.loom_parts.specs.declared.choice.Choice.{Choice}
 use Rattle.loom_objects.specs.Question.{Made, Among, Question, made_of}
 use Rattle.loom_walks.specs.Walk.Machine.{Machine, is_thread}
 use Rattle.loom_walks.specs.Walk.Choices.{among, pick}

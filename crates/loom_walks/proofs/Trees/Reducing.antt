@@ -1,7 +1,7 @@
 -- A reduced search comes to no other runs than the search with the same bound that isn't reduced.
 use Rattle.std.proofs.Common.{◌≡◌, ◌≢◌, ◌⊎◌, ℕ, zero, suc, ◌<◌, ◌≤◌, Bool, true, false, ◌&&◌, not, List, [], ◌∷◌, ◌++◌, length, Option, Some, None, refl, sym, ◌∙◌, subst, inl, inr, arith}
 use Rattle.std.specs.Prelude.{cond}
-use Rattle.loom_objects.specs.declared.choice.Choice.{Choice}
+use Rattle.loom_parts.specs.declared.choice.Choice.{Choice}
 use Rattle.loom_objects.specs.Question.{Made}
 use Rattle.loom_objects.specs.Tree.{Tree}
 use Rattle.loom_walks.specs.Walk.Machine.{Machine, is_thread, extend, run}

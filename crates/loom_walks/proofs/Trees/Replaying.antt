@@ -2,7 +2,7 @@
 use Rattle.std.proofs.Common.{◌≡◌, ℕ, zero, suc, ◌<◌, ◌≤◌, Bool, true, false, ◌&&◌, List, [], ◌∷◌, ◌++◌, length, Option, Some, None, refl, ap, ap₂, sym, ◌∙◌, subst, arith, append-nil, length-append}
 use Rattle.std.specs.Prelude.{slice_get, cond, nat_lt, nat_le, Result, Ok, Err}
 use Rattle.std.proofs.lemmas.Option.{slice_get_past}
-use Rattle.loom_objects.specs.declared.choice.Choice.{Choice}
+use Rattle.loom_parts.specs.declared.choice.Choice.{Choice}
 use Rattle.loom_objects.specs.Question.{Made, Among, Question, made_of}
 use Rattle.loom_walks.specs.Walk.Machine.{Machine, is_thread, run}
 use Rattle.loom_walks.specs.Walk.Choices.{same, among, pick}

@@ -2,7 +2,7 @@
 use Rattle.std.proofs.Common.{◌≡◌, ◌⊎◌, ℕ, zero, suc, ◌+◌, ◌<◌, ◌≤◌, Bool, List, [], ◌∷◌, ◌++◌, length, Some, None, refl, ap, ap₂, sym, ◌∙◌, subst, inl, inr, arith, append-nil, length-append}
 use Rattle.std.specs.Prelude.{slice_get, cond, Result, Ok, Err}
 use Rattle.std.proofs.lemmas.Option.{slice_get_past}
-use Rattle.loom_objects.specs.declared.choice.Choice.{Choice}
+use Rattle.loom_parts.specs.declared.choice.Choice.{Choice}
 use Rattle.loom_objects.specs.Question.{Made, Among, Question, made_of}
 use Rattle.loom_objects.specs.Tree.{Tree, Gives, Fails, Closes, Asks}
 use Rattle.loom_views.specs.declared.rt.failure.FailureKind.{FailureKind}

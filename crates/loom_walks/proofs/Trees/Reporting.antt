@@ -1,7 +1,7 @@
 -- What a check from a path without nodes reports.
 use Rattle.std.proofs.Common.{◌≡◌, ◌≢◌, ℕ, zero, suc, false, List, [], ◌∷◌, ◌++◌, Some, None, refl, sym, subst}
 use Rattle.std.specs.Prelude.{Err}
-use Rattle.loom_objects.specs.declared.choice.Choice.{Choice}
+use Rattle.loom_parts.specs.declared.choice.Choice.{Choice}
 use Rattle.loom_objects.specs.Question.{Among, made_of}
 use Rattle.loom_objects.specs.Tree.{Tree, Gives, Fails, Closes, Asks}
 use Rattle.loom_views.specs.declared.rt.failure.FailureKind.{FailureKind}

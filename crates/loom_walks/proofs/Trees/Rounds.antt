@@ -1,7 +1,7 @@
 -- Rounds one after another, as a loop makes them, and the path after each drive.
 use Rattle.std.proofs.Common.{◌≡◌, List, [], ◌∷◌, ◌++◌, Some, None, ap, sym, ◌∙◌}
 use Rattle.std.specs.Prelude.{Result, Ok}
-use Rattle.loom_objects.specs.declared.choice.Choice.{Choice}
+use Rattle.loom_parts.specs.declared.choice.Choice.{Choice}
 use Rattle.loom_objects.specs.Tree.{Tree}
 use Rattle.loom_views.specs.declared.rt.failure.FailureKind.{FailureKind}
 use Rattle.loom_walks.specs.Walk.Path.{Stored, choices, node_at, IsResting, after_run, step}

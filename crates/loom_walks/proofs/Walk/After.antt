@@ -1,6 +1,6 @@
 -- The path when its run is over: its own nodes with the run's marks, and then new ones.
 use Rattle.std.proofs.Common.{◌≡◌, ◌⊎◌, ℕ, zero, suc, ◌+◌, List, [], ◌∷◌, ◌++◌, length, Option, Some, None, refl, ap, sym, ◌∙◌, subst, inl, inr, arith, append_assoc, append-nil}
-use Rattle.loom_objects.specs.declared.choice.Choice.{Choice}
+use Rattle.loom_parts.specs.declared.choice.Choice.{Choice}
 use Rattle.loom_walks.specs.Walk.Choices.{same, pick}
 use Rattle.loom_objects.specs.Question.{Made}
 use Rattle.loom_walks.specs.Walk.Machine.{Machine, extend, run}

@@ -1,6 +1,6 @@
 -- A walk whose runs are made by others tries each option that is to be tried.
 use Rattle.std.proofs.Common.{◌≡◌, ◌⊎◌, true, List, [], ◌∷◌, ◌++◌, Some, refl, ap, ap₂, sym, ◌∙◌, inl, inr, append_assoc, append-nil, Bool, Option, None, subst, ◌≢◌}
-use Rattle.loom_objects.specs.declared.choice.Choice.{Choice}
+use Rattle.loom_parts.specs.declared.choice.Choice.{Choice}
 use Rattle.loom_walks.specs.Walk.Path.{step, Skip, Pending, Visited, Stored, choices, node_at, IsAtRest, choose}
 use Rattle.loom_objects.specs.Question.{Made}
 use Rattle.loom_walks.specs.Walk.Lists.{Begins}

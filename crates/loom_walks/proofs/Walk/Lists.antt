@@ -1,6 +1,6 @@
 -- Lists that are split in two ways, and the nodes of a path by the choices before them.
 use Rattle.std.proofs.Common.{◌≡◌, List, [], ◌∷◌, ◌++◌, Some, None, refl, ap, ap₂, sym, ◌∙◌, append_assoc}
-use Rattle.loom_objects.specs.declared.choice.Choice.{Choice}
+use Rattle.loom_parts.specs.declared.choice.Choice.{Choice}
 use Rattle.loom_walks.specs.Walk.Choices.{same, pick}
 use Rattle.loom_walks.specs.Walk.Path.{Stored, choices, node_at}
 

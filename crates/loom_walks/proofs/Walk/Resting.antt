@@ -1,6 +1,6 @@
 -- Nodes stay well formed when they are made, marked and chosen.
 use Rattle.std.proofs.Common.{◌≡◌, ◌⊎◌, ℕ, Bool, true, false, ◌&&◌, List, length, Some, refl, ap, sym, ◌∙◌, subst, inl, inr}
-use Rattle.loom_objects.specs.declared.choice.Choice.{Choice}
+use Rattle.loom_parts.specs.declared.choice.Choice.{Choice}
 use Rattle.loom_objects.specs.Question.{Made, Among}
 use Rattle.loom_walks.specs.Walk.Machine.{Machine, is_thread}
 use Rattle.loom_walks.specs.Walk.Sound.{IsMachine}

@@ -1,6 +1,6 @@
 -- One round, and rounds that are stopped.
 use Rattle.std.proofs.Common.{◌≡◌, ◌↔◌, List, [], Option, Some, None, refl, sym, subst, inl, inr}
-use Rattle.loom_objects.specs.declared.choice.Choice.{Choice}
+use Rattle.loom_parts.specs.declared.choice.Choice.{Choice}
 use Rattle.loom_walks.specs.Walk.Runs.{Reachable, by_default, by_alternative as by_other}
 use Rattle.loom_walks.specs.Walk.Path.{Stored, IsResting, node_at, step, next, after_run, Rest, by_path, by_pending, by_alternative}
 use Rattle.loom_walks.specs.Walk.Walks.{run_of, LeavesRest, RoundLaw, FreshLaw, LeastLaw}

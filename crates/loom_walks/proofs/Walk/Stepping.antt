@@ -1,6 +1,6 @@
 -- The deepest node that can go on does.
 use Rattle.std.proofs.Common.{◌≡◌, true, List, [], ◌∷◌, ◌++◌, Option, Some, None, refl, ap, sym, ◌∙◌, subst}
-use Rattle.loom_objects.specs.declared.choice.Choice.{Choice}
+use Rattle.loom_parts.specs.declared.choice.Choice.{Choice}
 use Rattle.loom_walks.specs.Walk.Path.{Pending, Stored, choices, node_at, choose, first_pending, advance, step}
 use Rattle.loom_walks.proofs.Walk.Lists.{node_on}
 use Rattle.loom_walks.proofs.Walk.Statuses.{goes_to_pending, first_is_pending}

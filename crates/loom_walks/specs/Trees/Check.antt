@@ -1,6 +1,6 @@
 -- What a check makes of a tree of runs: rounds, each of which drives a path through the tree and steps to the next.
 use Rattle.std.specs.Prelude.{◌≡◌, false, List, [], ◌∷◌, Some, None, Result, Ok, Err, ◌⊎◌, take, length, ◌≤◌}
-use Rattle.loom_objects.specs.declared.choice.Choice.{Choice}
+use Rattle.loom_parts.specs.declared.choice.Choice.{Choice}
 use Rattle.loom_walks.specs.Walk.Machine.{run}
 use Rattle.loom_walks.specs.Walk.Runs.{Reachable}
 use Rattle.loom_walks.specs.Walk.Path.{Stored, choices, IsResting, Rest, step, node_at, IsAtRest}

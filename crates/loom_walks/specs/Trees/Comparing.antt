@@ -1,9 +1,9 @@
 -- Nodes as they are made can be told apart.
 use Rattle.std.specs.Prelude.{◌≡◌, Bool, List, [], ◌∷◌}
 use mathlib.Core.Path.{ap, refl, ◌∙◌}
-use Rattle.loom_objects.specs.declared.choice.Choice.{Choice}
-use Rattle.loom_objects.specs.declared.rt.thread.Ability.{Ability}
-use Rattle.loom_objects.specs.declared.rt.thread.Ability.TheVariants.{Able, Yielding, Unable}
+use Rattle.loom_parts.specs.declared.choice.Choice.{Choice}
+use Rattle.loom_parts.specs.declared.ability.Ability.{Ability}
+use Rattle.loom_parts.specs.declared.ability.Ability.TheVariants.{Able, Yielding, Unable}
 use Rattle.loom_objects.specs.Question.{Made}
 use Rattle.loom_walks.specs.Walk.Choices.{same, same_flag}
 

@@ -1,6 +1,6 @@
 -- How a path drives through a tree of runs.
 use Rattle.std.specs.Prelude.{ℕ, zero, ◌+◌, ◌≡◌, Bool, true, false, ◌&&◌, cond, List, [], ◌∷◌, ◌++◌, map, take, length, nat_lt, nat_le, Option, Some, None, Result, Ok, Err, slice_get}
-use Rattle.loom_objects.specs.declared.choice.Choice.{Choice}
+use Rattle.loom_parts.specs.declared.choice.Choice.{Choice}
 use Rattle.loom_objects.specs.Question.{Made, Question, made_of}
 use Rattle.loom_walks.specs.Walk.Machine.{is_thread, run}
 use Rattle.loom_walks.specs.Walk.Choices.{same, among, pick}

@@ -1,9 +1,9 @@
 -- A small tree of runs, and the rounds that a path makes of it.
 use Rattle.std.specs.Prelude.{ℕ, zero, suc, ◌≡◌, true, false, List, [], ◌∷◌, Some, None}
-use Rattle.loom_objects.specs.declared.choice.Choice.{Choice}
-use Rattle.loom_objects.specs.declared.choice.Choice.TheVariants.{Thread, Spurious}
+use Rattle.loom_parts.specs.declared.choice.Choice.{Choice}
+use Rattle.loom_parts.specs.declared.choice.Choice.TheVariants.{Thread, Spurious}
 use Rattle.loom_walks.specs.Walk.Path.{Stored, choices, step}
-use Rattle.loom_objects.specs.declared.rt.thread.Ability.TheVariants.{Able, Unable}
+use Rattle.loom_parts.specs.declared.ability.Ability.TheVariants.{Able, Unable}
 use Rattle.loom_objects.specs.Question.{Question, WhichThread, WhetherSpurious}
 use Rattle.loom_objects.specs.Tree.{Tree, Gives, Closes, Asks}
 use Rattle.loom_walks.specs.Trees.Sound.{IsSoundTree}

@@ -1,6 +1,6 @@
 -- A tree of runs as the machine that a walk explores.
 use Rattle.std.specs.Prelude.{ℕ, zero, suc, Bool, true, false, not, ◌&&◌, ◌||◌, cond, List, [], ◌∷◌, ◌++◌, Option, Some, None, nat_lt}
-use Rattle.loom_objects.specs.declared.choice.Choice.{Choice}
+use Rattle.loom_parts.specs.declared.choice.Choice.{Choice}
 use Rattle.loom_objects.specs.Question.{Made, Question, made_of}
 use Rattle.loom_walks.specs.Walk.Machine.{Machine, is_thread}
 use Rattle.loom_walks.specs.Walk.Choices.{same, pick}

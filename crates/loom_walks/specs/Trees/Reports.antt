@@ -1,6 +1,6 @@
 -- What is known of a check from a path without nodes by what it reports.
 use Rattle.std.specs.Prelude.{ℕ, ◌≡◌, ◌≢◌, ◌≤◌, false, List, [], ◌∷◌, ◌++◌, Some, None, Result, Ok, Err, ◌↔◌, ◌⊎◌}
-use Rattle.loom_objects.specs.declared.choice.Choice.{Choice}
+use Rattle.loom_parts.specs.declared.choice.Choice.{Choice}
 use Rattle.loom_objects.specs.Question.{Made, Among}
 use Rattle.loom_objects.specs.Tree.{Tree}
 use Rattle.loom_views.specs.declared.rt.failure.FailureKind.{FailureKind}

@@ -3,8 +3,8 @@ use Rattle.std.specs.Prelude.{ℕ, ◌≡◌, Bool, true, false, List, [], ◌�
 use mathlib.Core.Logic.{inl, inr}
 use mathlib.Core.Path.{ap, refl}
 use native.Mathlib.Decide.{ℕ_discrete}
-use Rattle.loom_objects.specs.declared.choice.Choice.{Choice}
-use Rattle.loom_objects.specs.declared.choice.Choice.TheVariants.{Thread, Load, Spurious}
+use Rattle.loom_parts.specs.declared.choice.Choice.{Choice}
+use Rattle.loom_parts.specs.declared.choice.Choice.TheVariants.{Thread, Load, Spurious}
 use Rattle.loom_objects.specs.Question.{Among}
 
 abbrev pub pick : {A B : Type 0} → Dec A → B → B → B

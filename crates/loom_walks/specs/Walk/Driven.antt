@@ -1,6 +1,6 @@
 -- A walk whose runs are made by others, of whom nothing is known but the paths that the runs begin with and leave.
 use Rattle.std.specs.Prelude.{◌≡◌, ◌≢◌, Bool, true, List, [], ◌∷◌, ◌++◌, Some, None, ◌⊎◌}
-use Rattle.loom_objects.specs.declared.choice.Choice.{Choice}
+use Rattle.loom_parts.specs.declared.choice.Choice.{Choice}
 use Rattle.loom_walks.specs.Walk.Path.{Status, Skip, Pending, Active, Visited, Stored, choices, node_at, IsAtRest, step}
 use Rattle.loom_objects.specs.Question.{Made}
 use Rattle.loom_walks.specs.Walk.Lists.{Begins}

@@ -1,6 +1,6 @@
 -- Lists of runs: a walk list of a set of runs, in the order of the first difference.
 use Rattle.std.specs.Prelude.{◌≡◌, ◌≢◌, List, [], ◌∷◌, ◌++◌, Some, ◌⊎◌, ◌↔◌}
-use Rattle.loom_objects.specs.declared.choice.Choice.{Choice}
+use Rattle.loom_parts.specs.declared.choice.Choice.{Choice}
 use Rattle.loom_objects.specs.Question.{Made, Among}
 use Rattle.loom_walks.specs.Walk.Machine.{Machine}
 

@@ -1,6 +1,6 @@
 -- Which runs are to be made.
 use Rattle.std.specs.Prelude.{◌≡◌, ◌≢◌, true, List, [], ◌∷◌, ◌++◌, length, Some, ◌⊎◌}
-use Rattle.loom_objects.specs.declared.choice.Choice.{Choice}
+use Rattle.loom_parts.specs.declared.choice.Choice.{Choice}
 use Rattle.loom_objects.specs.Question.{Made, Among}
 use Rattle.loom_walks.specs.Walk.Machine.{Machine, run}
 

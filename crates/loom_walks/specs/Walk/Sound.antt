@@ -1,6 +1,6 @@
 -- What holds of each machine.
 use Rattle.std.specs.Prelude.{◌≤◌, ◌≡◌, true, false, List, ◌∷◌, ◌++◌, length, Some, None}
-use Rattle.loom_objects.specs.declared.choice.Choice.{Choice}
+use Rattle.loom_parts.specs.declared.choice.Choice.{Choice}
 use Rattle.loom_objects.specs.Question.{Made, Among}
 use Rattle.loom_walks.specs.Walk.Machine.{Machine, is_thread}
 

@@ -1,6 +1,6 @@
 ghost use Rattle.std.specs.Prelude.{◌≡◌, OnOk, OnErr};
 ghost use Rattle.loom_objects.specs.Cells as cells;
-ghost use Rattle.loom_objects.specs.Lent.{taken_apart};
+ghost use Rattle.loom_parts.specs.Lent.{taken_apart};
 ghost use Rattle.loom_objects.specs.Moves.{is_number};
 
 use crate::rt::sync::Cell;

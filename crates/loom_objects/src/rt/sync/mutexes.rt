@@ -1,4 +1,4 @@
-ghost use Rattle.loom_objects.specs.Lent.{handed_out, lent_to, taken_apart};
+ghost use Rattle.loom_parts.specs.Lent.{handed_out, lent_to, taken_apart};
 ghost use Rattle.loom_objects.specs.Locks.{free_value};
 ghost use Rattle.std.specs.Prelude.{◌≡◌, OnSome, IfNone, None, Some};
 

@@ -1,5 +1,5 @@
 ghost use Rattle.std.specs.Prelude.{◌≡◌, OnSome, IfNone, None, Some};
-ghost use Rattle.loom_objects.specs.Lent.{handed_out, lent_to, taken_apart, value_in};
+ghost use Rattle.loom_parts.specs.Lent.{handed_out, lent_to, taken_apart, value_in};
 ghost use Rattle.loom_objects.specs.RwLocks as rwlocks;
 
 use crate::rt::sync::RwLock;

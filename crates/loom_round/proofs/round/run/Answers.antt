@@ -37,7 +37,7 @@ loop-bodies-preserved g c =
 pub returns-in-Failure-clause-along : goal.returns-in-Failure-clause-along
 returns-in-Failure-clause-along g c =
     let e = rw (c.in-Err.is, c.in-Failure.is) at c.in_ok-answer.ensures.turn in
-    rw c.located.ensures (e _ c.loop-bodies.invariant.under_way)
+    rw c.at.ensures (e _ c.loop-bodies.invariant.under_way)
 
 pub returns-in-Ok-Ended-clause-along : goal.returns-in-Ok-Ended-clause-along
 returns-in-Ok-Ended-clause-along g c =

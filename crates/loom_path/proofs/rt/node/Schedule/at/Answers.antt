@@ -1,7 +1,7 @@
 use Rattle.std.proofs.Common.{◌≡◌, Some, None, [], true, false, refl, ap, sym, ◌∙◌}
 use Rattle.std.specs.Prelude.{slice_get, IsSomeAnd}
 use Rattle.std.specs.Option.{option_map}
-use Rattle.loom_objects.specs.declared.choice.Choice.TheVariants.{Thread}
+use Rattle.loom_parts.specs.declared.choice.Choice.TheVariants.{Thread}
 use Rattle.loom_path.specs.Nodes.{seen_schedule, is_left}
 use Rattle.loom_path.proofs.Nodes.Statuses.{some_left, left_some}
 use Rattle.loom_path.proofs.Nodes.Given.{at_default, at_other, at_none}

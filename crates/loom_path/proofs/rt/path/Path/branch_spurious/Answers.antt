@@ -1,7 +1,7 @@
 use Rattle.std.proofs.Common.{◌≡◌, ◌≤◌, ◌<◌, ◌+◌, [], ◌∷◌, ◌++◌, length, true, refl, ap, ◌∙◌, subst, sym, arith, rules}
 use Rattle.loom_objects.specs.Exploring.{is_on}
 use Rattle.loom_objects.specs.Question.{made_of}
-use Rattle.loom_objects.specs.declared.choice.Choice.TheVariants.{Spurious}
+use Rattle.loom_parts.specs.declared.choice.Choice.TheVariants.{Spurious}
 use Rattle.loom_walks.specs.Trees.Drive.{new_node}
 use Rattle.loom_path.specs.declared.rt.node.Node.{Node}
 use Rattle.loom_path.specs.declared.rt.node.Node.TheVariants as node

@@ -2,7 +2,7 @@ use Rattle.std.proofs.Common.{◌≡◌, ◌≤◌, ◌<◌, ◌+◌, length, So
 use Rattle.std.specs.Prelude.{slice_get}
 use Rattle.loom_objects.specs.Exploring.{is_on}
 use Rattle.loom_objects.specs.Question.{Question, made_of}
-use Rattle.loom_objects.specs.declared.choice.Choice.TheVariants.{Thread}
+use Rattle.loom_parts.specs.declared.choice.Choice.TheVariants.{Thread}
 use Rattle.loom_path.specs.declared.rt.node.Node.{Node}
 use Rattle.loom_path.specs.declared.rt.node.Node.TheVariants as node
 use Rattle.loom_path.specs.Routes.{Route}

@@ -1,6 +1,11 @@
 -- Data that an object hands out and takes back.
-use Rattle.std.specs.Prelude.{ℕ, false, true, cond, Option, Some, None}
-use Rattle.loom_objects.specs.declared.rt.sync.Lent.{Lent}
+use Rattle.std.specs.Prelude.{ℕ, ◌==◌, Bool, false, true, cond, Option, Some, None}
+use Rattle.loom_parts.specs.declared.lent.Lent.{Lent}
+
+-- the option is this number
+abbrev pub is_number : Option ℕ → ℕ → Bool
+is_number None n = false
+is_number (Some m) n = m == n
 
 module _ {D : Type 0} where
   -- data that nobody has

@@ -1,8 +1,18 @@
-ghost use Rattle.loom_objects.specs.Lent as lending;
-ghost use Rattle.loom_objects.specs.Moves.{is_number};
+//! Data that objects hand out and take back.
+ghost use Rattle.loom_parts.specs.Lent as lending;
+ghost use Rattle.loom_parts.specs.Lent.{is_number};
 ghost use Rattle.std.specs.Prelude.{false, option_copied, ◌≡◌, OnSome, IfNone, true};
 
-use crate::rt::sync::Lent;
+/// Data that an object hands out and takes back.
+#[derive(Drop)]
+pub struct Lent<D> {
+    /// The data, while nobody has it.
+    pub value: Option<D>,
+    /// The thread that has the data out, without holding the object.
+    pub lent: Option<u8>,
+    /// Whether it was taken apart.
+    pub is_taken: bool,
+}
 
 impl<D: Drop> Lent<D> {
     /// Data that nobody has.

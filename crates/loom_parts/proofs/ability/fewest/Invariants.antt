@@ -1,6 +1,6 @@
 use Rattle.std.proofs.Common.{◌≡◌, drop, None}
-use Rattle.loom_objects.specs.Schedules.{fewest}
-use Rattle.loom_objects.proofs.rt.offers.fewest.Given as goal
+use Rattle.loom_parts.specs.Defaults.{fewest}
+use Rattle.loom_parts.proofs.ability.fewest.Given as goal
 
 -- the best so far, and those that are left
 abbrev pub invariant-loop-place : goal.invariant-loop-place

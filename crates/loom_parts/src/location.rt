@@ -1,5 +1,7 @@
+//! Places in a body's source.
+
 /// A place in a body's source, which its author hands in.
-#[derive(Clone, Copy, Debug)]
+#[derive(Clone, Copy, Debug, PartialEq, Eq)]
 pub struct Location {
     /// The file's name.
     pub file: &'static str,

@@ -1,0 +1,5 @@
+pub mod Defaults
+pub mod Words
+pub mod Labels
+pub mod Leaks
+pub mod Lent

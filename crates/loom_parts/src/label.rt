@@ -1,0 +1,54 @@
+//! How a body's author calls an operation.
+ghost use Rattle.std.specs.Prelude.{◌≡◌};
+ghost use Rattle.loom_parts.specs.Labels as rules;
+
+use crate::location::Location;
+
+/// How a body's author calls an operation: a name for what it makes, and its place in the source.
+#[derive(Clone, Copy, Debug, PartialEq, Eq)]
+pub struct Label {
+    /// The name of what it makes, if it was given one.
+    pub name: Option<&'static str>,
+    /// Its place, if it was given one.
+    pub location: Option<Location>,
+}
+
+/// The label with this place. A name that is there stays.
+pub fn placed(label: Option<Label>, location: Location) -> Option<Label>
+    ensures { result ≡ rules.placed location label }
+{
+    Some(Label {
+        name: name_in(label),
+        location: Some(location),
+    })
+}
+
+/// The label with this name. A place that is there stays.
+pub fn named(label: Option<Label>, name: &'static str) -> Option<Label>
+    ensures { result ≡ rules.named name.entry label }
+{
+    Some(Label {
+        name: Some(name),
+        location: location_in(label),
+    })
+}
+
+/// The name that the label has, if any.
+pub fn name_in(label: Option<Label>) -> Option<&'static str>
+    ensures { result ≡ rules.name_in label }
+{
+    match label {
+        Some(label) => label.name,
+        None => None,
+    }
+}
+
+/// The place that the label has, if any.
+pub fn location_in(label: Option<Label>) -> Option<Location>
+    ensures { result ≡ rules.location_in label }
+{
+    match label {
+        Some(label) => label.location,
+        None => None,
+    }
+}

@@ -1,0 +1,14 @@
+//! The small parts of which operations, threads and objects are made: how an operation is called and where it stands, why a
+//! run failed, what a run chooses, what threads offer to a schedule, data that objects hand out, and what may not be left at
+//! a run's end. Each stands in a module of its own. It uses `loom_views` alone. `loom_objects` builds operations and the
+//! scene of them and hands most of them on; the wrong bodies for both stand here, so that `loom_objects` is proved once.
+#![tactic(auto)]
+
+pub mod ability;
+pub mod choice;
+pub mod failure;
+pub mod label;
+pub mod leaks;
+pub mod lent;
+pub mod location;
+pub mod telling;
