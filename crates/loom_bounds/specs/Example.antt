@@ -1,5 +1,5 @@
 -- A run without a preemption that only a bound of 1 makes.
-use Rattle.std.specs.Prelude.{ℕ, zero, suc, ◌≡◌, true, List, [], ◌∷◌, Some, Err}
+use Rattle.std.specs.Prelude.{ℕ, zero, suc, ◌≡◌, true, [], ◌∷◌, Some, Err}
 use Rattle.loom_views.specs.declared.rt.failure.FailureKind.TheVariants.{Assertion}
 use Rattle.loom_parts.specs.declared.choice.Choice.{Choice}
 use Rattle.loom_parts.specs.declared.choice.Choice.TheVariants.{Thread}

@@ -1,6 +1,6 @@
 -- How choices are read, and that what is written is read back.
 use Rattle.std.proofs.Math.Seq.{take-length}
-use Rattle.std.proofs.Common.{◌≡◌, ℕ, zero, suc, ◌+◌, ◌-◌, ◌<◌, length, take, drop, Bool, true, false, List, [], ◌∷◌, ◌++◌, Option, Some, None, refl, ap, sym, ◌∙◌, arith, append-nil, append_assoc}
+use Rattle.std.proofs.Common.{◌≡◌, ℕ, zero, suc, ◌+◌, ◌-◌, ◌<◌, length, take, drop, true, false, List, [], ◌∷◌, ◌++◌, Option, Some, None, refl, ap, sym, ◌∙◌, arith, append-nil, append_assoc}
 use Rattle.std.specs.Prelude.{cond, decimal, ◌==◌}
 use Rattle.std.specs.Fmt.{digits}
 use Rattle.std.specs.Option.{option_map}
@@ -8,7 +8,7 @@ use Rattle.loom_parts.specs.declared.choice.Choice.{Choice}
 use Rattle.loom_parts.specs.declared.choice.Choice.TheVariants.{Thread, Load, Spurious}
 use Rattle.loom_parts.specs.Words.{choice_in, choice_text, digit_in}
 use Rattle.loom_choices.specs.Reading.{after_word, AreShort, before, choices_in, IsShort, is_space, ReadsBackLaw, word_ends}
-use Rattle.loom_choices.specs.Texts.{choices_text, others_text}
+use Rattle.loom_choices.specs.Texts.{others_text}
 
 -- these choices, and then those, if they are
 abbrev pub put_before : List Choice → Option (List Choice) → Option (List Choice)

@@ -1,6 +1,7 @@
 ghost use Rattle.std.specs.Prelude.{◌≡◌, ◌≢◌, ◌≤◌, ◌+◌, ◌⊎◌, None, Some, Err, OnOk, OnErr, IfOk, slice_get};
 ghost use Rattle.loom_engine.specs.Execution.{Along, MayBeRefused, over_after};
-ghost use Rattle.loom_path.specs.Routes.{IsAtStart, IsSameSearch};
+ghost use Rattle.loom_objects.specs.Tree.{Tree};
+ghost use Rattle.loom_path.specs.Routes.{IsAtStart, IsSameSearch, Route, drives};
 ghost use Rattle.loom_runs.specs.Machine as machine;
 ghost use Rattle.loom_runs.specs.Runs.{runs as runs_of, with_child};
 ghost use Rattle.loom_round.specs.Ending.{Outcome, RunsAlong, IsLocated, IsUnderWay, ComesToTurn, MayBeRefusedBy};
@@ -38,13 +39,29 @@ pub fn run<B: Body, P: Places>(
     ensures located { IfOk result (IsLocated P.keeps) }
     ensures same { IsSameSearch path.old path.new }
 {
-    let mut execution = Execution::new(alloc, limits)?;
     let mut bodies = Vec::new(alloc);
     bodies.push(body.try_clone()?)?;
+    let mut execution = Execution::new(alloc, limits)?;
+    take_turns(&mut execution, &mut bodies, path, places)
+}
+
+/// From its start the run goes on by turns, until it ends or fails. An error only where a growth was refused.
+fn take_turns<B: Body, P: Places>(
+    execution: &mut Execution<B::Data>,
+    bodies: &mut Vec<B>,
+    path: &mut Path,
+    places: &mut P,
+) -> Result<Ending<B::Data>, AllocError>
+    requires { execution.old.over ≡ None }
+    ensures along { (tree : Tree B.Data) → (start : Route) → IsUnderWay B.next (drives tree start) bodies.old.items execution.old.run path.old 0 Reply.Start
+        → IfOk result (λ ending. RunsAlong tree start ending path.new) }
+    ensures located { IfOk result (IsLocated P.keeps) }
+    ensures same { IsSameSearch path.old path.new }
+{
     let mut thread = 0usize;
     let mut reply = Reply::Start;
     loop {
-        let answer = hand_over(&mut execution, &mut bodies, path, places, thread, reply)?;
+        let answer = hand_over(execution, bodies, path, places, thread, reply)?;
         match answer {
             Err(stop) => match stop {
                 Stop::Memory => return Err(AllocError),

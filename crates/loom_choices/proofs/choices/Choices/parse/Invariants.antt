@@ -1,4 +1,4 @@
-use Rattle.std.proofs.Common.{◌≡◌, ℕ, length}
+use Rattle.std.proofs.Common.{◌≡◌, length}
 use Rattle.loom_choices.specs.Reading.{choices_in}
 use Rattle.loom_choices.proofs.Reading.{put_before}
 use Rattle.loom_choices.proofs.choices.Choices.parse.Given as goal
