@@ -15,6 +15,7 @@ use loom_objects::data::Data;
 use loom_objects::failure::{Stop, failed};
 use loom_objects::operation::{Op, Turn};
 use loom_objects::rt::run::{Entry, Loading, Resumed, RunState};
+use loom_parts::steps::take_step;
 use loom_threads::notifiers;
 use loom_views::rt::failure::FailureKind;
 
@@ -25,10 +26,9 @@ pub fn begin<D: Data>(run: &mut RunState<D>, op: Op<D, ()>) -> Result<Entry<D>, 
     ensures steps { OnOk result (run.old.steps_left ≡ run.new.steps_left + 1) }
     ensures growth { result ≡ Err Stop.Memory → effects.needs_memory op ≡ true }
 {
-    if run.steps_left == 0 {
+    if !take_step(&mut run.steps_left) {
         return Err(failed(FailureKind::TooManySteps));
     }
-    run.steps_left -= 1;
     match begin_op(&mut run.scene, op) {
         Ok(answer) => answer.map_err(failed),
         Err(_) => Err(Stop::Memory),

@@ -1,7 +1,8 @@
 //! The small parts of which operations, threads and objects are made: how an operation is called and where it stands, why a
-//! run failed, what a run chooses, what threads offer to a schedule, data that objects hand out, and what may not be left at
-//! a run's end. Each stands in a module of its own. It uses `loom_views` alone. `loom_objects` builds operations and the
-//! scene of them and hands most of them on; the wrong bodies for both stand here, so that `loom_objects` is proved once.
+//! run failed, what a run chooses, what threads offer to a schedule, data that objects hand out, what may not be left at a
+//! run's end, and how operations are counted. Each stands in a module of its own. It uses `loom_views` alone. `loom_objects`
+//! builds operations and the scene of them and hands most of them on; the wrong bodies for both stand here, so that
+//! `loom_objects` is proved once.
 #![tactic(auto)]
 
 pub mod ability;
@@ -11,4 +12,5 @@ pub mod label;
 pub mod leaks;
 pub mod lent;
 pub mod location;
+pub mod steps;
 pub mod telling;
