@@ -1,9 +1,11 @@
 -- A thread of a script: its steps, and how far it is.
-use Rattle.std.specs.Prelude.{ℕ, ◌+◌, ◌==◌, List, [], ◌∷◌, Option, Some, None, slice_get, cond}
+use Rattle.std.specs.Prelude.{ℕ, ◌+◌, ◌==◌, Bool, false, List, [], ◌∷◌, length, position, Option, Some, None, slice_get, cond}
+use Rattle.std.specs.Option.{unwrap_or}
+use Rattle.std.specs.Str.{bytes_eq}
 use Rattle.loom_scripts.specs.declared.state.Handle.TheVariants.{Empty}
 use Rattle.loom_scripts.specs.declared.state.State.{State}
 use Rattle.loom_scripts.specs.declared.step.Step.{Step}
-use Rattle.loom_scripts.specs.declared.step.Step.TheVariants.{Do, Store, Jump, Unless}
+use Rattle.loom_scripts.specs.declared.step.Step.TheVariants.{Do, Store, Jump, Unless, Label, JumpTo, UnlessTo, SpawnAt}
 use Rattle.loom_scripts.specs.Slots.{held}
 
 pub record Running : Type 0 where
@@ -30,17 +32,54 @@ child s at = record s { at = at; keep = 0 }
 abbrev pub spawned : Running → ℕ → Running
 spawned s at = record s { state = child s.state at }
 
--- where it goes on from this step: a jump makes no operation
-abbrev pub landing_at : State → Option Step → ℕ
-landing_at s None = s.at
-landing_at s (Some (Do keep made)) = s.at
-landing_at s (Some (Store slot value order)) = s.at
-landing_at s (Some (Jump target)) = target
-landing_at s (Some (Unless register n target)) = cond (held s register == n) (s.at + 1) target
+-- the step is the label of this name
+abbrev pub is_label : List ℕ → Step → Bool
+is_label name (Do keep made) = false
+is_label name (Store slot value order) = false
+is_label name (Jump target) = false
+is_label name (Unless register n target) = false
+is_label name (Label label) = bytes_eq label.now name
+is_label name (JumpTo other) = false
+is_label name (UnlessTo register n other) = false
+is_label name (SpawnAt slot other) = false
 
--- where the next step stands, behind a jump
+-- where the first label of this name stands; without one, the steps' end
+abbrev pub place_of : List Step → List ℕ → ℕ
+place_of steps name = unwrap_or (position (is_label name) steps) (length steps)
+
+-- where it goes on from this step: a jump makes no operation
+abbrev pub goes_on_at : List Step → State → Step → ℕ
+goes_on_at steps s (Do keep made) = s.at
+goes_on_at steps s (Store slot value order) = s.at
+goes_on_at steps s (Jump target) = target
+goes_on_at steps s (Unless register n target) = cond (held s register == n) (s.at + 1) target
+goes_on_at steps s (Label label) = s.at
+goes_on_at steps s (JumpTo name) = place_of steps name.now
+goes_on_at steps s (UnlessTo register n name) = cond (held s register == n) (s.at + 1) (place_of steps name.now)
+goes_on_at steps s (SpawnAt slot name) = s.at
+
+abbrev pub behind_label : ℕ → Option Step → ℕ
+behind_label place None = place
+behind_label place (Some (Do keep made)) = place
+behind_label place (Some (Store slot value order)) = place
+behind_label place (Some (Jump target)) = place
+behind_label place (Some (Unless register n target)) = place
+behind_label place (Some (Label label)) = place + 1
+behind_label place (Some (JumpTo name)) = place
+behind_label place (Some (UnlessTo register n name)) = place
+behind_label place (Some (SpawnAt slot name)) = place
+
+-- the next place, if a label stands at this one
+abbrev pub past_label : List Step → ℕ → ℕ
+past_label steps place = behind_label place (slice_get steps place)
+
+abbrev pub landing_from : List Step → State → Option Step → ℕ
+landing_from steps s None = s.at
+landing_from steps s (Some step) = past_label steps (goes_on_at steps s step)
+
+-- where the next step stands, behind a jump and a label
 abbrev pub landing : List Step → State → ℕ
-landing steps s = landing_at s (slice_get steps s.at)
+landing steps s = landing_from steps s (slice_get steps s.at)
 
 -- the slot, or the register, in which the step keeps what it is told
 abbrev pub keep_of : Step → ℕ
@@ -48,6 +87,10 @@ keep_of (Do keep made) = keep
 keep_of (Store slot value order) = 0
 keep_of (Jump target) = 0
 keep_of (Unless register n target) = 0
+keep_of (Label label) = 0
+keep_of (JumpTo name) = 0
+keep_of (UnlessTo register n name) = 0
+keep_of (SpawnAt slot name) = slot
 
 abbrev pub behind : State → ℕ → Option Step → State
 behind s place None = s

@@ -1,16 +1,17 @@
 -- What a script does from one operation to the next.
-use Rattle.std.specs.Prelude.{ℕ, Option, Some, None, slice_get}
+use Rattle.std.specs.Prelude.{ℕ, List, Option, Some, None, slice_get}
 use Rattle.std.specs.declared.sync.atomic.Ordering.{Ordering}
 use Rattle.loom_objects.specs.declared.operation.AtomicOp.TheVariants as atomic
 use Rattle.loom_objects.specs.declared.operation.Op.{Op}
 use Rattle.loom_objects.specs.declared.operation.Op.TheVariants as op
 use Rattle.loom_objects.specs.declared.operation.Reply.{Reply}
+use Rattle.loom_objects.specs.declared.operation.ThreadOp.TheVariants.{Spawn}
 use Rattle.loom_scripts.specs.declared.number.Number.{Number}
 use Rattle.loom_scripts.specs.declared.step.Step.{Step}
-use Rattle.loom_scripts.specs.declared.step.Step.TheVariants.{Do, Store, Jump, Unless}
+use Rattle.loom_scripts.specs.declared.step.Step.TheVariants.{Do, Store, Jump, Unless, Label, JumpTo, UnlessTo, SpawnAt}
 use Rattle.loom_scripts.specs.declared.step.Value.{Value}
 use Rattle.loom_scripts.specs.Operations.{atomic_op, cell_op, arc_op, track_op, mutex_op, rwlock_op, condvar_op, notify_op, channel_op, waker_op, place_op, local_op, lazy_op, thread_op}
-use Rattle.loom_scripts.specs.Running.{Running, fetched, landing}
+use Rattle.loom_scripts.specs.Running.{Running, fetched, landing, place_of, spawned}
 use Rattle.loom_scripts.specs.Slots.{kept, number_of, object}
 
 -- the operation, if there is one; else the step fails
@@ -43,13 +44,21 @@ operation s (op.Unreachable place) = op.Unreachable place
 abbrev pub store : Running → ℕ → Value → Ordering → Op Number Running
 store s slot value order = or_fails (object s.state slot) (λ n. op.Atomic (atomic.Store n (number_of s.state value) order) None)
 
--- the operation of the step; beyond the script's end, and where a jump leads to a jump, it fails
+-- the start of a thread behind the label of this name
+abbrev pub spawn_at : Running → List ℕ → Op Number Running
+spawn_at s name = op.Thread (Spawn (spawned s (place_of s.steps name)) None) None
+
+-- the operation of the step; beyond the script's end, and where a jump leads to a jump or past a label to another one, it fails
 abbrev pub step_operation : Running → Option Step → Op Number Running
 step_operation s None = op.Fail None
 step_operation s (Some (Do keep made)) = operation s made
 step_operation s (Some (Store slot value order)) = store s slot value order
 step_operation s (Some (Jump target)) = op.Fail None
 step_operation s (Some (Unless register n target)) = op.Fail None
+step_operation s (Some (Label label)) = op.Fail None
+step_operation s (Some (JumpTo name)) = op.Fail None
+step_operation s (Some (UnlessTo register n name)) = op.Fail None
+step_operation s (Some (SpawnAt slot name)) = spawn_at s name.now
 
 abbrev pub operation_at : Running → ℕ → Op Number Running
 operation_at s place = step_operation s (slice_get s.steps place)

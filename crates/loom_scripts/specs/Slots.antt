@@ -38,14 +38,15 @@ name_number (Some name) = fold (λ n byte. (n * 256 + byte) % 2 ^ 64) 1 name.tex
 
 -- What a step keeps of the reply: what was made or taken out, the number that an object holds or that a thread finished with,
 -- or the digits of what is given back. Or in the last register what a compare-exchange found or a channel has sent back; or 1
--- where others share or have what was asked for, or there is none yet, and 2 where there will be none.
+-- where others share or have what was asked for, or there is none yet, and 2 where there will be none. An exchange that fails
+-- clears its own register.
 abbrev pub told_by : Reply Number → Told
 told_by reply.Start = told.Nothing
 told_by reply.Done = told.Nothing
 told_by (reply.Atomic n) = told.Handle (Object n)
 told_by (reply.Value n) = told.Number n
 told_by (reply.Exchanged (Ok n)) = told.Number n
-told_by (reply.Exchanged (Err n)) = told.Instead n
+told_by (reply.Exchanged (Err n)) = told.Found n
 told_by (reply.Data n) = told.Number n.0
 told_by (reply.Cell n) = told.Handle (Object n)
 told_by (reply.Reading cell n) = told.Number n.0
@@ -92,6 +93,7 @@ abbrev pub kept_told : State → Told → State
 kept_told s told.Nothing = s
 kept_told s (told.Number n) = put_number s s.keep n
 kept_told s (told.Instead n) = put_number s 3 n
+kept_told s (told.Found n) = put_number (put_number s s.keep 0) 3 n
 kept_told s (told.Handle handle) = put_handle s handle
 kept_told s (told.Named handle n) = put_number (put_handle s handle) s.keep n
 

@@ -1,14 +1,14 @@
 //! Bodies that take one step of a list after another.
 ghost use Rattle.std.specs.Prelude.{◌≡◌, IfOk};
 ghost use Rattle.loom_scripts.specs.Running.{landing, spawned, started};
-ghost use Rattle.loom_scripts.specs.Script.{fetched_after, next_of, operation, operation_at, store};
+ghost use Rattle.loom_scripts.specs.Script.{fetched_after, next_of, operation, operation_at, spawn_at, store};
 ghost use Rattle.loom_scripts.specs.Slots.{kept};
 
 use crate::number::Number;
-use crate::state::State;
+use crate::state::{State, place_of};
 use crate::step::{Step, Value};
 use loom_objects::body::Body;
-use loom_objects::operation::{AtomicOp, Op, Reply};
+use loom_objects::operation::{AtomicOp, Op, Reply, ThreadOp};
 use std::alloc::{AllocError, Global};
 use std::marker::Model;
 use std::sync::atomic::Ordering;
@@ -124,7 +124,16 @@ impl Script {
         }
     }
 
-    /// The operation of the step at this place. Beyond the script's end, and where a jump leads to a jump, it fails.
+    /// The start of a thread behind the label of this name.
+    fn spawn_at(&self, name: &str) -> Result<Op<Number, Script>, AllocError>
+        ensures { IfOk result (λ made. made ≡ spawn_at self.now name.now) }
+    {
+        let child = self.child(place_of(self.steps, name))?;
+        Ok(Op::Thread(ThreadOp::Spawn(child, None), None))
+    }
+
+    /// The operation of the step at this place. Beyond the script's end, and where a jump leads to a jump or past a label to
+    /// another one, it fails.
     fn operation_at(&self, place: usize) -> Result<Op<Number, Script>, AllocError>
         ensures { IfOk result (λ made. made ≡ operation_at self.now place) }
     {
@@ -135,7 +144,12 @@ impl Script {
         match &steps[place] {
             Step::Do(_, op) => self.operation(op),
             Step::Store(slot, value, order) => Ok(self.store(*slot, *value, *order)),
-            Step::Jump(_) | Step::Unless(..) => Ok(Op::Fail(None)),
+            Step::SpawnAt(_, name) => self.spawn_at(name),
+            Step::Jump(_)
+            | Step::Unless(..)
+            | Step::Label(_)
+            | Step::JumpTo(_)
+            | Step::UnlessTo(..) => Ok(Op::Fail(None)),
         }
     }
 }

@@ -1,6 +1,6 @@
 //! How far a thread of a script is, and what it keeps.
-ghost use Rattle.std.specs.Prelude.{◌≡◌};
-ghost use Rattle.loom_scripts.specs.Running.{at_first, child, fetched, keep_of, landing};
+ghost use Rattle.std.specs.Prelude.{◌≡◌, ◌<◌, length};
+ghost use Rattle.loom_scripts.specs.Running.{at_first, child, fetched, goes_on_at, is_label, keep_of, landing, past_label, place_of};
 ghost use Rattle.loom_scripts.specs.Slots.{data_of, digits, handle_at, held, kept, lazy_digits, local_digits, name_number, notifier, number_of, object, put_handle, put_number, thread, told_by, with_digit};
 
 use crate::number::Number;
@@ -34,6 +34,8 @@ pub enum Told {
     Number(u64),
     /// A number, for the last register: of what the operation wanted, and didn't get.
     Instead(u64),
+    /// The same of an exchange that failed, where the register that the step names is cleared.
+    Found(u64),
     /// A handle, for the slot that the step names.
     Handle(Handle),
     /// A handle, and a number for the register of the same number.
@@ -74,6 +76,10 @@ impl State {
             Told::Nothing => {}
             Told::Number(number) => self.put_number(self.keep, number),
             Told::Instead(number) => self.put_number(LAST, number),
+            Told::Found(number) => {
+                self.put_number(self.keep, 0);
+                self.put_number(LAST, number);
+            }
             Told::Handle(handle) => self.put_handle(handle),
             Told::Named(handle, number) => {
                 self.put_handle(handle);
@@ -175,15 +181,14 @@ impl State {
         }
     }
 
-    /// Where the next of the steps stands, behind a jump.
-    fn landing(&self, steps: &[Step]) -> usize
-        ensures { result ≡ landing steps.now self.now }
+    /// Where it goes on from this step, of these: a jump makes no operation.
+    fn goes_on_at(&self, steps: &[Step], step: &Step) -> usize
+        requires { self.now.at < length steps.now }
+        ensures { result ≡ goes_on_at steps.now self.now step.now }
     {
-        if self.at >= steps.len() {
-            return self.at;
-        }
-        match &steps[self.at] {
+        match step {
             Step::Jump(target) => *target,
+            Step::JumpTo(name) => place_of(steps, name),
             Step::Unless(register, number, target) => {
                 if self.held(*register) == *number {
                     self.at + 1
@@ -191,8 +196,25 @@ impl State {
                     *target
                 }
             }
-            Step::Do(..) | Step::Store(..) => self.at,
+            Step::UnlessTo(register, number, name) => {
+                if self.held(*register) == *number {
+                    self.at + 1
+                } else {
+                    place_of(steps, name)
+                }
+            }
+            Step::Do(..) | Step::Store(..) | Step::Label(_) | Step::SpawnAt(..) => self.at,
         }
+    }
+
+    /// Where the next of the steps stands, behind a jump and a label.
+    fn landing(&self, steps: &[Step]) -> usize
+        ensures { result ≡ landing steps.now self.now }
+    {
+        if self.at >= steps.len() {
+            return self.at;
+        }
+        past_label(steps, self.goes_on_at(steps, &steps[self.at]))
     }
 
     /// Goes behind the next of the steps, and answers where that stands.
@@ -217,6 +239,51 @@ impl State {
             keep: 0,
             ..*self
         }
+    }
+}
+
+/// Whether the step is the label of this name.
+fn is_label(step: &Step, name: &str) -> bool
+    ensures { result ≡ is_label name.now step.now }
+{
+    match step {
+        Step::Label(label) => *label == name,
+        Step::Do(..)
+        | Step::Store(..)
+        | Step::Jump(_)
+        | Step::Unless(..)
+        | Step::JumpTo(_)
+        | Step::UnlessTo(..)
+        | Step::SpawnAt(..) => false,
+    }
+}
+
+/// Where the first label of this name stands; without one, the steps' end.
+pub(crate) fn place_of(steps: &[Step], name: &str) -> usize
+    ensures { result ≡ place_of steps.now name.now }
+{
+    match steps.iter().position(|step| is_label(step, name)) {
+        Some(place) => place,
+        None => steps.len(),
+    }
+}
+
+/// The next place, if a label stands at this one.
+fn past_label(steps: &[Step], place: usize) -> usize
+    ensures { result ≡ past_label steps.now place }
+{
+    if place >= steps.len() {
+        return place;
+    }
+    match &steps[place] {
+        Step::Label(_) => place + 1,
+        Step::Do(..)
+        | Step::Store(..)
+        | Step::Jump(_)
+        | Step::Unless(..)
+        | Step::JumpTo(_)
+        | Step::UnlessTo(..)
+        | Step::SpawnAt(..) => place,
     }
 }
 
@@ -286,7 +353,7 @@ fn told_by(reply: &Reply<Number>) -> Told
         | Reply::AtomicWaker(number) => Told::Handle(Handle::Object(*number)),
         Reply::Value(number) => Told::Number(*number),
         Reply::Exchanged(Ok(number)) => Told::Number(*number),
-        Reply::Exchanged(Err(number)) => Told::Instead(*number),
+        Reply::Exchanged(Err(number)) => Told::Found(*number),
         Reply::Data(number)
         | Reply::Reading(_, number)
         | Reply::Writing(_, number)
@@ -313,7 +380,12 @@ fn keep_of(step: &Step) -> usize
     ensures { result ≡ keep_of step.now }
 {
     match step {
-        Step::Do(keep, _) => *keep,
-        Step::Store(..) | Step::Jump(_) | Step::Unless(..) => 0,
+        Step::Do(keep, _) | Step::SpawnAt(keep, _) => *keep,
+        Step::Store(..)
+        | Step::Jump(_)
+        | Step::Unless(..)
+        | Step::Label(_)
+        | Step::JumpTo(_)
+        | Step::UnlessTo(..) => 0,
     }
 }

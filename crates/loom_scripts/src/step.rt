@@ -23,7 +23,8 @@ pub enum Step {
     /// kept, a handle in the slot of this number, and a number in the register of it. Of numbers that are given back the
     /// register gets the digits, behind a 1, and of a thread's name the bytes, behind a 1; without a name it gets 0. In the last
     /// register instead goes the number that a compare-exchange found and left there or that a channel didn't take, 1 where
-    /// others share or have what was asked for or there is none yet, and 2 where there will be none.
+    /// others share or have what was asked for or there is none yet, and 2 where there will be none. An exchange that fails
+    /// clears its own register: it gets 0.
     Do(usize, Op<Value, usize>),
     /// Stores the value into the atomic in the slot. (An operation of an atomic holds its number, and no value.)
     Store(usize, Value, Ordering),
@@ -31,6 +32,14 @@ pub enum Step {
     Jump(usize),
     /// Goes on at this step if the register holds another number, and else at the next one. Neither is a jump itself.
     Unless(usize, u64, usize),
+    /// The name of the place behind it, where a step stands that is no jump and no label. It makes no operation.
+    Label(&'static str),
+    /// Goes on behind the first label of this name, and without one at the script's end.
+    JumpTo(&'static str),
+    /// Does so if the register holds another number, and else goes on at the next step.
+    UnlessTo(usize, u64, &'static str),
+    /// Starts a thread behind the label of this name, and keeps it in the slot.
+    SpawnAt(usize, &'static str),
 }
 
 /// The thread gives its locals back.
