@@ -23,7 +23,7 @@ pub use loom_objects::data::Data;
 pub use loom_objects::operation::{Exchange, Op, Reply, Turn};
 pub use loom_ops::{
     alloc, cell, explore, fail, future, hint, lazy_static, skip_branch, stop_exploring, sync,
-    thread,
+    thread, unexpected_reply,
 };
 pub use loom_parts::choice::{Choice, ParseChoiceError};
 pub use loom_parts::failure::Failure;

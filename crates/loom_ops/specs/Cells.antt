@@ -32,3 +32,13 @@ module _ {D : Type 0} where
   abbrev pub written_in : Reply D → Option D
   written_in (Writing number value) = Some value
   written_in _ = None
+
+  -- the cell that the thread reads from now on, and a copy of its data
+  abbrev pub reader_taken : Reply D → Option (ConstPtr × D)
+  reader_taken (Reading number value) = Some (record { number = number }, value)
+  reader_taken _ = None
+
+  -- the cell that the thread writes from now on, and its data
+  abbrev pub writer_taken : Reply D → Option (MutPtr × D)
+  writer_taken (Writing number value) = Some (record { number = number }, value)
+  writer_taken _ = None

@@ -21,3 +21,13 @@ module _ {D : Type 0} where
   abbrev pub write_guard_handle : Reply D → Option RwLockWriteGuard
   write_guard_handle (WriteLocked number value) = Some (record { number = number })
   write_guard_handle _ = None
+
+  -- the lock that the thread reads now, and a copy of its data
+  abbrev pub read_guard_taken : Reply D → Option (RwLockReadGuard × D)
+  read_guard_taken (ReadLocked number value) = Some (record { number = number }, value)
+  read_guard_taken _ = None
+
+  -- the lock that the thread writes now, and its data
+  abbrev pub write_guard_taken : Reply D → Option (RwLockWriteGuard × D)
+  write_guard_taken (WriteLocked number value) = Some (record { number = number }, value)
+  write_guard_taken _ = None

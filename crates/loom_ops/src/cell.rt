@@ -1,6 +1,6 @@
 //! Cells: data that threads read and write, where accesses that meet fail the run.
 ghost use Rattle.std.specs.Prelude.{◌≡◌, None};
-ghost use Rattle.loom_ops.specs.Cells.{cell_handle, unsafe_cell_handle, reader_handle, writer_handle, written_in};
+ghost use Rattle.loom_ops.specs.Cells.{cell_handle, unsafe_cell_handle, reader_handle, reader_taken, writer_handle, writer_taken, written_in};
 
 use loom_objects::operation::{CellOp, Op, Reply};
 
@@ -104,6 +104,16 @@ impl ConstPtr {
         }
     }
 
+    /// The cell that the thread reads from now on, with a copy of its data, if that is what the reply says (own).
+    pub fn take<D: Drop>(reply: Reply<D>) -> Option<(ConstPtr, D)>
+        ensures { result ≡ reader_taken reply }
+    {
+        match reply {
+            Reply::Reading(number, value) => Some((ConstPtr { number }, value)),
+            _ => None,
+        }
+    }
+
     /// Replies another copy of the data. A read that isn't open is a misuse (loom's `cell/unsafe_cell.rs`).
     pub fn deref<D, S>(self) -> Op<D, S>
         ensures { result ≡ Op.Cell (CellOp.Deref self.number) None }
@@ -135,6 +145,17 @@ impl MutPtr {
     {
         match reply {
             Reply::Writing(number, _) => Some(MutPtr { number: *number }),
+            _ => None,
+        }
+    }
+
+    /// The cell that the thread writes from now on, with its data, if that is what the reply says. The data is the body's until
+    /// it ends the write (own).
+    pub fn take<D: Drop>(reply: Reply<D>) -> Option<(MutPtr, D)>
+        ensures { result ≡ writer_taken reply }
+    {
+        match reply {
+            Reply::Writing(number, value) => Some((MutPtr { number }, value)),
             _ => None,
         }
     }

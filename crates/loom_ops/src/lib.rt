@@ -23,6 +23,13 @@ pub fn fail<D, S>() -> Op<D, S>
     Op::Fail(None)
 }
 
+/// The body met a reply that it doesn't know, which ends the run as an assertion that failed (own).
+pub fn unexpected_reply<D, S>() -> Op<D, S>
+    ensures { result ≡ Op.Fail None }
+{
+    Op::Fail(None)
+}
+
 /// The search tries other choices than the first from now on. Where it does so already that is the failure `ExploreSwitch`;
 /// after `skip_branch` nothing changes (loom's `rt/mod.rs`).
 pub fn explore<D, S>() -> Op<D, S>

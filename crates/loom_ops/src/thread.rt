@@ -1,8 +1,9 @@
 //! Threads: how they begin and how they end, who they are, how they let others go first, and their own values.
 ghost use Rattle.std.specs.Prelude.{◌≡◌, Some, None, codes};
 ghost use Rattle.std.specs.Option.{option_map};
-ghost use Rattle.loom_ops.specs.Threads.{access_error, join_handle, thread_handle, named};
+ghost use Rattle.loom_ops.specs.Threads.{access_error, join_handle, leave, thread_handle, named};
 
+use crate::fail;
 use loom_objects::operation::{LocalOp, Op, Reply, ThreadOp};
 use loom_objects::rt::thread::Name;
 use std::fmt;
@@ -36,6 +37,19 @@ pub struct ThreadId(pub u8);
 pub struct Builder {
     /// Its name, if it is given one.
     pub name: Option<Name>,
+}
+
+/// Which of the three operations at its end a thread hands over next (own).
+#[derive(Clone, Copy, Debug, PartialEq, Eq)]
+pub enum Leaving {
+    /// It finishes.
+    Finish,
+    /// It has finished, and exits.
+    Exit,
+    /// It has exited, and ends.
+    End,
+    /// None: it has ended.
+    Gone,
 }
 
 /// A value that each thread has of its own (loom's `thread.rs`). In loom it has a function that makes it; here the body asks by
@@ -211,6 +225,21 @@ impl LocalKey {
         ensures { result ≡ Op.Local (LocalOp.Put self.key value) None }
     {
         Op::Local(LocalOp::Put(self.key, value), None)
+    }
+}
+
+impl Leaving {
+    /// The next of the three operations, where the thread finishes with this value, and which one comes after it. A thread that
+    /// has ended is told nothing more, so it fails (own).
+    pub fn next<D: Drop, S>(self, value: D) -> (Leaving, Op<D, S>)
+        ensures { result ≡ leave value self }
+    {
+        match self {
+            Leaving::Finish => (Leaving::Exit, finish(value)),
+            Leaving::Exit => (Leaving::End, exit()),
+            Leaving::End => (Leaving::Gone, end()),
+            Leaving::Gone => (Leaving::Gone, fail()),
+        }
     }
 }
 

@@ -5,7 +5,7 @@ use loom::future::{AtomicWaker, BlockOn, Waker};
 use loom::sync::atomic::{Atomic, FetchUpdate, Fetched};
 use loom::sync::mpsc::{Receiver, Sender};
 use loom::sync::{
-    Arc, Condvar, Mutex, MutexGuard, Notify, RwLock, RwLockReadGuard, RwLockWriteGuard,
+    Arc, Condvar, Mutex, MutexGuard, Notify, RwLock, RwLockReadGuard, RwLockWriteGuard, TryLockError,
     WaitTimeoutResult,
 };
 use loom::thread::{AccessError, JoinHandle, Thread, ThreadId};
@@ -46,6 +46,8 @@ pub enum Answer {
     New(Object, usize),
     /// What the thread holds from now on, the number of the object, and its data.
     Holds(Guard, usize, u64),
+    /// The same, where the guard is taken out of the reply together with the data.
+    Takes(Guard, usize, u64),
     /// What an atomic holds, in 64 bits.
     Value(u64),
     /// What a compare-exchange has read, in 64 bits: Ok where it has exchanged it, and else Err.
@@ -170,6 +172,35 @@ impl Guard {
     }
 }
 
+impl Guard {
+    // The number of the object that the thread holds so, and its data, if that is what the reply says.
+    fn taken(self, reply: Reply<Number>) -> Option<(usize, u64)> {
+        let (number, Number(data)) = match self {
+            Guard::Const => {
+                let (pointer, data) = ConstPtr::take(reply)?;
+                (pointer.number, data)
+            }
+            Guard::Mut => {
+                let (pointer, data) = MutPtr::take(reply)?;
+                (pointer.number, data)
+            }
+            Guard::Mutex | Guard::InTime => {
+                let (guard, data) = MutexGuard::take(reply)?;
+                (guard.number, data)
+            }
+            Guard::Read => {
+                let (guard, data) = RwLockReadGuard::take(reply)?;
+                (guard.number, data)
+            }
+            Guard::Write => {
+                let (guard, data) = RwLockWriteGuard::take(reply)?;
+                (guard.number, data)
+            }
+        };
+        Some((number, data))
+    }
+}
+
 // The number of the mutex that the thread holds after a wait with a time, which didn't run out.
 fn in_time(reply: &Reply<Number>) -> Option<usize> {
     if WaitTimeoutResult::from_reply(reply)?.timed_out() {
@@ -256,7 +287,7 @@ impl Answer {
         Some(match self {
             Answer::Start => matches!(reply, Reply::Start),
             Answer::Done => matches!(reply, Reply::Done),
-            Answer::Blocks => matches!(reply, Reply::WouldBlock),
+            Answer::Blocks => TryLockError::from_reply(&reply).is_some(),
             Answer::Shared => matches!(reply, Reply::Shared),
             Answer::Count(count) => matches!(reply, Reply::Value(found) if found == count),
             Answer::Data(number) => {
@@ -266,6 +297,7 @@ impl Answer {
             Answer::Holds(guard, number, held) => {
                 guard.held(&reply)? == number && data(reply)? == held
             }
+            Answer::Takes(guard, number, held) => guard.taken(reply)? == (number, held),
             Answer::Value(value) => Atomic::<T>::value(&reply)?.into_u64() == value,
             Answer::Exchanged(wanted) => exchanged(Atomic::<T>::exchanged(&reply)?, wanted),
             Answer::Read(value) => fetched(FetchUpdate::<T>::fetched(&reply)?) == Ok(value),

@@ -1,5 +1,5 @@
 //! Cells.
-use crate::tests::answer::Answer::{Data, Done, Holds, New};
+use crate::tests::answer::Answer::{Data, Done, Holds, New, Takes};
 use crate::tests::answer::Call::{Fails, Main};
 use crate::tests::answer::{Call, Guard, Object};
 use crate::tests::run::first_wrong;
@@ -22,12 +22,12 @@ fn read_and_write() -> [Call; 15] {
         Main(reader.with(), Data(1)),
         Main(reader.end(), Done),
         Main(cell.get(), Holds(Guard::Const, 0, 1)),
-        Main(cell.with(), Holds(Guard::Const, 0, 1)),
+        Main(cell.with(), Takes(Guard::Const, 0, 1)),
         Main(reader.end(), Done),
         Main(reader.end(), Done),
         Main(cell.get_mut(), Holds(Guard::Mut, 0, 1)),
         Main(writer.end(Number(2)), Done),
-        Main(cell.with_mut(), Holds(Guard::Mut, 0, 2)),
+        Main(cell.with_mut(), Takes(Guard::Mut, 0, 2)),
         Main(writer.end(Number(3)), Done),
         Main(cell.into_inner(), Data(3)),
         Fails(cell.get(), FailureKind::Misuse),

@@ -1,5 +1,5 @@
 //! Locks, condition variables and notifiers.
-use crate::tests::answer::Answer::{Blocks, Data, Done, Holds, New, Spawned, Start};
+use crate::tests::answer::Answer::{Blocks, Data, Done, Holds, New, Spawned, Start, Takes};
 use crate::tests::answer::Call::{Fails, Main, Other};
 use crate::tests::answer::{Call, Guard, Object};
 use crate::tests::run::first_wrong;
@@ -18,7 +18,7 @@ fn use_mutex() -> [Call; 10] {
         Main(mutex.lock(), Holds(Guard::Mutex, 0, 1)),
         Main(mutex.try_lock(), Blocks),
         Main(guard.release(Number(2)), Done),
-        Main(mutex.try_lock(), Holds(Guard::Mutex, 0, 2)),
+        Main(mutex.try_lock(), Takes(Guard::Mutex, 0, 2)),
         Main(guard.release(Number(3)), Done),
         Main(mutex.get_mut(), Data(3)),
         Main(mutex.put(Number(4)), Done),
@@ -35,14 +35,14 @@ fn use_lock() -> [Call; 15] {
     [
         Main(RwLock::new(Number(1)), New(Object::RwLock, 0)),
         Main(lock.read(), Holds(Guard::Read, 0, 1)),
-        Main(lock.try_read(), Holds(Guard::Read, 0, 1)),
+        Main(lock.try_read(), Takes(Guard::Read, 0, 1)),
         Main(lock.try_write(), Blocks),
         Main(reader.release(), Done),
         Main(reader.release(), Done),
         Main(lock.write(), Holds(Guard::Write, 0, 1)),
         Main(lock.try_read(), Blocks),
         Main(writer.release(Number(2)), Done),
-        Main(lock.try_write(), Holds(Guard::Write, 0, 2)),
+        Main(lock.try_write(), Takes(Guard::Write, 0, 2)),
         Main(writer.release(Number(3)), Done),
         Main(lock.get_mut(), Data(3)),
         Main(lock.put(Number(4)), Done),
@@ -71,7 +71,7 @@ fn wait_in_turn() -> [Call; 15] {
         Main(condvar.notify_all(), Done),
         Other(
             condvar.wait_timeout(guard, Number(5)),
-            Holds(Guard::Mutex, 0, 5),
+            Takes(Guard::Mutex, 0, 5),
         ),
         Other(condvar.notify_all(), Done),
         Other(guard.release(Number(6)), Done),

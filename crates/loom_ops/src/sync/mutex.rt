@@ -1,6 +1,6 @@
 //! Mutexes.
 ghost use Rattle.std.specs.Prelude.{◌≡◌, None};
-ghost use Rattle.loom_ops.specs.Locks.{mutex_handle, guard_handle};
+ghost use Rattle.loom_ops.specs.Locks.{mutex_handle, guard_handle, guard_taken};
 
 use loom_objects::operation::{MutexOp, Op, Reply};
 
@@ -85,6 +85,17 @@ impl MutexGuard {
         match reply {
             Reply::Locked(number, _) => Some(MutexGuard { number: *number }),
             Reply::Waited(number, ..) => Some(MutexGuard { number: *number }),
+            _ => None,
+        }
+    }
+
+    /// The mutex that the thread holds now, with its data, if that is what the reply says: of a lock, or of a wait (own).
+    pub fn take<D: Drop>(reply: Reply<D>) -> Option<(MutexGuard, D)>
+        ensures { result ≡ guard_taken reply }
+    {
+        match reply {
+            Reply::Locked(number, value) => Some((MutexGuard { number }, value)),
+            Reply::Waited(number, value, _) => Some((MutexGuard { number }, value)),
             _ => None,
         }
     }

@@ -1,6 +1,6 @@
 //! Read-write locks: many threads read, or one writes.
 ghost use Rattle.std.specs.Prelude.{◌≡◌, None};
-ghost use Rattle.loom_ops.specs.RwLocks.{rwlock_handle, read_guard_handle, write_guard_handle};
+ghost use Rattle.loom_ops.specs.RwLocks.{rwlock_handle, read_guard_handle, read_guard_taken, write_guard_handle, write_guard_taken};
 
 use loom_objects::operation::{Op, Reply, RwLockOp};
 
@@ -111,6 +111,16 @@ impl RwLockReadGuard {
         }
     }
 
+    /// The lock that the thread reads now, with a copy of its data, if that is what the reply says (own).
+    pub fn take<D: Drop>(reply: Reply<D>) -> Option<(RwLockReadGuard, D)>
+        ensures { result ≡ read_guard_taken reply }
+    {
+        match reply {
+            Reply::ReadLocked(number, value) => Some((RwLockReadGuard { number }, value)),
+            _ => None,
+        }
+    }
+
     /// One guard of the thread ends: in loom the guard's drop. A thread that has none of the lock makes a misuse (loom's
     /// `sync/rwlock.rs`).
     pub fn release<D, S>(self) -> Op<D, S>
@@ -127,6 +137,16 @@ impl RwLockWriteGuard {
     {
         match reply {
             Reply::WriteLocked(number, _) => Some(RwLockWriteGuard { number: *number }),
+            _ => None,
+        }
+    }
+
+    /// The lock that the thread writes now, with its data, if that is what the reply says (own).
+    pub fn take<D: Drop>(reply: Reply<D>) -> Option<(RwLockWriteGuard, D)>
+        ensures { result ≡ write_guard_taken reply }
+    {
+        match reply {
+            Reply::WriteLocked(number, value) => Some((RwLockWriteGuard { number }, value)),
             _ => None,
         }
     }
