@@ -1,0 +1,88 @@
+//! A queue with room for one item, by a mutex and a condition variable, as a script. The mutex holds how many items there are.
+//! One thread puts two items in, another one puts one, and main takes all three out.
+use loom_objects::operation::{CondvarOp, MutexOp, Op, ThreadOp};
+use loom_scripts::step::Step::{Do, JumpTo, Label, SpawnAt, UnlessTo};
+use loom_scripts::step::{END, EXIT, Step, Value};
+
+const LOCK: Step = Do(0, Op::Mutex(MutexOp::Lock(0), None));
+
+const FILL: Step = Do(0, Op::Mutex(MutexOp::Release(0, Value::Plain(1)), None));
+
+const EMPTY: Step = Do(0, Op::Mutex(MutexOp::Release(0, Value::Plain(0)), None));
+
+const SLEEP_FULL: Step = Do(0, Op::Condvar(CondvarOp::Wait(1, 0, Value::Plain(1)), None));
+
+const SLEEP_EMPTY: Step = Do(0, Op::Condvar(CondvarOp::Wait(1, 0, Value::Plain(0)), None));
+
+const FINISH: Step = Do(0, Op::Thread(ThreadOp::Finish(Value::Plain(0)), None));
+
+// The queue, where a thread notifies others so.
+macro_rules! queue {
+    ($notify:expr) => {
+        &[
+            Do(0, Op::Mutex(MutexOp::New(Value::Plain(0)), None)),
+            Do(1, Op::Condvar(CondvarOp::New, None)),
+            SpawnAt(2, "put two"),
+            SpawnAt(3, "put one"),
+            LOCK,
+            UnlessTo(0, 0, "take first"),
+            Label("wait for first"),
+            SLEEP_EMPTY,
+            UnlessTo(0, 0, "take first"),
+            JumpTo("wait for first"),
+            Label("take first"),
+            EMPTY,
+            Do(0, Op::Condvar($notify, None)),
+            LOCK,
+            UnlessTo(0, 0, "take second"),
+            Label("wait for second"),
+            SLEEP_EMPTY,
+            UnlessTo(0, 0, "take second"),
+            JumpTo("wait for second"),
+            Label("take second"),
+            EMPTY,
+            Do(0, Op::Condvar($notify, None)),
+            LOCK,
+            UnlessTo(0, 0, "take third"),
+            Label("wait for third"),
+            SLEEP_EMPTY,
+            UnlessTo(0, 0, "take third"),
+            JumpTo("wait for third"),
+            Label("take third"),
+            EMPTY,
+            Do(0, Op::Condvar($notify, None)),
+            FINISH,
+            EXIT,
+            END,
+            Label("put two"),
+            LOCK,
+            UnlessTo(0, 1, "fill"),
+            Label("wait for room"),
+            SLEEP_FULL,
+            UnlessTo(0, 1, "fill"),
+            JumpTo("wait for room"),
+            Label("fill"),
+            FILL,
+            Do(0, Op::Condvar($notify, None)),
+            Label("put one"),
+            LOCK,
+            UnlessTo(0, 1, "fill last"),
+            Label("wait for last room"),
+            SLEEP_FULL,
+            UnlessTo(0, 1, "fill last"),
+            JumpTo("wait for last room"),
+            Label("fill last"),
+            FILL,
+            Do(0, Op::Condvar($notify, None)),
+            FINISH,
+            EXIT,
+            END,
+        ]
+    };
+}
+
+/// All that sleep are notified after each change.
+pub const RIGHT: &[Step] = queue!(CondvarOp::NotifyAll(1));
+
+/// The one that has slept longest is notified, which may be one that can't go on. Then all sleep.
+pub const WRONG: &[Step] = queue!(CondvarOp::NotifyOne(1));

@@ -1,0 +1,108 @@
+//! A spin lock, and a cell that it guards. Two threads take the lock, and each adds one to the number in the cell.
+ghost use Rattle.std.specs.Prelude.{◌≡◌, IfOk};
+ghost use Rattle.loom_examples.specs.Spin.{begun, next_of, turn};
+
+use loom::cell::{MutPtr, UnsafeCell};
+use loom::sync::atomic::Ordering::{Acquire, Relaxed};
+use loom::sync::atomic::{AtomicBool, Ordering};
+use loom::thread::{self, Leaving};
+use loom::{Body, Op, Reply, fail};
+use loom_scripts::number::Number;
+use std::alloc::AllocError;
+
+/// What a thread is about to be told.
+#[derive(Clone, Copy, Debug)]
+pub enum Awaits {
+    /// That main starts.
+    Main,
+    /// The flag of the lock.
+    TheFlag,
+    /// The cell.
+    TheCell(AtomicBool),
+    /// That it may try to take the lock: it starts, the other thread was made, or others went first.
+    Trying(AtomicBool, UnsafeCell),
+    /// Whether it has the lock.
+    TheLock(AtomicBool, UnsafeCell),
+    /// The number in the cell.
+    TheNumber(AtomicBool),
+    /// That it has written the next number.
+    Written(AtomicBool),
+    /// That the lock is free, and then that it has finished and exited.
+    Leaving(Leaving),
+}
+
+/// A thread that takes the lock once.
+#[derive(Clone, Copy, Debug)]
+pub struct Spin {
+    /// How it frees the lock.
+    pub release: Ordering,
+    /// What it is about to be told.
+    pub awaits: Awaits,
+}
+
+impl Spin {
+    /// Main. Both threads free the lock by this ordering: `Release` is right, and `Relaxed` wrong.
+    pub fn main(release: Ordering) -> Spin
+        ensures { result ≡ begun release }
+    {
+        let awaits = Awaits::Main;
+        Spin { release, awaits }
+    }
+
+    /// What comes after this reply, and the operation that the thread hands over, if it knows the reply.
+    fn turn(&self, reply: Reply<Number>) -> Option<(Awaits, Op<Number, Spin>)>
+        ensures { result ≡ turn self.now self.now.awaits reply }
+    {
+        match self.awaits {
+            Awaits::Main => Some((Awaits::TheFlag, AtomicBool::new(false))),
+            Awaits::TheFlag => {
+                let flag = AtomicBool::from_reply(&reply)?;
+                Some((Awaits::TheCell(flag), UnsafeCell::new(Number(0))))
+            }
+            Awaits::TheCell(flag) => {
+                let awaits = Awaits::Trying(flag, UnsafeCell::from_reply(&reply)?);
+                Some((awaits, thread::spawn(Spin { awaits, ..*self })))
+            }
+            Awaits::Trying(flag, cell) => {
+                let exchange = flag.compare_exchange(false, true, Acquire, Relaxed);
+                Some((Awaits::TheLock(flag, cell), exchange))
+            }
+            Awaits::TheLock(flag, cell) => match AtomicBool::exchanged(&reply)? {
+                Ok(_) => Some((Awaits::TheNumber(flag), cell.get_mut())),
+                Err(_) => Some((Awaits::Trying(flag, cell), thread::yield_now())),
+            },
+            Awaits::TheNumber(flag) => {
+                let (pointer, Number(number)) = MutPtr::take(reply)?;
+                Some((Awaits::Written(flag), pointer.end(Number(number.wrapping_add(1)))))
+            }
+            Awaits::Written(flag) => {
+                let free = flag.store(false, self.release);
+                Some((Awaits::Leaving(Leaving::Finish), free))
+            }
+            Awaits::Leaving(leaving) => {
+                let (leaving, op) = leaving.next(Number(0));
+                Some((Awaits::Leaving(leaving), op))
+            }
+        }
+    }
+}
+
+impl Body for Spin {
+    type Data = Number;
+
+    ghost next = { next_of };
+
+    fn resume(&mut self, reply: Reply<Number>) -> Result<Op<Number, Spin>, AllocError>
+        ensures { IfOk result (λ op. (self.new, op) ≡ next_of self.old reply) }
+    {
+        let (awaits, op) = self.turn(reply).unwrap_or((self.awaits, fail()));
+        self.awaits = awaits;
+        Ok(op)
+    }
+
+    fn try_clone(&self) -> Result<Spin, AllocError>
+        ensures { IfOk result (λ copy. copy ≡ self.now) }
+    {
+        Ok(*self)
+    }
+}
