@@ -27,9 +27,9 @@ text_uncounted result w old new same is = (λ e. absurd (differs w is e), λ _. 
     differs : (w : PathError) → result ≡ Err (of_path w) → result ≡ Err Store → ⊥
     differs why.NotJson is e = cc (is, e)
     differs why.WrongShape is e = cc (is, e)
-    differs why.WrongVersion is e = cc (is, e)
-    differs why.OtherSettings is e = cc (is, e)
-    differs why.TooManyNodes is e = cc (is, e)
+    differs (why.WrongVersion version) is e = cc (is, e)
+    differs (why.OtherSettings setting) is e = cc (is, e)
+    differs (why.TooManyNodes count) is e = cc (is, e)
     differs why.BadNode is e = cc (is, e)
     differs (why.Memory r) is e = cc (is, e)
 

@@ -5,6 +5,7 @@ use Rattle.std.specs.Prelude.{◌&&◌, cond, nat_lt, Ok, Err}
 use Rattle.std.specs.Str.Parse.{AllDigits, IsNumeral, digits_value, without_leading_plus}
 use Rattle.std.specs.Char.{is_digit}
 use Rattle.loom.specs.declared.error.CheckError.TheVariants.{NotANumber}
+use Rattle.loom.specs.declared.error.Variable.{Variable}
 use Rattle.loom.specs.Environment.{are_digits, is_number, number_in}
 
 both : (a b : Bool) → (a && b) ≡ true → (a ≡ true) × (b ≡ true)
@@ -34,12 +35,12 @@ reads ds e =
     let d = both (nat_lt 0 (length ds)) (are_digits ds) z.0 in
     ((ltb-true 0 (length ds) d.0, all_are ds d.1), ltb-true (digits_value 10 ds) (2 ^ 64) z.1)
 
-pub number_reads : (text : List ℕ) (n : ℕ) → Reads (without_leading_plus text) × (n ≡ digits_value 10 (without_leading_plus text)) → Ok n ≡ number_in text
-number_reads text n h = ap Ok h.1 ∙ sym (ap (λ b. cond b (Ok (digits_value 10 (without_leading_plus text))) (Err NotANumber)) (is_read (without_leading_plus text) h.0))
+pub number_reads : (variable : Variable) (text : List ℕ) (n : ℕ) → Reads (without_leading_plus text) × (n ≡ digits_value 10 (without_leading_plus text)) → Ok n ≡ number_in variable text
+number_reads variable text n h = ap Ok h.1 ∙ sym (ap (λ b. cond b (Ok (digits_value 10 (without_leading_plus text))) (Err (NotANumber variable))) (is_read (without_leading_plus text) h.0))
 
-pub number_refused : (text : List ℕ) → (Reads (without_leading_plus text) → ⊥) → Err NotANumber ≡ number_in text
-number_refused text refused = go (is_number (without_leading_plus text)) refl
+pub number_refused : (variable : Variable) (text : List ℕ) → (Reads (without_leading_plus text) → ⊥) → Err (NotANumber variable) ≡ number_in variable text
+number_refused variable text refused = go (is_number (without_leading_plus text)) refl
   where
-    go : (b : Bool) → is_number (without_leading_plus text) ≡ b → Err NotANumber ≡ number_in text
+    go : (b : Bool) → is_number (without_leading_plus text) ≡ b → Err (NotANumber variable) ≡ number_in variable text
     go true e = absurd (refused (reads (without_leading_plus text) e))
-    go false e = sym (ap (λ b. cond b (Ok (digits_value 10 (without_leading_plus text))) (Err NotANumber)) e)
+    go false e = sym (ap (λ b. cond b (Ok (digits_value 10 (without_leading_plus text))) (Err (NotANumber variable))) e)

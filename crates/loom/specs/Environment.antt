@@ -8,6 +8,8 @@ use Rattle.loom.specs.declared.builder.Builder.{Builder}
 use Rattle.loom.specs.declared.env.Env.{Env}
 use Rattle.loom.specs.declared.error.CheckError.{CheckError}
 use Rattle.loom.specs.declared.error.CheckError.TheVariants.{NotANumber}
+use Rattle.loom.specs.declared.error.Variable.{Variable}
+use Rattle.loom.specs.declared.error.Variable.TheVariants.{MaxBranches, MaxPermutations, MaxDuration, MaxPreemptions, CheckpointInterval}
 use Rattle.loom.specs.Settings.{defaults}
 
 abbrev pub Text : Type 0
@@ -21,40 +23,40 @@ are_digits (c ∷ cs) = is_digit c 10 && are_digits cs
 abbrev pub is_number : List ℕ → Bool
 is_number digits = nat_lt 0 (length digits) && are_digits digits && nat_lt (digits_value 10 digits) (2 ^ 64)
 
-abbrev pub number_of_digits : List ℕ → Result ℕ CheckError
-number_of_digits digits = cond (is_number digits) (Ok (digits_value 10 digits)) (Err NotANumber)
+abbrev pub number_of_digits : Variable → List ℕ → Result ℕ CheckError
+number_of_digits variable digits = cond (is_number digits) (Ok (digits_value 10 digits)) (Err (NotANumber variable))
 
 -- a plus may stand before the digits
-abbrev pub number_in : List ℕ → Result ℕ CheckError
-number_in text = number_of_digits (without_leading_plus text)
+abbrev pub number_in : Variable → List ℕ → Result ℕ CheckError
+number_in variable text = number_of_digits variable (without_leading_plus text)
 
 abbrev pub then : {A B : Type 0} → Result A CheckError → (A → Result B CheckError) → Result B CheckError
 then (Ok a) next = next a
 then (Err e) next = Err e
 
-abbrev pub number_or : Text → ℕ → Result ℕ CheckError
-number_or None without = Ok without
-number_or (Some text) without = number_in (string_bytes text)
+abbrev pub number_or : Variable → Text → ℕ → Result ℕ CheckError
+number_or variable None without = Ok without
+number_or variable (Some text) without = number_in variable (string_bytes text)
 
-abbrev pub option_in : Text → Result (Option ℕ) CheckError
-option_in None = Ok None
-option_in (Some text) = then (number_in (string_bytes text)) (λ n. Ok (Some n))
+abbrev pub option_in : Variable → Text → Result (Option ℕ) CheckError
+option_in variable None = Ok None
+option_in variable (Some text) = then (number_in variable (string_bytes text)) (λ n. Ok (Some n))
 
 abbrev pub as_seconds : Option ℕ → Option Duration
 as_seconds None = None
 as_seconds (Some n) = Some (record { secs = n; nanos = 0 })
 
 abbrev pub duration_in : Text → Result (Option Duration) CheckError
-duration_in text = then (option_in text) (λ n. Ok (as_seconds n))
+duration_in text = then (option_in MaxDuration text) (λ n. Ok (as_seconds n))
 
--- the defaults, with what the variables say in their place
+-- the defaults, with what the variables say in their place; the first that should be a number and isn't is refused
 abbrev pub of_environment : Env → Result Builder CheckError
 of_environment env =
-    then (number_or env.max_branches 1000) (λ max_branches.
-    then (option_in env.max_permutations) (λ max_permutations.
+    then (number_or MaxBranches env.max_branches 1000) (λ max_branches.
+    then (option_in MaxPermutations env.max_permutations) (λ max_permutations.
     then (duration_in env.max_duration) (λ max_duration.
-    then (option_in env.max_preemptions) (λ preemption_bound.
-    then (number_or env.checkpoint_interval 20000) (λ checkpoint_interval.
+    then (option_in MaxPreemptions env.max_preemptions) (λ preemption_bound.
+    then (number_or CheckpointInterval env.checkpoint_interval 20000) (λ checkpoint_interval.
     Ok (record defaults {
       max_branches = max_branches;
       max_permutations = max_permutations;

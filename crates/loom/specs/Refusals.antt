@@ -14,9 +14,9 @@ use Rattle.loom.specs.Settings.{explores, search_of, tested}
 abbrev pub of_path : PathError → CheckError
 of_path why.NotJson = NotJson
 of_path why.WrongShape = WrongShape
-of_path why.WrongVersion = WrongVersion
-of_path why.OtherSettings = OtherSettings
-of_path why.TooManyNodes = TooManyNodes
+of_path (why.WrongVersion version) = WrongVersion version
+of_path (why.OtherSettings setting) = OtherSettings setting
+of_path (why.TooManyNodes count) = TooManyNodes count
 of_path why.BadNode = BadNode
 of_path (why.Memory e) = Memory
 

@@ -1,5 +1,5 @@
 -- Which settings a check takes, and which search they make.
-use Rattle.std.specs.Prelude.{ℕ, ◌||◌, ⊤, Bool, true, false, not, Option, Some, None, Result, Ok, Err, cond, nat_lt}
+use Rattle.std.specs.Prelude.{ℕ, ◌||◌, ⊤, Bool, not, true, false, Option, Some, None, Result, Ok, Err, cond, nat_lt}
 use Rattle.std.specs.Option.{unwrap_or}
 use Rattle.loom_views.specs.Limits.{highest_count}
 use Rattle.loom_walks.specs.Trees.Meeting.{Settings}
@@ -8,16 +8,20 @@ use Rattle.loom.specs.declared.error.CheckError.TheVariants.{MaxThreads, MaxBran
 use Rattle.loom.specs.declared.builder.Builder.{Builder}
 
 -- a bound on preemptions is 255 at most
-abbrev pub is_above : Option ℕ → Bool
-is_above None = false
-is_above (Some bound) = nat_lt 255 bound
+abbrev pub tested_bound : Option ℕ → Result ⊤ CheckError
+tested_bound None = Ok tt
+tested_bound (Some bound) = cond (nat_lt 255 bound) (Err (PreemptionBound bound)) (Ok tt)
+
+abbrev pub and_tested : Result ⊤ CheckError → Result ⊤ CheckError → Result ⊤ CheckError
+and_tested (Ok z) rest = rest
+and_tested (Err e) rest = Err e
 
 -- the first setting that is out of range is refused
 abbrev pub tested : Builder → Result ⊤ CheckError
 tested b =
-    cond (nat_lt b.max_threads 1 || nat_lt 5 b.max_threads) (Err MaxThreads)
-    (cond (nat_lt b.max_branches 1 || nat_lt 1000000 b.max_branches) (Err MaxBranches)
-    (cond (is_above b.preemption_bound) (Err PreemptionBound)
+    cond (nat_lt b.max_threads 1 || nat_lt 5 b.max_threads) (Err (MaxThreads b.max_threads))
+    (cond (nat_lt b.max_branches 1 || nat_lt 1000000 b.max_branches) (Err (MaxBranches b.max_branches))
+    (and_tested (tested_bound b.preemption_bound)
     (cond (nat_lt b.checkpoint_interval 1) (Err CheckpointInterval)
     (cond (nat_lt b.max_steps 1) (Err MaxSteps)
     (Ok tt)))))

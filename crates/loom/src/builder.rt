@@ -1,10 +1,10 @@
-ghost use Rattle.std.specs.Prelude.{◌≡◌, ◌≤◌, ◌<◌, OnOk, IfOk, IfErr, IfSome, IsFalse, Some, None, String, string_bytes};
+ghost use Rattle.std.specs.Prelude.{◌≡◌, ◌≤◌, ◌<◌, OnOk, IfOk, IfErr, IfSome, Some, None, String, string_bytes};
 ghost use Rattle.loom_path.specs.Routes.{settings};
 ghost use Rattle.loom.specs.Environment.{of_environment};
-ghost use Rattle.loom.specs.Settings.{defaults, explores, is_above, search_of, tested};
+ghost use Rattle.loom.specs.Settings.{defaults, explores, search_of, tested, tested_bound};
 
 use crate::env::{Env, number_or, optional, seconds};
-use crate::error::CheckError;
+use crate::error::{CheckError, Variable};
 use loom_path::rt::path::Search;
 use std::alloc::{AllocError, Global};
 use std::time::Duration;
@@ -75,11 +75,12 @@ impl Builder {
     pub fn from_env(env: Env) -> Result<Builder, CheckError>
         ensures { result ≡ of_environment env }
     {
-        let max_branches = number_or(&env.max_branches, 1000)?;
-        let max_permutations = optional(&env.max_permutations)?;
+        let max_branches = number_or(Variable::MaxBranches, &env.max_branches, 1000)?;
+        let max_permutations = optional(Variable::MaxPermutations, &env.max_permutations)?;
         let max_duration = seconds(&env.max_duration)?;
-        let preemption_bound = optional(&env.max_preemptions)?;
-        let checkpoint_interval = number_or(&env.checkpoint_interval, 20_000)?;
+        let preemption_bound = optional(Variable::MaxPreemptions, &env.max_preemptions)?;
+        let interval = &env.checkpoint_interval;
+        let checkpoint_interval = number_or(Variable::CheckpointInterval, interval, 20_000)?;
         Ok(Builder {
             max_branches,
             max_permutations,
@@ -113,14 +114,12 @@ impl Builder {
         ensures interval { OnOk result (0 < self.now.checkpoint_interval) }
     {
         if self.max_threads < 1 || self.max_threads > 5 {
-            return Err(CheckError::MaxThreads);
+            return Err(CheckError::MaxThreads(self.max_threads));
         }
         if self.max_branches < 1 || self.max_branches > 1_000_000 {
-            return Err(CheckError::MaxBranches);
+            return Err(CheckError::MaxBranches(self.max_branches));
         }
-        if is_too_high(self.preemption_bound) {
-            return Err(CheckError::PreemptionBound);
-        }
+        test_bound(self.preemption_bound)?;
         if self.checkpoint_interval < 1 {
             return Err(CheckError::CheckpointInterval);
         }
@@ -158,13 +157,13 @@ fn as_byte(bound: Option<usize>) -> Option<u8>
     }
 }
 
-/// Whether the bound, if there is one, is above 255.
-fn is_too_high(bound: Option<usize>) -> bool
-    ensures above { result ≡ is_above bound }
-    ensures within { IsFalse result → IfSome bound (λ most. most ≤ 255) }
+/// A bound, if there is one, is 255 at most.
+fn test_bound(bound: Option<usize>) -> Result<(), CheckError>
+    ensures tested { result ≡ tested_bound bound }
+    ensures within { OnOk result (IfSome bound (λ most. most ≤ 255)) }
 {
     match bound {
-        Some(bound) => bound > 255,
-        None => false,
+        Some(bound) if bound > 255 => Err(CheckError::PreemptionBound(bound)),
+        _ => Ok(()),
     }
 }

@@ -1,7 +1,7 @@
 ghost use Rattle.std.specs.Prelude.{◌≡◌};
 ghost use Rattle.loom.specs.Environment.{duration_in, number_in, number_or as or_number, option_in};
 
-use crate::error::CheckError;
+use crate::error::{CheckError, Variable};
 use std::time::Duration;
 
 /// The variables of an environment that say how a check is done (loom reads them by itself).
@@ -25,32 +25,39 @@ pub struct Env {
     pub log: Option<String>,
 }
 
-/// The number that a text says, in decimal digits, of 64 bits.
-fn number(text: &str) -> Result<usize, CheckError>
-    ensures { result ≡ number_in text.now }
+/// The number that the variable's text says, in decimal digits, of 64 bits.
+fn number(variable: Variable, text: &str) -> Result<usize, CheckError>
+    ensures { result ≡ number_in variable text.now }
 {
     match text.parse::<usize>() {
         Ok(number) => Ok(number),
-        Err(_) => Err(CheckError::NotANumber),
+        Err(_) => Err(CheckError::NotANumber(variable)),
     }
 }
 
 /// The number that the text says, or this one without a text.
-pub(crate) fn number_or(text: &Option<String>, without: usize) -> Result<usize, CheckError>
-    ensures { result ≡ or_number text.now without }
+pub(crate) fn number_or(
+    variable: Variable,
+    text: &Option<String>,
+    without: usize,
+) -> Result<usize, CheckError>
+    ensures { result ≡ or_number variable text.now without }
 {
     match text {
-        Some(text) => number(text.as_str()),
+        Some(text) => number(variable, text.as_str()),
         None => Ok(without),
     }
 }
 
 /// The number that the text says, if there is one.
-pub(crate) fn optional(text: &Option<String>) -> Result<Option<usize>, CheckError>
-    ensures { result ≡ option_in text.now }
+pub(crate) fn optional(
+    variable: Variable,
+    text: &Option<String>,
+) -> Result<Option<usize>, CheckError>
+    ensures { result ≡ option_in variable text.now }
 {
     match text {
-        Some(text) => Ok(Some(number(text.as_str())?)),
+        Some(text) => Ok(Some(number(variable, text.as_str())?)),
         None => Ok(None),
     }
 }
@@ -59,7 +66,7 @@ pub(crate) fn optional(text: &Option<String>) -> Result<Option<usize>, CheckErro
 pub(crate) fn seconds(text: &Option<String>) -> Result<Option<Duration>, CheckError>
     ensures { result ≡ duration_in text.now }
 {
-    match optional(text)? {
+    match optional(Variable::MaxDuration, text)? {
         Some(number) => Ok(Some(Duration::from_secs(number as u64))),
         None => Ok(None),
     }

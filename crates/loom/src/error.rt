@@ -4,41 +4,77 @@ ghost use Rattle.loom.specs.Refusals.{of_path, of_store};
 ghost use Rattle.loom.specs.declared.error.CheckError.TheVariants.{Memory};
 
 use loom_checkpoint::error::PathError;
+pub use loom_checkpoint::error::Setting;
 use loom_stores::store::StoreError;
 use std::alloc::AllocError;
+use std::fmt;
 use thiserror::Error;
 
-/// Why a check gives no report. The discriminant is its number.
+/// A variable of the environment that says a number.
+#[derive(Clone, Copy, Debug, PartialEq, Eq)]
+pub enum Variable {
+    /// `LOOM_MAX_BRANCHES`
+    MaxBranches,
+    /// `LOOM_MAX_PERMUTATIONS`
+    MaxPermutations,
+    /// `LOOM_MAX_DURATION`
+    MaxDuration,
+    /// `LOOM_MAX_PREEMPTIONS`
+    MaxPreemptions,
+    /// `LOOM_CHECKPOINT_INTERVAL`
+    CheckpointInterval,
+}
+
+impl fmt::Display for Variable {
+    fn fmt<W: fmt::Write>(&self, f: &mut fmt::Formatter<W>) -> fmt::Result {
+        match self {
+            Variable::MaxBranches => write!(f, "LOOM_MAX_BRANCHES"),
+            Variable::MaxPermutations => write!(f, "LOOM_MAX_PERMUTATIONS"),
+            Variable::MaxDuration => write!(f, "LOOM_MAX_DURATION"),
+            Variable::MaxPreemptions => write!(f, "LOOM_MAX_PREEMPTIONS"),
+            Variable::CheckpointInterval => write!(f, "LOOM_CHECKPOINT_INTERVAL"),
+        }
+    }
+}
+
+/// Why a check gives no report.
 #[derive(Clone, Copy, Debug, PartialEq, Eq, Error)]
 pub enum CheckError {
-    #[error("`max_threads` is 0 or above 5: set it to 1 to 5, which counts main")]
-    MaxThreads = 1,
-    #[error("`max_branches` is 0 or above 1000000: set it to 1 to 1000000")]
-    MaxBranches = 2,
-    #[error("the bound on preemptions is above 255: set it to 0 to 255, or set none")]
-    PreemptionBound = 3,
+    /// The setting is this.
+    #[error("`max_threads` is {0}: set it to 1 to 5, which counts main")]
+    MaxThreads(usize),
+    /// The setting is this.
+    #[error("`max_branches` is {0}: set it to 1 to 1000000")]
+    MaxBranches(usize),
+    /// The setting is this.
+    #[error("`preemption_bound` is {0}: set it to 0 to 255, or set none")]
+    PreemptionBound(usize),
     #[error("`checkpoint_interval` is 0: set it to 1 or more, as 20000")]
-    CheckpointInterval = 4,
+    CheckpointInterval,
     #[error("`max_steps` is 0: set it to 1 or more, as 1000000")]
-    MaxSteps = 5,
-    #[error("`LOOM_MAX_BRANCHES`, `LOOM_MAX_PERMUTATIONS`, `LOOM_MAX_DURATION`, `LOOM_MAX_PREEMPTIONS` or `LOOM_CHECKPOINT_INTERVAL` is set, and not to a number below 2^64 in decimal digits: correct it, or unset it")]
-    NotANumber = 6,
+    MaxSteps,
+    /// This variable isn't a number.
+    #[error("`{0}` is set, and not to a number below 2^64 in decimal digits: correct it, or unset it")]
+    NotANumber(Variable),
     #[error("the checkpoint is not JSON: it was cut off or changed, so delete it and begin anew")]
-    NotJson = 7,
+    NotJson,
     #[error("the checkpoint is JSON, but no path of a check: name another file, or delete it and begin anew")]
-    WrongShape = 8,
-    #[error("the checkpoint was written by another version of loom: go on with that version, or delete it and begin anew")]
-    WrongVersion = 9,
-    #[error("the checkpoint was written with another `reduce`, `preemption_bound` or `expect_explicit_explore`: go on with the same settings, or delete it and begin anew")]
-    OtherSettings = 10,
-    #[error("the checkpoint has more nodes than `max_branches`: set that as high as when it was written, or delete it and begin anew")]
-    TooManyNodes = 11,
+    WrongShape,
+    /// It has this version.
+    #[error("the checkpoint has version {0}, and this loom reads 1: go on with the loom that wrote it, or delete it and begin anew")]
+    WrongVersion(u64),
+    /// This setting differs.
+    #[error("the checkpoint was written with another `{0}`: go on with the same one, or delete it and begin anew")]
+    OtherSettings(Setting),
+    /// It has so many nodes.
+    #[error("the checkpoint has {0} nodes, which is more than `max_branches`: set that to {0} or more, or delete the checkpoint and begin anew")]
+    TooManyNodes(usize),
     #[error("the checkpoint has a node that no check writes: it was changed, so delete it and begin anew")]
-    BadNode = 12,
+    BadNode,
     #[error("the checkpoint could not be read or saved: see that its file may be read and written, and that the disk has room")]
-    Store = 13,
+    Store,
     #[error("out of memory: set a lower `max_branches` or `max_steps`, or make the body smaller")]
-    Memory = 14,
+    Memory,
 }
 
 impl CheckError {
@@ -46,7 +82,22 @@ impl CheckError {
     pub fn number(self) -> u8
         ensures { result ≡ number_of self }
     {
-        self as u8
+        match self {
+            CheckError::MaxThreads(_) => 1,
+            CheckError::MaxBranches(_) => 2,
+            CheckError::PreemptionBound(_) => 3,
+            CheckError::CheckpointInterval => 4,
+            CheckError::MaxSteps => 5,
+            CheckError::NotANumber(_) => 6,
+            CheckError::NotJson => 7,
+            CheckError::WrongShape => 8,
+            CheckError::WrongVersion(_) => 9,
+            CheckError::OtherSettings(_) => 10,
+            CheckError::TooManyNodes(_) => 11,
+            CheckError::BadNode => 12,
+            CheckError::Store => 13,
+            CheckError::Memory => 14,
+        }
     }
 }
 
@@ -65,9 +116,9 @@ impl From<PathError> for CheckError {
         match why {
             PathError::NotJson => CheckError::NotJson,
             PathError::WrongShape => CheckError::WrongShape,
-            PathError::WrongVersion => CheckError::WrongVersion,
-            PathError::OtherSettings => CheckError::OtherSettings,
-            PathError::TooManyNodes => CheckError::TooManyNodes,
+            PathError::WrongVersion(version) => CheckError::WrongVersion(version),
+            PathError::OtherSettings(setting) => CheckError::OtherSettings(setting),
+            PathError::TooManyNodes(count) => CheckError::TooManyNodes(count),
             PathError::BadNode => CheckError::BadNode,
             PathError::Memory(_) => CheckError::Memory,
         }

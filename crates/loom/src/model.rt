@@ -23,7 +23,7 @@ use std::alloc::Global;
 use std::rt::Files;
 
 /// What a check found. `runs` counts the runs that ended without a failure.
-#[derive(Debug, Drop)]
+#[derive(Debug, PartialEq, Eq, Drop)]
 pub enum Report {
     /// Every run was made that was to be made, and none failed.
     Complete {

@@ -13,7 +13,7 @@ use loom_objects::body::Body;
 use std::alloc::Global;
 
 /// What a check with rising bounds found.
-#[derive(Debug, Drop)]
+#[derive(Debug, PartialEq, Eq, Drop)]
 pub struct Risen {
     /// The bound on preemptions of the last check. The checks with lower bounds were complete.
     pub bound: usize,

@@ -10,7 +10,9 @@ use Rattle.loom_path.specs.declared.rt.node.Node.TheVariants.{Schedule, Load, Sp
 use Rattle.loom_checkpoint.specs.declared.error.PathError.{PathError}
 use Rattle.loom_checkpoint.specs.declared.error.PathError.TheVariants.{NotJson, WrongShape, WrongVersion, OtherSettings, TooManyNodes, BadNode, Memory}
 use Rattle.loom_checkpoint.specs.Grammar.{whole, whole_or_null, list_data, node_data, shape_data, path_data}
-use Rattle.loom_checkpoint.specs.Checkpoint.{IsPathOf, version_of, HasNodes, IsRefused, IsMemory}
+use Rattle.loom_checkpoint.specs.declared.error.Setting.{Setting}
+use Rattle.loom_checkpoint.specs.declared.error.Setting.TheVariants.{Reduce, PreemptionBound, Exploring}
+use Rattle.loom_checkpoint.specs.Checkpoint.{DiffersIn, IsPathOf, version_of, HasNodes, IsRefused, IsMemory}
 use Rattle.loom_checkpoint.specs.Reading.{each, as_whole, as_list, as_whole_or_null, ends, taken, Shape, shape_of, node_of}
 use Rattle.loom_checkpoint.proofs.Lists.{list_of-items_of}
 use Rattle.loom_checkpoint.proofs.Chains.{with_step, with_map, test_passed}
@@ -132,6 +134,15 @@ alike_formed ns ms e w = all_formed_bare ns (subst AreWellFormed (sym e) (all_ba
 alike_length : (ns ms : List Node) → AreAlike ns ms → length ns ≡ length ms
 alike_length ns ms e = sym (length-map ns bare) ∙ ap length e ∙ length-map ms bare
 
+-- ---- settings
+
+-- settings that are the same differ in none
+differs_nowhere : (s : Settings) (explores exploring : Bool) (bound : Option ℕ) (reduce : Bool) (setting : Setting) → DiffersIn s explores exploring bound reduce setting
+    → exploring ≡ explores → bound ≡ s.bound → reduce ≡ s.reduce → ⊥
+differs_nowhere s explores exploring bound reduce Reduce differs x b r = differs r
+differs_nowhere s explores exploring bound reduce PreemptionBound differs x b r = differs.1 b
+differs_nowhere s explores exploring bound reduce Exploring differs x b r = differs.2 x
+
 -- ---- a value and the nodes that it is of
 
 module _ (s : Settings) (explores : Bool) where
@@ -156,13 +167,13 @@ module _ (s : Settings) (explores : Bool) where
           | inl h ↦ no_version (version_of d) (version_is nodes path.value) h
           | inr h ↦ h.1 explores (map node_data nodes) s.bound s.reduce 1 (path.value ∙ path_shape nodes)
         ]
-    refused-no_path WrongVersion why other nodes path = why.2 (two_versions (version_of d) why.0 (version_is nodes path.value) why.1)
-    refused-no_path OtherSettings why other nodes path =
+    refused-no_path (WrongVersion version) why other nodes path = why.1 (two_versions (version_of d) version (version_is nodes path.value) why.0)
+    refused-no_path (OtherSettings setting) why other nodes path =
         let same = shape-same why.0 explores why.1 (map node_data nodes) why.2 s.bound why.3 s.reduce 1 1 (sym why.4 ∙ path.value ∙ path_shape nodes) in
-        why.5 (ap (λ p. p.exploring) same, ap (λ p. p.preemption_bound) same, ap (λ p. p.reduce) same)
-    refused-no_path TooManyNodes why other nodes path =
+        differs_nowhere s explores why.0 why.2 why.3 setting why.5 (ap (λ p. p.exploring) same) (ap (λ p. p.preemption_bound) same) (ap (λ p. p.reduce) same)
+    refused-no_path (TooManyNodes count) why other nodes path =
         let n : length why.0 ≡ length nodes = ap length (has_nodes why.0 nodes path.value why.1) ∙ length-map nodes node_data in
-        omega (arith, path.fits, why.2)
+        omega (arith, path.fits, why.2, why.3)
     refused-no_path BadNode why other nodes path = why.3 nodes path.well_formed (has_nodes why.0 nodes path.value why.1)
     refused-no_path (Memory m) why other nodes path = other tt
 
@@ -214,18 +225,18 @@ shaped d p e one =
 pub memory_refused : (s : Settings) (explores : Bool) (d : Data) (e : PathError) → IsMemory e → IsRefused s explores d e
 memory_refused s explores d NotJson m = m
 memory_refused s explores d WrongShape m = absurd m
-memory_refused s explores d WrongVersion m = absurd m
-memory_refused s explores d OtherSettings m = absurd m
-memory_refused s explores d TooManyNodes m = absurd m
+memory_refused s explores d (WrongVersion version) m = absurd m
+memory_refused s explores d (OtherSettings setting) m = absurd m
+memory_refused s explores d (TooManyNodes count) m = absurd m
 memory_refused s explores d BadNode m = absurd m
 memory_refused s explores d (Memory a) m = tt
 
 memory_or_not : (e : PathError) → IsMemory e ⊎ (¬ IsMemory e)
 memory_or_not NotJson = inr (λ m. m)
 memory_or_not WrongShape = inr (λ m. m)
-memory_or_not WrongVersion = inr (λ m. m)
-memory_or_not OtherSettings = inr (λ m. m)
-memory_or_not TooManyNodes = inr (λ m. m)
+memory_or_not (WrongVersion version) = inr (λ m. m)
+memory_or_not (OtherSettings setting) = inr (λ m. m)
+memory_or_not (TooManyNodes count) = inr (λ m. m)
 memory_or_not BadNode = inr (λ m. m)
 memory_or_not (Memory a) = inl tt
 

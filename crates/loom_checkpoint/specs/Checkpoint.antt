@@ -8,6 +8,8 @@ use Rattle.loom_path.specs.declared.rt.node.Node.{Node}
 use Rattle.loom_path.specs.WellFormed.{AreWellFormed, AreAlike}
 use Rattle.loom_checkpoint.specs.declared.error.PathError.{PathError}
 use Rattle.loom_checkpoint.specs.declared.error.PathError.TheVariants.{NotJson, WrongShape, WrongVersion, OtherSettings, TooManyNodes, BadNode, Memory}
+use Rattle.loom_checkpoint.specs.declared.error.Setting.{Setting}
+use Rattle.loom_checkpoint.specs.declared.error.Setting.TheVariants.{Reduce, PreemptionBound, Exploring}
 use Rattle.loom_checkpoint.specs.Grammar.{node_data, shape_data, path_data}
 
 -- the value is that of the path with these nodes, which are well formed, and no more than there may be
@@ -29,17 +31,23 @@ version_of d = option_and_then as_u64 (option_and_then as_number (get (codes "ve
 abbrev pub HasNodes : Settings → Bool → Data → List Data → Type 0
 HasNodes s explores d nodes = d ≡ shape_data explores nodes s.bound s.reduce 1
 
+-- the first of the settings that differ: the search is reduced, its bound, whether runs begin to explore
+abbrev pub DiffersIn : Settings → Bool → Bool → Option ℕ → Bool → Setting → Type 0
+DiffersIn s explores exploring bound reduce Reduce = reduce ≢ s.reduce
+DiffersIn s explores exploring bound reduce PreemptionBound = (reduce ≡ s.reduce) × (bound ≢ s.bound)
+DiffersIn s explores exploring bound reduce Exploring = (reduce ≡ s.reduce) × (bound ≡ s.bound) × (exploring ≢ explores)
+
 -- Why a value is refused. The reasons are tested in this order, and each implies that no earlier one holds.
 abbrev pub IsRefused : Settings → Bool → Data → PathError → Type 0
 IsRefused s explores d NotJson = ⊥
 IsRefused s explores d WrongShape =
     (version_of d ≡ None)
     ⊎ ((version_of d ≡ Some 1) × ((exploring : Bool) (nodes : List Data) (bound : Option ℕ) (reduce : Bool) (version : ℕ) → d ≢ shape_data exploring nodes bound reduce version))
-IsRefused s explores d WrongVersion = (version : ℕ) × (version_of d ≡ Some version) × (version ≢ 1)
-IsRefused s explores d OtherSettings =
+IsRefused s explores d (WrongVersion version) = (version_of d ≡ Some version) × (version ≢ 1)
+IsRefused s explores d (OtherSettings setting) =
     (exploring : Bool) × (nodes : List Data) × (bound : Option ℕ) × (reduce : Bool) × (d ≡ shape_data exploring nodes bound reduce 1)
-    × ¬ ((exploring ≡ explores) × (bound ≡ s.bound) × (reduce ≡ s.reduce))
-IsRefused s explores d TooManyNodes = (nodes : List Data) × HasNodes s explores d nodes × (s.max_branches < length nodes)
+    × DiffersIn s explores exploring bound reduce setting
+IsRefused s explores d (TooManyNodes count) = (nodes : List Data) × HasNodes s explores d nodes × (count ≡ length nodes) × (s.max_branches < count)
 IsRefused s explores d BadNode =
     (items : List Data) × HasNodes s explores d items × (length items ≤ s.max_branches) × ((nodes : List Node) → AreWellFormed nodes → items ≢ map node_data nodes)
 IsRefused s explores d (Memory e) = Unit {0}
@@ -47,9 +55,9 @@ IsRefused s explores d (Memory e) = Unit {0}
 abbrev pub IsMemory : PathError → Type 0
 IsMemory NotJson = ⊥
 IsMemory WrongShape = ⊥
-IsMemory WrongVersion = ⊥
-IsMemory OtherSettings = ⊥
-IsMemory TooManyNodes = ⊥
+IsMemory (WrongVersion version) = ⊥
+IsMemory (OtherSettings setting) = ⊥
+IsMemory (TooManyNodes count) = ⊥
 IsMemory BadNode = ⊥
 IsMemory (Memory e) = Unit {0}
 
@@ -61,8 +69,8 @@ OfText text P = IsUtf8 text × ((d : Data) × (read text ≡ Some d) × P d)
 abbrev pub IsRefusedText : Settings → Bool → List ℕ → PathError → Type 0
 IsRefusedText s explores text NotJson = IsUtf8 text → read text ≡ None
 IsRefusedText s explores text WrongShape = OfText text (λ d. IsRefused s explores d WrongShape)
-IsRefusedText s explores text WrongVersion = OfText text (λ d. IsRefused s explores d WrongVersion)
-IsRefusedText s explores text OtherSettings = OfText text (λ d. IsRefused s explores d OtherSettings)
-IsRefusedText s explores text TooManyNodes = OfText text (λ d. IsRefused s explores d TooManyNodes)
+IsRefusedText s explores text (WrongVersion version) = OfText text (λ d. IsRefused s explores d (WrongVersion version))
+IsRefusedText s explores text (OtherSettings setting) = OfText text (λ d. IsRefused s explores d (OtherSettings setting))
+IsRefusedText s explores text (TooManyNodes count) = OfText text (λ d. IsRefused s explores d (TooManyNodes count))
 IsRefusedText s explores text BadNode = OfText text (λ d. IsRefused s explores d BadNode)
 IsRefusedText s explores text (Memory e) = Unit {0}

@@ -1,6 +1,28 @@
 //! Why a text or a value is no path.
 use std::alloc::AllocError;
+use std::fmt;
 use thiserror::Error;
+
+/// A setting that a path's text has, by its name in a builder.
+#[derive(Clone, Copy, Debug, PartialEq, Eq)]
+pub enum Setting {
+    /// Whether the search is reduced.
+    Reduce,
+    /// The bound on preemptions.
+    PreemptionBound,
+    /// Whether runs begin to explore only when the body says so.
+    Exploring,
+}
+
+impl fmt::Display for Setting {
+    fn fmt<W: fmt::Write>(&self, f: &mut fmt::Formatter<W>) -> fmt::Result {
+        match self {
+            Setting::Reduce => write!(f, "reduce"),
+            Setting::PreemptionBound => write!(f, "preemption_bound"),
+            Setting::Exploring => write!(f, "expect_explicit_explore"),
+        }
+    }
+}
 
 /// Why a text or a value is no path. The reasons are tested in this order.
 #[derive(Debug, Drop, Error)]
@@ -11,15 +33,15 @@ pub enum PathError {
     /// The value isn't of the format.
     #[error("the checkpoint has the wrong shape")]
     WrongShape,
-    /// The value is of another version.
-    #[error("the checkpoint has another version")]
-    WrongVersion,
-    /// The path is of a search with other settings.
-    #[error("the checkpoint was made with other settings")]
-    OtherSettings,
-    /// There are more nodes than a run may have.
-    #[error("the checkpoint has too many nodes")]
-    TooManyNodes,
+    /// The value is of another version, this one.
+    #[error("the checkpoint has version {0}, and not 1")]
+    WrongVersion(u64),
+    /// The path is of a search with other settings. This is the first that differs.
+    #[error("the checkpoint was made with another `{0}`")]
+    OtherSettings(Setting),
+    /// There are more nodes than a run may have, so many.
+    #[error("the checkpoint has {0} nodes, more than a run may have")]
+    TooManyNodes(usize),
     /// A node isn't of the format, or isn't well formed.
     #[error("the checkpoint has a bad node")]
     BadNode,

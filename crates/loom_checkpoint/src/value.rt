@@ -1,14 +1,14 @@
 //! A path as a JSON value.
-ghost use Rattle.std.specs.Prelude.{◌≡◌, ◌≤◌, ◌⊎◌, ◌↔◌, List, length, Some, None, IfOk, IfErr, IsTrue, map};
+ghost use Rattle.std.specs.Prelude.{◌≡◌, ◌≤◌, ◌⊎◌, ◌↔◌, List, length, Some, None, IfOk, IfErr, IfSome, IsTrue, map};
 ghost use Rattle.serde_json.specs.View.{view};
 ghost use Rattle.loom_path.specs.declared.rt.node.Node.{Node};
 ghost use Rattle.loom_path.specs.Routes.{at_rest, settings};
 ghost use Rattle.loom_path.specs.WellFormed.{AreWellFormed};
-ghost use Rattle.loom_checkpoint.specs.Checkpoint.{IsPathOf, IsRefused, IsMemory, ValueLaw};
+ghost use Rattle.loom_checkpoint.specs.Checkpoint.{DiffersIn, IsPathOf, IsRefused, IsMemory, ValueLaw};
 ghost use Rattle.loom_checkpoint.specs.Grammar.{path_data};
 ghost use Rattle.loom_checkpoint.specs.Reading.{each, node_of};
 
-use crate::error::PathError;
+use crate::error::{PathError, Setting};
 use crate::read::{Parts, read_node, read_parts, read_version};
 use crate::write::write_nodes;
 use loom_path::rt::node::Node;
@@ -78,7 +78,7 @@ fn find_path(alloc: Global, value: &Value, search: Search) -> Result<Path, PathE
         None => return Err(PathError::WrongShape),
         Some(version) => {
             if version != 1 {
-                return Err(PathError::WrongVersion);
+                return Err(PathError::WrongVersion(version));
             }
         }
     }
@@ -86,11 +86,13 @@ fn find_path(alloc: Global, value: &Value, search: Search) -> Result<Path, PathE
         Some(parts) => parts,
         None => return Err(PathError::WrongShape),
     };
-    if !has_settings(parts, search) {
-        return Err(PathError::OtherSettings);
+    match other_setting(parts, search) {
+        Some(setting) => return Err(PathError::OtherSettings(setting)),
+        None => {}
     }
-    if parts.nodes.len() > search.max_branches as usize {
-        return Err(PathError::TooManyNodes);
+    let count = parts.nodes.len();
+    if count > search.max_branches as usize {
+        return Err(PathError::TooManyNodes(count));
     }
     let nodes = match read_nodes(alloc, parts.nodes) {
         Ok(nodes) => nodes,
@@ -102,17 +104,33 @@ fn find_path(alloc: Global, value: &Value, search: Search) -> Result<Path, PathE
     }
 }
 
-fn has_settings(parts: Parts<'_>, search: Search) -> bool
-    ensures { IsTrue result ↔ ((parts.entry.exploring ≡ search.explores)
+/// The first setting of a path's text that this search has otherwise.
+fn other_setting(parts: Parts<'_>, search: Search) -> Option<Setting>
+    ensures some { IfSome result (λ setting. DiffersIn (settings search) search.explores parts.entry.exploring parts.entry.preemption_bound parts.entry.reduce setting) }
+    ensures none { result ≡ None → (parts.entry.exploring ≡ search.explores)
         × (parts.entry.preemption_bound ≡ search.bound)
-        × (parts.entry.reduce ≡ search.reduce)) }
+        × (parts.entry.reduce ≡ search.reduce) }
 {
-    let bound = match (parts.preemption_bound, search.bound) {
+    if parts.reduce != search.reduce {
+        return Some(Setting::Reduce);
+    }
+    if !is_bound(parts.preemption_bound, search.bound) {
+        return Some(Setting::PreemptionBound);
+    }
+    if parts.exploring != search.explores {
+        return Some(Setting::Exploring);
+    }
+    None
+}
+
+fn is_bound(written: Option<u64>, bound: Option<u8>) -> bool
+    ensures { IsTrue result ↔ (written ≡ bound) }
+{
+    match (written, bound) {
         (None, None) => true,
         (Some(written), Some(bound)) => written == bound as u64,
         _ => false,
-    };
-    bound && parts.exploring == search.explores && parts.reduce == search.reduce
+    }
 }
 
 fn read_nodes(alloc: Global, items: &Vec<Value>) -> Result<Vec<Node>, PathError>

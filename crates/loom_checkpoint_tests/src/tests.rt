@@ -25,9 +25,9 @@ fn refusal(alloc: Global, text: &[u8], search: Search) -> u8 {
         Ok(_) => 0,
         Err(PathError::NotJson) => 7,
         Err(PathError::WrongShape) => 8,
-        Err(PathError::WrongVersion) => 9,
-        Err(PathError::OtherSettings) => 10,
-        Err(PathError::TooManyNodes) => 11,
+        Err(PathError::WrongVersion(_)) => 9,
+        Err(PathError::OtherSettings(_)) => 10,
+        Err(PathError::TooManyNodes(_)) => 11,
         Err(PathError::BadNode) => 12,
         Err(PathError::Memory(_)) => 14,
     }

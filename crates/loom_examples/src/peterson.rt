@@ -1,5 +1,6 @@
 //! Peterson's lock for two threads, as a script. Each raises its flag, lets the other one go first, and enters where the other's
 //! flag is down or it is let go first itself. Both add one to the number in a cell.
+use crate::named;
 use loom::sync::atomic::Ordering::{AcqRel, Acquire, Relaxed, Release, SeqCst};
 use loom_objects::operation::{AtomicOp, CellOp, Op, ThreadOp};
 use loom_scripts::step::Step::{Do, JumpTo, Label, SpawnAt, UnlessTo};
@@ -18,10 +19,10 @@ const FINISH: Step = Do(0, Op::Thread(ThreadOp::Finish(Value::Plain(0)), None));
 macro_rules! peterson {
     ($fence:expr) => {
         &[
-            Do(0, Op::Atomic(NEW, None)),
-            Do(1, Op::Atomic(NEW, None)),
-            Do(2, Op::Atomic(NEW, None)),
-            Do(3, Op::Cell(CellOp::New(Value::Plain(0)), None)),
+            Do(0, Op::Atomic(NEW, named!("main's flag"))),
+            Do(1, Op::Atomic(NEW, named!("other flag"))),
+            Do(2, Op::Atomic(NEW, named!("turn"))),
+            Do(3, Op::Cell(CellOp::New(Value::Plain(0)), named!("count"))),
             SpawnAt(4, "other"),
             Do(0, Op::Atomic(AtomicOp::Store(0, 1, Relaxed), None)),
             Do(0, Op::Fence($fence, None)),

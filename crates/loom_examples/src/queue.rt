@@ -1,7 +1,8 @@
 //! A queue with room for one item, by a mutex and a condition variable, as a script. The mutex holds how many items there are.
 //! One thread puts two items in, another one puts one, and main takes all three out.
+use crate::named;
 use loom_objects::operation::{CondvarOp, MutexOp, Op, ThreadOp};
-use loom_scripts::step::Step::{Do, JumpTo, Label, SpawnAt, UnlessTo};
+use loom_scripts::step::Step::{Do, IfTo, Label, SpawnAt, UnlessTo};
 use loom_scripts::step::{END, EXIT, Step, Value};
 
 const LOCK: Step = Do(0, Op::Mutex(MutexOp::Lock(0), None));
@@ -20,16 +21,15 @@ const FINISH: Step = Do(0, Op::Thread(ThreadOp::Finish(Value::Plain(0)), None));
 macro_rules! queue {
     ($notify:expr) => {
         &[
-            Do(0, Op::Mutex(MutexOp::New(Value::Plain(0)), None)),
-            Do(1, Op::Condvar(CondvarOp::New, None)),
+            Do(0, Op::Mutex(MutexOp::New(Value::Plain(0)), named!("items"))),
+            Do(1, Op::Condvar(CondvarOp::New, named!("changed"))),
             SpawnAt(2, "put two"),
             SpawnAt(3, "put one"),
             LOCK,
             UnlessTo(0, 0, "take first"),
             Label("wait for first"),
             SLEEP_EMPTY,
-            UnlessTo(0, 0, "take first"),
-            JumpTo("wait for first"),
+            IfTo(0, 0, "wait for first"),
             Label("take first"),
             EMPTY,
             Do(0, Op::Condvar($notify, None)),
@@ -37,8 +37,7 @@ macro_rules! queue {
             UnlessTo(0, 0, "take second"),
             Label("wait for second"),
             SLEEP_EMPTY,
-            UnlessTo(0, 0, "take second"),
-            JumpTo("wait for second"),
+            IfTo(0, 0, "wait for second"),
             Label("take second"),
             EMPTY,
             Do(0, Op::Condvar($notify, None)),
@@ -46,8 +45,7 @@ macro_rules! queue {
             UnlessTo(0, 0, "take third"),
             Label("wait for third"),
             SLEEP_EMPTY,
-            UnlessTo(0, 0, "take third"),
-            JumpTo("wait for third"),
+            IfTo(0, 0, "wait for third"),
             Label("take third"),
             EMPTY,
             Do(0, Op::Condvar($notify, None)),
@@ -59,8 +57,7 @@ macro_rules! queue {
             UnlessTo(0, 1, "fill"),
             Label("wait for room"),
             SLEEP_FULL,
-            UnlessTo(0, 1, "fill"),
-            JumpTo("wait for room"),
+            IfTo(0, 1, "wait for room"),
             Label("fill"),
             FILL,
             Do(0, Op::Condvar($notify, None)),
@@ -69,8 +66,7 @@ macro_rules! queue {
             UnlessTo(0, 1, "fill last"),
             Label("wait for last room"),
             SLEEP_FULL,
-            UnlessTo(0, 1, "fill last"),
-            JumpTo("wait for last room"),
+            IfTo(0, 1, "wait for last room"),
             Label("fill last"),
             FILL,
             Do(0, Op::Condvar($notify, None)),

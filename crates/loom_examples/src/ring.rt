@@ -1,5 +1,6 @@
 //! A ring of two cells for one producer and one consumer, as a script: one atomic counts the items that were put in, and one those
 //! that were taken out. A thread puts 11, 12 and 13 in. Main takes them out, and asserts which they are.
+use crate::named;
 use loom::sync::atomic::Ordering::{Acquire, Relaxed, Release};
 use loom_objects::operation::{AtomicOp, CellOp, Op, ThreadOp};
 use loom_scripts::step::Step::{Do, JumpTo, Label, SpawnAt, UnlessTo};
@@ -7,8 +8,6 @@ use loom_scripts::step::{END, EXIT, FAIL, Step, Value, YIELD};
 use loom_views::rt::num::Numbers;
 
 const NEW: AtomicOp = AtomicOp::New(Numbers::U64, 0);
-
-const NEW_CELL: Op<Value, usize> = Op::Cell(CellOp::New(Value::Plain(0)), None);
 
 const LOOK: Step = Do(0, Op::Atomic(AtomicOp::Load(1, Acquire), None));
 
@@ -18,10 +17,10 @@ const FINISH: Step = Do(0, Op::Thread(ThreadOp::Finish(Value::Plain(0)), None));
 macro_rules! ring {
     ($publish:expr) => {
         &[
-            Do(0, Op::Atomic(NEW, None)),
-            Do(1, Op::Atomic(NEW, None)),
-            Do(2, NEW_CELL),
-            Do(3, NEW_CELL),
+            Do(0, Op::Atomic(NEW, named!("taken out"))),
+            Do(1, Op::Atomic(NEW, named!("put in"))),
+            Do(2, Op::Cell(CellOp::New(Value::Plain(0)), named!("cell 0"))),
+            Do(3, Op::Cell(CellOp::New(Value::Plain(0)), named!("cell 1"))),
             SpawnAt(4, "producer"),
             Label("wait for 11"),
             LOOK,

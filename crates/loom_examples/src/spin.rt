@@ -73,7 +73,10 @@ impl Spin {
             },
             Awaits::TheNumber(flag) => {
                 let (pointer, Number(number)) = MutPtr::take(reply)?;
-                Some((Awaits::Written(flag), pointer.end(Number(number.wrapping_add(1)))))
+                Some((
+                    Awaits::Written(flag),
+                    pointer.end(Number(number.wrapping_add(1))),
+                ))
             }
             Awaits::Written(flag) => {
                 let free = flag.store(false, self.release);

@@ -5,6 +5,7 @@
 #![tactic(auto)]
 
 ghost use Rattle.std.specs.Prelude.{◌≡◌, None};
+ghost use Rattle.loom_ops.specs.Failing.{IsUnexpected};
 
 pub mod alloc;
 pub mod cell;
@@ -15,6 +16,7 @@ pub mod sync;
 pub mod thread;
 
 use loom_objects::operation::{ExploreOp, Op};
+use loom_parts::label::Label;
 
 /// The body's own assertion failed, which ends the run (own).
 pub fn fail<D, S>() -> Op<D, S>
@@ -23,11 +25,15 @@ pub fn fail<D, S>() -> Op<D, S>
     Op::Fail(None)
 }
 
-/// The body met a reply that it doesn't know, which ends the run as an assertion that failed (own).
+/// The body met a reply that it doesn't know, which ends the run as an assertion that failed. Its label says so. A body whose
+/// meaning is proved can't name that label in a definition, and makes `fail` instead (own).
 pub fn unexpected_reply<D, S>() -> Op<D, S>
-    ensures { result ≡ Op.Fail None }
+    ensures { IsUnexpected result }
 {
-    Op::Fail(None)
+    Op::Fail(Some(Label {
+        name: Some("unexpected reply"),
+        location: None,
+    }))
 }
 
 /// The search tries other choices than the first from now on. Where it does so already that is the failure `ExploreSwitch`;

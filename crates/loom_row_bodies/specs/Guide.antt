@@ -1,15 +1,19 @@
 -- What the threads of the guide's body do: from what a thread awaits and a reply, what it awaits next and its operation.
-use Rattle.std.specs.Prelude.{ℕ, ◌+◌, None, cond, nat_lt}
+use Rattle.std.specs.Prelude.{ℕ, ◌+◌, Option, Some, None, cond, nat_lt}
 use Rattle.loom_objects.specs.declared.operation.Op.{Op}
 use Rattle.loom_objects.specs.declared.operation.Op.TheVariants.{Mutex as OnMutex, Thread as OnThread, Fail}
 use Rattle.loom_objects.specs.declared.operation.MutexOp.TheVariants.{New, Lock, Release}
-use Rattle.loom_objects.specs.declared.operation.ThreadOp.TheVariants.{Spawn, Finish, Exit, End}
+use Rattle.loom_objects.specs.declared.operation.ThreadOp.TheVariants.{Spawn}
 use Rattle.loom_objects.specs.declared.operation.Reply.{Reply}
-use Rattle.loom_objects.specs.declared.operation.Reply.TheVariants.{Start, Mutex, Locked}
+use Rattle.loom_objects.specs.declared.operation.Reply.TheVariants.{Start, Mutex}
+use Rattle.loom_ops.specs.Locks.{guard_taken}
+use Rattle.loom_ops.specs.Threads.{leave}
+use Rattle.loom_ops.specs.declared.sync.mutex.MutexGuard.{MutexGuard}
+use Rattle.loom_ops.specs.declared.thread.Leaving.TheVariants as left
 use Rattle.loom_scripts.specs.declared.number.Number.{Number}
 use Rattle.loom_scripts.specs.Number.{number}
 use Rattle.loom_row_bodies.specs.declared.guide.Awaits.{Awaits}
-use Rattle.loom_row_bodies.specs.declared.guide.Awaits.TheVariants.{Main, TheMutex, Counting, TheLock, Released, Finished, Exited, Nothing}
+use Rattle.loom_row_bodies.specs.declared.guide.Awaits.TheVariants.{Main, TheMutex, Counting, TheLock, Leaving, Nothing}
 use Rattle.loom_row_bodies.specs.declared.guide.Counter.{Counter}
 
 -- main before its first operation
@@ -19,7 +23,12 @@ begun fewer_than = record { fewer_than = fewer_than; awaits = Main }
 -- a thread that found this count in the mutex of this number
 abbrev pub counts : ℕ → ℕ → ℕ → Awaits × Op Number Counter
 counts fewer_than mutex count =
-    cond (nat_lt count fewer_than) (Released (count + 1), OnMutex (Release mutex (number (count + 1))) None) (Nothing, Fail None)
+    cond (nat_lt count fewer_than) (Leaving (count + 1) left.Finish, OnMutex (Release mutex (number (count + 1))) None) (Nothing, Fail None)
+
+-- a thread that holds the mutex, or was told something else
+abbrev pub held : ℕ → Option (MutexGuard × Number) → Awaits × Op Number Counter
+held fewer_than (Some found) = counts fewer_than found.0.number found.1.0
+held fewer_than None = (Nothing, Fail None)
 
 abbrev pub turn : ℕ → Awaits → Reply Number → Awaits × Op Number Counter
 turn fewer_than Main Start = (TheMutex, OnMutex (New (number 0)) None)
@@ -27,10 +36,8 @@ turn fewer_than TheMutex (Mutex mutex) =
     let counting = Counting (record { number = mutex }) in
     (counting, OnThread (Spawn (record { fewer_than = 2; awaits = counting }) None) None)
 turn fewer_than (Counting mutex) reply = (TheLock, OnMutex (Lock mutex.number) None)
-turn fewer_than TheLock (Locked mutex count) = counts fewer_than mutex count.0
-turn fewer_than (Released count) reply = (Finished, OnThread (Finish (number count)) None)
-turn fewer_than Finished reply = (Exited, OnThread Exit None)
-turn fewer_than Exited reply = (Nothing, OnThread End None)
+turn fewer_than TheLock reply = held fewer_than (guard_taken reply)
+turn fewer_than (Leaving count leaving) reply = let next = leave (number count) leaving in (Leaving count next.0, next.1)
 turn fewer_than _ reply = (Nothing, Fail None)
 
 -- a thread's meaning

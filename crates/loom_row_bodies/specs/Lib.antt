@@ -5,4 +5,6 @@ pub mod Meanings
 pub mod Names
 pub mod Rows
 pub mod Scripts
+pub mod Tasks
 pub mod Updates
+pub mod Words

@@ -3,7 +3,8 @@ ghost use Rattle.std.specs.Prelude.{◌≡◌, IfOk};
 ghost use Rattle.loom_row_bodies.specs.Guide.{next_of, turn, counts, begun};
 
 use loom::sync::{Mutex, MutexGuard};
-use loom::{Body, Op, Reply, fail, thread};
+use loom::thread::{self, Leaving};
+use loom::{Body, Op, Reply, fail};
 use loom_scripts::number::Number;
 use std::alloc::AllocError;
 
@@ -18,13 +19,9 @@ pub enum Awaits {
     Counting(Mutex),
     /// That it holds the mutex, and the count that it finds.
     TheLock,
-    /// That it no longer holds the mutex, in which it left this count.
-    Released(u64),
-    /// That it finished.
-    Finished,
-    /// That it exited.
-    Exited,
-    /// Nothing: it has ended.
+    /// That it no longer holds the mutex, in which it left this count; and then that it finished and exited.
+    Leaving(u64, Leaving),
+    /// Nothing: it has failed.
     Nothing,
 }
 
@@ -56,7 +53,8 @@ impl Counter {
             return (Awaits::Nothing, fail());
         }
         let count = count + 1;
-        (Awaits::Released(count), guard.release(Number(count)))
+        let leaving = Awaits::Leaving(count, Leaving::Finish);
+        (leaving, guard.release(Number(count)))
     }
 
     /// What the thread awaits after this reply, and the operation that it hands over.
@@ -74,12 +72,14 @@ impl Counter {
                 (Awaits::Counting(mutex), thread::spawn(other))
             }
             (Awaits::Counting(mutex), _) => (Awaits::TheLock, mutex.lock()),
-            (Awaits::TheLock, Reply::Locked(number, Number(count))) => {
-                self.counts(MutexGuard { number }, count)
+            (Awaits::TheLock, reply) => match MutexGuard::take(reply) {
+                Some((guard, Number(count))) => self.counts(guard, count),
+                None => (Awaits::Nothing, fail()),
+            },
+            (Awaits::Leaving(count, leaving), _) => {
+                let (leaving, op) = leaving.next(Number(count));
+                (Awaits::Leaving(count, leaving), op)
             }
-            (Awaits::Released(count), _) => (Awaits::Finished, thread::finish(Number(count))),
-            (Awaits::Finished, _) => (Awaits::Exited, thread::exit()),
-            (Awaits::Exited, _) => (Awaits::Nothing, thread::end()),
             _ => (Awaits::Nothing, fail()),
         }
     }

@@ -8,4 +8,6 @@ pub mod guide;
 pub mod line;
 pub mod rows;
 pub mod settings;
+pub mod tasks;
 pub mod updates;
+pub mod words;

@@ -13,6 +13,7 @@ use crate::line::{self, ShownReport};
 use crate::settings::Settings;
 use crate::updates::Updater;
 use loom::Body;
+use loom::error::CheckError;
 use loom::model::{Builder, Report};
 use loom_scripts::number::Number;
 use loom_scripts::script::Script;
@@ -178,7 +179,8 @@ fn check_words<R: AllocGlobal + Files, O: Write, E: Write>(
     }
 }
 
-fn refuse<W: Write>(err: &mut W) -> io::Result<u8>
+/// The words mean nothing.
+pub(crate) fn refuse<W: Write>(err: &mut W) -> io::Result<u8>
     ensures { IfOk result (λ status. status ≡ 2) }
 {
     writeln!(err, "usage: loom_rows NAME [FILE]")?;
@@ -219,15 +221,21 @@ fn check_body<R: AllocGlobal + Files, B: Body<Data = Number>, O: Write, E: Write
 {
     match builder.check(rt, rt.alloc(), body) {
         Ok(report) => print_report(out, &report),
-        Err(error) => {
-            let number = error.number();
-            writeln!(err, "error {number}")?;
-            Ok(2)
-        }
+        Err(error) => refuse_check(err, error),
     }
 }
 
-fn print_report<W: Write>(out: &mut W, report: &Report) -> io::Result<u8>
+/// There is no report.
+pub(crate) fn refuse_check<W: Write>(err: &mut W, error: CheckError) -> io::Result<u8>
+    ensures { IfOk result (λ status. status ≡ 2) }
+{
+    let number = error.number();
+    writeln!(err, "error {number}")?;
+    Ok(2)
+}
+
+/// Prints the line of the report, and answers its status.
+pub(crate) fn print_report<W: Write>(out: &mut W, report: &Report) -> io::Result<u8>
     ensures { IfOk result (λ status. PrintedOf report.now (W.contents out.old) (W.contents out.new) status) }
 {
     let shown = ShownReport(report);

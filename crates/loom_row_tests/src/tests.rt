@@ -16,6 +16,7 @@ mod shared;
 mod sizes;
 mod values;
 mod wakers;
+mod words;
 
 use loom::model::Report;
 use loom::visitor::Visitor;

@@ -1,11 +1,10 @@
 -- A thread of a script: its steps, and how far it is.
 use Rattle.std.specs.Prelude.{ℕ, ◌+◌, ◌==◌, Bool, false, List, [], ◌∷◌, length, position, Option, Some, None, slice_get, cond}
-use Rattle.std.specs.Option.{unwrap_or}
 use Rattle.std.specs.Str.{bytes_eq}
 use Rattle.loom_scripts.specs.declared.state.Handle.TheVariants.{Empty}
 use Rattle.loom_scripts.specs.declared.state.State.{State}
 use Rattle.loom_scripts.specs.declared.step.Step.{Step}
-use Rattle.loom_scripts.specs.declared.step.Step.TheVariants.{Do, Store, Jump, Unless, Label, JumpTo, UnlessTo, SpawnAt}
+use Rattle.loom_scripts.specs.declared.step.Step.TheVariants.{Do, Store, Jump, Unless, Label, JumpTo, IfTo, UnlessTo, SpawnAt}
 use Rattle.loom_scripts.specs.Slots.{held}
 
 pub record Running : Type 0 where
@@ -40,12 +39,21 @@ is_label name (Jump target) = false
 is_label name (Unless register n target) = false
 is_label name (Label label) = bytes_eq label.now name
 is_label name (JumpTo other) = false
+is_label name (IfTo register n other) = false
 is_label name (UnlessTo register n other) = false
 is_label name (SpawnAt slot other) = false
 
--- where the first label of this name stands; without one, the steps' end
+-- where the first label of this name stands
+abbrev pub label_at : List Step → List ℕ → Option ℕ
+label_at steps name = position (is_label name) steps
+
+abbrev pub or_end : Option ℕ → List Step → ℕ
+or_end None steps = length steps
+or_end (Some place) steps = place
+
+-- the same; without one, the steps' end
 abbrev pub place_of : List Step → List ℕ → ℕ
-place_of steps name = unwrap_or (position (is_label name) steps) (length steps)
+place_of steps name = or_end (label_at steps name) steps
 
 -- where it goes on from this step: a jump makes no operation
 abbrev pub goes_on_at : List Step → State → Step → ℕ
@@ -55,6 +63,7 @@ goes_on_at steps s (Jump target) = target
 goes_on_at steps s (Unless register n target) = cond (held s register == n) (s.at + 1) target
 goes_on_at steps s (Label label) = s.at
 goes_on_at steps s (JumpTo name) = place_of steps name.now
+goes_on_at steps s (IfTo register n name) = cond (held s register == n) (place_of steps name.now) (s.at + 1)
 goes_on_at steps s (UnlessTo register n name) = cond (held s register == n) (s.at + 1) (place_of steps name.now)
 goes_on_at steps s (SpawnAt slot name) = s.at
 
@@ -66,6 +75,7 @@ behind_label place (Some (Jump target)) = place
 behind_label place (Some (Unless register n target)) = place
 behind_label place (Some (Label label)) = place + 1
 behind_label place (Some (JumpTo name)) = place
+behind_label place (Some (IfTo register n name)) = place
 behind_label place (Some (UnlessTo register n name)) = place
 behind_label place (Some (SpawnAt slot name)) = place
 
@@ -89,6 +99,7 @@ keep_of (Jump target) = 0
 keep_of (Unless register n target) = 0
 keep_of (Label label) = 0
 keep_of (JumpTo name) = 0
+keep_of (IfTo register n name) = 0
 keep_of (UnlessTo register n name) = 0
 keep_of (SpawnAt slot name) = slot
 

@@ -8,7 +8,7 @@ use Rattle.loom_objects.specs.declared.operation.Reply.{Reply}
 use Rattle.loom_objects.specs.declared.operation.ThreadOp.TheVariants.{Spawn}
 use Rattle.loom_scripts.specs.declared.number.Number.{Number}
 use Rattle.loom_scripts.specs.declared.step.Step.{Step}
-use Rattle.loom_scripts.specs.declared.step.Step.TheVariants.{Do, Store, Jump, Unless, Label, JumpTo, UnlessTo, SpawnAt}
+use Rattle.loom_scripts.specs.declared.step.Step.TheVariants.{Do, Store, Jump, Unless, Label, JumpTo, IfTo, UnlessTo, SpawnAt}
 use Rattle.loom_scripts.specs.declared.step.Value.{Value}
 use Rattle.loom_scripts.specs.Operations.{atomic_op, cell_op, arc_op, track_op, mutex_op, rwlock_op, condvar_op, notify_op, channel_op, waker_op, place_op, local_op, lazy_op, thread_op}
 use Rattle.loom_scripts.specs.Running.{Running, fetched, landing, place_of, spawned}
@@ -57,6 +57,7 @@ step_operation s (Some (Jump target)) = op.Fail None
 step_operation s (Some (Unless register n target)) = op.Fail None
 step_operation s (Some (Label label)) = op.Fail None
 step_operation s (Some (JumpTo name)) = op.Fail None
+step_operation s (Some (IfTo register n name)) = op.Fail None
 step_operation s (Some (UnlessTo register n name)) = op.Fail None
 step_operation s (Some (SpawnAt slot name)) = spawn_at s name.now
 

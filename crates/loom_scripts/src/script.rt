@@ -1,7 +1,7 @@
 //! Bodies that take one step of a list after another.
-ghost use Rattle.std.specs.Prelude.{◌≡◌, IfOk};
+ghost use Rattle.std.specs.Prelude.{◌≡◌, Some, IfOk};
 ghost use Rattle.loom_scripts.specs.Running.{landing, spawned, started};
-ghost use Rattle.loom_scripts.specs.Script.{fetched_after, next_of, operation, operation_at, spawn_at, store};
+ghost use Rattle.loom_scripts.specs.Script.{fetched_after, next_of, operation, operation_at, spawn_at, step_operation, store};
 ghost use Rattle.loom_scripts.specs.Slots.{kept};
 
 use crate::number::Number;
@@ -132,6 +132,23 @@ impl Script {
         Ok(Op::Thread(ThreadOp::Spawn(child, None), None))
     }
 
+    /// The operation of the step. A jump and a label have none: there it fails.
+    fn step_operation(&self, step: &Step) -> Result<Op<Number, Script>, AllocError>
+        ensures { IfOk result (λ made. made ≡ step_operation self.now (Some step.now)) }
+    {
+        match step {
+            Step::Do(_, op) => self.operation(op),
+            Step::Store(slot, value, order) => Ok(self.store(*slot, *value, *order)),
+            Step::SpawnAt(_, name) => self.spawn_at(name),
+            Step::Jump(_)
+            | Step::Unless(..)
+            | Step::Label(_)
+            | Step::JumpTo(_)
+            | Step::IfTo(..)
+            | Step::UnlessTo(..) => Ok(Op::Fail(None)),
+        }
+    }
+
     /// The operation of the step at this place. Beyond the script's end, and where a jump leads to a jump or past a label to
     /// another one, it fails.
     fn operation_at(&self, place: usize) -> Result<Op<Number, Script>, AllocError>
@@ -141,16 +158,7 @@ impl Script {
         if place >= steps.len() {
             return Ok(Op::Fail(None));
         }
-        match &steps[place] {
-            Step::Do(_, op) => self.operation(op),
-            Step::Store(slot, value, order) => Ok(self.store(*slot, *value, *order)),
-            Step::SpawnAt(_, name) => self.spawn_at(name),
-            Step::Jump(_)
-            | Step::Unless(..)
-            | Step::Label(_)
-            | Step::JumpTo(_)
-            | Step::UnlessTo(..) => Ok(Op::Fail(None)),
-        }
+        self.step_operation(&steps[place])
     }
 }
 

@@ -1,6 +1,6 @@
 //! How far a thread of a script is, and what it keeps.
-ghost use Rattle.std.specs.Prelude.{◌≡◌, ◌<◌, length};
-ghost use Rattle.loom_scripts.specs.Running.{at_first, child, fetched, goes_on_at, is_label, keep_of, landing, past_label, place_of};
+ghost use Rattle.std.specs.Prelude.{◌≡◌, ◌<◌, ◌==◌, length};
+ghost use Rattle.loom_scripts.specs.Running.{at_first, child, fetched, goes_on_at, is_label, keep_of, label_at, landing, past_label, place_of};
 ghost use Rattle.loom_scripts.specs.Slots.{data_of, digits, handle_at, held, kept, lazy_digits, local_digits, name_number, notifier, number_of, object, put_handle, put_number, thread, told_by, with_digit};
 
 use crate::number::Number;
@@ -117,6 +117,13 @@ impl State {
         }
     }
 
+    /// Whether the register holds this number.
+    fn has(&self, register: usize, number: u64) -> bool
+        ensures { result ≡ (held self.now register == number) }
+    {
+        self.held(register) == number
+    }
+
     /// The number that the value stands for.
     pub(crate) fn number_of(&self, value: Value) -> u64
         ensures { result ≡ number_of self.now value }
@@ -190,14 +197,21 @@ impl State {
             Step::Jump(target) => *target,
             Step::JumpTo(name) => place_of(steps, name),
             Step::Unless(register, number, target) => {
-                if self.held(*register) == *number {
+                if self.has(*register, *number) {
                     self.at + 1
                 } else {
                     *target
                 }
             }
+            Step::IfTo(register, number, name) => {
+                if self.has(*register, *number) {
+                    place_of(steps, name)
+                } else {
+                    self.at + 1
+                }
+            }
             Step::UnlessTo(register, number, name) => {
-                if self.held(*register) == *number {
+                if self.has(*register, *number) {
                     self.at + 1
                 } else {
                     place_of(steps, name)
@@ -253,16 +267,24 @@ fn is_label(step: &Step, name: &str) -> bool
         | Step::Jump(_)
         | Step::Unless(..)
         | Step::JumpTo(_)
+        | Step::IfTo(..)
         | Step::UnlessTo(..)
         | Step::SpawnAt(..) => false,
     }
 }
 
-/// Where the first label of this name stands; without one, the steps' end.
+/// Where the first label of this name stands.
+fn label_at(steps: &[Step], name: &str) -> Option<usize>
+    ensures { result ≡ label_at steps.now name.now }
+{
+    steps.iter().position(|step| is_label(step, name))
+}
+
+/// The same; without one, the steps' end.
 pub(crate) fn place_of(steps: &[Step], name: &str) -> usize
     ensures { result ≡ place_of steps.now name.now }
 {
-    match steps.iter().position(|step| is_label(step, name)) {
+    match label_at(steps, name) {
         Some(place) => place,
         None => steps.len(),
     }
@@ -282,6 +304,7 @@ fn past_label(steps: &[Step], place: usize) -> usize
         | Step::Jump(_)
         | Step::Unless(..)
         | Step::JumpTo(_)
+        | Step::IfTo(..)
         | Step::UnlessTo(..)
         | Step::SpawnAt(..) => place,
     }
@@ -386,6 +409,7 @@ fn keep_of(step: &Step) -> usize
         | Step::Unless(..)
         | Step::Label(_)
         | Step::JumpTo(_)
+        | Step::IfTo(..)
         | Step::UnlessTo(..) => 0,
     }
 }

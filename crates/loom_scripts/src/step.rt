@@ -36,6 +36,8 @@ pub enum Step {
     Label(&'static str),
     /// Goes on behind the first label of this name, and without one at the script's end.
     JumpTo(&'static str),
+    /// Does so if the register holds this number, and else goes on at the next step.
+    IfTo(usize, u64, &'static str),
     /// Does so if the register holds another number, and else goes on at the next step.
     UnlessTo(usize, u64, &'static str),
     /// Starts a thread behind the label of this name, and keeps it in the slot.

@@ -5,8 +5,8 @@ use loom::future::{AtomicWaker, BlockOn, Waker};
 use loom::sync::atomic::{Atomic, FetchUpdate, Fetched};
 use loom::sync::mpsc::{Receiver, Sender};
 use loom::sync::{
-    Arc, Condvar, Mutex, MutexGuard, Notify, RwLock, RwLockReadGuard, RwLockWriteGuard, TryLockError,
-    WaitTimeoutResult,
+    Arc, Condvar, Mutex, MutexGuard, Notify, RwLock, RwLockReadGuard, RwLockWriteGuard,
+    TryLockError, WaitTimeoutResult,
 };
 use loom::thread::{AccessError, JoinHandle, Thread, ThreadId};
 use loom::{FailureKind, Op, Reply};

@@ -100,8 +100,8 @@ fn settings_are_refused(rt: HostRuntime) -> Result<(), Fail> {
         ..Builder::new()
     };
     let table = [
-        (&Builder::new(), 256, CheckError::PreemptionBound),
-        (&no_threads, 256, CheckError::MaxThreads),
+        (&Builder::new(), 256, CheckError::PreemptionBound(256)),
+        (&no_threads, 256, CheckError::MaxThreads(0)),
     ];
     for (builder, up_to, error) in table {
         match builder.check_rising(rt.alloc(), &body, up_to) {

@@ -1,5 +1,4 @@
 use Rattle.std.proofs.Common.{◌≡◌, ◌≤◌, map, length, inl, inr, Some, refl, sym, ap, ◌∙◌, subst, arith}
-use Rattle.std.proofs.lemmas.Bool.{false≢true}
 use Rattle.std.proofs.lemmas.List.{length-map}
 use Rattle.serde_json.specs.View.{view}
 use Rattle.loom_path.specs.Routes.{settings}
@@ -13,15 +12,15 @@ returns-in-None-read_parts-clause-err c =
     let one : version_of (view c.args.value.now) ≡ Some 1 = sym c.in-Some.ensures ∙ ap Some c.if-version-ne1.false in
     inr (one, no_shape (view c.args.value.now) c.in-None-read_parts.ensures)
 
-pub returns-then-not-has_settings-clause-err : goal.returns-then-not-has_settings-clause-err
-returns-then-not-has_settings-clause-err c =
+pub returns-in-Some-other_setting-clause-err : goal.returns-in-Some-other_setting-clause-err
+returns-in-Some-other_setting-clause-err c =
     let one : version_of (view c.args.value.now) ≡ Some 1 = sym c.in-Some.ensures ∙ ap Some c.if-version-ne1.false in
     let p = c.in-Some-read_parts.parts in
     let is = shaped (view c.args.value.now) _ c.in-Some-read_parts.ensures one in
-    (p.exploring, map view p.nodes.now.items, p.preemption_bound, p.reduce, is, λ same. false≢true (c.if-not-has_settings.ensures.1 same))
+    (p.exploring, map view p.nodes.now.items, p.preemption_bound, p.reduce, is, c.in-Some-other_setting.ensures.some)
 
-pub returns-then-len-search-clause-err : goal.returns-then-len-search-clause-err
-returns-then-len-search-clause-err c =
+pub returns-then-count-search-clause-err : goal.returns-then-count-search-clause-err
+returns-then-count-search-clause-err c =
     let one : version_of (view c.args.value.now) ≡ Some 1 = sym c.in-Some.ensures ∙ ap Some c.if-version-ne1.false in
     let p = c.in-Some-read_parts.parts in
     let is = shaped (view c.args.value.now) _ c.in-Some-read_parts.ensures one in
@@ -30,8 +29,9 @@ returns-then-len-search-clause-err c =
     let s = settings c.args.search in
     let explores = c.args.search.explores in
     let d = view c.args.value.now in
-    let has = with_settings s explores d parts is (c.if-not-has_settings.ensures.0 refl) in
-    (items, has, rw length-map (omega (arith, p.nodes.now.ok.0)))
+    let has = with_settings s explores d parts is (c.in-None-other_setting.ensures.none refl) in
+    let n : c.len-count.result ≡ length items = rw length-map (omega (arith, p.nodes.now.ok.0)) in
+    (items, has, n, omega arith)
 
 pub returns-in-Err-clause-err : goal.returns-in-Err-clause-err
 returns-in-Err-clause-err c =
@@ -43,7 +43,7 @@ returns-in-Err-clause-err c =
     let s = settings c.args.search in
     let explores = c.args.search.explores in
     let d = view c.args.value.now in
-    let has = with_settings s explores d parts is (c.if-not-has_settings.ensures.0 refl) in
+    let has = with_settings s explores d parts is (c.in-None-other_setting.ensures.none refl) in
     let fits : length items ≤ s.max_branches = rw length-map (omega (arith, p.nodes.now.ok.0)) in
     elim c.in-Err.ensures.err [ inl m ↦ memory_refused s explores d c.in-Err.error m | inr n ↦ subst (IsRefused s explores d) (sym n.0) (read_none s explores d items has fits n.1) ]
 
@@ -67,7 +67,7 @@ returns-in-Ok-from_nodes-clause-ok c =
     let s = settings c.args.search in
     let explores = c.args.search.explores in
     let d = view c.args.value.now in
-    let has = with_settings s explores d parts is (c.if-not-has_settings.ensures.0 refl) in
+    let has = with_settings s explores d parts is (c.in-None-other_setting.ensures.none refl) in
     let fits : length items ≤ s.max_branches = rw length-map (omega (arith, p.nodes.now.ok.0)) in
     let alike = c.in-Ok-from_nodes.ensures.nodes ∙ ap (map bare) c.deref.ensures.value in
     (c.in-Ok-from_nodes.ensures.rests, read_all s explores d items has fits c.in-Ok.nodes.items c.in-Ok-from_nodes.path.nodes c.in-Ok.ensures.ok alike)

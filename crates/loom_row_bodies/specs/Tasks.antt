@@ -1,0 +1,73 @@
+-- What is printed of a row besides the line of a check.
+use Rattle.std.specs.Prelude.{ℕ, ◌≡◌, ◌++◌, Bool, false, List, Option, codes, decimal}
+use Rattle.std.specs.Io.KnownBytes.{Appends}
+use Rattle.loom_views.specs.Failures.{number_of}
+use Rattle.loom_objects.specs.Tree.{Tree}
+use Rattle.loom.specs.Beginning.{Replays}
+use Rattle.loom.specs.Check.{ReportsAlone}
+use Rattle.loom.specs.Rising.{RisesTo}
+use Rattle.loom.specs.Settings.{explores}
+use Rattle.loom.specs.declared.builder.Builder.{Builder}
+use Rattle.loom.specs.declared.model.Replay.{Replay}
+use Rattle.loom.specs.declared.model.Replay.TheVariants as replay
+use Rattle.loom.specs.declared.model.Report.{Report}
+use Rattle.loom.specs.declared.rising.Risen.{Risen}
+use Rattle.loom_runs.specs.Runs.{runs as runs_of}
+use Rattle.loom_scripts.specs.Running.{started}
+use Rattle.loom_scripts.specs.Script as script
+use Rattle.loom_scripts.specs.declared.number.Number.{Number}
+use Rattle.loom_row_bodies.specs.Builders.{IsBuilder}
+use Rattle.loom_row_bodies.specs.Line.{PrintedOf, choices_text, report_text, status_of}
+use Rattle.loom_row_bodies.specs.Updates as updates
+use Rattle.loom_row_bodies.specs.declared.rows.Checked.{Checked}
+use Rattle.loom_row_bodies.specs.declared.rows.Checked.TheVariants.{Script, Updater}
+use Rattle.loom_row_bodies.specs.declared.settings.Settings.{Settings}
+use Rattle.loom_row_bodies.specs.declared.tasks.Task.{Task}
+use Rattle.loom_row_bodies.specs.declared.tasks.Task.TheVariants as task
+
+-- ---- lines
+
+abbrev pub risen_text : Risen → List ℕ
+risen_text risen = codes "bound " ++ decimal risen.bound ++ codes " " ++ report_text risen.report
+
+abbrev pub replay_text : Replay Number → List ℕ
+replay_text (replay.Ended choices value) = codes "ended" ++ choices_text choices.items
+replay_text (replay.Failed failure choices) = codes "failed " ++ decimal (number_of failure.kind) ++ choices_text choices.items
+
+-- 1 where the run failed
+abbrev pub replay_status : Replay Number → ℕ
+replay_status (replay.Ended choices value) = 0
+replay_status (replay.Failed failure choices) = 1
+
+-- just this line was written, and the status is its own
+abbrev pub PrintedRisen : Risen → Option (List ℕ) → Option (List ℕ) → ℕ → Type 0
+PrintedRisen risen old new status = (status ≡ status_of risen.report) × Appends old new (risen_text risen ++ codes "\n")
+
+abbrev pub PrintedReplay : Replay Number → Option (List ℕ) → Option (List ℕ) → ℕ → Type 0
+PrintedReplay made old new status = (status ≡ replay_status made) × Appends old new (replay_text made ++ codes "\n")
+
+-- nothing was written behind this, unless a failure is explained
+abbrev pub IsBehind : Bool → Option (List ℕ) → Option (List ℕ) → Type 0
+IsBehind explains mid new = explains ≡ false → new ≡ mid
+
+-- ---- tasks
+
+-- What was written is of a report that a check by this builder promises of the runs of this tree, or of what its checks with bounds
+-- up to 3 find, or of a run by these choices.
+abbrev pub PrintedBy : Task → Bool → Builder → Tree Number → Option (List ℕ) → Option (List ℕ) → ℕ → Type 0
+PrintedBy task.Check explains b tree old new status =
+    (report : Report) × ReportsAlone b tree report × ((mid : Option (List ℕ)) × PrintedOf report old mid status × IsBehind explains mid new)
+PrintedBy task.Rise explains b tree old new status =
+    (risen : Risen) × RisesTo b tree 3 risen × ((mid : Option (List ℕ)) × PrintedRisen risen old mid status × IsBehind explains mid new)
+PrintedBy (task.Replay choices) explains b tree old new status =
+    (made : Replay Number) × Replays b.max_branches tree choices.now made × ((mid : Option (List ℕ)) × PrintedReplay made old mid status × IsBehind explains mid new)
+
+-- the runs of what is checked
+abbrev pub tree_of : Checked → Builder → Tree Number
+tree_of (Script steps) b = runs_of script.next_of (explores b) b.max_threads b.max_steps (started steps.now)
+tree_of (Updater one other) b = runs_of updates.next_of (explores b) b.max_threads b.max_steps (updates.begun one other)
+
+-- the same of what is checked, with these settings and this checkpoint file, if there is one
+abbrev pub PrintedTask : Task → Bool → Checked → Settings → Option (List ℕ) → Option (List ℕ) → Option (List ℕ) → ℕ → Type 0
+PrintedTask task explains checked settings file old new status =
+    (b : Builder) × IsBuilder settings file b × PrintedBy task explains b (tree_of checked b) old new status
