@@ -5,3 +5,4 @@ pub mod Unheard
 pub mod Numbers
 pub mod Replaying
 pub mod Bounds
+pub mod Explaining

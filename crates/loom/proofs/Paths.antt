@@ -56,7 +56,7 @@ no_nodes : (s : Settings) → MayBegin s []
 unfolding node_at
 no_nodes s = record { rest = λ before n h. absurd (cc h); defaults = λ before n h. absurd (cc h); size = omega arith }
 
-stored_length : (nodes : List Node) → length (stored nodes) ≡ length nodes
+pub stored_length : (nodes : List Node) → length (stored nodes) ≡ length nodes
 stored_length [] = refl
 stored_length (n ∷ nodes) = ap suc (stored_length nodes)
 

@@ -6,3 +6,4 @@ pub mod Beginning
 pub mod Check
 pub mod Loop
 pub mod Rising
+pub mod Explaining

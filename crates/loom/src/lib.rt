@@ -8,6 +8,7 @@
 pub mod builder;
 pub mod env;
 pub mod error;
+pub mod explain;
 pub mod laws;
 pub mod model;
 mod progress;

@@ -14,7 +14,6 @@ use log::Log;
 use loom_objects::body::Body;
 use loom_objects::choice::Choice;
 use loom_objects::failure::Failure;
-use loom_path::rt::path::Path;
 use loom_round::round::Ending;
 use loom_stores::clock::{Clock, NoClock};
 use loom_stores::file::FileStore;
@@ -148,8 +147,7 @@ impl Builder {
         ensures errors { IfErr result (λ e. (e ≡ CheckError.Memory) ⊎ (tested self.now ≡ Err e)) }
     {
         self.test()?;
-        let explores = !self.expect_explicit_explore;
-        let mut path = Path::following(alloc, explores, self.max_branches as u32, choices)?;
+        let mut path = self.following(alloc, choices)?;
         let ending = self.run(alloc, body, &mut path)?;
         let choices = path.choices(alloc)?;
         match ending {

@@ -1,10 +1,10 @@
 //! A run, told as events.
-use loom_objects::choice::Choice;
-use loom_objects::failure::Failure;
 use loom_objects::operation::{Op, Reply};
+use loom_parts::choice::Choice;
+use loom_parts::failure::Failure;
 
 /// One event of a run: a thread is told the answer to what it handed over last, and hands over its next operation.
-#[derive(Drop)]
+#[derive(Debug, Drop)]
 pub struct Event {
     /// Whose event it is; 0 is main.
     pub thread: u8,
@@ -38,7 +38,7 @@ pub enum Options {
 }
 
 /// A run, told as events.
-#[derive(Drop)]
+#[derive(Debug, Drop)]
 pub struct Explanation {
     /// What the threads handed over, in order, each with what it was told before.
     pub events: Vec<Event>,

@@ -1,4 +1,5 @@
 mod environment;
+mod explaining;
 mod faults;
 mod files;
 mod limits;
