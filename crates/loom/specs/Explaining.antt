@@ -1,8 +1,8 @@
 -- What an explanation of a run promises.
 use Rattle.std.specs.Prelude.{◌≡◌, List, length, Ok, Err}
-use Rattle.loom_explain.specs.declared.explanation.End.{End}
-use Rattle.loom_explain.specs.declared.explanation.End.TheVariants.{Ended, Failed}
-use Rattle.loom_explain.specs.declared.explanation.Explanation.{Explanation}
+use Rattle.loom_told.specs.declared.explanation.End.{End}
+use Rattle.loom_told.specs.declared.explanation.End.TheVariants.{Ended, Failed}
+use Rattle.loom_told.specs.declared.explanation.Explanation.{Explanation}
 use Rattle.loom_explain.specs.Story.{Story, story_of}
 use Rattle.loom_parts.specs.declared.choice.Choice.{Choice}
 use Rattle.loom_runs.specs.Runs.{Meaning, runs}

@@ -8,12 +8,13 @@ ghost use Rattle.loom.specs.Settings.{explores, tested};
 use crate::builder::Builder;
 use crate::error::CheckError;
 use loom_engine::rt::execution::Limits;
-pub use loom_explain::explanation::{End, Event, Explanation, Options};
 use loom_explain::options::options_at;
 use loom_explain::telling::tell;
 use loom_objects::body::Body;
 use loom_parts::choice::Choice;
 use loom_path::rt::path::Path;
+pub use loom_told::explanation::{End, Event, Explanation, Options};
+use loom_told::text;
 use std::alloc::{AllocError, Global};
 
 impl Builder {
@@ -39,7 +40,7 @@ impl Builder {
         let told = tell(alloc, limits, body, &mut path)?;
         let choices = path.choices(alloc)?;
         let options = options_at(alloc, path.nodes())?;
-        Ok(Explanation {
+        let mut explanation = Explanation {
             events: told.events,
             choices,
             options,
@@ -47,7 +48,10 @@ impl Builder {
             max_threads: self.max_threads,
             max_branches: self.max_branches,
             max_steps: self.max_steps,
-        })
+            text: String::new(alloc),
+        };
+        explanation.text = text::told(alloc, &explanation)?;
+        Ok(explanation)
     }
 
     /// The path of a run that follows these choices and then takes defaults.

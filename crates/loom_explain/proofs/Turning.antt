@@ -23,9 +23,9 @@ use Rattle.loom_walks.specs.Trees.Drive.{Trail}
 use Rattle.loom_walks.specs.Trees.Meeting.{Settings}
 use Rattle.loom_round.proofs.Handing.{IsHanded, slice_get_is}
 use Rattle.loom_round.specs.Ending.{Outcome}
-use Rattle.loom_explain.specs.declared.explanation.End.{End}
-use Rattle.loom_explain.specs.declared.explanation.End.TheVariants.{Ended, Failed}
-use Rattle.loom_explain.specs.declared.explanation.Event.{Event}
+use Rattle.loom_told.specs.declared.explanation.End.{End}
+use Rattle.loom_told.specs.declared.explanation.End.TheVariants.{Ended, Failed}
+use Rattle.loom_told.specs.declared.explanation.Event.{Event}
 use Rattle.loom_explain.specs.Story.{Story, EndsAs, begins_with, by_body, event_of, goes_on, hands_over, nothing_more, story}
 use Rattle.loom_explain.specs.Telling.{IsEndOf, IsUnderWay, ComesToTurn, behind}
 

@@ -5,7 +5,6 @@
 #![tactic(auto)]
 
 pub mod bare;
-pub mod explanation;
 pub mod laws;
 pub mod options;
 pub mod telling;

@@ -1,8 +1,8 @@
 //! What could be chosen at the nodes of a run.
 ghost use Rattle.std.specs.Prelude.{◌≡◌, IfOk, length};
 
-use crate::explanation::Options;
 use loom_path::rt::node::{Node, Status};
+use loom_told::explanation::Options;
 use std::alloc::{AllocError, Global};
 
 /// What could be chosen at each of these nodes.

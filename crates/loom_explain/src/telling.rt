@@ -8,7 +8,6 @@ ghost use Rattle.loom_explain.specs.Story.{Story, IsToldAs, story_of};
 ghost use Rattle.loom_explain.specs.Telling.{ComesToTurn, IsEndOf, IsUnderWay};
 
 use crate::bare::{bare_op, bare_reply};
-use crate::explanation::{End, Event};
 use loom_engine::rt::execution::{Execution, Limits};
 use loom_objects::body::Body;
 use loom_objects::failure::{Stop, failed};
@@ -16,6 +15,7 @@ use loom_objects::operation::{Op, Reply, Turn};
 use loom_parts::location::Location;
 use loom_path::rt::path::Path;
 use loom_round::places::place_of;
+use loom_told::explanation::{End, Event};
 use loom_views::rt::failure::FailureKind;
 use std::alloc::{AllocError, Global};
 

@@ -10,7 +10,7 @@ use crate::rows::{Checked, Row, print_report, refuse_check};
 use crate::updates::Updater;
 use loom::model::{Builder, Replay, Report};
 use loom::rising::Risen;
-use loom::{Body, Choice, ShownChoices as Words};
+use loom::{Body, Choice};
 use loom_scripts::number::Number;
 use loom_scripts::script::Script;
 use std::fmt;
@@ -233,12 +233,14 @@ fn explain_replay<R: AllocGlobal, B: Body<Data = Number>, O: Write>(
 
 /// Explains the failing run with these choices.
 fn tell_failure<R: AllocGlobal, B: Body<Data = Number>, O: Write>(
-    _rt: &R,
-    _builder: &Builder,
-    _body: &B,
+    rt: &R,
+    builder: &Builder,
+    body: &B,
     choices: &[Choice],
     out: &mut O,
 ) -> io::Result<()> {
-    let words = Words(choices);
-    writeln!(out, "replay: {words}")
+    match builder.explain(rt.alloc(), body, choices) {
+        Ok(explanation) => write!(out, "{explanation}"),
+        Err(error) => writeln!(out, "{error}"),
+    }
 }

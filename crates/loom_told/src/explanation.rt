@@ -2,6 +2,7 @@
 use loom_objects::operation::{Op, Reply};
 use loom_parts::choice::Choice;
 use loom_parts::failure::Failure;
+use std::fmt;
 
 /// One event of a run: a thread is told the answer to what it handed over last, and hands over its next operation.
 #[derive(Debug, Drop)]
@@ -54,4 +55,12 @@ pub struct Explanation {
     pub max_branches: usize,
     /// How many operations its threads could hand over.
     pub max_steps: usize,
+    /// All this in words, as `Display` prints it: why the run failed, the choices, and the events in columns.
+    pub text: String,
+}
+
+impl fmt::Display for Explanation {
+    fn fmt<W: fmt::Write>(&self, f: &mut fmt::Formatter<W>) -> fmt::Result {
+        write!(f, "{}", self.text)
+    }
 }

@@ -1,0 +1,130 @@
+//! The text of each body's run, whole.
+use crate::bodies::limits::{FENCES, ORDERS_EQUAL, STORES, THREE_SPAWNED};
+use crate::bodies::locks::{
+    ALL_WAIT, ARC_LEFT, ASLEEP, CROSSED, LOST_UPDATE, MESSAGE_LEFT, SPINS, SPINS_AND_YIELDS,
+    TRACK_LEFT, TWICE, WAKER_LEFT,
+};
+use crate::bodies::misuses::{
+    APART, ENDS_FIRST, FENCE, RELEASED_BY_MAIN, STOPPED_TWICE, TWO_WAIT, UNREACHABLE,
+};
+use crate::bodies::races::{BESIDE, MUTATED, OPEN, SPIN, UNRELEASED};
+use crate::bodies::values::{AFTER_EXIT, AFTER_MAIN, MADE_TWICE};
+use crate::texts;
+use loom::model::Builder;
+use loom_choices::choices::Choices;
+use loom_scripts::script::Script;
+use loom_scripts::step::Step;
+use std::test::Fail;
+
+/// A body, the choices that its run follows, and what is told of it.
+struct Row {
+    name: &'static str,
+    steps: &'static [Step],
+    choices: &'static str,
+    text: &'static str,
+}
+
+// A row, whose text stands in the file of this name.
+macro_rules! row {
+    ($name:ident, $steps:expr, $choices:literal) => {
+        Row {
+            name: stringify!($name),
+            steps: $steps,
+            choices: $choices,
+            text: texts::$name::TEXT,
+        }
+    };
+}
+
+static USUAL: [Row; 26] = [
+    row!(race, SPIN, "t0 l0 t0 t1 t1 l2"),
+    row!(race_beside, BESIDE, ""),
+    row!(race_unreleased, UNRELEASED, "t0 t1 t1 l1"),
+    row!(race_mutated, MUTATED, ""),
+    row!(open_access, OPEN, ""),
+    row!(assertion, LOST_UPDATE, "t0 l0 t1 t1 l0 t1 t1 t0"),
+    row!(deadlock, CROSSED, "t0 t1 t1"),
+    row!(deadlock_twice, TWICE, ""),
+    row!(deadlock_asleep, ASLEEP, "t1 t1 t1 t2 t2 t2"),
+    row!(deadlock_all, ALL_WAIT, ""),
+    row!(leak_arc, ARC_LEFT, ""),
+    row!(leak_waker, WAKER_LEFT, ""),
+    row!(leak_track, TRACK_LEFT, ""),
+    row!(leak_messages, MESSAGE_LEFT, ""),
+    row!(
+        orders_equal,
+        ORDERS_EQUAL,
+        "t0 t1 t1 t1 t0 l2 t1 l2 t1 t2 t2 l3 t2"
+    ),
+    row!(misuse, RELEASED_BY_MAIN, "t1 t1 t0"),
+    row!(misuse_apart, APART, ""),
+    row!(misuse_end, ENDS_FIRST, ""),
+    row!(unreachable, UNREACHABLE, ""),
+    row!(relaxed_fence, FENCE, ""),
+    row!(explore_switch, STOPPED_TWICE, ""),
+    row!(second_waiter, TWO_WAIT, ""),
+    row!(lazy_shutdown, AFTER_MAIN, ""),
+    row!(local_gone, AFTER_EXIT, ""),
+    row!(key_taken, MADE_TWICE, ""),
+    row!(not_deterministic, CROSSED, "t0 t1 l3"),
+];
+
+// Where a run has more than 65,535 choices, its text is kept up to them.
+fn is_beginning(row: &Row, text: &str) -> bool {
+    row.name == "too_many_stores" && text.starts_with(row.text)
+}
+
+fn tells(rt: &HostRuntime, builder: &Builder, row: &'static Row) -> Result<(), Fail> {
+    let body = Script::new(rt.alloc(), row.steps)?;
+    let choices = Choices::parse(rt.alloc(), row.choices)?;
+    let explanation = builder.explain(rt.alloc(), &body, choices.as_slice())?;
+    let text = format!(in rt.alloc(); "{explanation}")?;
+    if text.as_str() == row.text || is_beginning(row, text.as_str()) {
+        return Ok(());
+    }
+    let name = row.name;
+    println!(rt; "=== {name}\n{text}")?;
+    Err(Fail::from("another text"))
+}
+
+#[test]
+fn each_kind_has_its_text(rt: HostRuntime) -> Result<(), Fail> {
+    for row in &USUAL {
+        tells(&rt, &Builder::new(), row)?;
+    }
+    Ok(())
+}
+
+static FEW_THREADS: Row = row!(too_many_threads, THREE_SPAWNED, "");
+
+static FEW_BRANCHES: Row = row!(too_many_branches, SPINS, "");
+
+static FEW_STEPS: Row = row!(too_many_steps, SPINS_AND_YIELDS, "");
+
+static MANY_FENCES: Row = row!(too_many_versions, FENCES, "");
+
+static MANY_STORES: Row = row!(too_many_stores, STORES, "");
+
+#[test]
+fn each_limit_has_its_text(rt: HostRuntime) -> Result<(), Fail> {
+    let mut few = Builder::new();
+    few.max_threads = 2;
+    tells(&rt, &few, &FEW_THREADS)?;
+    few.max_branches = 40;
+    tells(&rt, &few, &FEW_BRANCHES)?;
+    let mut few = Builder::new();
+    few.max_steps = 30;
+    tells(&rt, &few, &FEW_STEPS)
+}
+
+#[test]
+fn as_many_fences_have_their_text(rt: HostRuntime) -> Result<(), Fail> {
+    tells(&rt, &Builder::new(), &MANY_FENCES)
+}
+
+#[test]
+fn as_many_stores_have_their_text(rt: HostRuntime) -> Result<(), Fail> {
+    let mut many = Builder::new();
+    many.max_branches = 100_000;
+    tells(&rt, &many, &MANY_STORES)
+}

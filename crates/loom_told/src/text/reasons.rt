@@ -1,0 +1,284 @@
+//! Why a run failed.
+mod bodies;
+mod deadlock;
+mod leaks;
+mod limits;
+mod misuse;
+mod race;
+mod values;
+
+use crate::explanation::{End, Event, Explanation};
+use crate::text::names::Place;
+use crate::text::objects::{Access, At};
+use crate::text::world::World;
+use loom_objects::choice::Choice;
+use loom_objects::operation::{Op, ThreadOp};
+use loom_views::rt::failure::FailureKind;
+use std::alloc::AllocError;
+
+/// A run with what is known after its last event.
+#[derive(Clone, Copy)]
+pub(crate) struct Scene<'a> {
+    pub(crate) explanation: &'a Explanation,
+    pub(crate) world: &'a World,
+    /// Why it failed, if it did.
+    pub(crate) kind: Option<FailureKind>,
+    /// The event of the operation by which it failed.
+    pub(crate) at: At,
+    /// The access that a race is with.
+    pub(crate) other: Option<Access>,
+}
+
+impl<'a> Scene<'a> {
+    pub(crate) fn new(explanation: &'a Explanation, world: &'a World) -> Scene<'a> {
+        let kind = match explanation.end {
+            End::Ended => None,
+            End::Failed(failure) => Some(failure.kind),
+        };
+        let mut scene = Scene {
+            explanation,
+            world,
+            kind,
+            at: failing_at(explanation, world, kind),
+            other: None,
+        };
+        scene.other = race::other_access(scene);
+        scene
+    }
+
+    /// The event of this number.
+    pub(crate) fn event(&self, number: usize) -> Option<&'a Event> {
+        self.explanation.events.get(number.checked_sub(1)?)
+    }
+
+    /// The operation by which the run failed.
+    pub(crate) fn op(&self) -> Option<&'a Op<(), ()>> {
+        match self.event(self.at.event) {
+            Some(event) => Some(&event.op),
+            None => None,
+        }
+    }
+
+    /// Whether the run failed by the operation of this event.
+    pub(crate) fn is_failing(&self, event: Option<usize>) -> bool {
+        match self.kind {
+            None => false,
+            Some(kind) => !is_at_end(kind) && event == Some(self.at.event),
+        }
+    }
+
+    /// Whether the event is marked: it failed, a race is with it, or a thread waits at it in a deadlock.
+    pub(crate) fn is_marked(&self, event: Option<usize>) -> bool {
+        let Some(number) = event else {
+            return false;
+        };
+        if matches!(self.kind, Some(FailureKind::Deadlock)) {
+            return self.is_waiting_at(number);
+        }
+        match self.other {
+            Some(other) if other.at.event == number => true,
+            _ => self.is_failing(event),
+        }
+    }
+
+    fn is_waiting_at(&self, number: usize) -> bool {
+        match self.event(number) {
+            Some(
+                Event {
+                    op: Op::Thread(ThreadOp::End, _),
+                    ..
+                },
+            )
+            | None => false,
+            Some(event) => match self.world.member(event.thread) {
+                Some(member) => member.pending == Some(number),
+                None => false,
+            },
+        }
+    }
+
+    /// What stands after the operation by which the run failed.
+    pub(crate) fn put_end(&self, row: &mut String) -> Result<(), AllocError> {
+        let Some(kind) = self.kind else {
+            return Ok(());
+        };
+        let title = title_of(kind);
+        match self.other {
+            Some(other) => {
+                let event = other.at.event;
+                write!(row, ": {title} with event {event}")
+            }
+            None => write!(row, ": {title}"),
+        }
+    }
+}
+
+/// The event of the operation by which the run failed: the last one of the thread that was chosen last, where it failed when
+/// that took effect, and else the last event.
+fn failing_at(explanation: &Explanation, world: &World, kind: Option<FailureKind>) -> At {
+    let event = explanation.events.len();
+    let Some(last) = explanation.events.last() else {
+        return At { event, thread: 0 };
+    };
+    let at = At {
+        event,
+        thread: last.thread,
+    };
+    let Some(kind) = kind else {
+        return at;
+    };
+    if !is_of_the_chosen(kind) {
+        return at;
+    }
+    match chosen_last(explanation, last.choices_before) {
+        Some(thread) => pending_at(world, thread).unwrap_or(at),
+        None => at,
+    }
+}
+
+fn pending_at(world: &World, thread: u8) -> Option<At> {
+    let event = world.member(thread)?.pending?;
+    Some(At { event, thread })
+}
+
+/// The thread that was chosen last, after so many choices.
+fn chosen_last(explanation: &Explanation, from: usize) -> Option<u8> {
+    for choice in explanation.choices.get(from..)?.iter().rev() {
+        if let Choice::Thread(thread) = choice {
+            return *thread;
+        }
+    }
+    None
+}
+
+/// Whether a run fails so where an operation takes effect.
+fn is_of_the_chosen(kind: FailureKind) -> bool {
+    match kind {
+        FailureKind::Race
+        | FailureKind::OpenAccess
+        | FailureKind::TooManyVersions
+        | FailureKind::TooManyStores
+        | FailureKind::OrdersEqual
+        | FailureKind::Misuse => true,
+        FailureKind::Assertion
+        | FailureKind::Deadlock
+        | FailureKind::LeakArc
+        | FailureKind::LeakTrack
+        | FailureKind::LeakMessages
+        | FailureKind::TooManyThreads
+        | FailureKind::TooManyBranches
+        | FailureKind::TooManySteps
+        | FailureKind::Unreachable
+        | FailureKind::RelaxedFence
+        | FailureKind::LazyShutdown
+        | FailureKind::LocalGone
+        | FailureKind::ExploreSwitch
+        | FailureKind::NotDeterministic
+        | FailureKind::SecondWaiter
+        | FailureKind::KeyTaken => false,
+    }
+}
+
+/// Whether a run fails so where it is over, and not by an operation.
+fn is_at_end(kind: FailureKind) -> bool {
+    matches!(
+        kind,
+        FailureKind::Deadlock
+            | FailureKind::LeakArc
+            | FailureKind::LeakTrack
+            | FailureKind::LeakMessages
+            | FailureKind::NotDeterministic
+    )
+}
+
+/// What a failure is called.
+fn title_of(kind: FailureKind) -> &'static str {
+    match kind {
+        FailureKind::Assertion => "assertion",
+        FailureKind::Deadlock => "deadlock",
+        FailureKind::Race => "race",
+        FailureKind::OpenAccess => "open access",
+        FailureKind::LeakArc => "leaked reference",
+        FailureKind::LeakTrack => "leaked value",
+        FailureKind::LeakMessages => "leaked messages",
+        FailureKind::TooManyThreads => "too many threads",
+        FailureKind::TooManyBranches => "too many branches",
+        FailureKind::TooManyVersions => "too many versions",
+        FailureKind::TooManyStores => "too many stores",
+        FailureKind::TooManySteps => "too many operations",
+        FailureKind::OrdersEqual => "equal orders",
+        FailureKind::Misuse => "misuse",
+        FailureKind::Unreachable => "unreachable code",
+        FailureKind::RelaxedFence => "relaxed fence",
+        FailureKind::LazyShutdown => "lazy value is gone",
+        FailureKind::LocalGone => "local is gone",
+        FailureKind::ExploreSwitch => "idle switch",
+        FailureKind::NotDeterministic => "choices that don't fit",
+        FailureKind::SecondWaiter => "second waiter",
+        FailureKind::KeyTaken => "key is taken",
+    }
+}
+
+/// How the run ended, a line, and why, a line each.
+pub(crate) fn put_reasons(out: &mut String, scene: Scene<'_>) -> Result<(), AllocError> {
+    let event = scene.at.event;
+    let Some(kind) = scene.kind else {
+        return writeln!(out, "ended, after event {event}");
+    };
+    let title = title_of(kind);
+    if is_at_end(kind) {
+        write!(out, "failed: {title}, after event {event}")?;
+    } else {
+        write!(out, "failed: {title}, at event {event}")?;
+    }
+    put_place(out, scene)?;
+    out.push_str("\n")?;
+    put_reason(out, scene, kind)
+}
+
+/// The place of the operation by which the run failed, if it has one.
+fn put_place(out: &mut String, scene: Scene<'_>) -> Result<(), AllocError> {
+    let label = match scene.op() {
+        Some(op) => op.label(),
+        None => None,
+    };
+    let location = match label {
+        Some(label) => label.location,
+        None => None,
+    };
+    match location {
+        Some(location) => {
+            let place = Place(location);
+            write!(out, " ({place})")
+        }
+        None => Ok(()),
+    }
+}
+
+/// Why, a line each.
+fn put_reason(out: &mut String, scene: Scene<'_>, kind: FailureKind) -> Result<(), AllocError> {
+    match kind {
+        FailureKind::Assertion => bodies::put_assertion(out, scene),
+        FailureKind::Unreachable => bodies::put_unreachable(out, scene),
+        FailureKind::Deadlock => deadlock::put_deadlock(out, scene),
+        FailureKind::Race => race::put_race(out, scene),
+        FailureKind::OpenAccess => race::put_open_access(out, scene),
+        FailureKind::LeakArc => leaks::put_leaked_arc(out, scene),
+        FailureKind::LeakTrack => leaks::put_leaked_track(out, scene),
+        FailureKind::LeakMessages => leaks::put_leaked_messages(out, scene),
+        FailureKind::TooManyThreads
+        | FailureKind::TooManyBranches
+        | FailureKind::TooManySteps
+        | FailureKind::TooManyVersions
+        | FailureKind::TooManyStores => limits::put_limit(out, scene, kind),
+        FailureKind::OrdersEqual => race::put_equal_orders(out, scene),
+        FailureKind::Misuse => misuse::put_misuse(out, scene),
+        FailureKind::RelaxedFence => bodies::put_fence(out, scene),
+        FailureKind::ExploreSwitch => bodies::put_switch(out, scene),
+        FailureKind::NotDeterministic => bodies::put_choices(out, scene),
+        FailureKind::LazyShutdown => values::put_shutdown(out, scene),
+        FailureKind::LocalGone => values::put_gone(out, scene),
+        FailureKind::KeyTaken => values::put_taken(out, scene),
+        FailureKind::SecondWaiter => values::put_second_waiter(out, scene),
+    }
+}

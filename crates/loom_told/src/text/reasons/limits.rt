@@ -1,0 +1,59 @@
+//! Limits: which one, its value, and what usually helps.
+use crate::text::reasons::Scene;
+use loom_objects::operation::Op;
+use loom_views::rt::failure::FailureKind;
+use std::alloc::AllocError;
+
+/// The limit that the run passed, and what helps.
+pub(crate) fn put_limit(
+    out: &mut String,
+    scene: Scene<'_>,
+    kind: FailureKind,
+) -> Result<(), AllocError> {
+    let explanation = scene.explanation;
+    let (before, limit, after) = match kind {
+        FailureKind::TooManyThreads => (
+            "a run may have",
+            explanation.max_threads,
+            "threads (`max_threads`), main and ended ones counted: this spawn is for one more\n  raise `max_threads`, which may be 5 at most, or spawn fewer",
+        ),
+        FailureKind::TooManyBranches => (
+            "a run may come to",
+            explanation.max_branches,
+            "branch points (`max_branches`): this one came to one more\n  a loop that waits wants a `yield_now` in each turn; else raise `max_branches`",
+        ),
+        FailureKind::TooManySteps => (
+            "the threads of a run may hand over",
+            explanation.max_steps,
+            "operations (`max_steps`): this is one more\n  a loop that waits wants a `yield_now` in each turn; else raise `max_steps`",
+        ),
+        FailureKind::TooManyStores => (
+            "an atomic may have",
+            65_535,
+            "stores, the first value counted: this is one more\n  no setting raises this: let a run store less to one atomic",
+        ),
+        _ => (
+            "a thread may have",
+            65_534,
+            "versions, one for each access, fence and spawn: this is one more\n  no setting raises this: let a thread do less in a run",
+        ),
+    };
+    put_target(out, scene)?;
+    writeln!(out, "  {before} {limit} {after}")
+}
+
+/// The atomic that the operation is one of.
+fn put_target(out: &mut String, scene: Scene<'_>) -> Result<(), AllocError> {
+    let number = match scene.op() {
+        Some(Op::Atomic(op, _)) => op.atomic(),
+        _ => None,
+    };
+    match number {
+        Some(number) => {
+            let thread = scene.at.thread;
+            let thing = scene.world.thing(number);
+            writeln!(out, "  thread {thread} is at {thing}")
+        }
+        None => Ok(()),
+    }
+}

@@ -1,0 +1,239 @@
+//! Races: the access that one is with, and what is missing between the two.
+use crate::text::answers::{cell_touch, touch_of};
+use crate::text::calls::call_of;
+use crate::text::names::An;
+use crate::text::objects::{Access, Hold, Manner, Reading};
+use crate::text::reasons::Scene;
+use loom_objects::operation::{AtomicOp, CellOp, Op, Reply};
+use loom_parts::label::Label;
+use loom_views::rt::failure::FailureKind;
+use std::alloc::AllocError;
+use std::sync::atomic::Ordering;
+
+/// Which objects an operation accesses, and how: one, and for a swap of two cells another one.
+fn targets(scene: Scene<'_>) -> Option<(usize, usize, Manner)> {
+    let op = scene.op()?;
+    if let Op::Atomic(op, _) = op {
+        let numbers = scene.world.numbers(op.atomic()?);
+        let touch = touch_of(*op, &Reply::Start, numbers)?;
+        return Some((touch.atomic, touch.atomic, touch.manner));
+    }
+    let Op::Cell(op, _) = op else {
+        return None;
+    };
+    match op {
+        CellOp::ReadEnd(cell) => Some((*cell, *cell, Manner::CellRead)),
+        CellOp::WriteEnd(cell, _) => Some((*cell, *cell, Manner::CellWrite)),
+        CellOp::Swap(cell, other) => Some((*cell, *other, Manner::CellWrite)),
+        CellOp::New(_)
+        | CellOp::Read(_)
+        | CellOp::Deref(_)
+        | CellOp::Write(_)
+        | CellOp::IntoInner(_)
+        | CellOp::Get(_)
+        | CellOp::Replace(..) => {
+            let (cell, manner) = cell_touch(op)?;
+            Some((cell, cell, manner))
+        }
+    }
+}
+
+/// The access that a race is with: the last one of another thread that conflicts.
+pub(crate) fn other_access(scene: Scene<'_>) -> Option<Access> {
+    if !matches!(scene.kind, Some(FailureKind::Race)) {
+        return None;
+    }
+    let (one, other, manner) = targets(scene)?;
+    let thread = scene.at.thread;
+    scene
+        .world
+        .accesses
+        .iter()
+        .rev()
+        .find(|access| {
+            (access.object == one || access.object == other)
+                && access.at.thread != thread
+                && manner.conflicts_with(access.manner)
+        })
+        .copied()
+}
+
+/// The verb for what accesses an atomic or a cell.
+fn verb_of(op: Option<&Op<(), ()>>) -> &'static str {
+    if let Some(Op::Atomic(op, _)) = op {
+        return atomic_verb(*op);
+    }
+    if let Some(Op::Cell(op, _)) = op {
+        return cell_verb(op);
+    }
+    "accesses"
+}
+
+fn atomic_verb(op: AtomicOp) -> &'static str {
+    match op {
+        AtomicOp::New(..) => "makes",
+        AtomicOp::Load(..) => "loads",
+        AtomicOp::Store(..) => "stores to",
+        AtomicOp::Update(..) => "changes",
+        AtomicOp::CompareExchange(..) | AtomicOp::CompareAndSwap(..) => "exchanges",
+        AtomicOp::UnsyncLoad(_) => "loads, without synchronizing,",
+        AtomicOp::IntoInner(_) => "takes apart",
+        AtomicOp::WithMut(_) => "begins to mutate",
+        AtomicOp::WithMutEnd(..) => "ends a mutation of",
+    }
+}
+
+fn cell_verb(op: &CellOp<()>) -> &'static str {
+    match op {
+        CellOp::New(_) => "makes",
+        CellOp::Read(_) => "begins to read",
+        CellOp::ReadEnd(_) => "ends a read of",
+        CellOp::Deref(_) | CellOp::Get(_) => "reads",
+        CellOp::Write(_) => "begins to write",
+        CellOp::WriteEnd(..) => "ends a write of",
+        CellOp::IntoInner(_) => "takes apart",
+        CellOp::Replace(..) => "writes",
+        CellOp::Swap(..) => "swaps",
+    }
+}
+
+/// Both accesses, and what is missing between them.
+pub(crate) fn put_race(out: &mut String, scene: Scene<'_>) -> Result<(), AllocError> {
+    let thread = scene.at.thread;
+    let verb = verb_of(scene.op());
+    let Some(access) = scene.other else {
+        return writeln!(
+            out,
+            "  thread {thread} {verb} what it doesn't know another access of"
+        );
+    };
+    let thing = scene.world.thing(access.object);
+    let other = access.at.thread;
+    let noun = access.manner.noun();
+    let event = access.at.event;
+    writeln!(
+        out,
+        "  thread {thread} {verb} {thing} and doesn't know of thread {other}'s {noun} of it (event {event})"
+    )?;
+    match last_reading(scene, access) {
+        Some(reading) => put_reading(out, scene, reading),
+        None => writeln!(
+            out,
+            "  nothing orders the two: thread {thread} has read nothing that thread {other} stored after it"
+        ),
+    }
+}
+
+fn acquires(order: Ordering) -> bool {
+    matches!(
+        order,
+        Ordering::Acquire | Ordering::AcqRel | Ordering::SeqCst
+    )
+}
+
+fn releases(order: Option<Ordering>) -> bool {
+    matches!(
+        order,
+        Some(Ordering::Release | Ordering::AcqRel | Ordering::SeqCst)
+    )
+}
+
+/// The last read by which the thread could have learned of the access, had it acquired what the store released.
+fn last_reading(scene: Scene<'_>, access: Access) -> Option<Reading> {
+    let thread = scene.at.thread;
+    scene
+        .world
+        .readings
+        .iter()
+        .rev()
+        .find(|reading| {
+            reading.at.thread == thread
+                && reading.store.at.thread == access.at.thread
+                && reading.store.at.event > access.at.event
+                && !(acquires(reading.order) && releases(reading.store.order))
+        })
+        .copied()
+}
+
+/// What was read, how, and what it lacks.
+fn put_reading(out: &mut String, scene: Scene<'_>, reading: Reading) -> Result<(), AllocError> {
+    let thread = reading.at.thread;
+    let number = reading.store.number;
+    let atomic = reading.store.atomic;
+    write!(
+        out,
+        "  thread {thread} read store {number} of atomic #{atomic} ("
+    )?;
+    if let Some(name) = name_of(scene, atomic) {
+        write!(out, "\"{name}\", ")?;
+    }
+    let other = reading.store.at.thread;
+    write!(out, "thread {other}")?;
+    if let Some(order) = reading.store.order {
+        write!(out, ", {order:?}")?;
+    }
+    let by = An(reading.order);
+    let noun = reading.noun;
+    let missing = if acquires(reading.order) {
+        "the store released nothing"
+    } else {
+        "nothing was acquired"
+    };
+    writeln!(out, ") by {by} {noun}:\n  {missing}")
+}
+
+fn name_of(scene: Scene<'_>, number: usize) -> Option<&'static str> {
+    match scene.world.object(number)?.label {
+        Some(Label { name, .. }) => name,
+        None => None,
+    }
+}
+
+/// Who has the object open.
+fn open_by(scene: Scene<'_>) -> Option<Hold> {
+    let (one, other, _) = targets(scene)?;
+    scene
+        .world
+        .holds
+        .iter()
+        .rev()
+        .find(|hold| hold.object == one || hold.object == other)
+        .copied()
+}
+
+/// What is open, by whom and since when.
+pub(crate) fn put_open_access(out: &mut String, scene: Scene<'_>) -> Result<(), AllocError> {
+    let thread = scene.at.thread;
+    let verb = verb_of(scene.op());
+    let Some(hold) = open_by(scene) else {
+        return writeln!(out, "  thread {thread} {verb} what is open");
+    };
+    let thing = scene.world.thing(hold.object);
+    let other = hold.at.thread;
+    let event = hold.at.event;
+    write!(
+        out,
+        "  thread {thread} {verb} {thing}, which thread {other} has open since event {event}"
+    )?;
+    match scene.event(event) {
+        Some(opened) => {
+            let call = call_of(&opened.op, scene.world);
+            writeln!(out, ": {call}")
+        }
+        None => out.push_str("\n"),
+    }
+}
+
+/// Two stores whose order isn't known.
+pub(crate) fn put_equal_orders(out: &mut String, scene: Scene<'_>) -> Result<(), AllocError> {
+    let thread = scene.at.thread;
+    let atomic = match targets(scene) {
+        Some((atomic, ..)) => atomic,
+        None => 0,
+    };
+    let thing = scene.world.thing(atomic);
+    writeln!(
+        out,
+        "  thread {thread} is about to read {thing}: two of its last seven stores have equal places\n  in the modification order, so which of them is later can't be said"
+    )
+}

@@ -1,0 +1,352 @@
+//! What a run has made and done so far, and who has what, as far as its events tell.
+use crate::text::answers::{
+    Answer, Counting, Holding, Touch, answer_of, cell_touch, counting_of, holding_of, outcome_of,
+    touch_of,
+};
+use crate::text::calls::call_of;
+use crate::text::names::{Thing, Titled, Value};
+use crate::text::objects::{
+    Access, At, Hold, Kind, Manner, Member, Object, Reading, Store, made_by,
+};
+use loom_objects::operation::{AtomicOp, CellOp, CondvarOp, Op, Reply, ThreadOp};
+use loom_objects::rt::thread::Name;
+use loom_parts::label::Label;
+use loom_views::rt::MAX_ATOMIC_HISTORY;
+use loom_views::rt::num::Numbers;
+use std::alloc::{AllocError, Global};
+
+/// What a run has made and done so far.
+#[derive(Drop)]
+pub(crate) struct World {
+    /// By their numbers.
+    pub(crate) objects: Vec<Object>,
+    /// By their numbers.
+    pub(crate) threads: Vec<Member>,
+    pub(crate) stores: Vec<Store>,
+    pub(crate) readings: Vec<Reading>,
+    pub(crate) accesses: Vec<Access>,
+    pub(crate) holds: Vec<Hold>,
+}
+
+impl World {
+    /// Main alone.
+    pub(crate) fn new(alloc: Global) -> Result<World, AllocError> {
+        let mut threads = Vec::new(alloc);
+        threads.push(Member {
+            name: None,
+            pending: None,
+            line: 0,
+            stage: 0,
+        })?;
+        Ok(World {
+            objects: Vec::new(alloc),
+            threads,
+            stores: Vec::new(alloc),
+            readings: Vec::new(alloc),
+            accesses: Vec::new(alloc),
+            holds: Vec::new(alloc),
+        })
+    }
+
+    /// The number of the thread that is spawned next.
+    pub(crate) fn next_thread(&self) -> u8 {
+        u8::try_from(self.threads.len()).unwrap_or(u8::MAX)
+    }
+
+    /// The object of this number, if there is one.
+    pub(crate) fn object(&self, number: usize) -> Option<Object> {
+        self.objects.get(number).copied()
+    }
+
+    /// The object of this number, to be named.
+    pub(crate) fn thing(&self, number: usize) -> Thing {
+        Thing {
+            number,
+            object: self.object(number),
+        }
+    }
+
+    /// The thread of this number, if there is one.
+    pub(crate) fn member(&self, thread: u8) -> Option<Member> {
+        self.threads.get(usize::from(thread)).copied()
+    }
+
+    /// The thread of this number, to be named.
+    pub(crate) fn titled(&self, thread: u8) -> Titled {
+        let name = match self.member(thread) {
+            Some(member) => member.name,
+            None => None,
+        };
+        Titled { thread, name }
+    }
+
+    /// Who has the object since when, of several the last one.
+    pub(crate) fn holder(&self, object: usize) -> Option<Hold> {
+        self.holds
+            .iter()
+            .rev()
+            .find(|hold| hold.object == object)
+            .copied()
+    }
+
+    /// The type of what the atomic holds.
+    pub(crate) fn numbers(&self, atomic: usize) -> Numbers {
+        match self.object(atomic) {
+            Some(
+                Object {
+                    kind: Kind::Atomic(numbers),
+                    ..
+                },
+            ) => numbers,
+            _ => Numbers::U64,
+        }
+    }
+
+    /// A value of the atomic.
+    pub(crate) fn value(&self, atomic: usize, bits: u64) -> Value {
+        Value {
+            numbers: self.numbers(atomic),
+            bits,
+        }
+    }
+
+    /// The store in a slot: of the last seven of the atomic, the one whose number is the slot's modulo seven.
+    pub(crate) fn store_in(&self, atomic: usize, slot: u8) -> Option<Store> {
+        self.stores
+            .iter()
+            .rev()
+            .find(|store| {
+                store.atomic == atomic && store.number % MAX_ATOMIC_HISTORY == usize::from(slot)
+            })
+            .copied()
+    }
+
+    /// The thread has this operation pending from now on, on a line; what it makes is made.
+    pub(crate) fn hand_over(
+        &mut self,
+        at: At,
+        line: usize,
+        op: &Op<(), ()>,
+    ) -> Result<(), AllocError> {
+        if let Some(member) = self.threads.get_mut(usize::from(at.thread)) {
+            member.pending = Some(at.event);
+            member.line = line;
+            member.stage = 0;
+        }
+        match made_by(op) {
+            Some(kind) => self.make(at, kind, op),
+            None => Ok(()),
+        }
+    }
+
+    fn make(&mut self, at: At, kind: Kind, op: &Op<(), ()>) -> Result<(), AllocError> {
+        if matches!(kind, Kind::Wakers) {
+            self.make_object(at, Kind::Waking, None)?;
+        }
+        if let Op::Thread(ThreadOp::Spawn(_, name), _) = op {
+            self.make_thread(*name)?;
+        }
+        if let Op::Atomic(AtomicOp::New(..), _) = op {
+            let atomic = self.objects.len();
+            self.push_store(at, atomic, 0, None)?;
+        }
+        self.make_object(at, kind, op.label())
+    }
+
+    fn make_thread(&mut self, name: Option<Name>) -> Result<(), AllocError> {
+        self.threads.push(Member {
+            name,
+            pending: None,
+            line: 0,
+            stage: 0,
+        })?;
+        Ok(())
+    }
+
+    fn make_object(&mut self, at: At, kind: Kind, label: Option<Label>) -> Result<(), AllocError> {
+        if kind.is_accessed() {
+            let object = self.objects.len();
+            self.note(object, Manner::Making, at)?;
+        }
+        self.objects.push(Object {
+            kind,
+            label,
+            made: at,
+            count: kind.first_count(),
+            apart: None,
+        })?;
+        Ok(())
+    }
+
+    fn note(&mut self, object: usize, manner: Manner, at: At) -> Result<(), AllocError> {
+        self.accesses.push(Access { object, manner, at })?;
+        Ok(())
+    }
+
+    fn push_store(
+        &mut self,
+        at: At,
+        atomic: usize,
+        number: usize,
+        order: Option<std::sync::atomic::Ordering>,
+    ) -> Result<(), AllocError> {
+        self.stores.push(Store {
+            atomic,
+            number,
+            at,
+            order,
+        })?;
+        Ok(())
+    }
+
+    /// A stage of what the thread has pending has passed. Which object it gives free by that, if any.
+    pub(crate) fn pass(&mut self, thread: u8, op: &Op<(), ()>) {
+        let mut stage = 0;
+        if let Some(member) = self.threads.get_mut(usize::from(thread)) {
+            stage = member.stage;
+            member.stage = stage.saturating_add(1);
+        }
+        if let Op::Condvar(
+            CondvarOp::Wait(_, mutex, _) | CondvarOp::WaitTimeout(_, mutex, _),
+            _,
+        ) = op
+        {
+            if stage == 0 {
+                self.give(thread, *mutex);
+            }
+        }
+    }
+
+    /// What the thread had pending has taken effect, and this is its reply. The slot is that of the store that it read.
+    pub(crate) fn settle(
+        &mut self,
+        at: At,
+        op: &Op<(), ()>,
+        told: &Reply<()>,
+        slot: Option<u8>,
+    ) -> Result<Answer, AllocError> {
+        let call = call_of(op, self);
+        self.hold(at, holding_of(&call, told))?;
+        self.count(at, counting_of(&call, told));
+        if let Some(member) = self.threads.get_mut(usize::from(at.thread)) {
+            member.pending = None;
+        }
+        if let Op::Atomic(op, _) = op {
+            return self.settle_atomic(at, *op, told, slot);
+        }
+        if let Op::Cell(op, _) = op {
+            self.settle_cell(at, op)?;
+        }
+        Ok(answer_of(told))
+    }
+
+    fn settle_cell(&mut self, at: At, op: &CellOp<()>) -> Result<(), AllocError> {
+        if let Some((cell, manner)) = cell_touch(op) {
+            self.note(cell, manner, at)?;
+        }
+        if let CellOp::Swap(_, other) = op {
+            self.note(*other, Manner::CellWrite, at)?;
+        }
+        Ok(())
+    }
+
+    fn settle_atomic(
+        &mut self,
+        at: At,
+        op: AtomicOp,
+        told: &Reply<()>,
+        slot: Option<u8>,
+    ) -> Result<Answer, AllocError> {
+        let numbers = match op.atomic() {
+            Some(atomic) => self.numbers(atomic),
+            None => Numbers::U64,
+        };
+        let Some(touch) = touch_of(op, told, numbers) else {
+            return Ok(Answer::Nothing);
+        };
+        self.note(touch.atomic, touch.manner, at)?;
+        let read = self.read(at, touch, slot)?;
+        let number = self.write(at, touch)?;
+        Ok(match (read, number) {
+            (Some(store), _) => Answer::Read(store, outcome_of(told, numbers)),
+            (None, Some(number)) => Answer::Stored(number),
+            (None, None) => answer_of(told),
+        })
+    }
+
+    fn read(
+        &mut self,
+        at: At,
+        touch: Touch,
+        slot: Option<u8>,
+    ) -> Result<Option<Store>, AllocError> {
+        let (Some(order), Some(slot)) = (touch.read, slot) else {
+            return Ok(None);
+        };
+        let Some(store) = self.store_in(touch.atomic, slot) else {
+            return Ok(None);
+        };
+        self.readings.push(Reading {
+            at,
+            store,
+            order,
+            noun: touch.noun,
+        })?;
+        Ok(Some(store))
+    }
+
+    fn write(&mut self, at: At, touch: Touch) -> Result<Option<usize>, AllocError> {
+        let Some(order) = touch.write else {
+            return Ok(None);
+        };
+        let Some(object) = self.object(touch.atomic) else {
+            return Ok(None);
+        };
+        self.count(at, Counting::Up(touch.atomic));
+        self.push_store(at, touch.atomic, object.count, Some(order))?;
+        Ok(Some(object.count))
+    }
+
+    fn hold(&mut self, at: At, holding: Holding) -> Result<(), AllocError> {
+        match holding {
+            Holding::Same => {}
+            Holding::Takes(object) => self.holds.push(Hold { object, at })?,
+            Holding::Gives(object) => self.give(at.thread, object),
+        }
+        Ok(())
+    }
+
+    fn give(&mut self, thread: u8, object: usize) {
+        let place = self
+            .holds
+            .iter()
+            .rposition(|hold| hold.object == object && hold.at.thread == thread);
+        if let Some(place) = place {
+            if place < self.holds.len() {
+                self.holds.remove(place);
+            }
+        }
+    }
+
+    fn count(&mut self, at: At, counting: Counting) {
+        let number = match counting {
+            Counting::Same => return,
+            Counting::Up(number)
+            | Counting::Down(number)
+            | Counting::Zero(number)
+            | Counting::Apart(number) => number,
+        };
+        let Some(object) = self.objects.get_mut(number) else {
+            return;
+        };
+        object.count = match counting {
+            Counting::Same => object.count,
+            Counting::Up(_) => object.count.saturating_add(1),
+            Counting::Down(_) => object.count.saturating_sub(1),
+            Counting::Zero(_) | Counting::Apart(_) => 0,
+        };
+        if let Counting::Apart(_) = counting {
+            object.apart = Some(at.event);
+        }
+    }
+}
