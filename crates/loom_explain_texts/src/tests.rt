@@ -7,7 +7,7 @@ use crate::bodies::locks::{
 use crate::bodies::misuses::{
     APART, ENDS_FIRST, FENCE, RELEASED_BY_MAIN, STOPPED_TWICE, TWO_WAIT, UNREACHABLE,
 };
-use crate::bodies::races::{BESIDE, MUTATED, OPEN, SPIN, UNRELEASED};
+use crate::bodies::races::{BESIDE, MUTATED, OPEN, SPIN, THREE, UNRELEASED};
 use crate::bodies::values::{AFTER_EXIT, AFTER_MAIN, MADE_TWICE};
 use crate::texts;
 use loom::model::Builder;
@@ -36,36 +36,52 @@ macro_rules! row {
     };
 }
 
-static USUAL: [Row; 26] = [
+static RACES: [Row; 5] = [
     row!(race, SPIN, "t0 l0 t0 t1 t1 l2"),
     row!(race_beside, BESIDE, ""),
     row!(race_unreleased, UNRELEASED, "t0 t1 t1 l1"),
     row!(race_mutated, MUTATED, ""),
-    row!(open_access, OPEN, ""),
-    row!(assertion, LOST_UPDATE, "t0 l0 t1 t1 l0 t1 t1 t0"),
+    row!(race_three, THREE, ""),
+];
+
+static WAITS: [Row; 5] = [
     row!(deadlock, CROSSED, "t0 t1 t1"),
     row!(deadlock_twice, TWICE, ""),
     row!(deadlock_asleep, ASLEEP, "t1 t1 t1 t2 t2 t2"),
     row!(deadlock_all, ALL_WAIT, ""),
+    row!(second_waiter, TWO_WAIT, ""),
+];
+
+static LEAKS: [Row; 4] = [
     row!(leak_arc, ARC_LEFT, ""),
     row!(leak_waker, WAKER_LEFT, ""),
     row!(leak_track, TRACK_LEFT, ""),
     row!(leak_messages, MESSAGE_LEFT, ""),
+];
+
+static MISUSES: [Row; 5] = [
+    row!(misuse, RELEASED_BY_MAIN, "t1 t1 t0"),
+    row!(misuse_apart, APART, ""),
+    row!(misuse_end, ENDS_FIRST, ""),
+    row!(open_access, OPEN, ""),
+    row!(unreachable, UNREACHABLE, ""),
+];
+
+static VALUES: [Row; 5] = [
+    row!(relaxed_fence, FENCE, ""),
+    row!(explore_switch, STOPPED_TWICE, ""),
+    row!(lazy_shutdown, AFTER_MAIN, ""),
+    row!(local_gone, AFTER_EXIT, ""),
+    row!(key_taken, MADE_TWICE, ""),
+];
+
+static CHOICES: [Row; 3] = [
+    row!(assertion, LOST_UPDATE, "t0 l0 t1 t1 l0 t1 t1 t0"),
     row!(
         orders_equal,
         ORDERS_EQUAL,
         "t0 t1 t1 t1 t0 l2 t1 l2 t1 t2 t2 l3 t2"
     ),
-    row!(misuse, RELEASED_BY_MAIN, "t1 t1 t0"),
-    row!(misuse_apart, APART, ""),
-    row!(misuse_end, ENDS_FIRST, ""),
-    row!(unreachable, UNREACHABLE, ""),
-    row!(relaxed_fence, FENCE, ""),
-    row!(explore_switch, STOPPED_TWICE, ""),
-    row!(second_waiter, TWO_WAIT, ""),
-    row!(lazy_shutdown, AFTER_MAIN, ""),
-    row!(local_gone, AFTER_EXIT, ""),
-    row!(key_taken, MADE_TWICE, ""),
     row!(not_deterministic, CROSSED, "t0 t1 l3"),
 ];
 
@@ -87,12 +103,41 @@ fn tells(rt: &HostRuntime, builder: &Builder, row: &'static Row) -> Result<(), F
     Err(Fail::from("another text"))
 }
 
-#[test]
-fn each_kind_has_its_text(rt: HostRuntime) -> Result<(), Fail> {
-    for row in &USUAL {
-        tells(&rt, &Builder::new(), row)?;
+fn tells_each(rt: &HostRuntime, rows: &'static [Row]) -> Result<(), Fail> {
+    for row in rows {
+        tells(rt, &Builder::new(), row)?;
     }
     Ok(())
+}
+
+#[test]
+fn races_have_their_texts(rt: HostRuntime) -> Result<(), Fail> {
+    tells_each(&rt, &RACES)
+}
+
+#[test]
+fn waits_have_their_texts(rt: HostRuntime) -> Result<(), Fail> {
+    tells_each(&rt, &WAITS)
+}
+
+#[test]
+fn leaks_have_their_texts(rt: HostRuntime) -> Result<(), Fail> {
+    tells_each(&rt, &LEAKS)
+}
+
+#[test]
+fn misuses_have_their_texts(rt: HostRuntime) -> Result<(), Fail> {
+    tells_each(&rt, &MISUSES)
+}
+
+#[test]
+fn values_and_switches_have_their_texts(rt: HostRuntime) -> Result<(), Fail> {
+    tells_each(&rt, &VALUES)
+}
+
+#[test]
+fn given_choices_have_their_texts(rt: HostRuntime) -> Result<(), Fail> {
+    tells_each(&rt, &CHOICES)
 }
 
 static FEW_THREADS: Row = row!(too_many_threads, THREE_SPAWNED, "");

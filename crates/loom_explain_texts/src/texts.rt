@@ -21,6 +21,7 @@ pub mod orders_equal;
 pub mod race;
 pub mod race_beside;
 pub mod race_mutated;
+pub mod race_three;
 pub mod race_unreleased;
 pub mod relaxed_fence;
 pub mod second_waiter;

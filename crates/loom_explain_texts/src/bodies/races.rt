@@ -115,3 +115,16 @@ pub const MUTATED: &[Step] = &[
     YIELD,
     Step::Do(0, Op::Atomic(AtomicOp::Store(0, 300, Release), None)),
 ];
+
+/// Two threads read and write a cell that main wrote before it spawned them. Both know of main's write, and neither of the other.
+pub const THREE: &[Step] = &[
+    NEW_CELL,
+    WRITE,
+    WRITE_END,
+    Step::Do(2, Op::Thread(ThreadOp::Spawn(6, None), None)),
+    Step::Do(3, Op::Thread(ThreadOp::Spawn(8, None), None)),
+    YIELD,
+    Step::Do(0, Op::Cell(CellOp::Get(1), None)),
+    YIELD,
+    WRITE,
+];

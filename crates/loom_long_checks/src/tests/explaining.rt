@@ -98,7 +98,7 @@ fn settings_are_refused(rt: HostRuntime) -> Result<(), Fail> {
     match builder.explain(rt.alloc(), &body, &[]) {
         Ok(_) => Err(Fail::from("the settings were taken")),
         Err(error) => {
-            assert_eq!(rt; error, CheckError::MaxThreads);
+            assert_eq!(rt; error, CheckError::MaxThreads(0));
             Ok(())
         }
     }

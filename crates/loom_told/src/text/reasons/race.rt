@@ -6,6 +6,7 @@ use crate::text::objects::{Access, Hold, Manner, Reading};
 use crate::text::reasons::Scene;
 use loom_objects::operation::{AtomicOp, CellOp, Op, Reply};
 use loom_parts::label::Label;
+use loom_views::rt::MAX_THREADS;
 use loom_views::rt::failure::FailureKind;
 use std::alloc::AllocError;
 use std::sync::atomic::Ordering;
@@ -38,13 +39,12 @@ fn targets(scene: Scene<'_>) -> Option<(usize, usize, Manner)> {
     }
 }
 
-/// The access that a race is with: the last one of another thread that conflicts.
-pub(crate) fn other_access(scene: Scene<'_>) -> Option<Access> {
-    if !matches!(scene.kind, Some(FailureKind::Race)) {
+/// The last access of this thread that conflicts with the one that failed.
+fn last_of(scene: Scene<'_>, thread: u8) -> Option<Access> {
+    let (one, other, manner) = targets(scene)?;
+    if thread == scene.at.thread {
         return None;
     }
-    let (one, other, manner) = targets(scene)?;
-    let thread = scene.at.thread;
     scene
         .world
         .accesses
@@ -52,10 +52,27 @@ pub(crate) fn other_access(scene: Scene<'_>) -> Option<Access> {
         .rev()
         .find(|access| {
             (access.object == one || access.object == other)
-                && access.at.thread != thread
+                && access.at.thread == thread
                 && manner.conflicts_with(access.manner)
         })
         .copied()
+}
+
+/// The access that a race is with, where one other thread alone has made accesses that conflict: its last one. No views are
+/// kept here, so of several threads it isn't known whose access is meant.
+pub(crate) fn other_access(scene: Scene<'_>) -> Option<Access> {
+    if !matches!(scene.kind, Some(FailureKind::Race)) {
+        return None;
+    }
+    let mut found = None;
+    for thread in 0..MAX_THREADS as u8 {
+        let last = last_of(scene, thread);
+        if found.is_some() && last.is_some() {
+            return None;
+        }
+        found = found.or(last);
+    }
+    found
 }
 
 /// The verb for what accesses an atomic or a cell.
@@ -99,14 +116,11 @@ fn cell_verb(op: &CellOp<()>) -> &'static str {
 
 /// Both accesses, and what is missing between them.
 pub(crate) fn put_race(out: &mut String, scene: Scene<'_>) -> Result<(), AllocError> {
+    let Some(access) = scene.other else {
+        return put_others(out, scene);
+    };
     let thread = scene.at.thread;
     let verb = verb_of(scene.op());
-    let Some(access) = scene.other else {
-        return writeln!(
-            out,
-            "  thread {thread} {verb} what it doesn't know another access of"
-        );
-    };
     let thing = scene.world.thing(access.object);
     let other = access.at.thread;
     let noun = access.manner.noun();
@@ -122,6 +136,33 @@ pub(crate) fn put_race(out: &mut String, scene: Scene<'_>) -> Result<(), AllocEr
             "  nothing orders the two: thread {thread} has read nothing that thread {other} stored after it"
         ),
     }
+}
+
+/// The last access of each other thread that conflicts: one of them at least isn't known.
+fn put_others(out: &mut String, scene: Scene<'_>) -> Result<(), AllocError> {
+    let thread = scene.at.thread;
+    let verb = verb_of(scene.op());
+    let number = match targets(scene) {
+        Some((object, ..)) => object,
+        None => 0,
+    };
+    let thing = scene.world.thing(number);
+    writeln!(
+        out,
+        "  thread {thread} {verb} {thing} and doesn't know of one of these at least:"
+    )?;
+    for other in 0..MAX_THREADS as u8 {
+        if let Some(access) = last_of(scene, other) {
+            let noun = access.manner.noun();
+            let thing = scene.world.thing(access.object);
+            let event = access.at.event;
+            writeln!(
+                out,
+                "    thread {other}'s {noun} of {thing} (event {event})"
+            )?;
+        }
+    }
+    Ok(())
 }
 
 fn acquires(order: Ordering) -> bool {
