@@ -1,0 +1,53 @@
+//! A first look: checks the four bodies of `loom_examples`, each right and wrong, and prints what each check finds. Of a failure it
+//! prints the story of the run. The ring and the queue are checked with few preemptions, since the whole reduced search of them is
+//! long. It takes no words, and nothing stands on it.
+#![tactic(auto)]
+
+use loom::Body;
+use loom::model::{Builder, Report};
+use loom::sync::atomic::Ordering::{Relaxed, Release};
+use loom_examples::spin::Spin;
+use loom_examples::{peterson, queue, ring};
+use loom_scripts::script::Script;
+use loom_scripts::step::Step;
+
+fn main(rt: HostRuntime) -> anyhow::Result<()> {
+    check(&rt, "spin lock, right", &Spin::main(Release))?;
+    check(&rt, "spin lock, wrong", &Spin::main(Relaxed))?;
+    check_script(&rt, "Peterson's lock, right", peterson::RIGHT)?;
+    check_script(&rt, "Peterson's lock, wrong", peterson::WRONG)?;
+    rise(&rt, "ring, right", ring::RIGHT, 2)?;
+    rise(&rt, "ring, wrong", ring::WRONG, 2)?;
+    rise(&rt, "queue, right", queue::RIGHT, 1)?;
+    rise(&rt, "queue, wrong", queue::WRONG, 1)
+}
+
+/// Checks the body by the defaults, and prints what was found.
+fn check<B: Body>(rt: &HostRuntime, name: &str, body: &B) -> anyhow::Result<()> {
+    let report = Builder::new().check(rt, rt.alloc(), body)?;
+    println!(rt; "{name}: {report}")?;
+    tell(rt, body, &report)
+}
+
+fn check_script(rt: &HostRuntime, name: &str, steps: &'static [Step]) -> anyhow::Result<()> {
+    check(rt, name, &Script::new(rt.alloc(), steps)?)
+}
+
+/// Checks the script with no preemptions, with one, and so on up to this bound, and prints what was found.
+fn rise(rt: &HostRuntime, name: &str, steps: &'static [Step], up_to: usize) -> anyhow::Result<()> {
+    let body = Script::new(rt.alloc(), steps)?;
+    let risen = Builder::new().check_rising(rt.alloc(), &body, up_to)?;
+    let bound = risen.bound;
+    let report = &risen.report;
+    println!(rt; "{name}, with at most {bound} preemptions: {report}")?;
+    tell(rt, &body, report)
+}
+
+/// Prints the story of the run that failed, if one did.
+fn tell<B: Body>(rt: &HostRuntime, body: &B, report: &Report) -> anyhow::Result<()> {
+    if let Report::Failed { choices, .. } = report {
+        let story = Builder::new().explain(rt.alloc(), body, choices.as_slice())?;
+        println!(rt; "{story}")?;
+    }
+    Ok(())
+}
