@@ -22,6 +22,8 @@ use std::alloc::AllocError;
 
 /// What the active thread's operation does up to its branch point, or all of it, where it has none. An outer error only where
 /// memory is refused.
+// Inlined, so that no operation is moved once more.
+#[inline(always)]
 pub(crate) fn begin_op<D: Data>(
     scene: &mut Scene<D>,
     op: Op<D, ()>,

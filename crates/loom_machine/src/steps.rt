@@ -21,6 +21,7 @@ use loom_views::rt::failure::FailureKind;
 
 /// What the active thread's operation does up to its branch point, or all of it, where it has none. It is counted
 /// before anything else: `TooManySteps` where none is left.
+#[inline(always)]
 pub fn begin<D: Data>(run: &mut RunState<D>, op: Op<D, ()>) -> Result<Entry<D>, Stop>
     ensures does { Does (rules.begins op) run.old result run.new }
     ensures steps { OnOk result (run.old.steps_left ≡ run.new.steps_left + 1) }

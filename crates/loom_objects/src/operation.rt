@@ -496,6 +496,8 @@ impl<D, S> Op<D, S> {
     }
 
     /// The operation, and apart from it what a spawn starts.
+    // Inlined, so that a case moves just what it holds.
+    #[inline(always)]
     pub fn split(self) -> (Op<D, ()>, Option<S>)
         ensures plain { result.0 ≡ plain self }
         ensures started { result.1 ≡ started self }
@@ -547,6 +549,7 @@ impl AtomicOp {
 }
 
 impl<D, S> ThreadOp<D, S> {
+    #[inline(always)]
     fn split(self) -> (ThreadOp<D, ()>, Option<S>)
         ensures plain { result.0 ≡ plain_thread self }
         ensures started { result.1 ≡ started_thread self }

@@ -112,6 +112,8 @@ fn hand_over<B: Body, P: Places>(
 }
 
 /// The operation is submitted, and what it starts is a body more. `Memory` only where the event needs it, or a body is added.
+// Inlined, so that the operation isn't moved.
+#[inline(always)]
 fn submit<B: Body>(
     execution: &mut Execution<B::Data>,
     bodies: &mut Vec<B>,

@@ -65,6 +65,8 @@ impl Dependence {
 
     /// So many threads more, which begin where the parent is, and so many objects more. An error only where some are made and
     /// memory for them is refused (loom's `rt/execution.rs` and `rt/object.rs`).
+    // Inlined: it is called at each operation, and few make anything.
+    #[inline(always)]
     pub fn grow(&mut self, parent: usize, threads: usize, objects: usize) -> Result<(), AllocError>
         ensures grown { (o : Order) → ShowsOrder o self.old → IfOk result (λ _. ShowsOrder (grown parent threads objects o) self.new) }
         ensures growth { IfErr result (λ _. 0 < threads + objects) }

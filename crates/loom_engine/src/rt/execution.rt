@@ -83,6 +83,8 @@ impl<D: Data> Execution<D> {
     /// point. It is one event of the machine. `Memory` only where an object, a thread or a node is made, or data is copied.
     /// After a `Stop` each later call answers the same, and after `Turn::Ended` `Misuse` without a location; then nothing
     /// changes.
+    // Inlined, as what it calls, so that no operation is moved on its way.
+    #[inline(always)]
     pub fn submit(&mut self, path: &mut Path, op: Op<D, ()>) -> Result<Turn<D>, Stop>
         ensures event { Submits self.old op path.old result self.new path.new }
         ensures steps { OnOk result (self.old.run.state.steps_left ≡ self.new.run.state.steps_left + 1) }
@@ -117,6 +119,7 @@ fn record_end<D>(over: &mut Option<Stop>, answer: &Result<Turn<D>, Stop>)
 }
 
 /// An operation up to its branch point, and past it.
+#[inline(always)]
 fn hand_over<D: Data>(
     run: &mut Progress<D>,
     path: &mut Path,
@@ -138,6 +141,7 @@ fn hand_over<D: Data>(
 
 /// What the operation does up to its branch point. There are no accesses yet to the objects that it makes, and a thread that it
 /// makes comes after what its parent comes after.
+#[inline(always)]
 fn start<D: Data>(run: &mut Progress<D>, op: Op<D, ()>) -> Result<Entry<D>, Stop>
     ensures starts { Starts op run.old result run.new }
     ensures growth { result ≡ Err Stop.Memory → (w : World D) → Shows w run.old.state → needs_memory op ≡ true }
