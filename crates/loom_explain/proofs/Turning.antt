@@ -1,6 +1,6 @@
 -- One event more of a story.
 use Rattle.std.proofs.Common.{◌≡◌, ◌≤◌, ◌+◌, ℕ, suc, List, [], ◌∷◌, ◌++◌, length, sym, subst, ◌∙◌, ap, arith, append_assoc, append-nil}
-use Rattle.std.specs.Prelude.{OnOk, Result, Ok, Err, Option, Some, slice_get, slice_set, ⊤}
+use Rattle.std.specs.Prelude.{IfOk, OnOk, Result, Ok, Err, Option, Some, slice_get, slice_set, ⊤}
 use Rattle.std.proofs.lemmas.Option.{slice_get_past}
 use Rattle.loom_views.specs.declared.rt.failure.FailureKind.{FailureKind}
 use Rattle.loom_views.specs.declared.rt.failure.FailureKind.TheVariants.{Misuse}
@@ -27,7 +27,8 @@ use Rattle.loom_told.specs.declared.explanation.End.{End}
 use Rattle.loom_told.specs.declared.explanation.End.TheVariants.{Ended, Failed}
 use Rattle.loom_told.specs.declared.explanation.Event.{Event}
 use Rattle.loom_explain.specs.Story.{Story, EndsAs, begins_with, by_body, event_of, goes_on, hands_over, nothing_more, story}
-use Rattle.loom_explain.specs.Telling.{IsEndOf, IsUnderWay, ComesToTurn, behind}
+use Rattle.loom_explain.specs.Telling.{IsUnderWay, ComesToTurn, behind}
+use Rattle.loom_noting.specs.Ends.{IsEndOf}
 
 -- an event goes from the rest of a story to what was told
 told_one_more : {D : Type 0} (events : List Event) (event : Event) (rest : Story D) → behind (events ++ event ∷ []) rest ≡ behind events (begins_with event rest)
@@ -51,6 +52,21 @@ module _ {D S : Type 0} (next : Meaning D S) where
   unfolding story
   nobody s left bodies c path thread answer past =
       ap (by_body (λ b. hands_over s (story s next left) bodies c path thread answer (next b answer)) path) (slice_get_past bodies thread past)
+
+  -- a copy of the body alone
+  pub alone : (old new : List S) (copy body : S) → new ≡ old ++ copy ∷ [] → old ≡ [] → copy ≡ body → new ≡ body ∷ []
+  alone old new copy body more none same = more ∙ ap (λ (l : List S). l ++ copy ∷ []) none ∙ ap (λ (b : S). b ∷ []) same
+
+  -- before any event a run is under way to its own story
+  pub begins : (events : List Event) (bodies : List S) (run : Progress D) (path : Route) (body : S) (c : Course D) → events ≡ [] → bodies ≡ body ∷ [] → ShowsCourse c run path
+      → IsUnderWay next (story path.search next (suc c.world.steps_left) (body ∷ []) c (trail path) 0 reply.Start) events bodies run path 0 reply.Start
+  begins events bodies run path body c none one shown = record {
+    course = c;
+    shown = shown;
+    rest =
+        ap (λ (l : List Event). behind l (story path.search next (suc c.world.steps_left) bodies c (trail path) 0 reply.Start)) none
+        ∙ ap (λ (b : List S). story path.search next (suc c.world.steps_left) b c (trail path) 0 reply.Start) one;
+  }
 
   module _ (whole : Story D) where
     -- a thread that has no body
@@ -140,9 +156,15 @@ module _ {D S : Type 0} (next : Meaning D S) where
         (stops events bodies run run' path path' thread answer body after op todo event stop h is same_op came z bodies')
 
     -- a run that was stopped ends so
-    pub ends_stopped : (events : List Event) (bodies : List S) (run : Progress D) (path : Route) (stop : Stop) (end : End) → IsEndOf stop end
+    ends_stopped : (events : List Event) (bodies : List S) (run : Progress D) (path : Route) (stop : Stop) (end : End) → IsEndOf stop end
         → ComesToTurn next whole (Err stop) events bodies run path → EndsAs whole events end (trail path)
     ends_stopped events bodies run path (Because failure) (Failed placed) is e =
         e ∙ ap (λ (kind : FailureKind). let z : Story D = record { events = events; comes = (Err kind, trail path) } in z) (sym is)
     ends_stopped events bodies run path (Because failure) Ended is e = absurd is
     ends_stopped events bodies run path Memory end is e = absurd is
+
+    -- the same of an end that may be missing
+    pub stopped_so : {E : Type 0} (events : List Event) (bodies : List S) (run : Progress D) (path : Route) (stop : Stop) (end : Result End E) → IfOk end (IsEndOf stop)
+        → ComesToTurn next whole (Err stop) events bodies run path → IfOk end (λ end. EndsAs whole events end (trail path))
+    stopped_so events bodies run path stop (Ok end) is e = ends_stopped events bodies run path stop end is e
+    stopped_so events bodies run path stop (Err none) is e = tt

@@ -11,16 +11,8 @@ use Rattle.loom_engine.specs.Execution.{ShowsCourse}
 use Rattle.loom_path.specs.Routes.{Route, trail}
 use Rattle.loom_runs.specs.Courses.{Course}
 use Rattle.loom_runs.specs.Runs.{Meaning}
-use Rattle.loom_told.specs.declared.explanation.End.{End}
-use Rattle.loom_told.specs.declared.explanation.End.TheVariants.{Ended, Failed}
 use Rattle.loom_told.specs.declared.explanation.Event.{Event}
 use Rattle.loom_explain.specs.Story.{Story, story}
-
--- a run that is stopped by a failure ends with one of its kind
-abbrev pub IsEndOf : Stop → End → Type 0
-IsEndOf (Because failure) (Failed placed) = placed.kind ≡ failure.kind
-IsEndOf (Because failure) Ended = ⊥
-IsEndOf Memory end = ⊥
 
 -- the story with these events before it
 abbrev pub behind : {D : Type 0} → List Event → Story D → Story D

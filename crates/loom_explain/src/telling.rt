@@ -1,20 +1,18 @@
 //! Makes a run along a path, and tells it as events.
-ghost use Rattle.std.specs.Prelude.{◌≡◌, ◌≤◌, ◌+◌, ◌++◌, ◌∷◌, [], None, IfOk, OnOk};
+ghost use Rattle.std.specs.Prelude.{◌≡◌, ◌≤◌, ◌+◌, None, IfOk, OnOk};
 ghost use Rattle.loom_engine.specs.Execution.{over_after};
 ghost use Rattle.loom_runs.specs.Runs.{with_child};
 ghost use Rattle.loom_path.specs.Routes.{IsAtStart, IsSameSearch, trail};
-ghost use Rattle.loom_explain.specs.Bare.{bare_op};
-ghost use Rattle.loom_explain.specs.Story.{Story, IsToldAs, story_of};
-ghost use Rattle.loom_explain.specs.Telling.{ComesToTurn, IsEndOf, IsUnderWay};
+ghost use Rattle.loom_explain.specs.Story.{EndsAs, IsToldAs, Story, story_of};
+ghost use Rattle.loom_explain.specs.Telling.{ComesToTurn, IsUnderWay};
 
 use crate::bare::{bare_op, bare_reply};
 use loom_engine::rt::execution::{Execution, Limits};
+use loom_noting::noting::{note, stopped};
 use loom_objects::body::Body;
 use loom_objects::failure::{Stop, failed};
-use loom_objects::operation::{Op, Reply, Turn};
-use loom_parts::location::Location;
+use loom_objects::operation::{Reply, Turn};
 use loom_path::rt::path::Path;
-use loom_round::places::place_of;
 use loom_told::explanation::{End, Event};
 use loom_views::rt::failure::FailureKind;
 use std::alloc::{AllocError, Global};
@@ -41,31 +39,35 @@ pub fn tell<B: Body>(
     ensures told { IfOk result (λ told. IsToldAs (story_of path.old.search B.next path.old.explores limits.max_threads limits.max_steps body.now (trail path.old)) told path.new) }
     ensures same { IsSameSearch path.old path.new }
 {
-    let mut execution = Execution::new(alloc, limits)?;
     let mut bodies = Vec::new(alloc);
     bodies.push(body.try_clone()?)?;
+    let mut execution = Execution::new(alloc, limits)?;
     let mut events = Vec::new(alloc);
+    let end = take_turns(alloc, &mut execution, &mut bodies, path, &mut events)?;
+    Ok(Told { events, end })
+}
+
+/// From its start the run goes on by turns, until it ends or fails, and each event is noted. An error only where a growth was
+/// refused.
+fn take_turns<B: Body>(
+    alloc: Global,
+    execution: &mut Execution<B::Data>,
+    bodies: &mut Vec<B>,
+    path: &mut Path,
+    events: &mut Vec<Event>,
+) -> Result<End, AllocError>
+    requires { execution.old.over ≡ None }
+    ensures told { (whole : Story B.Data) → IsUnderWay B.next whole events.old.items bodies.old.items execution.old.run path.old 0 Reply.Start
+        → IfOk result (λ end. EndsAs whole events.new.items end (trail path.new)) }
+    ensures same { IsSameSearch path.old path.new }
+{
     let mut thread = 0u8;
     let mut reply = Reply::Start;
     loop {
-        let answer = hand_over(
-            alloc,
-            &mut execution,
-            &mut bodies,
-            path,
-            &mut events,
-            thread,
-            reply,
-        )?;
+        let answer = hand_over(alloc, execution, bodies, path, events, thread, reply)?;
         match answer {
-            Err(stop) => {
-                let end = stopped(stop, events.as_slice(), execution.active())?;
-                return Ok(Told { events, end });
-            }
-            Ok(Turn::Ended(_)) => {
-                let end = End::Ended;
-                return Ok(Told { events, end });
-            }
+            Err(stop) => return stopped(stop, events.as_slice(), execution.active()),
+            Ok(Turn::Ended(_)) => return Ok(End::Ended),
             Ok(Turn::Reply(next, told)) => {
                 thread = next;
                 reply = told;
@@ -75,24 +77,6 @@ pub fn tell<B: Body>(
                 reply = Reply::Start;
             }
         }
-    }
-}
-
-/// How a run ends that is stopped so, while this thread is active.
-fn stopped(stop: Stop, events: &[Event], active: u8) -> Result<End, AllocError>
-    ensures { IfOk result (IsEndOf stop) }
-{
-    match stop {
-        Stop::Memory => Err(AllocError),
-        Stop::Failure(failure) => Ok(End::Failed(failure.at(last_place(events, active)))),
-    }
-}
-
-/// The place of the thread's last operation, if it is known.
-fn last_place(events: &[Event], thread: u8) -> Option<Location> {
-    match events.iter().rev().find(|event| event.thread == thread) {
-        Some(event) => place_of(&event.op),
-        None => None,
     }
 }
 
@@ -121,7 +105,7 @@ fn hand_over<B: Body>(
     let told = bare_reply(alloc, &reply)?;
     let body = &mut bodies[place];
     let op = body.resume(reply)?;
-    note(events, thread, told, &op, path.position())?;
+    note(events, thread, told, bare_op(&op), path.position())?;
     let (op, started) = op.split();
     let answer = execution.submit(path, op);
     add_child(bodies, started)?;
@@ -135,25 +119,5 @@ fn add_child<B: Drop>(bodies: &mut Vec<B>, started: Option<B>) -> Result<(), All
     if let Some(child) = started {
         bodies.push(child)?;
     }
-    Ok(())
-}
-
-/// One event more.
-fn note<D, S>(
-    events: &mut Vec<Event>,
-    thread: u8,
-    told: Reply<()>,
-    op: &Op<D, S>,
-    choices_before: usize,
-) -> Result<(), AllocError>
-    ensures { OnOk result (events.new.items ≡ events.old.items
-        ++ record { thread = thread; told = told; op = bare_op op.now; choices_before = choices_before } ∷ []) }
-{
-    events.push(Event {
-        thread,
-        told,
-        op: bare_op(op),
-        choices_before,
-    })?;
     Ok(())
 }
