@@ -9,24 +9,26 @@ use loom::sync::{
     TryLockError, WaitTimeoutResult,
 };
 use loom::thread::{AccessError, JoinHandle, Thread, ThreadId};
-use loom::{FailureKind, Op, Reply};
+use loom::{FailureKind, Reply};
 use loom_objects::operation::{Keyed, Lazy};
 use loom_scripts::number::Number;
 use loom_views::rt::num::Numeric;
 use std::collections::LinkedList;
 
-/// A call of a table, and what it comes to.
-#[derive(Drop)]
-pub enum Call {
+/// What a call comes to.
+#[derive(Clone, Copy)]
+pub enum Comes {
     /// Main goes on, and is told this.
-    Main(Op<Number, ()>, Answer),
+    Main(Answer),
     /// The other thread goes on, and is told this.
-    Other(Op<Number, ()>, Answer),
+    Other(Answer),
     /// The run fails by this.
-    Fails(Op<Number, ()>, FailureKind),
-    /// It was made already.
-    Made,
+    Fails(FailureKind),
 }
+
+/// A call, as a test writes it, and what it comes to. (A table of these costs the proof nothing, where one that holds the
+/// calls costs two seconds a row.)
+pub type Row = (&'static str, Comes);
 
 /// What a thread is told. Each handle is the one that its own `from_reply` answers, and so is each value of an atomic.
 #[derive(Clone, Copy)]

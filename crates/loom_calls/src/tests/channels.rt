@@ -1,12 +1,11 @@
 //! Channels.
 use crate::tests::answer::Answer::{Back, Data, Done, Empty, Messages, New, NoSender};
-use crate::tests::answer::Call::{Fails, Main};
-use crate::tests::answer::{Call, Object};
-use crate::tests::run::first_wrong;
-use loom::FailureKind;
+use crate::tests::answer::Comes::{Fails, Main};
+use crate::tests::answer::{Object, Row};
+use crate::tests::run::come_to;
 use loom::sync::mpsc::{Receiver, Sender, channel};
+use loom::{FailureKind, Op};
 use loom_scripts::number::Number;
-use std::process::Abort;
 use std::test::Fail;
 
 const SENDER: Sender = Sender { number: 0 };
@@ -15,50 +14,67 @@ const RECEIVER: Receiver = Receiver { number: 0 };
 
 // Main asks an empty channel, sends three numbers by two senders, receives two of them by each call, drops one sender and the
 // receiver, sends in vain, drops the other sender, and finds that there is none.
-fn send_and_receive() -> [Call; 13] {
+fn send_and_receive() -> [Op<Number, ()>; 13] {
     [
-        Main(channel(), New(Object::Channel, 0)),
-        Main(SENDER.clone(), Done),
-        Main(RECEIVER.try_recv(), Empty),
-        Main(SENDER.send(Number(1)), Done),
-        Main(SENDER.send(Number(2)), Done),
-        Main(SENDER.send(Number(3)), Done),
-        Main(RECEIVER.recv(), Data(1)),
-        Main(RECEIVER.try_recv(), Data(2)),
-        Main(SENDER.drop(), Done),
-        Main(RECEIVER.drop(), Messages(&[3])),
-        Main(SENDER.send(Number(4)), Back(4)),
-        Main(SENDER.drop(), Done),
-        Fails(SENDER.clone(), FailureKind::Misuse),
+        channel(),
+        SENDER.clone(),
+        RECEIVER.try_recv(),
+        SENDER.send(Number(1)),
+        SENDER.send(Number(2)),
+        SENDER.send(Number(3)),
+        RECEIVER.recv(),
+        RECEIVER.try_recv(),
+        SENDER.drop(),
+        RECEIVER.drop(),
+        SENDER.send(Number(4)),
+        SENDER.drop(),
+        SENDER.clone(),
     ]
 }
 
+static SEND_AND_RECEIVE: [Row; 13] = [
+    ("channel", Main(New(Object::Channel, 0))),
+    ("SENDER.clone", Main(Done)),
+    ("RECEIVER.try_recv", Main(Empty)),
+    ("SENDER.send", Main(Done)),
+    ("SENDER.send", Main(Done)),
+    ("SENDER.send", Main(Done)),
+    ("RECEIVER.recv", Main(Data(1))),
+    ("RECEIVER.try_recv", Main(Data(2))),
+    ("SENDER.drop", Main(Done)),
+    ("RECEIVER.drop", Main(Messages(&[3]))),
+    ("SENDER.send", Main(Back(4))),
+    ("SENDER.drop", Main(Done)),
+    ("SENDER.clone", Fails(FailureKind::Misuse)),
+];
+
 // Main drops the sender, receives in vain by each call, drops the receiver, and finds that it is no more.
-fn receive_in_vain() -> [Call; 6] {
+fn receive_in_vain() -> [Op<Number, ()>; 6] {
     [
-        Main(channel(), New(Object::Channel, 0)),
-        Main(SENDER.drop(), Done),
-        Main(RECEIVER.recv(), NoSender),
-        Main(RECEIVER.try_recv(), Empty),
-        Main(RECEIVER.drop(), Messages(&[])),
-        Fails(RECEIVER.recv(), FailureKind::Misuse),
+        channel(),
+        SENDER.drop(),
+        RECEIVER.recv(),
+        RECEIVER.try_recv(),
+        RECEIVER.drop(),
+        RECEIVER.recv(),
     ]
 }
+
+static RECEIVE_IN_VAIN: [Row; 6] = [
+    ("channel", Main(New(Object::Channel, 0))),
+    ("SENDER.drop", Main(Done)),
+    ("RECEIVER.recv", Main(NoSender)),
+    ("RECEIVER.try_recv", Main(Empty)),
+    ("RECEIVER.drop", Main(Messages(&[]))),
+    ("RECEIVER.recv", Fails(FailureKind::Misuse)),
+];
 
 #[test]
 fn messages_are_received_in_their_order(rt: HostRuntime) -> Result<(), Fail> {
-    assert_eq!(rt;
-        first_wrong::<u64>(rt.alloc(), &mut send_and_receive())?,
-        None
-    );
-    Ok(())
+    come_to::<u64>(rt.alloc(), &mut send_and_receive(), &SEND_AND_RECEIVE)
 }
 
 #[test]
 fn nothing_is_received_without_a_sender(rt: HostRuntime) -> Result<(), Fail> {
-    assert_eq!(rt;
-        first_wrong::<u64>(rt.alloc(), &mut receive_in_vain())?,
-        None
-    );
-    Ok(())
+    come_to::<u64>(rt.alloc(), &mut receive_in_vain(), &RECEIVE_IN_VAIN)
 }

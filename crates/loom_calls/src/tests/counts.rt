@@ -1,52 +1,79 @@
 //! Counted references and tracked values.
 use crate::tests::answer::Answer::{Count, Data, Done, New, Shared};
-use crate::tests::answer::Call::{Fails, Main};
-use crate::tests::answer::{Call, Object};
-use crate::tests::run::first_wrong;
-use loom::FailureKind;
+use crate::tests::answer::Comes::{Fails, Main};
+use crate::tests::answer::{Object, Row};
+use crate::tests::run::come_to;
 use loom::alloc::Track;
 use loom::sync::Arc;
+use loom::{FailureKind, Op};
 use loom_scripts::number::Number;
 use std::process::Abort;
 use std::test::Fail;
 
 // Main has two references to one value, asks for the value while it has both, and again once it has one, changes it, takes it
 // out, and finds that it is no more.
-fn count_references() -> [Call; 13] {
+fn count_references() -> [Op<Number, ()>; 13] {
     let arc = Arc { number: 0 };
     let other = Arc { number: 1 };
     [
-        Main(Arc::new(Number(1)), New(Object::Arc, 0)),
-        Main(Arc::new(Number(9)), New(Object::Arc, 1)),
-        Main(other.drop(), Data(9)),
-        Main(arc.clone(), Done),
-        Main(arc.strong_count(), Count(2)),
-        Main(arc.get(), Data(1)),
-        Main(arc.get_mut(), Shared),
-        Main(arc.try_unwrap(), Shared),
-        Main(arc.drop(), Done),
-        Main(arc.get_mut(), Data(1)),
-        Main(arc.put(Number(2)), Done),
-        Main(arc.try_unwrap(), Data(2)),
-        Fails(arc.get(), FailureKind::Misuse),
+        Arc::new(Number(1)),
+        Arc::new(Number(9)),
+        other.drop(),
+        arc.clone(),
+        arc.strong_count(),
+        arc.get(),
+        arc.get_mut(),
+        arc.try_unwrap(),
+        arc.drop(),
+        arc.get_mut(),
+        arc.put(Number(2)),
+        arc.try_unwrap(),
+        arc.get(),
     ]
 }
 
+static COUNT_REFERENCES: [Row; 13] = [
+    ("Arc::new", Main(New(Object::Arc, 0))),
+    ("Arc::new", Main(New(Object::Arc, 1))),
+    ("other.drop", Main(Data(9))),
+    ("arc.clone", Main(Done)),
+    ("arc.strong_count", Main(Count(2))),
+    ("arc.get", Main(Data(1))),
+    ("arc.get_mut", Main(Shared)),
+    ("arc.try_unwrap", Main(Shared)),
+    ("arc.drop", Main(Done)),
+    ("arc.get_mut", Main(Data(1))),
+    ("arc.put", Main(Done)),
+    ("arc.try_unwrap", Main(Data(2))),
+    ("arc.get", Fails(FailureKind::Misuse)),
+];
+
 // Main changes a tracked value, and takes it out. It lets another one go, and finds that it is no more.
-fn track() -> [Call; 8] {
+fn track() -> [Op<Number, ()>; 8] {
     let one = Track { number: 0 };
     let other = Track { number: 1 };
     [
-        Main(Track::new(Number(1)), New(Object::Track, 0)),
-        Main(one.get_ref(), Data(1)),
-        Main(one.get_mut(), Data(1)),
-        Main(one.put(Number(2)), Done),
-        Main(one.into_inner(), Data(2)),
-        Main(Track::new(Number(9)), New(Object::Track, 1)),
-        Main(other.drop(), Data(9)),
-        Fails(other.get_ref(), FailureKind::Misuse),
+        Track::new(Number(1)),
+        one.get_ref(),
+        one.get_mut(),
+        one.put(Number(2)),
+        one.into_inner(),
+        Track::new(Number(9)),
+        other.drop(),
+        other.get_ref(),
     ]
 }
+
+static TRACK: [Row; 8] = [
+    ("Track::new", Main(New(Object::Track, 0))),
+    ("one.get_ref", Main(Data(1))),
+    ("one.get_mut", Main(Data(1))),
+    ("one.put", Main(Done)),
+    ("one.into_inner", Main(Data(2))),
+    ("Track::new", Main(New(Object::Track, 1))),
+    ("other.drop", Main(Data(9))),
+    ("other.get_ref", Fails(FailureKind::Misuse)),
+];
 
 #[test]
 fn references_are_told_apart(rt: HostRuntime) -> Result<(), Fail> {
@@ -58,15 +85,10 @@ fn references_are_told_apart(rt: HostRuntime) -> Result<(), Fail> {
 
 #[test]
 fn references_are_counted(rt: HostRuntime) -> Result<(), Fail> {
-    assert_eq!(rt;
-        first_wrong::<u64>(rt.alloc(), &mut count_references())?,
-        None
-    );
-    Ok(())
+    come_to::<u64>(rt.alloc(), &mut count_references(), &COUNT_REFERENCES)
 }
 
 #[test]
 fn a_tracked_value_is_changed_and_given_back(rt: HostRuntime) -> Result<(), Fail> {
-    assert_eq!(rt; first_wrong::<u64>(rt.alloc(), &mut track())?, None);
-    Ok(())
+    come_to::<u64>(rt.alloc(), &mut track(), &TRACK)
 }

@@ -1,67 +1,83 @@
 //! Exchanges and updates of atomics, of each type of integers.
 use crate::tests::answer::Answer::{Exchanged, New, Read, Replaced, Value};
-use crate::tests::answer::Call::Main;
-use crate::tests::answer::{Call, Object};
+use crate::tests::answer::Comes::Main;
+use crate::tests::answer::{Object, Row};
 use crate::tests::atomics::first_atomic;
-use crate::tests::run::first_wrong;
+use crate::tests::run::come_to;
+use loom::Op;
 use loom::sync::atomic::Ordering::SeqCst;
 use loom::sync::atomic::{Atomic, Integer};
-use std::alloc::{AllocError, Global};
-use std::process::Abort;
+use loom_scripts::number::Number;
+use std::alloc::Global;
 use std::test::Fail;
 
 const NUM_A: u64 = 11641914933775430211;
 
 const NUM_B: u64 = 13209405719799650717;
 
-// Main exchanges and updates an atomic of one type.
-fn exchanges<T: Integer>() -> [Call; 8] {
-    let (a, b) = (T::from_u64(NUM_A), T::from_u64(NUM_B));
-    let (held_a, held_b) = (a.into_u64(), b.into_u64());
+// Main exchanges and updates an atomic of one type, which begins with the one number.
+fn exchanges<T: Integer>(a: T, b: T) -> [Op<Number, ()>; 8] {
     let atomic = first_atomic::<T>();
     let update = atomic.fetch_update(SeqCst, SeqCst);
     [
-        Main(Atomic::new(a), New(Object::Atomic, 0)),
-        Main(
-            atomic.compare_exchange(b, a, SeqCst, SeqCst),
-            Exchanged(Err(held_a)),
-        ),
-        Main(
-            atomic.compare_exchange(a, b, SeqCst, SeqCst),
-            Exchanged(Ok(held_a)),
-        ),
-        Main(
-            atomic.compare_exchange_weak(b, a, SeqCst, SeqCst),
-            Exchanged(Ok(held_b)),
-        ),
-        Main(update.begin(), Read(held_a)),
-        Main(update.exchange(a, b), Replaced(held_a)),
-        Main(update.begin(), Read(held_b)),
-        Main(atomic.load(SeqCst), Value(held_b)),
+        Atomic::new(a),
+        atomic.compare_exchange(b, a, SeqCst, SeqCst),
+        atomic.compare_exchange(a, b, SeqCst, SeqCst),
+        atomic.compare_exchange_weak(b, a, SeqCst, SeqCst),
+        update.begin(),
+        update.exchange(a, b),
+        update.begin(),
+        atomic.load(SeqCst),
     ]
 }
 
-// The place of the first exchange or update of this type that is wrong.
-fn wrong_exchange<T: Integer>(alloc: Global) -> Result<Option<usize>, AllocError> {
-    first_wrong::<T>(alloc, &mut exchanges::<T>())
+// What these come to, where the type holds the numbers so in 64 bits.
+fn exchanged(a: u64, b: u64) -> [Row; 8] {
+    [
+        ("Atomic::new", Main(New(Object::Atomic, 0))),
+        ("atomic.compare_exchange", Main(Exchanged(Err(a)))),
+        ("atomic.compare_exchange", Main(Exchanged(Ok(a)))),
+        ("atomic.compare_exchange_weak", Main(Exchanged(Ok(b)))),
+        ("update.begin", Main(Read(a))),
+        ("update.exchange", Main(Replaced(a))),
+        ("update.begin", Main(Read(b))),
+        ("atomic.load", Main(Value(b))),
+    ]
+}
+
+// Each call of `exchanges` comes to that, with an atomic of this type.
+fn are_exchanged<T: Integer>(alloc: Global) -> Result<(), Fail> {
+    let (a, b) = (T::from_u64(NUM_A), T::from_u64(NUM_B));
+    let table = exchanged(a.into_u64(), b.into_u64());
+    come_to::<T>(alloc, &mut exchanges(a, b), &table)
 }
 
 #[test]
-fn unsigned_integers_are_exchanged(rt: HostRuntime) -> Result<(), Fail> {
-    assert_eq!(rt; wrong_exchange::<u8>(rt.alloc())?, None);
-    assert_eq!(rt; wrong_exchange::<u16>(rt.alloc())?, None);
-    assert_eq!(rt; wrong_exchange::<u32>(rt.alloc())?, None);
-    assert_eq!(rt; wrong_exchange::<u64>(rt.alloc())?, None);
-    assert_eq!(rt; wrong_exchange::<usize>(rt.alloc())?, None);
-    Ok(())
+fn bytes_are_exchanged(rt: HostRuntime) -> Result<(), Fail> {
+    are_exchanged::<u8>(rt.alloc())?;
+    are_exchanged::<i8>(rt.alloc())
 }
 
 #[test]
-fn signed_integers_are_exchanged(rt: HostRuntime) -> Result<(), Fail> {
-    assert_eq!(rt; wrong_exchange::<i8>(rt.alloc())?, None);
-    assert_eq!(rt; wrong_exchange::<i16>(rt.alloc())?, None);
-    assert_eq!(rt; wrong_exchange::<i32>(rt.alloc())?, None);
-    assert_eq!(rt; wrong_exchange::<i64>(rt.alloc())?, None);
-    assert_eq!(rt; wrong_exchange::<isize>(rt.alloc())?, None);
-    Ok(())
+fn integers_of_16_bits_are_exchanged(rt: HostRuntime) -> Result<(), Fail> {
+    are_exchanged::<u16>(rt.alloc())?;
+    are_exchanged::<i16>(rt.alloc())
+}
+
+#[test]
+fn integers_of_32_bits_are_exchanged(rt: HostRuntime) -> Result<(), Fail> {
+    are_exchanged::<u32>(rt.alloc())?;
+    are_exchanged::<i32>(rt.alloc())
+}
+
+#[test]
+fn integers_of_64_bits_are_exchanged(rt: HostRuntime) -> Result<(), Fail> {
+    are_exchanged::<u64>(rt.alloc())?;
+    are_exchanged::<i64>(rt.alloc())
+}
+
+#[test]
+fn sizes_are_exchanged(rt: HostRuntime) -> Result<(), Fail> {
+    are_exchanged::<usize>(rt.alloc())?;
+    are_exchanged::<isize>(rt.alloc())
 }

@@ -1,5 +1,6 @@
 //! A run in which the calls of a table are made.
-use crate::tests::answer::{Answer, Call};
+use crate::tests::answer::{Answer, Comes, Row};
+use loom::Op;
 use loom::rt::execution::{Execution, Limits};
 use loom::rt::path::{Path, Search};
 use loom_objects::failure::Stop;
@@ -8,6 +9,7 @@ use loom_scripts::number::Number;
 use loom_views::rt::num::Numeric;
 use std::alloc::{AllocError, Global};
 use std::mem;
+use std::test::Fail;
 
 // One run is made, so it doesn't matter what else is tried.
 const SEARCH: Search = Search {
@@ -17,36 +19,50 @@ const SEARCH: Search = Search {
     explores: true,
 };
 
-/// Makes the calls, in a run of main, and of one thread more where main spawns it, where atomics hold a `T`. Answers the place of the first call that
-/// doesn't come to what the table says. It fails only where the run is refused memory before the first call.
-pub fn first_wrong<T: Numeric>(
+/// Makes the calls, in a run of main, and of one thread more where main spawns it, where atomics hold a `T`. Each comes to what the table says, and else that is the error.
+pub fn come_to<T: Numeric>(
     alloc: Global,
-    calls: &mut [Call],
-) -> Result<Option<usize>, AllocError> {
+    calls: &mut [Op<Number, ()>],
+    table: &[Row],
+) -> Result<(), Fail> {
+    if calls.len() != table.len() {
+        return Err(Fail::from("the table has another length"));
+    }
+    match first_wrong::<T>(alloc, calls, table)? {
+        Some(name) => Err(Fail::from(name)),
+        None => Ok(()),
+    }
+}
+
+// The first call that doesn't come to what the table says. It fails only where the run is refused memory before the first call.
+fn first_wrong<T: Numeric>(
+    alloc: Global,
+    calls: &mut [Op<Number, ()>],
+    table: &[Row],
+) -> Result<Option<&'static str>, AllocError> {
     let limits = Limits {
         max_threads: 2,
         max_steps: 40,
     };
     let mut execution = Execution::new(alloc, limits)?;
     let mut path = Path::new(alloc, SEARCH);
-    for (place, call) in calls.iter_mut().enumerate() {
-        if !comes::<T>(&mut execution, &mut path, mem::replace(call, Call::Made)) {
-            return Ok(Some(place));
+    for (call, (name, comes)) in calls.iter_mut().zip(table) {
+        let turn = execution.submit(&mut path, mem::replace(call, Op::Fail(None)));
+        if !is_so::<T>(turn, *comes) {
+            return Ok(Some(*name));
         }
     }
     Ok(None)
 }
 
-// Makes the call. Whether it comes to what the table says.
-fn comes<T: Numeric>(execution: &mut Execution<Number>, path: &mut Path, call: Call) -> bool {
-    match call {
-        Call::Main(op, answer) => tells::<T>(execution.submit(path, op), 0, answer),
-        Call::Other(op, answer) => tells::<T>(execution.submit(path, op), 1, answer),
-        Call::Fails(op, kind) => match execution.submit(path, op) {
-            Err(Stop::Failure(failure)) => failure.kind == kind,
-            _ => false,
-        },
-        Call::Made => false,
+// Whether the call comes to this.
+fn is_so<T: Numeric>(turn: Result<Turn<Number>, Stop>, comes: Comes) -> bool {
+    match comes {
+        Comes::Main(answer) => tells::<T>(turn, 0, answer),
+        Comes::Other(answer) => tells::<T>(turn, 1, answer),
+        Comes::Fails(kind) => {
+            matches!(turn, Err(Stop::Failure(failure)) if failure.kind == kind)
+        }
     }
 }
 

@@ -1,48 +1,70 @@
 //! Threads: their names, and those that wait.
 use crate::tests::answer::Answer::{Done, Spawned, Start, Thread};
-use crate::tests::answer::Call;
-use crate::tests::answer::Call::{Fails, Main, Other};
-use crate::tests::run::first_wrong;
+use crate::tests::answer::Comes::{Fails, Main, Other};
+use crate::tests::answer::Row;
+use crate::tests::run::come_to;
 use loom::sync::atomic::spin_loop_hint;
 use loom::thread::{self, Builder, ThreadId};
-use loom::{FailureKind, hint};
+use loom::{FailureKind, Op, hint};
+use loom_scripts::number::Number;
 use std::process::Abort;
 use std::test::Fail;
 
 // Main asks which thread it is, and so does a child with a name.
-fn find_names() -> [Call; 4] {
-    let name = Some("foobar");
+fn find_names() -> [Op<Number, ()>; 4] {
     [
-        Main(thread::current(), Thread(0, None)),
-        Main(Builder::new().name("foobar").spawn(()), Spawned(1, name)),
-        Other(thread::yield_now(), Start),
-        Other(thread::current(), Thread(1, name)),
+        thread::current(),
+        Builder::new().name("foobar").spawn(()),
+        thread::yield_now(),
+        thread::current(),
     ]
 }
 
+const NAME: Option<&str> = Some("foobar");
+
+static FIND_NAMES: [Row; 4] = [
+    ("thread::current", Main(Thread(0, None))),
+    ("Builder::spawn", Main(Spawned(1, NAME))),
+    ("thread::yield_now", Other(Start)),
+    ("thread::current", Other(Thread(1, NAME))),
+];
+
 // Main takes a token, and then parks; the other thread starts and unparks it, and both threads yield.
-fn park_twice() -> [Call; 8] {
+fn park_twice() -> [Op<Number, ()>; 8] {
     let main = thread::Thread {
         id: ThreadId(0),
         name: None,
     };
     [
-        Main(main.unpark(), Done),
-        Main(thread::park(), Done),
-        Main(thread::spawn(()), Spawned(1, None)),
-        Other(thread::park(), Start),
-        Other(main.unpark(), Done),
-        // the other thread yields, and main was told that it isn't parked any more
-        Main(hint::spin_loop(), Done),
-        Other(spin_loop_hint(), Done),
-        Fails(hint::unreachable_unchecked(), FailureKind::Unreachable),
+        main.unpark(),
+        thread::park(),
+        thread::spawn(()),
+        thread::park(),
+        main.unpark(),
+        hint::spin_loop(),
+        spin_loop_hint(),
+        hint::unreachable_unchecked(),
     ]
 }
 
+static PARK_TWICE: [Row; 8] = [
+    ("main.unpark", Main(Done)),
+    ("thread::park", Main(Done)),
+    ("thread::spawn", Main(Spawned(1, None))),
+    ("thread::park", Other(Start)),
+    ("main.unpark", Other(Done)),
+    // The other thread yields, and main was told that it isn't parked any more.
+    ("hint::spin_loop", Main(Done)),
+    ("spin_loop_hint", Other(Done)),
+    (
+        "hint::unreachable_unchecked",
+        Fails(FailureKind::Unreachable),
+    ),
+];
+
 #[test]
 fn a_thread_finds_its_name(rt: HostRuntime) -> Result<(), Fail> {
-    assert_eq!(rt; first_wrong::<u64>(rt.alloc(), &mut find_names())?, None);
-    Ok(())
+    come_to::<u64>(rt.alloc(), &mut find_names(), &FIND_NAMES)
 }
 
 #[test]
@@ -55,6 +77,5 @@ fn a_thread_prints_its_number(rt: HostRuntime) -> Result<(), Fail> {
 
 #[test]
 fn an_unparked_thread_goes_on(rt: HostRuntime) -> Result<(), Fail> {
-    assert_eq!(rt; first_wrong::<u64>(rt.alloc(), &mut park_twice())?, None);
-    Ok(())
+    come_to::<u64>(rt.alloc(), &mut park_twice(), &PARK_TWICE)
 }
