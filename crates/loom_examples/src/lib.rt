@@ -18,5 +18,3 @@ pub mod peterson;
 pub mod queue;
 pub mod ring;
 pub mod spin;
-#[cfg(test)]
-mod tests;
