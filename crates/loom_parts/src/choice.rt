@@ -29,11 +29,11 @@ impl fmt::Display for Choice {
 
     fn fmt<W: fmt::Write>(&self, f: &mut fmt::Formatter<W>) -> fmt::Result {
         match *self {
-            Choice::Thread(None) => write!(f, "t-"),
+            Choice::Thread(None) => f.write_str("t-"),
             Choice::Thread(Some(thread)) => write!(f, "t{thread}"),
             Choice::Load(slot) => write!(f, "l{slot}"),
-            Choice::Spurious(false) => write!(f, "s0"),
-            Choice::Spurious(true) => write!(f, "s1"),
+            Choice::Spurious(false) => f.write_str("s0"),
+            Choice::Spurious(true) => f.write_str("s1"),
         }
     }
 }
@@ -64,15 +64,10 @@ fn choice_of(word: &[u8]) -> Option<Choice>
 pub fn choice_in(letter: u8, sign: u8) -> Option<Choice>
     ensures { result ≡ choice_in letter sign }
 {
-    let digit = if sign.is_ascii_digit() {
-        Some(sign - b'0')
-    } else {
-        None
-    };
     match letter {
         b't' if sign == b'-' => Some(Choice::Thread(None)),
-        b't' => Some(Choice::Thread(Some(digit?))),
-        b'l' => Some(Choice::Load(digit?)),
+        b't' if sign.is_ascii_digit() => Some(Choice::Thread(Some(sign - b'0'))),
+        b'l' if sign.is_ascii_digit() => Some(Choice::Load(sign - b'0')),
         b's' if sign == b'0' => Some(Choice::Spurious(false)),
         b's' if sign == b'1' => Some(Choice::Spurious(true)),
         _ => None,

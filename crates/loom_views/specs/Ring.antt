@@ -48,10 +48,14 @@ is_order_below i j = within i.order j.order && not (within j.order i.order)
 abbrev pub is_order_same : Store → Store → Bool
 is_order_same i j = within i.order j.order && within j.order i.order
 
+-- a load of thread t passes store i by for store j, whose order is above
+abbrev pub is_passed : ℕ → ThreadViews → Ordering → Store → Store → Bool
+is_passed t views order i j = is_touch_in j.first_seen.versions views.present || is_version_before (slice_index_or i.first_seen.versions t None) views.last_yield || (is_seq_cst order && (i.seq_cst && j.seq_cst))
+
 -- store j keeps a reader of thread t from reading store i
 abbrev pub drops_store : ℕ → ThreadViews → Reader → Store → Store → Bool
 drops_store t views Update i j = is_order_below i j
-drops_store t views (Load order) i j = is_order_below i j && (is_touch_in j.first_seen.versions views.present || is_version_before (slice_index_or i.first_seen.versions t None) views.last_yield || (is_seq_cst order && (i.seq_cst && j.seq_cst)))
+drops_store t views (Load order) i j = is_order_below i j && is_passed t views order i j
 
 -- the same of the stores in two slots
 abbrev pub drops_slot : State → ℕ → ThreadViews → Reader → ℕ → ℕ → Bool

@@ -11,7 +11,7 @@ ghost use Rattle.loom_views.specs.Versions.{join, join_all};
 ghost use Rattle.loom_views.specs.Untouched.{untouched};
 ghost use Rattle.loom_views.specs.declared.rt.failure.FailureKind.TheVariants.{OrdersEqual, TooManyStores};
 ghost use Rattle.loom_views.specs.Slots.{slots, slot_set, has_equal_order_at};
-ghost use Rattle.loom_views.specs.Ring.{is_touch_in, is_version_before, touch_version, store_at, drops_slot, is_same_slot, readable_now, fails_now, is_order_seen, orders_seen, state_read, state_made, load_tracked, store_tracked, unsync_load_tracked, unsync_mut_tracked, load_now, store_now, update_read_now, update_write_now, newest_slot, unsync_load_now, mutate_now, mutate_end_now, state_blank};
+ghost use Rattle.loom_views.specs.Ring.{is_touch_in, is_version_before, touch_version, store_at, is_passed, drops_slot, is_same_slot, readable_now, fails_now, is_order_seen, orders_seen, state_read, state_made, load_tracked, store_tracked, unsync_load_tracked, unsync_mut_tracked, load_now, store_now, update_read_now, update_write_now, newest_slot, unsync_load_now, mutate_now, mutate_end_now, state_blank};
 ghost use Rattle.loom_views.specs.Graph.{Graph, IsChained, IsPresent};
 ghost use Rattle.loom_views.specs.Threads.{ThreadPoints, ShowsThread};
 ghost use Rattle.loom_views.specs.Fences.{standing_in, scene_at, after_store, acquire_fence_step};
@@ -110,6 +110,25 @@ impl FirstSeen {
     }
 }
 
+impl Store {
+    /// Whether a load is kept from this store by one whose order is above: the thread has seen that one, or it touched this one
+    /// no later than its last yield, or all three are `SeqCst`.
+    fn is_passed(
+        &self,
+        above: &Store,
+        thread: usize,
+        views: &ThreadViews,
+        order: Ordering,
+    ) -> bool
+        requires { thread < 5 }
+        ensures { result ≡ is_passed thread views.now order self.now above.now }
+    {
+        above.first_seen.is_seen_from(&views.present)
+            || self.first_seen.is_before_yield(thread, views.last_yield)
+            || matches!(order, Ordering::SeqCst) && self.seq_cst && above.seq_cst
+    }
+}
+
 impl State {
     /// How many stores are kept.
     fn kept(&self) -> usize
@@ -144,13 +163,7 @@ impl State {
         }
         match reader {
             Reader::Update => Ok(true),
-            Reader::Load(order) => {
-                Ok(
-                    other.first_seen.is_seen_from(&views.present)
-                        || store.first_seen.is_before_yield(thread, views.last_yield)
-                        || matches!(order, Ordering::SeqCst) && store.seq_cst && other.seq_cst,
-                )
-            }
+            Reader::Load(order) => Ok(store.is_passed(other, thread, views, order)),
         }
     }
 
