@@ -1,10 +1,10 @@
 -- The set of the slots that pass a test, and what a walk over the slots finds.
-use Rattle.std.proofs.Common.{◌≡◌, ◌≢◌, ℕ, zero, suc, ◌<◌, ◌≤◌, Bool, true, false, not, cond, ◌&&◌, ◌||◌, min, List, [], ◌∷◌, length, map, get_or, refl, ap, sym, ◌∙◌, arith, ⊎_elim}
+use Rattle.std.proofs.Common.{◌≡◌, ◌≢◌, ℕ, zero, suc, ◌+◌, ◌<◌, ◌≤◌, Bool, true, false, not, cond, ◌&&◌, ◌||◌, min, List, [], ◌∷◌, length, map, get_or, set, refl, ap, sym, ◌∙◌, arith, ⊎_elim}
 use Rattle.std.specs.Prelude.{◌==◌}
 use Rattle.std.specs.List.{filter}
 use Rattle.std.proofs.lemmas.Bool.{cases_eq, cases_lt, or_from}
 use Rattle.std.proofs.lemmas.Bool.Decides.{nat_tests}
-use Rattle.std.proofs.lemmas.List.{ext_get_or}
+use Rattle.std.proofs.lemmas.List.{ext_get_or, get_or-set_same, get_or-set_other}
 use Rattle.loom_views.specs.Slots.{upto, has_slot, slot_set, has_order_of, has_equal_order_at}
 use Rattle.loom_views.proofs.Loops.{list_any-append, filter_upto-suc, any_upto-hit, any_upto-none}
 
@@ -56,6 +56,22 @@ seven_are set q e h = ext_get_or false set (map q (0 ∷ 1 ∷ 2 ∷ 3 ∷ 4 ∷
 -- tests of the numbers below a bound, and none beyond it
 pub set-is : (set : List Bool) (p : ℕ → Bool) (n : ℕ) → n ≤ 7 → length set ≡ 7 → ((i : ℕ) → i < n → get_or set i false ≡ p i) → ((i : ℕ) → n ≤ i → get_or set i false ≡ false) → set ≡ slot_set (filter p (upto n))
 set-is set p n m e told rest = seven_are set (has_slot (filter p (upto n))) e (λ i l. ⊎_elim (λ b. told i b ∙ sym (has-below p n i b)) (λ b. rest i b ∙ sym (has-beyond p n i b)) (cases_lt i n))
+
+-- a walk over the slots answers one more
+pub told-more : (answers : List Bool) (p : ℕ → Bool) (i : ℕ) (b : Bool) → i < length answers → b ≡ p i → ((k : ℕ) → k < i → get_or answers k false ≡ p k) → (k : ℕ) → k < i + 1 → get_or (set answers i b) k false ≡ p k
+told-more answers p i b l e h k m = ⊎_elim same other (cases_eq k i)
+  where
+    same : k ≡ i → get_or (set answers i b) k false ≡ p k
+    same q = rw q (get_or-set_same answers i b false l ∙ e)
+
+    other : k ≢ i → get_or (set answers i b) k false ≡ p k
+    other q = get_or-set_other answers i k b false q ∙ h k (omega arith)
+
+pub rest-less : (answers : List Bool) (i : ℕ) (b : Bool) → ((k : ℕ) → i ≤ k → get_or answers k false ≡ false) → (k : ℕ) → i + 1 ≤ k → get_or (set answers i b) k false ≡ false
+rest-less answers i b h k m = get_or-set_other answers i k b false (λ q. omega arith) ∙ h k (omega arith)
+
+pub none-more : (p : ℕ → Bool) (i : ℕ) → p i ≡ false → ((k : ℕ) → k < i → p k ≡ false) → (k : ℕ) → k < i + 1 → p k ≡ false
+none-more p i e h k m = ⊎_elim (λ q. rw q e) (λ q. h k (omega arith)) (cases_eq k i)
 
 -- of a slot's walk over the others: it meets one with its order, it meets one that drops it, or it meets neither
 pub met-equal : (same drops : ℕ → ℕ → Bool) (n i j : ℕ) → j < min n 7 → (not (i == j) && same i j) ≡ true → ((k : ℕ) → k < j → drops i k ≡ false) → has_equal_order_at same drops n i ≡ true

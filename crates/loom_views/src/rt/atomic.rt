@@ -113,13 +113,7 @@ impl FirstSeen {
 impl Store {
     /// Whether a load is kept from this store by one whose order is above: the thread has seen that one, or it touched this one
     /// no later than its last yield, or all three are `SeqCst`.
-    fn is_passed(
-        &self,
-        above: &Store,
-        thread: usize,
-        views: &ThreadViews,
-        order: Ordering,
-    ) -> bool
+    fn is_passed(&self, above: &Store, thread: usize, views: &ThreadViews, order: Ordering) -> bool
         requires { thread < 5 }
         ensures { result ≡ is_passed thread views.now order self.now above.now }
     {
