@@ -89,8 +89,9 @@ impl Choices {
             if is_space(*first) {
                 rest = after;
             } else {
-                let number = choices.len() + 1;
-                let choice = first_word(*first, after).ok_or(ChoicesError::NotAChoice(number))?;
+                let Some(choice) = first_word(*first, after) else {
+                    return Err(ChoicesError::NotAChoice(choices.len() + 1));
+                };
                 choices.push(choice).map_err(AllocError::from)?;
                 rest = &after[1..];
             }
