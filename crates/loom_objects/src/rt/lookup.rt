@@ -1,7 +1,7 @@
-//! The objects of a run by their numbers, each of its kind.
+//! The objects of a run by their numbers, each of its kind, to change.
 ghost use Rattle.std.specs.Prelude.{◌≡◌, Ok, Err};
 ghost use Rattle.std.specs.Borrow.{sem};
-ghost use Rattle.loom_objects.specs.Lookup.{now_of, shown_of};
+ghost use Rattle.loom_objects.specs.Lookup.{now_of};
 ghost use Rattle.loom_objects.specs.Lookup as lookup;
 ghost use Rattle.loom_objects.specs.Borrowing.{lends_kind, lends_kind_at};
 ghost use Rattle.loom_objects.specs.contracts.rt.sync.Atomic as atomic_row;
@@ -63,37 +63,6 @@ pub(crate) fn atomic_in_mut<D>(
     as_atomic_mut(objects.at_mut(number))
 }
 
-/// The atomic of this number, to read. Misuse where there is none, or it was taken apart.
-pub(crate) fn atomic_of<D>(
-    objects: &Sequence<Object<D>>,
-    number: usize,
-) -> Result<&Atomic, FailureKind>
-    ensures { shown_of result ≡ lookup.atomic_at number objects.now }
-{
-    if number >= objects.len() {
-        return Err(FailureKind::Misuse);
-    }
-    match objects.at(number) {
-        Object::Atomic(atomic) => {
-            if atomic.is_taken {
-                Err(FailureKind::Misuse)
-            } else {
-                Ok(atomic)
-            }
-        }
-        Object::Mutex(_)
-        | Object::RwLock(_)
-        | Object::Condvar(_)
-        | Object::Notify(_)
-        | Object::Cell(_)
-        | Object::Arc(_)
-        | Object::Track(_)
-        | Object::Channel(_)
-        | Object::Wakers(_)
-        | Object::AtomicWaker(_) => Err(FailureKind::Misuse),
-    }
-}
-
 /// The mutex that the object is, unless it was taken apart.
 fn as_mutex_mut<D>(object: &mut Object<D>) -> Result<&mut Mutex<D>, FailureKind>
     ensures* writes_back { sem 𝓛 (lends_kind D.row (mutex_row.the_row D.row) Object.Mutex object.entry result) }
@@ -132,37 +101,6 @@ pub(crate) fn mutex_in_mut<D>(
         return Err(FailureKind::Misuse);
     }
     as_mutex_mut(objects.at_mut(number))
-}
-
-/// The mutex of this number, to read. Misuse where there is none, or it was taken apart.
-pub(crate) fn mutex_of<D>(
-    objects: &Sequence<Object<D>>,
-    number: usize,
-) -> Result<&Mutex<D>, FailureKind>
-    ensures { shown_of result ≡ lookup.mutex_at number objects.now }
-{
-    if number >= objects.len() {
-        return Err(FailureKind::Misuse);
-    }
-    match objects.at(number) {
-        Object::Mutex(mutex) => {
-            if mutex.content.is_taken {
-                Err(FailureKind::Misuse)
-            } else {
-                Ok(mutex)
-            }
-        }
-        Object::Atomic(_)
-        | Object::RwLock(_)
-        | Object::Condvar(_)
-        | Object::Notify(_)
-        | Object::Cell(_)
-        | Object::Arc(_)
-        | Object::Track(_)
-        | Object::Channel(_)
-        | Object::Wakers(_)
-        | Object::AtomicWaker(_) => Err(FailureKind::Misuse),
-    }
 }
 
 /// The read-write lock that the object is, unless it was taken apart.
@@ -205,37 +143,6 @@ pub(crate) fn rwlock_in_mut<D>(
     as_rwlock_mut(objects.at_mut(number))
 }
 
-/// The read-write lock of this number, to read. Misuse where there is none, or it was taken apart.
-pub(crate) fn rwlock_of<D>(
-    objects: &Sequence<Object<D>>,
-    number: usize,
-) -> Result<&RwLock<D>, FailureKind>
-    ensures { shown_of result ≡ lookup.rwlock_at number objects.now }
-{
-    if number >= objects.len() {
-        return Err(FailureKind::Misuse);
-    }
-    match objects.at(number) {
-        Object::RwLock(lock) => {
-            if lock.content.is_taken {
-                Err(FailureKind::Misuse)
-            } else {
-                Ok(lock)
-            }
-        }
-        Object::Atomic(_)
-        | Object::Mutex(_)
-        | Object::Condvar(_)
-        | Object::Notify(_)
-        | Object::Cell(_)
-        | Object::Arc(_)
-        | Object::Track(_)
-        | Object::Channel(_)
-        | Object::Wakers(_)
-        | Object::AtomicWaker(_) => Err(FailureKind::Misuse),
-    }
-}
-
 /// The condition variable that the object is.
 fn as_condvar_mut<D>(object: &mut Object<D>) -> Result<&mut Condvar, FailureKind>
     ensures* writes_back { sem 𝓛 (lends_kind D.row (condvar_row.the_row) Object.Condvar object.entry result) }
@@ -270,31 +177,6 @@ pub(crate) fn condvar_in_mut<D>(
     as_condvar_mut(objects.at_mut(number))
 }
 
-/// The condition variable of this number, to read. Misuse where there is none.
-pub(crate) fn condvar_of<D>(
-    objects: &Sequence<Object<D>>,
-    number: usize,
-) -> Result<&Condvar, FailureKind>
-    ensures { shown_of result ≡ lookup.condvar_at number objects.now }
-{
-    if number >= objects.len() {
-        return Err(FailureKind::Misuse);
-    }
-    match objects.at(number) {
-        Object::Condvar(condvar) => Ok(condvar),
-        Object::Atomic(_)
-        | Object::Mutex(_)
-        | Object::RwLock(_)
-        | Object::Notify(_)
-        | Object::Cell(_)
-        | Object::Arc(_)
-        | Object::Track(_)
-        | Object::Channel(_)
-        | Object::Wakers(_)
-        | Object::AtomicWaker(_) => Err(FailureKind::Misuse),
-    }
-}
-
 /// The notifier that the object is.
 fn as_notifier_mut<D>(object: &mut Object<D>) -> Result<&mut Notify, FailureKind>
     ensures* writes_back { sem 𝓛 (lends_kind D.row (notifier_row.the_row) Object.Notify object.entry result) }
@@ -327,31 +209,6 @@ pub(crate) fn notifier_in_mut<D>(
         return Err(FailureKind::Misuse);
     }
     as_notifier_mut(objects.at_mut(number))
-}
-
-/// The notifier of this number, to read. Misuse where there is none.
-pub(crate) fn notifier_of<D>(
-    objects: &Sequence<Object<D>>,
-    number: usize,
-) -> Result<&Notify, FailureKind>
-    ensures { shown_of result ≡ lookup.notifier_at number objects.now }
-{
-    if number >= objects.len() {
-        return Err(FailureKind::Misuse);
-    }
-    match objects.at(number) {
-        Object::Notify(notifier) => Ok(notifier),
-        Object::Atomic(_)
-        | Object::Mutex(_)
-        | Object::RwLock(_)
-        | Object::Condvar(_)
-        | Object::Cell(_)
-        | Object::Arc(_)
-        | Object::Track(_)
-        | Object::Channel(_)
-        | Object::Wakers(_)
-        | Object::AtomicWaker(_) => Err(FailureKind::Misuse),
-    }
 }
 
 /// The cell that the object is, unless it was taken apart.
@@ -394,37 +251,6 @@ pub(crate) fn cell_in_mut<D>(
     as_cell_mut(objects.at_mut(number))
 }
 
-/// The cell of this number, to read. Misuse where there is none, or it was taken apart.
-pub(crate) fn cell_of<D>(
-    objects: &Sequence<Object<D>>,
-    number: usize,
-) -> Result<&Cell<D>, FailureKind>
-    ensures { shown_of result ≡ lookup.cell_at number objects.now }
-{
-    if number >= objects.len() {
-        return Err(FailureKind::Misuse);
-    }
-    match objects.at(number) {
-        Object::Cell(cell) => {
-            if cell.content.is_taken {
-                Err(FailureKind::Misuse)
-            } else {
-                Ok(cell)
-            }
-        }
-        Object::Atomic(_)
-        | Object::Mutex(_)
-        | Object::RwLock(_)
-        | Object::Condvar(_)
-        | Object::Notify(_)
-        | Object::Arc(_)
-        | Object::Track(_)
-        | Object::Channel(_)
-        | Object::Wakers(_)
-        | Object::AtomicWaker(_) => Err(FailureKind::Misuse),
-    }
-}
-
 /// The counted reference that the object is.
 fn as_arc_mut<D>(object: &mut Object<D>) -> Result<&mut Arc<D>, FailureKind>
     ensures* writes_back { sem 𝓛 (lends_kind D.row (arc_row.the_row D.row) Object.Arc object.entry result) }
@@ -457,31 +283,6 @@ pub(crate) fn arc_in_mut<D>(
         return Err(FailureKind::Misuse);
     }
     as_arc_mut(objects.at_mut(number))
-}
-
-/// The counted reference of this number, to read. Misuse where there is none.
-pub(crate) fn arc_of<D>(
-    objects: &Sequence<Object<D>>,
-    number: usize,
-) -> Result<&Arc<D>, FailureKind>
-    ensures { shown_of result ≡ lookup.arc_at number objects.now }
-{
-    if number >= objects.len() {
-        return Err(FailureKind::Misuse);
-    }
-    match objects.at(number) {
-        Object::Arc(arc) => Ok(arc),
-        Object::Atomic(_)
-        | Object::Mutex(_)
-        | Object::RwLock(_)
-        | Object::Condvar(_)
-        | Object::Notify(_)
-        | Object::Cell(_)
-        | Object::Track(_)
-        | Object::Channel(_)
-        | Object::Wakers(_)
-        | Object::AtomicWaker(_) => Err(FailureKind::Misuse),
-    }
 }
 
 /// The tracked value that the object is.
@@ -518,31 +319,6 @@ pub(crate) fn track_in_mut<D>(
     as_track_mut(objects.at_mut(number))
 }
 
-/// The tracked value of this number, to read. Misuse where there is none.
-pub(crate) fn track_of<D>(
-    objects: &Sequence<Object<D>>,
-    number: usize,
-) -> Result<&Track<D>, FailureKind>
-    ensures { shown_of result ≡ lookup.track_at number objects.now }
-{
-    if number >= objects.len() {
-        return Err(FailureKind::Misuse);
-    }
-    match objects.at(number) {
-        Object::Track(track) => Ok(track),
-        Object::Atomic(_)
-        | Object::Mutex(_)
-        | Object::RwLock(_)
-        | Object::Condvar(_)
-        | Object::Notify(_)
-        | Object::Cell(_)
-        | Object::Arc(_)
-        | Object::Channel(_)
-        | Object::Wakers(_)
-        | Object::AtomicWaker(_) => Err(FailureKind::Misuse),
-    }
-}
-
 /// The channel that the object is.
 fn as_channel_mut<D>(object: &mut Object<D>) -> Result<&mut Channel<D>, FailureKind>
     ensures* writes_back { sem 𝓛 (lends_kind D.row (channel_row.the_row D.row) Object.Channel object.entry result) }
@@ -575,31 +351,6 @@ pub(crate) fn channel_in_mut<D>(
         return Err(FailureKind::Misuse);
     }
     as_channel_mut(objects.at_mut(number))
-}
-
-/// The channel of this number, to read. Misuse where there is none.
-pub(crate) fn channel_of<D>(
-    objects: &Sequence<Object<D>>,
-    number: usize,
-) -> Result<&Channel<D>, FailureKind>
-    ensures { shown_of result ≡ lookup.channel_at number objects.now }
-{
-    if number >= objects.len() {
-        return Err(FailureKind::Misuse);
-    }
-    match objects.at(number) {
-        Object::Channel(channel) => Ok(channel),
-        Object::Atomic(_)
-        | Object::Mutex(_)
-        | Object::RwLock(_)
-        | Object::Condvar(_)
-        | Object::Notify(_)
-        | Object::Cell(_)
-        | Object::Arc(_)
-        | Object::Track(_)
-        | Object::Wakers(_)
-        | Object::AtomicWaker(_) => Err(FailureKind::Misuse),
-    }
 }
 
 /// The count of wakers that the object is.
@@ -636,31 +387,6 @@ pub(crate) fn wakers_in_mut<D>(
     as_wakers_mut(objects.at_mut(number))
 }
 
-/// The count of wakers of this number, to read. Misuse where there is none.
-pub(crate) fn wakers_of<D>(
-    objects: &Sequence<Object<D>>,
-    number: usize,
-) -> Result<&Wakers, FailureKind>
-    ensures { shown_of result ≡ lookup.wakers_at number objects.now }
-{
-    if number >= objects.len() {
-        return Err(FailureKind::Misuse);
-    }
-    match objects.at(number) {
-        Object::Wakers(wakers) => Ok(wakers),
-        Object::Atomic(_)
-        | Object::Mutex(_)
-        | Object::RwLock(_)
-        | Object::Condvar(_)
-        | Object::Notify(_)
-        | Object::Cell(_)
-        | Object::Arc(_)
-        | Object::Track(_)
-        | Object::Channel(_)
-        | Object::AtomicWaker(_) => Err(FailureKind::Misuse),
-    }
-}
-
 /// The place for a waker that the object is.
 fn as_place_mut<D>(object: &mut Object<D>) -> Result<&mut AtomicWaker, FailureKind>
     ensures* writes_back { sem 𝓛 (lends_kind D.row (place_row.the_row) Object.AtomicWaker object.entry result) }
@@ -693,29 +419,4 @@ pub(crate) fn place_in_mut<D>(
         return Err(FailureKind::Misuse);
     }
     as_place_mut(objects.at_mut(number))
-}
-
-/// The place for a waker of this number, to read. Misuse where there is none.
-pub(crate) fn place_of<D>(
-    objects: &Sequence<Object<D>>,
-    number: usize,
-) -> Result<&AtomicWaker, FailureKind>
-    ensures { shown_of result ≡ lookup.place_at number objects.now }
-{
-    if number >= objects.len() {
-        return Err(FailureKind::Misuse);
-    }
-    match objects.at(number) {
-        Object::AtomicWaker(place) => Ok(place),
-        Object::Atomic(_)
-        | Object::Mutex(_)
-        | Object::RwLock(_)
-        | Object::Condvar(_)
-        | Object::Notify(_)
-        | Object::Cell(_)
-        | Object::Arc(_)
-        | Object::Track(_)
-        | Object::Channel(_)
-        | Object::Wakers(_) => Err(FailureKind::Misuse),
-    }
 }

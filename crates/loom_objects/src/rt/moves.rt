@@ -26,8 +26,8 @@ impl<D: Drop> Scene<D> {
         ensures rest { OnOk result (self.new ≡ record self.old { objects = self.old.objects ++ object ∷ []; views = self.new.views }) }
     {
         let number = self.objects.len();
-        self.views.add_point()?;
         self.objects.push(object)?;
+        self.views.add_point()?;
         Ok(number)
     }
 
@@ -38,8 +38,8 @@ impl<D: Drop> Scene<D> {
         ensures rest { OnOk result (self.new ≡ record self.old { objects = self.old.objects ++ Object.Atomic atomic ∷ []; views = self.new.views }) }
     {
         let number = self.objects.len();
-        self.views.add_atomic(self.active as usize, value)?;
         self.objects.push(Object::Atomic(atomic))?;
+        self.views.add_atomic(self.active as usize, value)?;
         Ok(number)
     }
 
@@ -50,8 +50,8 @@ impl<D: Drop> Scene<D> {
         ensures rest { OnOk result (self.new ≡ record self.old { objects = self.old.objects ++ Object.Cell cell ∷ []; views = self.new.views }) }
     {
         let number = self.objects.len();
-        self.views.add_cell(self.active as usize)?;
         self.objects.push(Object::Cell(cell))?;
+        self.views.add_cell(self.active as usize)?;
         Ok(number)
     }
 

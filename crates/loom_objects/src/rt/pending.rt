@@ -156,12 +156,12 @@ impl<D: Drop> Scene<D> {
         ensures { Does (moves.yields task) self.old result self.new }
     {
         let thread = self.threads.at_mut(self.active as usize);
+        thread.state = State::Yielding;
+        thread.task = task;
         if thread.yields == u64::MAX {
             return Err(FailureKind::TooManySteps);
         }
         thread.yields += 1;
-        thread.state = State::Yielding;
-        thread.task = task;
         self.views.mark_yield(self.active as usize);
         Ok(())
     }

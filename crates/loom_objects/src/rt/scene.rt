@@ -21,9 +21,8 @@ ghost use Rattle.loom_objects.specs.contracts.rt.sync.AtomicWaker as place_row;
 
 use crate::operation::{Lazy, Reply, Turn};
 use crate::rt::lookup::{
-    arc_in_mut, arc_of, atomic_in_mut, atomic_of, cell_in_mut, cell_of, channel_in_mut, channel_of,
-    condvar_in_mut, condvar_of, mutex_in_mut, mutex_of, notifier_in_mut, notifier_of, place_in_mut,
-    place_of, rwlock_in_mut, rwlock_of, track_in_mut, track_of, wakers_in_mut, wakers_of,
+    arc_in_mut, atomic_in_mut, cell_in_mut, channel_in_mut, condvar_in_mut, mutex_in_mut,
+    notifier_in_mut, place_in_mut, rwlock_in_mut, track_in_mut, wakers_in_mut,
 };
 use crate::rt::object::Object;
 use crate::rt::run::{Passed, Resumed};
@@ -116,7 +115,28 @@ impl<D: Drop> Scene<D> {
     pub fn atomic(&self, number: usize) -> Result<&Atomic, FailureKind>
         ensures { shown_of result ≡ lookup.atomic_at number self.now.objects }
     {
-        atomic_of(&self.objects, number)
+        if number >= self.objects.len() {
+            return Err(FailureKind::Misuse);
+        }
+        match self.objects.at(number) {
+            Object::Atomic(atomic) => {
+                if atomic.is_taken {
+                    Err(FailureKind::Misuse)
+                } else {
+                    Ok(atomic)
+                }
+            }
+            Object::Mutex(_)
+            | Object::RwLock(_)
+            | Object::Condvar(_)
+            | Object::Notify(_)
+            | Object::Cell(_)
+            | Object::Arc(_)
+            | Object::Track(_)
+            | Object::Channel(_)
+            | Object::Wakers(_)
+            | Object::AtomicWaker(_) => Err(FailureKind::Misuse),
+        }
     }
 
     /// The atomic of this number, to change. Misuse where there is none, or it was taken apart.
@@ -131,7 +151,28 @@ impl<D: Drop> Scene<D> {
     pub fn mutex(&self, number: usize) -> Result<&Mutex<D>, FailureKind>
         ensures { shown_of result ≡ lookup.mutex_at number self.now.objects }
     {
-        mutex_of(&self.objects, number)
+        if number >= self.objects.len() {
+            return Err(FailureKind::Misuse);
+        }
+        match self.objects.at(number) {
+            Object::Mutex(mutex) => {
+                if mutex.content.is_taken {
+                    Err(FailureKind::Misuse)
+                } else {
+                    Ok(mutex)
+                }
+            }
+            Object::Atomic(_)
+            | Object::RwLock(_)
+            | Object::Condvar(_)
+            | Object::Notify(_)
+            | Object::Cell(_)
+            | Object::Arc(_)
+            | Object::Track(_)
+            | Object::Channel(_)
+            | Object::Wakers(_)
+            | Object::AtomicWaker(_) => Err(FailureKind::Misuse),
+        }
     }
 
     /// The mutex of this number, to change. Misuse where there is none, or it was taken apart.
@@ -146,7 +187,28 @@ impl<D: Drop> Scene<D> {
     pub fn rwlock(&self, number: usize) -> Result<&RwLock<D>, FailureKind>
         ensures { shown_of result ≡ lookup.rwlock_at number self.now.objects }
     {
-        rwlock_of(&self.objects, number)
+        if number >= self.objects.len() {
+            return Err(FailureKind::Misuse);
+        }
+        match self.objects.at(number) {
+            Object::RwLock(lock) => {
+                if lock.content.is_taken {
+                    Err(FailureKind::Misuse)
+                } else {
+                    Ok(lock)
+                }
+            }
+            Object::Atomic(_)
+            | Object::Mutex(_)
+            | Object::Condvar(_)
+            | Object::Notify(_)
+            | Object::Cell(_)
+            | Object::Arc(_)
+            | Object::Track(_)
+            | Object::Channel(_)
+            | Object::Wakers(_)
+            | Object::AtomicWaker(_) => Err(FailureKind::Misuse),
+        }
     }
 
     /// The read-write lock of this number, to change. Misuse where there is none, or it was taken apart.
@@ -161,7 +223,22 @@ impl<D: Drop> Scene<D> {
     pub fn condvar(&self, number: usize) -> Result<&Condvar, FailureKind>
         ensures { shown_of result ≡ lookup.condvar_at number self.now.objects }
     {
-        condvar_of(&self.objects, number)
+        if number >= self.objects.len() {
+            return Err(FailureKind::Misuse);
+        }
+        match self.objects.at(number) {
+            Object::Condvar(condvar) => Ok(condvar),
+            Object::Atomic(_)
+            | Object::Mutex(_)
+            | Object::RwLock(_)
+            | Object::Notify(_)
+            | Object::Cell(_)
+            | Object::Arc(_)
+            | Object::Track(_)
+            | Object::Channel(_)
+            | Object::Wakers(_)
+            | Object::AtomicWaker(_) => Err(FailureKind::Misuse),
+        }
     }
 
     /// The condition variable of this number, to change. Misuse where there is none.
@@ -176,7 +253,22 @@ impl<D: Drop> Scene<D> {
     pub fn notifier(&self, number: usize) -> Result<&Notify, FailureKind>
         ensures { shown_of result ≡ lookup.notifier_at number self.now.objects }
     {
-        notifier_of(&self.objects, number)
+        if number >= self.objects.len() {
+            return Err(FailureKind::Misuse);
+        }
+        match self.objects.at(number) {
+            Object::Notify(notifier) => Ok(notifier),
+            Object::Atomic(_)
+            | Object::Mutex(_)
+            | Object::RwLock(_)
+            | Object::Condvar(_)
+            | Object::Cell(_)
+            | Object::Arc(_)
+            | Object::Track(_)
+            | Object::Channel(_)
+            | Object::Wakers(_)
+            | Object::AtomicWaker(_) => Err(FailureKind::Misuse),
+        }
     }
 
     /// The notifier of this number, to change. Misuse where there is none.
@@ -191,7 +283,28 @@ impl<D: Drop> Scene<D> {
     pub fn cell(&self, number: usize) -> Result<&Cell<D>, FailureKind>
         ensures { shown_of result ≡ lookup.cell_at number self.now.objects }
     {
-        cell_of(&self.objects, number)
+        if number >= self.objects.len() {
+            return Err(FailureKind::Misuse);
+        }
+        match self.objects.at(number) {
+            Object::Cell(cell) => {
+                if cell.content.is_taken {
+                    Err(FailureKind::Misuse)
+                } else {
+                    Ok(cell)
+                }
+            }
+            Object::Atomic(_)
+            | Object::Mutex(_)
+            | Object::RwLock(_)
+            | Object::Condvar(_)
+            | Object::Notify(_)
+            | Object::Arc(_)
+            | Object::Track(_)
+            | Object::Channel(_)
+            | Object::Wakers(_)
+            | Object::AtomicWaker(_) => Err(FailureKind::Misuse),
+        }
     }
 
     /// The cell of this number, to change. Misuse where there is none, or it was taken apart.
@@ -206,7 +319,22 @@ impl<D: Drop> Scene<D> {
     pub fn arc(&self, number: usize) -> Result<&Arc<D>, FailureKind>
         ensures { shown_of result ≡ lookup.arc_at number self.now.objects }
     {
-        arc_of(&self.objects, number)
+        if number >= self.objects.len() {
+            return Err(FailureKind::Misuse);
+        }
+        match self.objects.at(number) {
+            Object::Arc(arc) => Ok(arc),
+            Object::Atomic(_)
+            | Object::Mutex(_)
+            | Object::RwLock(_)
+            | Object::Condvar(_)
+            | Object::Notify(_)
+            | Object::Cell(_)
+            | Object::Track(_)
+            | Object::Channel(_)
+            | Object::Wakers(_)
+            | Object::AtomicWaker(_) => Err(FailureKind::Misuse),
+        }
     }
 
     /// The counted reference of this number, to change. Misuse where there is none.
@@ -221,7 +349,22 @@ impl<D: Drop> Scene<D> {
     pub fn track(&self, number: usize) -> Result<&Track<D>, FailureKind>
         ensures { shown_of result ≡ lookup.track_at number self.now.objects }
     {
-        track_of(&self.objects, number)
+        if number >= self.objects.len() {
+            return Err(FailureKind::Misuse);
+        }
+        match self.objects.at(number) {
+            Object::Track(track) => Ok(track),
+            Object::Atomic(_)
+            | Object::Mutex(_)
+            | Object::RwLock(_)
+            | Object::Condvar(_)
+            | Object::Notify(_)
+            | Object::Cell(_)
+            | Object::Arc(_)
+            | Object::Channel(_)
+            | Object::Wakers(_)
+            | Object::AtomicWaker(_) => Err(FailureKind::Misuse),
+        }
     }
 
     /// The tracked value of this number, to change. Misuse where there is none.
@@ -236,7 +379,22 @@ impl<D: Drop> Scene<D> {
     pub fn channel(&self, number: usize) -> Result<&Channel<D>, FailureKind>
         ensures { shown_of result ≡ lookup.channel_at number self.now.objects }
     {
-        channel_of(&self.objects, number)
+        if number >= self.objects.len() {
+            return Err(FailureKind::Misuse);
+        }
+        match self.objects.at(number) {
+            Object::Channel(channel) => Ok(channel),
+            Object::Atomic(_)
+            | Object::Mutex(_)
+            | Object::RwLock(_)
+            | Object::Condvar(_)
+            | Object::Notify(_)
+            | Object::Cell(_)
+            | Object::Arc(_)
+            | Object::Track(_)
+            | Object::Wakers(_)
+            | Object::AtomicWaker(_) => Err(FailureKind::Misuse),
+        }
     }
 
     /// The channel of this number, to change. Misuse where there is none.
@@ -251,7 +409,22 @@ impl<D: Drop> Scene<D> {
     pub fn wakers(&self, number: usize) -> Result<&Wakers, FailureKind>
         ensures { shown_of result ≡ lookup.wakers_at number self.now.objects }
     {
-        wakers_of(&self.objects, number)
+        if number >= self.objects.len() {
+            return Err(FailureKind::Misuse);
+        }
+        match self.objects.at(number) {
+            Object::Wakers(wakers) => Ok(wakers),
+            Object::Atomic(_)
+            | Object::Mutex(_)
+            | Object::RwLock(_)
+            | Object::Condvar(_)
+            | Object::Notify(_)
+            | Object::Cell(_)
+            | Object::Arc(_)
+            | Object::Track(_)
+            | Object::Channel(_)
+            | Object::AtomicWaker(_) => Err(FailureKind::Misuse),
+        }
     }
 
     /// The count of wakers of this number, to change. Misuse where there is none.
@@ -266,7 +439,22 @@ impl<D: Drop> Scene<D> {
     pub fn place(&self, number: usize) -> Result<&AtomicWaker, FailureKind>
         ensures { shown_of result ≡ lookup.place_at number self.now.objects }
     {
-        place_of(&self.objects, number)
+        if number >= self.objects.len() {
+            return Err(FailureKind::Misuse);
+        }
+        match self.objects.at(number) {
+            Object::AtomicWaker(place) => Ok(place),
+            Object::Atomic(_)
+            | Object::Mutex(_)
+            | Object::RwLock(_)
+            | Object::Condvar(_)
+            | Object::Notify(_)
+            | Object::Cell(_)
+            | Object::Arc(_)
+            | Object::Track(_)
+            | Object::Channel(_)
+            | Object::Wakers(_) => Err(FailureKind::Misuse),
+        }
     }
 
     /// The place for a waker of this number, to change. Misuse where there is none.

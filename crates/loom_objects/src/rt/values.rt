@@ -51,8 +51,8 @@ impl<D: Drop> Scene<D> {
         ensures { OnOk result (self.new ≡ record self.old { threads = moves.with_thread (rules.with_local key value) self.old.active self.old.threads }) }
     {
         let thread = self.threads.at_mut(self.active as usize);
-        thread.keys.push(key)?;
-        thread.locals.push(Keyed { key, value })
+        thread.locals.push(Keyed { key, value })?;
+        thread.keys.push(key)
     }
 
     /// The value takes the place of the active thread's one of this key, which is answered. None where it has none; then nothing
