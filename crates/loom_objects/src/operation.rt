@@ -502,29 +502,30 @@ impl<D, S> Op<D, S> {
         ensures plain { result.0 ≡ plain self }
         ensures started { result.1 ≡ started self }
     {
-        match self {
-            Op::Atomic(op, label) => (Op::Atomic(op, label), None),
-            Op::Fence(order, label) => (Op::Fence(order, label), None),
-            Op::Cell(op, label) => (Op::Cell(op, label), None),
-            Op::Arc(op, label) => (Op::Arc(op, label), None),
-            Op::Track(op, label) => (Op::Track(op, label), None),
-            Op::Mutex(op, label) => (Op::Mutex(op, label), None),
-            Op::RwLock(op, label) => (Op::RwLock(op, label), None),
-            Op::Condvar(op, label) => (Op::Condvar(op, label), None),
-            Op::Notify(op, label) => (Op::Notify(op, label), None),
-            Op::Channel(op, label) => (Op::Channel(op, label), None),
-            Op::Waker(op, label) => (Op::Waker(op, label), None),
-            Op::AtomicWaker(op, label) => (Op::AtomicWaker(op, label), None),
-            Op::Local(op, label) => (Op::Local(op, label), None),
-            Op::Lazy(op, label) => (Op::Lazy(op, label), None),
-            Op::Explore(op, label) => (Op::Explore(op, label), None),
-            Op::Fail(label) => (Op::Fail(label), None),
-            Op::Unreachable(label) => (Op::Unreachable(label), None),
+        let op = match self {
+            Op::Atomic(op, label) => Op::Atomic(op, label),
+            Op::Fence(order, label) => Op::Fence(order, label),
+            Op::Cell(op, label) => Op::Cell(op, label),
+            Op::Arc(op, label) => Op::Arc(op, label),
+            Op::Track(op, label) => Op::Track(op, label),
+            Op::Mutex(op, label) => Op::Mutex(op, label),
+            Op::RwLock(op, label) => Op::RwLock(op, label),
+            Op::Condvar(op, label) => Op::Condvar(op, label),
+            Op::Notify(op, label) => Op::Notify(op, label),
+            Op::Channel(op, label) => Op::Channel(op, label),
+            Op::Waker(op, label) => Op::Waker(op, label),
+            Op::AtomicWaker(op, label) => Op::AtomicWaker(op, label),
+            Op::Local(op, label) => Op::Local(op, label),
+            Op::Lazy(op, label) => Op::Lazy(op, label),
+            Op::Explore(op, label) => Op::Explore(op, label),
+            Op::Fail(label) => Op::Fail(label),
+            Op::Unreachable(label) => Op::Unreachable(label),
             Op::Thread(op, label) => {
                 let (op, body) = op.split();
-                (Op::Thread(op, label), body)
+                return (Op::Thread(op, label), body);
             }
-        }
+        };
+        (op, None)
     }
 }
 
