@@ -5,6 +5,7 @@ mod channels;
 mod condvars;
 mod mutexes;
 mod notifiers;
+mod readers;
 mod rwlocks;
 
 use crate::operation::Message;

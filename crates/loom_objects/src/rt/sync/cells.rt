@@ -4,6 +4,7 @@ ghost use Rattle.loom_parts.specs.Lent.{taken_apart};
 ghost use Rattle.loom_objects.specs.Moves.{is_number};
 
 use crate::rt::sync::Cell;
+use crate::rt::sync::readers::{none_reads, reads_of};
 use loom_views::rt::MAX_THREADS;
 use loom_views::rt::failure::FailureKind;
 use std::mem;
@@ -13,10 +14,7 @@ impl<D: Drop> Cell<D> {
     pub fn reads_open(&self, thread: u8) -> u64
         ensures { result ≡ cells.reads_open thread self.now }
     {
-        match self.readers.get(thread as usize) {
-            Some(count) => *count,
-            None => 0,
-        }
+        reads_of(&self.readers, thread)
     }
 
     /// The thread has so many reads open now.
@@ -32,7 +30,7 @@ impl<D: Drop> Cell<D> {
     pub fn is_unread(&self) -> bool
         ensures { result ≡ cells.is_unread self.now }
     {
-        self.readers.iter().all(|count| *count == 0)
+        none_reads(&self.readers)
     }
 
     /// No thread has it open.

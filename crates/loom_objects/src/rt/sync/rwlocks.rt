@@ -3,6 +3,7 @@ ghost use Rattle.loom_parts.specs.Lent.{handed_out, lent_to, taken_apart, value_
 ghost use Rattle.loom_objects.specs.RwLocks as rwlocks;
 
 use crate::rt::sync::RwLock;
+use crate::rt::sync::readers::{none_reads, reads_of};
 use crate::rt::thread::Claim;
 use loom_views::rt::MAX_THREADS;
 
@@ -11,10 +12,7 @@ impl<D: Drop> RwLock<D> {
     pub fn guards_of(&self, thread: u8) -> u64
         ensures { result ≡ rwlocks.guards_of thread self.now }
     {
-        match self.readers.get(thread as usize) {
-            Some(count) => *count,
-            None => 0,
-        }
+        reads_of(&self.readers, thread)
     }
 
     /// The thread has so many guards for reading now.
@@ -45,7 +43,7 @@ impl<D: Drop> RwLock<D> {
     fn is_unread(&self) -> bool
         ensures { result ≡ rwlocks.is_unread self.now }
     {
-        self.readers.iter().all(|count| *count == 0)
+        none_reads(&self.readers)
     }
 
     /// A thread writes or some read.
