@@ -4,6 +4,8 @@ ghost use Rattle.loom_objects.specs.Accessed.{accessed};
 ghost use Rattle.loom_objects.specs.Scene.{Does, DoesAt, DoesIfOk, HasSlot, KeepsSlots};
 ghost use Rattle.loom_views.specs.Table.{Points, ShowsViews};
 
+pub use loom_effect_parts::atomics::fence;
+use loom_effect_parts::atomics::{exchange, load, reader_of};
 use loom_objects::operation::{AtomicOp, Exchange, Reply};
 use loom_objects::rt::run::{Entry, Loading, Resumed};
 use loom_objects::rt::scene::Scene;
@@ -46,12 +48,6 @@ fn either_way(answer: Result<u64, u64>) -> u64
     match answer {
         Ok(value) | Err(value) => value,
     }
-}
-
-fn is_relaxed(order: Ordering) -> bool
-    ensures { result ≡ rules.is_relaxed order }
-{
-    matches!(order, Ordering::Relaxed)
 }
 
 /// What an operation on an atomic does up to its branch point, or all of it: `Misuse` where it isn't on an atomic, or on one
@@ -142,18 +138,6 @@ fn with_mut_end<D: Drop>(
     Ok(Entry::Answered(Reply::Done))
 }
 
-/// The active thread raises its version, and makes a fence.
-pub fn fence<D: Drop>(scene: &mut Scene<D>, order: Ordering) -> Result<Entry<D>, FailureKind>
-    ensures { Does (rules.fence order) scene.old result scene.new }
-{
-    scene.raise()?;
-    if is_relaxed(order) {
-        return Err(FailureKind::RelaxedFence);
-    }
-    scene.fence(order);
-    Ok(Entry::Answered(Reply::Done))
-}
-
 /// The thread comes to a branch point.
 fn access_begins<D: Drop>(scene: &mut Scene<D>, access: AtomicOp) -> Result<Entry<D>, FailureKind>
     ensures { Does (rules.access_begins access) scene.old result scene.new }
@@ -176,10 +160,10 @@ pub fn access<D: Drop>(scene: &mut Scene<D>, access: AtomicOp) -> Result<Resumed
             let reply = store(scene, number, value, order)?;
             Ok(scene.told(reply))
         }
-        AtomicOp::Load(number, order) => open(scene, number, Reader::Load(order), access),
-        AtomicOp::Update(number, ..)
+        AtomicOp::Load(number, _)
+        | AtomicOp::Update(number, ..)
         | AtomicOp::CompareExchange(number, _)
-        | AtomicOp::CompareAndSwap(number, ..) => open(scene, number, Reader::Update, access),
+        | AtomicOp::CompareAndSwap(number, ..) => open(scene, number, reader_of(access), access),
         AtomicOp::New(..)
         | AtomicOp::UnsyncLoad(_)
         | AtomicOp::IntoInner(_)
@@ -253,19 +237,6 @@ pub fn read<D: Drop>(
     }
 }
 
-/// A load of the store in the slot.
-fn load<D: Drop>(
-    scene: &mut Scene<D>,
-    number: usize,
-    order: Ordering,
-    slot: usize,
-) -> Result<Reply<D>, FailureKind>
-    ensures { DoesAt (AtomicOp.Load number order) slot (rules.loads number order slot) scene.old result scene.new }
-{
-    let value = scene.load(number, slot, order)?;
-    Ok(Reply::Value(value))
-}
-
 /// A read-modify-write of the store in the slot.
 fn update<D: Drop>(
     scene: &mut Scene<D>,
@@ -281,25 +252,4 @@ fn update<D: Drop>(
     let value = numbers.fit(change.apply(numbers, read));
     scene.update_write(number, slot, value, order)?;
     Ok(Reply::Value(read))
-}
-
-/// A compare-exchange of the store in the slot: Ok of the value that was read where it was the expected one, and else Err
-/// of it.
-fn exchange<D: Drop>(
-    scene: &mut Scene<D>,
-    number: usize,
-    exchange: Exchange,
-    slot: usize,
-) -> Result<Result<u64, u64>, FailureKind>
-    ensures { DoesAt (AtomicOp.CompareExchange number exchange) slot (rules.exchanges number exchange slot) scene.old result scene.new }
-{
-    let numbers = scene.atomic(number)?.numbers;
-    let read = scene.update_read(number, slot)?;
-    if read != numbers.fit(exchange.expected) {
-        scene.update_fail(number, slot, exchange.failure);
-        return Ok(Err(read));
-    }
-    let new = numbers.fit(exchange.new);
-    scene.update_write(number, slot, new, exchange.success)?;
-    Ok(Ok(read))
 }

@@ -4,6 +4,7 @@ ghost use Rattle.loom_objects.specs.Cells as rules;
 ghost use Rattle.loom_objects.specs.Scene.{Does, DoesIfOk};
 
 use crate::memory::memory_outside;
+use loom_effect_parts::cells::cell_read_end;
 use loom_objects::data::Data;
 use loom_objects::operation::{CellOp, Reply};
 use loom_objects::rt::run::{Entry, copied};
@@ -72,24 +73,6 @@ fn cell_read<D: Data>(
     let entry = reading(number, value);
     cell.set_reads(reader, count + 1);
     Ok(entry)
-}
-
-/// A read of the thread ends.
-fn cell_read_end<D: Drop>(scene: &mut Scene<D>, number: usize) -> Result<Entry<D>, FailureKind>
-    ensures { Does (rules.cell_read_end number) scene.old result scene.new }
-{
-    let reader = scene.active();
-    let cell = scene.cell(number)?;
-    let count = cell.reads_open(reader);
-    if count == 0 {
-        return Err(FailureKind::Misuse);
-    }
-    if cell.content.lent.is_some() {
-        return Err(FailureKind::OpenAccess);
-    }
-    scene.read_cell(number)?;
-    scene.cell_mut(number)?.set_reads(reader, count - 1);
-    Ok(Entry::Answered(Reply::Done))
 }
 
 /// Another copy of the data, in a read of the thread.

@@ -1,3 +1,1 @@
-mod Finding
-mod Going
 mod Taking

@@ -1,7 +1,8 @@
 -- A receipt takes the first message, and goes on with what it has taken.
 use Rattle.std.proofs.Common.{◌≡◌, ◌∙◌, ℕ, ap, refl, sym}
 use Rattle.std.specs.Prelude.{◌++◌, ◌&&◌, Bool, true, false, nat_lt, List, [], ◌∷◌, slice_set, Option, Some, None, Result, Ok, Err}
-use Rattle.loom_channels.specs.Stages.{content, gathers, gives_back, goes_on, takes_first, takes_from}
+use Rattle.loom_channels.specs.Stages.{content, gives_back, goes_on}
+use Rattle.loom_effect_parts.specs.Taking.{gathers, takes_first, takes_from}
 use Rattle.loom_views.specs.declared.rt.failure.FailureKind.{FailureKind}
 use Rattle.loom_views.specs.declared.rt.failure.FailureKind.TheVariants.{Misuse, TooManySteps}
 use Rattle.loom_objects.specs.declared.operation.Message.{Message}
@@ -18,7 +19,7 @@ use Rattle.loom_objects.specs.Rule.{◌>>=◌, check, found}
 use Rattle.loom_objects.specs.Scene.{Stage, Does, world_of}
 use Rattle.loom_objects.specs.World.{World}
 use Rattle.loom_objects.proofs.Showing.{does_as, keeps}
-use Rattle.loom_channels.proofs.Finding.{receives_again}
+use Rattle.loom_effect_parts.proofs.Finding.{receives_again}
 
 module _ {D : Type 0} where
   -- what a message that isn't sent holds comes back
@@ -102,8 +103,3 @@ module _ {D : Type 0} (by : Receiving) (message : Message D) (s : Stage D) where
   told_value value e =
       keeps (λ w. tells_taken by (Some message, w)) s s (reply.Data value) refl
       (λ p left. ap (λ (r : Result D FailureKind). ◌>>=◌ {B = Reply D × World D} r (λ (v : D). Ok (reply.Data v, world_of p left s))) e)
-
--- without a first one the list is empty
-pub none_there : {A : Type 0} (list : List A) → first_of list ≡ None → list ≡ []
-none_there [] e = refl
-none_there (a ∷ rest) e = absurd (cc)

@@ -38,23 +38,6 @@ module _ {D : Type 0} where
     value ← content message
     Ok (reply.SendError value)
 
-  abbrev pub takes_from : ℕ → Channel D → List (Message D) → World D → Result (Option (Message D) × World D) FailureKind
-  takes_from n channel [] w = Ok (None, w)
-  takes_from n channel (message ∷ rest) w = Ok (Some message, takes n channel message rest w)
-
-  -- the first message, from whose point the thread acquires
-  abbrev pub takes_first : ℕ → World D → Result (Option (Message D) × World D) FailureKind
-  takes_first n w = do
-    channel ← by_receiver n w
-    takes_from n channel channel.messages w
-
-  -- what a message holds goes behind the values that were taken
-  abbrev pub gathers : List D → Option (Message D) → Result (List D) FailureKind
-  gathers taken None = Ok taken
-  gathers taken (Some message) = do
-    _ ← check (fits_behind taken message.value) TooManySteps
-    Ok (taken ++ message.value)
-
   -- without another message the receiver is gone; else there is another branch point
   abbrev pub goes_on : ℕ → List D → World D → Result (Passed D × World D) FailureKind
   goes_on n taken w = do

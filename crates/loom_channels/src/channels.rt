@@ -3,6 +3,7 @@ ghost use Rattle.loom_channels.specs.Stages as stages;
 ghost use Rattle.loom_objects.specs.Channels as rules;
 ghost use Rattle.loom_objects.specs.Scene.{Does, DoesIfOk};
 
+use loom_effect_parts::channels::{gather, take_first};
 use loom_objects::operation::{ChannelOp, Message, Reply, Turn};
 use loom_objects::rt::object::Object;
 use loom_objects::rt::run::{Entry, Passed};
@@ -12,9 +13,6 @@ use loom_objects::rt::thread::{Receiving, Task};
 use loom_views::rt::failure::FailureKind;
 use std::alloc::AllocError;
 use std::collections::LinkedList;
-
-/// A list has fewer values than this.
-const LIST_LIMIT: usize = 1 << 63;
 
 /// What an operation on a channel does up to its branch point, or all of it. An error of the outer result only where memory is
 /// refused (loom's `rt/mpsc.rs` and `sync/mpsc.rs`).
@@ -220,31 +218,6 @@ fn none_left<D>(receiving: Receiving) -> Reply<D>
     }
 }
 
-/// The first message is taken out, if there is one: the active thread acquires from its point, and who else is to receive is
-/// blocked where none is left and a sender is.
-fn take_first<D: Drop>(
-    scene: &mut Scene<D>,
-    number: usize,
-) -> Result<Option<Message<D>>, FailureKind>
-    ensures { Does (stages.takes_first number) scene.old result scene.new }
-{
-    let channel = scene.channel_mut(number)?;
-    if !channel.has_receiver {
-        return Err(FailureKind::Misuse);
-    }
-    match channel.take() {
-        None => Ok(None),
-        Some(message) => {
-            let is_waited_for = channel.is_waited_for();
-            scene.acquire_from_stamp(message.stamp);
-            if is_waited_for {
-                scene.block_receivers(number);
-            }
-            Ok(Some(message))
-        }
-    }
-}
-
 /// The active thread has the first message, or is told that none comes.
 pub fn receive<D: Drop>(
     scene: &mut Scene<D>,
@@ -274,25 +247,6 @@ pub fn drain<D: Drop>(
     let message = take_first(scene, number)?;
     let taken = gather(taken, message)?;
     go_on(scene, number, taken)
-}
-
-/// What a message holds goes behind the values that were taken.
-fn gather<D: Drop>(
-    mut taken: LinkedList<D>,
-    message: Option<Message<D>>,
-) -> Result<LinkedList<D>, FailureKind>
-    ensures { result ≡ stages.gathers taken message }
-{
-    let Some(mut message) = message else {
-        return Ok(taken);
-    };
-    if taken.len() + message.value.len() >= LIST_LIMIT {
-        return Err(FailureKind::TooManySteps);
-    }
-    if taken.append(&mut message.value).is_err() {
-        return Err(FailureKind::TooManySteps);
-    }
-    Ok(taken)
 }
 
 /// Without another message the receiver is gone; else the thread comes to another branch point.

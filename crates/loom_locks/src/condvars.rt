@@ -3,14 +3,14 @@ ghost use Rattle.loom_objects.specs.Condvars as rules;
 ghost use Rattle.loom_objects.specs.Lookup.{mutex_at};
 ghost use Rattle.loom_objects.specs.Scene.{Does, DoesIfOk};
 
-use crate::locks;
 use arrayvec::ArrayVec;
+pub use loom_effect_parts::condvars::fall_asleep;
 use loom_objects::operation::{CondvarOp, Reply};
 use loom_objects::rt::object::Object;
 use loom_objects::rt::run::{Entry, Passed};
 use loom_objects::rt::scene::Scene;
 use loom_objects::rt::sync::Condvar;
-use loom_objects::rt::thread::{Locking, State, Task, Waking};
+use loom_objects::rt::thread::{Locking, Task, Waking};
 use loom_views::rt::failure::FailureKind;
 use std::alloc::AllocError;
 
@@ -75,26 +75,6 @@ fn wake_begins<D: Drop>(
     scene.condvar(number)?;
     scene.pend(Task::Wake(waking, number), false);
     Ok(Entry::AtBranch)
-}
-
-/// The first stage of a wait: the active thread is the last waiter, gives the mutex free, and sleeps.
-pub fn fall_asleep<D: Drop>(
-    scene: &mut Scene<D>,
-    locking: Locking,
-    number: usize,
-    mutex: usize,
-    value: D,
-) -> Result<Passed<D>, FailureKind>
-    ensures { Does (rules.falls_asleep locking number mutex value) scene.old result scene.new }
-{
-    let active = scene.active();
-    let condvar = scene.condvar_mut(number)?;
-    if !condvar.enter(active) {
-        return Err(FailureKind::Misuse);
-    }
-    locks::set_free(scene, mutex, value)?;
-    scene.rest(State::Sleeping, Task::Relock(locking, mutex));
-    Ok(Passed::AtBranch)
 }
 
 /// The second stage: the active thread was woken, and comes to the mutex as one that locks it.

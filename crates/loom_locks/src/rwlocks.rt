@@ -3,6 +3,7 @@ ghost use Rattle.loom_locks.specs.Copies.{Copies};
 ghost use Rattle.loom_objects.specs.RwLocks as rules;
 ghost use Rattle.loom_objects.specs.Scene.{Does, DoesIfOk};
 
+use loom_effect_parts::rwlocks::{read_release, waits};
 use loom_objects::data::Data;
 use loom_objects::operation::{Reply, RwLockOp};
 use loom_objects::rt::object::Object;
@@ -13,16 +14,6 @@ use loom_objects::rt::thread::{Claim, Task};
 use loom_views::rt::MAX_THREADS;
 use loom_views::rt::failure::FailureKind;
 use std::alloc::AllocError;
-
-/// Whether a thread that takes a lock so waits for it.
-fn waits(claim: Claim) -> bool
-    ensures { result ≡ rules.waits claim }
-{
-    match claim {
-        Claim::Read | Claim::Write => true,
-        Claim::TryRead | Claim::TryWrite => false,
-    }
-}
 
 /// Whether a thread that takes a lock so reads.
 fn is_reading(claim: Claim) -> bool
@@ -178,20 +169,6 @@ fn write_lock<D: Drop>(scene: &mut Scene<D>, number: usize) -> Result<Reply<D>, 
     scene.acquire(number);
     scene.block_pending(number);
     Ok(Reply::WriteLocked(number, value))
-}
-
-/// A guard of the active thread ends, and it releases. Where none is left, who is pending on the lock is woken.
-fn read_release<D: Drop>(scene: &mut Scene<D>, number: usize) -> Result<Entry<D>, FailureKind>
-    ensures { Does (rules.read_release number) scene.old result scene.new }
-{
-    let active = scene.active();
-    let lock = scene.rwlock_mut(number)?;
-    let is_unread = lock.end_read(active).ok_or(FailureKind::Misuse)?;
-    scene.release(number);
-    if is_unread {
-        scene.wake_pending(number);
-    }
-    Ok(Entry::Answered(Reply::Done))
 }
 
 /// The active thread releases, the lock is free and has its data back, and who is pending on it is woken.

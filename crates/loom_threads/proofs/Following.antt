@@ -17,12 +17,6 @@ use Rattle.loom_objects.specs.Threads.{join}
 use Rattle.loom_objects.specs.World.{World}
 use Rattle.loom_objects.proofs.Showing.{does_from}
 
--- where the other one fails
-pub fails_first : {A B D : Type 0} (first : World D → Result (A × World D) FailureKind) (next : A × World D → Result (B × World D) FailureKind) (old mid new : Stage D) (kind : FailureKind) (result : Result B FailureKind)
-    → result ≡ Err kind → Does first old (Err kind) mid → Does (λ w. first w >>= next) old result new
-fails_first {A} {B} {D} first next old mid new kind result failed does =
-    rw failed (λ p left shown. ap (λ (answer : Result (A × World D) FailureKind). answer >>= next) (does p left shown))
-
 -- what is left of a join once its notifier isn't notified any more
 abbrev pub has_taken : {D : Type 0} → ℕ → D × World D → Result (Reply D × World D) FailureKind
 has_taken n taken = Ok (reply.Data taken.0, acquires n taken.1)

@@ -2,6 +2,7 @@ ghost use Rattle.std.specs.Prelude.{◌≡◌, IfOk, OnErr, true};
 ghost use Rattle.loom_objects.specs.Notifiers as rules;
 ghost use Rattle.loom_objects.specs.Scene.{Does, DoesIfOk};
 
+pub use loom_effect_parts::notifiers::{notify_waiter, wake_early};
 use loom_objects::operation::{NotifyOp, Reply};
 use loom_objects::rt::object::Object;
 use loom_objects::rt::run::Entry;
@@ -91,19 +92,6 @@ pub fn enter_wait<D: Drop>(
     Ok(())
 }
 
-/// The active thread releases and notifies: who waits takes in its view, and is woken. `Misuse` where there is no such notifier.
-pub fn notify_waiter<D: Drop>(scene: &mut Scene<D>, number: usize) -> Result<(), FailureKind>
-    ensures { Does (rules.notify number) scene.old result scene.new }
-{
-    let notify = scene.notifier_mut(number)?;
-    notify.notified = true;
-    let waiter = notify.waiter;
-    scene.release(number);
-    scene.tell_waiter(waiter);
-    scene.wake_pending(number);
-    Ok(())
-}
-
 /// The active thread releases and notifies, and is told so.
 pub fn notify<D: Drop>(scene: &mut Scene<D>, number: usize) -> Result<Reply<D>, FailureKind>
     ensures { Does (rules.notifies number) scene.old result scene.new }
@@ -123,13 +111,5 @@ pub fn await_notified<D: Drop>(scene: &mut Scene<D>, number: usize) -> Result<Re
     notify.notified = false;
     notify.waiter = None;
     scene.acquire(number);
-    Ok(Reply::Done)
-}
-
-/// The active thread has woken without a notification, and no thread does so again.
-pub fn wake_early<D: Drop>(scene: &mut Scene<D>, number: usize) -> Result<Reply<D>, FailureKind>
-    ensures { Does (rules.wakes_early number) scene.old result scene.new }
-{
-    scene.notifier_mut(number)?.spurious = Spurious::Over;
     Ok(Reply::Done)
 }

@@ -4,6 +4,7 @@ ghost use Rattle.loom_objects.specs.Threads as rules;
 ghost use Rattle.loom_objects.specs.World.{child_thread};
 
 use crate::{notifiers, parking};
+use loom_effect_parts::threads::exit;
 use loom_objects::operation::{Reply, ThreadOp};
 use loom_objects::rt::object::Object;
 use loom_objects::rt::run::Entry;
@@ -147,17 +148,6 @@ pub fn child_finish<D: Drop>(
     notifiers::notify_waiter(scene, notifier)?;
     scene.set_result(value);
     Ok(Reply::Done)
-}
-
-/// The thread gives its own values back: its end is next.
-fn exit<D: Drop>(scene: &mut Scene<D>) -> Result<Entry<D>, FailureKind>
-    ensures { Does rules.exit scene.old result scene.new }
-{
-    if !matches!(scene.active_thread().phase, Phase::Finished) {
-        return Err(FailureKind::Misuse);
-    }
-    scene.set_phase(Phase::Exited);
-    Ok(Entry::Answered(Reply::Locals(scene.take_locals())))
 }
 
 /// The thread has ended before the branch point that it comes to.

@@ -1,3 +1,2 @@
 mod Finding
-mod Going
 mod Holding

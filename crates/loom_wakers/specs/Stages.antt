@@ -13,13 +13,6 @@ use Rattle.loom_objects.specs.Wakers.{acquires_if, frees_place, holds_place, som
 use Rattle.loom_objects.specs.World.{World}
 
 module _ {D : Type 0} where
-  -- the wakers of this number, of which there is one at least
-  abbrev pub wakers_left : ℕ → List (Object D) → Result Wakers FailureKind
-  wakers_left c objects = do
-    wakers ← wakers_at c objects
-    _ ← check (nat_lt 0 wakers.count) Misuse
-    Ok wakers
-
   -- the count is one less, and the thread releases to it; who drops the last waker acquires
   abbrev pub forgets : ℕ → World D → Result (⊤ × World D) FailureKind
   forgets c w = do

@@ -3,8 +3,9 @@ ghost use Rattle.loom_objects.specs.Scene.{Does, DoesIfOk};
 ghost use Rattle.loom_objects.specs.Wakers as rules;
 ghost use Rattle.loom_wakers.specs.Stages as stages;
 
-use crate::turns::{answered, pend_next};
-use crate::wakers::{some_wakers, waker_pends};
+use crate::wakers::waker_pends;
+use loom_effect_parts::turns::{answered, pend_next};
+use loom_effect_parts::wakers::some_wakers;
 use loom_objects::operation::{AtomicWakerOp, Reply};
 use loom_objects::rt::object::Object;
 use loom_objects::rt::run::{Entry, Passed};

@@ -4,14 +4,16 @@ ghost use Rattle.loom_objects.specs.Wakers as rules;
 ghost use Rattle.loom_wakers.specs.Stages as stages;
 
 use crate::places::free_place;
-use crate::turns::{answered, pend_next};
+use loom_effect_parts::turns::{answered, pend_next};
+use loom_effect_parts::wakers::some_wakers;
+pub use loom_effect_parts::wakers::wake_by;
 use loom_objects::operation::{Reply, WakerOp};
 use loom_objects::rt::object::Object;
 use loom_objects::rt::run::{Entry, Passed};
 use loom_objects::rt::scene::Scene;
 use loom_objects::rt::sync::{Notify, Spurious, Wakers};
 use loom_objects::rt::thread::{AfterDrop, AfterWake, Task};
-use loom_threads::notifiers::{notify_waiter, wait_begins};
+use loom_threads::notifiers::wait_begins;
 use loom_views::rt::failure::FailureKind;
 use std::alloc::AllocError;
 
@@ -59,17 +61,6 @@ fn block_on_wait<D: Drop>(scene: &mut Scene<D>, number: usize) -> Result<Entry<D
     wait_begins(scene, wakers.notifier)
 }
 
-/// The wakers of this number. `Misuse` where there are none.
-pub(crate) fn some_wakers<D: Drop>(scene: &Scene<D>, number: usize) -> Result<Wakers, FailureKind>
-    ensures { result ≡ stages.wakers_left number scene.now.objects }
-{
-    let wakers = *scene.wakers(number)?;
-    if wakers.count == 0 {
-        return Err(FailureKind::Misuse);
-    }
-    Ok(wakers)
-}
-
 /// The thread comes to a branch point, where it is to do this with a waker.
 pub(crate) fn waker_pends<D: Drop>(
     scene: &mut Scene<D>,
@@ -101,30 +92,6 @@ fn wake_begins<D: Drop>(
     let wakers = some_wakers(scene, number)?;
     scene.pend(Task::WakeBy(wakers.notifier, number, after), false);
     Ok(Entry::AtBranch)
-}
-
-/// A waker wakes: the active thread notifies its notifier, and then may drop the waker.
-pub fn wake_by<D: Drop>(
-    scene: &mut Scene<D>,
-    notifier: usize,
-    number: usize,
-    after: AfterWake,
-) -> Result<Passed<D>, FailureKind>
-    ensures { Does (rules.wakes_by notifier number after) scene.old result scene.new }
-{
-    some_wakers(scene, number)?;
-    notify_waiter(scene, notifier)?;
-    Ok(after_wake(scene, after, number))
-}
-
-/// What follows once a waker has notified.
-fn after_wake<D: Drop>(scene: &mut Scene<D>, after: AfterWake, number: usize) -> Passed<D>
-    ensures { Does (rules.after_wake after number) scene.old (Ok result) scene.new }
-{
-    match after {
-        AfterWake::Done => answered(scene, Reply::Done),
-        AfterWake::Drop(after) => pend_next(scene, Task::DropWaker(number, after)),
-    }
 }
 
 /// One waker more, which then may be registered. `TooManySteps` where there are 2^64 - 1.

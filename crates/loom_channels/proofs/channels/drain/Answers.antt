@@ -1,10 +1,10 @@
 use Rattle.std.proofs.Common.{rules}
-use Rattle.loom_channels.specs.Stages.{takes_first}
+use Rattle.loom_effect_parts.specs.Taking.{takes_first}
 use Rattle.loom_objects.specs.Channels.{drains}
 use Rattle.loom_objects.specs.Rule.{◌>>=◌}
 use Rattle.loom_objects.specs.Scene.{world_of}
 use Rattle.loom_objects.proofs.Showing.{does_as, follows}
-use Rattle.loom_channels.proofs.Going.{fails_first}
+use Rattle.loom_effect_parts.proofs.Going.{fails_first}
 use Rattle.loom_channels.proofs.Taking.{gathered, gathers_taken, goes_on_with, not_gathered}
 use Rattle.loom_channels.proofs.channels.drain.Goals as goal
 

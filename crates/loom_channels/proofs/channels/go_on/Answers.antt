@@ -5,7 +5,7 @@ use Rattle.loom_objects.specs.declared.rt.object.Object.TheVariants as object
 use Rattle.loom_objects.specs.Lookup.{channel_at}
 use Rattle.loom_objects.specs.Scene.{Stage}
 use Rattle.loom_objects.proofs.Showing.{keeps}
-use Rattle.loom_channels.proofs.Finding.{kept}
+use Rattle.loom_effect_parts.proofs.Finding.{kept}
 use Rattle.loom_channels.proofs.channels.go_on.Goals as goal
 
 pub returns : goal.returns

@@ -1,13 +1,14 @@
 use Rattle.std.proofs.Common.{◌≡◌, ◌∙◌, refl, rules, subst, sym}
 use Rattle.std.specs.Prelude.{Ok, Option, Some, None}
-use Rattle.loom_channels.specs.Stages.{content, takes_first}
+use Rattle.loom_channels.specs.Stages.{content}
+use Rattle.loom_effect_parts.specs.Taking.{takes_first}
 use Rattle.loom_objects.specs.declared.operation.Message.{Message}
 use Rattle.loom_objects.specs.declared.operation.Reply.TheVariants as reply
 use Rattle.loom_objects.specs.Channels.{receives}
 use Rattle.loom_objects.specs.Rule.{◌>>=◌}
 use Rattle.loom_objects.specs.Scene.{Does, world_of}
 use Rattle.loom_objects.proofs.Showing.{does_as, follows, keeps}
-use Rattle.loom_channels.proofs.Going.{fails_first}
+use Rattle.loom_effect_parts.proofs.Going.{fails_first}
 use Rattle.loom_channels.proofs.Taking.{tells_taken, told, told_value}
 use Rattle.loom_channels.proofs.channels.receive.Goals as goal
 

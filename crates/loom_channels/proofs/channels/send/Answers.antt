@@ -6,8 +6,8 @@ use Rattle.loom_objects.specs.Lookup.{channel_at}
 use Rattle.loom_objects.specs.Rule.{◌>>=◌}
 use Rattle.loom_objects.specs.Scene.{world_of}
 use Rattle.loom_objects.proofs.Showing.{does_as}
-use Rattle.loom_channels.proofs.Finding.{kept}
-use Rattle.loom_channels.proofs.Going.{by_answer}
+use Rattle.loom_effect_parts.proofs.Finding.{kept}
+use Rattle.loom_effect_parts.proofs.Going.{by_answer}
 use Rattle.loom_channels.proofs.Taking.{given_back}
 use Rattle.loom_channels.proofs.channels.send.Goals as goal
 

@@ -3,7 +3,7 @@ use Rattle.loom_objects.specs.declared.operation.Reply.{Reply}
 use Rattle.loom_objects.specs.declared.operation.Reply.TheVariants as reply
 use Rattle.loom_objects.specs.Notifiers.{notify}
 use Rattle.loom_objects.proofs.Showing.{follows, keeps}
-use Rattle.loom_threads.proofs.Following.{fails_first}
+use Rattle.loom_effect_parts.proofs.Going.{fails_first}
 use Rattle.loom_threads.proofs.notifiers.notify.Goals as goal
 
 pub returns-in_err-notify_waiter : goal.returns-in_err-notify_waiter

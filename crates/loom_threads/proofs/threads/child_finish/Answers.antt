@@ -5,7 +5,7 @@ use Rattle.loom_objects.specs.Moves.{changes_active, having}
 use Rattle.loom_objects.specs.Notifiers.{notify}
 use Rattle.loom_objects.specs.Scene.{Stage}
 use Rattle.loom_objects.proofs.Showing.{follows, keeps}
-use Rattle.loom_threads.proofs.Following.{fails_first}
+use Rattle.loom_effect_parts.proofs.Going.{fails_first}
 use Rattle.loom_threads.proofs.threads.child_finish.Goals as goal
 
 pub returns-in_err-notify_waiter : goal.returns-in_err-notify_waiter

@@ -3,7 +3,8 @@ use Rattle.loom_views.specs.Table.{points_after_acquire}
 use Rattle.loom_objects.specs.declared.operation.Reply.TheVariants as reply
 use Rattle.loom_objects.specs.Moves.{takes_result}
 use Rattle.loom_objects.proofs.Showing.{follows, gives}
-use Rattle.loom_threads.proofs.Following.{fails_first, has_taken, joins}
+use Rattle.loom_effect_parts.proofs.Going.{fails_first}
+use Rattle.loom_threads.proofs.Following.{has_taken, joins}
 use Rattle.loom_threads.proofs.threads.join.Goals as goal
 
 pub returns-in_err-value : goal.returns-in_err-value

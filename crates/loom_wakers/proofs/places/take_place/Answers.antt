@@ -8,7 +8,7 @@ use Rattle.loom_objects.specs.Rule.{◌>>=◌}
 use Rattle.loom_objects.specs.Scene.{world_of}
 use Rattle.loom_objects.specs.Wakers.{answered, pends_next}
 use Rattle.loom_objects.proofs.Showing.{does_as, follows}
-use Rattle.loom_wakers.proofs.Going.{fails_first}
+use Rattle.loom_effect_parts.proofs.Going.{fails_first}
 use Rattle.loom_wakers.proofs.Holding.{taken_after, taken_free}
 use Rattle.loom_wakers.proofs.places.take_place.Goals as goal
 

@@ -5,7 +5,7 @@ use Rattle.loom_objects.specs.Rule.{◌>>=◌}
 use Rattle.loom_objects.specs.Scene.{world_of}
 use Rattle.loom_objects.specs.Wakers.{has_taken, takes_waker}
 use Rattle.loom_objects.proofs.Showing.{does_as, follows}
-use Rattle.loom_wakers.proofs.Going.{fails_first}
+use Rattle.loom_effect_parts.proofs.Going.{fails_first}
 use Rattle.loom_wakers.proofs.Holding.{taken_out}
 use Rattle.loom_wakers.proofs.places.take_waker.Goals as goal
 

@@ -4,7 +4,7 @@ use Rattle.loom_objects.specs.Rule.{◌>>=◌}
 use Rattle.loom_objects.specs.Scene.{world_of}
 use Rattle.loom_objects.specs.Wakers.{after_drop, drops_waker}
 use Rattle.loom_objects.proofs.Showing.{does_as, follows}
-use Rattle.loom_wakers.proofs.Going.{fails_first}
+use Rattle.loom_effect_parts.proofs.Going.{fails_first}
 use Rattle.loom_wakers.proofs.Holding.{forgot}
 use Rattle.loom_wakers.proofs.wakers.drop_waker.Goals as goal
 

@@ -1,0 +1,4 @@
+mod Changing
+mod Finding
+mod Going
+mod Slots
