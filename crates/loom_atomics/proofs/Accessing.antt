@@ -1,21 +1,21 @@
 -- What comes of an access that reads: the choice of its store, and a read-modify-write by the slot that was chosen.
 use Rattle.std.proofs.Common.{◌≡◌, ℕ, zero, suc, ◌⊎◌, inl, inr, arith, refl, ap, sym, subst}
-use Rattle.std.specs.Prelude.{◌==◌, true, false, List, [], ◌∷◌, Bool, slice_get, Option, Some, Ok, Err, Result}
+use Rattle.std.specs.Prelude.{true, false, List, [], ◌∷◌, Bool, slice_get, Option, Some, Ok, Err, Result}
 use Rattle.std.specs.List.{Contains}
 use Rattle.std.specs.declared.sync.atomic.Ordering.{Ordering}
-use Rattle.loom_views.specs.Changes.{fit}
-use Rattle.loom_views.specs.Table.{Points, Accessed, ShowsViews, MovesAs, StoresAs, LoadsAs, OffersAs, IsSlotKept, slot_set, points_after_raise, points_after_update_read, points_after_update_write, points_after_update_fail, readable_slots_of}
+use Rattle.loom_views.specs.Table.{Points, ShowsViews, MovesAs, OffersAs, slot_set, points_after_raise, readable_slots_of}
 use Rattle.loom_views.specs.declared.rt.atomic.Reader.{Reader}
 use Rattle.loom_views.specs.declared.rt.change.Change.{Change}
 use Rattle.loom_views.specs.declared.rt.failure.FailureKind.{FailureKind}
 use Rattle.loom_views.specs.declared.rt.table.Views.{Views}
-use Rattle.loom_views.proofs.Table.Kept.{offered_slots_are_kept_law, reading_keeps_slots_law}
+use Rattle.loom_views.proofs.Table.Kept.{offered_slots_are_kept_law}
 use Rattle.loom_objects.specs.declared.operation.AtomicOp.{AtomicOp}
 use Rattle.loom_objects.specs.declared.operation.AtomicOp.TheVariants.{Load, Store, Update, CompareExchange, CompareAndSwap}
 use Rattle.loom_objects.specs.declared.operation.Exchange.{Exchange}
 use Rattle.loom_objects.specs.declared.rt.sync.Atomic.{Atomic}
 use Rattle.loom_objects.specs.declared.rt.run.Resumed.TheVariants as resumed
-use Rattle.loom_objects.specs.Atomics.{access_begins, atomic_begins, exchanges, opens, some_slot}
+use Rattle.loom_effect_parts.specs.Readers.{reader_of}
+use Rattle.loom_objects.specs.Atomics.{access_begins, accesses, atomic_begins, opens, some_slot}
 use Rattle.loom_objects.specs.Moves.{an_atomic, with_points}
 use Rattle.loom_objects.specs.Accessed.{accessed}
 use Rattle.loom_objects.specs.Rule.{◌>>=◌}
@@ -38,6 +38,16 @@ comes_to_branch access w (inr (inr (inr (inl (n, exchange, e))))) = rw e refl
 comes_to_branch access w (inr (inr (inr (inr (n, expected, new, order, e))))) = rw e refl
 
 -- ---- which store is read
+
+-- each of these opens, by how it reads
+pub opens_by_reader : {D : Type 0} (access : AtomicOp) (n : ℕ) (w : World D)
+    → ((order : Ordering) × (access ≡ Load n order)) ⊎ (((change : Change) × (order : Ordering) × (access ≡ Update n change order))
+    ⊎ (((exchange : Exchange) × (access ≡ CompareExchange n exchange)) ⊎ ((expected : ℕ) × (new : ℕ) × (order : Ordering) × (access ≡ CompareAndSwap n expected new order))))
+    → accesses access w ≡ opens n (reader_of access) access w
+opens_by_reader access n w (inl (order, e)) = rw e refl
+opens_by_reader access n w (inr (inl (change, order, e))) = rw e refl
+opens_by_reader access n w (inr (inr (inl (exchange, e)))) = rw e refl
+opens_by_reader access n w (inr (inr (inr (expected, new, order, e)))) = rw e refl
 
 -- a set with a slot has one that may be read
 pub some_is : (readable : List Bool) → Contains readable true → some_slot readable ≡ true

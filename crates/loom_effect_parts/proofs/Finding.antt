@@ -1,7 +1,7 @@
 -- The channel that is found, and found again once it was changed.
 use Rattle.std.proofs.Common.{◌≡◌, ◌∙◌, ℕ, ap, refl, sym}
 use Rattle.std.proofs.lemmas.Option.{slice_get_within}
-use Rattle.std.specs.Prelude.{Bool, true, false, List, [], ◌∷◌, slice_get, slice_set, Option, None, Result, Ok, Err}
+use Rattle.std.specs.Prelude.{Bool, true, false, List, [], ◌∷◌, slice_get, slice_set, None, Result, Ok, Err}
 use Rattle.loom_views.proofs.Table.Lists.{get-set_same, set-same}
 use Rattle.loom_views.specs.declared.rt.failure.FailureKind.{FailureKind}
 use Rattle.loom_views.specs.declared.rt.failure.FailureKind.TheVariants.{Misuse}

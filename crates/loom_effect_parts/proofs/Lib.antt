@@ -1,4 +1,4 @@
 mod Changing
-mod Finding
-mod Going
-mod Slots
+pub mod Finding
+pub mod Going
+pub mod Slots

@@ -1,27 +1,18 @@
 -- A read-modify-write by the slot that was chosen.
-use Rattle.std.proofs.Common.{◌≡◌, ℕ, zero, suc, ◌⊎◌, inl, inr, arith, refl, ap, sym, subst}
-use Rattle.std.specs.Prelude.{◌==◌, true, false, List, [], ◌∷◌, Bool, slice_get, Option, Some, Ok, Err, Result}
-use Rattle.std.specs.List.{Contains}
+use Rattle.std.proofs.Common.{◌≡◌, ℕ, refl, subst}
+use Rattle.std.specs.Prelude.{◌==◌, true, slice_get, Ok, Err, Result}
 use Rattle.std.specs.declared.sync.atomic.Ordering.{Ordering}
 use Rattle.loom_views.specs.Changes.{fit}
-use Rattle.loom_views.specs.Table.{Points, Accessed, ShowsViews, MovesAs, StoresAs, LoadsAs, OffersAs, IsSlotKept, slot_set, points_after_raise, points_after_update_read, points_after_update_write, points_after_update_fail, readable_slots_of}
-use Rattle.loom_views.specs.declared.rt.atomic.Reader.{Reader}
-use Rattle.loom_views.specs.declared.rt.change.Change.{Change}
+use Rattle.loom_views.specs.Table.{Points, Accessed, ShowsViews, StoresAs, LoadsAs, IsSlotKept, points_after_update_read, points_after_update_write, points_after_update_fail}
 use Rattle.loom_views.specs.declared.rt.failure.FailureKind.{FailureKind}
 use Rattle.loom_views.specs.declared.rt.table.Views.{Views}
-use Rattle.loom_views.proofs.Table.Kept.{offered_slots_are_kept_law, reading_keeps_slots_law}
-use Rattle.loom_objects.specs.declared.operation.AtomicOp.{AtomicOp}
-use Rattle.loom_objects.specs.declared.operation.AtomicOp.TheVariants.{Load, Store, Update, CompareExchange, CompareAndSwap}
+use Rattle.loom_views.proofs.Table.Kept.{reading_keeps_slots_law}
 use Rattle.loom_objects.specs.declared.operation.Exchange.{Exchange}
 use Rattle.loom_objects.specs.declared.rt.sync.Atomic.{Atomic}
-use Rattle.loom_objects.specs.declared.rt.run.Resumed.TheVariants as resumed
-use Rattle.loom_objects.specs.Atomics.{access_begins, atomic_begins, exchanges, opens, some_slot}
-use Rattle.loom_objects.specs.Moves.{an_atomic, with_points}
-use Rattle.loom_objects.specs.Accessed.{accessed}
-use Rattle.loom_objects.specs.Rule.{◌>>=◌}
-use Rattle.loom_objects.specs.Scene.{Stage, world_of, Comes, DoesAt, KeepsAt}
+use Rattle.loom_objects.specs.Atomics.{exchanges}
+use Rattle.loom_objects.specs.Moves.{an_atomic}
+use Rattle.loom_objects.specs.Scene.{Stage, world_of, Comes}
 use Rattle.loom_objects.specs.World.{World}
-use Rattle.loom_objects.proofs.Showing.{Leads}
 
 stored : (r : Result Accessed FailureKind) (v : Views) → StoresAs r (Ok tt) v → (a : Accessed) × (r ≡ Ok a) × ShowsViews a.points v
 stored (Ok a) v h = (a, refl, h.1)

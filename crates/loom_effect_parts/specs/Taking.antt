@@ -1,17 +1,11 @@
 -- The first message of a channel is taken, and put to those that were taken before.
-use Rattle.std.specs.Prelude.{ℕ, ◌++◌, List, [], ◌∷◌, nat_lt, Option, Some, None, Result, Ok, ⊤}
+use Rattle.std.specs.Prelude.{ℕ, ◌++◌, List, [], ◌∷◌, Option, Some, None, Result, Ok}
 use Rattle.loom_views.specs.declared.rt.failure.FailureKind.{FailureKind}
-use Rattle.loom_views.specs.declared.rt.failure.FailureKind.TheVariants.{Misuse, TooManySteps}
+use Rattle.loom_views.specs.declared.rt.failure.FailureKind.TheVariants.{TooManySteps}
 use Rattle.loom_objects.specs.declared.operation.Message.{Message}
-use Rattle.loom_objects.specs.declared.operation.Reply.{Reply}
-use Rattle.loom_objects.specs.declared.operation.Reply.TheVariants as reply
-use Rattle.loom_objects.specs.declared.rt.object.Object.{Object}
-use Rattle.loom_objects.specs.declared.rt.run.Passed.{Passed}
 use Rattle.loom_objects.specs.declared.rt.sync.Channel.{Channel}
-use Rattle.loom_objects.specs.Channels.{by_receiver, drains_on, first_of, fits_behind, takes}
-use Rattle.loom_objects.specs.Leaks.{is_none_left}
-use Rattle.loom_objects.specs.Lookup.{channel_at}
-use Rattle.loom_objects.specs.Rule.{◌>>=◌, check, found}
+use Rattle.loom_objects.specs.Channels.{by_receiver, fits_behind, takes}
+use Rattle.loom_objects.specs.Rule.{◌>>=◌, check}
 use Rattle.loom_objects.specs.World.{World}
 
 module _ {D : Type 0} where

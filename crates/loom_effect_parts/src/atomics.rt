@@ -1,4 +1,4 @@
-ghost use Rattle.std.specs.Prelude.{◌≡◌, Some};
+ghost use Rattle.std.specs.Prelude.{◌≡◌};
 ghost use Rattle.loom_effect_parts.specs.Readers as parts;
 ghost use Rattle.loom_objects.specs.Atomics as rules;
 ghost use Rattle.loom_objects.specs.Scene.{Does, DoesAt};

@@ -6,11 +6,7 @@ use loom_objects::rt::scene::Scene;
 use loom_views::rt::failure::FailureKind;
 
 /// The active thread releases, the mutex is free and has its data back, and who is pending on it is woken.
-pub fn set_free<D: Drop>(
-    scene: &mut Scene<D>,
-    number: usize,
-    value: D,
-) -> Result<(), FailureKind>
+pub fn set_free<D: Drop>(scene: &mut Scene<D>, number: usize, value: D) -> Result<(), FailureKind>
     ensures { Does (rules.frees number value) scene.old result scene.new }
 {
     let active = scene.active();
