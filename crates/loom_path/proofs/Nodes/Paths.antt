@@ -57,6 +57,10 @@ stored_at (x ∷ nodes) (suc i) n h e = stored_at nodes i n (omega arith) e
 pub choice_stored : (path : Route) (n : Node) → path.position < length path.nodes → n ≡ get_or path.nodes path.position n → choice_here path ≡ Some (seen n).present
 choice_stored path n h e = ap (option_map (λ (s : Stored). s.present)) (stored_at path.nodes path.position n h e)
 
+-- no choice stands past the end
+pub no_choice : (path : Route) → length path.nodes ≤ path.position → choice_here path ≡ None
+no_choice path h = ap (option_map (λ (s : Stored). s.present)) (none_there path.nodes path.position h)
+
 last_stored : (nodes : List Node) (k : ℕ) (n : Node) → k ≡ length nodes → slice_get (stored (nodes ++ n ∷ [])) k ≡ Some (seen n)
 last_stored [] zero n h = refl
 last_stored [] (suc k) n h = absurd (omega arith)
