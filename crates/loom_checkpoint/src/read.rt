@@ -6,7 +6,7 @@ ghost use Rattle.loom_path.specs.WellFormed.{is_tried, is_marked, is_at, is_well
 ghost use Rattle.serde_json.specs.Find.{as_bool};
 ghost use Rattle.serde_json.specs.View.{view, members_view};
 ghost use Rattle.loom_checkpoint.specs.Checkpoint.{version_of};
-ghost use Rattle.loom_checkpoint.specs.Reading.{as_whole, as_list, as_whole_or_null, taken, expected, ends, status_of, statuses_of, marks_of, list_of, is_number, begins_with, schedule_of, load_of, spurious_of, node_of, shape_of};
+ghost use Rattle.loom_checkpoint.specs.Reading.{as_whole, as_list, as_whole_or_null, taken, expected, ends, status_named, status_of, statuses_of, marks_of, list_of, is_number, begins_with, schedule_of, load_of, spurious_of, node_of, shape_of};
 
 use loom_path::rt::node::{Load, Node, Schedule, Spurious, Status};
 use serde_json::{Map, Value};
@@ -89,11 +89,9 @@ fn take_list<'v>(members: &mut Iter<'v, String, Value>, key: &str) -> Option<&'v
     read_list(expect_member(members, key)?)
 }
 
-#[tactic(auto, unfolding(crate::specs::Reading::status_of))]
-fn read_status(value: &Value) -> Option<Status>
-    ensures { result ≡ status_of (view value.now) }
+fn status_named(text: &str) -> Option<Status>
+    ensures { result ≡ status_named text.now }
 {
-    let text = value.as_str()?;
     if text == "Disabled" {
         Some(Status::Disabled)
     } else if text == "Skip" {
@@ -109,6 +107,13 @@ fn read_status(value: &Value) -> Option<Status>
     } else {
         None
     }
+}
+
+#[tactic(auto, unfolding(crate::specs::Reading::status_of))]
+fn read_status(value: &Value) -> Option<Status>
+    ensures { result ≡ status_of (view value.now) }
+{
+    status_named(value.as_str()?)
 }
 
 #[tactic(auto, unfolding(crate::specs::Reading::statuses_of))]

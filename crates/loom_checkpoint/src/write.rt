@@ -21,13 +21,18 @@ fn status_name(status: Status) -> &'static str
     }
 }
 
+fn write_status(alloc: Global, status: Status) -> Result<Value, AllocError>
+    ensures { IfOk result (λ v. view v ≡ status_data status) }
+{
+    Value::try_from_str(alloc, status_name(status))
+}
+
 fn write_statuses(alloc: Global, statuses: &[Status; 5]) -> Result<Vec<Value>, AllocError>
     ensures { IfOk result (λ v. map view v.items ≡ map status_data statuses.now) }
 {
     let mut items = Vec::with_capacity(alloc, 5)?;
     for status in statuses {
-        let name = Value::try_from_str(alloc, status_name(*status))?;
-        items.push(name)?;
+        items.push(write_status(alloc, *status)?)?;
     }
     Ok(items)
 }
