@@ -150,12 +150,16 @@ fn start<D: Data>(run: &mut Progress<D>, op: Op<D, ()>) -> Result<Entry<D>, Stop
     let parent = run.state.scene.active() as usize;
     let threads = run.state.scene.thread_count();
     let objects = run.state.scene.object_count();
-    let entry = begin(&mut run.state, op)?;
-    let threads = run.state.scene.thread_count().saturating_sub(threads);
-    let objects = run.state.scene.object_count().saturating_sub(objects);
-    match run.dependence.grow(parent, threads, objects) {
-        Ok(()) => Ok(entry),
-        Err(_) => Err(Stop::Memory),
+    match begin(&mut run.state, op) {
+        Err(stop) => Err(stop),
+        Ok(entry) => {
+            let threads = run.state.scene.thread_count().saturating_sub(threads);
+            let objects = run.state.scene.object_count().saturating_sub(objects);
+            match run.dependence.grow(parent, threads, objects) {
+                Ok(()) => Ok(entry),
+                Err(_) => Err(Stop::Memory),
+            }
+        }
     }
 }
 
