@@ -129,10 +129,12 @@ fn submit<B: Body>(
     ensures growth { result ≡ Err Stop.Memory → (MayBeRefused op execution.old.run path.old) ⊎ (started ≢ None) }
     ensures same { IsSameSearch path.old path.new }
 {
-    let turn = execution.submit(path, op)?;
-    match add_child(bodies, started) {
-        Ok(()) => Ok(turn),
-        Err(_) => Err(Stop::Memory),
+    match execution.submit(path, op) {
+        Err(stop) => Err(stop),
+        Ok(turn) => match add_child(bodies, started) {
+            Ok(()) => Ok(turn),
+            Err(_) => Err(Stop::Memory),
+        },
     }
 }
 
