@@ -5,49 +5,51 @@ mod layout;
 mod lines;
 mod names;
 mod objects;
+mod page;
 mod reasons;
 mod world;
 
 use crate::explanation::Explanation;
-use crate::text::layout::push_wrapped;
+use crate::text::lines::Lines;
+use crate::text::page::Page;
 use crate::text::reasons::Scene;
+use crate::text::world::World;
 use std::alloc::{AllocError, Global};
 
 /// The text of an explanation: a line that says how the run ended, one to five lines why, the line `replay:` with its choices,
 /// an empty line, and the events, with the choices in the last column. It is at most 100 columns wide, as far as names allow.
 /// An error where memory is refused.
 pub fn told(alloc: Global, explanation: &Explanation) -> Result<String, AllocError> {
-    let mut world = world::World::new(alloc)?;
-    let lines = lines::lines_of(alloc, explanation, &mut world)?;
+    let mut world = World::new(alloc);
+    let mut lines = Lines::new(alloc);
+    lines::tell_events(explanation, &mut world, &mut lines);
+    let mut page = Page::new(alloc);
+    page.is_refused = world.is_refused || lines.is_refused;
     let scene = Scene::new(explanation, &world);
-    let mut text = String::new(alloc);
-    put_head(alloc, &mut text, scene)?;
-    put_replay(alloc, &mut text, explanation)?;
-    layout::put_rows(alloc, &mut text, scene, lines.as_slice())?;
-    Ok(text)
+    put_head(alloc, &mut page, scene);
+    put_replay(alloc, &mut page, explanation);
+    layout::put_rows(alloc, &mut page, scene, lines.list.as_slice());
+    page.finish()
 }
 
 /// How the run ended, and why, a line each.
-fn put_head(alloc: Global, text: &mut String, scene: Scene<'_>) -> Result<(), AllocError> {
-    let mut head = String::new(alloc);
-    reasons::put_reasons(&mut head, scene)?;
-    for line in head.as_str().lines() {
-        push_wrapped(text, line, "    ")?;
-        text.push_str("\n")?;
-    }
-    Ok(())
+fn put_head(alloc: Global, page: &mut Page, scene: Scene<'_>) {
+    let mut head = Page::new(alloc);
+    reasons::put_reasons(&mut head, scene);
+    page.wrapped(&head, 4);
 }
 
 /// The choices, as a replay takes them.
-fn put_replay(
-    alloc: Global,
-    text: &mut String,
-    explanation: &Explanation,
-) -> Result<(), AllocError> {
-    let mut replay = String::from_str(alloc, "replay:")?;
+fn put_replay(alloc: Global, page: &mut Page, explanation: &Explanation) {
+    let mut replay = Page::new(alloc);
+    replay.words("replay:");
+    put_choices(&mut replay, explanation);
+    page.wrapped(&replay, 8);
+    page.words("\n");
+}
+
+fn put_choices(replay: &mut Page, explanation: &Explanation) {
     for choice in &explanation.choices {
-        write!(replay, " {choice}")?;
+        replay.choice(" ", *choice);
     }
-    push_wrapped(text, replay.as_str(), "        ")?;
-    text.push_str("\n\n")
 }

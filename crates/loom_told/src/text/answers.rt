@@ -2,9 +2,9 @@
 use crate::text::calls::{Call, Deed};
 use crate::text::names::Value;
 use crate::text::objects::{Manner, Store};
+use crate::text::page::Page;
 use loom_objects::operation::{AtomicOp, CellOp, Reply};
 use loom_views::rt::num::Numbers;
-use std::fmt;
 use std::sync::atomic::Ordering;
 
 /// What is told of a reply.
@@ -66,27 +66,47 @@ pub(crate) enum Counting {
     Apart(usize),
 }
 
-impl fmt::Display for Answer {
-    fn fmt<W: fmt::Write>(&self, f: &mut fmt::Formatter<W>) -> fmt::Result {
+impl Answer {
+    /// Whether it is told: where the thread waited for it, and where it didn't.
+    pub(crate) fn is_told(self, has_waited: bool) -> bool {
         match self {
-            Answer::Nothing => Ok(()),
-            Answer::Words(words) | Answer::Late(words) => write!(f, "{words}"),
-            Answer::Value(value) => write!(f, "{value}"),
-            Answer::Stored(number) => write!(f, "store {number}"),
-            Answer::Read(_, outcome) => write!(f, "{outcome}"),
-            Answer::Waker(number) => write!(f, "waker of #{number}"),
-            Answer::Thread(thread) => write!(f, "thread {thread}"),
+            Answer::Nothing => false,
+            Answer::Late(_) => has_waited,
+            Answer::Words(_)
+            | Answer::Value(_)
+            | Answer::Stored(_)
+            | Answer::Read(..)
+            | Answer::Waker(_)
+            | Answer::Thread(_) => true,
         }
     }
 }
 
-impl fmt::Display for Outcome {
-    fn fmt<W: fmt::Write>(&self, f: &mut fmt::Formatter<W>) -> fmt::Result {
-        match self {
-            Outcome::Nothing => Ok(()),
-            Outcome::Value(value) => write!(f, ": {value}"),
-            Outcome::Exchanged(value) => write!(f, ": Ok({value})"),
-            Outcome::Kept(value) => write!(f, ": Err({value})"),
+impl Page {
+    pub(crate) fn answer(&mut self, answer: Answer) {
+        match answer {
+            Answer::Nothing => {}
+            Answer::Words(words) | Answer::Late(words) => self.words(words),
+            Answer::Value(value) => self.value("", value),
+            Answer::Stored(number) => self.number("store ", number),
+            Answer::Read(_, outcome) => self.outcome(outcome),
+            Answer::Waker(number) => self.number("waker of #", number),
+            Answer::Thread(thread) => self.thread("", thread),
+        }
+    }
+
+    fn outcome(&mut self, outcome: Outcome) {
+        match outcome {
+            Outcome::Nothing => {}
+            Outcome::Value(value) => self.value(": ", value),
+            Outcome::Exchanged(value) => {
+                self.value(": Ok(", value);
+                self.words(")");
+            }
+            Outcome::Kept(value) => {
+                self.value(": Err(", value);
+                self.words(")");
+            }
         }
     }
 }

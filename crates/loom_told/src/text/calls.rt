@@ -1,6 +1,7 @@
 //! Operations as written in code.
-use crate::text::names::{Quoted, Value};
+use crate::text::names::{Value, order_name};
 use crate::text::objects::Kind;
+use crate::text::page::Page;
 use crate::text::world::World;
 use loom_objects::operation::{
     ArcOp, AtomicOp, AtomicWakerOp, CellOp, ChannelOp, CondvarOp, ExploreOp, LazyOp, LocalOp,
@@ -8,7 +9,6 @@ use loom_objects::operation::{
 };
 use loom_views::rt::change::Change;
 use loom_views::rt::num::Numbers;
-use std::fmt;
 use std::sync::atomic::Ordering;
 
 /// What is asked of who uses a counted reference.
@@ -101,41 +101,42 @@ pub(crate) struct Call {
 #[derive(Clone, Copy)]
 struct Arguments(Argument, Argument);
 
-impl fmt::Display for Argument {
-    fn fmt<W: fmt::Write>(&self, f: &mut fmt::Formatter<W>) -> fmt::Result {
-        match self {
-            Argument::Nothing => Ok(()),
-            Argument::Value(value) => write!(f, "{value}"),
-            Argument::Order(order) => write!(f, "{order:?}"),
-            Argument::Object(number) => write!(f, "#{number}"),
+impl Page {
+    fn argument(&mut self, words: &str, argument: Argument) {
+        match argument {
+            Argument::Nothing => {}
+            Argument::Value(value) => self.value(words, value),
+            Argument::Order(order) => {
+                self.words(words);
+                self.words(order_name(order));
+            }
+            Argument::Object(number) => {
+                self.words(words);
+                self.number("#", number);
+            }
         }
     }
-}
 
-impl fmt::Display for Arguments {
-    fn fmt<W: fmt::Write>(&self, f: &mut fmt::Formatter<W>) -> fmt::Result {
-        let first = self.0;
-        let second = self.1;
-        match (first, second) {
-            (Argument::Nothing, _) => Ok(()),
-            (_, Argument::Nothing) => write!(f, "({first})"),
-            _ => write!(f, "({first}, {second})"),
+    /// A call as it is written in code.
+    pub(crate) fn call(&mut self, words: &str, call: &Call) {
+        self.words(words);
+        match call.subject {
+            Subject::Nothing | Subject::Thread(_) => {}
+            Subject::Object(number) => self.number("#", number),
+            Subject::Local(key) => self.number("local ", key),
+            Subject::Lazy(key) => self.number("lazy ", key),
         }
-    }
-}
-
-impl fmt::Display for Call {
-    fn fmt<W: fmt::Write>(&self, f: &mut fmt::Formatter<W>) -> fmt::Result {
-        let words = self.words;
-        let arguments = self.arguments;
-        let name = Quoted(self.name);
-        match self.subject {
-            Subject::Nothing => write!(f, "{words}{arguments}{name}"),
-            Subject::Object(number) => write!(f, "#{number}{words}{arguments}{name}"),
-            Subject::Local(key) => write!(f, "local {key}{words}{arguments}{name}"),
-            Subject::Lazy(key) => write!(f, "lazy {key}{words}{arguments}{name}"),
-            Subject::Thread(thread) => write!(f, "{words} {thread}{arguments}{name}"),
+        self.words(call.words);
+        if let Subject::Thread(thread) = call.subject {
+            self.number(" ", usize::from(thread));
         }
+        let Arguments(first, second) = call.arguments;
+        if !matches!(first, Argument::Nothing) {
+            self.argument("(", first);
+            self.argument(", ", second);
+            self.words(")");
+        }
+        self.quoted(call.name);
     }
 }
 

@@ -1,10 +1,8 @@
 //! Lines in columns.
 use crate::text::lines::Line;
+use crate::text::page::{Page, WIDTH};
 use crate::text::reasons::Scene;
-use std::alloc::{AllocError, Global};
-
-/// How wide a text may be.
-const WIDTH: usize = 100;
+use std::alloc::Global;
 
 /// How many lines a turn may have that is told once where it is repeated.
 const LONGEST_TURN: usize = 12;
@@ -18,15 +16,6 @@ struct Frame {
     has_columns: bool,
     /// Where the choices begin.
     choice: usize,
-}
-
-/// A row of the table.
-#[derive(Clone, Copy)]
-enum Row {
-    /// The line of this place.
-    Line(usize),
-    /// The lines from the first place up to the second came so many times more.
-    Same(usize, usize, usize),
 }
 
 impl Frame {
@@ -63,111 +52,59 @@ impl Frame {
     }
 }
 
-/// Pushes a line, with an end of line before each word that would go past the width, and so many spaces after it.
-pub(crate) fn push_wrapped(out: &mut String, line: &str, indent: &str) -> Result<(), AllocError> {
-    let mut width = 0usize;
-    let mut is_first = true;
-    for word in line.split(' ') {
-        let wanted = width.saturating_add(word.len()).saturating_add(1);
-        if is_first {
-            width = word.len();
-        } else if wanted > WIDTH {
-            out.push_str("\n")?;
-            out.push_str(indent)?;
-            width = indent.len().saturating_add(word.len());
-        } else {
-            out.push_str(" ")?;
-            width = wanted;
-        }
-        out.push_str(word)?;
-        is_first = false;
-    }
-    Ok(())
-}
-
-/// Pushes spaces up to this width.
-fn pad(row: &mut String, width: usize) -> Result<(), AllocError> {
-    for _place in row.len()..width {
-        row.push_str(" ")?;
-    }
-    Ok(())
-}
-
-/// The table of the lines.
-pub(crate) fn put_rows(
-    alloc: Global,
-    out: &mut String,
-    scene: Scene<'_>,
-    lines: &[Line],
-) -> Result<(), AllocError> {
+/// The table of the lines, in which turns that are repeated are told once.
+pub(crate) fn put_rows(alloc: Global, out: &mut Page, scene: Scene<'_>, lines: &[Line]) {
     let events = scene.explanation.events.len();
     let frame = Frame::new(events, scene.world.threads.len());
-    put_titles(alloc, out, frame, scene)?;
-    let rows = rows_of(alloc, scene, lines)?;
-    for row in rows.as_slice() {
-        match *row {
-            Row::Line(place) => {
-                if let Some(line) = lines.get(place) {
-                    put_line(alloc, out, frame, scene, line)?;
-                }
-            }
-            Row::Same(from, until, times) => {
-                put_same(alloc, out, frame, lines.get(from..until), times)?;
-            }
-        }
+    let mut row = Page::new(alloc);
+    put_titles(&mut row, frame, scene);
+    out.page(&row);
+    row.clear();
+    put_turns(out, &mut row, frame, scene, lines);
+    if row.is_refused {
+        out.is_refused = true;
     }
-    Ok(())
 }
 
 /// The titles of the columns.
-fn put_titles(
-    alloc: Global,
-    out: &mut String,
-    frame: Frame,
-    scene: Scene<'_>,
-) -> Result<(), AllocError> {
-    let mut row = String::new(alloc);
+fn put_titles(row: &mut Page, frame: Frame, scene: Scene<'_>) {
     if frame.has_columns {
-        pad(&mut row, frame.start(0))?;
-        let main = scene.world.titled(0);
-        write!(row, "{main}")?;
+        row.pad(frame.start(0));
+        row.titled("", 0, scene.world.name(0));
         if scene.world.threads.len() > 1 {
-            pad(&mut row, frame.start(1))?;
-            let child = scene.world.titled(1);
-            write!(row, "{child}")?;
+            row.pad(frame.start(1));
+            row.titled("", 1, scene.world.name(1));
         }
     } else {
-        pad(&mut row, frame.mark(0).saturating_add(2))?;
-        row.push_str("thread  operation")?;
+        row.pad(frame.mark(0).saturating_add(2));
+        row.words("thread  operation");
     }
-    pad(&mut row, frame.choice)?;
-    writeln!(out, "{row}choice")
+    row.pad(frame.choice);
+    row.words("choice\n");
 }
 
-/// Which rows tell the lines: turns that are repeated are told once.
-fn rows_of(alloc: Global, scene: Scene<'_>, lines: &[Line]) -> Result<Vec<Row>, AllocError> {
-    let mut rows = Vec::new(alloc);
+fn put_turns(out: &mut Page, row: &mut Page, frame: Frame, scene: Scene<'_>, lines: &[Line]) {
     let mut next = 0usize;
     for place in 0..lines.len() {
         if place >= next {
             let (turn, times) = turn_at(scene, lines, place);
-            let until = place.saturating_add(turn);
-            push_lines(&mut rows, place, until)?;
-            next = until;
+            next = place.saturating_add(turn);
+            let told = lines.get(place..next).unwrap_or(&[]);
+            put_turn(out, row, frame, scene, told);
             if times > 1 {
-                rows.push(Row::Same(place, until, times))?;
-                next = until.saturating_add(turn.saturating_mul(times));
+                put_same(row, frame, told, times);
+                out.page(row);
+                row.clear();
+                next = next.saturating_add(turn.saturating_mul(times));
             }
         }
     }
-    Ok(rows)
 }
 
-fn push_lines(rows: &mut Vec<Row>, from: usize, until: usize) -> Result<(), AllocError> {
-    for place in from..until {
-        rows.push(Row::Line(place))?;
+fn put_turn(out: &mut Page, row: &mut Page, frame: Frame, scene: Scene<'_>, turn: &[Line]) {
+    for line in turn {
+        put_line(out, row, frame, scene, line);
     }
-    Ok(())
 }
 
 /// How many lines from this place on make a turn that is repeated, and how many times more it comes: at least twice, or else
@@ -199,102 +136,81 @@ fn same_from(scene: Scene<'_>, lines: &[Line], place: usize, turn: usize) -> usi
 }
 
 /// The row of a turn that is repeated.
-fn put_same(
-    alloc: Global,
-    out: &mut String,
-    frame: Frame,
-    turn: Option<&[Line]>,
-    times: usize,
-) -> Result<(), AllocError> {
-    let Some([first, ..]) = turn else {
-        return Ok(());
+fn put_same(row: &mut Page, frame: Frame, turn: &[Line], times: usize) {
+    let Some(first) = turn.first() else {
+        return;
     };
-    let events = turn
-        .unwrap_or(&[])
-        .iter()
-        .filter(|line| line.event.is_some())
-        .count();
-    let mut row = String::new(alloc);
-    pad(&mut row, frame.start(first.thread))?;
+    let events = turn.iter().filter(|line| line.event.is_some()).count();
+    row.pad(frame.start(first.thread));
     if events > 1 {
-        writeln!(
-            out,
-            "{row}(these {events} events the same {times} times more)"
-        )
+        row.number("(these ", events);
+        row.number(" events the same ", times);
     } else {
-        writeln!(out, "{row}(the same {times} times more)")
+        row.number("(the same ", times);
     }
+    row.words(" times more)\n");
 }
 
 /// The row of a line: its number, its mark, its text in its thread's column, and its choice, which has a row of its own where
 /// the text leaves no room.
-fn put_line(
-    alloc: Global,
-    out: &mut String,
-    frame: Frame,
-    scene: Scene<'_>,
-    line: &Line,
-) -> Result<(), AllocError> {
-    let mut row = row_start(alloc, frame, scene, line)?;
-    row.push_str(line.text.as_str())?;
-    let room = if line.choice.is_empty() {
-        WIDTH
-    } else {
+fn put_line(out: &mut Page, row: &mut Page, frame: Frame, scene: Scene<'_>, line: &Line) {
+    start_row(row, frame, scene, line);
+    row.page(&line.text);
+    let has_choice = !line.choice.is_empty();
+    let room = if has_choice {
         frame.choice.saturating_sub(1)
+    } else {
+        WIDTH
     };
     if row.len().saturating_add(line.tail.len()) <= room {
-        row.push_str(line.tail.as_str())?;
+        row.page(&line.tail);
     }
     if scene.is_failing(line.event) {
-        scene.put_end(&mut row)?;
+        scene.put_end(row);
     }
-    if !line.choice.is_empty() && row.len() > room {
-        put_row(alloc, out, frame, line.thread, &row)?;
-        row = String::new(alloc);
+    if has_choice && row.len() > room {
+        end_row(out, row, frame, line.thread);
     }
-    if !line.choice.is_empty() {
-        pad(&mut row, frame.choice)?;
-        row.push_str(line.choice.as_str())?;
+    if has_choice {
+        row.pad(frame.choice);
+        row.page(&line.choice);
     }
-    put_row(alloc, out, frame, line.thread, &row)
+    end_row(out, row, frame, line.thread);
 }
 
-/// The row, with what goes past the width below its beginning.
-fn put_row(
-    alloc: Global,
-    out: &mut String,
-    frame: Frame,
-    thread: u8,
-    row: &String,
-) -> Result<(), AllocError> {
-    let mut indent = String::new(alloc);
-    pad(&mut indent, frame.start(thread).saturating_add(4))?;
-    push_wrapped(out, row.as_str(), indent.as_str())?;
-    out.push_str("\n")
+/// Puts the row, with what goes past the width below its beginning, and begins another one.
+fn end_row(out: &mut Page, row: &mut Page, frame: Frame, thread: u8) {
+    out.wrapped_line(row.as_str(), frame.start(thread).saturating_add(4));
+    row.clear();
+}
+
+/// How many digits an event's number has, of seven at most.
+fn digits_of(event: usize) -> usize {
+    match event {
+        0..=9 => 1,
+        10..=99 => 2,
+        100..=999 => 3,
+        1000..=9999 => 4,
+        10_000..=99_999 => 5,
+        100_000..=999_999 => 6,
+        _ => 7,
+    }
 }
 
 /// What stands in front of a line's text.
-fn row_start(
-    alloc: Global,
-    frame: Frame,
-    scene: Scene<'_>,
-    line: &Line,
-) -> Result<String, AllocError> {
-    let mut row = String::new(alloc);
-    let thread = line.thread;
+fn start_row(row: &mut Page, frame: Frame, scene: Scene<'_>, line: &Line) {
+    let mark = frame.mark(line.thread);
     if let Some(event) = line.event {
-        let number = format!(in alloc; "{event}")?;
-        pad(&mut row, frame.margin.saturating_sub(number.len()))?;
-        row.push_str(number.as_str())?;
+        row.pad(frame.margin.saturating_sub(digits_of(event)));
+        row.number("", event);
     }
     if scene.is_marked(line.event) {
-        pad(&mut row, frame.mark(thread))?;
-        row.push_str("!")?;
+        row.pad(mark);
+        row.words("!");
     }
     if !frame.has_columns && !line.text.is_empty() {
-        pad(&mut row, frame.mark(thread).saturating_add(2))?;
-        write!(row, "t{thread}")?;
+        row.pad(mark.saturating_add(2));
+        row.number("t", usize::from(line.thread));
     }
-    pad(&mut row, frame.start(thread))?;
-    Ok(row)
+    row.pad(frame.start(line.thread));
 }

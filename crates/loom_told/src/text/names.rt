@@ -1,10 +1,10 @@
 //! How objects, values, threads and places are named.
 use crate::text::objects::Object;
+use crate::text::page::Page;
 use loom_objects::rt::thread::Name;
 use loom_parts::label::Label;
 use loom_parts::location::Location;
 use loom_views::rt::num::Numbers;
-use std::fmt;
 use std::sync::atomic::Ordering;
 
 /// A value of an atomic, by its type.
@@ -14,158 +14,118 @@ pub(crate) struct Value {
     pub(crate) bits: u64,
 }
 
-/// A place in the source: `spin.rs:87`.
-#[derive(Clone, Copy)]
-pub(crate) struct Place(pub(crate) Location);
-
-/// A name and a place in parentheses after a space, as far as they are there: ` ("flag", spin.rs:87)`.
-#[derive(Clone, Copy)]
-pub(crate) struct Called(pub(crate) Option<Label>);
-
-/// A name after a space: ` "flag"`.
-#[derive(Clone, Copy)]
-pub(crate) struct Quoted(pub(crate) Option<&'static str>);
-
-/// An object by its kind, its number and what it is called: `cell #1 ("count")`.
+/// An object of the run by its number, if there is one.
 #[derive(Clone, Copy)]
 pub(crate) struct Thing {
     pub(crate) number: usize,
     pub(crate) object: Option<Object>,
 }
 
-/// A thread by its number and its name: `thread 1 ("worker")`, `thread 0 (main)`.
-#[derive(Clone, Copy)]
-pub(crate) struct Titled {
-    pub(crate) thread: u8,
-    pub(crate) name: Option<Name>,
+/// An ordering.
+pub(crate) fn order_name(order: Ordering) -> &'static str {
+    match order {
+        Ordering::Relaxed => "Relaxed",
+        Ordering::Release => "Release",
+        Ordering::Acquire => "Acquire",
+        Ordering::AcqRel => "AcqRel",
+        Ordering::SeqCst => "SeqCst",
+    }
 }
 
-/// An ordering with its article: `an Acquire`.
-#[derive(Clone, Copy)]
-pub(crate) struct An(pub(crate) Ordering);
+/// The article of an ordering.
+pub(crate) fn article_of(order: Ordering) -> &'static str {
+    match order {
+        Ordering::Relaxed | Ordering::Release | Ordering::SeqCst => "a ",
+        Ordering::Acquire | Ordering::AcqRel => "an ",
+    }
+}
 
-/// How many, with the word in its number: `1 message`, `2 messages`.
-#[derive(Clone, Copy)]
-pub(crate) struct Many(pub(crate) usize, pub(crate) &'static str);
-
-impl fmt::Display for Value {
-    fn fmt<W: fmt::Write>(&self, f: &mut fmt::Formatter<W>) -> fmt::Result {
-        let bits = self.numbers.fit(self.bits);
-        match self.numbers {
-            Numbers::Bool if bits == 0 => write!(f, "false"),
-            Numbers::Bool => write!(f, "true"),
-            Numbers::U8 | Numbers::U16 | Numbers::U32 | Numbers::U64 => write!(f, "{bits}"),
+impl Page {
+    pub(crate) fn value(&mut self, words: &str, value: Value) {
+        let bits = value.numbers.fit(value.bits);
+        self.words(words);
+        match value.numbers {
+            Numbers::Bool if bits == 0 => self.words("false"),
+            Numbers::Bool => self.words("true"),
+            Numbers::U8 | Numbers::U16 | Numbers::U32 | Numbers::U64 => self.bits("", bits),
             Numbers::I8 | Numbers::I16 | Numbers::I32 | Numbers::I64 => {
-                let signed = bits.cast_signed();
-                write!(f, "{signed}")
+                self.signed(bits.cast_signed());
             }
         }
     }
-}
 
-impl fmt::Display for Place {
-    fn fmt<W: fmt::Write>(&self, f: &mut fmt::Formatter<W>) -> fmt::Result {
-        let file = self.0.file;
-        let line = self.0.line;
-        write!(f, "{file}:{line}")
+    /// A place in the source: `spin.rs:87`.
+    pub(crate) fn place(&mut self, words: &str, place: Location) {
+        self.words(words);
+        self.words(place.file);
+        self.bits(":", u64::from(place.line));
     }
-}
 
-impl fmt::Display for Called {
-    fn fmt<W: fmt::Write>(&self, f: &mut fmt::Formatter<W>) -> fmt::Result {
-        match self.0 {
-            Some(
-                Label {
-                    name: Some(name),
-                    location: Some(place),
-                },
-            ) => {
-                let place = Place(place);
-                write!(f, " (\"{name}\", {place})")
-            }
-            Some(
-                Label {
-                    name: Some(name),
-                    location: None,
-                },
-            ) => write!(f, " (\"{name}\")"),
-            Some(
-                Label {
-                    name: None,
-                    location: Some(place),
-                },
-            ) => {
-                let place = Place(place);
-                write!(f, " ({place})")
-            }
-            Some(
-                Label {
-                    name: None,
-                    location: None,
-                },
-            )
-            | None => Ok(()),
+    /// A name after a space, if there is one: ` "flag"`.
+    pub(crate) fn quoted(&mut self, name: Option<&'static str>) {
+        if let Some(name) = name {
+            self.words(" \"");
+            self.words(name);
+            self.words("\"");
         }
     }
-}
 
-impl fmt::Display for Quoted {
-    fn fmt<W: fmt::Write>(&self, f: &mut fmt::Formatter<W>) -> fmt::Result {
-        match self.0 {
-            Some(name) => write!(f, " \"{name}\""),
-            None => Ok(()),
+    /// A name and a place in parentheses after a space, as far as they are there: ` ("flag", spin.rs:87)`.
+    pub(crate) fn called(&mut self, label: Option<Label>) {
+        let Some(label) = label else {
+            return;
+        };
+        let mut words = " (";
+        if let Some(name) = label.name {
+            self.words(" (\"");
+            self.words(name);
+            self.words("\"");
+            words = ", ";
+        }
+        match label.location {
+            Some(place) => {
+                self.place(words, place);
+                self.words(")");
+            }
+            None if label.name.is_some() => self.words(")"),
+            None => {}
         }
     }
-}
 
-impl fmt::Display for Thing {
-    fn fmt<W: fmt::Write>(&self, f: &mut fmt::Formatter<W>) -> fmt::Result {
-        let number = self.number;
-        match self.object {
+    /// An object by its kind, its number and what it is called: `cell #1 ("count")`.
+    pub(crate) fn thing(&mut self, words: &str, thing: Thing) {
+        self.words(words);
+        match thing.object {
             Some(object) => {
-                let kind = object.kind.name();
-                let called = Called(object.label);
-                write!(f, "{kind} #{number}{called}")
+                self.words(object.kind.name());
+                self.number(" #", thing.number);
+                self.called(object.label);
             }
-            None => write!(f, "object #{number}"),
+            None => self.number("object #", thing.number),
         }
     }
-}
 
-impl fmt::Display for Titled {
-    fn fmt<W: fmt::Write>(&self, f: &mut fmt::Formatter<W>) -> fmt::Result {
-        let thread = self.thread;
-        match self.name {
+    /// A thread by its number and its name: `thread 1 ("worker")`, `thread 0 (main)`.
+    pub(crate) fn titled(&mut self, words: &str, thread: u8, name: Option<Name>) {
+        self.thread(words, thread);
+        match name {
             Some(name) => {
-                let name = name.text;
-                write!(f, "thread {thread} (\"{name}\")")
+                self.words(" (\"");
+                self.words(name.text);
+                self.words("\")");
             }
-            None if thread == 0 => write!(f, "thread 0 (main)"),
-            None => write!(f, "thread {thread}"),
+            None if thread == 0 => self.words(" (main)"),
+            None => {}
         }
     }
-}
 
-impl fmt::Display for An {
-    fn fmt<W: fmt::Write>(&self, f: &mut fmt::Formatter<W>) -> fmt::Result {
-        match self.0 {
-            Ordering::Relaxed => write!(f, "a Relaxed"),
-            Ordering::Release => write!(f, "a Release"),
-            Ordering::Acquire => write!(f, "an Acquire"),
-            Ordering::AcqRel => write!(f, "an AcqRel"),
-            Ordering::SeqCst => write!(f, "a SeqCst"),
-        }
-    }
-}
-
-impl fmt::Display for Many {
-    fn fmt<W: fmt::Write>(&self, f: &mut fmt::Formatter<W>) -> fmt::Result {
-        let count = self.0;
-        let word = self.1;
-        if count == 1 {
-            write!(f, "1 {word}")
-        } else {
-            write!(f, "{count} {word}s")
+    /// How many, with the word in its number: `1 message`, `2 messages`.
+    pub(crate) fn many(&mut self, words: &str, count: usize, word: &str) {
+        self.number(words, count);
+        self.words(" ");
+        self.words(word);
+        if count != 1 {
+            self.words("s");
         }
     }
 }

@@ -9,7 +9,7 @@ use loom_views::rt::num::Numbers;
 use std::sync::atomic::Ordering;
 
 /// What an object is.
-#[derive(Clone, Copy, PartialEq, Eq)]
+#[derive(Clone, Copy)]
 pub(crate) enum Kind {
     /// With the type of what it holds.
     Atomic(Numbers),
@@ -74,7 +74,7 @@ pub(crate) struct Reading {
 }
 
 /// How an object was accessed, as far as it decides about races.
-#[derive(Clone, Copy, PartialEq, Eq)]
+#[derive(Clone, Copy)]
 pub(crate) enum Manner {
     /// It was made.
     Making,
@@ -137,7 +137,7 @@ impl Kind {
 
     /// Whether it is the other, whatever an atomic holds.
     pub(crate) fn is_like(self, other: Kind) -> bool {
-        matches!((self, other), (Kind::Atomic(_), Kind::Atomic(_))) || self == other
+        self.name() == other.name()
     }
 
     /// What it counts when it is made: the first store, reference, waker or tracked value.

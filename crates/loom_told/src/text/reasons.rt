@@ -8,13 +8,13 @@ mod race;
 mod values;
 
 use crate::explanation::{End, Event, Explanation};
-use crate::text::names::Place;
 use crate::text::objects::{Access, At};
+use crate::text::page::Page;
 use crate::text::world::World;
 use loom_objects::choice::Choice;
-use loom_objects::operation::{Op, ThreadOp};
+use loom_objects::operation::{LocalOp, Op, ThreadOp};
+use loom_parts::location::Location;
 use loom_views::rt::failure::FailureKind;
-use std::alloc::AllocError;
 
 /// A run with what is known after its last event.
 #[derive(Clone, Copy)]
@@ -27,6 +27,21 @@ pub(crate) struct Scene<'a> {
     pub(crate) at: At,
     /// The access that a race is with.
     pub(crate) other: Option<Access>,
+}
+
+/// An earlier event that is sought.
+#[derive(Clone, Copy)]
+pub(crate) enum Sought {
+    /// Any event of this thread.
+    Any(u8),
+    /// Exploring was switched.
+    Explore,
+    /// Main finished.
+    Finish,
+    /// This thread gave its own values back.
+    Exit(u8),
+    /// This thread made its value of this key.
+    Init(u8, usize),
 }
 
 impl<'a> Scene<'a> {
@@ -97,18 +112,37 @@ impl<'a> Scene<'a> {
         }
     }
 
+    /// The number of the last event that is sought, before the one by which the run failed.
+    pub(crate) fn earlier(&self, sought: Sought) -> Option<usize> {
+        let before = self.at.event.saturating_sub(1);
+        let events = self.explanation.events.get(..before).unwrap_or(&[]);
+        let place = events.iter().rposition(|event| sought.is_met_by(event))?;
+        Some(place.saturating_add(1))
+    }
+
     /// What stands after the operation by which the run failed.
-    pub(crate) fn put_end(&self, row: &mut String) -> Result<(), AllocError> {
-        let Some(kind) = self.kind else {
-            return Ok(());
-        };
-        let title = title_of(kind);
-        match self.other {
-            Some(other) => {
-                let event = other.at.event;
-                write!(row, ": {title} with event {event}")
+    pub(crate) fn put_end(&self, row: &mut Page) {
+        if let Some(kind) = self.kind {
+            row.words(": ");
+            row.words(title_of(kind));
+        }
+        if let Some(other) = self.other {
+            row.event(" with ", other.at.event);
+        }
+    }
+}
+
+impl Sought {
+    fn is_met_by(self, event: &Event) -> bool {
+        match (self, &event.op) {
+            (Sought::Any(thread), _) => event.thread == thread,
+            (Sought::Explore, Op::Explore(..)) => true,
+            (Sought::Finish, Op::Thread(ThreadOp::Finish(_), _)) => event.thread == 0,
+            (Sought::Exit(thread), Op::Thread(ThreadOp::Exit, _)) => event.thread == thread,
+            (Sought::Init(thread, key), Op::Local(LocalOp::Init(other, _), _)) => {
+                event.thread == thread && *other == key
             }
-            None => write!(row, ": {title}"),
+            _ => false,
         }
     }
 }
@@ -220,43 +254,42 @@ fn title_of(kind: FailureKind) -> &'static str {
 }
 
 /// How the run ended, a line, and why, a line each.
-pub(crate) fn put_reasons(out: &mut String, scene: Scene<'_>) -> Result<(), AllocError> {
-    let event = scene.at.event;
-    let Some(kind) = scene.kind else {
-        return writeln!(out, "ended, after event {event}");
-    };
-    let title = title_of(kind);
-    if is_at_end(kind) {
-        write!(out, "failed: {title}, after event {event}")?;
-    } else {
-        write!(out, "failed: {title}, at event {event}")?;
+pub(crate) fn put_reasons(out: &mut Page, scene: Scene<'_>) {
+    match scene.kind {
+        None => {
+            out.event("ended, after ", scene.at.event);
+            out.words("\n");
+        }
+        Some(kind) => {
+            out.words("failed: ");
+            out.words(title_of(kind));
+            out.event(
+                if is_at_end(kind) { ", after " } else { ", at " },
+                scene.at.event,
+            );
+            put_place(out, scene);
+            put_reason(out, scene, kind);
+        }
     }
-    put_place(out, scene)?;
-    out.push_str("\n")?;
-    put_reason(out, scene, kind)
 }
 
-/// The place of the operation by which the run failed, if it has one.
-fn put_place(out: &mut String, scene: Scene<'_>) -> Result<(), AllocError> {
-    let label = match scene.op() {
-        Some(op) => op.label(),
-        None => None,
-    };
-    let location = match label {
-        Some(label) => label.location,
-        None => None,
-    };
-    match location {
-        Some(location) => {
-            let place = Place(location);
-            write!(out, " ({place})")
+/// The place of the operation by which the run failed, if it has one, and the line's end.
+fn put_place(out: &mut Page, scene: Scene<'_>) {
+    match place_of(scene) {
+        Some(place) => {
+            out.place(" (", place);
+            out.words(")\n");
         }
-        None => Ok(()),
+        None => out.words("\n"),
     }
+}
+
+fn place_of(scene: Scene<'_>) -> Option<Location> {
+    scene.op()?.label()?.location
 }
 
 /// Why, a line each.
-fn put_reason(out: &mut String, scene: Scene<'_>, kind: FailureKind) -> Result<(), AllocError> {
+fn put_reason(out: &mut Page, scene: Scene<'_>, kind: FailureKind) {
     match kind {
         FailureKind::Assertion => bodies::put_assertion(out, scene),
         FailureKind::Unreachable => bodies::put_unreachable(out, scene),

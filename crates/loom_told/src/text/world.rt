@@ -4,7 +4,7 @@ use crate::text::answers::{
     touch_of,
 };
 use crate::text::calls::call_of;
-use crate::text::names::{Thing, Titled, Value};
+use crate::text::names::{Thing, Value};
 use crate::text::objects::{
     Access, At, Hold, Kind, Manner, Member, Object, Reading, Store, made_by,
 };
@@ -13,7 +13,8 @@ use loom_objects::rt::thread::Name;
 use loom_parts::label::Label;
 use loom_views::rt::MAX_ATOMIC_HISTORY;
 use loom_views::rt::num::Numbers;
-use std::alloc::{AllocError, Global};
+use std::alloc::Global;
+use std::sync::atomic::Ordering;
 
 /// What a run has made and done so far.
 #[derive(Drop)]
@@ -26,26 +27,24 @@ pub(crate) struct World {
     pub(crate) readings: Vec<Reading>,
     pub(crate) accesses: Vec<Access>,
     pub(crate) holds: Vec<Hold>,
+    /// Whether memory was refused for something of this.
+    pub(crate) is_refused: bool,
 }
 
 impl World {
     /// Main alone.
-    pub(crate) fn new(alloc: Global) -> Result<World, AllocError> {
-        let mut threads = Vec::new(alloc);
-        threads.push(Member {
-            name: None,
-            pending: None,
-            line: 0,
-            stage: 0,
-        })?;
-        Ok(World {
+    pub(crate) fn new(alloc: Global) -> World {
+        let mut world = World {
             objects: Vec::new(alloc),
-            threads,
+            threads: Vec::new(alloc),
             stores: Vec::new(alloc),
             readings: Vec::new(alloc),
             accesses: Vec::new(alloc),
             holds: Vec::new(alloc),
-        })
+            is_refused: false,
+        };
+        world.make_thread(None);
+        world
     }
 
     /// The number of the thread that is spawned next.
@@ -71,13 +70,9 @@ impl World {
         self.threads.get(usize::from(thread)).copied()
     }
 
-    /// The thread of this number, to be named.
-    pub(crate) fn titled(&self, thread: u8) -> Titled {
-        let name = match self.member(thread) {
-            Some(member) => member.name,
-            None => None,
-        };
-        Titled { thread, name }
+    /// The name of the thread of this number, if it has one.
+    pub(crate) fn name(&self, thread: u8) -> Option<Name> {
+        self.threads.get(usize::from(thread))?.name
     }
 
     /// Who has the object since when, of several the last one.
@@ -122,85 +117,80 @@ impl World {
     }
 
     /// The thread has this operation pending from now on, on a line; what it makes is made.
-    pub(crate) fn hand_over(
-        &mut self,
-        at: At,
-        line: usize,
-        op: &Op<(), ()>,
-    ) -> Result<(), AllocError> {
+    pub(crate) fn hand_over(&mut self, at: At, line: usize, op: &Op<(), ()>) {
         if let Some(member) = self.threads.get_mut(usize::from(at.thread)) {
             member.pending = Some(at.event);
             member.line = line;
             member.stage = 0;
         }
-        match made_by(op) {
-            Some(kind) => self.make(at, kind, op),
-            None => Ok(()),
+        if let Some(kind) = made_by(op) {
+            self.make(at, kind, op);
         }
     }
 
-    fn make(&mut self, at: At, kind: Kind, op: &Op<(), ()>) -> Result<(), AllocError> {
+    fn make(&mut self, at: At, kind: Kind, op: &Op<(), ()>) {
         if matches!(kind, Kind::Wakers) {
-            self.make_object(at, Kind::Waking, None)?;
+            self.make_object(at, Kind::Waking, None);
         }
         if let Op::Thread(ThreadOp::Spawn(_, name), _) = op {
-            self.make_thread(*name)?;
+            self.make_thread(*name);
         }
         if let Op::Atomic(AtomicOp::New(..), _) = op {
             let atomic = self.objects.len();
-            self.push_store(at, atomic, 0, None)?;
+            self.make_store(at, atomic, 0, None);
         }
-        self.make_object(at, kind, op.label())
+        self.make_object(at, kind, op.label());
     }
 
-    fn make_thread(&mut self, name: Option<Name>) -> Result<(), AllocError> {
-        self.threads.push(Member {
+    fn make_thread(&mut self, name: Option<Name>) {
+        let member = Member {
             name,
             pending: None,
             line: 0,
             stage: 0,
-        })?;
-        Ok(())
+        };
+        if self.threads.push(member).is_err() {
+            self.is_refused = true;
+        }
     }
 
-    fn make_object(&mut self, at: At, kind: Kind, label: Option<Label>) -> Result<(), AllocError> {
+    fn make_object(&mut self, at: At, kind: Kind, label: Option<Label>) {
         if kind.is_accessed() {
             let object = self.objects.len();
-            self.note(object, Manner::Making, at)?;
+            self.note(object, Manner::Making, at);
         }
-        self.objects.push(Object {
+        let object = Object {
             kind,
             label,
             made: at,
             count: kind.first_count(),
             apart: None,
-        })?;
-        Ok(())
+        };
+        if self.objects.push(object).is_err() {
+            self.is_refused = true;
+        }
     }
 
-    fn note(&mut self, object: usize, manner: Manner, at: At) -> Result<(), AllocError> {
-        self.accesses.push(Access { object, manner, at })?;
-        Ok(())
+    fn note(&mut self, object: usize, manner: Manner, at: At) {
+        if self.accesses.push(Access { object, manner, at }).is_err() {
+            self.is_refused = true;
+        }
     }
 
-    fn push_store(
-        &mut self,
-        at: At,
-        atomic: usize,
-        number: usize,
-        order: Option<std::sync::atomic::Ordering>,
-    ) -> Result<(), AllocError> {
-        self.stores.push(Store {
+    fn make_store(&mut self, at: At, atomic: usize, number: usize, order: Option<Ordering>) {
+        let store = Store {
             atomic,
             number,
             at,
             order,
-        })?;
-        Ok(())
+        };
+        if self.stores.push(store).is_err() {
+            self.is_refused = true;
+        }
     }
 
-    /// A stage of what the thread has pending has passed. Which object it gives free by that, if any.
-    pub(crate) fn pass(&mut self, thread: u8, op: &Op<(), ()>) {
+    /// A stage of what the thread has pending has passed: which one, from 0. By that it may give a mutex free.
+    pub(crate) fn pass(&mut self, thread: u8, op: &Op<(), ()>) -> u8 {
         let mut stage = 0;
         if let Some(member) = self.threads.get_mut(usize::from(thread)) {
             stage = member.stage;
@@ -215,6 +205,7 @@ impl World {
                 self.give(thread, *mutex);
             }
         }
+        stage
     }
 
     /// What the thread had pending has taken effect, and this is its reply. The slot is that of the store that it read.
@@ -224,9 +215,9 @@ impl World {
         op: &Op<(), ()>,
         told: &Reply<()>,
         slot: Option<u8>,
-    ) -> Result<Answer, AllocError> {
+    ) -> Answer {
         let call = call_of(op, self);
-        self.hold(at, holding_of(&call, told))?;
+        self.hold(at, holding_of(&call, told));
         self.count(at, counting_of(&call, told));
         if let Some(member) = self.threads.get_mut(usize::from(at.thread)) {
             member.pending = None;
@@ -235,19 +226,18 @@ impl World {
             return self.settle_atomic(at, *op, told, slot);
         }
         if let Op::Cell(op, _) = op {
-            self.settle_cell(at, op)?;
+            self.settle_cell(at, op);
         }
-        Ok(answer_of(told))
+        answer_of(told)
     }
 
-    fn settle_cell(&mut self, at: At, op: &CellOp<()>) -> Result<(), AllocError> {
+    fn settle_cell(&mut self, at: At, op: &CellOp<()>) {
         if let Some((cell, manner)) = cell_touch(op) {
-            self.note(cell, manner, at)?;
+            self.note(cell, manner, at);
         }
         if let CellOp::Swap(_, other) = op {
-            self.note(*other, Manner::CellWrite, at)?;
+            self.note(*other, Manner::CellWrite, at);
         }
-        Ok(())
     }
 
     fn settle_atomic(
@@ -256,64 +246,57 @@ impl World {
         op: AtomicOp,
         told: &Reply<()>,
         slot: Option<u8>,
-    ) -> Result<Answer, AllocError> {
+    ) -> Answer {
         let numbers = match op.atomic() {
             Some(atomic) => self.numbers(atomic),
             None => Numbers::U64,
         };
         let Some(touch) = touch_of(op, told, numbers) else {
-            return Ok(Answer::Nothing);
+            return Answer::Nothing;
         };
-        self.note(touch.atomic, touch.manner, at)?;
-        let read = self.read(at, touch, slot)?;
-        let number = self.write(at, touch)?;
-        Ok(match (read, number) {
+        self.note(touch.atomic, touch.manner, at);
+        let read = self.read(at, touch, slot);
+        let number = self.write(at, touch);
+        match (read, number) {
             (Some(store), _) => Answer::Read(store, outcome_of(told, numbers)),
             (None, Some(number)) => Answer::Stored(number),
             (None, None) => answer_of(told),
-        })
+        }
     }
 
-    fn read(
-        &mut self,
-        at: At,
-        touch: Touch,
-        slot: Option<u8>,
-    ) -> Result<Option<Store>, AllocError> {
-        let (Some(order), Some(slot)) = (touch.read, slot) else {
-            return Ok(None);
-        };
-        let Some(store) = self.store_in(touch.atomic, slot) else {
-            return Ok(None);
-        };
-        self.readings.push(Reading {
+    fn read(&mut self, at: At, touch: Touch, slot: Option<u8>) -> Option<Store> {
+        let order = touch.read?;
+        let store = self.store_in(touch.atomic, slot?)?;
+        let reading = Reading {
             at,
             store,
             order,
             noun: touch.noun,
-        })?;
-        Ok(Some(store))
+        };
+        if self.readings.push(reading).is_err() {
+            self.is_refused = true;
+        }
+        Some(store)
     }
 
-    fn write(&mut self, at: At, touch: Touch) -> Result<Option<usize>, AllocError> {
-        let Some(order) = touch.write else {
-            return Ok(None);
-        };
-        let Some(object) = self.object(touch.atomic) else {
-            return Ok(None);
-        };
+    fn write(&mut self, at: At, touch: Touch) -> Option<usize> {
+        let order = touch.write?;
+        let number = self.object(touch.atomic)?.count;
         self.count(at, Counting::Up(touch.atomic));
-        self.push_store(at, touch.atomic, object.count, Some(order))?;
-        Ok(Some(object.count))
+        self.make_store(at, touch.atomic, number, Some(order));
+        Some(number)
     }
 
-    fn hold(&mut self, at: At, holding: Holding) -> Result<(), AllocError> {
+    fn hold(&mut self, at: At, holding: Holding) {
         match holding {
             Holding::Same => {}
-            Holding::Takes(object) => self.holds.push(Hold { object, at })?,
+            Holding::Takes(object) => {
+                if self.holds.push(Hold { object, at }).is_err() {
+                    self.is_refused = true;
+                }
+            }
             Holding::Gives(object) => self.give(at.thread, object),
         }
-        Ok(())
     }
 
     fn give(&mut self, thread: u8, object: usize) {

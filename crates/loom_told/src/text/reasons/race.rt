@@ -1,14 +1,13 @@
 //! Races: the access that one is with, and what is missing between the two.
 use crate::text::answers::{cell_touch, touch_of};
 use crate::text::calls::call_of;
-use crate::text::names::An;
+use crate::text::names::{Thing, article_of, order_name};
 use crate::text::objects::{Access, Hold, Manner, Reading};
+use crate::text::page::Page;
 use crate::text::reasons::Scene;
 use loom_objects::operation::{AtomicOp, CellOp, Op, Reply};
-use loom_parts::label::Label;
 use loom_views::rt::MAX_THREADS;
 use loom_views::rt::failure::FailureKind;
-use std::alloc::AllocError;
 use std::sync::atomic::Ordering;
 
 /// Which objects an operation accesses, and how: one, and for a swap of two cells another one.
@@ -114,55 +113,67 @@ fn cell_verb(op: &CellOp<()>) -> &'static str {
     }
 }
 
-/// Both accesses, and what is missing between them.
-pub(crate) fn put_race(out: &mut String, scene: Scene<'_>) -> Result<(), AllocError> {
-    let Some(access) = scene.other else {
-        return put_others(out, scene);
-    };
-    let thread = scene.at.thread;
-    let verb = verb_of(scene.op());
-    let thing = scene.world.thing(access.object);
-    let other = access.at.thread;
-    let noun = access.manner.noun();
-    let event = access.at.event;
-    writeln!(
-        out,
-        "  thread {thread} {verb} {thing} and doesn't know of thread {other}'s {noun} of it (event {event})"
-    )?;
-    match last_reading(scene, access) {
-        Some(reading) => put_reading(out, scene, reading),
-        None => writeln!(
-            out,
-            "  nothing orders the two: thread {thread} has read nothing that thread {other} stored after it"
-        ),
-    }
+/// The thread by whose operation the run failed, and what it does.
+fn put_verb(out: &mut Page, scene: Scene<'_>) {
+    out.thread("  ", scene.at.thread);
+    out.words(" ");
+    out.words(verb_of(scene.op()));
 }
 
-/// The last access of each other thread that conflicts: one of them at least isn't known.
-fn put_others(out: &mut String, scene: Scene<'_>) -> Result<(), AllocError> {
-    let thread = scene.at.thread;
-    let verb = verb_of(scene.op());
+/// The object that the operation accesses.
+fn target(scene: Scene<'_>) -> Thing {
     let number = match targets(scene) {
         Some((object, ..)) => object,
         None => 0,
     };
-    let thing = scene.world.thing(number);
-    writeln!(
-        out,
-        "  thread {thread} {verb} {thing} and doesn't know of one of these at least:"
-    )?;
-    for other in 0..MAX_THREADS as u8 {
-        if let Some(access) = last_of(scene, other) {
-            let noun = access.manner.noun();
-            let thing = scene.world.thing(access.object);
-            let event = access.at.event;
-            writeln!(
-                out,
-                "    thread {other}'s {noun} of {thing} (event {event})"
-            )?;
+    scene.world.thing(number)
+}
+
+/// Both accesses, and what is missing between them.
+pub(crate) fn put_race(out: &mut Page, scene: Scene<'_>) {
+    put_verb(out, scene);
+    match scene.other {
+        Some(access) => {
+            out.thing(" ", scene.world.thing(access.object));
+            out.thread(" and doesn't know of ", access.at.thread);
+            out.words("'s ");
+            out.words(access.manner.noun());
+            out.event(" of it (", access.at.event);
+            out.words(")\n");
+            put_missing(out, scene, access);
+        }
+        None => {
+            out.thing(" ", target(scene));
+            out.words(" and doesn't know of one of these at least:\n");
+            put_others(out, scene);
         }
     }
-    Ok(())
+}
+
+/// What is missing between the access that failed and this one.
+fn put_missing(out: &mut Page, scene: Scene<'_>, access: Access) {
+    match last_reading(scene, access) {
+        Some(reading) => put_reading(out, scene, reading),
+        None => {
+            out.thread("  nothing orders the two: ", scene.at.thread);
+            out.thread(" has read nothing that ", access.at.thread);
+            out.words(" stored after it\n");
+        }
+    }
+}
+
+/// The last access of each other thread that conflicts: one of them at least isn't known.
+fn put_others(out: &mut Page, scene: Scene<'_>) {
+    for other in 0..MAX_THREADS as u8 {
+        if let Some(access) = last_of(scene, other) {
+            out.thread("    ", other);
+            out.words("'s ");
+            out.words(access.manner.noun());
+            out.thing(" of ", scene.world.thing(access.object));
+            out.event(" (", access.at.event);
+            out.words(")\n");
+        }
+    }
 }
 
 fn acquires(order: Ordering) -> bool {
@@ -197,37 +208,36 @@ fn last_reading(scene: Scene<'_>, access: Access) -> Option<Reading> {
 }
 
 /// What was read, how, and what it lacks.
-fn put_reading(out: &mut String, scene: Scene<'_>, reading: Reading) -> Result<(), AllocError> {
-    let thread = reading.at.thread;
-    let number = reading.store.number;
-    let atomic = reading.store.atomic;
-    write!(
-        out,
-        "  thread {thread} read store {number} of atomic #{atomic} ("
-    )?;
-    if let Some(name) = name_of(scene, atomic) {
-        write!(out, "\"{name}\", ")?;
+fn put_reading(out: &mut Page, scene: Scene<'_>, reading: Reading) {
+    let store = reading.store;
+    out.thread("  ", reading.at.thread);
+    out.number(" read store ", store.number);
+    out.number(" of atomic #", store.atomic);
+    out.words(" (");
+    if let Some(name) = name_of(scene, store.atomic) {
+        out.words("\"");
+        out.words(name);
+        out.words("\", ");
     }
-    let other = reading.store.at.thread;
-    write!(out, "thread {other}")?;
-    if let Some(order) = reading.store.order {
-        write!(out, ", {order:?}")?;
+    out.thread("", store.at.thread);
+    if let Some(order) = store.order {
+        out.words(", ");
+        out.words(order_name(order));
     }
-    let by = An(reading.order);
-    let noun = reading.noun;
-    let missing = if acquires(reading.order) {
-        "the store released nothing"
+    out.words(") by ");
+    out.words(article_of(reading.order));
+    out.words(order_name(reading.order));
+    out.words(" ");
+    out.words(reading.noun);
+    out.words(if acquires(reading.order) {
+        ":\n  the store released nothing\n"
     } else {
-        "nothing was acquired"
-    };
-    writeln!(out, ") by {by} {noun}:\n  {missing}")
+        ":\n  nothing was acquired\n"
+    });
 }
 
 fn name_of(scene: Scene<'_>, number: usize) -> Option<&'static str> {
-    match scene.world.object(number)?.label {
-        Some(Label { name, .. }) => name,
-        None => None,
-    }
+    scene.world.object(number)?.label?.name
 }
 
 /// Who has the object open.
@@ -243,38 +253,26 @@ fn open_by(scene: Scene<'_>) -> Option<Hold> {
 }
 
 /// What is open, by whom and since when.
-pub(crate) fn put_open_access(out: &mut String, scene: Scene<'_>) -> Result<(), AllocError> {
-    let thread = scene.at.thread;
-    let verb = verb_of(scene.op());
+pub(crate) fn put_open_access(out: &mut Page, scene: Scene<'_>) {
+    put_verb(out, scene);
     let Some(hold) = open_by(scene) else {
-        return writeln!(out, "  thread {thread} {verb} what is open");
+        out.words(" what is open\n");
+        return;
     };
-    let thing = scene.world.thing(hold.object);
-    let other = hold.at.thread;
-    let event = hold.at.event;
-    write!(
-        out,
-        "  thread {thread} {verb} {thing}, which thread {other} has open since event {event}"
-    )?;
-    match scene.event(event) {
-        Some(opened) => {
-            let call = call_of(&opened.op, scene.world);
-            writeln!(out, ": {call}")
-        }
-        None => out.push_str("\n"),
+    out.thing(" ", scene.world.thing(hold.object));
+    out.thread(", which ", hold.at.thread);
+    out.event(" has open since ", hold.at.event);
+    if let Some(opened) = scene.event(hold.at.event) {
+        out.call(": ", &call_of(&opened.op, scene.world));
     }
+    out.words("\n");
 }
 
 /// Two stores whose order isn't known.
-pub(crate) fn put_equal_orders(out: &mut String, scene: Scene<'_>) -> Result<(), AllocError> {
-    let thread = scene.at.thread;
-    let atomic = match targets(scene) {
-        Some((atomic, ..)) => atomic,
-        None => 0,
-    };
-    let thing = scene.world.thing(atomic);
-    writeln!(
-        out,
-        "  thread {thread} is about to read {thing}: two of its last seven stores have equal places\n  in the modification order, so which of them is later can't be said"
-    )
+pub(crate) fn put_equal_orders(out: &mut Page, scene: Scene<'_>) {
+    out.thread("  ", scene.at.thread);
+    out.thing(" is about to read ", target(scene));
+    out.words(
+        ": two of its last seven stores have equal places\n  in the modification order, so which of them is later can't be said\n",
+    );
 }

@@ -1,38 +1,27 @@
 //! A thread's own values, values that are made once a run, and second waiters.
-use crate::text::reasons::Scene;
-use loom_objects::operation::{LazyOp, LocalOp, NotifyOp, Op, ThreadOp, WakerOp};
-use std::alloc::AllocError;
+use crate::text::page::Page;
+use crate::text::reasons::{Scene, Sought};
+use loom_objects::operation::{LazyOp, LocalOp, NotifyOp, Op, WakerOp};
 
 /// A value that is made once was used after main had finished.
-pub(crate) fn put_shutdown(out: &mut String, scene: Scene<'_>) -> Result<(), AllocError> {
-    let thread = scene.at.thread;
+pub(crate) fn put_shutdown(out: &mut Page, scene: Scene<'_>) {
     let key = match scene.op() {
         Some(Op::Lazy(LazyOp::Get(key) | LazyOp::Init(key, _), _)) => *key,
         _ => 0,
     };
-    write!(
-        out,
-        "  thread {thread} uses lazy value {key}, and main has given these values back"
-    )?;
-    let finished = scene.explanation.events.iter().position(|event| event.thread == 0
-        && matches!(event.op, Op::Thread(ThreadOp::Finish(_), _)));
-    put_since(out, ", when it finished at event ", finished)?;
-    out.push_str("  main is to join the threads that use them before it finishes\n")
+    out.thread("  ", scene.at.thread);
+    out.number(" uses lazy value ", key);
+    out.words(", and main has given these values back");
+    put_earlier(out, scene, ", when it finished at ", Sought::Finish);
+    out.words("  main is to join the threads that use them before it finishes\n");
 }
 
-/// The event of this place, from 0, after words, and the line's end.
-fn put_since(
-    out: &mut String,
-    words: &'static str,
-    place: Option<usize>,
-) -> Result<(), AllocError> {
-    match place {
-        Some(place) => {
-            let number = place.saturating_add(1);
-            writeln!(out, "{words}{number}")
-        }
-        None => out.push_str("\n"),
+/// The event that is sought, after words, and the line's end.
+fn put_earlier(out: &mut Page, scene: Scene<'_>, words: &str, sought: Sought) {
+    if let Some(number) = scene.earlier(sought) {
+        out.event(words, number);
     }
+    out.words("\n");
 }
 
 fn local_key(op: Option<&Op<(), ()>>) -> usize {
@@ -51,38 +40,24 @@ fn local_key(op: Option<&Op<(), ()>>) -> usize {
 }
 
 /// A thread's own value was used after the thread had given it back.
-pub(crate) fn put_gone(out: &mut String, scene: Scene<'_>) -> Result<(), AllocError> {
+pub(crate) fn put_gone(out: &mut Page, scene: Scene<'_>) {
     let thread = scene.at.thread;
-    let key = local_key(scene.op());
-    write!(
-        out,
-        "  thread {thread} uses its local {key}, and has given its own values back"
-    )?;
-    let left = scene.explanation.events.iter().position(|event| event.thread == thread
-        && matches!(event.op, Op::Thread(ThreadOp::Exit, _)));
-    put_since(out, ", by `exit` at event ", left)?;
-    out.push_str("  `try_with` tells whether the value is still there\n")
+    out.thread("  ", thread);
+    out.number(" uses its local ", local_key(scene.op()));
+    out.words(", and has given its own values back");
+    put_earlier(out, scene, ", by `exit` at ", Sought::Exit(thread));
+    out.words("  `try_with` tells whether the value is still there\n");
 }
 
 /// A key has a value already.
-pub(crate) fn put_taken(out: &mut String, scene: Scene<'_>) -> Result<(), AllocError> {
+pub(crate) fn put_taken(out: &mut Page, scene: Scene<'_>) {
     let thread = scene.at.thread;
     let key = local_key(scene.op());
-    write!(out, "  thread {thread} makes its local {key} a second time")?;
-    let made = scene
-        .explanation
-        .events
-        .iter()
-        .position(|event| event.thread == thread && is_init(&event.op, key));
-    put_since(out, ", after event ", made)?;
-    out.push_str("  `put` gives another value to a key that has one\n")
-}
-
-fn is_init(op: &Op<(), ()>, key: usize) -> bool {
-    match op {
-        Op::Local(LocalOp::Init(other, _), _) => *other == key,
-        _ => false,
-    }
+    out.thread("  ", thread);
+    out.number(" makes its local ", key);
+    out.words(" a second time");
+    put_earlier(out, scene, ", after ", Sought::Init(thread, key));
+    out.words("  `put` gives another value to a key that has one\n");
 }
 
 /// Which notifier the operation waits on.
@@ -96,17 +71,15 @@ fn waited_on(op: Option<&Op<(), ()>>) -> Option<usize> {
 }
 
 /// A second thread waits on a notifier.
-pub(crate) fn put_second_waiter(out: &mut String, scene: Scene<'_>) -> Result<(), AllocError> {
-    let thread = scene.at.thread;
+pub(crate) fn put_second_waiter(out: &mut Page, scene: Scene<'_>) {
     let number = waited_on(scene.op()).unwrap_or(0);
-    let thing = scene.world.thing(number);
-    write!(
-        out,
-        "  thread {thread} is to wait on {thing}, and one thread may at a time\n"
-    )?;
-    match first_waiter(scene, number) {
-        Some((other, event)) => writeln!(out, "  thread {other} waits on it since event {event}"),
-        None => Ok(()),
+    out.thread("  ", scene.at.thread);
+    out.thing(" is to wait on ", scene.world.thing(number));
+    out.words(", and one thread may at a time\n");
+    if let Some((other, event)) = first_waiter(scene, number) {
+        out.thread("  ", other);
+        out.event(" waits on it since ", event);
+        out.words("\n");
     }
 }
 
