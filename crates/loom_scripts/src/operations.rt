@@ -12,206 +12,245 @@ use loom_objects::operation::{
 };
 use std::alloc::AllocError;
 
+// Answers the operation that is made of the object in the slot and of the rest, if there is an object.
+macro_rules! on {
+    ($state:expr, $slot:expr, $kind:ident::$variant:ident $(, $rest:expr)*) => {
+        if let Some(number) = $state.object($slot) {
+            return Some($kind::$variant(number $(, $rest)*));
+        }
+    };
+}
+
 impl State {
     /// The operation of an atomic. Without a handle in the slot there is none; so it is with the others.
     pub(crate) fn atomic_op(&self, op: AtomicOp) -> Option<AtomicOp>
         ensures { result ≡ atomic_op self.now op }
     {
-        Some(match op {
-            AtomicOp::New(numbers, number) => AtomicOp::New(numbers, number),
-            AtomicOp::Load(slot, order) => AtomicOp::Load(self.object(slot)?, order),
-            AtomicOp::Store(slot, number, order) => {
-                AtomicOp::Store(self.object(slot)?, number, order)
-            }
-            AtomicOp::Update(slot, change, order) => {
-                AtomicOp::Update(self.object(slot)?, change, order)
-            }
-            AtomicOp::CompareExchange(slot, exchange) => {
-                AtomicOp::CompareExchange(self.object(slot)?, exchange)
-            }
-            AtomicOp::CompareAndSwap(slot, expected, new, order) => {
-                AtomicOp::CompareAndSwap(self.object(slot)?, expected, new, order)
-            }
-            AtomicOp::UnsyncLoad(slot) => AtomicOp::UnsyncLoad(self.object(slot)?),
-            AtomicOp::IntoInner(slot) => AtomicOp::IntoInner(self.object(slot)?),
-            AtomicOp::WithMut(slot) => AtomicOp::WithMut(self.object(slot)?),
-            AtomicOp::WithMutEnd(slot, number) => {
-                AtomicOp::WithMutEnd(self.object(slot)?, number)
-            }
-        })
+        match op {
+            AtomicOp::New(numbers, number) => return Some(AtomicOp::New(numbers, number)),
+            AtomicOp::Load(slot, order) => on!(self, slot, AtomicOp::Load, order),
+            AtomicOp::Store(slot, number, order) => on!(self, slot, AtomicOp::Store, number, order),
+            AtomicOp::Update(slot, change, order) => on!(
+                self,
+                slot,
+                AtomicOp::Update,
+                change,
+                order
+            ),
+            AtomicOp::CompareExchange(slot, exchange) => on!(
+                self,
+                slot,
+                AtomicOp::CompareExchange,
+                exchange
+            ),
+            AtomicOp::CompareAndSwap(slot, expected, new, order) => on!(
+                self,
+                slot,
+                AtomicOp::CompareAndSwap,
+                expected,
+                new,
+                order
+            ),
+            AtomicOp::UnsyncLoad(slot) => on!(self, slot, AtomicOp::UnsyncLoad),
+            AtomicOp::IntoInner(slot) => on!(self, slot, AtomicOp::IntoInner),
+            AtomicOp::WithMut(slot) => on!(self, slot, AtomicOp::WithMut),
+            AtomicOp::WithMutEnd(slot, number) => on!(self, slot, AtomicOp::WithMutEnd, number),
+        }
+        None
     }
 
     /// The operation of a cell.
     pub(crate) fn cell_op(&self, op: &CellOp<Value>) -> Option<CellOp<Number>>
         ensures { result ≡ cell_op self.now op.now }
     {
-        Some(match op {
-            CellOp::New(value) => CellOp::New(self.data_of(*value)),
-            CellOp::Read(slot) => CellOp::Read(self.object(*slot)?),
-            CellOp::ReadEnd(slot) => CellOp::ReadEnd(self.object(*slot)?),
-            CellOp::Deref(slot) => CellOp::Deref(self.object(*slot)?),
-            CellOp::Write(slot) => CellOp::Write(self.object(*slot)?),
-            CellOp::WriteEnd(slot, value) => {
-                CellOp::WriteEnd(self.object(*slot)?, self.data_of(*value))
+        match op {
+            CellOp::New(value) => return Some(CellOp::New(self.data_of(*value))),
+            CellOp::Read(slot) => on!(self, *slot, CellOp::Read),
+            CellOp::ReadEnd(slot) => on!(self, *slot, CellOp::ReadEnd),
+            CellOp::Deref(slot) => on!(self, *slot, CellOp::Deref),
+            CellOp::Write(slot) => on!(self, *slot, CellOp::Write),
+            CellOp::WriteEnd(slot, value) => on!(
+                self,
+                *slot,
+                CellOp::WriteEnd,
+                self.data_of(*value)
+            ),
+            CellOp::IntoInner(slot) => on!(self, *slot, CellOp::IntoInner),
+            CellOp::Get(slot) => on!(self, *slot, CellOp::Get),
+            CellOp::Replace(slot, value) => on!(self, *slot, CellOp::Replace, self.data_of(*value)),
+            CellOp::Swap(one, other) => {
+                if let (Some(one), Some(other)) = (self.object(*one), self.object(*other)) {
+                    return Some(CellOp::Swap(one, other));
+                }
             }
-            CellOp::IntoInner(slot) => CellOp::IntoInner(self.object(*slot)?),
-            CellOp::Get(slot) => CellOp::Get(self.object(*slot)?),
-            CellOp::Replace(slot, value) => {
-                CellOp::Replace(self.object(*slot)?, self.data_of(*value))
-            }
-            CellOp::Swap(one, other) => CellOp::Swap(self.object(*one)?, self.object(*other)?),
-        })
+        }
+        None
     }
 
     /// The operation of a counted reference.
     pub(crate) fn arc_op(&self, op: &ArcOp<Value>) -> Option<ArcOp<Number>>
         ensures { result ≡ arc_op self.now op.now }
     {
-        Some(match op {
-            ArcOp::New(value) => ArcOp::New(self.data_of(*value)),
-            ArcOp::Clone(slot) => ArcOp::Clone(self.object(*slot)?),
-            ArcOp::Drop(slot) => ArcOp::Drop(self.object(*slot)?),
-            ArcOp::Get(slot) => ArcOp::Get(self.object(*slot)?),
-            ArcOp::GetMut(slot) => ArcOp::GetMut(self.object(*slot)?),
-            ArcOp::Put(slot, value) => ArcOp::Put(self.object(*slot)?, self.data_of(*value)),
-            ArcOp::TryUnwrap(slot) => ArcOp::TryUnwrap(self.object(*slot)?),
-            ArcOp::StrongCount(slot) => ArcOp::StrongCount(self.object(*slot)?),
-        })
+        match op {
+            ArcOp::New(value) => return Some(ArcOp::New(self.data_of(*value))),
+            ArcOp::Clone(slot) => on!(self, *slot, ArcOp::Clone),
+            ArcOp::Drop(slot) => on!(self, *slot, ArcOp::Drop),
+            ArcOp::Get(slot) => on!(self, *slot, ArcOp::Get),
+            ArcOp::GetMut(slot) => on!(self, *slot, ArcOp::GetMut),
+            ArcOp::Put(slot, value) => on!(self, *slot, ArcOp::Put, self.data_of(*value)),
+            ArcOp::TryUnwrap(slot) => on!(self, *slot, ArcOp::TryUnwrap),
+            ArcOp::StrongCount(slot) => on!(self, *slot, ArcOp::StrongCount),
+        }
+        None
     }
 
     /// The operation of a tracked value.
     pub(crate) fn track_op(&self, op: &TrackOp<Value>) -> Option<TrackOp<Number>>
         ensures { result ≡ track_op self.now op.now }
     {
-        Some(match op {
-            TrackOp::New(value) => TrackOp::New(self.data_of(*value)),
-            TrackOp::GetRef(slot) => TrackOp::GetRef(self.object(*slot)?),
-            TrackOp::GetMut(slot) => TrackOp::GetMut(self.object(*slot)?),
-            TrackOp::Put(slot, value) => { TrackOp::Put(self.object(*slot)?, self.data_of(*value)) }
-            TrackOp::IntoInner(slot) => TrackOp::IntoInner(self.object(*slot)?),
-            TrackOp::Drop(slot) => TrackOp::Drop(self.object(*slot)?),
-        })
+        match op {
+            TrackOp::New(value) => return Some(TrackOp::New(self.data_of(*value))),
+            TrackOp::GetRef(slot) => on!(self, *slot, TrackOp::GetRef),
+            TrackOp::GetMut(slot) => on!(self, *slot, TrackOp::GetMut),
+            TrackOp::Put(slot, value) => on!(self, *slot, TrackOp::Put, self.data_of(*value)),
+            TrackOp::IntoInner(slot) => on!(self, *slot, TrackOp::IntoInner),
+            TrackOp::Drop(slot) => on!(self, *slot, TrackOp::Drop),
+        }
+        None
     }
 
     /// The operation of a mutex.
     pub(crate) fn mutex_op(&self, op: &MutexOp<Value>) -> Option<MutexOp<Number>>
         ensures { result ≡ mutex_op self.now op.now }
     {
-        Some(match op {
-            MutexOp::New(value) => MutexOp::New(self.data_of(*value)),
-            MutexOp::Lock(slot) => MutexOp::Lock(self.object(*slot)?),
-            MutexOp::TryLock(slot) => MutexOp::TryLock(self.object(*slot)?),
-            MutexOp::Release(slot, value) => {
-                MutexOp::Release(self.object(*slot)?, self.data_of(*value))
-            }
-            MutexOp::GetMut(slot) => MutexOp::GetMut(self.object(*slot)?),
-            MutexOp::Put(slot, value) => { MutexOp::Put(self.object(*slot)?, self.data_of(*value)) }
-            MutexOp::IntoInner(slot) => MutexOp::IntoInner(self.object(*slot)?),
-        })
+        match op {
+            MutexOp::New(value) => return Some(MutexOp::New(self.data_of(*value))),
+            MutexOp::Lock(slot) => on!(self, *slot, MutexOp::Lock),
+            MutexOp::TryLock(slot) => on!(self, *slot, MutexOp::TryLock),
+            MutexOp::Release(slot, value) => on!(
+                self,
+                *slot,
+                MutexOp::Release,
+                self.data_of(*value)
+            ),
+            MutexOp::GetMut(slot) => on!(self, *slot, MutexOp::GetMut),
+            MutexOp::Put(slot, value) => on!(self, *slot, MutexOp::Put, self.data_of(*value)),
+            MutexOp::IntoInner(slot) => on!(self, *slot, MutexOp::IntoInner),
+        }
+        None
     }
 
     /// The operation of a read-write lock.
     pub(crate) fn rwlock_op(&self, op: &RwLockOp<Value>) -> Option<RwLockOp<Number>>
         ensures { result ≡ rwlock_op self.now op.now }
     {
-        Some(match op {
-            RwLockOp::New(value) => RwLockOp::New(self.data_of(*value)),
-            RwLockOp::Read(slot) => RwLockOp::Read(self.object(*slot)?),
-            RwLockOp::TryRead(slot) => RwLockOp::TryRead(self.object(*slot)?),
-            RwLockOp::ReadRelease(slot) => RwLockOp::ReadRelease(self.object(*slot)?),
-            RwLockOp::Write(slot) => RwLockOp::Write(self.object(*slot)?),
-            RwLockOp::TryWrite(slot) => RwLockOp::TryWrite(self.object(*slot)?),
-            RwLockOp::WriteRelease(slot, value) => {
-                RwLockOp::WriteRelease(self.object(*slot)?, self.data_of(*value))
-            }
-            RwLockOp::GetMut(slot) => RwLockOp::GetMut(self.object(*slot)?),
-            RwLockOp::Put(slot, value) => {
-                RwLockOp::Put(self.object(*slot)?, self.data_of(*value))
-            }
-            RwLockOp::IntoInner(slot) => RwLockOp::IntoInner(self.object(*slot)?),
-        })
+        match op {
+            RwLockOp::New(value) => return Some(RwLockOp::New(self.data_of(*value))),
+            RwLockOp::Read(slot) => on!(self, *slot, RwLockOp::Read),
+            RwLockOp::TryRead(slot) => on!(self, *slot, RwLockOp::TryRead),
+            RwLockOp::ReadRelease(slot) => on!(self, *slot, RwLockOp::ReadRelease),
+            RwLockOp::Write(slot) => on!(self, *slot, RwLockOp::Write),
+            RwLockOp::TryWrite(slot) => on!(self, *slot, RwLockOp::TryWrite),
+            RwLockOp::WriteRelease(slot, value) => on!(
+                self,
+                *slot,
+                RwLockOp::WriteRelease,
+                self.data_of(*value)
+            ),
+            RwLockOp::GetMut(slot) => on!(self, *slot, RwLockOp::GetMut),
+            RwLockOp::Put(slot, value) => on!(self, *slot, RwLockOp::Put, self.data_of(*value)),
+            RwLockOp::IntoInner(slot) => on!(self, *slot, RwLockOp::IntoInner),
+        }
+        None
     }
 
     /// The operation of a condition variable.
     pub(crate) fn condvar_op(&self, op: &CondvarOp<Value>) -> Option<CondvarOp<Number>>
         ensures { result ≡ condvar_op self.now op.now }
     {
-        Some(match op {
-            CondvarOp::New => CondvarOp::New,
-            CondvarOp::Wait(slot, mutex, value) => CondvarOp::Wait(
-                self.object(*slot)?,
-                self.object(*mutex)?,
-                self.data_of(*value),
-            ),
-            CondvarOp::WaitTimeout(slot, mutex, value) => CondvarOp::WaitTimeout(
-                self.object(*slot)?,
-                self.object(*mutex)?,
-                self.data_of(*value),
-            ),
-            CondvarOp::NotifyOne(slot) => CondvarOp::NotifyOne(self.object(*slot)?),
-            CondvarOp::NotifyAll(slot) => CondvarOp::NotifyAll(self.object(*slot)?),
-        })
+        match op {
+            CondvarOp::New => return Some(CondvarOp::New),
+            CondvarOp::Wait(slot, mutex, value) => {
+                if let (Some(slot), Some(mutex)) = (self.object(*slot), self.object(*mutex)) {
+                    return Some(CondvarOp::Wait(slot, mutex, self.data_of(*value)));
+                }
+            }
+            CondvarOp::WaitTimeout(slot, mutex, value) => {
+                if let (Some(slot), Some(mutex)) = (self.object(*slot), self.object(*mutex)) {
+                    return Some(CondvarOp::WaitTimeout(slot, mutex, self.data_of(*value)));
+                }
+            }
+            CondvarOp::NotifyOne(slot) => on!(self, *slot, CondvarOp::NotifyOne),
+            CondvarOp::NotifyAll(slot) => on!(self, *slot, CondvarOp::NotifyAll),
+        }
+        None
     }
 
     /// The operation of a notifier.
     pub(crate) fn notify_op(&self, op: NotifyOp) -> Option<NotifyOp>
         ensures { result ≡ notify_op self.now op }
     {
-        Some(match op {
-            NotifyOp::New => NotifyOp::New,
-            NotifyOp::Notify(slot) => NotifyOp::Notify(self.object(slot)?),
-            NotifyOp::Wait(slot) => NotifyOp::Wait(self.object(slot)?),
-        })
+        match op {
+            NotifyOp::New => return Some(NotifyOp::New),
+            NotifyOp::Notify(slot) => on!(self, slot, NotifyOp::Notify),
+            NotifyOp::Wait(slot) => on!(self, slot, NotifyOp::Wait),
+        }
+        None
     }
 
     /// The operation of a channel.
     pub(crate) fn channel_op(&self, op: &ChannelOp<Value>) -> Option<ChannelOp<Number>>
         ensures { result ≡ channel_op self.now op.now }
     {
-        Some(match op {
-            ChannelOp::New => ChannelOp::New,
-            ChannelOp::Send(slot, value) => {
-                ChannelOp::Send(self.object(*slot)?, self.data_of(*value))
-            }
-            ChannelOp::Recv(slot) => ChannelOp::Recv(self.object(*slot)?),
-            ChannelOp::TryRecv(slot) => ChannelOp::TryRecv(self.object(*slot)?),
-            ChannelOp::CloneSender(slot) => ChannelOp::CloneSender(self.object(*slot)?),
-            ChannelOp::DropSender(slot) => ChannelOp::DropSender(self.object(*slot)?),
-            ChannelOp::DropReceiver(slot) => ChannelOp::DropReceiver(self.object(*slot)?),
-        })
+        match op {
+            ChannelOp::New => return Some(ChannelOp::New),
+            ChannelOp::Send(slot, value) => on!(self, *slot, ChannelOp::Send, self.data_of(*value)),
+            ChannelOp::Recv(slot) => on!(self, *slot, ChannelOp::Recv),
+            ChannelOp::TryRecv(slot) => on!(self, *slot, ChannelOp::TryRecv),
+            ChannelOp::CloneSender(slot) => on!(self, *slot, ChannelOp::CloneSender),
+            ChannelOp::DropSender(slot) => on!(self, *slot, ChannelOp::DropSender),
+            ChannelOp::DropReceiver(slot) => on!(self, *slot, ChannelOp::DropReceiver),
+        }
+        None
     }
 
     /// The operation of a future's notifier, or of its wakers.
     pub(crate) fn waker_op(&self, op: WakerOp) -> Option<WakerOp>
         ensures { result ≡ waker_op self.now op }
     {
-        Some(match op {
-            WakerOp::New => WakerOp::New,
-            WakerOp::Wait(slot) => WakerOp::Wait(self.object(slot)?),
-            WakerOp::Finish(slot) => WakerOp::Finish(self.object(slot)?),
-            WakerOp::Clone(slot) => WakerOp::Clone(self.object(slot)?),
-            WakerOp::Wake(slot) => WakerOp::Wake(self.object(slot)?),
-            WakerOp::WakeByRef(slot) => WakerOp::WakeByRef(self.object(slot)?),
-            WakerOp::Drop(slot) => WakerOp::Drop(self.object(slot)?),
-        })
+        match op {
+            WakerOp::New => return Some(WakerOp::New),
+            WakerOp::Wait(slot) => on!(self, slot, WakerOp::Wait),
+            WakerOp::Finish(slot) => on!(self, slot, WakerOp::Finish),
+            WakerOp::Clone(slot) => on!(self, slot, WakerOp::Clone),
+            WakerOp::Wake(slot) => on!(self, slot, WakerOp::Wake),
+            WakerOp::WakeByRef(slot) => on!(self, slot, WakerOp::WakeByRef),
+            WakerOp::Drop(slot) => on!(self, slot, WakerOp::Drop),
+        }
+        None
     }
 
     /// The operation of a place for a waker.
     pub(crate) fn place_op(&self, op: AtomicWakerOp) -> Option<AtomicWakerOp>
         ensures { result ≡ place_op self.now op }
     {
-        Some(match op {
-            AtomicWakerOp::New => AtomicWakerOp::New,
+        match op {
+            AtomicWakerOp::New => return Some(AtomicWakerOp::New),
             AtomicWakerOp::Register(slot, waker) => {
-                AtomicWakerOp::Register(self.object(slot)?, self.object(waker)?)
+                if let (Some(slot), Some(waker)) = (self.object(slot), self.object(waker)) {
+                    return Some(AtomicWakerOp::Register(slot, waker));
+                }
             }
             AtomicWakerOp::RegisterByRef(slot, waker) => {
-                AtomicWakerOp::RegisterByRef(self.object(slot)?, self.object(waker)?)
+                if let (Some(slot), Some(waker)) = (self.object(slot), self.object(waker)) {
+                    return Some(AtomicWakerOp::RegisterByRef(slot, waker));
+                }
             }
-            AtomicWakerOp::Wake(slot) => AtomicWakerOp::Wake(self.object(slot)?),
-            AtomicWakerOp::TakeWaker(slot) => AtomicWakerOp::TakeWaker(self.object(slot)?),
-            AtomicWakerOp::Drop(slot) => AtomicWakerOp::Drop(self.object(slot)?),
-        })
+            AtomicWakerOp::Wake(slot) => on!(self, slot, AtomicWakerOp::Wake),
+            AtomicWakerOp::TakeWaker(slot) => on!(self, slot, AtomicWakerOp::TakeWaker),
+            AtomicWakerOp::Drop(slot) => on!(self, slot, AtomicWakerOp::Drop),
+        }
+        None
     }
 
     /// The operation of a thread's own values. A step has the key itself; so it is with values that are made once.

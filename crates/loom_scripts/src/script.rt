@@ -1,14 +1,15 @@
 //! Bodies that take one step of a list after another.
-ghost use Rattle.std.specs.Prelude.{◌≡◌, Some, IfOk};
-ghost use Rattle.loom_scripts.specs.Running.{landing, spawned, started};
-ghost use Rattle.loom_scripts.specs.Script.{fetched_after, next_of, operation, operation_at, spawn_at, step_operation, store};
-ghost use Rattle.loom_scripts.specs.Slots.{kept};
+ghost use Rattle.std.specs.Prelude.{◌≡◌, IfOk, option_copied};
+ghost use Rattle.loom_objects.specs.declared.operation.Op.TheVariants as ops;
+ghost use Rattle.loom_scripts.specs.Running.{spawned, started};
+ghost use Rattle.loom_scripts.specs.Script.{next_of, operation, spawn_at, step_operation, store};
 
 use crate::number::Number;
 use crate::state::{State, place_of};
 use crate::step::{Step, Value};
 use loom_objects::body::Body;
 use loom_objects::operation::{AtomicOp, Op, Reply, ThreadOp};
+use loom_parts::label::Label;
 use std::alloc::{AllocError, Global};
 use std::marker::Model;
 use std::sync::atomic::Ordering;
@@ -29,12 +30,11 @@ impl Model for Script {
     ghost view = { λ script. record { steps = script.steps.now; state = script.state.value } };
 }
 
-// The operation that is made of this one. Where a slot keeps no such handle there is none, and the step fails.
-macro_rules! made_or_fails {
-    ($made:expr, $kind:ident, $place:expr) => {
-        match $made {
-            Some(op) => Op::$kind(op, *$place),
-            None => Op::Fail(None),
+// Answers the operation that is made of this one, if its slots keep such handles.
+macro_rules! answer_made {
+    ($made:expr, $kind:ident, $label:expr) => {
+        if let Some(op) = $made {
+            return Ok(Op::$kind(op, *$label));
         }
     };
 }
@@ -67,15 +67,6 @@ impl Script {
         &*self.state
     }
 
-    // Keeps what the reply tells, goes behind the next step, and answers where that stands.
-    fn goes_on(&mut self, reply: &Reply<Number>) -> usize
-        ensures place { result ≡ landing self.old.steps (kept self.old.state reply.now) }
-        ensures moved { self.new ≡ fetched_after self.old reply.now }
-    {
-        self.state.keep(reply);
-        self.state.fetch(self.steps)
-    }
-
     // A thread that begins at this step, with the numbers and handles of this one.
     pub(crate) fn child(&self, at: usize) -> Result<Script, AllocError>
         ensures { IfOk result (λ script. script ≡ spawned self.now at) }
@@ -88,27 +79,41 @@ impl Script {
         ensures { IfOk result (λ made. made ≡ operation self.now op.now) }
     {
         let state = self.state();
-        let made = match op {
-            Op::Atomic(op, place) => made_or_fails!(state.atomic_op(*op), Atomic, place),
-            Op::Fence(order, place) => Op::Fence(*order, *place),
-            Op::Cell(op, place) => made_or_fails!(state.cell_op(op), Cell, place),
-            Op::Arc(op, place) => made_or_fails!(state.arc_op(op), Arc, place),
-            Op::Track(op, place) => made_or_fails!(state.track_op(op), Track, place),
-            Op::Mutex(op, place) => made_or_fails!(state.mutex_op(op), Mutex, place),
-            Op::RwLock(op, place) => made_or_fails!(state.rwlock_op(op), RwLock, place),
-            Op::Condvar(op, place) => made_or_fails!(state.condvar_op(op), Condvar, place),
-            Op::Notify(op, place) => made_or_fails!(state.notify_op(*op), Notify, place),
-            Op::Channel(op, place) => made_or_fails!(state.channel_op(op), Channel, place),
-            Op::Waker(op, place) => made_or_fails!(state.waker_op(*op), Waker, place),
-            Op::AtomicWaker(op, place) => made_or_fails!(state.place_op(*op), AtomicWaker, place),
-            Op::Local(op, place) => Op::Local(state.local_op(op), *place),
-            Op::Lazy(op, place) => Op::Lazy(state.lazy_op(op), *place),
-            Op::Explore(op, place) => Op::Explore(*op, *place),
-            Op::Thread(op, place) => made_or_fails!(self.thread_op(op)?, Thread, place),
-            Op::Fail(place) => Op::Fail(*place),
-            Op::Unreachable(place) => Op::Unreachable(*place),
-        };
-        Ok(made)
+        match op {
+            Op::Atomic(op, label) => answer_made!(state.atomic_op(*op), Atomic, label),
+            Op::Fence(order, label) => return Ok(Op::Fence(*order, *label)),
+            Op::Cell(op, label) => answer_made!(state.cell_op(op), Cell, label),
+            Op::Arc(op, label) => answer_made!(state.arc_op(op), Arc, label),
+            Op::Track(op, label) => answer_made!(state.track_op(op), Track, label),
+            Op::Mutex(op, label) => answer_made!(state.mutex_op(op), Mutex, label),
+            Op::RwLock(op, label) => answer_made!(state.rwlock_op(op), RwLock, label),
+            Op::Condvar(op, label) => answer_made!(state.condvar_op(op), Condvar, label),
+            Op::Notify(op, label) => answer_made!(state.notify_op(*op), Notify, label),
+            Op::Channel(op, label) => answer_made!(state.channel_op(op), Channel, label),
+            Op::Waker(op, label) => answer_made!(state.waker_op(*op), Waker, label),
+            Op::AtomicWaker(op, label) => answer_made!(state.place_op(*op), AtomicWaker, label),
+            Op::Local(op, label) => return Ok(Op::Local(state.local_op(op), *label)),
+            Op::Lazy(op, label) => return Ok(Op::Lazy(state.lazy_op(op), *label)),
+            Op::Explore(op, label) => return Ok(Op::Explore(*op, *label)),
+            Op::Thread(op, label) => return self.thread_operation(op, *label),
+            Op::Fail(label) => return Ok(Op::Fail(*label)),
+            Op::Unreachable(label) => return Ok(Op::Unreachable(*label)),
+        }
+        Ok(Op::Fail(None))
+    }
+
+    /// The operation of threads. Where a slot keeps no such handle the step fails.
+    fn thread_operation(
+        &self,
+        op: &ThreadOp<Value, usize>,
+        label: Option<Label>,
+    ) -> Result<Op<Number, Script>, AllocError>
+        ensures { IfOk result (λ made. made ≡ operation self.now (ops.Thread op.now label)) }
+    {
+        match self.thread_op(op)? {
+            Some(op) => Ok(Op::Thread(op, label)),
+            None => Ok(Op::Fail(None)),
+        }
     }
 
     /// The store of the value into the atomic in the slot.
@@ -132,33 +137,25 @@ impl Script {
         Ok(Op::Thread(ThreadOp::Spawn(child, None), None))
     }
 
-    /// The operation of the step. A jump and a label have none: there it fails.
-    fn step_operation(&self, step: &Step) -> Result<Op<Number, Script>, AllocError>
-        ensures { IfOk result (λ made. made ≡ step_operation self.now (Some step.now)) }
+    /// The operation of the step. Beyond the script's end, and where a jump leads to a jump or past a label to another one, it
+    /// fails.
+    fn step_operation(&self, step: Option<&Step>) -> Result<Op<Number, Script>, AllocError>
+        ensures { IfOk result (λ made. made ≡ step_operation self.now (option_copied step.entry)) }
     {
         match step {
-            Step::Do(_, op) => self.operation(op),
-            Step::Store(slot, value, order) => Ok(self.store(*slot, *value, *order)),
-            Step::SpawnAt(_, name) => self.spawn_at(name),
-            Step::Jump(_)
-            | Step::Unless(..)
-            | Step::Label(_)
-            | Step::JumpTo(_)
-            | Step::IfTo(..)
-            | Step::UnlessTo(..) => Ok(Op::Fail(None)),
+            Some(Step::Do(_, op)) => self.operation(op),
+            Some(Step::Store(slot, value, order)) => Ok(self.store(*slot, *value, *order)),
+            Some(Step::SpawnAt(_, name)) => self.spawn_at(name),
+            Some(
+                Step::Jump(_)
+                | Step::Unless(..)
+                | Step::Label(_)
+                | Step::JumpTo(_)
+                | Step::IfTo(..)
+                | Step::UnlessTo(..),
+            )
+            | None => Ok(Op::Fail(None)),
         }
-    }
-
-    /// The operation of the step at this place. Beyond the script's end, and where a jump leads to a jump or past a label to
-    /// another one, it fails.
-    fn operation_at(&self, place: usize) -> Result<Op<Number, Script>, AllocError>
-        ensures { IfOk result (λ made. made ≡ operation_at self.now place) }
-    {
-        let steps = self.steps;
-        if place >= steps.len() {
-            return Ok(Op::Fail(None));
-        }
-        self.step_operation(&steps[place])
     }
 }
 
@@ -170,8 +167,9 @@ impl Body for Script {
     fn resume(&mut self, reply: Reply<Number>) -> Result<Op<Number, Script>, AllocError>
         ensures { IfOk result (λ op. (self.new, op) ≡ next_of self.old reply) }
     {
-        let place = self.goes_on(&reply);
-        self.operation_at(place)
+        self.state.keep(&reply);
+        let step = self.state.fetch(self.steps);
+        self.step_operation(step)
     }
 
     fn try_clone(&self) -> Result<Script, AllocError>

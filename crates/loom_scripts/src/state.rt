@@ -1,12 +1,13 @@
 //! How far a thread of a script is, and what it keeps.
-ghost use Rattle.std.specs.Prelude.{◌≡◌, ◌<◌, ◌==◌, length};
-ghost use Rattle.loom_scripts.specs.Running.{at_first, child, fetched, goes_on_at, is_label, keep_of, label_at, landing, past_label, place_of};
+ghost use Rattle.std.specs.Prelude.{◌≡◌, ◌<◌, ◌==◌, length, option_copied, slice_get};
+ghost use Rattle.loom_scripts.specs.Running.{at_first, behind, child, fetched, goes_on_at, is_label, keep_of, label_at, landing, past_label, place_of};
 ghost use Rattle.loom_scripts.specs.Slots.{data_of, digits, handle_at, held, kept, lazy_digits, local_digits, name_number, notifier, number_of, object, put_handle, put_number, thread, told_by, with_digit};
 
 use crate::number::Number;
 use crate::step::{Step, Value};
 use loom_objects::operation::{Keyed, Lazy, Reply};
 use loom_objects::rt::thread::Name;
+use loom_registers::registers;
 use std::collections::LinkedList;
 
 // The last register.
@@ -110,18 +111,14 @@ impl State {
     fn held(&self, register: usize) -> u64
         ensures { result ≡ held self.now register }
     {
-        if register < self.registers.len() {
-            self.registers[register]
-        } else {
-            0
-        }
+        registers::held(&self.registers, register)
     }
 
     /// Whether the register holds this number.
     fn has(&self, register: usize, number: u64) -> bool
         ensures { result ≡ (held self.now register == number) }
     {
-        self.held(register) == number
+        registers::has(&self.registers, register, number)
     }
 
     /// The number that the value stands for.
@@ -221,27 +218,42 @@ impl State {
         }
     }
 
-    /// Where the next of the steps stands, behind a jump and a label.
-    fn landing(&self, steps: &[Step]) -> usize
-        ensures { result ≡ landing steps.now self.now }
-    {
-        if self.at >= steps.len() {
-            return self.at;
-        }
-        past_label(steps, self.goes_on_at(steps, &steps[self.at]))
-    }
-
-    /// Goes behind the next of the steps, and answers where that stands.
-    pub(crate) fn fetch(&mut self, steps: &[Step]) -> usize
-        ensures place { result ≡ landing steps.now self.old }
+    /// Goes behind the next of the steps or, where that is a jump or a label, behind the one to which it leads. Answers the step
+    /// behind which it is now, if there is one.
+    pub(crate) fn fetch<'a>(&mut self, steps: &'a [Step]) -> Option<&'a Step>
+        ensures step { option_copied result ≡ slice_get steps.now (landing steps.now self.old) }
         ensures moved { self.new ≡ fetched steps.now self.old }
     {
-        let place = self.landing(steps);
-        if place < steps.len() {
-            self.keep = keep_of(&steps[place]);
-            self.at = place + 1;
+        if self.at >= steps.len() {
+            return None;
         }
-        place
+        let step = &steps[self.at];
+        match step {
+            Step::Do(..) | Step::Store(..) | Step::SpawnAt(..) => self.pass(steps, self.at),
+            Step::Jump(_)
+            | Step::Unless(..)
+            | Step::Label(_)
+            | Step::JumpTo(_)
+            | Step::IfTo(..)
+            | Step::UnlessTo(..) => {
+                let place = self.goes_on_at(steps, step);
+                self.pass(steps, past_label(steps, place))
+            }
+        }
+    }
+
+    /// Goes behind the step at this place, and answers it, if there is one.
+    fn pass<'a>(&mut self, steps: &'a [Step], place: usize) -> Option<&'a Step>
+        ensures step { option_copied result ≡ slice_get steps.now place }
+        ensures moved { self.new ≡ behind self.old place (slice_get steps.now place) }
+    {
+        if place >= steps.len() {
+            return None;
+        }
+        let step = &steps[place];
+        self.at = place + 1;
+        self.keep = keep_of(step);
+        Some(step)
     }
 
     /// The state of a thread that begins at this step, with the numbers and handles of this one.
