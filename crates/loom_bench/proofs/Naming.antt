@@ -3,9 +3,9 @@ use Rattle.std.proofs.Common.{ℕ, ◌≡◌, List, [], ◌∷◌, Bool, true, f
 use Rattle.std.specs.Option.{option_map}
 use Rattle.std.specs.Prelude.{Option, Some, Result, Ok, Err, IfOk}
 use Rattle.std.specs.Str.{bytes_eq}
-use Rattle.loom_bench.specs.declared.bodies.Measured.{Measured}
-use Rattle.loom_bench.specs.Measures.{named_by, body_of, PrintedBody, PrintedNamed}
-use Rattle.loom_bench.specs.Table.{Named, named, all}
+use Rattle.loom_row_tables.specs.declared.measured.Measured.{Measured}
+use Rattle.loom_row_tables.specs.Measured.{Named, named, all, body_of}
+use Rattle.loom_bench.specs.Measures.{named_by, PrintedBody, PrintedNamed}
 
 -- what is chosen of two
 chosen : (b : Bool) (first : Measured) (other : Option Named) (later : Option Measured) → other ≡ option_map named later

@@ -1,3 +1,1 @@
 pub mod Measures
-pub mod Scripts
-pub mod Table

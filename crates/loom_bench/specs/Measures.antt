@@ -1,4 +1,4 @@
--- What the name of a body means, and what is printed of its checks.
+-- What is printed of checks of the body that a name means.
 use Rattle.std.specs.Prelude.{ℕ, ◌≡◌, List, ◌++◌, Option, Some, codes}
 use Rattle.std.specs.Io.KnownBytes.{Appends}
 use Rattle.std.specs.List.{find}
@@ -7,12 +7,8 @@ use Rattle.loom.specs.declared.model.Report.{Report}
 use Rattle.loom_row_bodies.specs.Builders.{builder_of}
 use Rattle.loom_row_bodies.specs.Line.{report_text, status_of}
 use Rattle.loom_row_bodies.specs.Rows.{ReportsScript}
-use Rattle.loom_bench.specs.Table.{Named, all}
-use Rattle.loom_bench.specs.declared.bodies.Measured.{Measured}
-
--- what a name means: the first body of the list that has it
-abbrev pub body_of : List Measured → List ℕ → Option Measured
-body_of bodies name = find (λ body. bytes_eq body.name.now name) bodies
+use Rattle.loom_row_tables.specs.Measured.{Named, all, body_of}
+use Rattle.loom_row_tables.specs.declared.measured.Measured.{Measured}
 
 -- the line that is printed: the name, and the text of a report
 abbrev pub line_of : List ℕ → Report → List ℕ

@@ -1,5 +1,5 @@
-//! Measures checks: prints what each finds, and on standard error how long it took. `bodies` lists what is measured, by name,
-//! with its settings; a word of the command line picks one. It checks the rows of `loom_row_bodies` by `loom`.
+//! Measures checks: prints what each finds, and on standard error how long it took. `loom_row_tables` lists what is measured, by
+//! name, with its settings; a word of the command line picks one. It checks these bodies by `loom`.
 //! docs/BENCHMARKS.md has what it found. Nothing stands on it.
 #![tactic(auto)]
 
@@ -9,11 +9,10 @@ ghost use Rattle.loom_row_bodies.specs.Builders.{builder_of};
 ghost use Rattle.loom_row_bodies.specs.Rows.{ReportsScript};
 ghost use Rattle.loom_bench.specs.Measures.{PrintedBody, PrintedLine, PrintedNamed};
 
-mod bodies;
-
-use crate::bodies::{Measured, all_bodies, body_of};
 use loom::model::Report;
 use loom_row_bodies::line::{self, ShownReport};
+use loom_row_bodies::settings::Builds;
+use loom_row_tables::measured::{Measured, all_bodies, body_of};
 use loom_scripts::script::Script;
 use std::env;
 use std::io::{self, Write};

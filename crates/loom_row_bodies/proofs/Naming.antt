@@ -1,17 +1,18 @@
 -- What is found in the rows is found in the table that they are.
 use Rattle.std.proofs.Common.{ℕ, ◌≡◌, List, [], ◌∷◌, Bool, true, false, map, refl, ap, sym, subst, ◌∙◌, ◌⊎◌, ⊎_elim, inl, inr, cond}
 use Rattle.std.specs.Option.{option_map}
-use Rattle.std.specs.Prelude.{Option, Some}
+use Rattle.std.specs.Prelude.{IfOk, Option, Some, Result, Ok, Err}
 use Rattle.std.specs.List.{find}
 use Rattle.std.specs.Str.{bytes_eq}
 use Rattle.loom.specs.declared.builder.Builder.{Builder}
 use Rattle.loom.specs.declared.model.Report.{Report}
-use Rattle.loom_row_bodies.specs.declared.rows.Checked.{Checked}
-use Rattle.loom_row_bodies.specs.declared.rows.Checked.TheVariants.{Script, Updater}
-use Rattle.loom_row_bodies.specs.declared.rows.Row.{Row}
-use Rattle.loom_row_bodies.specs.Meanings.{Named, meant, named}
-use Rattle.loom_row_bodies.specs.Rows.{row_of, meant_by, named_by, ReportsOf, ReportsMeant, PrintedRow, PrintedNamed}
-use Rattle.loom_row_bodies.specs.Names.{IsTable}
+use Rattle.loom_row_tables.specs.declared.rows.Checked.{Checked}
+use Rattle.loom_row_tables.specs.declared.rows.Checked.TheVariants.{Script, Updater}
+use Rattle.loom_row_tables.specs.declared.rows.Row.{Row}
+use Rattle.loom_row_tables.specs.Meanings.{Named, meant, named}
+use Rattle.loom_row_tables.specs.Rows.{file_in, row_of, meant_by}
+use Rattle.loom_row_bodies.specs.Rows.{named_by, ReportsOf, ReportsMeant, PrintedChecked, PrintedRow, PrintedNamed}
+use Rattle.loom_row_tables.specs.Names.{IsTable}
 
 -- what is chosen of two
 chosen : (b : Bool) (first : Row) (other : Option Named) (later : Option Row) → other ≡ option_map named later
@@ -47,3 +48,12 @@ pub printed_or_not : (rows items : List Row) (words : List (List ℕ)) (old new 
     → IsTable (map named items) → (status ≡ 2) ⊎ PrintedRow rows words old new status → (status ≡ 2) ⊎ PrintedNamed words old new status
 printed_or_not rows items words old new status e t p =
     ⊎_elim inl (λ q. inr (printed_by rows words old new status (subst (λ r. IsTable (map named r)) (sym e) t) q)) p
+
+-- what was printed of a row with a file, where words mean these
+pub printed_meant : {E : Type 0} (rows : List Row) (words : List (List ℕ)) (row : Row) (file : Option (List ℕ)) (old new : Option (List ℕ)) (answer : Result ℕ E)
+    → Some row ≡ meant_by rows words → file ≡ file_in words
+    → IfOk answer (λ status. (status ≡ 2) ⊎ PrintedChecked row.checked row.settings file old new status)
+    → IfOk answer (λ status. (status ≡ 2) ⊎ PrintedRow rows words old new status)
+printed_meant rows words row file old new (Ok status) m f p =
+    ⊎_elim inl (λ q. inr (row, sym m, subst (λ named. PrintedChecked row.checked row.settings named old new status) f q)) p
+printed_meant rows words row file old new (Err e) m f p = p

@@ -1,4 +1,4 @@
--- What the words of the program mean, and what is printed of the check.
+-- What is printed of a check of the row that words mean.
 use Rattle.std.specs.Prelude.{ℕ, ◌≡◌, List, [], ◌∷◌, Option, Some, None}
 use Rattle.std.specs.List.{find}
 use Rattle.std.specs.Str.{bytes_eq}
@@ -12,30 +12,14 @@ use Rattle.loom_scripts.specs.Script as script
 use Rattle.loom_scripts.specs.declared.step.Step.{Step}
 use Rattle.loom_row_bodies.specs.Builders.{IsBuilder}
 use Rattle.loom_row_bodies.specs.Line.{PrintedOf}
-use Rattle.loom_row_bodies.specs.Meanings.{Meant, Steps, Updates, Named}
-use Rattle.loom_row_bodies.specs.Names.{IsTable}
+use Rattle.loom_row_tables.specs.Meanings.{Meant, Steps, Updates, Named}
+use Rattle.loom_row_tables.specs.Names.{IsTable}
+use Rattle.loom_row_tables.specs.Rows.{file_in, meant_by}
 use Rattle.loom_row_bodies.specs.Updates as updates
-use Rattle.loom_row_bodies.specs.declared.rows.Checked.{Checked}
-use Rattle.loom_row_bodies.specs.declared.rows.Checked.TheVariants.{Script, Updater}
-use Rattle.loom_row_bodies.specs.declared.rows.Row.{Row}
-use Rattle.loom_row_bodies.specs.declared.settings.Settings.{Settings}
-
--- ---- words
-
--- the file that words name: the second of two
-abbrev pub file_in : List (List ℕ) → Option (List ℕ)
-file_in (name ∷ file ∷ []) = Some file
-file_in words = None
-
--- what a name means: the first row of the list that has it
-abbrev pub row_of : List Row → List ℕ → Option Row
-row_of rows name = find (λ row. bytes_eq row.name.now name) rows
-
--- what words mean: the first of one or two words is a name, and nothing else means a row
-abbrev pub meant_by : List Row → List (List ℕ) → Option Row
-meant_by rows (name ∷ []) = row_of rows name
-meant_by rows (name ∷ file ∷ []) = row_of rows name
-meant_by rows words = None
+use Rattle.loom_row_tables.specs.declared.rows.Checked.{Checked}
+use Rattle.loom_row_tables.specs.declared.rows.Checked.TheVariants.{Script, Updater}
+use Rattle.loom_row_tables.specs.declared.rows.Row.{Row}
+use Rattle.loom_row_tables.specs.declared.settings.Settings.{Settings}
 
 -- ---- rows
 

@@ -1,32 +1,22 @@
-//! How a row is checked.
+//! The builder that checks a row.
 ghost use Rattle.std.specs.Prelude.{◌≡◌, IfOk, option_copied};
 ghost use Rattle.loom_row_bodies.specs.Builders.{IsBuilder, builder_of};
 
 use loom::model::Builder;
+pub use loom_row_tables::settings::Settings;
 use std::alloc::{AllocError, Global};
 
-/// The settings that rows have of a builder. Whatever else it has is as a builder begins with.
-#[derive(Clone, Copy, Debug)]
-pub struct Settings {
-    /// How many threads a run may have, main included.
-    pub max_threads: usize,
-    /// How many nodes a run may have.
-    pub max_branches: usize,
-    /// How many operations the threads of a run may hand over.
-    pub max_steps: usize,
-    /// How many runs a check makes, if that is limited.
-    pub max_permutations: Option<usize>,
-    /// Whether the search is reduced.
-    pub reduce: bool,
-    /// How many preemptions a run of a check may have, if that is bounded.
-    pub preemption_bound: Option<usize>,
-    /// Whether a run explores only from the operation `explore` on.
-    pub expect_explicit_explore: bool,
+/// Settings of which a builder is made.
+pub trait Builds {
+    /// The builder of these settings.
+    fn builder(self) -> Builder;
+
+    /// The same with the checkpoint file of this name, if one is given.
+    fn builder_with(self, alloc: Global, file: Option<&str>) -> Result<Builder, AllocError>;
 }
 
-impl Settings {
-    /// The builder of these settings.
-    pub fn builder(self) -> Builder
+impl Builds for Settings {
+    fn builder(self) -> Builder
         ensures { result ≡ builder_of self }
     {
         Builder {
@@ -41,8 +31,7 @@ impl Settings {
         }
     }
 
-    /// The same with the checkpoint file of this name, if one is given.
-    pub fn builder_with(self, alloc: Global, file: Option<&str>) -> Result<Builder, AllocError>
+    fn builder_with(self, alloc: Global, file: Option<&str>) -> Result<Builder, AllocError>
         ensures { IfOk result (IsBuilder self (option_copied file.entry)) }
     {
         let mut builder = self.builder();

@@ -7,6 +7,7 @@ ghost use Rattle.loom_row_bodies.specs.Tasks.{PrintedBy, PrintedReplay, PrintedR
 
 use crate::line::{self, ShownChoices, ShownReport};
 use crate::rows::{Checked, Row, print_report, refuse_check};
+use crate::settings::Builds;
 use crate::updates::Updater;
 use loom::model::{Builder, Replay, Report};
 use loom::rising::Risen;

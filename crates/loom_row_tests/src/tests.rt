@@ -23,7 +23,7 @@ use loom::visitor::Visitor;
 use loom::{Body, Choice, MemoryStore, NoClock};
 use loom_objects::operation::{Op, ThreadOp};
 use loom_row_bodies::rows::WHOLE;
-use loom_row_bodies::settings::Settings;
+use loom_row_bodies::settings::{Builds, Settings};
 use loom_scripts::number::Number;
 use loom_scripts::step::{END, EXIT, Step, Value};
 use std::alloc::{AllocError, Global};

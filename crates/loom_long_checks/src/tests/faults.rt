@@ -4,6 +4,7 @@ use loom::CheckpointStore;
 use loom::model::Builder;
 use loom_row_bodies::bodies::LOCK_BESIDE;
 use loom_row_bodies::rows::{TWO_RUNS, WHOLE};
+use loom_row_bodies::settings::Builds;
 use std::test::Fail;
 
 #[test]

@@ -4,6 +4,7 @@ use loom::Clock;
 use loom::model::{Builder, Limit, Report};
 use loom_row_bodies::bodies::LOCK_BESIDE;
 use loom_row_bodies::rows::{TWO_RUNS, WHOLE};
+use loom_row_bodies::settings::Builds;
 use loom_scripts::script::Script;
 use std::test::Fail;
 use std::time::Duration;

@@ -6,6 +6,7 @@ use loom::{Choice, FailureKind, NoClock};
 use loom_row_bodies::bodies::locks::NOTIFY_WAIT;
 use loom_row_bodies::bodies::{LOAD_BESIDE, LOCK_BESIDE};
 use loom_row_bodies::rows::WHOLE;
+use loom_row_bodies::settings::Builds;
 use loom_scripts::number::Number;
 use loom_scripts::script::Script;
 use loom_scripts::step::Step;

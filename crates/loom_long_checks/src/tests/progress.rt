@@ -6,6 +6,7 @@ use loom::model::Builder;
 use loom::{MemoryStore, NoClock};
 use loom_row_bodies::bodies::LOCK_BESIDE;
 use loom_row_bodies::rows::WHOLE;
+use loom_row_bodies::settings::Builds;
 use loom_scripts::script::Script;
 use std::test::Fail;
 

@@ -7,6 +7,7 @@ use loom::{Choices, ChoicesError, Failure, FailureKind};
 use loom_objects::operation::{AtomicOp, ChannelOp, Op, ThreadOp};
 use loom_row_bodies::bodies::LOCK_BESIDE;
 use loom_row_bodies::rows::{TWO_RUNS, WHOLE};
+use loom_row_bodies::settings::Builds;
 use loom_scripts::script::Script;
 use loom_scripts::step::{END, EXIT, FAIL, Step, Value};
 use loom_views::rt::num::Numbers;

@@ -4,6 +4,7 @@ use loom::MemoryStore;
 use loom::model::Builder;
 use loom_row_bodies::bodies::{LOCK_BESIDE, TWO_MUTEXES_DEADLOCK};
 use loom_row_bodies::rows::WHOLE;
+use loom_row_bodies::settings::Builds;
 use std::test::Fail;
 
 // A builder that saves before each run.

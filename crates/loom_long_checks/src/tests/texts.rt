@@ -3,7 +3,7 @@ use super::{TWO_NODES, given, holding};
 use loom::model::Builder;
 use loom_row_bodies::bodies::{FINISH_ONLY, LOCK_BESIDE, STORE_SEVEN};
 use loom_row_bodies::rows::{DEFAULTS, WHOLE};
-use loom_row_bodies::settings::Settings;
+use loom_row_bodies::settings::{Builds, Settings};
 use loom_scripts::step::Step;
 use std::alloc::{AllocError, Global};
 use std::process::Abort;

@@ -3,6 +3,7 @@ use loom::model::{Builder, Replay, Report};
 use loom::{Choice, FailureKind};
 use loom_row_bodies::guide::Counter;
 use loom_row_bodies::rows::WHOLE;
+use loom_row_bodies::settings::Builds;
 use std::test::Fail;
 
 #[test]

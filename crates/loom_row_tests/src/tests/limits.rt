@@ -9,6 +9,7 @@ use loom_row_bodies::bodies::limits::{
     TOO_MANY_FENCES, TOO_MANY_STORES,
 };
 use loom_row_bodies::rows::{LONG_RUNS, THREE_NODES};
+use loom_row_bodies::settings::Builds;
 use loom_scripts::script::Script;
 use std::test::Fail;
 

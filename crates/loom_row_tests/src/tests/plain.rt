@@ -10,7 +10,7 @@ use loom_row_bodies::bodies::atomics::{ORDERS_EQUAL, THREE_ADDS};
 use loom_row_bodies::bodies::locks::{NOTIFY_ALL, RWLOCK_WRITER_AND_READERS};
 use loom_row_bodies::guide::Counter;
 use loom_row_bodies::rows::{Checked, DEFAULTS, Row, all_rows};
-use loom_row_bodies::settings::Settings;
+use loom_row_bodies::settings::{Builds, Settings};
 use loom_row_bodies::updates::Updater;
 use loom_scripts::number::Number;
 use loom_scripts::script::Script;

@@ -6,7 +6,7 @@ use loom_row_bodies::bodies::{
     CHECK_ORDERING_INVALID_1, CHECKS_FAIL, LOCK_BESIDE, TWO_MUTEXES_DEADLOCK,
 };
 use loom_row_bodies::rows::DEFAULTS;
-use loom_row_bodies::settings::Settings;
+use loom_row_bodies::settings::{Builds, Settings};
 use loom_scripts::script::Script;
 use loom_scripts::step::{FAIL, Step, Value};
 use std::process::Abort;

@@ -7,7 +7,7 @@ use loom_row_bodies::bodies::atomics::{ACQ_REL, THREE_ADDS};
 use loom_row_bodies::bodies::{LOAD_BESIDE, LOCK_BESIDE, TWO_MUTEXES_DEADLOCK};
 use loom_row_bodies::line::ShownChoices;
 use loom_row_bodies::rows::DEFAULTS;
-use loom_row_bodies::settings::Settings;
+use loom_row_bodies::settings::{Builds, Settings};
 use loom_scripts::number::Number;
 use loom_scripts::script::Script;
 use loom_scripts::step::{END, EXIT, PARK, Step, Value, YIELD};

@@ -1,5 +1,0 @@
-use Rattle.std.proofs.Common.{refl}
-use Rattle.loom_row_bodies.proofs.bodies.locks.rows.Goals as goal
-
-pub returns : goal.returns
-returns c = (_, refl, refl)

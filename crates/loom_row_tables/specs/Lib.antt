@@ -1,0 +1,5 @@
+pub mod Meanings
+pub mod Measured
+pub mod Names
+pub mod Rows
+pub mod Scripts

@@ -1,0 +1,75 @@
+-- The table of the bodies that are measured: each name, the steps that it means, how they are checked, and how often.
+use Rattle.std.specs.Prelude.{ℕ, Bool, true, false, List, [], ◌∷◌, ◌++◌, Option, Some, None, codes}
+use Rattle.std.specs.List.{find}
+use Rattle.std.specs.Str.{bytes_eq}
+use Rattle.loom_scripts.specs.declared.step.Step.{Step}
+use Rattle.loom_row_tables.specs.Names.{defaults}
+use Rattle.loom_row_tables.specs.declared.settings.Settings.{Settings}
+use Rattle.loom_row_tables.specs.Scripts.Atomics.{three_adds, acq_rel}
+use Rattle.loom_row_tables.specs.Scripts.First.{two_mutexes_deadlock}
+use Rattle.loom_row_tables.specs.Scripts.Measured.{store_buffering, locks_in_turn, writers_beside_a_reader, wait_and_notify, three_threads, stores_apart, long_line, long_line_10000, long_turn}
+use Rattle.loom_row_tables.specs.declared.measured.Measured.{Measured}
+
+-- a name, the steps that it means, how they are checked, and how often
+pub record Named : Type 0 where
+  pub name : List ℕ
+  pub steps : List Step
+  pub settings : Settings
+  pub checks : ℕ
+
+abbrev pub named : Measured → Named
+named body = record { name = body.name.now; steps = body.steps.now; settings = body.settings; checks = body.checks }
+
+-- a search of runs with so many nodes at most, reduced or not, and with a bound on preemptions, if there is one
+abbrev pub search : ℕ → Bool → Option ℕ → Settings
+search max_branches reduce bound =
+    record defaults { max_branches = max_branches; preemption_bound = bound; reduce = reduce }
+
+abbrev pub measured : List ℕ → List Step → ℕ → Settings → Named
+measured name steps checks settings = record { name = name; steps = steps; settings = settings; checks = checks }
+
+-- a body by six searches: not reduced and reduced, without a bound and with the bounds 1 and 2
+abbrev pub six : List ℕ → List Step → ℕ → List Named
+six name steps checks =
+    measured name steps checks (search 1000 false None) ∷
+    measured (name ++ codes " bound 1") steps checks (search 1000 false (Some 1)) ∷
+    measured (name ++ codes " bound 2") steps checks (search 1000 false (Some 2)) ∷
+    measured (name ++ codes " reduced") steps checks (search 1000 true None) ∷
+    measured (name ++ codes " reduced bound 1") steps checks (search 1000 true (Some 1)) ∷
+    measured (name ++ codes " reduced bound 2") steps checks (search 1000 true (Some 2)) ∷ []
+
+-- stores and loads, and locks in the same order
+abbrev pub buffers_and_locks : List Named
+buffers_and_locks = six (codes "store_buffering") store_buffering 1000 ++ six (codes "locks_in_turn") locks_in_turn 1000
+
+-- a read-write lock, and a condition variable
+abbrev pub locks_that_wait : List Named
+locks_that_wait =
+    six (codes "writers_beside_a_reader") writers_beside_a_reader 100 ++ six (codes "wait_and_notify") wait_and_notify 1000
+
+-- three threads over atomics
+abbrev pub three_atomics : List Named
+three_atomics = six (codes "three_threads") three_threads 1 ++ six (codes "three_adds") three_adds 1
+
+-- a deadlock, and threads that wait for flags
+abbrev pub crosswise_and_flags : List Named
+crosswise_and_flags = six (codes "locks_crosswise") two_mutexes_deadlock 1000 ++ six (codes "acq_rel") acq_rel 1
+
+-- many runs, and long ones
+abbrev pub many_or_long : List Named
+many_or_long =
+    measured (codes "stores_apart") stores_apart 1 (search 1000 false None) ∷
+    measured (codes "stores_apart reduced") stores_apart 1 (search 1000 true None) ∷
+    measured (codes "long_line") long_line 10000 (search 100000 true None) ∷
+    measured (codes "long_line_10000") long_line_10000 1000 (search 100000 true None) ∷
+    measured (codes "long_turn reduced") long_turn 1 (search 100000 true None) ∷
+    measured (codes "long_turn reduced bound 0") long_turn 1000 (search 100000 true (Some 0)) ∷
+    measured (codes "long_turn reduced bound 1") long_turn 1 (search 100000 true (Some 1)) ∷ []
+
+-- all of it
+abbrev pub all : List Named
+all = buffers_and_locks ++ locks_that_wait ++ three_atomics ++ crosswise_and_flags ++ many_or_long
+
+-- what a name means: the first body of the list that has it
+abbrev pub body_of : List Measured → List ℕ → Option Measured
+body_of bodies name = find (λ body. bytes_eq body.name.now name) bodies

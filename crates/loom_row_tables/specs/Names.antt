@@ -1,0 +1,199 @@
+-- The table of the program's rows: each name, what it means, and how this is checked.
+use Rattle.std.specs.Prelude.{ℕ, ◌≡◌, List, [], ◌∷◌, ◌++◌, Some, None, true, false, codes}
+use Rattle.loom_objects.specs.declared.rt.thread.Name.{Name}
+use Rattle.loom_scripts.specs.declared.step.Step.{Step}
+use Rattle.loom_row_tables.specs.Meanings.{Steps, Updates, Named}
+use Rattle.loom_row_tables.specs.Scripts.First as first
+use Rattle.loom_row_tables.specs.Scripts.Atomics as atomics
+use Rattle.loom_row_tables.specs.Scripts.Cells as cells
+use Rattle.loom_row_tables.specs.Scripts.Locks as locks
+use Rattle.loom_row_tables.specs.Scripts.Channels as channels
+use Rattle.loom_row_tables.specs.Scripts.Wakers as wakers
+use Rattle.loom_row_tables.specs.Scripts.Values as values
+use Rattle.loom_row_tables.specs.Scripts.Exploring as exploring
+use Rattle.loom_row_tables.specs.Scripts.Limits as limits
+use Rattle.loom_row_tables.specs.declared.settings.Settings.{Settings}
+
+-- the settings that a builder begins with
+abbrev pub defaults : Settings
+defaults = record {
+  max_threads = 5;
+  max_branches = 1000;
+  max_steps = 1000000;
+  max_permutations = None;
+  reduce = true;
+  preemption_bound = None;
+  expect_explicit_explore = false;
+}
+
+-- the same, but each schedule tries every thread that can go on
+abbrev pub whole_search : Settings
+whole_search = record defaults { reduce = false }
+
+-- the same, but two runs are made at most
+abbrev pub two_runs : Settings
+two_runs = record whole_search { max_permutations = Some 2 }
+
+-- the defaults, but the threads of a run hand over ten operations at most
+abbrev pub ten_steps : Settings
+ten_steps = record defaults { max_steps = 10 }
+
+-- the defaults, but a run may have 100,000 nodes
+abbrev pub long_runs : Settings
+long_runs = record defaults { max_branches = 100000 }
+
+-- the defaults, but a run may have three nodes
+abbrev pub three_nodes : Settings
+three_nodes = record defaults { max_branches = 3 }
+
+-- each schedule tries every thread that can go on, from where a run begins to explore
+abbrev pub explicit_search : Settings
+explicit_search = record whole_search { expect_explicit_explore = true }
+
+-- the script of these steps, by the defaults
+abbrev pub script : List ℕ → List Step → Named
+script name steps = record { name = name; means = Steps steps; settings = defaults }
+
+-- the same by a search that isn't reduced
+abbrev pub whole : List ℕ → List Step → Named
+whole name steps = record { name = name; means = Steps steps; settings = whole_search }
+
+-- the same, of which two runs are made at most
+abbrev pub limited : List ℕ → List Step → Named
+limited name steps = record { name = name; means = Steps steps; settings = two_runs }
+
+-- the same by ten operations at most
+abbrev pub short : List ℕ → List Step → Named
+short name steps = record { name = name; means = Steps steps; settings = ten_steps }
+
+-- the same in runs of 100,000 nodes at most
+abbrev pub long : List ℕ → List Step → Named
+long name steps = record { name = name; means = Steps steps; settings = long_runs }
+
+-- the same in runs of three nodes at most
+abbrev pub few : List ℕ → List Step → Named
+few name steps = record { name = name; means = Steps steps; settings = three_nodes }
+
+-- the same by a search that isn't reduced, from where a run begins to explore
+abbrev pub explicit : List ℕ → List Step → Named
+explicit name steps = record { name = name; means = Steps steps; settings = explicit_search }
+
+-- the thread that updates its atomic, with these two numbers, by the defaults
+abbrev pub updates : List ℕ → ℕ → ℕ → Named
+updates name one other = record { name = name; means = Updates one other; settings = defaults }
+
+-- the first ones
+abbrev pub first_rows : List Named
+first_rows =
+    script (codes "finish_only") first.finish_only ∷ script (codes "spawn_only") first.spawn_only ∷
+    whole (codes "lock_beside") first.lock_beside ∷ script (codes "lock_beside_reduced") first.lock_beside ∷
+    limited (codes "lock_beside_two") first.lock_beside ∷
+    short (codes "mutex_forever") first.mutex_forever ∷
+    script (codes "fail_at_once") first.fail_at_once ∷ script (codes "two_mutexes_deadlock") first.two_mutexes_deadlock ∷
+    whole (codes "load_beside") first.load_beside ∷ script (codes "load_beside_reduced") first.load_beside ∷
+    script (codes "store_seven") first.store_seven ∷
+    script (codes "store_buffering") first.store_buffering ∷ script (codes "load_buffering") first.load_buffering ∷
+    script (codes "check_ordering_valid") first.check_ordering_valid ∷
+    script (codes "check_ordering_invalid_1") first.check_ordering_invalid_1 ∷
+    script (codes "checks_fail") first.checks_fail ∷ []
+
+-- about atomics and fences
+abbrev pub atomic_rows : List Named
+atomic_rows =
+    script (codes "u8_functions") atomics.u8_functions ∷ script (codes "i8_functions") atomics.i8_functions ∷
+    script (codes "bool_nand") atomics.bool_nand ∷ script (codes "compare_exchange") atomics.compare_exchange ∷
+    script (codes "unsync_race") atomics.unsync_race ∷ script (codes "load_in_with_mut") atomics.load_in_with_mut ∷
+    script (codes "relaxed_fence") atomics.relaxed_fence ∷
+    script (codes "fences_then_relaxed") atomics.fences_then_relaxed ∷
+    short (codes "unsync_load_forever") atomics.unsync_load_forever ∷ script (codes "sb_fences") atomics.sb_fences ∷
+    script (codes "fetch_add_atomic") atomics.fetch_add_atomic ∷ script (codes "orders_equal") atomics.orders_equal ∷
+    script (codes "three_adds") atomics.three_adds ∷ updates (codes "fetch_update_once") atomics.num_a atomics.num_b ∷ []
+
+-- about cells, counted references and tracked values
+abbrev pub cell_rows : List Named
+cell_rows =
+    script (codes "atomic_causality_success") cells.atomic_causality_success ∷
+    script (codes "atomic_causality_fail") cells.atomic_causality_fail ∷
+    script (codes "unsafe_cell_race_mut_mut_1") cells.unsafe_cell_race_mut_mut_1 ∷
+    script (codes "unsafe_cell_race_mut_mut_2") cells.unsafe_cell_race_mut_mut_2 ∷
+    script (codes "unsafe_cell_race_mut_immut_1") cells.unsafe_cell_race_mut_immut_1 ∷
+    script (codes "unsafe_cell_race_mut_immut_2") cells.unsafe_cell_race_mut_immut_2 ∷
+    script (codes "unsafe_cell_race_mut_immut_3") cells.unsafe_cell_race_mut_immut_3 ∷
+    script (codes "unsafe_cell_race_mut_immut_4") cells.unsafe_cell_race_mut_immut_4 ∷
+    script (codes "unsafe_cell_race_mut_immut_5") cells.unsafe_cell_race_mut_immut_5 ∷
+    script (codes "unsafe_cell_ok_1") cells.unsafe_cell_ok_1 ∷ script (codes "unsafe_cell_ok_2") cells.unsafe_cell_ok_2 ∷
+    script (codes "unsafe_cell_ok_3") cells.unsafe_cell_ok_3 ∷
+    script (codes "unsafe_cell_access_after_sync") cells.unsafe_cell_access_after_sync ∷
+    script (codes "read_in_write") cells.read_in_write ∷ script (codes "detect_mem_leak") cells.detect_mem_leak ∷
+    script (codes "arc_count") cells.arc_count ∷ script (codes "arc_unwrap") cells.arc_unwrap ∷
+    script (codes "track_then_arc") cells.track_then_arc ∷ script (codes "arc_then_track") cells.arc_then_track ∷ []
+
+-- about threads that wait for one another, with the name that one script gives a thread
+abbrev pub lock_rows : Name → List Named
+lock_rows name =
+    script (codes "release_unlocked") locks.release_unlocked ∷ script (codes "lock_while_out") locks.lock_while_out ∷
+    script (codes "mutex_into_inner") locks.mutex_into_inner ∷ long (codes "many_locks") locks.many_locks ∷
+    long (codes "too_many_locks") locks.too_many_locks ∷ script (codes "rwlock_read_twice") locks.rwlock_read_twice ∷
+    script (codes "rwlock_write_then_try_write") locks.rwlock_write_then_try_write ∷
+    script (codes "read_guard_of_another") locks.read_guard_of_another ∷
+    script (codes "rwlock_writer_and_readers") locks.rwlock_writer_and_readers ∷
+    script (codes "condvar_alone") locks.condvar_alone ∷ script (codes "condvar_with_token") locks.condvar_with_token ∷
+    script (codes "condvar_hands_over") locks.condvar_hands_over ∷ script (codes "notify_all") locks.notify_all ∷
+    script (codes "notify_wait") locks.notify_wait ∷ script (codes "second_waiter") locks.second_waiter ∷
+    script (codes "unpark_then_park") locks.unpark_then_park ∷ script (codes "park_alone") locks.park_alone ∷
+    script (codes "unpark_wakes") locks.unpark_wakes ∷ script (codes "yield_beside") locks.yield_beside ∷
+    script (codes "named_child") (locks.named_child name) ∷ script (codes "unreachable") locks.unreachable ∷ []
+
+-- the rows of locks, in which the named child is called foobar
+abbrev pub AreLockRows : List Named → Type 0
+AreLockRows rows = (name : Name) × (name.text.now ≡ codes "foobar") × (rows ≡ lock_rows name)
+
+-- about channels, with the name that one script gives a thread
+abbrev pub channel_rows : Name → List Named
+channel_rows name =
+    script (codes "send_then_recv") channels.send_then_recv ∷ script (codes "recv_after_drop") channels.recv_after_drop ∷
+    script (codes "commutative_senders") channels.commutative_senders ∷
+    script (codes "non_commutative_senders1") channels.non_commutative_senders1 ∷
+    script (codes "try_recv_empty") channels.try_recv_empty ∷ script (codes "drop_receiver") channels.drop_receiver ∷
+    script (codes "message_left") channels.message_left ∷ script (codes "send_late") channels.send_late ∷
+    script (codes "name_sent") (channels.name_sent name) ∷ []
+
+-- the rows of channels, in which the named child is called foobar
+abbrev pub AreChannelRows : List Named → Type 0
+AreChannelRows rows = (name : Name) × (name.text.now ≡ codes "foobar") × (rows ≡ channel_rows name)
+
+-- about wakers
+abbrev pub waker_rows : List Named
+waker_rows =
+    script (codes "ready_at_once") wakers.ready_at_once ∷ script (codes "waker_leak") wakers.waker_leak ∷
+    script (codes "waker_round") wakers.waker_round ∷ script (codes "spurious_poll") wakers.spurious_poll ∷ []
+
+-- about threads' own values, and values that are made once a run
+abbrev pub value_rows : List Named
+value_rows =
+    script (codes "lazy_once") values.lazy_once ∷ script (codes "lazy_late") values.lazy_late ∷
+    script (codes "local_twice") values.local_twice ∷ script (codes "local_gone") values.local_gone ∷
+    script (codes "local_access_error") values.local_access_error ∷ script (codes "local_order") values.local_order ∷ []
+
+-- about runs that don't explore everywhere
+abbrev pub exploring_rows : List Named
+exploring_rows =
+    whole (codes "stop_exploring") exploring.stop_exploring ∷
+    whole (codes "stop_exploring_twice") exploring.stop_exploring_twice ∷ whole (codes "skip_branch") exploring.skip_branch ∷
+    explicit (codes "never_explore") first.lock_beside ∷ explicit (codes "explore_first") exploring.explore_first ∷ []
+
+-- about misuse and limits
+abbrev pub limit_rows : List Named
+limit_rows =
+    few (codes "spin_alone") limits.spin_alone ∷ script (codes "fences") limits.fences ∷
+    script (codes "too_many_fences") limits.too_many_fences ∷ long (codes "too_many_stores") limits.too_many_stores ∷
+    script (codes "finish_twice") limits.finish_twice ∷ script (codes "exit_first") limits.exit_first ∷
+    script (codes "put_absent") limits.put_absent ∷ script (codes "guard_left") limits.guard_left ∷ []
+
+-- all of them, in which both named children are called foobar (a name's value holds where its text stands, so it has no definition)
+abbrev pub IsTable : List Named → Type 0
+IsTable rows =
+    (name : Name) × (other : Name)
+    × (name.text.now ≡ codes "foobar")
+    × (other.text.now ≡ codes "foobar")
+    × (rows ≡ first_rows ++ atomic_rows ++ cell_rows ++ lock_rows name ++ channel_rows other ++ waker_rows ++ value_rows ++ exploring_rows ++ limit_rows)

@@ -1,0 +1,244 @@
+//! The scripts of the rows.
+
+pub mod atomics;
+pub mod cells;
+pub mod channels;
+pub mod exploring;
+pub mod limits;
+pub mod locks;
+pub mod values;
+pub mod wakers;
+
+ghost use Rattle.std.specs.Prelude.{◌≡◌, map};
+ghost use Rattle.loom_row_tables.specs.Meanings.{named};
+ghost use Rattle.loom_row_tables.specs.Names.{first_rows};
+
+use crate::rows::{DEFAULTS, Row, TEN_STEPS, TWO_RUNS, WHOLE, row};
+use loom_objects::operation::{AtomicOp, MutexOp, Op, ThreadOp};
+use loom_scripts::step::{END, EXIT, FAIL, Step, Value};
+use loom_views::rt::num::Numbers;
+use std::sync::atomic::Ordering::{Acquire, Relaxed, Release};
+
+/// Main finishes, exits and ends.
+pub const FINISH_ONLY: &[Step] = &[
+    Step::Do(0, Op::Thread(ThreadOp::Finish(Value::Plain(7)), None)),
+    EXIT,
+    END,
+];
+
+/// Main spawns a thread, which does nothing but end.
+pub const SPAWN_ONLY: &[Step] = &[
+    Step::Do(0, Op::Thread(ThreadOp::Spawn(4, None), None)),
+    Step::Do(0, Op::Thread(ThreadOp::Finish(Value::Plain(7)), None)),
+    EXIT,
+    END,
+    Step::Do(0, Op::Thread(ThreadOp::Finish(Value::Plain(3)), None)),
+    EXIT,
+    END,
+];
+
+/// Main locks a mutex beside a thread that does nothing but end.
+pub const LOCK_BESIDE: &[Step] = &[
+    Step::Do(0, Op::Mutex(MutexOp::New(Value::Plain(0)), None)),
+    Step::Do(1, Op::Thread(ThreadOp::Spawn(7, None), None)),
+    Step::Do(0, Op::Mutex(MutexOp::Lock(0), None)),
+    Step::Do(0, Op::Mutex(MutexOp::Release(0, Value::Plain(0)), None)),
+    Step::Do(0, Op::Thread(ThreadOp::Finish(Value::Plain(7)), None)),
+    EXIT,
+    END,
+    Step::Do(0, Op::Thread(ThreadOp::Finish(Value::Plain(3)), None)),
+    EXIT,
+    END,
+];
+
+/// Main makes mutexes without end.
+pub const MUTEX_FOREVER: &[Step] = &[
+    Step::Do(0, Op::Mutex(MutexOp::New(Value::Plain(0)), None)),
+    Step::Jump(0),
+];
+
+/// Main's assertion fails.
+pub const FAIL_AT_ONCE: &[Step] = &[FAIL];
+
+/// One thread locks a mutex and then another, a second thread the other and then the one. Main joins them.
+pub const TWO_MUTEXES_DEADLOCK: &[Step] = &[
+    Step::Do(0, Op::Mutex(MutexOp::New(Value::Plain(0)), None)),
+    Step::Do(1, Op::Mutex(MutexOp::New(Value::Plain(0)), None)),
+    Step::Do(2, Op::Thread(ThreadOp::Spawn(9, None), None)),
+    Step::Do(3, Op::Thread(ThreadOp::Spawn(16, None), None)),
+    Step::Do(0, Op::Thread(ThreadOp::Join(2, 2), None)),
+    Step::Do(1, Op::Thread(ThreadOp::Join(3, 3), None)),
+    Step::Do(0, Op::Thread(ThreadOp::Finish(Value::Plain(0)), None)),
+    EXIT,
+    END,
+    Step::Do(0, Op::Mutex(MutexOp::Lock(0), None)),
+    Step::Do(0, Op::Mutex(MutexOp::Lock(1), None)),
+    Step::Do(0, Op::Mutex(MutexOp::Release(1, Value::Plain(0)), None)),
+    Step::Do(0, Op::Mutex(MutexOp::Release(0, Value::Plain(0)), None)),
+    Step::Do(0, Op::Thread(ThreadOp::Finish(Value::Plain(1)), None)),
+    EXIT,
+    END,
+    Step::Do(0, Op::Mutex(MutexOp::Lock(1), None)),
+    Step::Do(0, Op::Mutex(MutexOp::Lock(0), None)),
+    Step::Do(0, Op::Mutex(MutexOp::Release(0, Value::Plain(0)), None)),
+    Step::Do(0, Op::Mutex(MutexOp::Release(1, Value::Plain(0)), None)),
+    Step::Do(0, Op::Thread(ThreadOp::Finish(Value::Plain(2)), None)),
+    EXIT,
+    END,
+];
+
+/// Main loads from an atomic beside a thread that stores 1 into it, and finishes with what it loaded.
+pub const LOAD_BESIDE: &[Step] = &[
+    Step::Do(0, Op::Atomic(AtomicOp::New(Numbers::U64, 0), None)),
+    Step::Do(1, Op::Thread(ThreadOp::Spawn(6, None), None)),
+    Step::Do(0, Op::Atomic(AtomicOp::Load(0, Relaxed), None)),
+    Step::Do(0, Op::Thread(ThreadOp::Finish(Value::Held(0)), None)),
+    EXIT,
+    END,
+    Step::Do(0, Op::Atomic(AtomicOp::Store(0, 1, Relaxed), None)),
+    Step::Do(0, Op::Thread(ThreadOp::Finish(Value::Plain(0)), None)),
+    EXIT,
+    END,
+];
+
+/// Main stores 1 to 7 into an atomic, loads from it, and finishes with what it loaded.
+pub const STORE_SEVEN: &[Step] = &[
+    Step::Do(0, Op::Atomic(AtomicOp::New(Numbers::U64, 0), None)),
+    Step::Do(0, Op::Atomic(AtomicOp::Store(0, 1, Relaxed), None)),
+    Step::Do(0, Op::Atomic(AtomicOp::Store(0, 2, Relaxed), None)),
+    Step::Do(0, Op::Atomic(AtomicOp::Store(0, 3, Relaxed), None)),
+    Step::Do(0, Op::Atomic(AtomicOp::Store(0, 4, Relaxed), None)),
+    Step::Do(0, Op::Atomic(AtomicOp::Store(0, 5, Relaxed), None)),
+    Step::Do(0, Op::Atomic(AtomicOp::Store(0, 6, Relaxed), None)),
+    Step::Do(0, Op::Atomic(AtomicOp::Store(0, 7, Relaxed), None)),
+    Step::Do(0, Op::Atomic(AtomicOp::Load(0, Relaxed), None)),
+    Step::Do(0, Op::Thread(ThreadOp::Finish(Value::Held(0)), None)),
+    EXIT,
+    END,
+];
+
+/// Two threads store 1, each into an atomic of its own, and then load from the other's. Main is one of them, and finishes
+/// with ten times what the other thread loaded and what it loaded itself (loom's `tests/litmus.rs`).
+pub const STORE_BUFFERING: &[Step] = &[
+    Step::Do(0, Op::Atomic(AtomicOp::New(Numbers::U64, 0), None)),
+    Step::Do(1, Op::Atomic(AtomicOp::New(Numbers::U64, 0), None)),
+    Step::Do(2, Op::Thread(ThreadOp::Spawn(9, None), None)),
+    Step::Do(0, Op::Atomic(AtomicOp::Store(1, 1, Relaxed), None)),
+    Step::Do(1, Op::Atomic(AtomicOp::Load(0, Relaxed), None)),
+    Step::Do(0, Op::Thread(ThreadOp::Join(2, 2), None)),
+    Step::Do(0, Op::Thread(ThreadOp::Finish(Value::Both(0, 1)), None)),
+    EXIT,
+    END,
+    Step::Do(0, Op::Atomic(AtomicOp::Store(0, 1, Relaxed), None)),
+    Step::Do(0, Op::Atomic(AtomicOp::Load(1, Relaxed), None)),
+    Step::Do(0, Op::Thread(ThreadOp::Finish(Value::Held(0)), None)),
+    EXIT,
+    END,
+];
+
+/// Main loads from one atomic and stores 1 into another, beside a thread that stores into the one what it loads from the
+/// other. Main finishes with what it loaded (loom's `tests/litmus.rs`).
+pub const LOAD_BUFFERING: &[Step] = &[
+    Step::Do(0, Op::Atomic(AtomicOp::New(Numbers::U64, 0), None)),
+    Step::Do(1, Op::Atomic(AtomicOp::New(Numbers::U64, 0), None)),
+    Step::Do(2, Op::Thread(ThreadOp::Spawn(9, None), None)),
+    Step::Do(0, Op::Atomic(AtomicOp::Load(0, Relaxed), None)),
+    Step::Do(0, Op::Atomic(AtomicOp::Store(1, 1, Relaxed), None)),
+    Step::Do(1, Op::Thread(ThreadOp::Join(2, 2), None)),
+    Step::Do(0, Op::Thread(ThreadOp::Finish(Value::Held(0)), None)),
+    EXIT,
+    END,
+    Step::Do(0, Op::Atomic(AtomicOp::Load(1, Relaxed), None)),
+    Step::Store(0, Value::Held(0), Relaxed),
+    Step::Do(0, Op::Thread(ThreadOp::Finish(Value::Plain(0)), None)),
+    EXIT,
+    END,
+];
+
+/// A thread stores 1 into one atomic and releases it by a second. Where main acquires that, it asserts that it loads the 1
+/// (loom's `tests/atomic_relaxed.rs`).
+pub const CHECK_ORDERING_VALID: &[Step] = &[
+    Step::Do(0, Op::Atomic(AtomicOp::New(Numbers::U64, 0), None)),
+    Step::Do(1, Op::Atomic(AtomicOp::New(Numbers::U64, 0), None)),
+    Step::Do(2, Op::Thread(ThreadOp::Spawn(11, None), None)),
+    Step::Do(0, Op::Atomic(AtomicOp::Load(1, Acquire), None)),
+    Step::Unless(0, 1, 7),
+    Step::Do(1, Op::Atomic(AtomicOp::Load(0, Relaxed), None)),
+    Step::Unless(1, 1, 10),
+    Step::Do(0, Op::Thread(ThreadOp::Finish(Value::Both(0, 1)), None)),
+    EXIT,
+    END,
+    FAIL,
+    Step::Do(0, Op::Atomic(AtomicOp::Store(0, 1, Relaxed), None)),
+    Step::Do(0, Op::Atomic(AtomicOp::Store(1, 1, Release), None)),
+    Step::Do(0, Op::Thread(ThreadOp::Finish(Value::Plain(0)), None)),
+    EXIT,
+    END,
+];
+
+/// The same, but main doesn't acquire (loom's `tests/atomic_relaxed.rs`).
+pub const CHECK_ORDERING_INVALID_1: &[Step] = &[
+    Step::Do(0, Op::Atomic(AtomicOp::New(Numbers::U64, 0), None)),
+    Step::Do(1, Op::Atomic(AtomicOp::New(Numbers::U64, 0), None)),
+    Step::Do(2, Op::Thread(ThreadOp::Spawn(11, None), None)),
+    Step::Do(0, Op::Atomic(AtomicOp::Load(1, Relaxed), None)),
+    Step::Unless(0, 1, 7),
+    Step::Do(1, Op::Atomic(AtomicOp::Load(0, Relaxed), None)),
+    Step::Unless(1, 1, 10),
+    Step::Do(0, Op::Thread(ThreadOp::Finish(Value::Both(0, 1)), None)),
+    EXIT,
+    END,
+    FAIL,
+    Step::Do(0, Op::Atomic(AtomicOp::Store(0, 1, Relaxed), None)),
+    Step::Do(0, Op::Atomic(AtomicOp::Store(1, 1, Release), None)),
+    Step::Do(0, Op::Thread(ThreadOp::Finish(Value::Plain(0)), None)),
+    EXIT,
+    END,
+];
+
+/// Two threads each store one more than they load. Main joins them, and asserts that 2 is loaded then (loom's
+/// `tests/smoke.rs`).
+pub const CHECKS_FAIL: &[Step] = &[
+    Step::Do(0, Op::Atomic(AtomicOp::New(Numbers::U64, 0), None)),
+    Step::Do(1, Op::Thread(ThreadOp::Spawn(11, None), None)),
+    Step::Do(2, Op::Thread(ThreadOp::Spawn(11, None), None)),
+    Step::Do(1, Op::Thread(ThreadOp::Join(1, 1), None)),
+    Step::Do(2, Op::Thread(ThreadOp::Join(2, 2), None)),
+    Step::Do(0, Op::Atomic(AtomicOp::Load(0, Relaxed), None)),
+    Step::Unless(0, 2, 10),
+    Step::Do(0, Op::Thread(ThreadOp::Finish(Value::Held(0)), None)),
+    EXIT,
+    END,
+    FAIL,
+    Step::Do(0, Op::Atomic(AtomicOp::Load(0, Acquire), None)),
+    Step::Store(0, Value::Next(0), Release),
+    Step::Do(0, Op::Thread(ThreadOp::Finish(Value::Plain(0)), None)),
+    EXIT,
+    END,
+];
+
+static FIRST_ROWS: [Row; 16] = [
+    row!("finish_only", FINISH_ONLY),
+    row!("spawn_only", SPAWN_ONLY),
+    row!("lock_beside", LOCK_BESIDE, WHOLE),
+    row!("lock_beside_reduced", LOCK_BESIDE),
+    row!("lock_beside_two", LOCK_BESIDE, TWO_RUNS),
+    row!("mutex_forever", MUTEX_FOREVER, TEN_STEPS),
+    row!("fail_at_once", FAIL_AT_ONCE),
+    row!("two_mutexes_deadlock", TWO_MUTEXES_DEADLOCK),
+    row!("load_beside", LOAD_BESIDE, WHOLE),
+    row!("load_beside_reduced", LOAD_BESIDE),
+    row!("store_seven", STORE_SEVEN),
+    row!("store_buffering", STORE_BUFFERING),
+    row!("load_buffering", LOAD_BUFFERING),
+    row!("check_ordering_valid", CHECK_ORDERING_VALID),
+    row!("check_ordering_invalid_1", CHECK_ORDERING_INVALID_1),
+    row!("checks_fail", CHECKS_FAIL),
+];
+
+/// The rows of these scripts.
+pub fn rows() -> &'static [Row]
+    ensures { map named result.now ≡ first_rows }
+{
+    &FIRST_ROWS
+}

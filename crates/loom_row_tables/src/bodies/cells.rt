@@ -1,0 +1,435 @@
+//! The scripts of the rows about cells, counted references and tracked values.
+ghost use Rattle.std.specs.Prelude.{◌≡◌, map};
+ghost use Rattle.loom_row_tables.specs.Meanings.{named};
+ghost use Rattle.loom_row_tables.specs.Names.{cell_rows};
+
+use crate::rows::{DEFAULTS, Row, row};
+use loom_objects::operation::{ArcOp, AtomicOp, CellOp, Op, ThreadOp, TrackOp};
+use loom_scripts::step::{END, EXIT, FAIL, Step, Value};
+use loom_views::rt::num::Numbers;
+use std::sync::atomic::Ordering::{Acquire, Release};
+
+/// A thread writes a cell and releases that by an atomic. Main reads the cell where it acquires that, before and after it joins
+/// the thread, and asserts what it reads (loom's `tests/unsafe_cell.rs`).
+pub const ATOMIC_CAUSALITY_SUCCESS: &[Step] = &[
+    Step::Do(0, Op::Cell(CellOp::New(Value::Plain(0)), None)),
+    Step::Do(1, Op::Atomic(AtomicOp::New(Numbers::U64, 0), None)),
+    Step::Do(2, Op::Thread(ThreadOp::Spawn(18, None), None)),
+    Step::Do(0, Op::Atomic(AtomicOp::Load(1, Acquire), None)),
+    Step::Unless(0, 1, 8),
+    Step::Do(1, Op::Cell(CellOp::Read(0), None)),
+    Step::Unless(1, 123, 17),
+    Step::Do(0, Op::Cell(CellOp::ReadEnd(0), None)),
+    Step::Do(2, Op::Thread(ThreadOp::Join(2, 2), None)),
+    Step::Do(0, Op::Atomic(AtomicOp::Load(1, Acquire), None)),
+    Step::Unless(0, 1, 14),
+    Step::Do(1, Op::Cell(CellOp::Read(0), None)),
+    Step::Unless(1, 123, 17),
+    Step::Do(0, Op::Cell(CellOp::ReadEnd(0), None)),
+    Step::Do(0, Op::Thread(ThreadOp::Finish(Value::Plain(0)), None)),
+    EXIT,
+    END,
+    FAIL,
+    Step::Do(0, Op::Cell(CellOp::Write(0), None)),
+    Step::Do(0, Op::Cell(CellOp::WriteEnd(0, Value::Plain(123)), None)),
+    Step::Do(0, Op::Atomic(AtomicOp::Store(1, 1, Release), None)),
+    Step::Do(0, Op::Thread(ThreadOp::Finish(Value::Plain(0)), None)),
+    EXIT,
+    END,
+];
+
+/// The same, but main reads the cell without looking at the atomic (loom's `tests/unsafe_cell.rs`).
+pub const ATOMIC_CAUSALITY_FAIL: &[Step] = &[
+    Step::Do(0, Op::Cell(CellOp::New(Value::Plain(0)), None)),
+    Step::Do(1, Op::Atomic(AtomicOp::New(Numbers::U64, 0), None)),
+    Step::Do(2, Op::Thread(ThreadOp::Spawn(14, None), None)),
+    Step::Do(1, Op::Cell(CellOp::Read(0), None)),
+    Step::Unless(1, 123, 13),
+    Step::Do(0, Op::Cell(CellOp::ReadEnd(0), None)),
+    Step::Do(2, Op::Thread(ThreadOp::Join(2, 2), None)),
+    Step::Do(1, Op::Cell(CellOp::Read(0), None)),
+    Step::Unless(1, 123, 13),
+    Step::Do(0, Op::Cell(CellOp::ReadEnd(0), None)),
+    Step::Do(0, Op::Thread(ThreadOp::Finish(Value::Plain(0)), None)),
+    EXIT,
+    END,
+    FAIL,
+    Step::Do(0, Op::Cell(CellOp::Write(0), None)),
+    Step::Do(0, Op::Cell(CellOp::WriteEnd(0, Value::Plain(123)), None)),
+    Step::Do(0, Op::Atomic(AtomicOp::Store(1, 1, Release), None)),
+    Step::Do(0, Op::Thread(ThreadOp::Finish(Value::Plain(0)), None)),
+    EXIT,
+    END,
+];
+
+/// Main and a thread both write a cell (loom's `tests/unsafe_cell.rs`).
+pub const UNSAFE_CELL_RACE_MUT_MUT_1: &[Step] = &[
+    Step::Do(0, Op::Cell(CellOp::New(Value::Plain(1)), None)),
+    Step::Do(1, Op::Thread(ThreadOp::Spawn(12, None), None)),
+    Step::Do(0, Op::Cell(CellOp::Write(0), None)),
+    Step::Do(0, Op::Cell(CellOp::WriteEnd(0, Value::Next(0)), None)),
+    Step::Do(1, Op::Thread(ThreadOp::Join(1, 1), None)),
+    Step::Do(0, Op::Cell(CellOp::Write(0), None)),
+    Step::Do(0, Op::Cell(CellOp::WriteEnd(0, Value::Next(0)), None)),
+    Step::Unless(0, 3, 11),
+    Step::Do(0, Op::Thread(ThreadOp::Finish(Value::Plain(0)), None)),
+    EXIT,
+    END,
+    FAIL,
+    Step::Do(0, Op::Cell(CellOp::Write(0), None)),
+    Step::Do(0, Op::Cell(CellOp::WriteEnd(0, Value::Next(0)), None)),
+    Step::Do(0, Op::Thread(ThreadOp::Finish(Value::Plain(0)), None)),
+    EXIT,
+    END,
+];
+
+/// Two threads both write a cell (loom's `tests/unsafe_cell.rs`).
+pub const UNSAFE_CELL_RACE_MUT_MUT_2: &[Step] = &[
+    Step::Do(0, Op::Cell(CellOp::New(Value::Plain(1)), None)),
+    Step::Do(1, Op::Thread(ThreadOp::Spawn(12, None), None)),
+    Step::Do(2, Op::Thread(ThreadOp::Spawn(12, None), None)),
+    Step::Do(1, Op::Thread(ThreadOp::Join(1, 1), None)),
+    Step::Do(1, Op::Thread(ThreadOp::Join(2, 2), None)),
+    Step::Do(0, Op::Cell(CellOp::Write(0), None)),
+    Step::Do(0, Op::Cell(CellOp::WriteEnd(0, Value::Next(0)), None)),
+    Step::Unless(0, 3, 11),
+    Step::Do(0, Op::Thread(ThreadOp::Finish(Value::Plain(0)), None)),
+    EXIT,
+    END,
+    FAIL,
+    Step::Do(0, Op::Cell(CellOp::Write(0), None)),
+    Step::Do(0, Op::Cell(CellOp::WriteEnd(0, Value::Next(0)), None)),
+    Step::Do(0, Op::Thread(ThreadOp::Finish(Value::Plain(0)), None)),
+    EXIT,
+    END,
+];
+
+/// A thread writes a cell that main reads (loom's `tests/unsafe_cell.rs`).
+pub const UNSAFE_CELL_RACE_MUT_IMMUT_1: &[Step] = &[
+    Step::Do(0, Op::Cell(CellOp::New(Value::Plain(1)), None)),
+    Step::Do(1, Op::Thread(ThreadOp::Spawn(12, None), None)),
+    Step::Do(0, Op::Cell(CellOp::Read(0), None)),
+    Step::Do(0, Op::Cell(CellOp::ReadEnd(0), None)),
+    Step::Do(1, Op::Thread(ThreadOp::Join(1, 1), None)),
+    Step::Do(0, Op::Cell(CellOp::Write(0), None)),
+    Step::Do(0, Op::Cell(CellOp::WriteEnd(0, Value::Next(0)), None)),
+    Step::Unless(0, 2, 11),
+    Step::Do(0, Op::Thread(ThreadOp::Finish(Value::Plain(0)), None)),
+    EXIT,
+    END,
+    FAIL,
+    Step::Do(0, Op::Cell(CellOp::Write(0), None)),
+    Step::Do(0, Op::Cell(CellOp::WriteEnd(0, Value::Next(0)), None)),
+    Step::Unless(0, 1, 11),
+    Step::Do(0, Op::Thread(ThreadOp::Finish(Value::Plain(0)), None)),
+    EXIT,
+    END,
+];
+
+/// A thread reads a cell that main writes (loom's `tests/unsafe_cell.rs`).
+pub const UNSAFE_CELL_RACE_MUT_IMMUT_2: &[Step] = &[
+    Step::Do(0, Op::Cell(CellOp::New(Value::Plain(1)), None)),
+    Step::Do(1, Op::Thread(ThreadOp::Spawn(13, None), None)),
+    Step::Do(0, Op::Cell(CellOp::Write(0), None)),
+    Step::Do(0, Op::Cell(CellOp::WriteEnd(0, Value::Next(0)), None)),
+    Step::Unless(0, 1, 12),
+    Step::Do(1, Op::Thread(ThreadOp::Join(1, 1), None)),
+    Step::Do(0, Op::Cell(CellOp::Write(0), None)),
+    Step::Do(0, Op::Cell(CellOp::WriteEnd(0, Value::Next(0)), None)),
+    Step::Unless(0, 2, 12),
+    Step::Do(0, Op::Thread(ThreadOp::Finish(Value::Plain(0)), None)),
+    EXIT,
+    END,
+    FAIL,
+    Step::Do(0, Op::Cell(CellOp::Read(0), None)),
+    Step::Do(0, Op::Cell(CellOp::ReadEnd(0), None)),
+    Step::Do(0, Op::Thread(ThreadOp::Finish(Value::Plain(0)), None)),
+    EXIT,
+    END,
+];
+
+/// The first of two threads writes a cell that the second one reads (loom's `tests/unsafe_cell.rs`).
+pub const UNSAFE_CELL_RACE_MUT_IMMUT_3: &[Step] = &[
+    Step::Do(0, Op::Cell(CellOp::New(Value::Plain(1)), None)),
+    Step::Do(1, Op::Thread(ThreadOp::Spawn(12, None), None)),
+    Step::Do(2, Op::Thread(ThreadOp::Spawn(18, None), None)),
+    Step::Do(1, Op::Thread(ThreadOp::Join(1, 1), None)),
+    Step::Do(1, Op::Thread(ThreadOp::Join(2, 2), None)),
+    Step::Do(0, Op::Cell(CellOp::Write(0), None)),
+    Step::Do(0, Op::Cell(CellOp::WriteEnd(0, Value::Next(0)), None)),
+    Step::Unless(0, 2, 11),
+    Step::Do(0, Op::Thread(ThreadOp::Finish(Value::Plain(0)), None)),
+    EXIT,
+    END,
+    FAIL,
+    Step::Do(0, Op::Cell(CellOp::Write(0), None)),
+    Step::Do(0, Op::Cell(CellOp::WriteEnd(0, Value::Next(0)), None)),
+    Step::Unless(0, 1, 11),
+    Step::Do(0, Op::Thread(ThreadOp::Finish(Value::Plain(0)), None)),
+    EXIT,
+    END,
+    Step::Do(0, Op::Cell(CellOp::Read(0), None)),
+    Step::Do(0, Op::Cell(CellOp::ReadEnd(0), None)),
+    Step::Do(0, Op::Thread(ThreadOp::Finish(Value::Plain(0)), None)),
+    EXIT,
+    END,
+];
+
+/// The second of two threads writes a cell that the first one reads (loom's `tests/unsafe_cell.rs`).
+pub const UNSAFE_CELL_RACE_MUT_IMMUT_4: &[Step] = &[
+    Step::Do(0, Op::Cell(CellOp::New(Value::Plain(1)), None)),
+    Step::Do(1, Op::Thread(ThreadOp::Spawn(12, None), None)),
+    Step::Do(2, Op::Thread(ThreadOp::Spawn(17, None), None)),
+    Step::Do(1, Op::Thread(ThreadOp::Join(1, 1), None)),
+    Step::Do(1, Op::Thread(ThreadOp::Join(2, 2), None)),
+    Step::Do(0, Op::Cell(CellOp::Write(0), None)),
+    Step::Do(0, Op::Cell(CellOp::WriteEnd(0, Value::Next(0)), None)),
+    Step::Unless(0, 2, 11),
+    Step::Do(0, Op::Thread(ThreadOp::Finish(Value::Plain(0)), None)),
+    EXIT,
+    END,
+    FAIL,
+    Step::Do(0, Op::Cell(CellOp::Read(0), None)),
+    Step::Do(0, Op::Cell(CellOp::ReadEnd(0), None)),
+    Step::Do(0, Op::Thread(ThreadOp::Finish(Value::Plain(0)), None)),
+    EXIT,
+    END,
+    Step::Do(0, Op::Cell(CellOp::Write(0), None)),
+    Step::Do(0, Op::Cell(CellOp::WriteEnd(0, Value::Next(0)), None)),
+    Step::Unless(0, 1, 11),
+    Step::Do(0, Op::Thread(ThreadOp::Finish(Value::Plain(0)), None)),
+    EXIT,
+    END,
+];
+
+/// The same, where the second one reads it before it writes (loom's `tests/unsafe_cell.rs`).
+pub const UNSAFE_CELL_RACE_MUT_IMMUT_5: &[Step] = &[
+    Step::Do(0, Op::Cell(CellOp::New(Value::Plain(1)), None)),
+    Step::Do(1, Op::Thread(ThreadOp::Spawn(12, None), None)),
+    Step::Do(2, Op::Thread(ThreadOp::Spawn(17, None), None)),
+    Step::Do(1, Op::Thread(ThreadOp::Join(1, 1), None)),
+    Step::Do(1, Op::Thread(ThreadOp::Join(2, 2), None)),
+    Step::Do(0, Op::Cell(CellOp::Write(0), None)),
+    Step::Do(0, Op::Cell(CellOp::WriteEnd(0, Value::Next(0)), None)),
+    Step::Unless(0, 2, 11),
+    Step::Do(0, Op::Thread(ThreadOp::Finish(Value::Plain(0)), None)),
+    EXIT,
+    END,
+    FAIL,
+    Step::Do(0, Op::Cell(CellOp::Read(0), None)),
+    Step::Do(0, Op::Cell(CellOp::ReadEnd(0), None)),
+    Step::Do(0, Op::Thread(ThreadOp::Finish(Value::Plain(0)), None)),
+    EXIT,
+    END,
+    Step::Do(0, Op::Cell(CellOp::Read(0), None)),
+    Step::Do(0, Op::Cell(CellOp::ReadEnd(0), None)),
+    Step::Unless(0, 1, 11),
+    Step::Do(0, Op::Cell(CellOp::Write(0), None)),
+    Step::Do(0, Op::Cell(CellOp::WriteEnd(0, Value::Next(0)), None)),
+    Step::Unless(0, 1, 11),
+    Step::Do(0, Op::Thread(ThreadOp::Finish(Value::Plain(0)), None)),
+    EXIT,
+    END,
+];
+
+/// Main writes a cell, then a thread, which it joins, and then main again (loom's `tests/unsafe_cell.rs`).
+pub const UNSAFE_CELL_OK_1: &[Step] = &[
+    Step::Do(0, Op::Cell(CellOp::New(Value::Plain(1)), None)),
+    Step::Do(0, Op::Cell(CellOp::Write(0), None)),
+    Step::Do(0, Op::Cell(CellOp::WriteEnd(0, Value::Next(0)), None)),
+    Step::Unless(0, 1, 12),
+    Step::Do(1, Op::Thread(ThreadOp::Spawn(13, None), None)),
+    Step::Do(1, Op::Thread(ThreadOp::Join(1, 1), None)),
+    Step::Do(0, Op::Cell(CellOp::Write(0), None)),
+    Step::Do(0, Op::Cell(CellOp::WriteEnd(0, Value::Next(0)), None)),
+    Step::Unless(0, 3, 12),
+    Step::Do(0, Op::Thread(ThreadOp::Finish(Value::Plain(0)), None)),
+    EXIT,
+    END,
+    FAIL,
+    Step::Do(0, Op::Cell(CellOp::Write(0), None)),
+    Step::Do(0, Op::Cell(CellOp::WriteEnd(0, Value::Next(0)), None)),
+    Step::Unless(0, 2, 12),
+    Step::Do(0, Op::Thread(ThreadOp::Finish(Value::Plain(0)), None)),
+    EXIT,
+    END,
+];
+
+/// The same, where each of them reads the cell first (loom's `tests/unsafe_cell.rs`).
+pub const UNSAFE_CELL_OK_2: &[Step] = &[
+    Step::Do(0, Op::Cell(CellOp::New(Value::Plain(1)), None)),
+    Step::Do(0, Op::Cell(CellOp::Read(0), None)),
+    Step::Do(0, Op::Cell(CellOp::ReadEnd(0), None)),
+    Step::Unless(0, 1, 18),
+    Step::Do(0, Op::Cell(CellOp::Write(0), None)),
+    Step::Do(0, Op::Cell(CellOp::WriteEnd(0, Value::Next(0)), None)),
+    Step::Unless(0, 1, 18),
+    Step::Do(1, Op::Thread(ThreadOp::Spawn(19, None), None)),
+    Step::Do(1, Op::Thread(ThreadOp::Join(1, 1), None)),
+    Step::Do(0, Op::Cell(CellOp::Read(0), None)),
+    Step::Do(0, Op::Cell(CellOp::ReadEnd(0), None)),
+    Step::Unless(0, 3, 18),
+    Step::Do(0, Op::Cell(CellOp::Write(0), None)),
+    Step::Do(0, Op::Cell(CellOp::WriteEnd(0, Value::Next(0)), None)),
+    Step::Unless(0, 3, 18),
+    Step::Do(0, Op::Thread(ThreadOp::Finish(Value::Plain(0)), None)),
+    EXIT,
+    END,
+    FAIL,
+    Step::Do(0, Op::Cell(CellOp::Read(0), None)),
+    Step::Do(0, Op::Cell(CellOp::ReadEnd(0), None)),
+    Step::Unless(0, 2, 18),
+    Step::Do(0, Op::Cell(CellOp::Write(0), None)),
+    Step::Do(0, Op::Cell(CellOp::WriteEnd(0, Value::Next(0)), None)),
+    Step::Unless(0, 2, 18),
+    Step::Do(0, Op::Thread(ThreadOp::Finish(Value::Plain(0)), None)),
+    EXIT,
+    END,
+];
+
+/// Main, a thread and a thread of that one read a cell. Main writes it after they were joined (loom's `tests/unsafe_cell.rs`).
+pub const UNSAFE_CELL_OK_3: &[Step] = &[
+    Step::Do(0, Op::Cell(CellOp::New(Value::Plain(1)), None)),
+    Step::Do(1, Op::Thread(ThreadOp::Spawn(13, None), None)),
+    Step::Do(0, Op::Cell(CellOp::Read(0), None)),
+    Step::Do(0, Op::Cell(CellOp::ReadEnd(0), None)),
+    Step::Unless(0, 1, 12),
+    Step::Do(1, Op::Thread(ThreadOp::Join(1, 1), None)),
+    Step::Do(0, Op::Cell(CellOp::Write(0), None)),
+    Step::Do(0, Op::Cell(CellOp::WriteEnd(0, Value::Next(0)), None)),
+    Step::Unless(0, 1, 12),
+    Step::Do(0, Op::Thread(ThreadOp::Finish(Value::Plain(0)), None)),
+    EXIT,
+    END,
+    FAIL,
+    Step::Do(0, Op::Cell(CellOp::Read(0), None)),
+    Step::Do(0, Op::Cell(CellOp::ReadEnd(0), None)),
+    Step::Unless(0, 1, 12),
+    Step::Do(1, Op::Thread(ThreadOp::Spawn(24, None), None)),
+    Step::Do(0, Op::Cell(CellOp::Read(0), None)),
+    Step::Do(0, Op::Cell(CellOp::ReadEnd(0), None)),
+    Step::Unless(0, 1, 12),
+    Step::Do(1, Op::Thread(ThreadOp::Join(1, 1), None)),
+    Step::Do(0, Op::Thread(ThreadOp::Finish(Value::Plain(0)), None)),
+    EXIT,
+    END,
+    Step::Do(0, Op::Cell(CellOp::Read(0), None)),
+    Step::Do(0, Op::Cell(CellOp::ReadEnd(0), None)),
+    Step::Unless(0, 1, 12),
+    Step::Do(0, Op::Thread(ThreadOp::Finish(Value::Plain(0)), None)),
+    EXIT,
+    END,
+];
+
+/// A thread writes a cell after it released an atomic. Main writes the cell where it acquires that (loom's `tests/unsafe_cell.rs`).
+pub const UNSAFE_CELL_ACCESS_AFTER_SYNC: &[Step] = &[
+    Step::Do(0, Op::Atomic(AtomicOp::New(Numbers::U64, 0), None)),
+    Step::Do(1, Op::Cell(CellOp::New(Value::Plain(0)), None)),
+    Step::Do(2, Op::Thread(ThreadOp::Spawn(10, None), None)),
+    Step::Do(0, Op::Atomic(AtomicOp::Load(0, Acquire), None)),
+    Step::Unless(0, 1, 7),
+    Step::Do(1, Op::Cell(CellOp::Write(1), None)),
+    Step::Do(0, Op::Cell(CellOp::WriteEnd(1, Value::Plain(2)), None)),
+    Step::Do(0, Op::Thread(ThreadOp::Finish(Value::Plain(0)), None)),
+    EXIT,
+    END,
+    Step::Do(0, Op::Atomic(AtomicOp::Store(0, 1, Release), None)),
+    Step::Do(1, Op::Cell(CellOp::Write(1), None)),
+    Step::Do(0, Op::Cell(CellOp::WriteEnd(1, Value::Plain(1)), None)),
+    Step::Do(0, Op::Thread(ThreadOp::Finish(Value::Plain(0)), None)),
+    EXIT,
+    END,
+];
+
+/// Main reads a cell while it writes it.
+pub const READ_IN_WRITE: &[Step] = &[
+    Step::Do(0, Op::Cell(CellOp::New(Value::Plain(0)), None)),
+    Step::Do(0, Op::Cell(CellOp::Write(0), None)),
+    Step::Do(0, Op::Cell(CellOp::Read(0), None)),
+    Step::Do(0, Op::Cell(CellOp::ReadEnd(0), None)),
+    Step::Do(0, Op::Cell(CellOp::WriteEnd(0, Value::Plain(1)), None)),
+    Step::Do(0, Op::Thread(ThreadOp::Finish(Value::Plain(0)), None)),
+    EXIT,
+    END,
+];
+
+/// Main makes a counted reference and doesn't drop it (loom's `tests/arc.rs`).
+pub const DETECT_MEM_LEAK: &[Step] = &[
+    Step::Do(0, Op::Arc(ArcOp::New(Value::Plain(0)), None)),
+    Step::Do(0, Op::Thread(ThreadOp::Finish(Value::Plain(0)), None)),
+    EXIT,
+    END,
+];
+
+/// Main makes a counted reference and clones it, asserts that there are two, and drops both. It finishes with the value.
+pub const ARC_COUNT: &[Step] = &[
+    Step::Do(0, Op::Arc(ArcOp::New(Value::Plain(7)), None)),
+    Step::Do(0, Op::Arc(ArcOp::Clone(0), None)),
+    Step::Do(0, Op::Arc(ArcOp::StrongCount(0), None)),
+    Step::Unless(0, 2, 9),
+    Step::Do(1, Op::Arc(ArcOp::Drop(0), None)),
+    Step::Do(1, Op::Arc(ArcOp::Drop(0), None)),
+    Step::Do(0, Op::Thread(ThreadOp::Finish(Value::Held(1)), None)),
+    EXIT,
+    END,
+    FAIL,
+];
+
+/// Main makes a counted reference, takes it apart, and finishes with the value.
+pub const ARC_UNWRAP: &[Step] = &[
+    Step::Do(0, Op::Arc(ArcOp::New(Value::Plain(7)), None)),
+    Step::Do(0, Op::Arc(ArcOp::TryUnwrap(0), None)),
+    Step::Do(0, Op::Thread(ThreadOp::Finish(Value::Held(0)), None)),
+    EXIT,
+    END,
+];
+
+/// Main makes a tracked value and then a counted reference, and drops neither.
+pub const TRACK_THEN_ARC: &[Step] = &[
+    Step::Do(0, Op::Track(TrackOp::New(Value::Plain(0)), None)),
+    Step::Do(1, Op::Arc(ArcOp::New(Value::Plain(0)), None)),
+    Step::Do(0, Op::Thread(ThreadOp::Finish(Value::Plain(0)), None)),
+    EXIT,
+    END,
+];
+
+/// Main makes a counted reference and then a tracked value, and drops neither.
+pub const ARC_THEN_TRACK: &[Step] = &[
+    Step::Do(0, Op::Arc(ArcOp::New(Value::Plain(0)), None)),
+    Step::Do(1, Op::Track(TrackOp::New(Value::Plain(0)), None)),
+    Step::Do(0, Op::Thread(ThreadOp::Finish(Value::Plain(0)), None)),
+    EXIT,
+    END,
+];
+
+static CELL_ROWS: [Row; 19] = [
+    row!("atomic_causality_success", ATOMIC_CAUSALITY_SUCCESS),
+    row!("atomic_causality_fail", ATOMIC_CAUSALITY_FAIL),
+    row!("unsafe_cell_race_mut_mut_1", UNSAFE_CELL_RACE_MUT_MUT_1),
+    row!("unsafe_cell_race_mut_mut_2", UNSAFE_CELL_RACE_MUT_MUT_2),
+    row!("unsafe_cell_race_mut_immut_1", UNSAFE_CELL_RACE_MUT_IMMUT_1),
+    row!("unsafe_cell_race_mut_immut_2", UNSAFE_CELL_RACE_MUT_IMMUT_2),
+    row!("unsafe_cell_race_mut_immut_3", UNSAFE_CELL_RACE_MUT_IMMUT_3),
+    row!("unsafe_cell_race_mut_immut_4", UNSAFE_CELL_RACE_MUT_IMMUT_4),
+    row!("unsafe_cell_race_mut_immut_5", UNSAFE_CELL_RACE_MUT_IMMUT_5),
+    row!("unsafe_cell_ok_1", UNSAFE_CELL_OK_1),
+    row!("unsafe_cell_ok_2", UNSAFE_CELL_OK_2),
+    row!("unsafe_cell_ok_3", UNSAFE_CELL_OK_3),
+    row!(
+        "unsafe_cell_access_after_sync",
+        UNSAFE_CELL_ACCESS_AFTER_SYNC
+    ),
+    row!("read_in_write", READ_IN_WRITE),
+    row!("detect_mem_leak", DETECT_MEM_LEAK),
+    row!("arc_count", ARC_COUNT),
+    row!("arc_unwrap", ARC_UNWRAP),
+    row!("track_then_arc", TRACK_THEN_ARC),
+    row!("arc_then_track", ARC_THEN_TRACK),
+];
+
+/// The rows of these scripts.
+pub fn rows() -> &'static [Row]
+    ensures { map named result.now ≡ cell_rows }
+{
+    &CELL_ROWS
+}

@@ -1,0 +1,173 @@
+//! The scripts of the rows about channels.
+ghost use Rattle.std.specs.Prelude.{map};
+ghost use Rattle.loom_row_tables.specs.Meanings.{named};
+ghost use Rattle.loom_row_tables.specs.Names.{AreChannelRows};
+
+use crate::rows::{DEFAULTS, Row, row};
+use loom_objects::operation::{ChannelOp, Op, ThreadOp};
+use loom_objects::rt::thread::Name;
+use loom_scripts::step::{END, EXIT, FAIL, Step, Value};
+
+const FINISH: Step = Step::Do(0, Op::Thread(ThreadOp::Finish(Value::Plain(7)), None));
+
+/// Main sends 5, receives it, drops both ends, and finishes with what it received.
+pub const SEND_THEN_RECV: &[Step] = &[
+    Step::Do(0, Op::Channel(ChannelOp::New, None)),
+    Step::Do(0, Op::Channel(ChannelOp::Send(0, Value::Plain(5)), None)),
+    Step::Do(0, Op::Channel(ChannelOp::Recv(0), None)),
+    Step::Do(1, Op::Channel(ChannelOp::DropSender(0), None)),
+    Step::Do(1, Op::Channel(ChannelOp::DropReceiver(0), None)),
+    Step::Do(0, Op::Thread(ThreadOp::Finish(Value::Held(0)), None)),
+    EXIT,
+    END,
+];
+
+/// Main drops the only sender, and asserts that nothing can be received then.
+pub const RECV_AFTER_DROP: &[Step] = &[
+    Step::Do(0, Op::Channel(ChannelOp::New, None)),
+    Step::Do(0, Op::Channel(ChannelOp::DropSender(0), None)),
+    Step::Do(0, Op::Channel(ChannelOp::Recv(0), None)),
+    Step::Unless(3, 2, 8),
+    Step::Do(1, Op::Channel(ChannelOp::DropReceiver(0), None)),
+    FINISH,
+    EXIT,
+    END,
+    FAIL,
+];
+
+/// Two threads each send a number, 5 and 6. Main receives twice, and finishes with ten times the first number and the second
+/// (loom's `tests/mpsc.rs`).
+pub const COMMUTATIVE_SENDERS: &[Step] = &[
+    Step::Do(0, Op::Channel(ChannelOp::New, None)),
+    Step::Do(0, Op::Channel(ChannelOp::CloneSender(0), None)),
+    Step::Do(1, Op::Thread(ThreadOp::Spawn(10, None), None)),
+    Step::Do(2, Op::Thread(ThreadOp::Spawn(15, None), None)),
+    Step::Do(0, Op::Channel(ChannelOp::Recv(0), None)),
+    Step::Do(1, Op::Channel(ChannelOp::Recv(0), None)),
+    Step::Do(2, Op::Channel(ChannelOp::DropReceiver(0), None)),
+    Step::Do(0, Op::Thread(ThreadOp::Finish(Value::Both(0, 1)), None)),
+    EXIT,
+    END,
+    Step::Do(0, Op::Channel(ChannelOp::Send(0, Value::Plain(5)), None)),
+    Step::Do(0, Op::Channel(ChannelOp::DropSender(0), None)),
+    FINISH,
+    EXIT,
+    END,
+    Step::Do(0, Op::Channel(ChannelOp::Send(0, Value::Plain(6)), None)),
+    Step::Jump(11),
+];
+
+/// The same, but main asserts that the first number is 5 (loom's `tests/mpsc.rs`).
+pub const NON_COMMUTATIVE_SENDERS1: &[Step] = &[
+    Step::Do(0, Op::Channel(ChannelOp::New, None)),
+    Step::Do(0, Op::Channel(ChannelOp::CloneSender(0), None)),
+    Step::Do(1, Op::Thread(ThreadOp::Spawn(12, None), None)),
+    Step::Do(2, Op::Thread(ThreadOp::Spawn(17, None), None)),
+    Step::Do(0, Op::Channel(ChannelOp::Recv(0), None)),
+    Step::Unless(0, 5, 11),
+    Step::Do(1, Op::Channel(ChannelOp::Recv(0), None)),
+    Step::Do(2, Op::Channel(ChannelOp::DropReceiver(0), None)),
+    FINISH,
+    EXIT,
+    END,
+    FAIL,
+    Step::Do(0, Op::Channel(ChannelOp::Send(0, Value::Plain(5)), None)),
+    Step::Do(0, Op::Channel(ChannelOp::DropSender(0), None)),
+    FINISH,
+    EXIT,
+    END,
+    Step::Do(0, Op::Channel(ChannelOp::Send(0, Value::Plain(6)), None)),
+    Step::Jump(13),
+];
+
+/// Main asserts that a new channel is empty, and drops both ends.
+pub const TRY_RECV_EMPTY: &[Step] = &[
+    Step::Do(0, Op::Channel(ChannelOp::New, None)),
+    Step::Do(0, Op::Channel(ChannelOp::TryRecv(0), None)),
+    Step::Unless(3, 1, 8),
+    Step::Do(0, Op::Channel(ChannelOp::DropSender(0), None)),
+    Step::Do(0, Op::Channel(ChannelOp::DropReceiver(0), None)),
+    FINISH,
+    EXIT,
+    END,
+    FAIL,
+];
+
+/// Main sends 1 and 2, asserts that it receives the 1, and that the receiver has the 2 alone when it is dropped (loom's
+/// `tests/mpsc.rs`).
+pub const DROP_RECEIVER: &[Step] = &[
+    Step::Do(0, Op::Channel(ChannelOp::New, None)),
+    Step::Do(0, Op::Channel(ChannelOp::Send(0, Value::Plain(1)), None)),
+    Step::Do(0, Op::Channel(ChannelOp::Send(0, Value::Plain(2)), None)),
+    Step::Do(0, Op::Channel(ChannelOp::Recv(0), None)),
+    Step::Unless(0, 1, 11),
+    Step::Do(1, Op::Channel(ChannelOp::DropReceiver(0), None)),
+    Step::Unless(1, 12, 11),
+    Step::Do(0, Op::Channel(ChannelOp::DropSender(0), None)),
+    FINISH,
+    EXIT,
+    END,
+    FAIL,
+];
+
+/// Main sends a number, and ends.
+pub const MESSAGE_LEFT: &[Step] = &[
+    Step::Do(0, Op::Channel(ChannelOp::New, None)),
+    Step::Do(0, Op::Channel(ChannelOp::Send(0, Value::Plain(5)), None)),
+    FINISH,
+    EXIT,
+    END,
+];
+
+/// Main drops the receiver, and asserts that the 5 that it sends then comes back.
+pub const SEND_LATE: &[Step] = &[
+    Step::Do(0, Op::Channel(ChannelOp::New, None)),
+    Step::Do(0, Op::Channel(ChannelOp::DropReceiver(0), None)),
+    Step::Do(0, Op::Channel(ChannelOp::Send(0, Value::Plain(5)), None)),
+    Step::Unless(3, 5, 8),
+    Step::Do(0, Op::Channel(ChannelOp::DropSender(0), None)),
+    FINISH,
+    EXIT,
+    END,
+    FAIL,
+];
+
+/// Main spawns a thread with a name, which sends the name, and finishes with what it receives (loom's `tests/thread_api.rs`).
+pub const NAME_SENT: &[Step] = &[
+    Step::Do(0, Op::Channel(ChannelOp::New, None)),
+    Step::Do(
+        1,
+        Op::Thread(ThreadOp::Spawn(8, Some(Name { text: "foobar" })), None),
+    ),
+    Step::Do(0, Op::Channel(ChannelOp::Recv(0), None)),
+    Step::Do(1, Op::Thread(ThreadOp::Join(1, 1), None)),
+    Step::Do(1, Op::Channel(ChannelOp::DropReceiver(0), None)),
+    Step::Do(0, Op::Thread(ThreadOp::Finish(Value::Held(0)), None)),
+    EXIT,
+    END,
+    Step::Do(2, Op::Thread(ThreadOp::Current, None)),
+    Step::Do(0, Op::Channel(ChannelOp::Send(0, Value::Held(2)), None)),
+    Step::Do(0, Op::Channel(ChannelOp::DropSender(0), None)),
+    FINISH,
+    EXIT,
+    END,
+];
+
+static CHANNEL_ROWS: [Row; 9] = [
+    row!("send_then_recv", SEND_THEN_RECV),
+    row!("recv_after_drop", RECV_AFTER_DROP),
+    row!("commutative_senders", COMMUTATIVE_SENDERS),
+    row!("non_commutative_senders1", NON_COMMUTATIVE_SENDERS1),
+    row!("try_recv_empty", TRY_RECV_EMPTY),
+    row!("drop_receiver", DROP_RECEIVER),
+    row!("message_left", MESSAGE_LEFT),
+    row!("send_late", SEND_LATE),
+    row!("name_sent", NAME_SENT),
+];
+
+/// The rows of these scripts.
+pub fn rows() -> &'static [Row]
+    ensures { AreChannelRows (map named result.now) }
+{
+    &CHANNEL_ROWS
+}

@@ -1,0 +1,81 @@
+//! The scripts of the rows about runs that explore from somewhere on, or up to somewhere.
+ghost use Rattle.std.specs.Prelude.{◌≡◌, map};
+ghost use Rattle.loom_row_tables.specs.Meanings.{named};
+ghost use Rattle.loom_row_tables.specs.Names.{exploring_rows};
+
+use crate::bodies::LOCK_BESIDE;
+use crate::rows::{EXPLICIT, Row, WHOLE, row};
+use loom_objects::operation::{ExploreOp, MutexOp, Op, ThreadOp};
+use loom_scripts::step::{END, EXIT, Step, Value};
+
+const FINISH: Step = Step::Do(0, Op::Thread(ThreadOp::Finish(Value::Plain(7)), None));
+
+const CHILD_FINISH: Step = Step::Do(0, Op::Thread(ThreadOp::Finish(Value::Plain(3)), None));
+
+/// Main stops exploring, and then locks a mutex beside a thread that does nothing but end.
+pub const STOP_EXPLORING: &[Step] = &[
+    Step::Do(0, Op::Explore(ExploreOp::StopExploring, None)),
+    Step::Do(0, Op::Mutex(MutexOp::New(Value::Plain(0)), None)),
+    Step::Do(1, Op::Thread(ThreadOp::Spawn(8, None), None)),
+    Step::Do(0, Op::Mutex(MutexOp::Lock(0), None)),
+    Step::Do(0, Op::Mutex(MutexOp::Release(0, Value::Plain(0)), None)),
+    FINISH,
+    EXIT,
+    END,
+    CHILD_FINISH,
+    EXIT,
+    END,
+];
+
+/// Main stops exploring twice.
+pub const STOP_EXPLORING_TWICE: &[Step] = &[
+    Step::Do(0, Op::Explore(ExploreOp::StopExploring, None)),
+    Step::Do(0, Op::Explore(ExploreOp::StopExploring, None)),
+];
+
+/// The first one, but main ends exploring for the run, which neither `explore` nor `stop_exploring` changes.
+pub const SKIP_BRANCH: &[Step] = &[
+    Step::Do(0, Op::Explore(ExploreOp::SkipBranch, None)),
+    Step::Do(0, Op::Explore(ExploreOp::Explore, None)),
+    Step::Do(0, Op::Explore(ExploreOp::StopExploring, None)),
+    Step::Do(0, Op::Mutex(MutexOp::New(Value::Plain(0)), None)),
+    Step::Do(1, Op::Thread(ThreadOp::Spawn(10, None), None)),
+    Step::Do(0, Op::Mutex(MutexOp::Lock(0), None)),
+    Step::Do(0, Op::Mutex(MutexOp::Release(0, Value::Plain(0)), None)),
+    FINISH,
+    EXIT,
+    END,
+    CHILD_FINISH,
+    EXIT,
+    END,
+];
+
+/// The first one, but main begins to explore.
+pub const EXPLORE_FIRST: &[Step] = &[
+    Step::Do(0, Op::Explore(ExploreOp::Explore, None)),
+    Step::Do(0, Op::Mutex(MutexOp::New(Value::Plain(0)), None)),
+    Step::Do(1, Op::Thread(ThreadOp::Spawn(8, None), None)),
+    Step::Do(0, Op::Mutex(MutexOp::Lock(0), None)),
+    Step::Do(0, Op::Mutex(MutexOp::Release(0, Value::Plain(0)), None)),
+    FINISH,
+    EXIT,
+    END,
+    CHILD_FINISH,
+    EXIT,
+    END,
+];
+
+static EXPLORING_ROWS: [Row; 5] = [
+    row!("stop_exploring", STOP_EXPLORING, WHOLE),
+    row!("stop_exploring_twice", STOP_EXPLORING_TWICE, WHOLE),
+    row!("skip_branch", SKIP_BRANCH, WHOLE),
+    row!("never_explore", LOCK_BESIDE, EXPLICIT),
+    row!("explore_first", EXPLORE_FIRST, EXPLICIT),
+];
+
+/// The rows of these scripts.
+pub fn rows() -> &'static [Row]
+    ensures { map named result.now ≡ exploring_rows }
+{
+    &EXPLORING_ROWS
+}

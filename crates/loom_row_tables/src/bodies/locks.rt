@@ -1,0 +1,315 @@
+//! The scripts of the rows about locks, condition variables, notifiers and threads that wait for one another.
+ghost use Rattle.std.specs.Prelude.{map};
+ghost use Rattle.loom_row_tables.specs.Meanings.{named};
+ghost use Rattle.loom_row_tables.specs.Names.{AreLockRows};
+
+use crate::rows::{DEFAULTS, LONG_RUNS, Row, row};
+use loom_objects::operation::{AtomicOp, CondvarOp, MutexOp, NotifyOp, Op, RwLockOp, ThreadOp};
+use loom_objects::rt::thread::Name;
+use loom_scripts::step::{END, EXIT, FAIL, PARK, Step, Value, YIELD};
+use loom_views::rt::num::Numbers;
+use std::sync::atomic::Ordering::Relaxed;
+
+const FINISH: Step = Step::Do(0, Op::Thread(ThreadOp::Finish(Value::Plain(7)), None));
+
+/// Main releases a mutex that it never locked.
+pub const RELEASE_UNLOCKED: &[Step] = &[
+    Step::Do(0, Op::Mutex(MutexOp::New(Value::Plain(0)), None)),
+    Step::Do(0, Op::Mutex(MutexOp::Release(0, Value::Plain(0)), None)),
+];
+
+/// Main takes the data of a mutex out, and then locks the mutex.
+pub const LOCK_WHILE_OUT: &[Step] = &[
+    Step::Do(0, Op::Mutex(MutexOp::New(Value::Plain(0)), None)),
+    Step::Do(0, Op::Mutex(MutexOp::GetMut(0), None)),
+    Step::Do(0, Op::Mutex(MutexOp::Lock(0), None)),
+];
+
+/// Two threads each add 1 to what a mutex holds. Main joins them, takes the mutex apart, and asserts that it held 2 (loom's
+/// `tests/mutex.rs`).
+pub const MUTEX_INTO_INNER: &[Step] = &[
+    Step::Do(0, Op::Mutex(MutexOp::New(Value::Plain(0)), None)),
+    Step::Do(1, Op::Thread(ThreadOp::Spawn(11, None), None)),
+    Step::Do(2, Op::Thread(ThreadOp::Spawn(11, None), None)),
+    Step::Do(1, Op::Thread(ThreadOp::Join(1, 1), None)),
+    Step::Do(1, Op::Thread(ThreadOp::Join(2, 2), None)),
+    Step::Do(0, Op::Mutex(MutexOp::IntoInner(0), None)),
+    Step::Unless(0, 2, 10),
+    Step::Do(0, Op::Thread(ThreadOp::Finish(Value::Held(0)), None)),
+    EXIT,
+    END,
+    FAIL,
+    Step::Do(0, Op::Mutex(MutexOp::Lock(0), None)),
+    Step::Do(0, Op::Mutex(MutexOp::Release(0, Value::Next(0)), None)),
+    FINISH,
+    EXIT,
+    END,
+];
+
+/// Main locks and releases a mutex 65,534 times, which is as often as a thread may use objects. It counts that in the mutex.
+pub const MANY_LOCKS: &[Step] = &[
+    Step::Do(0, Op::Mutex(MutexOp::New(Value::Plain(0)), None)),
+    Step::Do(0, Op::Mutex(MutexOp::Lock(0), None)),
+    Step::Do(0, Op::Mutex(MutexOp::Release(0, Value::Next(0)), None)),
+    Step::Unless(0, 65_533, 1),
+    FINISH,
+    EXIT,
+    END,
+];
+
+/// The same, once more.
+pub const TOO_MANY_LOCKS: &[Step] = &[
+    Step::Do(0, Op::Mutex(MutexOp::New(Value::Plain(0)), None)),
+    Step::Do(0, Op::Mutex(MutexOp::Lock(0), None)),
+    Step::Do(0, Op::Mutex(MutexOp::Release(0, Value::Next(0)), None)),
+    Step::Unless(0, 65_534, 1),
+    FINISH,
+    EXIT,
+    END,
+];
+
+/// Main takes two guards for reading of a lock, and ends both.
+pub const RWLOCK_READ_TWICE: &[Step] = &[
+    Step::Do(0, Op::RwLock(RwLockOp::New(Value::Plain(1)), None)),
+    Step::Do(0, Op::RwLock(RwLockOp::Read(0), None)),
+    Step::Do(0, Op::RwLock(RwLockOp::Read(0), None)),
+    Step::Do(0, Op::RwLock(RwLockOp::ReadRelease(0), None)),
+    Step::Do(0, Op::RwLock(RwLockOp::ReadRelease(0), None)),
+    FINISH,
+    EXIT,
+    END,
+];
+
+/// Main writes a lock, and asserts that it can't be written a second time (loom's `tests/rwlock.rs`).
+pub const RWLOCK_WRITE_THEN_TRY_WRITE: &[Step] = &[
+    Step::Do(0, Op::RwLock(RwLockOp::New(Value::Plain(1)), None)),
+    Step::Do(0, Op::RwLock(RwLockOp::Write(0), None)),
+    Step::Do(0, Op::RwLock(RwLockOp::TryWrite(0), None)),
+    Step::Unless(3, 1, 8),
+    Step::Do(
+        0,
+        Op::RwLock(RwLockOp::WriteRelease(0, Value::Held(0)), None),
+    ),
+    FINISH,
+    EXIT,
+    END,
+    FAIL,
+];
+
+/// A thread ends a guard for reading that main has.
+pub const READ_GUARD_OF_ANOTHER: &[Step] = &[
+    Step::Do(0, Op::RwLock(RwLockOp::New(Value::Plain(0)), None)),
+    Step::Do(0, Op::RwLock(RwLockOp::Read(0), None)),
+    Step::Do(1, Op::Thread(ThreadOp::Spawn(4, None), None)),
+    Step::Do(0, Op::Thread(ThreadOp::Join(1, 1), None)),
+    Step::Do(0, Op::RwLock(RwLockOp::ReadRelease(0), None)),
+];
+
+/// Main writes a lock, and stores 1 into an atomic before it leaves 1 in the lock. Two threads read both under the lock, and assert
+/// that both are 0 or both 1.
+pub const RWLOCK_WRITER_AND_READERS: &[Step] = &[
+    Step::Do(0, Op::RwLock(RwLockOp::New(Value::Plain(0)), None)),
+    Step::Do(1, Op::Atomic(AtomicOp::New(Numbers::U64, 0), None)),
+    Step::Do(2, Op::Thread(ThreadOp::Spawn(11, None), None)),
+    Step::Do(3, Op::Thread(ThreadOp::Spawn(11, None), None)),
+    Step::Do(0, Op::RwLock(RwLockOp::Write(0), None)),
+    Step::Do(0, Op::Atomic(AtomicOp::Store(1, 1, Relaxed), None)),
+    Step::Do(
+        0,
+        Op::RwLock(RwLockOp::WriteRelease(0, Value::Plain(1)), None),
+    ),
+    FINISH,
+    EXIT,
+    END,
+    FAIL,
+    Step::Do(0, Op::RwLock(RwLockOp::Read(0), None)),
+    Step::Do(1, Op::Atomic(AtomicOp::Load(1, Relaxed), None)),
+    Step::Unless(1, 1, 19),
+    Step::Do(2, Op::RwLock(RwLockOp::ReadRelease(0), None)),
+    Step::Unless(0, 1, 10),
+    FINISH,
+    EXIT,
+    END,
+    Step::Do(2, Op::RwLock(RwLockOp::ReadRelease(0), None)),
+    Step::Unless(0, 0, 10),
+    FINISH,
+    EXIT,
+    END,
+];
+
+/// Main waits on a condition variable that nobody notifies.
+pub const CONDVAR_ALONE: &[Step] = &[
+    Step::Do(0, Op::Mutex(MutexOp::New(Value::Plain(0)), None)),
+    Step::Do(1, Op::Condvar(CondvarOp::New, None)),
+    Step::Do(0, Op::Mutex(MutexOp::Lock(0), None)),
+    Step::Do(0, Op::Condvar(CondvarOp::Wait(1, 0, Value::Plain(0)), None)),
+];
+
+/// The same, where main has a token: that is for `park` alone.
+pub const CONDVAR_WITH_TOKEN: &[Step] = &[
+    Step::Do(0, Op::Thread(ThreadOp::Current, None)),
+    Step::Do(0, Op::Thread(ThreadOp::Unpark(0), None)),
+    Step::Do(1, Op::Mutex(MutexOp::New(Value::Plain(0)), None)),
+    Step::Do(2, Op::Condvar(CondvarOp::New, None)),
+    Step::Do(0, Op::Mutex(MutexOp::Lock(1), None)),
+    Step::Do(0, Op::Condvar(CondvarOp::Wait(2, 1, Value::Plain(0)), None)),
+];
+
+/// A thread leaves 7 in a mutex and notifies. Main waits for that unless the 7 is there, and asserts that it finds it.
+pub const CONDVAR_HANDS_OVER: &[Step] = &[
+    Step::Do(0, Op::Mutex(MutexOp::New(Value::Plain(0)), None)),
+    Step::Do(1, Op::Condvar(CondvarOp::New, None)),
+    Step::Do(2, Op::Thread(ThreadOp::Spawn(13, None), None)),
+    Step::Do(0, Op::Mutex(MutexOp::Lock(0), None)),
+    Step::Unless(0, 0, 6),
+    Step::Do(0, Op::Condvar(CondvarOp::Wait(1, 0, Value::Plain(0)), None)),
+    Step::Do(1, Op::Mutex(MutexOp::Release(0, Value::Held(0)), None)),
+    Step::Do(1, Op::Thread(ThreadOp::Join(2, 2), None)),
+    Step::Unless(0, 7, 12),
+    Step::Do(0, Op::Thread(ThreadOp::Finish(Value::Held(0)), None)),
+    EXIT,
+    END,
+    FAIL,
+    Step::Do(0, Op::Mutex(MutexOp::Lock(0), None)),
+    Step::Do(0, Op::Mutex(MutexOp::Release(0, Value::Plain(7)), None)),
+    Step::Do(0, Op::Condvar(CondvarOp::NotifyOne(1), None)),
+    FINISH,
+    EXIT,
+    END,
+];
+
+/// Main and a thread wait on a condition variable, unless they find 7 in the mutex. Another thread leaves that there and
+/// notifies both. Each asserts that it finds the 7.
+pub const NOTIFY_ALL: &[Step] = &[
+    Step::Do(0, Op::Mutex(MutexOp::New(Value::Plain(0)), None)),
+    Step::Do(1, Op::Condvar(CondvarOp::New, None)),
+    Step::Do(2, Op::Thread(ThreadOp::Spawn(4, None), None)),
+    Step::Do(3, Op::Thread(ThreadOp::Spawn(13, None), None)),
+    Step::Do(0, Op::Mutex(MutexOp::Lock(0), None)),
+    Step::Unless(0, 0, 7),
+    Step::Do(0, Op::Condvar(CondvarOp::Wait(1, 0, Value::Plain(0)), None)),
+    Step::Do(1, Op::Mutex(MutexOp::Release(0, Value::Held(0)), None)),
+    Step::Unless(0, 7, 12),
+    Step::Do(0, Op::Thread(ThreadOp::Finish(Value::Held(0)), None)),
+    EXIT,
+    END,
+    FAIL,
+    Step::Do(0, Op::Mutex(MutexOp::Lock(0), None)),
+    Step::Do(0, Op::Mutex(MutexOp::Release(0, Value::Plain(7)), None)),
+    Step::Do(0, Op::Condvar(CondvarOp::NotifyAll(1), None)),
+    FINISH,
+    EXIT,
+    END,
+];
+
+/// Main notifies its own notifier, and then waits on it.
+pub const NOTIFY_WAIT: &[Step] = &[
+    Step::Do(0, Op::Notify(NotifyOp::New, None)),
+    Step::Do(0, Op::Notify(NotifyOp::Notify(0), None)),
+    Step::Do(0, Op::Notify(NotifyOp::Wait(0), None)),
+    FINISH,
+    EXIT,
+    END,
+];
+
+/// Main and a thread wait on one notifier.
+pub const SECOND_WAITER: &[Step] = &[
+    Step::Do(0, Op::Notify(NotifyOp::New, None)),
+    Step::Do(1, Op::Thread(ThreadOp::Spawn(3, None), None)),
+    Step::Do(0, Op::Notify(NotifyOp::Wait(0), None)),
+    Step::Do(0, Op::Notify(NotifyOp::Wait(0), None)),
+];
+
+/// Main gives itself a token, and then parks.
+pub const UNPARK_THEN_PARK: &[Step] = &[
+    Step::Do(0, Op::Thread(ThreadOp::Current, None)),
+    Step::Do(0, Op::Thread(ThreadOp::Unpark(0), None)),
+    PARK,
+    FINISH,
+    EXIT,
+    END,
+];
+
+/// Main parks without a token, and nobody wakes it.
+pub const PARK_ALONE: &[Step] = &[PARK];
+
+/// Main parks, before or after a thread unparks it, which stored 7 into an atomic first. Main asserts that it loads the 7 then.
+pub const UNPARK_WAKES: &[Step] = &[
+    Step::Do(0, Op::Atomic(AtomicOp::New(Numbers::U64, 0), None)),
+    Step::Do(1, Op::Thread(ThreadOp::Current, None)),
+    Step::Do(2, Op::Thread(ThreadOp::Spawn(11, None), None)),
+    Step::Do(1, Op::Atomic(AtomicOp::Load(0, Relaxed), None)),
+    PARK,
+    Step::Do(0, Op::Atomic(AtomicOp::Load(0, Relaxed), None)),
+    Step::Unless(0, 7, 10),
+    Step::Do(0, Op::Thread(ThreadOp::Finish(Value::Held(0)), None)),
+    EXIT,
+    END,
+    FAIL,
+    Step::Do(0, Op::Atomic(AtomicOp::Store(0, 7, Relaxed), None)),
+    Step::Do(0, Op::Thread(ThreadOp::Unpark(1), None)),
+    FINISH,
+    EXIT,
+    END,
+];
+
+/// Main yields beside a thread that does nothing but end.
+pub const YIELD_BESIDE: &[Step] = &[
+    Step::Do(0, Op::Thread(ThreadOp::Spawn(5, None), None)),
+    YIELD,
+    FINISH,
+    EXIT,
+    END,
+    FINISH,
+    EXIT,
+    END,
+];
+
+/// Main spawns a thread with a name, which asks who it is.
+pub const NAMED_CHILD: &[Step] = &[
+    Step::Do(
+        0,
+        Op::Thread(ThreadOp::Spawn(4, Some(Name { text: "foobar" })), None),
+    ),
+    FINISH,
+    EXIT,
+    END,
+    Step::Do(0, Op::Thread(ThreadOp::Current, None)),
+    FINISH,
+    EXIT,
+    END,
+];
+
+/// Main comes to code that is never to be reached.
+pub const UNREACHABLE: &[Step] = &[Step::Do(0, Op::Unreachable(None))];
+
+static LOCK_ROWS: [Row; 21] = [
+    row!("release_unlocked", RELEASE_UNLOCKED),
+    row!("lock_while_out", LOCK_WHILE_OUT),
+    row!("mutex_into_inner", MUTEX_INTO_INNER),
+    row!("many_locks", MANY_LOCKS, LONG_RUNS),
+    row!("too_many_locks", TOO_MANY_LOCKS, LONG_RUNS),
+    row!("rwlock_read_twice", RWLOCK_READ_TWICE),
+    row!("rwlock_write_then_try_write", RWLOCK_WRITE_THEN_TRY_WRITE),
+    row!("read_guard_of_another", READ_GUARD_OF_ANOTHER),
+    row!("rwlock_writer_and_readers", RWLOCK_WRITER_AND_READERS),
+    row!("condvar_alone", CONDVAR_ALONE),
+    row!("condvar_with_token", CONDVAR_WITH_TOKEN),
+    row!("condvar_hands_over", CONDVAR_HANDS_OVER),
+    row!("notify_all", NOTIFY_ALL),
+    row!("notify_wait", NOTIFY_WAIT),
+    row!("second_waiter", SECOND_WAITER),
+    row!("unpark_then_park", UNPARK_THEN_PARK),
+    row!("park_alone", PARK_ALONE),
+    row!("unpark_wakes", UNPARK_WAKES),
+    row!("yield_beside", YIELD_BESIDE),
+    row!("named_child", NAMED_CHILD),
+    row!("unreachable", UNREACHABLE),
+];
+
+/// The rows of these scripts.
+pub fn rows() -> &'static [Row]
+    ensures { AreLockRows (map named result.now) }
+{
+    &LOCK_ROWS
+}

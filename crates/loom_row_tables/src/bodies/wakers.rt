@@ -1,0 +1,90 @@
+//! The scripts of the rows about wakers of futures, and places for them.
+ghost use Rattle.std.specs.Prelude.{◌≡◌, map};
+ghost use Rattle.loom_row_tables.specs.Meanings.{named};
+ghost use Rattle.loom_row_tables.specs.Names.{waker_rows};
+
+use crate::rows::{DEFAULTS, Row, row};
+use loom_objects::operation::{AtomicOp, AtomicWakerOp, Op, ThreadOp, WakerOp};
+use loom_scripts::step::{END, EXIT, FAIL, Step, Value};
+use loom_views::rt::num::Numbers;
+use std::sync::atomic::Ordering::{Acquire, Release};
+
+const FINISH: Step = Step::Do(0, Op::Thread(ThreadOp::Finish(Value::Plain(7)), None));
+
+/// A future is ready at its first poll.
+pub const READY_AT_ONCE: &[Step] = &[
+    Step::Do(0, Op::Waker(WakerOp::New, None)),
+    Step::Do(0, Op::Waker(WakerOp::Finish(0), None)),
+    FINISH,
+    EXIT,
+    END,
+];
+
+/// The same, but a clone of the waker is left.
+pub const WAKER_LEAK: &[Step] = &[
+    Step::Do(0, Op::Waker(WakerOp::New, None)),
+    Step::Do(0, Op::Waker(WakerOp::Clone(0), None)),
+    Step::Do(0, Op::Waker(WakerOp::Finish(0), None)),
+    FINISH,
+    EXIT,
+    END,
+];
+
+/// Main registers a clone of the waker in a place, and wakes by the place.
+pub const WAKER_ROUND: &[Step] = &[
+    Step::Do(0, Op::AtomicWaker(AtomicWakerOp::New, None)),
+    Step::Do(1, Op::Waker(WakerOp::New, None)),
+    Step::Do(0, Op::Waker(WakerOp::Clone(1), None)),
+    Step::Do(0, Op::AtomicWaker(AtomicWakerOp::Register(0, 1), None)),
+    Step::Do(0, Op::AtomicWaker(AtomicWakerOp::Wake(0), None)),
+    Step::Do(0, Op::Waker(WakerOp::Finish(1), None)),
+    FINISH,
+    EXIT,
+    END,
+];
+
+/// Main polls until it finds a gate open. At the first poll it makes a thread that opens the gate and wakes main. Main
+/// finishes with the number of its polls, and asserts that they are three at most (loom's `tests/futures.rs`).
+pub const SPURIOUS_POLL: &[Step] = &[
+    Step::Do(0, Op::Atomic(AtomicOp::New(Numbers::Bool, 0), None)),
+    Step::Do(1, Op::Waker(WakerOp::New, None)),
+    Step::Do(0, Op::Waker(WakerOp::Clone(1), None)),
+    Step::Do(2, Op::Thread(ThreadOp::Spawn(23, None), None)),
+    Step::Do(0, Op::Atomic(AtomicOp::Load(0, Acquire), None)),
+    Step::Unless(0, 1, 9),
+    Step::Do(0, Op::Waker(WakerOp::Finish(1), None)),
+    Step::Do(0, Op::Thread(ThreadOp::Finish(Value::Plain(1)), None)),
+    Step::Jump(20),
+    Step::Do(0, Op::Waker(WakerOp::Wait(1), None)),
+    Step::Do(0, Op::Atomic(AtomicOp::Load(0, Acquire), None)),
+    Step::Unless(0, 1, 15),
+    Step::Do(0, Op::Waker(WakerOp::Finish(1), None)),
+    Step::Do(0, Op::Thread(ThreadOp::Finish(Value::Plain(2)), None)),
+    Step::Jump(20),
+    Step::Do(0, Op::Waker(WakerOp::Wait(1), None)),
+    Step::Do(0, Op::Atomic(AtomicOp::Load(0, Acquire), None)),
+    Step::Unless(0, 1, 22),
+    Step::Do(0, Op::Waker(WakerOp::Finish(1), None)),
+    Step::Do(0, Op::Thread(ThreadOp::Finish(Value::Plain(3)), None)),
+    EXIT,
+    END,
+    FAIL,
+    Step::Do(0, Op::Atomic(AtomicOp::Store(0, 1, Release), None)),
+    Step::Do(0, Op::Waker(WakerOp::Wake(1), None)),
+    FINISH,
+    Step::Jump(20),
+];
+
+static WAKER_ROWS: [Row; 4] = [
+    row!("ready_at_once", READY_AT_ONCE),
+    row!("waker_leak", WAKER_LEAK),
+    row!("waker_round", WAKER_ROUND),
+    row!("spurious_poll", SPURIOUS_POLL),
+];
+
+/// The rows of these scripts.
+pub fn rows() -> &'static [Row]
+    ensures { map named result.now ≡ waker_rows }
+{
+    &WAKER_ROWS
+}

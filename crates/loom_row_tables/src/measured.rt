@@ -1,0 +1,502 @@
+//! The bodies that `loom_bench` measures: their scripts, and how each is checked.
+ghost use Rattle.std.specs.Prelude.{◌≡◌, IfOk, map, option_copied};
+ghost use Rattle.loom_row_tables.specs.Measured as table;
+ghost use Rattle.loom_row_tables.specs.Measured.{body_of, named};
+
+use crate::bodies::TWO_MUTEXES_DEADLOCK;
+use crate::bodies::atomics::{ACQ_REL, THREE_ADDS};
+use crate::rows::{DEFAULTS, LONG_RUNS, WHOLE};
+use crate::settings::Settings;
+use loom_objects::operation::{AtomicOp, CondvarOp, MutexOp, Op, RwLockOp, ThreadOp};
+use loom_scripts::step::{END, EXIT, Step, Value, YIELD};
+use loom_views::rt::num::Numbers;
+use std::alloc::{AllocError, Global};
+use std::sync::atomic::Ordering;
+
+const FINISH: Step = Step::Do(0, Op::Thread(ThreadOp::Finish(Value::Plain(0)), None));
+
+/// Two threads store to an atomic each, and load from the other's.
+const STORE_BUFFERING: &[Step] = &[
+    Step::Do(0, Op::Atomic(AtomicOp::New(Numbers::U64, 0), None)),
+    Step::Do(1, Op::Atomic(AtomicOp::New(Numbers::U64, 0), None)),
+    Step::Do(2, Op::Thread(ThreadOp::Spawn(8, None), None)),
+    Step::Do(
+        0,
+        Op::Atomic(AtomicOp::Store(1, 1, Ordering::Relaxed), None),
+    ),
+    Step::Do(1, Op::Atomic(AtomicOp::Load(0, Ordering::Relaxed), None)),
+    Step::Do(0, Op::Thread(ThreadOp::Join(2, 2), None)),
+    Step::Do(0, Op::Thread(ThreadOp::Finish(Value::Both(0, 1)), None)),
+    Step::Jump(11),
+    Step::Do(
+        0,
+        Op::Atomic(AtomicOp::Store(0, 1, Ordering::Relaxed), None),
+    ),
+    Step::Do(0, Op::Atomic(AtomicOp::Load(1, Ordering::Relaxed), None)),
+    Step::Do(0, Op::Thread(ThreadOp::Finish(Value::Held(0)), None)),
+    EXIT,
+    END,
+];
+
+/// Three threads, of which each loads twice from the next one's atomic, and then stores twice to its own.
+const THREE_THREADS: &[Step] = &[
+    Step::Do(0, Op::Atomic(AtomicOp::New(Numbers::U64, 0), None)),
+    Step::Do(1, Op::Atomic(AtomicOp::New(Numbers::U64, 0), None)),
+    Step::Do(2, Op::Atomic(AtomicOp::New(Numbers::U64, 0), None)),
+    Step::Do(3, Op::Thread(ThreadOp::Spawn(10, None), None)),
+    Step::Do(4, Op::Thread(ThreadOp::Spawn(15, None), None)),
+    Step::Do(0, Op::Atomic(AtomicOp::Load(1, Ordering::Relaxed), None)),
+    Step::Do(1, Op::Atomic(AtomicOp::Load(1, Ordering::Relaxed), None)),
+    Step::Do(
+        0,
+        Op::Atomic(AtomicOp::Store(0, 1, Ordering::Relaxed), None),
+    ),
+    Step::Do(
+        0,
+        Op::Atomic(AtomicOp::Store(0, 2, Ordering::Relaxed), None),
+    ),
+    Step::Jump(19),
+    Step::Do(0, Op::Atomic(AtomicOp::Load(2, Ordering::Relaxed), None)),
+    Step::Do(1, Op::Atomic(AtomicOp::Load(2, Ordering::Relaxed), None)),
+    Step::Do(
+        0,
+        Op::Atomic(AtomicOp::Store(1, 1, Ordering::Relaxed), None),
+    ),
+    Step::Do(
+        0,
+        Op::Atomic(AtomicOp::Store(1, 2, Ordering::Relaxed), None),
+    ),
+    Step::Jump(19),
+    Step::Do(0, Op::Atomic(AtomicOp::Load(0, Ordering::Relaxed), None)),
+    Step::Do(1, Op::Atomic(AtomicOp::Load(0, Ordering::Relaxed), None)),
+    Step::Do(
+        0,
+        Op::Atomic(AtomicOp::Store(2, 1, Ordering::Relaxed), None),
+    ),
+    Step::Do(
+        0,
+        Op::Atomic(AtomicOp::Store(2, 2, Ordering::Relaxed), None),
+    ),
+    FINISH,
+    EXIT,
+    END,
+];
+
+// A store to the atomic that a thread has for itself.
+const STORE_MAIN: Step = Step::Do(
+    0,
+    Op::Atomic(AtomicOp::Store(0, 1, Ordering::Relaxed), None),
+);
+
+const STORE_FIRST: Step = Step::Do(
+    0,
+    Op::Atomic(AtomicOp::Store(1, 1, Ordering::Relaxed), None),
+);
+
+const STORE_SECOND: Step = Step::Do(
+    0,
+    Op::Atomic(AtomicOp::Store(2, 1, Ordering::Relaxed), None),
+);
+
+/// Three threads store to an atomic each: main five times, and the others three times. Main joins them.
+const STORES_APART: &[Step] = &[
+    Step::Do(0, Op::Atomic(AtomicOp::New(Numbers::U64, 0), None)),
+    Step::Do(1, Op::Atomic(AtomicOp::New(Numbers::U64, 0), None)),
+    Step::Do(2, Op::Atomic(AtomicOp::New(Numbers::U64, 0), None)),
+    Step::Do(3, Op::Thread(ThreadOp::Spawn(13, None), None)),
+    Step::Do(4, Op::Thread(ThreadOp::Spawn(17, None), None)),
+    STORE_MAIN,
+    STORE_MAIN,
+    STORE_MAIN,
+    STORE_MAIN,
+    STORE_MAIN,
+    Step::Do(0, Op::Thread(ThreadOp::Join(3, 3), None)),
+    Step::Do(0, Op::Thread(ThreadOp::Join(4, 4), None)),
+    Step::Jump(20),
+    STORE_FIRST,
+    STORE_FIRST,
+    STORE_FIRST,
+    Step::Jump(20),
+    STORE_SECOND,
+    STORE_SECOND,
+    STORE_SECOND,
+    FINISH,
+    EXIT,
+    END,
+];
+
+/// Two threads lock two mutexes in the same order, beside a main that joins them.
+const LOCKS_IN_TURN: &[Step] = &[
+    Step::Do(0, Op::Mutex(MutexOp::New(Value::Plain(0)), None)),
+    Step::Do(1, Op::Mutex(MutexOp::New(Value::Plain(0)), None)),
+    Step::Do(2, Op::Thread(ThreadOp::Spawn(9, None), None)),
+    Step::Do(3, Op::Thread(ThreadOp::Spawn(9, None), None)),
+    Step::Do(0, Op::Thread(ThreadOp::Join(2, 2), None)),
+    Step::Do(0, Op::Thread(ThreadOp::Join(3, 3), None)),
+    FINISH,
+    EXIT,
+    END,
+    Step::Do(0, Op::Mutex(MutexOp::Lock(0), None)),
+    Step::Do(0, Op::Mutex(MutexOp::Lock(1), None)),
+    Step::Do(0, Op::Mutex(MutexOp::Release(1, Value::Plain(0)), None)),
+    Step::Do(0, Op::Mutex(MutexOp::Release(0, Value::Plain(0)), None)),
+    FINISH,
+    EXIT,
+    END,
+];
+
+/// Two threads add to what a lock holds, one after the other, beside a main that reads it. Main joins them.
+const WRITERS_BESIDE_A_READER: &[Step] = &[
+    Step::Do(0, Op::RwLock(RwLockOp::New(Value::Plain(0)), None)),
+    Step::Do(1, Op::Thread(ThreadOp::Spawn(10, None), None)),
+    Step::Do(2, Op::Thread(ThreadOp::Spawn(10, None), None)),
+    Step::Do(0, Op::RwLock(RwLockOp::Read(0), None)),
+    Step::Do(0, Op::RwLock(RwLockOp::ReadRelease(0), None)),
+    Step::Do(0, Op::Thread(ThreadOp::Join(1, 1), None)),
+    Step::Do(0, Op::Thread(ThreadOp::Join(2, 2), None)),
+    FINISH,
+    EXIT,
+    END,
+    Step::Do(0, Op::RwLock(RwLockOp::Write(0), None)),
+    Step::Do(
+        1,
+        Op::RwLock(RwLockOp::WriteRelease(0, Value::Next(0)), None),
+    ),
+    FINISH,
+    EXIT,
+    END,
+];
+
+/// A thread leaves 1 in a mutex and notifies. Main waits for that unless the 1 is there, and joins the thread.
+const WAIT_AND_NOTIFY: &[Step] = &[
+    Step::Do(0, Op::Mutex(MutexOp::New(Value::Plain(0)), None)),
+    Step::Do(1, Op::Condvar(CondvarOp::New, None)),
+    Step::Do(2, Op::Thread(ThreadOp::Spawn(11, None), None)),
+    Step::Do(0, Op::Mutex(MutexOp::Lock(0), None)),
+    Step::Unless(0, 0, 6),
+    Step::Do(0, Op::Condvar(CondvarOp::Wait(1, 0, Value::Plain(0)), None)),
+    Step::Do(1, Op::Mutex(MutexOp::Release(0, Value::Held(0)), None)),
+    Step::Do(1, Op::Thread(ThreadOp::Join(2, 2), None)),
+    FINISH,
+    EXIT,
+    END,
+    Step::Do(0, Op::Mutex(MutexOp::Lock(0), None)),
+    Step::Do(0, Op::Mutex(MutexOp::Release(0, Value::Plain(1)), None)),
+    Step::Do(0, Op::Condvar(CondvarOp::NotifyOne(1), None)),
+    FINISH,
+    EXIT,
+    END,
+];
+
+/// One thread stores 1 into an atomic and loads it, and so on up to 500.
+const LONG_LINE: &[Step] = &[
+    Step::Do(0, Op::Atomic(AtomicOp::New(Numbers::U64, 0), None)),
+    Step::Store(0, Value::Next(0), Ordering::Relaxed),
+    Step::Do(0, Op::Atomic(AtomicOp::Load(0, Ordering::Relaxed), None)),
+    Step::Unless(0, 500, 1),
+    FINISH,
+    EXIT,
+    END,
+];
+
+/// The same, up to 5,000.
+const LONG_LINE_10000: &[Step] = &[
+    Step::Do(0, Op::Atomic(AtomicOp::New(Numbers::U64, 0), None)),
+    Step::Store(0, Value::Next(0), Ordering::Relaxed),
+    Step::Do(0, Op::Atomic(AtomicOp::Load(0, Ordering::Relaxed), None)),
+    Step::Unless(0, 5000, 1),
+    FINISH,
+    EXIT,
+    END,
+];
+
+/// Main locks a mutex 1,001 times, beside a thread that waits for it since the first time. It counts that in the mutex.
+const LONG_TURN: &[Step] = &[
+    Step::Do(0, Op::Mutex(MutexOp::New(Value::Plain(0)), None)),
+    Step::Do(0, Op::Mutex(MutexOp::Lock(0), None)),
+    Step::Do(1, Op::Thread(ThreadOp::Spawn(11, None), None)),
+    YIELD,
+    Step::Do(0, Op::Mutex(MutexOp::Release(0, Value::Next(0)), None)),
+    Step::Do(0, Op::Mutex(MutexOp::Lock(0), None)),
+    Step::Do(0, Op::Mutex(MutexOp::Release(0, Value::Next(0)), None)),
+    Step::Unless(0, 1000, 5),
+    FINISH,
+    EXIT,
+    END,
+    Step::Do(0, Op::Mutex(MutexOp::Lock(0), None)),
+    Step::Do(0, Op::Mutex(MutexOp::Release(0, Value::Held(0)), None)),
+    Step::Jump(8),
+];
+
+/// A body with a name, and how it is checked.
+#[derive(Clone, Copy)]
+pub struct Measured {
+    /// The word that means the body.
+    pub name: &'static str,
+    /// The steps of its threads.
+    pub steps: &'static [Step],
+    /// How it is checked.
+    pub settings: Settings,
+    /// How many checks are made, one after another.
+    pub checks: u64,
+}
+
+/// A search that isn't reduced, of runs with one preemption at most.
+const WHOLE_1: Settings = Settings {
+    preemption_bound: Some(1),
+    ..WHOLE
+};
+
+/// The same with two preemptions at most.
+const WHOLE_2: Settings = Settings {
+    preemption_bound: Some(2),
+    ..WHOLE
+};
+
+/// The defaults with one preemption at most.
+const REDUCED_1: Settings = Settings {
+    preemption_bound: Some(1),
+    ..DEFAULTS
+};
+
+/// The same with two preemptions at most.
+const REDUCED_2: Settings = Settings {
+    preemption_bound: Some(2),
+    ..DEFAULTS
+};
+
+/// The defaults without a preemption, but a run may have 100,000 nodes.
+const LONG_RUNS_0: Settings = Settings {
+    preemption_bound: Some(0),
+    ..LONG_RUNS
+};
+
+/// The same with one preemption at most.
+const LONG_RUNS_1: Settings = Settings {
+    preemption_bound: Some(1),
+    ..LONG_RUNS
+};
+
+// A body that is checked so often, with these settings.
+macro_rules! measured {
+    ($name:expr, $steps:expr, $checks:expr, $settings:expr) => {
+        Measured {
+            name: $name,
+            steps: $steps,
+            settings: $settings,
+            checks: $checks,
+        }
+    };
+}
+
+// Those whose check is short are checked many times. A body's name alone means the search that isn't reduced, but for the long ones.
+
+static BUFFERS_AND_LOCKS: [Measured; 12] = [
+    measured!("store_buffering", STORE_BUFFERING, 1000, WHOLE),
+    measured!("store_buffering bound 1", STORE_BUFFERING, 1000, WHOLE_1),
+    measured!("store_buffering bound 2", STORE_BUFFERING, 1000, WHOLE_2),
+    measured!("store_buffering reduced", STORE_BUFFERING, 1000, DEFAULTS),
+    measured!(
+        "store_buffering reduced bound 1",
+        STORE_BUFFERING,
+        1000,
+        REDUCED_1
+    ),
+    measured!(
+        "store_buffering reduced bound 2",
+        STORE_BUFFERING,
+        1000,
+        REDUCED_2
+    ),
+    measured!("locks_in_turn", LOCKS_IN_TURN, 1000, WHOLE),
+    measured!("locks_in_turn bound 1", LOCKS_IN_TURN, 1000, WHOLE_1),
+    measured!("locks_in_turn bound 2", LOCKS_IN_TURN, 1000, WHOLE_2),
+    measured!("locks_in_turn reduced", LOCKS_IN_TURN, 1000, DEFAULTS),
+    measured!(
+        "locks_in_turn reduced bound 1",
+        LOCKS_IN_TURN,
+        1000,
+        REDUCED_1
+    ),
+    measured!(
+        "locks_in_turn reduced bound 2",
+        LOCKS_IN_TURN,
+        1000,
+        REDUCED_2
+    ),
+];
+
+static LOCKS_THAT_WAIT: [Measured; 12] = [
+    measured!(
+        "writers_beside_a_reader",
+        WRITERS_BESIDE_A_READER,
+        100,
+        WHOLE
+    ),
+    measured!(
+        "writers_beside_a_reader bound 1",
+        WRITERS_BESIDE_A_READER,
+        100,
+        WHOLE_1
+    ),
+    measured!(
+        "writers_beside_a_reader bound 2",
+        WRITERS_BESIDE_A_READER,
+        100,
+        WHOLE_2
+    ),
+    measured!(
+        "writers_beside_a_reader reduced",
+        WRITERS_BESIDE_A_READER,
+        100,
+        DEFAULTS
+    ),
+    measured!(
+        "writers_beside_a_reader reduced bound 1",
+        WRITERS_BESIDE_A_READER,
+        100,
+        REDUCED_1
+    ),
+    measured!(
+        "writers_beside_a_reader reduced bound 2",
+        WRITERS_BESIDE_A_READER,
+        100,
+        REDUCED_2
+    ),
+    measured!("wait_and_notify", WAIT_AND_NOTIFY, 1000, WHOLE),
+    measured!("wait_and_notify bound 1", WAIT_AND_NOTIFY, 1000, WHOLE_1),
+    measured!("wait_and_notify bound 2", WAIT_AND_NOTIFY, 1000, WHOLE_2),
+    measured!("wait_and_notify reduced", WAIT_AND_NOTIFY, 1000, DEFAULTS),
+    measured!(
+        "wait_and_notify reduced bound 1",
+        WAIT_AND_NOTIFY,
+        1000,
+        REDUCED_1
+    ),
+    measured!(
+        "wait_and_notify reduced bound 2",
+        WAIT_AND_NOTIFY,
+        1000,
+        REDUCED_2
+    ),
+];
+
+static THREE_ATOMICS: [Measured; 12] = [
+    measured!("three_threads", THREE_THREADS, 1, WHOLE),
+    measured!("three_threads bound 1", THREE_THREADS, 1, WHOLE_1),
+    measured!("three_threads bound 2", THREE_THREADS, 1, WHOLE_2),
+    measured!("three_threads reduced", THREE_THREADS, 1, DEFAULTS),
+    measured!("three_threads reduced bound 1", THREE_THREADS, 1, REDUCED_1),
+    measured!("three_threads reduced bound 2", THREE_THREADS, 1, REDUCED_2),
+    measured!("three_adds", THREE_ADDS, 1, WHOLE),
+    measured!("three_adds bound 1", THREE_ADDS, 1, WHOLE_1),
+    measured!("three_adds bound 2", THREE_ADDS, 1, WHOLE_2),
+    measured!("three_adds reduced", THREE_ADDS, 1, DEFAULTS),
+    measured!("three_adds reduced bound 1", THREE_ADDS, 1, REDUCED_1),
+    measured!("three_adds reduced bound 2", THREE_ADDS, 1, REDUCED_2),
+];
+
+static CROSSWISE_AND_FLAGS: [Measured; 12] = [
+    measured!("locks_crosswise", TWO_MUTEXES_DEADLOCK, 1000, WHOLE),
+    measured!(
+        "locks_crosswise bound 1",
+        TWO_MUTEXES_DEADLOCK,
+        1000,
+        WHOLE_1
+    ),
+    measured!(
+        "locks_crosswise bound 2",
+        TWO_MUTEXES_DEADLOCK,
+        1000,
+        WHOLE_2
+    ),
+    measured!(
+        "locks_crosswise reduced",
+        TWO_MUTEXES_DEADLOCK,
+        1000,
+        DEFAULTS
+    ),
+    measured!(
+        "locks_crosswise reduced bound 1",
+        TWO_MUTEXES_DEADLOCK,
+        1000,
+        REDUCED_1
+    ),
+    measured!(
+        "locks_crosswise reduced bound 2",
+        TWO_MUTEXES_DEADLOCK,
+        1000,
+        REDUCED_2
+    ),
+    measured!("acq_rel", ACQ_REL, 1, WHOLE),
+    measured!("acq_rel bound 1", ACQ_REL, 1, WHOLE_1),
+    measured!("acq_rel bound 2", ACQ_REL, 1, WHOLE_2),
+    measured!("acq_rel reduced", ACQ_REL, 1, DEFAULTS),
+    measured!("acq_rel reduced bound 1", ACQ_REL, 1, REDUCED_1),
+    measured!("acq_rel reduced bound 2", ACQ_REL, 1, REDUCED_2),
+];
+
+static MANY_OR_LONG: [Measured; 7] = [
+    measured!("stores_apart", STORES_APART, 1, WHOLE),
+    measured!("stores_apart reduced", STORES_APART, 1, DEFAULTS),
+    measured!("long_line", LONG_LINE, 10_000, LONG_RUNS),
+    measured!("long_line_10000", LONG_LINE_10000, 1000, LONG_RUNS),
+    measured!("long_turn reduced", LONG_TURN, 1, LONG_RUNS),
+    measured!("long_turn reduced bound 0", LONG_TURN, 1000, LONG_RUNS_0),
+    measured!("long_turn reduced bound 1", LONG_TURN, 1, LONG_RUNS_1),
+];
+
+// Stores and loads, and locks in the same order.
+fn buffers_and_locks() -> &'static [Measured]
+    ensures { map named result.now ≡ table.buffers_and_locks }
+{
+    &BUFFERS_AND_LOCKS
+}
+
+// A read-write lock, and a condition variable.
+fn locks_that_wait() -> &'static [Measured]
+    ensures { map named result.now ≡ table.locks_that_wait }
+{
+    &LOCKS_THAT_WAIT
+}
+
+// Three threads over atomics.
+fn three_atomics() -> &'static [Measured]
+    ensures { map named result.now ≡ table.three_atomics }
+{
+    &THREE_ATOMICS
+}
+
+// A deadlock, and threads that wait for flags.
+fn crosswise_and_flags() -> &'static [Measured]
+    ensures { map named result.now ≡ table.crosswise_and_flags }
+{
+    &CROSSWISE_AND_FLAGS
+}
+
+// Many runs, and long ones.
+fn many_or_long() -> &'static [Measured]
+    ensures { map named result.now ≡ table.many_or_long }
+{
+    &MANY_OR_LONG
+}
+
+/// The bodies that are measured.
+pub fn all_bodies(alloc: Global) -> Result<Vec<Measured>, AllocError>
+    ensures { IfOk result (λ bodies. map named bodies.items ≡ table.all) }
+{
+    let mut bodies = Vec::new(alloc);
+    bodies.extend_from_slice(buffers_and_locks())?;
+    bodies.extend_from_slice(locks_that_wait())?;
+    bodies.extend_from_slice(three_atomics())?;
+    bodies.extend_from_slice(crosswise_and_flags())?;
+    bodies.extend_from_slice(many_or_long())?;
+    Ok(bodies)
+}
+
+/// The first of the bodies that has this name.
+pub fn body_of<'a>(bodies: &'a [Measured], name: &str) -> Option<&'a Measured>
+    ensures { option_copied result ≡ body_of bodies.now name.now }
+{
+    bodies.iter().find(|body| body.name == name)
+}
