@@ -1,15 +1,37 @@
 //! Cells.
-use crate::halt::{Halt, Told, check};
-use crate::state::{Cell, MISUSE, Machine, Object};
+use crate::graph::Graph;
+use crate::halt::Told;
+use crate::machine::Machine;
+use crate::memory::push;
+use crate::readers::Readers;
+use crate::state::Cell;
 use loom_objects::operation::{CellOp, Reply};
 use loom_scripts::number::Number;
 use loom_views::rt::failure::FailureKind;
+use std::alloc::Global;
 
 impl Cell {
-    // Whether a thread has a read open.
-    fn is_read(&self) -> bool {
-        self.readers.iter().any(|count| *count > 0)
+    /// Without data, and not whole.
+    pub fn none(alloc: Global) -> Cell {
+        Cell {
+            value: None,
+            is_whole: false,
+            readers: Readers::new(),
+            writer: None,
+            reads: Vec::new(alloc),
+            writes: Vec::new(alloc),
+        }
     }
+
+    // Whether a thread has it open.
+    fn is_open(&self) -> bool {
+        self.writer.is_some() || self.readers.is_any()
+    }
+}
+
+// Whether the views of all these points are inside that of this one.
+fn are_inside(graph: &Graph, points: &Vec<usize>, present: usize) -> bool {
+    points.iter().all(|point| graph.is_inside(*point, present))
 }
 
 impl Machine {
@@ -17,30 +39,21 @@ impl Machine {
     pub fn cell_begins(&mut self, op: CellOp<Number>) -> Told {
         match op {
             CellOp::New(value) => self.cell_new(value),
-            CellOp::Read(number) => {
-                let value = self.cell_read(number)?;
-                Ok(Some(Reply::Reading(number, value)))
-            }
-            CellOp::ReadEnd(number) => {
-                self.cell_read_end(number)?;
-                Ok(Some(Reply::Done))
-            }
+            CellOp::Read(number) => Some(Reply::Reading(number, self.cell_read(number))),
+            CellOp::ReadEnd(number) => self.cell_read_end(number),
             CellOp::Deref(number) => self.cell_deref(number),
-            CellOp::Write(number) => {
-                let value = self.cell_write(number)?;
-                Ok(Some(Reply::Writing(number, value)))
-            }
+            CellOp::Write(number) => Some(Reply::Writing(number, self.cell_write(number))),
             CellOp::WriteEnd(number, value) => self.cell_write_end(number, value),
             CellOp::IntoInner(number) => self.cell_into_inner(number),
             CellOp::Get(number) => {
-                let value = self.cell_read(number)?;
-                self.cell_read_end(number)?;
-                Ok(Some(Reply::Data(value)))
+                let value = self.cell_read(number);
+                self.cell_read_end(number);
+                Some(Reply::Data(value))
             }
             CellOp::Replace(number, value) => {
-                let old = self.cell_write(number)?;
-                self.cell_write_end(number, value)?;
-                Ok(Some(Reply::Data(old)))
+                let old = self.cell_write(number);
+                self.cell_write_end(number, value);
+                Some(Reply::Data(old))
             }
             CellOp::Swap(one, other) => self.cell_swap(one, other),
         }
@@ -48,124 +61,125 @@ impl Machine {
 
     // That the cell was made counts as a read and a write.
     fn cell_new(&mut self, value: Number) -> Told {
-        let present = self.present()?;
-        let cell = Cell {
-            value: Some(value),
-            is_whole: true,
-            readers: [0; 5],
-            writer: None,
-            reads: vec![in self.alloc; present]?,
-            writes: vec![in self.alloc; present]?,
-        };
-        let number = self.add_object(Object::Cell(cell))?;
-        Ok(Some(Reply::Cell(number)))
+        let number = self.new_number();
+        let has_grown = self.objects.cells.add(number, Cell::none(self.alloc));
+        self.grows(has_grown);
+        let cell = self.objects.cells.at(number);
+        cell.value = Some(value);
+        cell.is_whole = true;
+        self.keeps_read(number);
+        self.keeps_write(number);
+        Some(Reply::Cell(number))
     }
 
     // The cell is taken apart, unless a thread has it open.
     fn cell_into_inner(&mut self, number: usize) -> Told {
-        let cell = self.cell(number)?;
-        let is_open = cell.writer.is_some() || cell.is_read();
-        check(!is_open, FailureKind::OpenAccess)?;
+        let cell = self.cell(number);
+        let (is_open, value) = (cell.is_open(), cell.value);
         cell.is_whole = false;
-        Ok(Some(Reply::Data(cell.value.ok_or(MISUSE)?)))
+        self.check(!is_open, FailureKind::OpenAccess);
+        Some(Reply::Data(self.required(value)))
     }
 
     // Another copy of the data, in a read that the active thread has open.
     fn cell_deref(&mut self, number: usize) -> Told {
-        let active = usize::from(self.active);
-        let cell = self.cell(number)?;
-        let is_open = *cell.readers.get(active).ok_or(Halt::Broken)? > 0;
-        check(is_open, FailureKind::Misuse)?;
-        Ok(Some(Reply::Data(cell.value.ok_or(MISUSE)?)))
+        let active = self.active;
+        let cell = self.cell(number);
+        let (is_reading, value) = (cell.readers.has(active), cell.value);
+        self.require(is_reading);
+        Some(Reply::Data(self.required(value)))
     }
 
     // A read begins, and has a copy of the data.
-    fn cell_read(&mut self, number: usize) -> Result<Number, Halt> {
-        self.cell(number)?;
-        self.raise()?;
-        self.meets_read(number)?;
-        let active = usize::from(self.active);
-        let cell = self.cell(number)?;
-        let count = cell.readers.get_mut(active).ok_or(Halt::Broken)?;
-        *count = count.checked_add(1).ok_or(Halt::Broken)?;
-        cell.value.ok_or(MISUSE)
+    fn cell_read(&mut self, number: usize) -> Number {
+        let active = self.active;
+        let value = self.cell(number).value;
+        self.raise();
+        self.meets_read(number);
+        self.cell(number).readers.open(active);
+        self.required(value)
     }
 
     // A read of the active thread ends.
-    fn cell_read_end(&mut self, number: usize) -> Result<(), Halt> {
-        let active = usize::from(self.active);
-        let cell = self.cell(number)?;
-        let count = cell.readers.get_mut(active).ok_or(Halt::Broken)?;
-        *count = count.checked_sub(1).ok_or(MISUSE)?;
-        self.meets_read(number)
+    fn cell_read_end(&mut self, number: usize) -> Told {
+        let active = self.active;
+        let is_reading = self.cell(number).readers.has(active);
+        self.require(is_reading);
+        self.cell(number).readers.close(active);
+        self.meets_read(number);
+        Some(Reply::Done)
     }
 
     // A write begins, and has the data.
-    fn cell_write(&mut self, number: usize) -> Result<Number, Halt> {
-        self.cell(number)?;
-        self.raise()?;
-        self.meets_write(number)?;
+    fn cell_write(&mut self, number: usize) -> Number {
         let active = self.active;
-        let cell = self.cell(number)?;
+        let value = self.cell(number).value;
+        self.raise();
+        self.meets_write(number);
+        let cell = self.cell(number);
         cell.writer = Some(active);
-        cell.value.take().ok_or(MISUSE)
+        cell.value = None;
+        self.required(value)
     }
 
     // The write of the active thread ends, and leaves this data.
     fn cell_write_end(&mut self, number: usize, value: Number) -> Told {
-        let active = self.active;
-        let cell = self.cell(number)?;
-        check(cell.writer == Some(active), FailureKind::Misuse)?;
+        let writer = self.cell(number).writer;
+        self.require(writer == Some(self.active));
+        let cell = self.cell(number);
         cell.writer = None;
         cell.value = Some(value);
-        self.meets_write(number)?;
-        Ok(Some(Reply::Done))
+        self.meets_write(number);
+        Some(Reply::Done)
     }
 
     // The data of two cells are exchanged.
     fn cell_swap(&mut self, one: usize, other: usize) -> Told {
-        self.cell(one)?;
-        self.cell(other)?;
-        if one == other {
-            return Ok(Some(Reply::Done));
+        self.cell(one);
+        self.cell(other);
+        if one != other {
+            let value = self.cell_write(one);
+            let other_value = self.cell_write(other);
+            self.cell_write_end(other, value);
+            self.cell_write_end(one, other_value);
         }
-        let value = self.cell_write(one)?;
-        let other_value = self.cell_write(other)?;
-        self.cell_write_end(other, value)?;
-        self.cell_write_end(one, other_value)
+        Some(Reply::Done)
     }
 
     // The active thread meets the cell to read: nobody writes, and no write is outside of its view.
-    fn meets_read(&mut self, number: usize) -> Result<(), Halt> {
-        let (alloc, present) = (self.alloc, self.present()?);
-        let cell = self.cell(number)?;
-        check(cell.writer.is_none(), FailureKind::OpenAccess)?;
-        cell.reads.push(present)?;
-        let writes = cell.writes.as_slice().to_vec(alloc)?;
-        self.has_seen(writes.as_slice())
+    fn meets_read(&mut self, number: usize) {
+        let present = self.present();
+        let cell = self.objects.cells.at(number);
+        let is_open = cell.writer.is_some();
+        let has_seen = are_inside(&self.graph, &cell.writes, present);
+        self.check(!is_open, FailureKind::OpenAccess);
+        self.check(has_seen, FailureKind::Race);
+        self.keeps_read(number);
     }
 
     // The active thread meets the cell to write: nobody has it open, and no access is outside of its view.
-    fn meets_write(&mut self, number: usize) -> Result<(), Halt> {
-        let (alloc, present) = (self.alloc, self.present()?);
-        let cell = self.cell(number)?;
-        let is_open = cell.writer.is_some() || cell.is_read();
-        check(!is_open, FailureKind::OpenAccess)?;
-        cell.writes.push(present)?;
-        let (reads, writes) = (
-            cell.reads.as_slice().to_vec(alloc)?,
-            cell.writes.as_slice().to_vec(alloc)?,
-        );
-        self.has_seen(writes.as_slice())?;
-        self.has_seen(reads.as_slice())
+    fn meets_write(&mut self, number: usize) {
+        let present = self.present();
+        let cell = self.objects.cells.at(number);
+        let is_open = cell.is_open();
+        let has_seen = are_inside(&self.graph, &cell.writes, present)
+            && are_inside(&self.graph, &cell.reads, present);
+        self.check(!is_open, FailureKind::OpenAccess);
+        self.check(has_seen, FailureKind::Race);
+        self.keeps_write(number);
     }
 
-    // The views of all these points are inside that of the active thread, or the access is a race.
-    fn has_seen(&mut self, points: &[usize]) -> Result<(), Halt> {
-        let present = self.present()?;
-        for point in points {
-            check(self.graph.is_inside(*point, present)?, FailureKind::Race)?;
-        }
-        Ok(())
+    // The active thread's present point is one of a read.
+    fn keeps_read(&mut self, number: usize) {
+        let present = self.present();
+        let has_grown = push(&mut self.objects.cells.at(number).reads, present);
+        self.grows(has_grown);
+    }
+
+    // The active thread's present point is one of a write.
+    fn keeps_write(&mut self, number: usize) {
+        let present = self.present();
+        let has_grown = push(&mut self.objects.cells.at(number).writes, present);
+        self.grows(has_grown);
     }
 }

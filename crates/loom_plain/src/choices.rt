@@ -1,34 +1,36 @@
 //! The choices of one run: those that are given, and then defaults.
-use crate::halt::{Halt, Told, check};
+use crate::halt::Told;
+use crate::machine::Machine;
+use crate::memory::push;
 use loom_objects::choice::Choice;
 use loom_objects::operation::{ExploreOp, Reply};
 use loom_views::rt::failure::FailureKind;
 
-/// Where an access was made that a thread isn't ordered after.
-#[derive(Clone, Copy)]
-pub struct Unordered {
-    /// The place of the schedule that chose the thread of the access.
-    pub place: usize,
-    /// The thread whose pending operation depends on it.
-    pub thread: u8,
+/// What could be chosen: the default is the first that is there.
+pub type Options = [Option<Choice>; 7];
+
+/// The default of these options.
+pub fn default_of(options: &Options) -> Option<Choice> {
+    options.iter().find_map(|option| *option)
 }
 
 /// What stood where a thread was chosen.
-#[derive(Drop)]
+#[derive(Clone, Copy)]
 pub struct Standing {
     /// Of each thread whether it could neither go on nor yielded.
     pub disabled: [bool; 5],
-    /// By the threads' numbers.
-    pub unordered: Vec<Unordered>,
+    /// Of each thread, where its pending operation depends on an access that it isn't ordered after: the place of the schedule
+    /// that chose the thread of the access.
+    pub unordered: [Option<usize>; 5],
 }
 
 /// A choice that was made, and what else could have been chosen.
-#[derive(Drop)]
+#[derive(Clone, Copy)]
 pub struct Made {
     /// What was chosen.
     pub choice: Choice,
-    /// All that could be chosen, the default first.
-    pub options: Vec<Choice>,
+    /// All that could be chosen.
+    pub options: Options,
     /// Where a thread was chosen.
     pub standing: Option<Standing>,
     /// Whether another option may be tried.
@@ -51,26 +53,32 @@ pub struct Choices {
 }
 
 impl Choices {
-    /// Makes the choice that is given here, or else the first of the options.
-    pub fn choose(
-        &mut self,
-        options: Vec<Choice>,
-        standing: Option<Standing>,
-    ) -> Result<Choice, Halt> {
-        check(self.made.len() < self.most, FailureKind::TooManyBranches)?;
-        let default = *options.as_slice().first().ok_or(Halt::Broken)?;
-        let choice = match self.list.get(self.made.len()) {
-            Some(choice) => *choice,
-            None => default,
-        };
-        check(options.contains(&choice), FailureKind::NotDeterministic)?;
-        self.made.push(Made {
+    // The choice that is given at this place.
+    fn given(&self, place: usize) -> Option<Choice> {
+        self.list.get(place).copied()
+    }
+}
+
+impl Machine {
+    /// Makes the choice that is given here, or else the default. Nothing is chosen once the run has halted.
+    pub fn choose(&mut self, options: Options, standing: Option<Standing>) -> Option<Choice> {
+        let place = self.choices.made.len();
+        self.check(place < self.choices.most, FailureKind::TooManyBranches);
+        let choice = self.choices.given(place).or(default_of(&options));
+        self.check(options.contains(&choice), FailureKind::NotDeterministic);
+        if self.has_halted() {
+            return None;
+        }
+        let choice = choice?;
+        let made = Made {
             choice,
             options,
             standing,
-            is_exploring: self.is_exploring,
-        })?;
-        Ok(choice)
+            is_exploring: self.choices.is_exploring,
+        };
+        let has_grown = push(&mut self.choices.made, made);
+        self.grows(has_grown);
+        Some(choice)
     }
 
     /// Whether other options are tried changes, unless that is settled.
@@ -80,14 +88,12 @@ impl Choices {
             ExploreOp::StopExploring => (false, false),
             ExploreOp::SkipBranch => (false, true),
         };
-        if !self.is_settled {
-            check(
-                settles || self.is_exploring != explores,
-                FailureKind::ExploreSwitch,
-            )?;
-            self.is_exploring = explores;
-            self.is_settled = settles;
+        if !self.choices.is_settled {
+            let changes = self.choices.is_exploring != explores;
+            self.check(settles || changes, FailureKind::ExploreSwitch);
+            self.choices.is_exploring = explores;
+            self.choices.is_settled = settles;
         }
-        Ok(Some(Reply::Done))
+        Some(Reply::Done)
     }
 }

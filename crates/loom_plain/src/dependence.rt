@@ -1,8 +1,6 @@
 //! Which accesses to objects are ordered: a graph of its own, in which each scheduled operation on an object is a point.
-use crate::graph::{Graph, is_marked};
-use crate::halt::{Halt, check};
-use loom_views::rt::failure::FailureKind;
-use std::alloc::Global;
+use crate::graph::Graph;
+use std::alloc::{AllocError, Global};
 
 /// What an operation does to its object, as far as others depend on it.
 #[derive(Clone, Copy, PartialEq, Eq)]
@@ -21,7 +19,11 @@ pub enum Action {
     Send,
     /// It receives from a channel.
     Receive,
-    /// It uses a lock, a condition variable or a notifier.
+    /// It takes a read-write lock to write.
+    Write,
+    /// It waits on a notifier.
+    Wait,
+    /// It uses a lock, a condition variable or a notifier in another way.
     Other,
 }
 
@@ -46,8 +48,8 @@ struct Access {
 #[derive(Drop)]
 pub struct Dependence {
     graph: Graph,
-    // The point of each thread's last access. A thread begins with its parent's.
-    threads: Vec<Option<usize>>,
+    // The point of each thread's last access. Main begins with a point of its own, a thread with its parent's.
+    threads: Vec<usize>,
     // From the first one.
     accesses: Vec<Access>,
 }
@@ -61,27 +63,34 @@ fn depends(action: Action, earlier: Action) -> bool {
         Action::Inspect => earlier == Action::Increment || earlier == Action::Decrement,
         Action::Send => earlier == Action::Send,
         Action::Receive => earlier == Action::Receive,
-        Action::Change | Action::Other => true,
+        Action::Change | Action::Write | Action::Wait | Action::Other => true,
     }
 }
 
 impl Dependence {
-    /// Main alone, without accesses.
-    pub fn new(alloc: Global) -> Result<Dependence, Halt> {
-        Ok(Dependence {
+    /// Without threads and accesses.
+    pub fn new(alloc: Global) -> Dependence {
+        Dependence {
             graph: Graph::new(alloc),
-            threads: vec![in alloc; None]?,
+            threads: Vec::new(alloc),
             accesses: Vec::new(alloc),
-        })
+        }
+    }
+
+    /// Main, which comes after nothing.
+    pub fn main(&mut self) -> Result<(), AllocError> {
+        let point = self.graph.add(&[], None)?;
+        self.threads.push(point)?;
+        Ok(())
     }
 
     // The point of the thread's last access, or of its parent's before it was made.
-    fn own(&self, thread: u8) -> Option<usize> {
-        self.threads.get(usize::from(thread)).copied().flatten()
+    fn own(&self, thread: u8) -> usize {
+        self.threads.get(usize::from(thread)).copied().unwrap_or(0)
     }
 
     /// A thread more, which this one makes.
-    pub fn child(&mut self, parent: u8) -> Result<(), Halt> {
+    pub fn child(&mut self, parent: u8) -> Result<(), AllocError> {
         let own = self.own(parent);
         self.threads.push(own)?;
         Ok(())
@@ -99,21 +108,17 @@ impl Dependence {
     }
 
     /// The place of the last access that this use depends on, where no chain of edges leads from that to the thread.
-    pub fn unordered(&self, thread: u8, used: Use) -> Result<Option<usize>, Halt> {
-        let Some(access) = self.last_before(used) else {
-            return Ok(None);
-        };
-        if let Some(own) = self.own(thread) {
-            let reached = self.graph.reaching(own)?;
-            if is_marked(&reached, access.point) {
-                return Ok(None);
+    pub fn unordered(&self, thread: u8, used: Use) -> Option<usize> {
+        match self.last_before(used) {
+            Some(access) if !self.graph.reaches(access.point, self.own(thread)) => {
+                Some(access.place)
             }
+            Some(_) | None => None,
         }
-        Ok(Some(access.place))
     }
 
-    // How many accesses the thread has made.
-    fn accesses_of(&self, thread: u8) -> usize {
+    /// How many accesses the thread has made.
+    pub fn accesses_of(&self, thread: u8) -> usize {
         self.accesses
             .iter()
             .filter(|access| access.thread == thread)
@@ -122,21 +127,16 @@ impl Dependence {
 
     /// The thread, chosen at this place, makes an access: it comes after the thread's last one and after the last one that it
     /// depends on.
-    pub fn record(&mut self, thread: u8, used: Use, place: usize) -> Result<(), Halt> {
-        check(
-            self.accesses_of(thread) < 65_534,
-            FailureKind::TooManyVersions,
-        )?;
-        let point = match (self.own(thread), self.last_before(used)) {
-            (Some(own), Some(access)) => self.graph.add(&[own, access.point], None)?,
-            (Some(own), None) => self.graph.add(&[own], None)?,
-            (None, Some(access)) => self.graph.add(&[access.point], None)?,
-            (None, None) => self.graph.add(&[], None)?,
+    pub fn record(&mut self, thread: u8, used: Use, place: usize) -> Result<(), AllocError> {
+        let own = self.own(thread);
+        let before = match self.last_before(used) {
+            Some(access) => access.point,
+            None => own,
         };
-        *self
-            .threads
-            .get_mut(usize::from(thread))
-            .ok_or(Halt::Broken)? = Some(point);
+        let point = self.graph.add(&[own, before], None)?;
+        if let Some(last) = self.threads.get_mut(usize::from(thread)) {
+            *last = point;
+        }
         self.accesses.push(Access {
             thread,
             used,

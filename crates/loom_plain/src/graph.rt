@@ -1,11 +1,10 @@
-//! Points, each with the points that it comes after. A view is what reaches a point by edges.
-use crate::halt::Halt;
-use std::alloc::Global;
+//! Points, each with the points that reach it by edges. A view is what reaches a point.
+use std::alloc::{AllocError, Global};
 
 #[derive(Drop)]
 struct Point {
-    // The points that it comes right after, which are all earlier.
-    after: Vec<usize>,
+    // For each point up to this one, whether it reaches this one.
+    reached: Vec<bool>,
     // The thread whose version it raises.
     raises: Option<u8>,
 }
@@ -26,71 +25,48 @@ impl Graph {
         }
     }
 
-    /// A point after these, which raises the thread, if there is one.
-    pub fn add(&mut self, after: &[usize], raises: Option<u8>) -> Result<usize, Halt> {
+    /// A point after these, which raises the thread, if there is one. What reaches one of these reaches it.
+    pub fn add(&mut self, after: &[usize], raises: Option<u8>) -> Result<usize, AllocError> {
         let place = self.points.len();
-        let after = after.to_vec(self.alloc)?;
-        self.points.push(Point { after, raises })?;
+        let mut reached = vec![in self.alloc; false; place]?;
+        for before in after {
+            if let Some(before) = self.points.get(*before) {
+                mark_all(&mut reached, &before.reached);
+            }
+        }
+        reached.push(true)?;
+        self.points.push(Point { reached, raises })?;
         Ok(place)
     }
 
-    /// For each point, whether it reaches this one: from this one down, what each reached point comes after is reached.
-    pub fn reaching(&self, point: usize) -> Result<Vec<bool>, Halt> {
-        let mut reached = vec![in self.alloc; false; self.points.len()]?;
-        mark(&mut reached, point);
-        for (place, each) in self.points.iter().enumerate().rev() {
-            if is_marked(&reached, place) {
-                mark_each(&mut reached, each.after.as_slice());
-            }
+    /// Whether the one point reaches the other, or is it.
+    pub fn reaches(&self, one: usize, other: usize) -> bool {
+        match self.points.get(other) {
+            Some(point) => point.reached.get(one).copied().unwrap_or(false),
+            None => false,
         }
-        Ok(reached)
     }
 
-    /// The raising points that reach this one.
-    pub fn view(&self, point: usize) -> Result<Vec<usize>, Halt> {
-        let reached = self.reaching(point)?;
-        let mut view = Vec::new(self.alloc);
-        for (place, each) in self.points.iter().enumerate() {
-            if each.raises.is_some() && is_marked(&reached, place) {
-                view.push(place)?;
-            }
-        }
-        Ok(view)
-    }
-
-    /// Whether the view of the one point is inside that of the other.
-    pub fn is_inside(&self, one: usize, other: usize) -> Result<bool, Halt> {
-        let reached = self.reaching(other)?;
-        let view = self.view(one)?;
-        Ok(view.iter().all(|place| is_marked(&reached, *place)))
+    /// Whether the view of the one point is inside that of the other: each raising point that reaches the one reaches the other.
+    pub fn is_inside(&self, one: usize, other: usize) -> bool {
+        self.points.iter().enumerate().all(|(place, each)| {
+            each.raises.is_none() || !self.reaches(place, one) || self.reaches(place, other)
+        })
     }
 
     /// How many points of the thread reach this one.
-    pub fn versions(&self, point: usize, thread: u8) -> Result<usize, Halt> {
-        let reached = self.reaching(point)?;
-        let mut count = 0usize;
-        for (place, each) in self.points.iter().enumerate() {
-            if each.raises == Some(thread) && is_marked(&reached, place) {
-                count = count.saturating_add(1);
-            }
-        }
-        Ok(count)
+    pub fn versions(&self, point: usize, thread: u8) -> usize {
+        self.points
+            .iter()
+            .enumerate()
+            .filter(|(place, each)| each.raises == Some(thread) && self.reaches(*place, point))
+            .count()
     }
 }
 
-/// Whether the place is marked.
-pub fn is_marked(marks: &Vec<bool>, place: usize) -> bool {
-    marks.get(place).copied().unwrap_or(false)
-}
-
-fn mark(marks: &mut Vec<bool>, place: usize) {
-    if let Some(each) = marks.get_mut(place) {
-        *each = true;
-    }
-}
-
-fn mark_each(marks: &mut Vec<bool>, places: &[usize]) {
-    for place in places {
-        mark(marks, *place);
+// Marks each place that is marked in the other list.
+fn mark_all(marks: &mut Vec<bool>, others: &Vec<bool>) {
+    for (mark, other) in marks.iter_mut().zip(others) {
+        *mark = *mark || *other;
     }
 }

@@ -1,14 +1,11 @@
-//! Why a plain run goes no further.
+//! Why no runs are found.
 use loom_objects::operation::Reply;
 use loom_scripts::number::Number;
-use loom_views::rt::failure::FailureKind;
 use std::alloc::{AllocError, AllocFailed};
 
-/// Why a plain run goes no further.
+/// Why no runs are found.
 #[derive(Clone, Copy, Debug)]
 pub enum Halt {
-    /// The run fails.
-    Fails(FailureKind),
     /// A growth was refused.
     Memory,
     /// The body has more runs than are made here.
@@ -18,7 +15,7 @@ pub enum Halt {
 }
 
 /// What the active thread is told, or nothing where it comes to a branch point.
-pub type Told = Result<Option<Reply<Number>>, Halt>;
+pub type Told = Option<Reply<Number>>;
 
 impl From<AllocError> for Halt {
     fn from(_: AllocError) -> Halt {
@@ -30,9 +27,4 @@ impl<T: Drop> From<AllocFailed<T>> for Halt {
     fn from(_: AllocFailed<T>) -> Halt {
         Halt::Memory
     }
-}
-
-/// The run fails by this kind, unless the test holds.
-pub fn check(test: bool, kind: FailureKind) -> Result<(), Halt> {
-    if test { Ok(()) } else { Err(Halt::Fails(kind)) }
 }

@@ -1,9 +1,22 @@
 //! Mutexes.
-use crate::halt::{Halt, Told, check};
-use crate::state::{Machine, Mutex, Object, Pending, State};
+use crate::halt::Told;
+use crate::machine::Machine;
+use crate::state::{Mutex, Pending, State};
 use loom_objects::operation::{MutexOp, Reply};
 use loom_scripts::number::Number;
-use loom_views::rt::failure::FailureKind;
+
+impl Mutex {
+    /// Free, with this value; without one it isn't whole.
+    pub fn of(value: Option<Number>, point: usize) -> Mutex {
+        Mutex {
+            value,
+            holder: None,
+            lent: None,
+            is_whole: value.is_some(),
+            point,
+        }
+    }
+}
 
 impl Machine {
     /// An operation of a mutex is handed over.
@@ -11,93 +24,91 @@ impl Machine {
         match op {
             MutexOp::New(value) => self.mutex_new(value),
             MutexOp::Lock(number) => {
-                let is_held = self.mutex(number)?.holder.is_some();
+                let is_held = self.mutex(number).holder.is_some();
                 self.pends(Pending::Lock(number), is_held)
             }
             MutexOp::TryLock(number) => {
-                self.mutex(number)?;
+                self.mutex(number);
                 self.pends(Pending::TryLock(number), false)
             }
             MutexOp::Release(number, value) => self.unlock(number, value),
             MutexOp::GetMut(number) => self.mutex_out(number, true),
-            MutexOp::Put(number, value) => {
-                let active = self.active;
-                let mutex = self.mutex(number)?;
-                check(mutex.lent == Some(active), FailureKind::Misuse)?;
-                mutex.lent = None;
-                mutex.value = Some(value);
-                Ok(Some(Reply::Done))
-            }
+            MutexOp::Put(number, value) => self.mutex_put(number, value),
             MutexOp::IntoInner(number) => self.mutex_out(number, false),
         }
     }
 
     fn mutex_new(&mut self, value: Number) -> Told {
-        let point = self.fresh_point()?;
-        let mutex = Mutex {
-            value: Some(value),
-            holder: None,
-            lent: None,
-            is_whole: true,
-            point,
-        };
-        let number = self.add_object(Object::Mutex(mutex))?;
-        Ok(Some(Reply::Mutex(number)))
+        let number = self.new_number();
+        let mutex = Mutex::of(Some(value), self.fresh_point());
+        let has_grown = self.objects.mutexes.add(number, mutex);
+        self.grows(has_grown);
+        Some(Reply::Mutex(number))
     }
 
     // The data of a mutex that nobody holds goes out. Whether the mutex stays whole.
     fn mutex_out(&mut self, number: usize, is_whole: bool) -> Told {
-        let active = self.active;
-        let mutex = self.mutex(number)?;
-        check(mutex.holder.is_none(), FailureKind::Misuse)?;
-        check(mutex.lent.is_none(), FailureKind::Misuse)?;
-        let value = mutex.value.take().ok_or(Halt::Broken)?;
-        mutex.lent = Some(active);
-        mutex.is_whole = is_whole;
-        Ok(Some(Reply::Data(value)))
+        let mutex = *self.mutex(number);
+        self.require(mutex.holder.is_none() && mutex.lent.is_none());
+        *self.mutex(number) = Mutex {
+            value: None,
+            lent: Some(self.active),
+            is_whole,
+            ..mutex
+        };
+        Some(Reply::Data(self.expected(mutex.value)))
+    }
+
+    // The active thread, which has the data out, puts it back.
+    fn mutex_put(&mut self, number: usize, value: Number) -> Told {
+        let lent = self.mutex(number).lent;
+        self.require(lent == Some(self.active));
+        let mutex = self.mutex(number);
+        mutex.lent = None;
+        mutex.value = Some(value);
+        Some(Reply::Done)
     }
 
     /// The active thread, which holds the mutex, releases it.
     pub fn unlock(&mut self, number: usize, value: Number) -> Told {
-        let active = self.active;
-        let mutex = self.mutex(number)?;
-        check(mutex.holder == Some(active), FailureKind::Misuse)?;
-        let point = mutex.point;
+        let Mutex { holder, point, .. } = *self.mutex(number);
+        self.require(holder == Some(self.active));
+        let point = self.released_to(point);
+        let mutex = self.mutex(number);
         mutex.value = Some(value);
         mutex.holder = None;
-        let point = self.released_to(point)?;
-        self.mutex(number)?.point = point;
+        mutex.point = point;
         self.set_pending(number, State::Runnable);
-        Ok(Some(Reply::Done))
+        Some(Reply::Done)
     }
 
     /// The active thread takes the mutex, or finds it held.
-    pub fn lock(&mut self, number: usize) -> Result<Option<Number>, Halt> {
+    pub fn lock(&mut self, number: usize) -> Option<Number> {
         let active = self.active;
-        let mutex = self.mutex(number)?;
-        check(mutex.lent.is_none(), FailureKind::Misuse)?;
+        let mutex = *self.mutex(number);
+        self.require(mutex.lent.is_none());
         if mutex.holder.is_some() {
-            return Ok(None);
+            return None;
         }
-        let value = mutex.value.take().ok_or(Halt::Broken)?;
-        mutex.holder = Some(active);
-        let point = mutex.point;
-        self.acquire(point)?;
+        self.acquire(mutex.point);
+        let taken = self.mutex(number);
+        taken.value = None;
+        taken.holder = Some(active);
         self.set_pending(number, State::Blocked);
-        Ok(Some(value))
+        Some(self.expected(mutex.value))
     }
 
     /// The active thread takes the mutex. Who waits for a held one isn't chosen.
     pub fn locks(&mut self, number: usize) -> Told {
-        let value = self.lock(number)?.ok_or(Halt::Broken)?;
-        Ok(Some(Reply::Locked(number, value)))
+        let value = self.lock(number);
+        Some(Reply::Locked(number, self.expected(value)))
     }
 
     /// The active thread takes the mutex, unless it is held.
     pub fn tries_lock(&mut self, number: usize) -> Told {
-        Ok(Some(match self.lock(number)? {
-            Some(value) => Reply::Locked(number, value),
-            None => Reply::WouldBlock,
-        }))
+        match self.lock(number) {
+            Some(value) => Some(Reply::Locked(number, value)),
+            None => Some(Reply::WouldBlock),
+        }
     }
 }

@@ -1,21 +1,20 @@
 //! Which runs a run calls for: preemptions, marks and alternatives.
-use crate::choices::{Made, Standing, Unordered};
-use crate::halt::Halt;
+use crate::choices::{Made, Standing, default_of};
 use crate::run::Settings;
 use loom_objects::choice::Choice;
-use std::alloc::Global;
+use std::alloc::{AllocError, Global};
 
-/// An option that is to be tried at the schedule of this place.
-#[derive(Clone, Copy, PartialEq, Eq)]
-struct Mark {
+// A thread that is added at the schedule of this place: it is marked there, or each option where it was disabled.
+#[derive(Clone, Copy)]
+struct Added {
     place: usize,
-    option: Choice,
+    thread: u8,
 }
 
 // What stood where a thread was chosen at this place.
-fn standing_at(made: &[Made], place: usize) -> Option<&Standing> {
+fn standing_at(made: &[Made], place: usize) -> Option<Standing> {
     match made.get(place) {
-        Some(each) => each.standing.as_ref(),
+        Some(each) => each.standing,
         None => None,
     }
 }
@@ -39,7 +38,7 @@ fn thread_at(made: &[Made], place: usize) -> Option<Choice> {
 // Whether the choice counts as a preemption, where the schedule before chose this: it passes over the default, which is the thread that
 // was chosen before, or there was no schedule before.
 fn preempts(each: &Made, last: Option<Choice>) -> bool {
-    let default = each.options.as_slice().first().copied();
+    let default = default_of(&each.options);
     default != Some(each.choice) && (last.is_none() || last == default)
 }
 
@@ -83,65 +82,71 @@ fn switch_before(made: &[Made], place: usize) -> Option<usize> {
     later.filter(|first| explores_at(made, *first))
 }
 
-// The thread is added at the schedule: it is to be tried there, or each option where it was disabled. Nothing is where the schedule's count
-// is the bound.
+// The thread is added at the schedule, unless the schedule's count is the bound.
 fn add(
     bound: Option<usize>,
     made: &[Made],
-    marks: &mut Vec<Mark>,
-    place: usize,
-    thread: u8,
-) -> Result<(), Halt> {
-    let (Some(each), Some(standing)) = (made.get(place), standing_at(made, place)) else {
-        return Err(Halt::Broken);
-    };
-    if bound == Some(preemptions(made, place)) {
-        return Ok(());
+    all: &mut Vec<Added>,
+    added: Added,
+) -> Result<(), AllocError> {
+    if bound != Some(preemptions(made, added.place)) {
+        all.push(added)?;
     }
-    let is_disabled = standing
-        .disabled
-        .get(usize::from(thread))
-        .copied()
-        .unwrap_or(true);
-    for option in each.options.iter().skip(1) {
-        if is_disabled || *option == Choice::Thread(Some(thread)) {
-            marks.push(Mark {
-                place,
-                option: *option,
-            })?;
+    Ok(())
+}
+
+// The thread is added for one access: at the nearest schedule from its place down, and under a bound before that one too.
+fn add_for(
+    bound: Option<usize>,
+    made: &[Made],
+    all: &mut Vec<Added>,
+    access: usize,
+    thread: u8,
+) -> Result<(), AllocError> {
+    let Some(place) = nearest(made, access) else {
+        return Ok(());
+    };
+    add(bound, made, all, Added { place, thread })?;
+    match switch_before(made, place) {
+        Some(place) if bound.is_some() => add(bound, made, all, Added { place, thread }),
+        Some(_) | None => Ok(()),
+    }
+}
+
+// Each thread is added for the access that it isn't ordered after at this schedule.
+fn add_each(
+    bound: Option<usize>,
+    made: &[Made],
+    all: &mut Vec<Added>,
+    standing: Standing,
+) -> Result<(), AllocError> {
+    for (thread, access) in (0..5u8).zip(&standing.unordered) {
+        if let Some(access) = *access {
+            add_for(bound, made, all, access, thread)?;
         }
     }
     Ok(())
 }
 
-// The marks for one access: at the nearest schedule from its place down, and under a bound before that one too.
-fn add_for(
-    bound: Option<usize>,
-    made: &[Made],
-    marks: &mut Vec<Mark>,
-    unordered: Unordered,
-) -> Result<(), Halt> {
-    let Some(place) = nearest(made, unordered.place) else {
-        return Ok(());
-    };
-    add(bound, made, marks, place, unordered.thread)?;
-    match switch_before(made, place) {
-        Some(switch) if bound.is_some() => add(bound, made, marks, switch, unordered.thread),
-        Some(_) | None => Ok(()),
-    }
-}
-
-// All marks of a run.
-fn marks_of(alloc: Global, bound: Option<usize>, made: &[Made]) -> Result<Vec<Mark>, Halt> {
-    let mut marks = Vec::new(alloc);
+// All threads that a run adds.
+fn added_of(alloc: Global, bound: Option<usize>, made: &[Made]) -> Result<Vec<Added>, AllocError> {
+    let mut all = Vec::new(alloc);
     for each in made {
-        if let Some(standing) = &each.standing {
-            for unordered in &standing.unordered {
-                add_for(bound, made, &mut marks, *unordered)?;
-            }
+        if let Some(standing) = each.standing {
+            add_each(bound, made, &mut all, standing)?;
         }
     }
-    Ok(marks)
+    Ok(all)
+}
+
+// Whether the thread, added here, marks the option: it is the thread's, or the thread was disabled. The default isn't marked.
+fn marks(each: &Made, thread: u8, option: Choice) -> bool {
+    let is_disabled = match each.standing {
+        Some(standing) => standing.disabled.get(usize::from(thread)) != Some(&false),
+        None => false,
+    };
+    let is_default = default_of(&each.options) == Some(option);
+    !is_default && (is_disabled || option == Choice::Thread(Some(thread)))
 }
 
 // Whether each option of this place is to be tried: where no thread was chosen, and below the bound where the search isn't reduced.
@@ -157,12 +162,24 @@ fn tries_each(settings: Settings, made: &[Made], place: usize) -> bool {
 }
 
 /// What was chosen, in order.
-pub fn choices_of(alloc: Global, made: &[Made]) -> Result<Vec<Choice>, Halt> {
+pub fn choices_of(alloc: Global, made: &[Made]) -> Result<Vec<Choice>, AllocError> {
     let mut choices = Vec::new(alloc);
     for each in made {
         choices.push(each.choice)?;
     }
     Ok(choices)
+}
+
+// The choices before this place, and the option.
+fn up_to(
+    alloc: Global,
+    made: &[Made],
+    place: usize,
+    option: Choice,
+) -> Result<Vec<Choice>, AllocError> {
+    let mut list = choices_of(alloc, made.get(..place).unwrap_or(made))?;
+    list.push(option)?;
+    Ok(list)
 }
 
 // For each other option of this place that is to be tried: the choices before, and the option. Where the search doesn't explore there is
@@ -171,26 +188,29 @@ fn alternatives_at(
     alloc: Global,
     settings: Settings,
     made: &[Made],
-    marks: &Vec<Mark>,
+    added: &Vec<Added>,
     place: usize,
     lists: &mut Vec<Vec<Choice>>,
-) -> Result<(), Halt> {
-    let (Some(before), Some(here)) = (made.get(..place), made.get(place)) else {
-        return Err(Halt::Broken);
-    };
-    if !here.is_exploring {
+) -> Result<(), AllocError> {
+    let Some(here) = made.get(place) else {
         return Ok(());
-    }
+    };
     let tries_each = tries_each(settings, made, place);
     for option in &here.options {
-        let option = *option;
-        if option != here.choice && (tries_each || marks.contains(&Mark { place, option })) {
-            let mut list = choices_of(alloc, before)?;
-            list.push(option)?;
-            lists.push(list)?;
+        if let Some(option) = *option
+            && here.is_exploring
+            && option != here.choice
+            && (tries_each || is_marked(added, here, place, option))
+        {
+            lists.push(up_to(alloc, made, place, option)?)?;
         }
     }
     Ok(())
+}
+
+// Whether a thread that is added at this place marks the option.
+fn is_marked(added: &Vec<Added>, here: &Made, place: usize, option: Choice) -> bool {
+    added.iter().any(|each| each.place == place && marks(here, each.thread, option))
 }
 
 /// The alternatives of a run, each up to the option in which it differs.
@@ -198,15 +218,15 @@ pub fn alternatives(
     alloc: Global,
     settings: Settings,
     made: &[Made],
-) -> Result<Vec<Vec<Choice>>, Halt> {
-    let marks = if settings.reduce {
-        marks_of(alloc, settings.bound, made)?
+) -> Result<Vec<Vec<Choice>>, AllocError> {
+    let added = if settings.reduce {
+        added_of(alloc, settings.bound, made)?
     } else {
         Vec::new(alloc)
     };
     let mut lists = Vec::new(alloc);
     for place in 0..made.len() {
-        alternatives_at(alloc, settings, made, &marks, place, &mut lists)?;
+        alternatives_at(alloc, settings, made, &added, place, &mut lists)?;
     }
     Ok(lists)
 }
@@ -217,7 +237,7 @@ pub fn alternatives_past(
     settings: Settings,
     made: &[Made],
     place: usize,
-) -> Result<Vec<Vec<Choice>>, Halt> {
+) -> Result<Vec<Vec<Choice>>, AllocError> {
     let mut lists = Vec::new(alloc);
     alternatives_at(alloc, settings, made, &Vec::new(alloc), place, &mut lists)?;
     Ok(lists)

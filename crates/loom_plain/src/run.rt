@@ -1,17 +1,15 @@
 //! One run: the operations of the threads, one after another.
-use crate::choices::{Choices, Made, Standing, Unordered};
-use crate::dependence::Dependence;
-use crate::graph::Graph;
-use crate::halt::{Halt, Told, check};
-use crate::state::{Machine, Object, Pending, Phase, State};
-use crate::threads::new_thread;
+use crate::choices::{Choices, Made, Options, Standing};
+use crate::halt::{Halt, Told};
+use crate::machine::Machine;
+use crate::memory::push;
+use crate::state::{Pending, Phase, State, Thread};
 use loom_objects::body::Body;
 use loom_objects::choice::Choice;
 use loom_objects::operation::{Op, Reply};
 use loom_scripts::number::Number;
 use loom_views::rt::failure::FailureKind;
-use loom_views::sequence::Sequence;
-use std::alloc::Global;
+use std::alloc::{AllocError, Global};
 use std::mem;
 
 /// What a run may use, and which runs are made.
@@ -50,54 +48,39 @@ pub fn run<B: Body<Data = Number>>(
     body: &B,
     list: Vec<Choice>,
 ) -> Result<PlainRun, Halt> {
-    let mut machine = opening(alloc, settings, list)?;
     let mut bodies = Vec::new(alloc);
     bodies.push(body.try_clone()?)?;
-    let ending = match goes_on(&mut machine, &mut bodies, settings.max_steps) {
-        Ok(value) => Ending::Ended(value),
-        Err(Halt::Fails(kind)) => Ending::Failed(kind),
-        Err(halt) => return Err(halt),
-    };
+    let mut machine = opening(alloc, settings, list)?;
+    let ending = goes_on(&mut machine, &mut bodies, settings.max_steps)?;
     let made = mem::replace(&mut machine.choices.made, Vec::new(alloc));
     Ok(PlainRun { made, ending })
 }
 
 // Main alone, about to hand over its first operation.
-fn opening(alloc: Global, settings: Settings, list: Vec<Choice>) -> Result<Machine, Halt> {
-    let mut graph = Graph::new(alloc);
-    let global = graph.add(&[], None)?;
-    let present = graph.add(&[], None)?;
-    let released = graph.add(&[], None)?;
-    let mut main = new_thread(alloc, present, released);
-    main.pending = Pending::Nothing;
-    let mut threads = Vec::new(alloc);
-    threads.push(main)?;
-    Ok(Machine {
-        alloc,
-        graph,
-        global,
-        threads,
-        objects: Vec::new(alloc),
-        dependence: Dependence::new(alloc)?,
-        lazies: Sequence::new(alloc),
-        active: 0,
-        choices: Choices {
-            list,
-            made: Vec::new(alloc),
-            most: settings.max_branches,
-            is_exploring: !settings.expect_explicit_explore,
-            is_settled: false,
-        },
-        max_threads: settings.max_threads,
-    })
+fn opening(alloc: Global, settings: Settings, list: Vec<Choice>) -> Result<Machine, AllocError> {
+    let choices = Choices {
+        list,
+        made: Vec::new(alloc),
+        most: settings.max_branches,
+        is_exploring: !settings.expect_explicit_explore,
+        is_settled: false,
+    };
+    let mut machine = Machine::new(alloc, settings.max_threads, choices)?;
+    machine.global = machine.fresh_point();
+    let present = machine.fresh_point();
+    let released = machine.fresh_point();
+    let main = Thread::new(alloc, present, released);
+    let has_grown = push(&mut machine.threads, main) && machine.dependence.main().is_ok();
+    machine.grows(has_grown);
+    Ok(machine)
 }
 
-// The threads' operations up to the run's end, which gives main's result.
+// The threads' operations up to the run's end.
 fn goes_on<B: Body<Data = Number>>(
     machine: &mut Machine,
     bodies: &mut Vec<B>,
     steps: usize,
-) -> Result<Number, Halt> {
+) -> Result<Ending, Halt> {
     let mut reply = Reply::Start;
     for _ in 0..steps {
         let active = usize::from(machine.active);
@@ -106,30 +89,36 @@ fn goes_on<B: Body<Data = Number>>(
         if let Some(child) = child {
             bodies.push(child)?;
         }
-        match machine.submit(op)? {
+        match machine.submit(op) {
             Some(told) => reply = told,
             None => return machine.ends(),
         }
     }
-    Err(Halt::Fails(FailureKind::TooManySteps))
+    Ok(Ending::Failed(FailureKind::TooManySteps))
 }
 
 impl Machine {
     // The active thread hands the operation over. Gives what is told to the thread whose turn it is then, or nothing at the
     // run's end.
     fn submit(&mut self, op: Op<Number, ()>) -> Told {
-        if let Some(reply) = self.begins(op)? {
-            return Ok(Some(reply));
-        }
+        let told = match self.begins(op) {
+            Some(told) => Some(told),
+            None => self.goes_to_told(),
+        };
+        if self.has_halted() { None } else { told }
+    }
+
+    // Threads are chosen until one is told something, or none is left.
+    fn goes_to_told(&mut self) -> Told {
         for _ in 0..self.choices.most.saturating_add(1) {
-            if !self.schedule()? {
-                return Ok(None);
+            if !self.schedule() {
+                return None;
             }
-            if let Some(reply) = self.takes_effect()? {
-                return Ok(Some(reply));
+            if let Some(told) = self.takes_effect() {
+                return Some(told);
             }
         }
-        Err(Halt::Broken)
+        None
     }
 
     // Nothing is told where the thread comes to a branch point.
@@ -149,22 +138,31 @@ impl Machine {
             Op::AtomicWaker(op, _) => self.place_begins(op),
             Op::Local(op, _) => self.local_begins(op),
             Op::Lazy(op, _) => self.lazy_begins(op),
-            Op::Explore(op, _) => self.choices.switches(op),
+            Op::Explore(op, _) => self.switches(op),
             Op::Thread(op, _) => self.thread_begins(op),
-            Op::Fail(_) => Err(Halt::Fails(FailureKind::Assertion)),
-            Op::Unreachable(_) => Err(Halt::Fails(FailureKind::Unreachable)),
+            Op::Fail(_) => self.gives_up(FailureKind::Assertion),
+            Op::Unreachable(_) => self.gives_up(FailureKind::Unreachable),
         }
+    }
+
+    // The body gives up.
+    fn gives_up(&mut self, kind: FailureKind) -> Told {
+        self.fails(kind);
+        None
     }
 
     // What the chosen thread has pending takes effect. Nothing is told where it comes to another branch point.
     fn takes_effect(&mut self) -> Told {
-        let me = self.me()?;
+        let me = self.me();
         let pending = me.pending;
         me.pending = Pending::Nothing;
         match pending {
-            Pending::Nothing => Err(Halt::Broken),
-            Pending::Start => Ok(Some(Reply::Start)),
-            Pending::Continue => Ok(Some(Reply::Done)),
+            Pending::Nothing => {
+                self.expect(false);
+                None
+            }
+            Pending::Start => Some(Reply::Start),
+            Pending::Continue => Some(Reply::Done),
             Pending::Atomic(number, op) => self.accesses(number, op),
             Pending::Count(number, counting) => self.counts(number, counting),
             Pending::Lock(number) => self.locks(number),
@@ -193,61 +191,72 @@ impl Machine {
     }
 
     // A thread is chosen, or none. The chosen one makes an access where it is pending on an object.
-    fn schedule(&mut self) -> Result<bool, Halt> {
-        let options = self.thread_options()?;
-        let standing = self.standing()?;
+    fn schedule(&mut self) -> bool {
+        let (options, standing) = (self.thread_options(), self.standing());
         let place = self.choices.made.len();
-        let Choice::Thread(chosen) = self.choices.choose(options, Some(standing))? else {
-            return Err(Halt::Broken);
-        };
-        let Some(chosen) = chosen else {
-            return Ok(false);
+        let chosen = self.choose(options, Some(standing));
+        let Some(Choice::Thread(Some(chosen))) = chosen else {
+            return false;
         };
         self.active = chosen;
-        if let Some(used) = self.me()?.pending.used() {
-            self.dependence.record(chosen, used, place)?;
-        }
-        for (place, thread) in self.threads.iter_mut().enumerate() {
-            if place != usize::from(chosen) && thread.state == State::Yielding {
+        self.makes_access(place);
+        for (number, thread) in self.threads.iter_mut().enumerate() {
+            if number != usize::from(chosen) && thread.state == State::Yielding {
                 thread.state = State::Runnable;
             }
         }
-        Ok(true)
+        true
+    }
+
+    // The active thread, chosen at this place, makes an access where it is pending on an object.
+    fn makes_access(&mut self, place: usize) {
+        let active = self.active;
+        if let Some(used) = self.me().pending.used() {
+            let count = self.dependence.accesses_of(active);
+            self.check(count < 65_534, FailureKind::TooManyVersions);
+            let has_grown = self.dependence.record(active, used, place).is_ok();
+            self.grows(has_grown);
+        }
     }
 
     // Which threads are disabled, and which accesses they aren't ordered after.
-    fn standing(&self) -> Result<Standing, Halt> {
+    fn standing(&self) -> Standing {
         let mut disabled = [true; 5];
-        let mut unordered = Vec::new(self.alloc);
-        for (number, is_disabled) in (0..5u8).zip(disabled.iter_mut()) {
+        let mut unordered = [None; 5];
+        let each = disabled.iter_mut().zip(unordered.iter_mut());
+        for (number, (is_disabled, place)) in (0..5u8).zip(each) {
             *is_disabled = !self.is_in(number, State::Runnable)
                 && !self.is_in(number, State::Yielding);
-            if let Some(thread) = self.threads.get(usize::from(number))
-                && let Some(used) = thread.pending.used()
-                && let Some(place) = self.dependence.unordered(number, used)?
-            {
-                unordered.push(Unordered {
-                    place,
-                    thread: number,
-                })?;
-            }
+            *place = self.unordered(number);
         }
-        Ok(Standing {
+        Standing {
             disabled,
             unordered,
-        })
+        }
+    }
+
+    // Where the thread's pending operation depends on an access that it isn't ordered after: the place of that one's schedule.
+    fn unordered(&self, number: u8) -> Option<usize> {
+        match self.threads.get(usize::from(number)) {
+            Some(thread) => match thread.pending.used() {
+                Some(used) => self.dependence.unordered(number, used),
+                None => None,
+            },
+            None => None,
+        }
     }
 
     // The default, and each other thread that is runnable.
-    fn thread_options(&self) -> Result<Vec<Choice>, Halt> {
+    fn thread_options(&self) -> Options {
         let default = self.default_thread();
-        let mut options = vec![in self.alloc; Choice::Thread(default)]?;
-        for number in 0..5u8 {
+        let mut options = [None; 7];
+        options[0] = Some(Choice::Thread(default));
+        for (number, option) in (0..5u8).zip(options.iter_mut().skip(1)) {
             if default != Some(number) && self.is_in(number, State::Runnable) {
-                options.push(Choice::Thread(Some(number)))?;
+                *option = Some(Choice::Thread(Some(number)));
             }
         }
-        Ok(options)
+        options
     }
 
     // Whether the thread is there and in this state.
@@ -264,61 +273,50 @@ impl Machine {
         if self.is_in(self.active, State::Runnable) {
             return Some(self.active);
         }
+        match self.least_yielding() {
+            Some(number) => Some(number),
+            None => self.first_yielding(),
+        }
+    }
+
+    // The runnable thread that has yielded least often, the first of these.
+    fn least_yielding(&self) -> Option<u8> {
         let mut least = None;
-        for number in 0..5u8 {
-            if self.is_in(number, State::Runnable) && self.has_yielded_less(number, least) {
+        let mut yields = 0;
+        for (number, thread) in (0..5u8).zip(&self.threads) {
+            if thread.state == State::Runnable && (least.is_none() || thread.yields < yields) {
                 least = Some(number);
+                yields = thread.yields;
             }
         }
-        match least {
-            Some(number) => Some(number),
-            None => (0..5u8).find(|number| self.is_in(*number, State::Yielding)),
-        }
+        least
     }
 
-    // Whether the one thread has yielded less often than the other, or there is no other.
-    fn has_yielded_less(&self, one: u8, other: Option<u8>) -> bool {
-        match other {
-            None => true,
-            Some(other) => self.yields_of(one) < self.yields_of(other),
+    // The first thread that yields.
+    fn first_yielding(&self) -> Option<u8> {
+        for (number, thread) in (0..5u8).zip(&self.threads) {
+            if thread.state == State::Yielding {
+                return Some(number);
+            }
         }
+        None
     }
 
-    fn yields_of(&self, number: u8) -> u64 {
-        match self.threads.get(usize::from(number)) {
-            Some(thread) => thread.yields,
-            None => 0,
-        }
-    }
-
-    // The run is over, unless some thread hasn't ended or some object is left.
-    fn ends(&mut self) -> Result<Number, Halt> {
+    // The run is over. It fails where some thread hasn't ended or some object is left, unless it has failed already.
+    fn ends(&mut self) -> Result<Ending, Halt> {
         let has_ended = self
             .threads
             .iter()
             .all(|thread| thread.phase == Phase::Over);
-        check(has_ended, FailureKind::Deadlock)?;
-        for object in &self.objects {
-            let (is_left, kind) = leak_of(object);
-            check(!is_left, kind)?;
+        self.check(has_ended, FailureKind::Deadlock);
+        if let Some(kind) = self.objects.leak() {
+            self.fails(kind);
         }
-        self.thread(0)?.value.ok_or(Halt::Broken)
-    }
-}
-
-// Whether something of the object is left that has to be given back, and what that is.
-fn leak_of(object: &Object) -> (bool, FailureKind) {
-    match object {
-        Object::Arc(arc) => (arc.count > 0, FailureKind::LeakArc),
-        Object::Wakers(wakers) => (wakers.count > 0, FailureKind::LeakArc),
-        Object::Track(track) => (track.is_tracked, FailureKind::LeakTrack),
-        Object::Channel(channel) => (!channel.messages.is_empty(), FailureKind::LeakMessages),
-        Object::Atomic(_)
-        | Object::Cell(_)
-        | Object::Mutex(_)
-        | Object::RwLock(_)
-        | Object::Condvar(_)
-        | Object::Notify(_)
-        | Object::Place(_) => (false, FailureKind::LeakArc),
+        match (self.halt, self.failure, self.thread(0).value) {
+            (Some(halt), _, _) => Err(halt),
+            (None, Some(kind), _) => Ok(Ending::Failed(kind)),
+            (None, None, Some(value)) => Ok(Ending::Ended(value)),
+            (None, None, None) => Err(Halt::Broken),
+        }
     }
 }

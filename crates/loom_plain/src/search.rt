@@ -1,5 +1,5 @@
 //! The least set of runs that holds the default run, and with each run its alternatives.
-use crate::choices::Made;
+use crate::choices::{Made, default_of};
 use crate::halt::Halt;
 use crate::marks::{alternatives, alternatives_past, choices_of};
 use crate::run::{Ending, PlainRun, Settings, run};
@@ -27,7 +27,7 @@ fn is_run_of(run: &PlainRun, list: &[Choice]) -> bool {
 }
 
 fn is_default(each: &Made) -> bool {
-    each.options.as_slice().first() == Some(&each.choice)
+    default_of(&each.options) == Some(each.choice)
 }
 
 /// The set, unless it has more than so many runs. The default run is the first of it.

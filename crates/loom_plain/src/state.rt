@@ -1,14 +1,10 @@
-//! What a run of the plain machine consists of.
-use crate::choices::Choices;
-use crate::dependence::{Action, Dependence, Use};
-use crate::graph::Graph;
-use crate::halt::{Halt, Told};
-use loom_objects::operation::{AtomicOp, Lazy};
+//! What threads and objects are.
+use crate::dependence::{Action, Use};
+use crate::readers::Readers;
+use loom_objects::operation::AtomicOp;
 use loom_objects::rt::thread::Name;
 use loom_scripts::number::Number;
-use loom_views::rt::failure::FailureKind;
 use loom_views::rt::num::Numbers;
-use loom_views::sequence::Sequence;
 use std::alloc::Global;
 use std::collections::LinkedList;
 
@@ -149,16 +145,16 @@ impl Pending {
             | Pending::Rouse(_) => return None,
             Pending::Atomic(number, op) => (number, atomic_action(op)),
             Pending::Count(number, counting) => (number, counting_action(counting)),
+            Pending::Claim(number, Claim::Write | Claim::TryWrite) => (number, Action::Write),
+            Pending::Await(number) | Pending::Join(_, number) => (number, Action::Wait),
             Pending::Lock(number)
             | Pending::TryLock(number)
-            | Pending::Claim(number, _)
+            | Pending::Claim(number, Claim::Read | Claim::TryRead)
             | Pending::Sleep(number, ..)
             | Pending::Relock(number, _)
             | Pending::NotifyOne(number)
             | Pending::NotifyAll(number)
             | Pending::Notify(number)
-            | Pending::Await(number)
-            | Pending::Join(_, number)
             | Pending::Finish(number, _)
             | Pending::Wake(number, ..)
             | Pending::Register(number, _)
@@ -171,73 +167,16 @@ impl Pending {
         Some(Use { object, action })
     }
 
-    /// The object that it is pending on.
-    pub fn object(self) -> Option<usize> {
+    /// Whether it does this to the object.
+    pub fn does(self, action: Action, object: usize) -> bool {
+        self.used() == Some(Use { object, action })
+    }
+
+    /// Whether it is pending on the object.
+    pub fn is_on(self, object: usize) -> bool {
         match self.used() {
-            Some(used) => Some(used.object),
-            None => None,
-        }
-    }
-
-    /// Whether it takes this read-write lock to write.
-    pub fn is_write_of(self, lock: usize) -> bool {
-        match self {
-            Pending::Claim(number, Claim::Write | Claim::TryWrite) => number == lock,
-            Pending::Claim(_, Claim::Read | Claim::TryRead)
-            | Pending::Nothing
-            | Pending::Start
-            | Pending::Continue
-            | Pending::Atomic(..)
-            | Pending::Count(..)
-            | Pending::Lock(_)
-            | Pending::TryLock(_)
-            | Pending::Sleep(..)
-            | Pending::Awake(..)
-            | Pending::Relock(..)
-            | Pending::NotifyOne(_)
-            | Pending::NotifyAll(_)
-            | Pending::Notify(_)
-            | Pending::Await(_)
-            | Pending::Rouse(_)
-            | Pending::Join(..)
-            | Pending::Finish(..)
-            | Pending::Send(..)
-            | Pending::Receive(..)
-            | Pending::Wake(..)
-            | Pending::CloneWaker(..)
-            | Pending::DropWaker(..)
-            | Pending::Register(..)
-            | Pending::TakeWaker(..) => false,
-        }
-    }
-
-    /// Whether it is a wait on this notifier.
-    pub fn is_wait_on(self, notifier: usize) -> bool {
-        match self {
-            Pending::Await(number) | Pending::Join(_, number) => number == notifier,
-            Pending::Nothing
-            | Pending::Start
-            | Pending::Continue
-            | Pending::Atomic(..)
-            | Pending::Count(..)
-            | Pending::Lock(_)
-            | Pending::TryLock(_)
-            | Pending::Claim(..)
-            | Pending::Sleep(..)
-            | Pending::Awake(..)
-            | Pending::Relock(..)
-            | Pending::NotifyOne(_)
-            | Pending::NotifyAll(_)
-            | Pending::Notify(_)
-            | Pending::Rouse(_)
-            | Pending::Finish(..)
-            | Pending::Send(..)
-            | Pending::Receive(..)
-            | Pending::Wake(..)
-            | Pending::CloneWaker(..)
-            | Pending::DropWaker(..)
-            | Pending::Register(..)
-            | Pending::TakeWaker(..) => false,
+            Some(used) => used.object == object,
+            None => false,
         }
     }
 }
@@ -279,15 +218,15 @@ pub struct Thread {
     pub taken: LinkedList<Number>,
 }
 
-/// That a thread touched a store, with the last point that had raised it then.
+/// A thread's first touch of a store.
 #[derive(Clone, Copy)]
 pub struct Touch {
-    pub thread: u8,
+    /// The last point that had raised the thread then.
     pub raised: Option<usize>,
 }
 
 /// One store of an atomic.
-#[derive(Drop)]
+#[derive(Clone, Copy)]
 pub struct Store {
     /// Its place among all stores of the atomic; the initial one has 0.
     pub number: usize,
@@ -297,7 +236,8 @@ pub struct Store {
     /// The point that is acquired with it.
     pub sync: usize,
     pub is_seq_cst: bool,
-    pub touches: Vec<Touch>,
+    /// Of each thread that has touched it.
+    pub touches: [Option<Touch>; 5],
 }
 
 /// What kind of access to an atomic was made.
@@ -331,8 +271,8 @@ pub struct Atomic {
 pub struct Cell {
     pub value: Option<Number>,
     pub is_whole: bool,
-    /// How many reads each thread has open.
-    pub readers: [u64; 5],
+    /// The reads that are open.
+    pub readers: Readers,
     pub writer: Option<u8>,
     /// The points of all reads.
     pub reads: Vec<usize>,
@@ -369,8 +309,8 @@ pub struct Mutex {
 #[derive(Clone, Copy)]
 pub struct RwLock {
     pub value: Option<Number>,
-    /// How many guards for reading each thread has.
-    pub readers: [u64; 5],
+    /// The guards for reading.
+    pub readers: Readers,
     pub writer: Option<u8>,
     pub lent: Option<u8>,
     pub is_whole: bool,
@@ -380,7 +320,7 @@ pub struct RwLock {
 #[derive(Drop)]
 pub struct Condvar {
     /// The threads that wait, the first one first.
-    pub waiters: Vec<u8>,
+    pub waiters: LinkedList<u8>,
 }
 
 #[derive(Clone, Copy)]
@@ -425,140 +365,4 @@ pub struct Place {
     pub holder: Option<u8>,
     pub waker: Option<usize>,
     pub point: usize,
-}
-
-#[derive(Drop)]
-pub enum Object {
-    Atomic(Atomic),
-    Cell(Cell),
-    Arc(Counted),
-    Track(Tracked),
-    Mutex(Mutex),
-    RwLock(RwLock),
-    Condvar(Condvar),
-    Notify(Notify),
-    Channel(Channel),
-    Wakers(Wakers),
-    Place(Place),
-}
-
-/// The whole state of a run.
-#[derive(Drop)]
-pub struct Machine {
-    pub alloc: Global,
-    pub graph: Graph,
-    /// The point at which sequentially consistent fences meet.
-    pub global: usize,
-    /// In order of creation; main is the first.
-    pub threads: Vec<Thread>,
-    /// In order of creation.
-    pub objects: Vec<Object>,
-    pub dependence: Dependence,
-    /// The values that were made once in the run, in the order made, each with the point that is acquired with it.
-    pub lazies: Sequence<Lazy<Number>>,
-    /// The thread whose turn it is.
-    pub active: u8,
-    pub choices: Choices,
-    pub max_threads: usize,
-}
-
-/// A failure by misuse.
-pub const MISUSE: Halt = Halt::Fails(FailureKind::Misuse);
-
-impl Machine {
-    /// The thread of this number.
-    pub fn thread(&mut self, number: u8) -> Result<&mut Thread, Halt> {
-        self.threads
-            .get_mut(usize::from(number))
-            .ok_or(Halt::Broken)
-    }
-
-    /// The thread whose turn it is.
-    pub fn me(&mut self) -> Result<&mut Thread, Halt> {
-        let active = self.active;
-        self.thread(active)
-    }
-
-    /// The point that the active thread is at.
-    pub fn present(&mut self) -> Result<usize, Halt> {
-        Ok(self.me()?.present)
-    }
-
-    /// A new object, by its number.
-    pub fn add_object(&mut self, object: Object) -> Result<usize, Halt> {
-        let number = self.objects.len();
-        self.objects.push(object)?;
-        Ok(number)
-    }
-
-    /// A point without edges.
-    pub fn fresh_point(&mut self) -> Result<usize, Halt> {
-        self.graph.add(&[], None)
-    }
-
-    /// The active thread raises its version.
-    pub fn raise(&mut self) -> Result<(), Halt> {
-        let active = self.active;
-        let present = self.present()?;
-        if self.graph.versions(present, active)? >= 65_534 {
-            return Err(Halt::Fails(FailureKind::TooManyVersions));
-        }
-        let point = self.graph.add(&[present], Some(active))?;
-        let me = self.me()?;
-        me.present = point;
-        me.raised = Some(point);
-        Ok(())
-    }
-
-    /// The active thread acquires from the point.
-    pub fn acquire(&mut self, point: usize) -> Result<(), Halt> {
-        let present = self.present()?;
-        let point = self.graph.add(&[present, point], None)?;
-        self.me()?.present = point;
-        Ok(())
-    }
-
-    /// The point after this one by which the active thread passes on what its last release fence left, and what it has seen.
-    pub fn released_to(&mut self, point: usize) -> Result<usize, Halt> {
-        let me = self.me()?;
-        let (present, released) = (me.present, me.released);
-        self.graph.add(&[point, released, present], None)
-    }
-
-    /// The thread takes in what the active one has seen.
-    pub fn tell(&mut self, number: u8) -> Result<(), Halt> {
-        let present = self.present()?;
-        let before = self.thread(number)?.present;
-        let point = self.graph.add(&[before, present], None)?;
-        self.thread(number)?.present = point;
-        Ok(())
-    }
-
-    /// The active thread comes to a branch point.
-    pub fn pends(&mut self, pending: Pending, is_blocked: bool) -> Told {
-        let me = self.me()?;
-        me.pending = pending;
-        if is_blocked {
-            me.state = State::Blocked;
-        }
-        Ok(None)
-    }
-
-    /// The active thread comes to a branch point without object, in this state.
-    pub fn steps_back(&mut self, state: State, pending: Pending) -> Told {
-        let me = self.me()?;
-        me.pending = pending;
-        me.state = state;
-        Ok(None)
-    }
-
-    /// Each other thread that is pending on the object comes to this state.
-    pub fn set_pending(&mut self, number: usize, state: State) {
-        let active = usize::from(self.active);
-        for (place, thread) in self.threads.iter_mut().enumerate() {
-            if place != active && thread.pending.object() == Some(number) {
-                thread.state = state;
-            }
-        }
-    }
 }

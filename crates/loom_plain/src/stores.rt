@@ -1,10 +1,8 @@
 //! The stores of an atomic: which are seen, which stand below others, and which may be read.
-use crate::graph::{Graph, is_marked};
-use crate::halt::Halt;
+use crate::choices::Options;
+use crate::graph::Graph;
 use crate::state::{Store, Touch};
 use loom_objects::choice::Choice;
-use loom_views::rt::failure::FailureKind;
-use std::alloc::Global;
 use std::sync::atomic::Ordering;
 
 /// How many stores of an atomic are kept: the last ones.
@@ -40,26 +38,29 @@ pub fn store_in(stores: &[Store], wanted: usize) -> Option<&Store> {
 }
 
 /// Whether the store is seen from the point: a thread's first touch of it reaches the point.
-pub fn is_seen(graph: &Graph, store: &Store, point: usize) -> Result<bool, Halt> {
-    let reached = graph.reaching(point)?;
-    Ok(
-        store.touches.iter().any(|touch| match touch.raised {
-            Some(raised) => is_marked(&reached, raised),
-            None => true,
-        }),
-    )
+pub fn is_seen(graph: &Graph, store: &Store, point: usize) -> bool {
+    store.touches.iter().any(|touch| match touch {
+        Some(touch) => reaches(graph, *touch, point),
+        None => false,
+    })
+}
+
+// Whether the touch reaches the point. One before which nothing has raised its thread reaches all points.
+fn reaches(graph: &Graph, touch: Touch, point: usize) -> bool {
+    match touch.raised {
+        Some(raised) => graph.reaches(raised, point),
+        None => true,
+    }
 }
 
 // Whether the view of the one store's order lies strictly inside that of the other's.
-fn is_below(graph: &Graph, one: &Store, other: &Store) -> Result<bool, Halt> {
-    let is_inside = graph.is_inside(one.order, other.order)?;
-    Ok(is_inside && !graph.is_inside(other.order, one.order)?)
+fn is_below(graph: &Graph, one: &Store, other: &Store) -> bool {
+    graph.is_inside(one.order, other.order) && !graph.is_inside(other.order, one.order)
 }
 
 // Whether the views of both stores' orders are the same.
-fn is_level(graph: &Graph, one: &Store, other: &Store) -> Result<bool, Halt> {
-    let is_inside = graph.is_inside(one.order, other.order)?;
-    Ok(is_inside && graph.is_inside(other.order, one.order)?)
+fn is_level(graph: &Graph, one: &Store, other: &Store) -> bool {
+    graph.is_inside(one.order, other.order) && graph.is_inside(other.order, one.order)
 }
 
 // Whether the one comes no later than the other, where none is before all points.
@@ -71,28 +72,31 @@ fn is_no_later(one: Option<usize>, other: Option<usize>) -> bool {
     }
 }
 
-// Whether the touch is the reader's own, and was at or before its last yield.
-fn is_before_yield(reader: Reader, touch: Touch) -> bool {
-    match reader.yielded {
-        Some(yielded) => touch.thread == reader.thread && is_no_later(touch.raised, yielded),
-        None => false,
+// Whether the reader has touched the store at or before its last yield.
+fn is_before_yield(reader: Reader, store: &Store) -> bool {
+    let touch = store
+        .touches
+        .get(usize::from(reader.thread))
+        .copied()
+        .flatten();
+    match (reader.yielded, touch) {
+        (Some(yielded), Some(touch)) => is_no_later(touch.raised, yielded),
+        (Some(_), None) | (None, _) => false,
     }
 }
 
 // Whether the one store drops the other from what may be read.
-fn drops(graph: &Graph, reader: Reader, one: &Store, other: &Store) -> Result<bool, Halt> {
-    if !is_below(graph, other, one)? {
-        return Ok(false);
+fn drops(graph: &Graph, reader: Reader, one: &Store, other: &Store) -> bool {
+    if !is_below(graph, other, one) {
+        return false;
     }
-    let Some(order) = reader.load else {
-        return Ok(true);
-    };
-    let has_yielded = other
-        .touches
-        .iter()
-        .any(|touch| is_before_yield(reader, *touch));
-    let are_seq_cst = order == Ordering::SeqCst && one.is_seq_cst && other.is_seq_cst;
-    Ok(has_yielded || are_seq_cst || is_seen(graph, one, reader.present)?)
+    match reader.load {
+        Some(order) => {
+            let are_seq_cst = order == Ordering::SeqCst && one.is_seq_cst && other.is_seq_cst;
+            are_seq_cst || is_before_yield(reader, other) || is_seen(graph, one, reader.present)
+        }
+        None => true,
+    }
 }
 
 // Whether a kept store in a slot lower than this one drops the store.
@@ -102,63 +106,46 @@ fn is_dropped(
     stores: &[Store],
     store: &Store,
     below: usize,
-) -> Result<bool, Halt> {
-    for other in kept(stores) {
-        if slot(other) < below && drops(graph, reader, other, store)? {
-            return Ok(true);
-        }
-    }
-    Ok(false)
+) -> bool {
+    kept(stores).iter().any(|other| slot(other) < below && drops(graph, reader, other, store))
 }
 
 // Whether another kept store has an order equal to the store's, and no store in a slot lower than that one drops the store.
-fn has_equal(graph: &Graph, reader: Reader, stores: &[Store], store: &Store) -> Result<bool, Halt> {
-    for other in kept(stores) {
-        if other.number != store.number
-            && is_level(graph, store, other)?
-            && !is_dropped(graph, reader, stores, store, slot(other))?
-        {
-            return Ok(true);
-        }
-    }
-    Ok(false)
+fn has_equal(graph: &Graph, reader: Reader, stores: &[Store], store: &Store) -> bool {
+    kept(stores).iter().any(|other| {
+        other.number != store.number
+            && is_level(graph, store, other)
+            && !is_dropped(graph, reader, stores, store, slot(other))
+    })
+}
+
+/// Whether the orders of two kept stores are equal, so that it can't be told which may be read.
+pub fn are_orders_equal(graph: &Graph, reader: Reader, stores: &[Store]) -> bool {
+    kept(stores)
+        .iter()
+        .any(|store| has_equal(graph, reader, stores, store))
 }
 
 /// The slots that may be read, in rising order.
-pub fn readable(
-    alloc: Global,
-    graph: &Graph,
-    reader: Reader,
-    stores: &[Store],
-) -> Result<Vec<Choice>, Halt> {
-    for store in kept(stores) {
-        if has_equal(graph, reader, stores, store)? {
-            return Err(Halt::Fails(FailureKind::OrdersEqual));
-        }
-    }
-    let mut slots = Vec::new(alloc);
-    for number in 0..7u8 {
+pub fn readable(graph: &Graph, reader: Reader, stores: &[Store]) -> Options {
+    let mut slots = [None; 7];
+    for (number, option) in (0..7u8).zip(slots.iter_mut()) {
         if let Some(store) = store_in(stores, usize::from(number))
-            && !is_dropped(graph, reader, stores, store, KEPT)?
+            && !is_dropped(graph, reader, stores, store, KEPT)
         {
-            slots.push(Choice::Load(number))?;
+            *option = Some(Choice::Load(number));
         }
     }
-    Ok(slots)
+    slots
 }
 
-/// The orders of all kept stores that are seen from the point.
-pub fn seen_orders(
-    alloc: Global,
-    graph: &Graph,
-    stores: &[Store],
-    point: usize,
-) -> Result<Vec<usize>, Halt> {
-    let mut orders = Vec::new(alloc);
-    for store in kept(stores) {
-        if is_seen(graph, store, point)? {
-            orders.push(store.order)?;
+/// This point, and the orders of all kept stores that are seen from the other point.
+pub fn seen_orders(graph: &Graph, stores: &[Store], here: usize, point: usize) -> [usize; 8] {
+    let mut orders = [here; 8];
+    for (order, store) in orders.iter_mut().zip(kept(stores)) {
+        if is_seen(graph, store, point) {
+            *order = store.order;
         }
     }
-    Ok(orders)
+    orders
 }

@@ -1,9 +1,31 @@
 //! Wakers of futures, and places for wakers.
-use crate::halt::{Halt, Told, check};
-use crate::state::{AfterDrop, Machine, Object, Pending, Place, State, Wakers};
+use crate::halt::Told;
+use crate::machine::Machine;
+use crate::state::{AfterDrop, Pending, Place, State, Wakers};
 use loom_objects::operation::{AtomicWakerOp, Reply, WakerOp};
 use loom_scripts::number::Number;
-use loom_views::rt::failure::FailureKind;
+
+impl Wakers {
+    /// So many of this notifier.
+    pub fn of(notifier: usize, count: u64, point: usize) -> Wakers {
+        Wakers {
+            notifier,
+            count,
+            point,
+        }
+    }
+}
+
+impl Place {
+    /// Free, without a waker.
+    pub fn new(point: usize) -> Place {
+        Place {
+            holder: None,
+            waker: None,
+            point,
+        }
+    }
+}
 
 impl Machine {
     /// An operation of a future's notifier or of its wakers is handed over.
@@ -11,15 +33,15 @@ impl Machine {
         match op {
             WakerOp::New => self.block_on_new(),
             WakerOp::Wait(number) => {
-                let notifier = self.wakers(number)?.notifier;
+                let notifier = self.wakers(number).notifier;
                 self.wait_begins(notifier)
             }
             WakerOp::Clone(number) => {
-                self.wakers(number)?;
+                self.wakers(number);
                 self.pends(Pending::CloneWaker(number, None), false)
             }
             WakerOp::Finish(number) | WakerOp::Drop(number) => {
-                self.wakers(number)?;
+                self.wakers(number);
                 self.pends(Pending::DropWaker(number, AfterDrop::Nothing), false)
             }
             WakerOp::Wake(number) => self.wake_begins(number, Some(AfterDrop::Nothing)),
@@ -29,54 +51,52 @@ impl Machine {
 
     // A notifier, and then the count of its wakers.
     fn block_on_new(&mut self) -> Told {
-        let notifier = self.notify_new(false)?;
-        let wakers = Wakers {
-            notifier,
-            count: 1,
-            point: self.fresh_point()?,
-        };
-        let number = self.add_object(Object::Wakers(wakers))?;
-        Ok(Some(Reply::BlockOn(number)))
+        let notifier = self.notify_new(false);
+        let number = self.new_number();
+        let wakers = Wakers::of(notifier, 1, self.fresh_point());
+        let has_grown = self.objects.wakers.add(number, wakers);
+        self.grows(has_grown);
+        Some(Reply::BlockOn(number))
     }
 
     // The active thread comes to wake by the waker.
     fn wake_begins(&mut self, number: usize, after: Option<AfterDrop>) -> Told {
-        let notifier = self.wakers(number)?.notifier;
+        let notifier = self.wakers(number).notifier;
         self.pends(Pending::Wake(notifier, number, after), false)
     }
 
     /// The active thread wakes by the waker, and may come to drop that.
     pub fn wakes_by(&mut self, notifier: usize, number: usize, after: Option<AfterDrop>) -> Told {
-        self.wakers(number)?;
-        let told = self.notifies(notifier)?;
+        self.wakers(number);
+        self.notifies(notifier);
         match after {
             Some(after) => self.pends(Pending::DropWaker(number, after), false),
-            None => Ok(told),
+            None => Some(Reply::Done),
         }
     }
 
     /// One waker more, which may be about to take a place.
     pub fn clones_waker(&mut self, number: usize, place: Option<usize>) -> Told {
-        let wakers = self.wakers(number)?;
-        wakers.count = wakers.count.checked_add(1).ok_or(Halt::Broken)?;
+        let wakers = self.wakers(number);
+        wakers.count = wakers.count.saturating_add(1);
         match place {
             Some(place) => self.pends(Pending::Register(place, number), false),
-            None => Ok(Some(Reply::Done)),
+            None => Some(Reply::Done),
         }
     }
 
     /// One waker fewer; who drops the last one acquires.
     pub fn drops_waker(&mut self, number: usize, after: AfterDrop) -> Told {
-        let point = self.wakers(number)?.point;
-        let point = self.released_to(point)?;
-        let wakers = self.wakers(number)?;
+        let Wakers { count, point, .. } = *self.wakers(number);
+        let point = self.released_to(point);
+        let wakers = self.wakers(number);
         wakers.point = point;
-        wakers.count = wakers.count.checked_sub(1).ok_or(Halt::Broken)?;
-        if wakers.count == 0 {
-            self.acquire(point)?;
+        wakers.count = count.saturating_sub(1);
+        if count == 1 {
+            self.acquire(point);
         }
         match after {
-            AfterDrop::Nothing => Ok(Some(Reply::Done)),
+            AfterDrop::Nothing => Some(Reply::Done),
             AfterDrop::Yield => self.yields(Pending::Continue),
             AfterDrop::Free(place) => self.frees_place(place),
         }
@@ -94,68 +114,64 @@ impl Machine {
             }
             AtomicWakerOp::Wake(number) => self.take_begins(number, true),
             AtomicWakerOp::TakeWaker(number) => self.take_begins(number, false),
-            AtomicWakerOp::Drop(number) => {
-                let waker = self.place(number)?.waker.take();
-                Ok(Some(waker_reply(waker)))
-            }
+            AtomicWakerOp::Drop(number) => Some(waker_reply(self.place(number).waker.take())),
         }
     }
 
     fn place_new(&mut self) -> Told {
-        let place = Place {
-            holder: None,
-            waker: None,
-            point: self.fresh_point()?,
-        };
-        let number = self.add_object(Object::Place(place))?;
-        Ok(Some(Reply::AtomicWaker(number)))
+        let number = self.new_number();
+        let place = Place::new(self.fresh_point());
+        let has_grown = self.objects.places.add(number, place);
+        self.grows(has_grown);
+        Some(Reply::AtomicWaker(number))
     }
 
     // The active thread comes to a branch point with a place and a waker that are there.
     fn register_begins(&mut self, number: usize, waker: usize, pending: Pending) -> Told {
-        self.place(number)?;
-        self.wakers(waker)?;
+        self.place(number);
+        self.wakers(waker);
         self.pends(pending, false)
     }
 
     // The active thread comes to take the waker out, and is blocked while the place is held.
     fn take_begins(&mut self, number: usize, wakes: bool) -> Told {
-        let is_held = self.place(number)?.holder.is_some();
+        let is_held = self.place(number).holder.is_some();
         self.pends(Pending::TakeWaker(number, wakes), is_held)
     }
 
     // The active thread holds the place, and leaves this waker there. Gives the old one.
-    fn holds_place(&mut self, number: usize, waker: Option<usize>) -> Result<Option<usize>, Halt> {
-        let active = self.active;
-        let place = self.place(number)?;
-        check(place.holder.is_none(), FailureKind::Misuse)?;
-        place.holder = Some(active);
-        let (old, point) = (place.waker, place.point);
-        place.waker = waker;
-        self.acquire(point)?;
+    fn holds_place(&mut self, number: usize, waker: Option<usize>) -> Option<usize> {
+        let old = *self.place(number);
+        self.require(old.holder.is_none());
+        *self.place(number) = Place {
+            holder: Some(self.active),
+            waker,
+            ..old
+        };
+        self.acquire(old.point);
         self.set_pending(number, State::Blocked);
-        Ok(old)
+        old.waker
     }
 
     // The active thread holds the place no more.
     fn frees_place(&mut self, number: usize) -> Told {
-        let point = self.place(number)?.point;
-        let point = self.released_to(point)?;
-        let place = self.place(number)?;
+        let before = self.place(number).point;
+        let point = self.released_to(before);
+        let place = self.place(number);
         place.holder = None;
         place.point = point;
         self.set_pending(number, State::Runnable);
-        Ok(Some(Reply::Done))
+        Some(Reply::Done)
     }
 
     /// The waker takes the place, and an old one is dropped while the place is held; where another thread holds it, the waker
     /// wakes and is dropped, and the active thread yields.
     pub fn registers(&mut self, number: usize, waker: usize) -> Told {
-        self.wakers(waker)?;
-        if self.place(number)?.holder.is_some() {
+        self.wakers(waker);
+        if self.place(number).holder.is_some() {
             return self.wake_begins(waker, Some(AfterDrop::Yield));
         }
-        match self.holds_place(number, Some(waker))? {
+        match self.holds_place(number, Some(waker)) {
             Some(old) => self.pends(Pending::DropWaker(old, AfterDrop::Free(number)), false),
             None => self.frees_place(number),
         }
@@ -163,12 +179,12 @@ impl Machine {
 
     /// The waker is taken out of the place, and may be about to wake.
     pub fn takes_waker(&mut self, number: usize, wakes: bool) -> Told {
-        let waker = self.holds_place(number, None)?;
-        let told = self.frees_place(number)?;
+        let waker = self.holds_place(number, None);
+        self.frees_place(number);
         match waker {
             Some(waker) if wakes => self.wake_begins(waker, Some(AfterDrop::Nothing)),
-            None if wakes => Ok(told),
-            Some(_) | None => Ok(Some(waker_reply(waker))),
+            None if wakes => Some(Reply::Done),
+            Some(_) | None => Some(waker_reply(waker)),
         }
     }
 }
