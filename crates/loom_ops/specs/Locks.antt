@@ -1,7 +1,8 @@
 -- The mutexes that replies hold, and that a lock wasn't waited for.
-use Rattle.std.specs.Prelude.{Option, Some, None}
+use Rattle.std.specs.Prelude.{Option, Some, None, option_map}
 use Rattle.loom_objects.specs.declared.operation.Reply.{Reply}
 use Rattle.loom_objects.specs.declared.operation.Reply.TheVariants.{Locked, Mutex as MutexMade, Waited, WouldBlock as Blocked}
+use Rattle.loom_handle_parts.specs.Holding.{held_in}
 use Rattle.loom_ops.specs.declared.sync.mutex.Mutex.{Mutex}
 use Rattle.loom_ops.specs.declared.sync.mutex.MutexGuard.{MutexGuard}
 use Rattle.loom_ops.specs.declared.sync.try_lock.TryLockError.{TryLockError}
@@ -15,9 +16,7 @@ module _ {D : Type 0} where
 
   -- the mutex that the thread holds now
   abbrev pub guard_handle : Reply D → Option MutexGuard
-  guard_handle (Locked number value) = Some (record { number = number })
-  guard_handle (Waited number value timed_out) = Some (record { number = number })
-  guard_handle _ = None
+  guard_handle reply = option_map (λ number. record { number = number }) (held_in reply)
 
   -- the mutex that the thread holds now, and its data
   abbrev pub guard_taken : Reply D → Option (MutexGuard × D)

@@ -4,6 +4,7 @@ ghost use Rattle.std.specs.Option.{option_map};
 ghost use Rattle.loom_ops.specs.Threads.{access_error, join_handle, leave, thread_handle, named};
 
 use crate::fail;
+use loom_handle_parts::threads;
 use loom_objects::operation::{LocalOp, Op, Reply, ThreadOp};
 use loom_objects::rt::thread::Name;
 use std::fmt;
@@ -148,10 +149,7 @@ impl Thread {
     pub fn name(self) -> Option<&'static str>
         ensures { result ≡ option_map (λ name. name.text) self.name }
     {
-        match self.name {
-            Some(name) => Some(name.text),
-            None => None,
-        }
+        threads::text_of(self.name)
     }
 
     /// The thread goes on if it is parked, and else has a token, by which it isn't parked the next time; it has one at most

@@ -5,6 +5,7 @@ ghost use Rattle.loom_ops.specs.Atomics.{atomic_handle, value_in, exchange, exch
 ghost use Rattle.loom_ops.specs.Threads.{yielding};
 
 use crate::thread;
+use loom_handle_parts::atomics;
 use loom_objects::operation::{AtomicOp, Exchange, Op, Reply};
 use loom_views::rt::change::Change;
 use loom_views::rt::num::Numeric;
@@ -278,7 +279,7 @@ impl<T: Integer> Atomic<T> {
     pub fn with_mut_end<D, S>(self, value: T) -> Op<D, S>
         ensures { result ≡ Op.Atomic (AtomicOp.WithMutEnd self.number (T.number value)) None }
     {
-        Op::Atomic(AtomicOp::WithMutEnd(self.number, value.into_u64()), None)
+        atomics::with_mut_end(self.number, value)
     }
 
     /// Adds, by the lowest bits of the type, and replies the value before (loom's `sync/atomic/int.rs`).

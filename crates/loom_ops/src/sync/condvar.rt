@@ -3,6 +3,7 @@ ghost use Rattle.std.specs.Prelude.{◌≡◌, None};
 ghost use Rattle.loom_ops.specs.Condvars.{condvar_handle, timeout_in};
 
 use crate::sync::mutex::MutexGuard;
+use loom_handle_parts::condvars;
 use loom_objects::operation::{CondvarOp, Op, Reply};
 
 /// A condition variable of the run (loom's `sync/condvar.rs`).
@@ -40,7 +41,7 @@ impl Condvar {
     pub fn wait<D, S>(self, guard: MutexGuard, value: D) -> Op<D, S>
         ensures { result ≡ Op.Condvar (CondvarOp.Wait self.number guard.number value) None }
     {
-        Op::Condvar(CondvarOp::Wait(self.number, guard.number, value), None)
+        condvars::wait(self.number, guard.number, value)
     }
 
     /// The same, but the reply is `Waited`, which also says that the time didn't run out: it never does, as in loom, and so no

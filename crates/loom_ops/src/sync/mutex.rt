@@ -2,6 +2,7 @@
 ghost use Rattle.std.specs.Prelude.{◌≡◌, None};
 ghost use Rattle.loom_ops.specs.Locks.{mutex_handle, guard_handle, guard_taken};
 
+use loom_handle_parts::locks;
 use loom_objects::operation::{MutexOp, Op, Reply};
 
 /// A mutex of the run (loom's `sync/mutex.rs`).
@@ -42,7 +43,7 @@ impl Mutex {
     pub fn lock<D, S>(self) -> Op<D, S>
         ensures { result ≡ Op.Mutex (MutexOp.Lock self.number) None }
     {
-        Op::Mutex(MutexOp::Lock(self.number), None)
+        locks::lock(self.number)
     }
 
     /// The same, where nobody holds the mutex. Where a thread does, this one as well, it replies `WouldBlock` and doesn't wait
@@ -82,10 +83,9 @@ impl MutexGuard {
     pub fn from_reply<D>(reply: &Reply<D>) -> Option<MutexGuard>
         ensures { result ≡ guard_handle reply.now }
     {
-        match reply {
-            Reply::Locked(number, _) => Some(MutexGuard { number: *number }),
-            Reply::Waited(number, ..) => Some(MutexGuard { number: *number }),
-            _ => None,
+        match locks::held(reply) {
+            Some(number) => Some(MutexGuard { number }),
+            None => None,
         }
     }
 

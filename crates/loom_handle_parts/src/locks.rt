@@ -1,0 +1,22 @@
+ghost use Rattle.std.specs.Prelude.{◌≡◌, None};
+ghost use Rattle.loom_handle_parts.specs.Holding.{held_in};
+
+use loom_objects::operation::{MutexOp, Op, Reply};
+
+/// The thread holds the mutex of this number from its reply on (loom's `sync/mutex.rs`).
+pub fn lock<D, S>(number: usize) -> Op<D, S>
+    ensures { result ≡ Op.Mutex (MutexOp.Lock number) None }
+{
+    Op::Mutex(MutexOp::Lock(number), None)
+}
+
+/// The mutex that the thread holds now, by its number, if that is what the reply says: of a lock, or of a wait with a time (own).
+pub fn held<D>(reply: &Reply<D>) -> Option<usize>
+    ensures { result ≡ held_in reply.now }
+{
+    match reply {
+        Reply::Locked(number, _) => Some(*number),
+        Reply::Waited(number, ..) => Some(*number),
+        _ => None,
+    }
+}
