@@ -1,24 +1,14 @@
 -- The JSON value of a path between two runs, version 1.
-use Rattle.std.specs.Prelude.{ℕ, Bool, List, map, codes, Option, Some, None}
-use Rattle.serde_json.specs.Data.{Data, null, boolean, number, unsigned, string, array, object, member, no_members}
-use Rattle.serde_json.specs.View.{items_of}
+use Rattle.std.specs.Prelude.{ℕ, Bool, List, map, codes, Option}
+use Rattle.serde_json.specs.Data.{Data, boolean, string, object, member, no_members}
 use Rattle.loom_objects.specs.Question.{slots}
 use Rattle.loom_walks.specs.Trees.Meeting.{Settings}
+pub use Rattle.loom_checkpoint_parts.specs.Shape.{whole, whole_or_null, list_data}
+unfoldable pub use Rattle.loom_checkpoint_parts.specs.Shape.{shape_data}
 use Rattle.loom_path.specs.declared.rt.node.Status.{Status}
 use Rattle.loom_path.specs.declared.rt.node.Status.TheVariants.{Disabled, Skip, Yield, Pending, Active, Visited}
 use Rattle.loom_path.specs.declared.rt.node.Node.{Node}
 use Rattle.loom_path.specs.declared.rt.node.Node.TheVariants.{Schedule, Load, Spurious}
-
-abbrev pub whole : ℕ → Data
-whole n = number (unsigned n)
-
--- a whole number, or null
-abbrev pub whole_or_null : Option ℕ → Data
-whole_or_null None = null
-whole_or_null (Some n) = whole n
-
-abbrev pub list_data : List Data → Data
-list_data ds = array (items_of ds)
 
 abbrev pub status_text : Status → List ℕ
 status_text Disabled = codes "Disabled"
@@ -50,11 +40,6 @@ abbrev pub node_data : Node → Data
 node_data (Schedule n) = schedule_data n.first n.exploring n.statuses
 node_data (Load n) = load_data n.exploring n.readable n.position
 node_data (Spurious n) = spurious_data n.exploring n.answer
-
--- exactly the five keys, each with its kind of value
-unfoldable pub shape_data : Bool → List Data → Option ℕ → Bool → ℕ → Data
-shape_data exploring nodes bound reduce version =
-    object (member (codes "exploring") (boolean exploring) (member (codes "nodes") (list_data nodes) (member (codes "preemption_bound") (whole_or_null bound) (member (codes "reduce") (boolean reduce) (member (codes "version") (whole version) no_members)))))
 
 -- the path with these nodes, of a search with these settings, whose runs begin to explore or don't
 unfoldable pub path_data : Settings → Bool → List Node → Data

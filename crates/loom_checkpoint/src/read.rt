@@ -8,6 +8,7 @@ ghost use Rattle.serde_json.specs.View.{view, members_view};
 ghost use Rattle.loom_checkpoint.specs.Checkpoint.{version_of};
 ghost use Rattle.loom_checkpoint.specs.Reading.{as_whole, as_list, as_whole_or_null, taken, expected, ends, status_named, status_of, statuses_of, marks_of, list_of, is_number, begins_with, schedule_of, load_of, spurious_of, node_of, shape_of};
 
+use loom_checkpoint_parts::statuses::{has_one_active, is_active};
 use loom_path::rt::node::{Load, Node, Schedule, Spurious, Status};
 use serde_json::{Map, Value};
 use std::collections::btree_map::Iter;
@@ -163,16 +164,6 @@ fn read_slots(items: &Vec<Value>) -> Option<[bool; 7]>
     }
 }
 
-fn is_active(status: Status) -> bool
-    ensures { result ≡ is_active status }
-{
-    match status {
-        Status::Active => true,
-        Status::Disabled | Status::Skip | Status::Yield | Status::Pending | Status::Visited =>
-            false,
-    }
-}
-
 fn is_tried(status: Status) -> bool
     ensures { result ≡ is_tried status }
 {
@@ -189,12 +180,6 @@ fn is_marked(status: Status) -> bool
         Status::Pending | Status::Visited => true,
         Status::Disabled | Status::Skip | Status::Yield | Status::Active => false,
     }
-}
-
-fn count_active(statuses: &[Status; 5]) -> usize
-    ensures { result ≡ count_by is_active statuses.now }
-{
-    statuses.iter().filter(|status| is_active(**status)).count()
 }
 
 fn count_marked(statuses: &[Status; 5]) -> usize
@@ -236,7 +221,7 @@ fn count_slots(readable: &[bool; 7]) -> usize
 fn is_well_formed_schedule(first: u8, exploring: bool, statuses: &[Status; 5]) -> bool
     ensures { result ≡ is_well_formed_schedule first exploring statuses.now }
 {
-    count_active(statuses) == 1
+    has_one_active(statuses)
         && is_tried_at(statuses, first)
         && (exploring || (is_active_at(statuses, first) && count_marked(statuses) == 0))
 }

@@ -1,5 +1,5 @@
 //! A path as a JSON value.
-ghost use Rattle.std.specs.Prelude.{◌≡◌, ◌≤◌, ◌⊎◌, ◌↔◌, List, length, Some, None, IfOk, IfErr, IfSome, IsTrue, map};
+ghost use Rattle.std.specs.Prelude.{◌≡◌, ◌≤◌, ◌⊎◌, List, length, Some, None, IfOk, IfErr, IfSome, map};
 ghost use Rattle.serde_json.specs.View.{view};
 ghost use Rattle.loom_path.specs.declared.rt.node.Node.{Node};
 ghost use Rattle.loom_path.specs.Routes.{at_rest, settings};
@@ -11,26 +11,21 @@ ghost use Rattle.loom_checkpoint.specs.Reading.{each, node_of};
 use crate::error::{PathError, Setting};
 use crate::read::{Parts, read_node, read_parts, read_version};
 use crate::write::write_nodes;
+use loom_checkpoint_parts::shape::{is_bound, is_too_many, write_shape};
 use loom_path::rt::node::Node;
 use loom_path::rt::path::{Path, Search};
-use serde_json::{Value, json};
+use serde_json::Value;
 use std::alloc::{AllocError, Global};
 
 /// The JSON value of a path between two runs.
-#[tactic(auto, unfolding(crate::specs::Grammar::path_data, crate::specs::Grammar::shape_data))]
+#[tactic(auto, unfolding(crate::specs::Grammar::path_data))]
 pub fn to_value(alloc: Global, path: &Path) -> Result<Value, AllocError>
     ensures value { IfOk result (λ value. view value ≡ path_data path.now.search path.now.explores path.now.nodes) }
     ensures fits { IfOk result (λ _. length path.now.nodes ≤ path.now.search.max_branches) }
 {
     let search = path.search();
     let nodes = write_nodes(alloc, path.nodes())?;
-    json!(in alloc; {
-        "exploring": search.explores,
-        "nodes": nodes,
-        "preemption_bound": search.bound,
-        "reduce": search.reduce,
-        "version": 1u64,
-    })
+    write_shape(alloc, nodes, search)
 }
 
 /// The value of a path tells its nodes, but for their notes, which follow from the rest.
@@ -91,7 +86,7 @@ fn find_path(alloc: Global, value: &Value, search: Search) -> Result<Path, PathE
         None => {}
     }
     let count = parts.nodes.len();
-    if count > search.max_branches as usize {
+    if is_too_many(count, search) {
         return Err(PathError::TooManyNodes(count));
     }
     let nodes = match read_nodes(alloc, parts.nodes) {
@@ -121,16 +116,6 @@ fn other_setting(parts: Parts<'_>, search: Search) -> Option<Setting>
         return Some(Setting::Exploring);
     }
     None
-}
-
-fn is_bound(written: Option<u64>, bound: Option<u8>) -> bool
-    ensures { IsTrue result ↔ (written ≡ bound) }
-{
-    match (written, bound) {
-        (None, None) => true,
-        (Some(written), Some(bound)) => written == bound as u64,
-        _ => false,
-    }
 }
 
 fn read_nodes(alloc: Global, items: &Vec<Value>) -> Result<Vec<Node>, PathError>

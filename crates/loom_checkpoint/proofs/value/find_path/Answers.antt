@@ -1,4 +1,5 @@
 use Rattle.std.proofs.Common.{◌≡◌, ◌≤◌, map, length, inl, inr, Some, refl, sym, ap, ◌∙◌, subst, arith}
+use Rattle.std.proofs.lemmas.Bool.{ltb-true, ltb-false}
 use Rattle.std.proofs.lemmas.List.{length-map}
 use Rattle.serde_json.specs.View.{view}
 use Rattle.loom_path.specs.Routes.{settings}
@@ -19,8 +20,8 @@ returns-in-Some-other_setting-clause-err c =
     let is = shaped (view c.args.value.now) _ c.in-Some-read_parts.ensures one in
     (p.exploring, map view p.nodes.now.items, p.preemption_bound, p.reduce, is, c.in-Some-other_setting.ensures.some)
 
-pub returns-then-count-search-clause-err : goal.returns-then-count-search-clause-err
-returns-then-count-search-clause-err c =
+pub returns-then-is_too_many-clause-err : goal.returns-then-is_too_many-clause-err
+returns-then-is_too_many-clause-err c =
     let one : version_of (view c.args.value.now) ≡ Some 1 = sym c.in-Some.ensures ∙ ap Some c.if-version-ne1.false in
     let p = c.in-Some-read_parts.parts in
     let is = shaped (view c.args.value.now) _ c.in-Some-read_parts.ensures one in
@@ -31,7 +32,7 @@ returns-then-count-search-clause-err c =
     let d = view c.args.value.now in
     let has = with_settings s explores d parts is (c.in-None-other_setting.ensures.none refl) in
     let n : c.len-count.result ≡ length items = rw length-map (omega (arith, p.nodes.now.ok.0)) in
-    (items, has, n, omega arith)
+    (items, has, n, ltb-true _ _ (sym c.if-is_too_many.ensures))
 
 pub returns-in-Err-clause-err : goal.returns-in-Err-clause-err
 returns-in-Err-clause-err c =
@@ -44,14 +45,14 @@ returns-in-Err-clause-err c =
     let explores = c.args.search.explores in
     let d = view c.args.value.now in
     let has = with_settings s explores d parts is (c.in-None-other_setting.ensures.none refl) in
-    let fits : length items ≤ s.max_branches = rw length-map (omega (arith, p.nodes.now.ok.0)) in
+    let fits : length items ≤ s.max_branches = rw length-map (omega (arith, p.nodes.now.ok.0, ltb-false _ _ (sym c.if-is_too_many.ensures))) in
     elim c.in-Err.ensures.err [ inl m ↦ memory_refused s explores d c.in-Err.error m | inr n ↦ subst (IsRefused s explores d) (sym n.0) (read_none s explores d items has fits n.1) ]
 
 pub from_nodes-requires-clause-fits : goal.from_nodes-requires-clause-fits
 from_nodes-requires-clause-fits c =
     let p = c.in-Some-read_parts.parts in
     let items = map view p.nodes.now.items in
-    let most : length items ≤ c.args.search.max_branches = rw length-map (omega (arith, p.nodes.now.ok.0)) in
+    let most : length items ≤ c.args.search.max_branches = rw length-map (omega (arith, p.nodes.now.ok.0, ltb-false _ _ (sym c.if-is_too_many.ensures))) in
     omega (arith, most, read_length items c.in-Ok.nodes.items c.in-Ok.ensures.ok, ap length c.deref.ensures.value)
 
 pub from_nodes-requires-clause-well_formed : goal.from_nodes-requires-clause-well_formed
@@ -68,6 +69,6 @@ returns-in-Ok-from_nodes-clause-ok c =
     let explores = c.args.search.explores in
     let d = view c.args.value.now in
     let has = with_settings s explores d parts is (c.in-None-other_setting.ensures.none refl) in
-    let fits : length items ≤ s.max_branches = rw length-map (omega (arith, p.nodes.now.ok.0)) in
+    let fits : length items ≤ s.max_branches = rw length-map (omega (arith, p.nodes.now.ok.0, ltb-false _ _ (sym c.if-is_too_many.ensures))) in
     let alike = c.in-Ok-from_nodes.ensures.nodes ∙ ap (map bare) c.deref.ensures.value in
     (c.in-Ok-from_nodes.ensures.rests, read_all s explores d items has fits c.in-Ok.nodes.items c.in-Ok-from_nodes.path.nodes c.in-Ok.ensures.ok alike)
