@@ -38,28 +38,47 @@ six name steps checks =
     measured (name ++ codes " reduced bound 1") steps checks (search 1000 true (Some 1)) ∷
     measured (name ++ codes " reduced bound 2") steps checks (search 1000 true (Some 2)) ∷ []
 
--- stores and loads, and locks in the same order
-abbrev pub buffers_and_locks : List Named
-buffers_and_locks = six (codes "store_buffering") store_buffering 1000 ++ six (codes "locks_in_turn") locks_in_turn 1000
+-- stores and loads
+abbrev pub store_bufferings : List Named
+store_bufferings = six (codes "store_buffering") store_buffering 1000
 
--- a read-write lock, and a condition variable
-abbrev pub locks_that_wait : List Named
-locks_that_wait =
-    six (codes "writers_beside_a_reader") writers_beside_a_reader 100 ++ six (codes "wait_and_notify") wait_and_notify 1000
+-- locks in the same order
+abbrev pub locks_in_turns : List Named
+locks_in_turns = six (codes "locks_in_turn") locks_in_turn 1000
+
+-- a read-write lock
+abbrev pub writers : List Named
+writers = six (codes "writers_beside_a_reader") writers_beside_a_reader 100
+
+-- a condition variable
+abbrev pub waits : List Named
+waits = six (codes "wait_and_notify") wait_and_notify 1000
 
 -- three threads over atomics
-abbrev pub three_atomics : List Named
-three_atomics = six (codes "three_threads") three_threads 1 ++ six (codes "three_adds") three_adds 1
+abbrev pub threes : List Named
+threes = six (codes "three_threads") three_threads 1
 
--- a deadlock, and threads that wait for flags
-abbrev pub crosswise_and_flags : List Named
-crosswise_and_flags = six (codes "locks_crosswise") two_mutexes_deadlock 1000 ++ six (codes "acq_rel") acq_rel 1
+-- three threads that add to one atomic
+abbrev pub adds : List Named
+adds = six (codes "three_adds") three_adds 1
 
--- many runs, and long ones
-abbrev pub many_or_long : List Named
-many_or_long =
+-- a deadlock
+abbrev pub crosswise : List Named
+crosswise = six (codes "locks_crosswise") two_mutexes_deadlock 1000
+
+-- threads that wait for flags
+abbrev pub flags : List Named
+flags = six (codes "acq_rel") acq_rel 1
+
+-- many runs
+abbrev pub many : List Named
+many =
     measured (codes "stores_apart") stores_apart 1 (search 1000 false None) ∷
-    measured (codes "stores_apart reduced") stores_apart 1 (search 1000 true None) ∷
+    measured (codes "stores_apart reduced") stores_apart 1 (search 1000 true None) ∷ []
+
+-- long runs
+abbrev pub long : List Named
+long =
     measured (codes "long_line") long_line 10000 (search 100000 true None) ∷
     measured (codes "long_line_10000") long_line_10000 1000 (search 100000 true None) ∷
     measured (codes "long_turn reduced") long_turn 1 (search 100000 true None) ∷
@@ -68,7 +87,7 @@ many_or_long =
 
 -- all of it
 abbrev pub all : List Named
-all = buffers_and_locks ++ locks_that_wait ++ three_atomics ++ crosswise_and_flags ++ many_or_long
+all = store_bufferings ++ locks_in_turns ++ writers ++ waits ++ threes ++ adds ++ crosswise ++ flags ++ many ++ long
 
 -- what a name means: the first body of the list that has it
 abbrev pub body_of : List Measured → List ℕ → Option Measured

@@ -11,7 +11,7 @@ pub mod wakers;
 
 ghost use Rattle.std.specs.Prelude.{◌≡◌, map};
 ghost use Rattle.loom_row_tables.specs.Meanings.{named};
-ghost use Rattle.loom_row_tables.specs.Names.{first_rows};
+ghost use Rattle.loom_row_tables.specs.Names.{buffering_rows, failing_rows, few_thread_rows, load_rows, ordering_rows};
 
 use crate::rows::{DEFAULTS, Row, TEN_STEPS, TWO_RUNS, WHOLE, row};
 use loom_objects::operation::{AtomicOp, MutexOp, Op, ThreadOp};
@@ -217,28 +217,68 @@ pub const CHECKS_FAIL: &[Step] = &[
     END,
 ];
 
-static FIRST_ROWS: [Row; 16] = [
+static FEW_THREADS: [Row; 6] = [
     row!("finish_only", FINISH_ONLY),
     row!("spawn_only", SPAWN_ONLY),
     row!("lock_beside", LOCK_BESIDE, WHOLE),
     row!("lock_beside_reduced", LOCK_BESIDE),
     row!("lock_beside_two", LOCK_BESIDE, TWO_RUNS),
     row!("mutex_forever", MUTEX_FOREVER, TEN_STEPS),
+];
+
+/// The rows of one thread or two, and a mutex.
+pub fn few_threads() -> &'static [Row]
+    ensures { map named result.now ≡ few_thread_rows }
+{
+    &FEW_THREADS
+}
+
+static FAILING: [Row; 2] = [
     row!("fail_at_once", FAIL_AT_ONCE),
     row!("two_mutexes_deadlock", TWO_MUTEXES_DEADLOCK),
+];
+
+/// The rows of an assertion that fails, and of a deadlock.
+pub fn failing() -> &'static [Row]
+    ensures { map named result.now ≡ failing_rows }
+{
+    &FAILING
+}
+
+static LOADS: [Row; 3] = [
     row!("load_beside", LOAD_BESIDE, WHOLE),
     row!("load_beside_reduced", LOAD_BESIDE),
     row!("store_seven", STORE_SEVEN),
+];
+
+/// The rows of loads from one atomic.
+pub fn loads() -> &'static [Row]
+    ensures { map named result.now ≡ load_rows }
+{
+    &LOADS
+}
+
+static BUFFERING: [Row; 2] = [
     row!("store_buffering", STORE_BUFFERING),
     row!("load_buffering", LOAD_BUFFERING),
+];
+
+/// The rows of two threads that store and load crosswise.
+pub fn buffering() -> &'static [Row]
+    ensures { map named result.now ≡ buffering_rows }
+{
+    &BUFFERING
+}
+
+static ORDERINGS: [Row; 3] = [
     row!("check_ordering_valid", CHECK_ORDERING_VALID),
     row!("check_ordering_invalid_1", CHECK_ORDERING_INVALID_1),
     row!("checks_fail", CHECKS_FAIL),
 ];
 
-/// The rows of these scripts.
-pub fn rows() -> &'static [Row]
-    ensures { map named result.now ≡ first_rows }
+/// The rows of what a load that acquires has to see.
+pub fn orderings() -> &'static [Row]
+    ensures { map named result.now ≡ ordering_rows }
 {
-    &FIRST_ROWS
+    &ORDERINGS
 }

@@ -8,3 +8,4 @@ pub mod bodies;
 pub mod measured;
 pub mod rows;
 pub mod settings;
+mod tables;

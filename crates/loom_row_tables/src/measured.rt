@@ -7,6 +7,7 @@ use crate::bodies::TWO_MUTEXES_DEADLOCK;
 use crate::bodies::atomics::{ACQ_REL, THREE_ADDS};
 use crate::rows::{DEFAULTS, LONG_RUNS, WHOLE};
 use crate::settings::Settings;
+use crate::tables::joined;
 use loom_objects::operation::{AtomicOp, CondvarOp, MutexOp, Op, RwLockOp, ThreadOp};
 use loom_scripts::step::{END, EXIT, Step, Value, YIELD};
 use loom_views::rt::num::Numbers;
@@ -289,156 +290,107 @@ macro_rules! measured {
     };
 }
 
+// A body by six searches: not reduced and reduced, without a bound and with the bounds 1 and 2.
+macro_rules! six {
+    ($name:literal, $steps:expr, $checks:expr) => {
+        [
+            measured!($name, $steps, $checks, WHOLE),
+            measured!(concat!($name, " bound 1"), $steps, $checks, WHOLE_1),
+            measured!(concat!($name, " bound 2"), $steps, $checks, WHOLE_2),
+            measured!(concat!($name, " reduced"), $steps, $checks, DEFAULTS),
+            measured!(concat!($name, " reduced bound 1"), $steps, $checks, REDUCED_1),
+            measured!(concat!($name, " reduced bound 2"), $steps, $checks, REDUCED_2),
+        ]
+    };
+}
+
 // Those whose check is short are checked many times. A body's name alone means the search that isn't reduced, but for the long ones.
 
-static BUFFERS_AND_LOCKS: [Measured; 12] = [
-    measured!("store_buffering", STORE_BUFFERING, 1000, WHOLE),
-    measured!("store_buffering bound 1", STORE_BUFFERING, 1000, WHOLE_1),
-    measured!("store_buffering bound 2", STORE_BUFFERING, 1000, WHOLE_2),
-    measured!("store_buffering reduced", STORE_BUFFERING, 1000, DEFAULTS),
-    measured!(
-        "store_buffering reduced bound 1",
-        STORE_BUFFERING,
-        1000,
-        REDUCED_1
-    ),
-    measured!(
-        "store_buffering reduced bound 2",
-        STORE_BUFFERING,
-        1000,
-        REDUCED_2
-    ),
-    measured!("locks_in_turn", LOCKS_IN_TURN, 1000, WHOLE),
-    measured!("locks_in_turn bound 1", LOCKS_IN_TURN, 1000, WHOLE_1),
-    measured!("locks_in_turn bound 2", LOCKS_IN_TURN, 1000, WHOLE_2),
-    measured!("locks_in_turn reduced", LOCKS_IN_TURN, 1000, DEFAULTS),
-    measured!(
-        "locks_in_turn reduced bound 1",
-        LOCKS_IN_TURN,
-        1000,
-        REDUCED_1
-    ),
-    measured!(
-        "locks_in_turn reduced bound 2",
-        LOCKS_IN_TURN,
-        1000,
-        REDUCED_2
-    ),
-];
+static STORE_BUFFERINGS: [Measured; 6] = six!("store_buffering", STORE_BUFFERING, 1000);
 
-static LOCKS_THAT_WAIT: [Measured; 12] = [
-    measured!(
-        "writers_beside_a_reader",
-        WRITERS_BESIDE_A_READER,
-        100,
-        WHOLE
-    ),
-    measured!(
-        "writers_beside_a_reader bound 1",
-        WRITERS_BESIDE_A_READER,
-        100,
-        WHOLE_1
-    ),
-    measured!(
-        "writers_beside_a_reader bound 2",
-        WRITERS_BESIDE_A_READER,
-        100,
-        WHOLE_2
-    ),
-    measured!(
-        "writers_beside_a_reader reduced",
-        WRITERS_BESIDE_A_READER,
-        100,
-        DEFAULTS
-    ),
-    measured!(
-        "writers_beside_a_reader reduced bound 1",
-        WRITERS_BESIDE_A_READER,
-        100,
-        REDUCED_1
-    ),
-    measured!(
-        "writers_beside_a_reader reduced bound 2",
-        WRITERS_BESIDE_A_READER,
-        100,
-        REDUCED_2
-    ),
-    measured!("wait_and_notify", WAIT_AND_NOTIFY, 1000, WHOLE),
-    measured!("wait_and_notify bound 1", WAIT_AND_NOTIFY, 1000, WHOLE_1),
-    measured!("wait_and_notify bound 2", WAIT_AND_NOTIFY, 1000, WHOLE_2),
-    measured!("wait_and_notify reduced", WAIT_AND_NOTIFY, 1000, DEFAULTS),
-    measured!(
-        "wait_and_notify reduced bound 1",
-        WAIT_AND_NOTIFY,
-        1000,
-        REDUCED_1
-    ),
-    measured!(
-        "wait_and_notify reduced bound 2",
-        WAIT_AND_NOTIFY,
-        1000,
-        REDUCED_2
-    ),
-];
+// Stores and loads.
+fn store_bufferings() -> &'static [Measured]
+    ensures { map named result.now ≡ table.store_bufferings }
+{
+    &STORE_BUFFERINGS
+}
 
-static THREE_ATOMICS: [Measured; 12] = [
-    measured!("three_threads", THREE_THREADS, 1, WHOLE),
-    measured!("three_threads bound 1", THREE_THREADS, 1, WHOLE_1),
-    measured!("three_threads bound 2", THREE_THREADS, 1, WHOLE_2),
-    measured!("three_threads reduced", THREE_THREADS, 1, DEFAULTS),
-    measured!("three_threads reduced bound 1", THREE_THREADS, 1, REDUCED_1),
-    measured!("three_threads reduced bound 2", THREE_THREADS, 1, REDUCED_2),
-    measured!("three_adds", THREE_ADDS, 1, WHOLE),
-    measured!("three_adds bound 1", THREE_ADDS, 1, WHOLE_1),
-    measured!("three_adds bound 2", THREE_ADDS, 1, WHOLE_2),
-    measured!("three_adds reduced", THREE_ADDS, 1, DEFAULTS),
-    measured!("three_adds reduced bound 1", THREE_ADDS, 1, REDUCED_1),
-    measured!("three_adds reduced bound 2", THREE_ADDS, 1, REDUCED_2),
-];
+static LOCKS_IN_TURNS: [Measured; 6] = six!("locks_in_turn", LOCKS_IN_TURN, 1000);
 
-static CROSSWISE_AND_FLAGS: [Measured; 12] = [
-    measured!("locks_crosswise", TWO_MUTEXES_DEADLOCK, 1000, WHOLE),
-    measured!(
-        "locks_crosswise bound 1",
-        TWO_MUTEXES_DEADLOCK,
-        1000,
-        WHOLE_1
-    ),
-    measured!(
-        "locks_crosswise bound 2",
-        TWO_MUTEXES_DEADLOCK,
-        1000,
-        WHOLE_2
-    ),
-    measured!(
-        "locks_crosswise reduced",
-        TWO_MUTEXES_DEADLOCK,
-        1000,
-        DEFAULTS
-    ),
-    measured!(
-        "locks_crosswise reduced bound 1",
-        TWO_MUTEXES_DEADLOCK,
-        1000,
-        REDUCED_1
-    ),
-    measured!(
-        "locks_crosswise reduced bound 2",
-        TWO_MUTEXES_DEADLOCK,
-        1000,
-        REDUCED_2
-    ),
-    measured!("acq_rel", ACQ_REL, 1, WHOLE),
-    measured!("acq_rel bound 1", ACQ_REL, 1, WHOLE_1),
-    measured!("acq_rel bound 2", ACQ_REL, 1, WHOLE_2),
-    measured!("acq_rel reduced", ACQ_REL, 1, DEFAULTS),
-    measured!("acq_rel reduced bound 1", ACQ_REL, 1, REDUCED_1),
-    measured!("acq_rel reduced bound 2", ACQ_REL, 1, REDUCED_2),
-];
+// Locks in the same order.
+fn locks_in_turns() -> &'static [Measured]
+    ensures { map named result.now ≡ table.locks_in_turns }
+{
+    &LOCKS_IN_TURNS
+}
 
-static MANY_OR_LONG: [Measured; 7] = [
+static WRITERS: [Measured; 6] = six!("writers_beside_a_reader", WRITERS_BESIDE_A_READER, 100);
+
+// A read-write lock.
+fn writers() -> &'static [Measured]
+    ensures { map named result.now ≡ table.writers }
+{
+    &WRITERS
+}
+
+static WAITS: [Measured; 6] = six!("wait_and_notify", WAIT_AND_NOTIFY, 1000);
+
+// A condition variable.
+fn waits() -> &'static [Measured]
+    ensures { map named result.now ≡ table.waits }
+{
+    &WAITS
+}
+
+static THREES: [Measured; 6] = six!("three_threads", THREE_THREADS, 1);
+
+// Three threads over atomics.
+fn threes() -> &'static [Measured]
+    ensures { map named result.now ≡ table.threes }
+{
+    &THREES
+}
+
+static ADDS: [Measured; 6] = six!("three_adds", THREE_ADDS, 1);
+
+// Three threads that add to one atomic.
+fn adds() -> &'static [Measured]
+    ensures { map named result.now ≡ table.adds }
+{
+    &ADDS
+}
+
+static CROSSWISE: [Measured; 6] = six!("locks_crosswise", TWO_MUTEXES_DEADLOCK, 1000);
+
+// A deadlock.
+fn crosswise() -> &'static [Measured]
+    ensures { map named result.now ≡ table.crosswise }
+{
+    &CROSSWISE
+}
+
+static FLAGS: [Measured; 6] = six!("acq_rel", ACQ_REL, 1);
+
+// Threads that wait for flags.
+fn flags() -> &'static [Measured]
+    ensures { map named result.now ≡ table.flags }
+{
+    &FLAGS
+}
+
+static MANY: [Measured; 2] = [
     measured!("stores_apart", STORES_APART, 1, WHOLE),
     measured!("stores_apart reduced", STORES_APART, 1, DEFAULTS),
+];
+
+// Many runs.
+fn many() -> &'static [Measured]
+    ensures { map named result.now ≡ table.many }
+{
+    &MANY
+}
+
+static LONG: [Measured; 5] = [
     measured!("long_line", LONG_LINE, 10_000, LONG_RUNS),
     measured!("long_line_10000", LONG_LINE_10000, 1000, LONG_RUNS),
     measured!("long_turn reduced", LONG_TURN, 1, LONG_RUNS),
@@ -446,52 +398,32 @@ static MANY_OR_LONG: [Measured; 7] = [
     measured!("long_turn reduced bound 1", LONG_TURN, 1, LONG_RUNS_1),
 ];
 
-// Stores and loads, and locks in the same order.
-fn buffers_and_locks() -> &'static [Measured]
-    ensures { map named result.now ≡ table.buffers_and_locks }
+// Long runs.
+fn long() -> &'static [Measured]
+    ensures { map named result.now ≡ table.long }
 {
-    &BUFFERS_AND_LOCKS
-}
-
-// A read-write lock, and a condition variable.
-fn locks_that_wait() -> &'static [Measured]
-    ensures { map named result.now ≡ table.locks_that_wait }
-{
-    &LOCKS_THAT_WAIT
-}
-
-// Three threads over atomics.
-fn three_atomics() -> &'static [Measured]
-    ensures { map named result.now ≡ table.three_atomics }
-{
-    &THREE_ATOMICS
-}
-
-// A deadlock, and threads that wait for flags.
-fn crosswise_and_flags() -> &'static [Measured]
-    ensures { map named result.now ≡ table.crosswise_and_flags }
-{
-    &CROSSWISE_AND_FLAGS
-}
-
-// Many runs, and long ones.
-fn many_or_long() -> &'static [Measured]
-    ensures { map named result.now ≡ table.many_or_long }
-{
-    &MANY_OR_LONG
+    &LONG
 }
 
 /// The bodies that are measured.
 pub fn all_bodies(alloc: Global) -> Result<Vec<Measured>, AllocError>
     ensures { IfOk result (λ bodies. map named bodies.items ≡ table.all) }
 {
-    let mut bodies = Vec::new(alloc);
-    bodies.extend_from_slice(buffers_and_locks())?;
-    bodies.extend_from_slice(locks_that_wait())?;
-    bodies.extend_from_slice(three_atomics())?;
-    bodies.extend_from_slice(crosswise_and_flags())?;
-    bodies.extend_from_slice(many_or_long())?;
-    Ok(bodies)
+    joined(
+        alloc,
+        &[
+            store_bufferings(),
+            locks_in_turns(),
+            writers(),
+            waits(),
+            threes(),
+            adds(),
+            crosswise(),
+            flags(),
+            many(),
+            long(),
+        ],
+    )
 }
 
 /// The first of the bodies that has this name.

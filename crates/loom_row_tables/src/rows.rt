@@ -6,6 +6,7 @@ ghost use Rattle.loom_row_tables.specs.Rows.{file_in, meant_by, row_of};
 
 use crate::bodies::{self, atomics, cells, channels, exploring, limits, locks, values, wakers};
 use crate::settings::Settings;
+use crate::tables::joined;
 use loom_scripts::step::Step;
 use std::alloc::{AllocError, Global};
 
@@ -96,17 +97,38 @@ pub(crate) use row;
 pub fn all_rows(alloc: Global) -> Result<Vec<Row>, AllocError>
     ensures { IfOk result (λ rows. IsTable (map named rows.items)) }
 {
-    let mut rows = Vec::new(alloc);
-    rows.extend_from_slice(bodies::rows())?;
-    rows.extend_from_slice(atomics::rows())?;
-    rows.extend_from_slice(cells::rows())?;
-    rows.extend_from_slice(locks::rows())?;
-    rows.extend_from_slice(channels::rows())?;
-    rows.extend_from_slice(wakers::rows())?;
-    rows.extend_from_slice(values::rows())?;
-    rows.extend_from_slice(exploring::rows())?;
-    rows.extend_from_slice(limits::rows())?;
-    Ok(rows)
+    joined(
+        alloc,
+        &[
+            bodies::few_threads(),
+            bodies::failing(),
+            bodies::loads(),
+            bodies::buffering(),
+            bodies::orderings(),
+            atomics::functions(),
+            atomics::unsynchronized(),
+            atomics::fences(),
+            atomics::updates(),
+            cells::causality(),
+            cells::writes_at_once(),
+            cells::reads_at_once(),
+            cells::reads_of_threads(),
+            cells::turns(),
+            cells::synchronized(),
+            cells::main_alone(),
+            locks::mutexes(),
+            locks::rwlocks(),
+            locks::condvars(),
+            locks::wakings(),
+            locks::others(),
+            channels::messages(),
+            channels::ends(),
+            wakers::rows(),
+            values::rows(),
+            exploring::rows(),
+            limits::rows(),
+        ],
+    )
 }
 
 /// The first of the rows that has this name.
@@ -116,15 +138,25 @@ pub fn row_of<'a>(rows: &'a [Row], name: &str) -> Option<&'a Row>
     rows.iter().find(|row| row.name == name)
 }
 
+// The file that the words name: the second of two.
+fn file_in<'a>(words: &[&'a str]) -> Option<&'a str>
+    ensures { option_copied result ≡ file_in (map (λ word. word.now) words.now) }
+{
+    match words {
+        [_, file] => Some(*file),
+        _ => None,
+    }
+}
+
 /// The row that the words mean, and the file that they name: the first of one or two words is the name of a row, and the second
 /// that of a file.
 pub fn meant<'a, 'b>(rows: &'a [Row], words: &[&'b str]) -> (Option<&'a Row>, Option<&'b str>)
     ensures row { option_copied result.0 ≡ meant_by rows.now (map (λ word. word.now) words.now) }
     ensures file { option_copied result.1 ≡ file_in (map (λ word. word.now) words.now) }
 {
-    match words {
-        [name] => (row_of(rows, name), None),
-        [name, file] => (row_of(rows, name), Some(*file)),
-        _ => (None, None),
-    }
+    let row = match words {
+        [name] | [name, _] => row_of(rows, name),
+        _ => None,
+    };
+    (row, file_in(words))
 }

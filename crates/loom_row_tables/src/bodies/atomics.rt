@@ -1,7 +1,7 @@
 //! The scripts of the rows about atomics and fences.
 ghost use Rattle.std.specs.Prelude.{◌≡◌, map};
 ghost use Rattle.loom_row_tables.specs.Meanings.{named};
-ghost use Rattle.loom_row_tables.specs.Names.{atomic_rows};
+ghost use Rattle.loom_row_tables.specs.Names.{fence_rows, function_rows, unsynchronized_rows, update_rows};
 
 use crate::rows::{Checked, DEFAULTS, Row, TEN_STEPS, row};
 use loom_objects::operation::{AtomicOp, Exchange, MutexOp, Op, ThreadOp};
@@ -297,17 +297,47 @@ pub const ACQ_REL: &[Step] = &[
     Step::Jump(22),
 ];
 
-static ATOMIC_ROWS: [Row; 14] = [
+static FUNCTIONS: [Row; 4] = [
     row!("u8_functions", U8_FUNCTIONS),
     row!("i8_functions", I8_FUNCTIONS),
     row!("bool_nand", BOOL_NAND),
     row!("compare_exchange", COMPARE_EXCHANGE),
+];
+
+/// The rows of what atomics are changed by.
+pub fn functions() -> &'static [Row]
+    ensures { map named result.now ≡ function_rows }
+{
+    &FUNCTIONS
+}
+
+static UNSYNCHRONIZED: [Row; 2] = [
     row!("unsync_race", UNSYNC_RACE),
     row!("load_in_with_mut", LOAD_IN_WITH_MUT),
+];
+
+/// The rows of atomics that are accessed beside others.
+pub fn unsynchronized() -> &'static [Row]
+    ensures { map named result.now ≡ unsynchronized_rows }
+{
+    &UNSYNCHRONIZED
+}
+
+static FENCES: [Row; 4] = [
     row!("relaxed_fence", RELAXED_FENCE),
     row!("fences_then_relaxed", FENCES_THEN_RELAXED),
     row!("unsync_load_forever", UNSYNC_LOAD_FOREVER, TEN_STEPS),
     row!("sb_fences", SB_FENCES),
+];
+
+/// The rows of fences, and of loads without end.
+pub fn fences() -> &'static [Row]
+    ensures { map named result.now ≡ fence_rows }
+{
+    &FENCES
+}
+
+static UPDATES: [Row; 4] = [
     row!("fetch_add_atomic", FETCH_ADD_ATOMIC),
     row!("orders_equal", ORDERS_EQUAL),
     row!("three_adds", THREE_ADDS),
@@ -318,9 +348,9 @@ static ATOMIC_ROWS: [Row; 14] = [
     },
 ];
 
-/// The rows of these scripts.
-pub fn rows() -> &'static [Row]
-    ensures { map named result.now ≡ atomic_rows }
+/// The rows of threads that update one atomic.
+pub fn updates() -> &'static [Row]
+    ensures { map named result.now ≡ update_rows }
 {
-    &ATOMIC_ROWS
+    &UPDATES
 }

@@ -1,7 +1,7 @@
 //! The scripts of the rows about cells, counted references and tracked values.
 ghost use Rattle.std.specs.Prelude.{◌≡◌, map};
 ghost use Rattle.loom_row_tables.specs.Meanings.{named};
-ghost use Rattle.loom_row_tables.specs.Names.{cell_rows};
+ghost use Rattle.loom_row_tables.specs.Names.{causality_rows, main_alone_rows, read_race_rows, synchronized_rows, thread_race_rows, turn_rows, write_race_rows};
 
 use crate::rows::{DEFAULTS, Row, row};
 use loom_objects::operation::{ArcOp, AtomicOp, CellOp, Op, ThreadOp, TrackOp};
@@ -402,23 +402,83 @@ pub const ARC_THEN_TRACK: &[Step] = &[
     END,
 ];
 
-static CELL_ROWS: [Row; 19] = [
+static CAUSALITY: [Row; 2] = [
     row!("atomic_causality_success", ATOMIC_CAUSALITY_SUCCESS),
     row!("atomic_causality_fail", ATOMIC_CAUSALITY_FAIL),
+];
+
+/// The rows of a cell that an atomic releases.
+pub fn causality() -> &'static [Row]
+    ensures { map named result.now ≡ causality_rows }
+{
+    &CAUSALITY
+}
+
+static WRITES_AT_ONCE: [Row; 2] = [
     row!("unsafe_cell_race_mut_mut_1", UNSAFE_CELL_RACE_MUT_MUT_1),
     row!("unsafe_cell_race_mut_mut_2", UNSAFE_CELL_RACE_MUT_MUT_2),
+];
+
+/// The rows of two threads that write a cell.
+pub fn writes_at_once() -> &'static [Row]
+    ensures { map named result.now ≡ write_race_rows }
+{
+    &WRITES_AT_ONCE
+}
+
+static READS_AT_ONCE: [Row; 2] = [
     row!("unsafe_cell_race_mut_immut_1", UNSAFE_CELL_RACE_MUT_IMMUT_1),
     row!("unsafe_cell_race_mut_immut_2", UNSAFE_CELL_RACE_MUT_IMMUT_2),
+];
+
+/// The rows of main and a thread, of which one writes a cell that the other reads.
+pub fn reads_at_once() -> &'static [Row]
+    ensures { map named result.now ≡ read_race_rows }
+{
+    &READS_AT_ONCE
+}
+
+static READS_OF_THREADS: [Row; 3] = [
     row!("unsafe_cell_race_mut_immut_3", UNSAFE_CELL_RACE_MUT_IMMUT_3),
     row!("unsafe_cell_race_mut_immut_4", UNSAFE_CELL_RACE_MUT_IMMUT_4),
     row!("unsafe_cell_race_mut_immut_5", UNSAFE_CELL_RACE_MUT_IMMUT_5),
+];
+
+/// The rows of two threads, of which one writes a cell that the other reads.
+pub fn reads_of_threads() -> &'static [Row]
+    ensures { map named result.now ≡ thread_race_rows }
+{
+    &READS_OF_THREADS
+}
+
+static TURNS: [Row; 2] = [
     row!("unsafe_cell_ok_1", UNSAFE_CELL_OK_1),
     row!("unsafe_cell_ok_2", UNSAFE_CELL_OK_2),
+];
+
+/// The rows of main and a thread that access a cell in turn.
+pub fn turns() -> &'static [Row]
+    ensures { map named result.now ≡ turn_rows }
+{
+    &TURNS
+}
+
+static SYNCHRONIZED: [Row; 2] = [
     row!("unsafe_cell_ok_3", UNSAFE_CELL_OK_3),
     row!(
         "unsafe_cell_access_after_sync",
         UNSAFE_CELL_ACCESS_AFTER_SYNC
     ),
+];
+
+/// The rows of a cell that main writes after others.
+pub fn synchronized() -> &'static [Row]
+    ensures { map named result.now ≡ synchronized_rows }
+{
+    &SYNCHRONIZED
+}
+
+static MAIN_ALONE: [Row; 6] = [
     row!("read_in_write", READ_IN_WRITE),
     row!("detect_mem_leak", DETECT_MEM_LEAK),
     row!("arc_count", ARC_COUNT),
@@ -427,9 +487,9 @@ static CELL_ROWS: [Row; 19] = [
     row!("arc_then_track", ARC_THEN_TRACK),
 ];
 
-/// The rows of these scripts.
-pub fn rows() -> &'static [Row]
-    ensures { map named result.now ≡ cell_rows }
+/// The rows of main alone, with a cell or with counted references and tracked values.
+pub fn main_alone() -> &'static [Row]
+    ensures { map named result.now ≡ main_alone_rows }
 {
-    &CELL_ROWS
+    &MAIN_ALONE
 }

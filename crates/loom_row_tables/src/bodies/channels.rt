@@ -1,7 +1,7 @@
 //! The scripts of the rows about channels.
-ghost use Rattle.std.specs.Prelude.{map};
+ghost use Rattle.std.specs.Prelude.{◌≡◌, map};
 ghost use Rattle.loom_row_tables.specs.Meanings.{named};
-ghost use Rattle.loom_row_tables.specs.Names.{AreChannelRows};
+ghost use Rattle.loom_row_tables.specs.Names.{AreEndRows, message_rows};
 
 use crate::rows::{DEFAULTS, Row, row};
 use loom_objects::operation::{ChannelOp, Op, ThreadOp};
@@ -153,11 +153,21 @@ pub const NAME_SENT: &[Step] = &[
     END,
 ];
 
-static CHANNEL_ROWS: [Row; 9] = [
+static MESSAGES: [Row; 4] = [
     row!("send_then_recv", SEND_THEN_RECV),
     row!("recv_after_drop", RECV_AFTER_DROP),
     row!("commutative_senders", COMMUTATIVE_SENDERS),
     row!("non_commutative_senders1", NON_COMMUTATIVE_SENDERS1),
+];
+
+/// The rows of messages that are sent.
+pub fn messages() -> &'static [Row]
+    ensures { map named result.now ≡ message_rows }
+{
+    &MESSAGES
+}
+
+static ENDS: [Row; 5] = [
     row!("try_recv_empty", TRY_RECV_EMPTY),
     row!("drop_receiver", DROP_RECEIVER),
     row!("message_left", MESSAGE_LEFT),
@@ -165,9 +175,9 @@ static CHANNEL_ROWS: [Row; 9] = [
     row!("name_sent", NAME_SENT),
 ];
 
-/// The rows of these scripts.
-pub fn rows() -> &'static [Row]
-    ensures { AreChannelRows (map named result.now) }
+/// The rows of channels with nothing to receive or nobody who does, and of a name that is sent.
+pub fn ends() -> &'static [Row]
+    ensures { AreEndRows (map named result.now) }
 {
-    &CHANNEL_ROWS
+    &ENDS
 }

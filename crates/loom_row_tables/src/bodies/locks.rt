@@ -1,7 +1,7 @@
 //! The scripts of the rows about locks, condition variables, notifiers and threads that wait for one another.
-ghost use Rattle.std.specs.Prelude.{map};
+ghost use Rattle.std.specs.Prelude.{◌≡◌, map};
 ghost use Rattle.loom_row_tables.specs.Meanings.{named};
-ghost use Rattle.loom_row_tables.specs.Names.{AreLockRows};
+ghost use Rattle.loom_row_tables.specs.Names.{AreOtherRows, condvar_rows, mutex_rows, rwlock_rows, waking_rows};
 
 use crate::rows::{DEFAULTS, LONG_RUNS, Row, row};
 use loom_objects::operation::{AtomicOp, CondvarOp, MutexOp, NotifyOp, Op, RwLockOp, ThreadOp};
@@ -283,33 +283,73 @@ pub const NAMED_CHILD: &[Step] = &[
 /// Main comes to code that is never to be reached.
 pub const UNREACHABLE: &[Step] = &[Step::Do(0, Op::Unreachable(None))];
 
-static LOCK_ROWS: [Row; 21] = [
+static MUTEXES: [Row; 5] = [
     row!("release_unlocked", RELEASE_UNLOCKED),
     row!("lock_while_out", LOCK_WHILE_OUT),
     row!("mutex_into_inner", MUTEX_INTO_INNER),
     row!("many_locks", MANY_LOCKS, LONG_RUNS),
     row!("too_many_locks", TOO_MANY_LOCKS, LONG_RUNS),
+];
+
+/// The rows of mutexes.
+pub fn mutexes() -> &'static [Row]
+    ensures { map named result.now ≡ mutex_rows }
+{
+    &MUTEXES
+}
+
+static RWLOCKS: [Row; 4] = [
     row!("rwlock_read_twice", RWLOCK_READ_TWICE),
     row!("rwlock_write_then_try_write", RWLOCK_WRITE_THEN_TRY_WRITE),
     row!("read_guard_of_another", READ_GUARD_OF_ANOTHER),
     row!("rwlock_writer_and_readers", RWLOCK_WRITER_AND_READERS),
+];
+
+/// The rows of read-write locks.
+pub fn rwlocks() -> &'static [Row]
+    ensures { map named result.now ≡ rwlock_rows }
+{
+    &RWLOCKS
+}
+
+static CONDVARS: [Row; 4] = [
     row!("condvar_alone", CONDVAR_ALONE),
     row!("condvar_with_token", CONDVAR_WITH_TOKEN),
     row!("condvar_hands_over", CONDVAR_HANDS_OVER),
     row!("notify_all", NOTIFY_ALL),
+];
+
+/// The rows of condition variables.
+pub fn condvars() -> &'static [Row]
+    ensures { map named result.now ≡ condvar_rows }
+{
+    &CONDVARS
+}
+
+static WAKINGS: [Row; 5] = [
     row!("notify_wait", NOTIFY_WAIT),
     row!("second_waiter", SECOND_WAITER),
     row!("unpark_then_park", UNPARK_THEN_PARK),
     row!("park_alone", PARK_ALONE),
     row!("unpark_wakes", UNPARK_WAKES),
+];
+
+/// The rows of notifiers and tokens.
+pub fn wakings() -> &'static [Row]
+    ensures { map named result.now ≡ waking_rows }
+{
+    &WAKINGS
+}
+
+static OTHERS: [Row; 3] = [
     row!("yield_beside", YIELD_BESIDE),
     row!("named_child", NAMED_CHILD),
     row!("unreachable", UNREACHABLE),
 ];
 
-/// The rows of these scripts.
-pub fn rows() -> &'static [Row]
-    ensures { AreLockRows (map named result.now) }
+/// The rows of a yield, of a thread with a name, and of code that is never reached.
+pub fn others() -> &'static [Row]
+    ensures { AreOtherRows (map named result.now) }
 {
-    &LOCK_ROWS
+    &OTHERS
 }

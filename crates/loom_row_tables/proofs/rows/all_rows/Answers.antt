@@ -1,18 +1,35 @@
-use Rattle.std.proofs.Common.{ap, map}
+use Rattle.std.proofs.Common.{[], refl}
 use Rattle.loom_row_tables.specs.Meanings.{named}
-use Rattle.loom_row_tables.proofs.Tables.{joined}
+use Rattle.loom_row_tables.proofs.Joining.{are_table, behind}
 use Rattle.loom_row_tables.proofs.rows.all_rows.Goals as goal
 
 pub returns : goal.returns
 returns c =
-    let none = ap (map named) c.new-rows.ensures.items in
-    let first = joined _ _ _ _ _ c.in_ok-extend_from_slice.ensures.items none c.rows.ensures in
-    let atomic = joined _ _ _ _ _ c.in_ok-extend_from_slice-2.ensures.items first c.rows-2.ensures in
-    let cell = joined _ _ _ _ _ c.in_ok-extend_from_slice-3.ensures.items atomic c.rows-3.ensures in
-    let lock = joined _ _ _ _ _ c.in_ok-extend_from_slice-4.ensures.items cell c.rows-4.ensures.2 in
-    let channel = joined _ _ _ _ _ c.in_ok-extend_from_slice-5.ensures.items lock c.rows-5.ensures.2 in
-    let waker = joined _ _ _ _ _ c.in_ok-extend_from_slice-6.ensures.items channel c.rows-6.ensures in
-    let value = joined _ _ _ _ _ c.in_ok-extend_from_slice-7.ensures.items waker c.rows-7.ensures in
-    let exploring = joined _ _ _ _ _ c.in_ok-extend_from_slice-8.ensures.items value c.rows-8.ensures in
-    let limit = joined _ _ _ _ _ c.in_ok-extend_from_slice-9.ensures.items exploring c.rows-9.ensures in
-    (c.rows-4.ensures.0, c.rows-5.ensures.0, c.rows-4.ensures.1, c.rows-5.ensures.1, limit)
+    let limits = behind named _ [] _ [] c.rows-4.ensures refl in
+    let exploring = behind named _ _ _ _ c.rows-3.ensures limits in
+    let values = behind named _ _ _ _ c.rows-2.ensures exploring in
+    let wakers = behind named _ _ _ _ c.rows.ensures values in
+    let ends = behind named _ _ _ _ c.ends.ensures.2 wakers in
+    let messages = behind named _ _ _ _ c.messages.ensures ends in
+    let others = behind named _ _ _ _ c.others.ensures.2 messages in
+    let wakings = behind named _ _ _ _ c.wakings.ensures others in
+    let condvars = behind named _ _ _ _ c.condvars.ensures wakings in
+    let rwlocks = behind named _ _ _ _ c.rwlocks.ensures condvars in
+    let mutexes = behind named _ _ _ _ c.mutexes.ensures rwlocks in
+    let main_alone = behind named _ _ _ _ c.main_alone.ensures mutexes in
+    let synchronized = behind named _ _ _ _ c.synchronized.ensures main_alone in
+    let turns = behind named _ _ _ _ c.turns.ensures synchronized in
+    let reads_of_threads = behind named _ _ _ _ c.reads_of_threads.ensures turns in
+    let reads_at_once = behind named _ _ _ _ c.reads_at_once.ensures reads_of_threads in
+    let writes_at_once = behind named _ _ _ _ c.writes_at_once.ensures reads_at_once in
+    let causality = behind named _ _ _ _ c.causality.ensures writes_at_once in
+    let updates = behind named _ _ _ _ c.updates.ensures causality in
+    let fences = behind named _ _ _ _ c.fences.ensures updates in
+    let unsynchronized = behind named _ _ _ _ c.unsynchronized.ensures fences in
+    let functions = behind named _ _ _ _ c.functions.ensures unsynchronized in
+    let orderings = behind named _ _ _ _ c.orderings.ensures functions in
+    let buffering = behind named _ _ _ _ c.buffering.ensures orderings in
+    let loads = behind named _ _ _ _ c.loads.ensures buffering in
+    let failing = behind named _ _ _ _ c.failing.ensures loads in
+    let few_threads = behind named _ _ _ _ c.few_threads.ensures failing in
+    are_table c.joined.result (λ all. all.items) _ c.joined.ensures (c.others.ensures.0, c.ends.ensures.0, c.others.ensures.1, c.ends.ensures.1, few_threads)
