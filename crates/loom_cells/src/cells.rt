@@ -1,4 +1,5 @@
 ghost use Rattle.std.specs.Prelude.{◌≡◌, ◌≢◌, IfOk, OnErr, true};
+ghost use Rattle.loom_cells.specs.Exchanging.{exchanges_data, writes_both};
 ghost use Rattle.loom_cells.specs.Memory.{memory_outside as outside};
 ghost use Rattle.loom_objects.specs.Cells as rules;
 ghost use Rattle.loom_objects.specs.Scene.{Does, DoesIfOk};
@@ -205,8 +206,28 @@ fn exchange_cells<D: Drop>(
     if one.content.value().is_none() || two.content.value().is_none() {
         return Err(FailureKind::Misuse);
     }
+    write_both(scene, number, other)?;
+    exchange_data(scene, number, other)
+}
+
+/// The active thread writes both cells, the other one first.
+fn write_both<D: Drop>(scene: &mut Scene<D>, number: usize, other: usize) -> Result<(), FailureKind>
+    ensures { Does (writes_both number other) scene.old result scene.new }
+{
     scene.write_cell(other)?;
     scene.write_cell(number)?;
+    Ok(())
+}
+
+/// Each of the two cells holds what the other one held.
+fn exchange_data<D: Drop>(
+    scene: &mut Scene<D>,
+    number: usize,
+    other: usize,
+) -> Result<Entry<D>, FailureKind>
+    requires { number ≢ other }
+    ensures { Does (exchanges_data number other) scene.old result scene.new }
+{
     let value = scene.cell_mut(number)?.exchange(None, None);
     let value = scene.cell_mut(other)?.exchange(value, None);
     scene.cell_mut(number)?.exchange(value, None);
