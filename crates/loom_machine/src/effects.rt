@@ -101,39 +101,41 @@ fn take_effect<D: Data>(
     ensures growth { OnErr result (TellsCopy (rules.takes_effect task) scene.old) }
     ensures reads { OnErr result (reads task ≡ true) }
 {
-    match task {
-        Task::Start => Ok(gone(Ok(Passed::Turn(Turn::Start(scene.active()))))),
-        Task::Body => Ok(Err(FailureKind::Misuse)),
-        Task::Continue => Ok(told(Ok(Reply::Done), scene)),
-        Task::Access(access) => Ok(atomics::access(scene, access)),
-        Task::Lock(locking, mutex) => Ok(told(locks::lock(scene, locking, mutex), scene)),
-        Task::TryLock(mutex) => Ok(told(locks::try_lock(scene, mutex), scene)),
-        Task::Claim(claim, lock) => Ok(told(rwlocks::claim(scene, claim, lock)?, scene)),
+    let answer = match task {
+        Task::Start => return Ok(gone(Ok(Passed::Turn(Turn::Start(scene.active()))))),
+        Task::Body => Err(FailureKind::Misuse),
+        Task::Continue => Ok(Reply::Done),
+        Task::Access(access) => return Ok(atomics::access(scene, access)),
+        Task::Lock(locking, mutex) => locks::lock(scene, locking, mutex),
+        Task::TryLock(mutex) => locks::try_lock(scene, mutex),
+        Task::Claim(claim, lock) => rwlocks::claim(scene, claim, lock)?,
         Task::Wait(locking, condvar, mutex, value) => {
-            Ok(gone(condvars::fall_asleep(scene, locking, condvar, mutex, value)))
+            let answer = condvars::fall_asleep(scene, locking, condvar, mutex, value);
+            return Ok(gone(answer));
         }
-        Task::Relock(locking, mutex) => Ok(gone(Ok(condvars::relock(scene, locking, mutex)))),
-        Task::Wake(waking, condvar) => Ok(told(condvars::wake(scene, waking, condvar), scene)),
-        Task::Notify(notifier) => Ok(told(notifiers::notify(scene, notifier), scene)),
-        Task::Await(notifier) => Ok(told(notifiers::await_notified(scene, notifier), scene)),
-        Task::Rouse(notifier) => Ok(told(notifiers::wake_early(scene, notifier), scene)),
-        Task::Count(counting, arc) => Ok(told(counts::count(scene, counting, arc), scene)),
-        Task::TryUnwrap(arc) => Ok(gone(counts::try_unwrap(scene, arc))),
-        Task::Join(thread, notifier) => Ok(told(threads::join(scene, thread, notifier), scene)),
-        Task::Finish(notifier, value) => {
-            Ok(told(threads::child_finish(scene, notifier, value), scene))
+        Task::Relock(locking, mutex) => {
+            return Ok(gone(Ok(condvars::relock(scene, locking, mutex))));
         }
-        Task::Send(channel, sent) => Ok(told(channels::send(scene, channel, sent), scene)),
-        Task::Receive(receiving, channel) => {
-            Ok(told(channels::receive(scene, receiving, channel), scene))
-        }
-        Task::Drain(channel, taken) => Ok(gone(channels::drain(scene, channel, taken))),
+        Task::Wake(waking, condvar) => condvars::wake(scene, waking, condvar),
+        Task::Notify(notifier) => notifiers::notify(scene, notifier),
+        Task::Await(notifier) => notifiers::await_notified(scene, notifier),
+        Task::Rouse(notifier) => notifiers::wake_early(scene, notifier),
+        Task::Count(counting, arc) => counts::count(scene, counting, arc),
+        Task::TryUnwrap(arc) => return Ok(gone(counts::try_unwrap(scene, arc))),
+        Task::Join(thread, notifier) => threads::join(scene, thread, notifier),
+        Task::Finish(notifier, value) => threads::child_finish(scene, notifier, value),
+        Task::Send(channel, sent) => channels::send(scene, channel, sent),
+        Task::Receive(receiving, channel) => channels::receive(scene, receiving, channel),
+        Task::Drain(channel, taken) => return Ok(gone(channels::drain(scene, channel, taken))),
         Task::WakeBy(notifier, waker, after) => {
-            Ok(gone(wakers::wake_by(scene, notifier, waker, after)))
+            return Ok(gone(wakers::wake_by(scene, notifier, waker, after)));
         }
-        Task::CloneWaker(waker, place) => Ok(gone(wakers::clone_waker(scene, waker, place))),
-        Task::DropWaker(waker, after) => Ok(gone(wakers::drop_waker(scene, waker, after))),
-        Task::Register(place, waker) => Ok(gone(places::register(scene, place, waker))),
-        Task::TakeWaker(taking, place) => Ok(gone(places::take_waker(scene, taking, place))),
-    }
+        Task::CloneWaker(waker, place) => {
+            return Ok(gone(wakers::clone_waker(scene, waker, place)));
+        }
+        Task::DropWaker(waker, after) => return Ok(gone(wakers::drop_waker(scene, waker, after))),
+        Task::Register(place, waker) => return Ok(gone(places::register(scene, place, waker))),
+        Task::TakeWaker(taking, place) => return Ok(gone(places::take_waker(scene, taking, place))),
+    };
+    Ok(told(answer, scene))
 }

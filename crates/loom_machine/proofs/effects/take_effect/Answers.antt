@@ -1,3 +1,4 @@
+use Rattle.std.proofs.Common.{refl}
 use Rattle.loom_objects.specs.Channels.{drains, receives, sends}
 use Rattle.loom_objects.specs.Condvars.{falls_asleep, wakes}
 use Rattle.loom_objects.specs.Counts.{counts, tries_unwrap}
@@ -6,50 +7,15 @@ use Rattle.loom_objects.specs.Notifiers.{notifies, awaits, wakes_early}
 use Rattle.loom_objects.specs.RwLocks.{claims}
 use Rattle.loom_objects.specs.Threads.{join, child_finish}
 use Rattle.loom_objects.specs.Wakers.{clones_waker, drops_waker, registers, takes_waker, wakes_by}
-use Rattle.loom_machine.proofs.Replying.{on_err, passes, tells, tells_copy}
+use Rattle.loom_machine.proofs.Replying.{on_err, passes, tells, tells_copy, told_kept, told_slot}
 use Rattle.loom_machine.proofs.effects.take_effect.Goals as goal
-
-pub returns-in-Lock-clause-does : goal.returns-in-Lock-clause-does
-returns-in-Lock-clause-does g c = rw (c.in-Lock.is, c.told-in-Lock.ensures) (tells (lock c.in-Lock.locking c.in-Lock.mutex) c.args.scene.now c.lock.new.scene c.lock.result c.lock.ensures)
-
-pub returns-in-TryLock-clause-does : goal.returns-in-TryLock-clause-does
-returns-in-TryLock-clause-does g c = rw (c.in-TryLock.is, c.told-in-TryLock.ensures) (tells (try_lock c.in-TryLock.mutex) c.args.scene.now c.try_lock.new.scene c.try_lock.result c.try_lock.ensures)
-
-pub returns-in_ok-claim-in-Claim-clause-does : goal.returns-in_ok-claim-in-Claim-clause-does
-returns-in_ok-claim-in-Claim-clause-does g c = rw (c.in-Claim.is, c.told-in-Claim.ensures) (tells (claims c.in-Claim.claim c.in-Claim.lock) c.args.scene.now c.claim.new.scene c.in_ok-claim-in-Claim.field-0 c.in_ok-claim-in-Claim.ensures.does)
+use Rattle.loom_machine.proofs.effects.take_effect.Goals.{in-Body, in-Continue, in-Claim+in_ok-answer-in-Claim, in-Lock, in-TryLock, in-Wake, in-Notify, in-Await, in-Rouse, in-Count, in-Join, in-Finish, in-Send, in-Receive}
 
 pub returns-in-Wait-clause-does : goal.returns-in-Wait-clause-does
-returns-in-Wait-clause-does g c = rw (c.in-Wait.is, c.gone-in-Wait.ensures) (passes (falls_asleep c.in-Wait.locking c.in-Wait.condvar c.in-Wait.mutex c.in-Wait.value) c.args.scene.now c.fall_asleep.new.scene c.fall_asleep.result c.fall_asleep.ensures)
-
-pub returns-in-Wake-clause-does : goal.returns-in-Wake-clause-does
-returns-in-Wake-clause-does g c = rw (c.in-Wake.is, c.told-in-Wake.ensures) (tells (wakes c.in-Wake.waking c.in-Wake.condvar) c.args.scene.now c.wake.new.scene c.wake.result c.wake.ensures)
-
-pub returns-in-Notify-clause-does : goal.returns-in-Notify-clause-does
-returns-in-Notify-clause-does g c = rw (c.in-Notify.is, c.told-in-Notify.ensures) (tells (notifies c.in-Notify.notifier) c.args.scene.now c.notify.new.scene c.notify.result c.notify.ensures)
-
-pub returns-in-Await-clause-does : goal.returns-in-Await-clause-does
-returns-in-Await-clause-does g c = rw (c.in-Await.is, c.told-in-Await.ensures) (tells (awaits c.in-Await.notifier) c.args.scene.now c.await_notified.new.scene c.await_notified.result c.await_notified.ensures)
-
-pub returns-in-Rouse-clause-does : goal.returns-in-Rouse-clause-does
-returns-in-Rouse-clause-does g c = rw (c.in-Rouse.is, c.told-in-Rouse.ensures) (tells (wakes_early c.in-Rouse.notifier) c.args.scene.now c.wake_early.new.scene c.wake_early.result c.wake_early.ensures)
-
-pub returns-in-Count-clause-does : goal.returns-in-Count-clause-does
-returns-in-Count-clause-does g c = rw (c.in-Count.is, c.told-in-Count.ensures) (tells (counts c.in-Count.counting c.in-Count.arc) c.args.scene.now c.count.new.scene c.count.result c.count.ensures)
+returns-in-Wait-clause-does g c = rw (c.in-Wait.is, c.gone-in-Wait.ensures) (passes (falls_asleep c.in-Wait.locking c.in-Wait.condvar c.in-Wait.mutex c.in-Wait.value) c.args.scene.now c.fall_asleep-answer.new.scene c.fall_asleep-answer.result c.fall_asleep-answer.ensures)
 
 pub returns-in-TryUnwrap-clause-does : goal.returns-in-TryUnwrap-clause-does
 returns-in-TryUnwrap-clause-does g c = rw (c.in-TryUnwrap.is, c.gone-in-TryUnwrap.ensures) (passes (tries_unwrap c.in-TryUnwrap.arc) c.args.scene.now c.try_unwrap.new.scene c.try_unwrap.result c.try_unwrap.ensures)
-
-pub returns-in-Join-clause-does : goal.returns-in-Join-clause-does
-returns-in-Join-clause-does g c = rw (c.in-Join.is, c.told-in-Join.ensures) (tells (join c.in-Join.thread c.in-Join.notifier) c.args.scene.now c.join.new.scene c.join.result c.join.ensures)
-
-pub returns-in-Finish-clause-does : goal.returns-in-Finish-clause-does
-returns-in-Finish-clause-does g c = rw (c.in-Finish.is, c.told-in-Finish.ensures) (tells (child_finish c.in-Finish.notifier c.in-Finish.value) c.args.scene.now c.child_finish.new.scene c.child_finish.result c.child_finish.ensures)
-
-pub returns-in-Send-clause-does : goal.returns-in-Send-clause-does
-returns-in-Send-clause-does g c = rw (c.in-Send.is, c.told-in-Send.ensures) (tells (sends c.in-Send.channel c.in-Send.sent) c.args.scene.now c.send.new.scene c.send.result c.send.ensures)
-
-pub returns-in-Receive-clause-does : goal.returns-in-Receive-clause-does
-returns-in-Receive-clause-does g c = rw (c.in-Receive.is, c.told-in-Receive.ensures) (tells (receives c.in-Receive.receiving c.in-Receive.channel) c.args.scene.now c.receive.new.scene c.receive.result c.receive.ensures)
 
 pub returns-in-Drain-clause-does : goal.returns-in-Drain-clause-does
 returns-in-Drain-clause-does g c = rw (c.in-Drain.is, c.gone-in-Drain.ensures) (passes (drains c.in-Drain.channel c.in-Drain.taken) c.args.scene.now c.drain.new.scene c.drain.result c.drain.ensures)
@@ -69,6 +35,31 @@ returns-in-Register-clause-does g c = rw (c.in-Register.is, c.gone-in-Register.e
 pub returns-in-TakeWaker-clause-does : goal.returns-in-TakeWaker-clause-does
 returns-in-TakeWaker-clause-does g c = rw (c.in-TakeWaker.is, c.gone-in-TakeWaker.ensures) (passes (takes_waker c.in-TakeWaker.taking c.in-TakeWaker.place) c.args.scene.now c.take_waker.new.scene c.take_waker.result c.take_waker.ensures)
 
-pub returns-in_err-claim-in-Claim-clause-growth : goal.returns-in_err-claim-in-Claim-clause-growth
-returns-in_err-claim-in-Claim-clause-growth g c =
-    rw c.in-Claim.is (on_err c.from_residual.result (tells_copy c.in-Claim.lock (claims c.in-Claim.claim c.in-Claim.lock) c.args.scene.now c.in_err-claim-in-Claim.ensures.growth))
+pub returns-in_err-answer-in-Claim-clause-growth : goal.returns-in_err-answer-in-Claim-clause-growth
+returns-in_err-answer-in-Claim-clause-growth g c =
+    rw c.in-Claim.is (on_err c.from_residual.result (tells_copy c.in-Claim.lock (claims c.in-Claim.claim c.in-Claim.lock) c.args.scene.now c.in_err-answer-in-Claim.ensures.growth))
+
+pub returns-clause-does : goal.returns-clause-does
+returns-clause-does g c =
+    rw c.told.ensures (elim c.match-task.branch [
+      | in-Body w ↦ rw (w.in-Body.is, w.answer-is) (λ p left shown. refl)
+      | in-Continue w ↦ rw (w.in-Continue.is, w.answer-is, w.scene-is) (λ p left shown. (refl, shown))
+      | in-Claim+in_ok-answer-in-Claim w ↦ rw (w.in-Claim.is, w.answer-is, w.scene-is) (tells (claims w.in-Claim.claim w.in-Claim.lock) c.args.scene.now w.claim.new.scene _ w.in_ok-answer-in-Claim.ensures.does)
+      | in-Lock w ↦ rw (w.in-Lock.is, w.answer-is, w.scene-is) (tells (lock w.in-Lock.locking w.in-Lock.mutex) c.args.scene.now w.lock-answer.new.scene w.lock-answer.result w.lock-answer.ensures)
+      | in-TryLock w ↦ rw (w.in-TryLock.is, w.answer-is, w.scene-is) (tells (try_lock w.in-TryLock.mutex) c.args.scene.now w.try_lock-answer.new.scene w.try_lock-answer.result w.try_lock-answer.ensures)
+      | in-Wake w ↦ rw (w.in-Wake.is, w.answer-is, w.scene-is) (tells (wakes w.in-Wake.waking w.in-Wake.condvar) c.args.scene.now w.wake-answer.new.scene w.wake-answer.result w.wake-answer.ensures)
+      | in-Notify w ↦ rw (w.in-Notify.is, w.answer-is, w.scene-is) (tells (notifies w.in-Notify.notifier) c.args.scene.now w.notify-answer.new.scene w.notify-answer.result w.notify-answer.ensures)
+      | in-Await w ↦ rw (w.in-Await.is, w.answer-is, w.scene-is) (tells (awaits w.in-Await.notifier) c.args.scene.now w.await_notified-answer.new.scene w.await_notified-answer.result w.await_notified-answer.ensures)
+      | in-Rouse w ↦ rw (w.in-Rouse.is, w.answer-is, w.scene-is) (tells (wakes_early w.in-Rouse.notifier) c.args.scene.now w.wake_early-answer.new.scene w.wake_early-answer.result w.wake_early-answer.ensures)
+      | in-Count w ↦ rw (w.in-Count.is, w.answer-is, w.scene-is) (tells (counts w.in-Count.counting w.in-Count.arc) c.args.scene.now w.count-answer.new.scene w.count-answer.result w.count-answer.ensures)
+      | in-Join w ↦ rw (w.in-Join.is, w.answer-is, w.scene-is) (tells (join w.in-Join.thread w.in-Join.notifier) c.args.scene.now w.join-answer.new.scene w.join-answer.result w.join-answer.ensures)
+      | in-Finish w ↦ rw (w.in-Finish.is, w.answer-is, w.scene-is) (tells (child_finish w.in-Finish.notifier w.in-Finish.value) c.args.scene.now w.child_finish-answer.new.scene w.child_finish-answer.result w.child_finish-answer.ensures)
+      | in-Send w ↦ rw (w.in-Send.is, w.answer-is, w.scene-is) (tells (sends w.in-Send.channel w.in-Send.sent) c.args.scene.now w.send-answer.new.scene w.send-answer.result w.send-answer.ensures)
+      | in-Receive w ↦ rw (w.in-Receive.is, w.answer-is, w.scene-is) (tells (receives w.in-Receive.receiving w.in-Receive.channel) c.args.scene.now w.receive-answer.new.scene w.receive-answer.result w.receive-answer.ensures)
+    ])
+
+pub returns-clause-slot : goal.returns-clause-slot
+returns-clause-slot g c = rw c.told.ensures (told_slot _ _)
+
+pub returns-clause-kept : goal.returns-clause-kept
+returns-clause-kept g c = λ p shown. rw c.told.ensures (told_kept p _ _)
