@@ -1,4 +1,4 @@
-ghost use Rattle.std.specs.Prelude.{◌≡◌, ◌≢◌, ◌≤◌, ◌<◌, ◌+◌, ◌↔◌, ℕ, List, [], ◌∷◌, ◌++◌, Option, Some, IfOk, IfErr, IfSome, IsTrue, slice_get, map, length, true};
+ghost use Rattle.std.specs.Prelude.{◌≡◌, ◌≢◌, ◌≤◌, ◌<◌, ◌+◌, ◌↔◌, ◌&&◌, not, ℕ, List, [], ◌∷◌, ◌++◌, Option, Some, IfOk, IfErr, IfSome, IsTrue, slice_get, map, length, true};
 ghost use Rattle.std.specs.List.{Contains};
 ghost use Rattle.std.specs.Option.{option_map};
 ghost use Rattle.loom_objects.specs.Question.{made_of, AreSoundOffers};
@@ -264,6 +264,13 @@ impl Path {
         Ok(())
     }
 
+    /// Whether the run explores at the nodes that come, in a search that isn't reduced.
+    fn explores_each(&self) -> bool
+        ensures { result ≡ (not self.now.search.reduce && is_on self.now.exploring) }
+    {
+        !self.search.reduce && self.is_exploring()
+    }
+
     /// Whether each option of a schedule that is made next is to be tried: in a search that isn't reduced, where the run explores,
     /// below the bound.
     fn tries_each(&self) -> bool
@@ -274,7 +281,7 @@ impl Path {
             Some(bound) => self.tally.preemptions < bound as u32,
             None => true,
         };
-        !self.search.reduce && self.is_exploring() && is_below
+        self.explores_each() && is_below
     }
 
     /// A new schedule: at the choice that was given for its place, if any, or else at its default.

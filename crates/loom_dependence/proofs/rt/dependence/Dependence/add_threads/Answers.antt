@@ -5,3 +5,6 @@ use Rattle.loom_dependence.proofs.rt.dependence.Dependence.add_threads.Goals as 
 
 pub returns-then-parent-len-clause-added : goal.returns-then-parent-len-clause-added
 returns-then-parent-len-clause-added c = rw (slice_get_past c.args.self.now.threads c.args.parent (omega (arith, c.len.ensures, c.if-parent-len.true))) (sym (append-nil c.args.self.now.threads))
+
+pub returns-clause-added : goal.returns-clause-added
+returns-clause-added c = rw c.at-view.ensures c.append_copies.ensures.appended
