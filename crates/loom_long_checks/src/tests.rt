@@ -13,7 +13,8 @@ mod texts;
 ghost use Rattle.std.specs.Prelude.{◌≡◌};
 ghost use Rattle.loom_stores.specs.Stores.{Counts};
 
-use loom::model::Builder;
+use loom::error::CheckError;
+use loom::model::{Builder, Report};
 use loom::visitor::Visitor;
 use loom::{CheckpointStore, Choice, MemoryStore, NoClock, StoreError};
 use loom_row_bodies::line::{ShownChoices, ShownReport};
@@ -21,7 +22,7 @@ use loom_scripts::number::Number;
 use loom_scripts::script::Script;
 use loom_scripts::step::Step;
 use std::alloc::{AllocError, Global};
-use std::test::Fail;
+use std::process::Abort;
 
 // The text with which a check of two threads goes on after its second run.
 const TWO_NODES: &str =
@@ -62,31 +63,72 @@ impl Visitor<Number> for Lines {
     }
 }
 
-// What a check of the script gives: a line for each run that the visitor is given, and the line of the report or of the error.
-fn given<S: CheckpointStore>(
-    alloc: Global,
+// The script with these steps.
+fn script(rt: &(impl Abort + AllocGlobal), steps: &'static [Step]) -> Script {
+    Script::new(rt.alloc(), steps).expect(rt, "no memory for the script")
+}
+
+// What a check of the script comes to, of whose runs there are lines.
+fn checked<R: Abort + AllocGlobal, S: CheckpointStore>(
+    rt: &R,
     builder: &Builder,
     steps: &'static [Step],
+    lines: &mut Lines,
     store: &mut S,
-) -> Result<String, Fail> {
-    let body = Script::new(alloc, steps)?;
-    let mut lines = Lines::new(alloc);
+) -> Result<Report, CheckError> {
+    let body = script(rt, steps);
     let log = None::<HostRuntime>;
-    let runs = &mut lines;
-    match builder.check_with(alloc, &body, runs, &mut NoClock, store, &log) {
+    builder.check_with(rt.alloc(), &body, lines, &mut NoClock, store, &log)
+}
+
+// The line of a report, or of an error.
+fn line_of(alloc: Global, found: &Result<Report, CheckError>) -> Result<String, AllocError> {
+    match found {
         Ok(report) => {
-            let shown = ShownReport(&report);
-            Ok(format!(in alloc; "{}{shown}", lines.text)?)
+            let shown = ShownReport(report);
+            format!(in alloc; "{shown}")
         }
-        Err(error) => Ok(format!(in alloc; "{}error {}", lines.text, error.number())?),
+        Err(error) => {
+            let number = error.number();
+            format!(in alloc; "error {number}")
+        }
     }
 }
 
+// What a check of the script gives: a line for each run that the visitor is given, and the line of the report or of the error.
+fn given<R: Abort + AllocGlobal, S: CheckpointStore>(
+    rt: &R,
+    builder: &Builder,
+    steps: &'static [Step],
+    store: &mut S,
+) -> String {
+    let mut lines = Lines::new(rt.alloc());
+    let found = checked(rt, builder, steps, &mut lines, store);
+    let line = line_of(rt.alloc(), &found).expect(rt, "no memory for the line");
+    lines
+        .text
+        .push_str(line.as_str())
+        .expect(rt, "no memory for the lines");
+    lines.text
+}
+
+// A check of the script gives this.
+fn gives<R: Abort + AllocGlobal, S: CheckpointStore>(
+    rt: &R,
+    builder: &Builder,
+    steps: &'static [Step],
+    store: &mut S,
+    text: &str,
+) {
+    let found = given(rt, builder, steps, store);
+    assert_eq!(rt; found.as_str(), text);
+}
+
 // A store that holds this text.
-fn holding(alloc: Global, text: &[u8]) -> Result<MemoryStore, Fail> {
-    let mut store = MemoryStore::new(alloc);
-    store.text = Some(Vec::from_slice(alloc, text)?);
-    Ok(store)
+fn holding(rt: &(impl Abort + AllocGlobal), text: &[u8]) -> MemoryStore {
+    let mut store = MemoryStore::new(rt.alloc());
+    store.text = Some(Vec::from_slice(rt.alloc(), text).expect(rt, "no memory for the text"));
+    store
 }
 
 // Keeps each text that is saved. Its call of this number meets a fault; the load is the first one.

@@ -18,6 +18,7 @@ mod values;
 mod wakers;
 mod words;
 
+use loom::error::CheckError;
 use loom::model::Report;
 use loom::visitor::Visitor;
 use loom::{Body, Choice, MemoryStore, NoClock};
@@ -25,9 +26,10 @@ use loom_objects::operation::{Op, ThreadOp};
 use loom_row_bodies::rows::WHOLE;
 use loom_row_bodies::settings::{Builds, Settings};
 use loom_scripts::number::Number;
+use loom_scripts::script::Script;
 use loom_scripts::step::{END, EXIT, Step, Value};
 use std::alloc::{AllocError, Global};
-use std::test::Fail;
+use std::process::Abort;
 
 const NONE: Choice = Choice::Thread(None);
 
@@ -81,26 +83,68 @@ impl Visitor<Number> for Keeper {
     }
 }
 
-// The runs of a check that completes, in the order in which they came.
-fn runs_by<B: Body<Data = Number>>(
-    alloc: Global,
+// What a check comes to: the runs that ended, in the order in which they came, and the report.
+#[derive(Drop)]
+struct Checking {
+    runs: Vec<Run>,
+    report: Report,
+}
+
+fn check_of<R: Abort + AllocGlobal, B: Body<Data = Number>>(
+    rt: &R,
     settings: Settings,
     body: &B,
-) -> Result<Vec<Run>, Fail> {
+) -> Checking {
+    let alloc = rt.alloc();
     let mut keeper = Keeper {
         alloc,
         runs: Vec::new(alloc),
     };
-    let builder = settings.builder();
-    let mut store = None::<MemoryStore>;
-    let log = None::<HostRuntime>;
-    match builder.check_with(alloc, body, &mut keeper, &mut NoClock, &mut store, &log)? {
-        Report::Complete { .. } => Ok(keeper.runs),
-        _ => Err(Fail::from("the check is not complete")),
+    let report = report_of(alloc, settings, body, &mut keeper).expect(rt, "no report");
+    Checking {
+        runs: keeper.runs,
+        report,
     }
 }
 
+fn report_of<B: Body<Data = Number>>(
+    alloc: Global,
+    settings: Settings,
+    body: &B,
+    keeper: &mut Keeper,
+) -> Result<Report, CheckError> {
+    let builder = settings.builder();
+    let mut store = None::<MemoryStore>;
+    let log = None::<HostRuntime>;
+    builder.check_with(alloc, body, keeper, &mut NoClock, &mut store, &log)
+}
+
+// The script with these steps.
+fn script(rt: &(impl Abort + AllocGlobal), steps: &'static [Step]) -> Script {
+    Script::new(rt.alloc(), steps).expect(rt, "no memory for the script")
+}
+
+// The runs of a check of the body that completes.
+fn runs_of_body<R: Abort + AllocGlobal, B: Body<Data = Number>>(
+    rt: &R,
+    settings: Settings,
+    body: &B,
+) -> Vec<Run> {
+    let checking = check_of(rt, settings, body);
+    assert!(rt; checking.report.is_complete(), "the check is not complete");
+    checking.runs
+}
+
+// The same of the script with these steps.
+fn runs_by(
+    rt: &(impl Abort + AllocGlobal),
+    settings: Settings,
+    steps: &'static [Step],
+) -> Vec<Run> {
+    runs_of_body(rt, settings, &script(rt, steps))
+}
+
 // The same, where the check isn't reduced.
-fn runs_of<B: Body<Data = Number>>(alloc: Global, body: &B) -> Result<Vec<Run>, Fail> {
-    runs_by(alloc, WHOLE, body)
+fn runs_of(rt: &(impl Abort + AllocGlobal), steps: &'static [Step]) -> Vec<Run> {
+    runs_by(rt, WHOLE, steps)
 }

@@ -1,13 +1,14 @@
 //! The program with a checkpoint file.
 use super::TWO_NODES;
-use loom_row_bodies::rows;
+use loom_row_bodies::rows::{self, Row};
 use std::fs;
-use std::test::Fail;
+use std::process::Abort;
+use std::rt::Files;
 
 const FILE: &str = "loom_long_checks.json";
 
 // The words after the program's name, what it prints, what it writes on standard error, and its status.
-static CALLS: [(&[&str], &str, &str, u8); 9] = [
+static CALLS: [Call; 9] = [
     (&["lock_beside_two", FILE], "stopped 2\n", "", 0),
     (&["lock_beside_reduced", FILE], "", "error 10\n", 2),
     (&["stop_exploring", FILE], "failed 20 0\n", "", 1),
@@ -29,21 +30,32 @@ static CALLS: [(&[&str], &str, &str, u8); 9] = [
     ),
 ];
 
+type Call = (&'static [&'static str], &'static str, &'static str, u8);
+
+// The words print this line, or write this error, and give this status.
+fn prints(rt: &(impl Abort + AllocGlobal + Files), rows: &[Row], call: &'static Call) {
+    let (words, line, error, status) = *call;
+    let mut out = Vec::new(rt.alloc());
+    let mut err = Vec::new(rt.alloc());
+    let answer = rows::run_row(rt, rows, words, &mut out, &mut err);
+    assert_eq!(rt; out.as_slice(), line.as_bytes(), "{line}{error}");
+    assert_eq!(rt; err.as_slice(), error.as_bytes(), "{line}{error}");
+    assert_eq!(rt; answer, status, "{line}{error}");
+}
+
+// The file has the text of two nodes: only a stop is saved, and here each is after the second run.
+fn is_saved(rt: &(impl Abort + AllocGlobal + Files)) {
+    let text = fs::read_to_string(rt, FILE).expect(rt, "the file isn't read");
+    assert_eq!(rt; text.as_str(), TWO_NODES);
+}
+
 #[test]
-fn the_program_goes_on(rt: HostRuntime) -> Result<(), Fail> {
+fn the_program_goes_on(rt: HostRuntime) {
     let _ = fs::remove_file(&rt, FILE);
-    let rows = rows::all_rows(rt.alloc())?;
-    let rows = rows.as_slice();
-    for (words, line, error, status) in &CALLS {
-        let mut out = Vec::new(rt.alloc());
-        let mut err = Vec::new(rt.alloc());
-        let answer = rows::run_row(&rt, rows, words, &mut out, &mut err);
-        assert_eq!(rt; out.as_slice(), line.as_bytes(), "{line}{error}");
-        assert_eq!(rt; err.as_slice(), error.as_bytes(), "{line}{error}");
-        assert_eq!(rt; answer, *status, "{line}{error}");
-        // Only a stop is saved, and here each is after the second run.
-        assert_eq!(rt; fs::read_to_string(&rt, FILE)?.as_str(), TWO_NODES);
+    let rows = rows::all_rows(rt.alloc()).expect(&rt, "no memory for the rows");
+    for call in &CALLS {
+        prints(&rt, rows.as_slice(), call);
+        is_saved(&rt);
     }
-    fs::remove_file(&rt, FILE)?;
-    Ok(())
+    fs::remove_file(&rt, FILE).expect(&rt, "the file isn't removed");
 }

@@ -1,12 +1,13 @@
 //! Limits of runs and of time.
-use super::{Lines, Shelf, TWO_NODES};
+use super::{Lines, Shelf, TWO_NODES, script};
 use loom::Clock;
+use loom::error::CheckError;
 use loom::model::{Builder, Limit, Report};
 use loom_row_bodies::bodies::LOCK_BESIDE;
 use loom_row_bodies::rows::{TWO_RUNS, WHOLE};
 use loom_row_bodies::settings::Builds;
-use loom_scripts::script::Script;
-use std::test::Fail;
+use std::process::Abort;
+use std::rt::Files;
 use std::time::Duration;
 
 // Two seconds have passed from its third answer on, and no time before.
@@ -40,57 +41,62 @@ fn is_stopped(report: &Report, count: u64, by: Limit, text: &str) -> bool {
     }
 }
 
+fn checked(
+    rt: &(impl Abort + AllocGlobal),
+    builder: &Builder,
+    lines: &mut Lines,
+    clock: &mut Slow,
+    shelf: &mut Shelf,
+) -> Result<Report, CheckError> {
+    let body = script(rt, LOCK_BESIDE);
+    let log = None::<HostRuntime>;
+    builder.check_with(rt.alloc(), &body, lines, clock, shelf, &log)
+}
+
+// A check is stopped after two runs by this limit, once the clock has answered so often.
+fn stops(rt: &(impl Abort + AllocGlobal), builder: &Builder, limit: Limit, answers: u64) {
+    let mut lines = Lines::new(rt.alloc());
+    let mut clock = Slow { answers: 0 };
+    let mut shelf = Shelf::new(rt.alloc(), 0);
+    let report = checked(rt, builder, &mut lines, &mut clock, &mut shelf).expect(rt, "no report");
+    assert!(rt; is_stopped(&report, 2, limit, TWO_NODES), "{answers}");
+    assert_eq!(rt; lines.text.as_str(), " t0 t1 t1 t-\n t1 t1 t0 t-\n");
+    assert_eq!(rt; clock.answers, answers);
+    assert_eq!(rt; shelf.texts.len(), 1);
+    assert_eq!(rt; shelf.texts[0].as_str(), TWO_NODES);
+}
+
 #[test]
-fn limits_stop_a_check(rt: HostRuntime) -> Result<(), Fail> {
+fn limits_stop_a_check(rt: HostRuntime) {
+    stops(&rt, &TWO_RUNS.builder(), Limit::Permutations, 0);
     let second = Builder {
         max_duration: Some(Duration::from_secs(1)),
         ..WHOLE.builder()
     };
+    stops(&rt, &second, Limit::Duration, 3);
+    // The count of runs is tested before the time.
     let both = Builder {
         max_duration: Some(Duration::from_secs(1)),
         ..TWO_RUNS.builder()
     };
-    // The count of runs is tested before the time.
-    let table = [
-        (&second, Limit::Duration, 3),
-        (&both, Limit::Permutations, 2),
-        (&TWO_RUNS.builder(), Limit::Permutations, 0),
-    ];
-    for (builder, limit, answers) in table {
-        let body = Script::new(rt.alloc(), LOCK_BESIDE)?;
-        let mut lines = Lines::new(rt.alloc());
-        let mut clock = Slow { answers: 0 };
-        let mut shelf = Shelf::new(rt.alloc(), 0);
-        let log = None::<HostRuntime>;
-        let runs = &mut lines;
-        let report = builder.check_with(rt.alloc(), &body, runs, &mut clock, &mut shelf, &log)?;
-        assert!(rt; is_stopped(&report, 2, limit, TWO_NODES), "{answers}");
-        assert_eq!(rt; lines.text.as_str(), " t0 t1 t1 t-\n t1 t1 t0 t-\n");
-        assert_eq!(rt; clock.answers, answers);
-        assert_eq!(rt; shelf.texts.len(), 1);
-        assert_eq!(rt; shelf.texts[0].as_str(), TWO_NODES);
+    stops(&rt, &both, Limit::Permutations, 2);
+}
+
+// What a check comes to that may take so long.
+fn word_of(rt: &(impl Abort + AllocGlobal + Files), longest: Duration) -> &'static str {
+    let body = script(rt, LOCK_BESIDE);
+    let mut builder = WHOLE.builder();
+    builder.max_duration = Some(longest);
+    let report = builder.check(rt, rt.alloc(), &body).expect(rt, "no report");
+    match &report {
+        Report::Complete { .. } => "complete",
+        Report::Stopped { .. } => "stopped",
+        Report::Failed { .. } => "failed",
     }
-    Ok(())
 }
 
 #[test]
-fn a_check_has_no_clock(rt: HostRuntime) -> Result<(), Fail> {
-    let body = Script::new(rt.alloc(), LOCK_BESIDE)?;
-    let table = [
-        (Duration::ZERO, "stopped"),
-        (Duration::from_nanos(1), "complete"),
-    ];
-    for (longest, found) in table {
-        let builder = Builder {
-            max_duration: Some(longest),
-            ..WHOLE.builder()
-        };
-        let word = match builder.check(&rt, rt.alloc(), &body)? {
-            Report::Complete { .. } => "complete",
-            Report::Stopped { .. } => "stopped",
-            Report::Failed { .. } => "failed",
-        };
-        assert_eq!(rt; word, found);
-    }
-    Ok(())
+fn a_check_has_no_clock(rt: HostRuntime) {
+    assert_eq!(rt; word_of(&rt, Duration::ZERO), "stopped");
+    assert_eq!(rt; word_of(&rt, Duration::from_nanos(1)), "complete");
 }

@@ -1,5 +1,6 @@
 //! Texts that are changed at random: each is refused by name, or a check that begins with it ends.
-use super::holding;
+use super::{holding, script};
+use loom::error::CheckError;
 use loom::model::{Builder, Report};
 use loom::visitor::Visitor;
 use loom::{Choice, FailureKind, NoClock};
@@ -10,10 +11,9 @@ use loom_row_bodies::settings::Builds;
 use loom_scripts::number::Number;
 use loom_scripts::script::Script;
 use loom_scripts::step::Step;
-use std::alloc::{AllocError, Global};
+use std::alloc::AllocError;
 use std::process::Abort;
 use std::rt::Files;
-use std::test::Fail;
 
 // How many texts each test changes.
 const MUTATIONS: u64 = 10_000;
@@ -63,211 +63,258 @@ struct Searched {
     text: String,
 }
 
-fn search_of(rt: &(impl AllocGlobal + Files), steps: &'static [Step]) -> Result<Searched, Fail> {
-    let body = Script::new(rt.alloc(), steps)?;
-    let whole = WHOLE.builder();
-    let Report::Complete { runs } = whole.check(rt, rt.alloc(), &body)? else {
-        return Err(Fail::from("the search is not complete"));
-    };
-    let one = Builder {
-        max_permutations: Some(1),
-        ..whole
-    };
-    let Report::Stopped { checkpoint, .. } = one.check(rt, rt.alloc(), &body)? else {
-        return Err(Fail::from("the search was not stopped"));
-    };
-    Ok(Searched {
-        body,
-        runs,
-        text: checkpoint,
-    })
+// How many runs a check that completes makes.
+fn runs_of(rt: &(impl Abort + AllocGlobal + Files), builder: &Builder, body: &Script) -> u64 {
+    let report = builder.check(rt, rt.alloc(), body).expect(rt, "no report");
+    match &report {
+        Report::Complete { runs } => *runs,
+        _ => panic!(rt; "the search is not complete"),
+    }
+}
+
+// The text with which a check goes on that stops.
+fn stopped_at(rt: &(impl Abort + AllocGlobal + Files), builder: &Builder, body: &Script) -> String {
+    let report = builder.check(rt, rt.alloc(), body).expect(rt, "no report");
+    match report {
+        Report::Stopped { checkpoint, .. } => checkpoint,
+        _ => panic!(rt; "the search was not stopped"),
+    }
+}
+
+fn search_of(rt: &(impl Abort + AllocGlobal + Files), steps: &'static [Step]) -> Searched {
+    let body = script(rt, steps);
+    let mut builder = WHOLE.builder();
+    let runs = runs_of(rt, &builder, &body);
+    builder.max_permutations = Some(1);
+    let text = stopped_at(rt, &builder, &body);
+    Searched { body, runs, text }
 }
 
 // The nodes in a text, without the braces round each.
-fn nodes_in<'a>(alloc: Global, text: &'a str) -> Result<Vec<&'a str>, Fail> {
-    let (_, nodes) = text.split_once("[{").ok_or("no nodes")?;
-    let (nodes, _) = nodes.split_once("}],").ok_or("no nodes")?;
-    Ok(nodes.split("},{").collect::<Vec<_>>(alloc)?)
+fn nodes_in<'a>(rt: &(impl Abort + AllocGlobal), text: &'a str) -> Vec<&'a str> {
+    let (_, nodes) = text.split_once("[{").expect(rt, "no nodes");
+    let (nodes, _) = nodes.split_once("}],").expect(rt, "no nodes");
+    nodes
+        .split("},{")
+        .collect::<Vec<_>>(rt.alloc())
+        .expect(rt, "no memory for the nodes")
+}
+
+// Puts the text behind the bytes.
+fn put(rt: &impl Abort, bytes: &mut Vec<u8>, text: &str) {
+    bytes
+        .extend_from_slice(text.as_bytes())
+        .expect(rt, "no memory for the text");
 }
 
 // The text of these nodes.
-fn text_of(alloc: Global, nodes: &[&str]) -> Result<String, AllocError> {
-    let mut text = String::from_str(alloc, "{\"exploring\":true,\"nodes\":[")?;
+fn text_of(rt: &(impl Abort + AllocGlobal), nodes: &[&str]) -> Vec<u8> {
+    let mut text = Vec::new(rt.alloc());
+    put(rt, &mut text, "{\"exploring\":true,\"nodes\":[");
     let mut before = "{";
     for node in nodes {
-        text.push_str(before)?;
-        text.push_str(node)?;
-        text.push('}')?;
+        put(rt, &mut text, before);
+        put(rt, &mut text, node);
+        put(rt, &mut text, "}");
         before = ",{";
     }
-    text.push_str("],\"preemption_bound\":null,\"reduce\":false,\"version\":1}")?;
-    Ok(text)
+    put(
+        rt,
+        &mut text,
+        "],\"preemption_bound\":null,\"reduce\":false,\"version\":1}",
+    );
+    text
 }
 
-// The text with another node in place of one, with one more, or with one fewer.
-fn with_other_nodes<'a>(
-    alloc: Global,
-    numbers: &mut Numbers,
-    text: &'a str,
-    pool: &[&'a str],
-) -> Result<Vec<u8>, Fail> {
-    let mut nodes = nodes_in(alloc, text)?;
-    let node = pool.get(numbers.below(pool.len())).ok_or("no nodes")?;
+// Puts another node in place of one, puts one behind the others, or takes the last one away.
+fn change<'a>(rt: &impl Abort, numbers: &mut Numbers, nodes: &mut Vec<&'a str>, node: &'a str) {
     match numbers.below(3) {
         0 => {
             let at = numbers.below(nodes.len());
             if let Some(place) = nodes.get_mut(at) {
-                *place = *node;
+                *place = node;
             }
         }
-        1 => nodes.push(*node)?,
+        1 => nodes.push(node).expect(rt, "no memory for the node"),
         _ => {
             let _last = nodes.pop();
         }
     }
-    let text = text_of(alloc, nodes.as_slice())?;
-    Ok(Vec::from_slice(alloc, text.as_str().as_bytes())?)
+}
+
+// The text with another node in place of one, with one more, or with one fewer.
+fn with_other_nodes<'a>(
+    rt: &(impl Abort + AllocGlobal),
+    numbers: &mut Numbers,
+    text: &'a str,
+    pool: &[&'a str],
+) -> Vec<u8> {
+    let mut nodes = nodes_in(rt, text);
+    let node = pool.get(numbers.below(pool.len())).expect(rt, "no nodes");
+    change(rt, numbers, &mut nodes, *node);
+    text_of(rt, nodes.as_slice())
 }
 
 // The text with another byte in place of one.
-fn with_other_byte(
-    alloc: Global,
-    numbers: &mut Numbers,
-    text: &str,
-) -> Result<Vec<u8>, AllocError> {
-    let mut bytes = Vec::from_slice(alloc, text.as_bytes())?;
+fn with_other_byte(rt: &(impl Abort + AllocGlobal), numbers: &mut Numbers, text: &str) -> Vec<u8> {
+    let mut bytes = Vec::from_slice(rt.alloc(), text.as_bytes()).expect(rt, "no memory");
     let at = numbers.below(bytes.len());
     if let Some(place) = bytes.get_mut(at) {
         *place = numbers.next().to_le_bytes()[0];
     }
-    Ok(bytes)
+    bytes
+}
+
+// The text with the number in place of the digit before which so many stand.
+fn with_number(rt: &(impl Abort + AllocGlobal), text: &str, before: usize, number: u64) -> Vec<u8> {
+    let shown = format!(in rt.alloc(); "{number}").expect(rt, "no memory for the number");
+    let mut bytes = Vec::new(rt.alloc());
+    let mut digits = 0usize;
+    for byte in text.bytes() {
+        let is_replaced = byte.is_ascii_digit() && digits == before;
+        if byte.is_ascii_digit() {
+            digits = digits.saturating_add(1);
+        }
+        if is_replaced {
+            put(rt, &mut bytes, shown.as_str());
+        } else {
+            bytes.push(byte).expect(rt, "no memory for the text");
+        }
+    }
+    bytes
 }
 
 // The text with a number in place of a digit.
-fn with_other_number(alloc: Global, numbers: &mut Numbers, text: &str) -> Result<Vec<u8>, Fail> {
+fn with_other_number(
+    rt: &(impl Abort + AllocGlobal),
+    numbers: &mut Numbers,
+    text: &str,
+) -> Vec<u8> {
     let digits = text.bytes().filter(|byte| byte.is_ascii_digit()).count();
-    let mut left = numbers.below(digits);
+    let before = numbers.below(digits);
     let bits = numbers.next() % 64;
     let number = numbers.next() >> bits;
-    let shown = format!(in alloc; "{number}")?;
-    let mut bytes = Vec::new(alloc);
-    for byte in text.bytes() {
-        if byte.is_ascii_digit() {
-            if left == 0 {
-                bytes.extend_from_slice(shown.as_str().as_bytes())?;
-                left = digits;
-                continue;
-            }
-            left = left.saturating_sub(1);
-        }
-        bytes.push(byte)?;
-    }
-    Ok(bytes)
+    with_number(rt, text, before, number)
 }
 
 fn mutation<'a>(
-    alloc: Global,
+    rt: &(impl Abort + AllocGlobal),
     numbers: &mut Numbers,
     text: &'a str,
     pool: &[&'a str],
-) -> Result<Vec<u8>, Fail> {
+) -> Vec<u8> {
     match numbers.below(3) {
-        0 => Ok(with_other_byte(alloc, numbers, text)?),
-        1 => with_other_nodes(alloc, numbers, text, pool),
-        _ => with_other_number(alloc, numbers, text),
+        0 => with_other_byte(rt, numbers, text),
+        1 => with_other_nodes(rt, numbers, text, pool),
+        _ => with_other_number(rt, numbers, text),
     }
+}
+
+// What a check comes to that begins with the text.
+fn checked(
+    rt: &(impl Abort + AllocGlobal),
+    body: &Script,
+    text: &[u8],
+    count: &mut Count,
+) -> Result<Report, CheckError> {
+    let builder = WHOLE.builder();
+    let mut store = holding(rt, text);
+    let log = None::<HostRuntime>;
+    builder.check_with(rt.alloc(), body, count, &mut NoClock, &mut store, &log)
 }
 
 // Whether a check that begins with the text is refused by name, meets nodes that aren't the body's in its first run, or makes no
 // more runs than the whole search.
-fn holds(alloc: Global, searched: &Searched, text: &[u8]) -> Result<bool, Fail> {
-    let mut store = holding(alloc, text)?;
+fn holds(rt: &(impl Abort + AllocGlobal), searched: &Searched, text: &[u8]) -> bool {
     let mut count = Count { runs: 0 };
-    let log = None::<HostRuntime>;
-    let whole = WHOLE.builder();
-    let body = &searched.body;
-    match whole.check_with(alloc, body, &mut count, &mut NoClock, &mut store, &log) {
-        Ok(Report::Complete { runs }) => {
-            Ok(runs == count.runs && 0 < runs && runs <= searched.runs)
-        }
-        Ok(Report::Failed { runs, failure, .. }) => {
-            Ok(runs == 0 && failure.kind == FailureKind::NotDeterministic)
-        }
-        Ok(Report::Stopped { .. }) => Ok(false),
-        Err(error) => Ok(matches!(error.number(), 7..=12)),
+    match &checked(rt, &searched.body, text, &mut count) {
+        Ok(Report::Complete { runs }) => *runs == count.runs && 0 < *runs && *runs <= searched.runs,
+        Ok(Report::Failed { runs, failure, .. }) => *runs == 0
+            && failure.kind == FailureKind::NotDeterministic,
+        Ok(Report::Stopped { .. }) => false,
+        Err(error) => matches!(error.number(), 7..=12),
     }
 }
 
-// Texts that are changed by the numbers from this state on: none is 0.
-fn mutations_end(rt: &(impl Abort + AllocGlobal + Files), state: u64) -> Result<(), Fail> {
-    let alloc = rt.alloc();
-    let bodies = [
-        search_of(rt, LOCK_BESIDE)?,
-        search_of(rt, LOAD_BESIDE)?,
-        search_of(rt, NOTIFY_WAIT)?,
-    ];
-    let mut pool = Vec::new(alloc);
-    for searched in &bodies {
-        pool.extend_from_slice(nodes_in(alloc, searched.text.as_str())?.as_slice())?;
+// Puts the nodes in the text behind the others.
+fn pool_nodes<'a>(rt: &(impl Abort + AllocGlobal), pool: &mut Vec<&'a str>, text: &'a str) {
+    let nodes = nodes_in(rt, text);
+    pool.extend_from_slice(nodes.as_slice())
+        .expect(rt, "no memory for the nodes");
+}
+
+// So many texts of these searches, which are changed by the numbers from this state on. None is 0.
+fn texts_end(rt: &(impl Abort + AllocGlobal), bodies: &[Searched], state: u64) {
+    let mut pool = Vec::new(rt.alloc());
+    for searched in bodies {
+        pool_nodes(rt, &mut pool, searched.text.as_str());
     }
     let mut numbers = Numbers { state };
     for at in 0..MUTATIONS {
-        let searched = bodies.get(numbers.below(3)).ok_or("no body")?;
-        let text = mutation(alloc, &mut numbers, searched.text.as_str(), pool.as_slice())?;
+        let searched = bodies.get(numbers.below(3)).expect(rt, "no body");
+        let text = mutation(rt, &mut numbers, searched.text.as_str(), pool.as_slice());
         assert!(rt;
-            holds(alloc, searched, text.as_slice())?,
+            holds(rt, searched, text.as_slice()),
             "mutation {at} from {state}"
         );
     }
-    Ok(())
+}
+
+fn mutations_end(rt: &(impl Abort + AllocGlobal + Files), state: u64) {
+    let bodies = [
+        search_of(rt, LOCK_BESIDE),
+        search_of(rt, LOAD_BESIDE),
+        search_of(rt, NOTIFY_WAIT),
+    ];
+    texts_end(rt, bodies.as_slice(), state);
 }
 
 #[test]
-fn first_mutations_end(rt: HostRuntime) -> Result<(), Fail> {
-    mutations_end(&rt, 0x9e37_79b9_7f4a_7c15)
+fn first_mutations_end(rt: HostRuntime) {
+    mutations_end(&rt, 0x9e37_79b9_7f4a_7c15);
 }
 
 #[test]
-fn second_mutations_end(rt: HostRuntime) -> Result<(), Fail> {
-    mutations_end(&rt, 0x6e78_9e6a_a1b9_65f4)
+fn second_mutations_end(rt: HostRuntime) {
+    mutations_end(&rt, 0x6e78_9e6a_a1b9_65f4);
 }
 
 #[test]
-fn third_mutations_end(rt: HostRuntime) -> Result<(), Fail> {
-    mutations_end(&rt, 0x06c4_5d18_8009_454f)
+fn third_mutations_end(rt: HostRuntime) {
+    mutations_end(&rt, 0x06c4_5d18_8009_454f);
 }
 
 #[test]
-fn fourth_mutations_end(rt: HostRuntime) -> Result<(), Fail> {
-    mutations_end(&rt, 0xf88b_b8a8_724c_81ec)
+fn fourth_mutations_end(rt: HostRuntime) {
+    mutations_end(&rt, 0xf88b_b8a8_724c_81ec);
 }
 
 #[test]
-fn fifth_mutations_end(rt: HostRuntime) -> Result<(), Fail> {
-    mutations_end(&rt, 0x1b39_896a_51a8_749b)
+fn fifth_mutations_end(rt: HostRuntime) {
+    mutations_end(&rt, 0x1b39_896a_51a8_749b);
 }
 
 #[test]
-fn sixth_mutations_end(rt: HostRuntime) -> Result<(), Fail> {
-    mutations_end(&rt, 0x53cb_9f0c_747e_a2ea)
+fn sixth_mutations_end(rt: HostRuntime) {
+    mutations_end(&rt, 0x53cb_9f0c_747e_a2ea);
 }
 
 #[test]
-fn seventh_mutations_end(rt: HostRuntime) -> Result<(), Fail> {
-    mutations_end(&rt, 0x2c82_9abe_1f45_32e1)
+fn seventh_mutations_end(rt: HostRuntime) {
+    mutations_end(&rt, 0x2c82_9abe_1f45_32e1);
 }
 
 #[test]
-fn eighth_mutations_end(rt: HostRuntime) -> Result<(), Fail> {
-    mutations_end(&rt, 0xc584_133a_c916_ab3c)
+fn eighth_mutations_end(rt: HostRuntime) {
+    mutations_end(&rt, 0xc584_133a_c916_ab3c);
 }
 
 #[test]
-fn ninth_mutations_end(rt: HostRuntime) -> Result<(), Fail> {
-    mutations_end(&rt, 0x3ee5_7890_41c9_8ac3)
+fn ninth_mutations_end(rt: HostRuntime) {
+    mutations_end(&rt, 0x3ee5_7890_41c9_8ac3);
 }
 
 #[test]
-fn tenth_mutations_end(rt: HostRuntime) -> Result<(), Fail> {
-    mutations_end(&rt, 0xf3b8_488c_368c_b0a6)
+fn tenth_mutations_end(rt: HostRuntime) {
+    mutations_end(&rt, 0xf3b8_488c_368c_b0a6);
 }

@@ -1,5 +1,5 @@
 //! What a log is told.
-use super::Lines;
+use super::{Lines, script};
 use log::sink::Memory;
 use log::{Level, Logged};
 use loom::model::Builder;
@@ -7,8 +7,6 @@ use loom::{MemoryStore, NoClock};
 use loom_row_bodies::bodies::LOCK_BESIDE;
 use loom_row_bodies::rows::WHOLE;
 use loom_row_bodies::settings::Builds;
-use loom_scripts::script::Script;
-use std::test::Fail;
 
 const ITERATIONS: &[&str] = &[
     "[INFO  loom::search] iteration 2",
@@ -27,7 +25,7 @@ const SWITCHES: &[&str] = &[
 ];
 
 #[test]
-fn a_log_is_told(rt: HostRuntime) -> Result<(), Fail> {
+fn a_log_is_told(rt: HostRuntime) {
     let table = [
         (Level::Info, false, ITERATIONS),
         (Level::Debug, false, ITERATIONS),
@@ -41,11 +39,19 @@ fn a_log_is_told(rt: HostRuntime) -> Result<(), Fail> {
             log: switches,
             ..WHOLE.builder()
         };
-        let body = Script::new(rt.alloc(), LOCK_BESIDE)?;
+        let body = script(&rt, LOCK_BESIDE);
         let log = Logged::new(rt, level, Memory::new(rt.alloc()));
         let mut runs = Lines::new(rt.alloc());
         let mut store = None::<MemoryStore>;
-        builder.check_with(rt.alloc(), &body, &mut runs, &mut NoClock, &mut store, &log)?;
+        let report = builder.check_with(
+            rt.alloc(),
+            &body,
+            &mut runs,
+            &mut NoClock,
+            &mut store,
+            &log,
+        );
+        assert!(rt; report.is_ok());
         let (_, sink) = log.into_parts();
         let told = sink.into_lines();
         assert_eq!(rt; told.len(), lines.len());
@@ -53,5 +59,4 @@ fn a_log_is_told(rt: HostRuntime) -> Result<(), Fail> {
             assert_eq!(rt; found.as_str(), *line);
         }
     }
-    Ok(())
 }

@@ -1,18 +1,18 @@
 //! Checks with rising bounds on preemptions, and reports as texts.
+use super::script;
 use loom::error::CheckError;
 use loom::model::{Builder, Replay};
 use loom::rising::Risen;
 use loom::sync::atomic::Ordering::Relaxed;
-use loom::{Choices, ChoicesError, Failure, FailureKind};
+use loom::{Choices, ChoicesError, FailureKind};
 use loom_objects::operation::{AtomicOp, ChannelOp, Op, ThreadOp};
 use loom_row_bodies::bodies::LOCK_BESIDE;
 use loom_row_bodies::rows::{TWO_RUNS, WHOLE};
-use loom_row_bodies::settings::Builds;
-use loom_scripts::script::Script;
+use loom_row_bodies::settings::{Builds, Settings};
+use loom_scripts::number::Number;
 use loom_scripts::step::{END, EXIT, FAIL, Step, Value};
 use loom_views::rt::num::Numbers;
-use std::alloc::Global;
-use std::test::Fail;
+use std::process::Abort;
 
 // Main loads, and then waits for a thread that sends. Another one fails where it asks for the message before that.
 const ASKS_EARLY: &[Step] = &[
@@ -37,122 +37,135 @@ const ASKS_EARLY: &[Step] = &[
     END,
 ];
 
+// What a check of the script with rising bounds comes to.
+fn risen_of(
+    rt: &(impl Abort + AllocGlobal),
+    builder: &Builder,
+    steps: &'static [Step],
+    up_to: usize,
+) -> Result<Risen, CheckError> {
+    let body = script(rt, steps);
+    builder.check_rising(rt.alloc(), &body, up_to)
+}
+
+// The text of its report.
+fn text_of(rt: &(impl Abort + AllocGlobal), risen: &Risen) -> String {
+    let report = &risen.report;
+    format!(in rt.alloc(); "{report}").expect(rt, "no memory for the report")
+}
+
+// It ends at this bound, with this report.
+fn rises(
+    rt: &(impl Abort + AllocGlobal),
+    settings: Settings,
+    steps: &'static [Step],
+    up_to: usize,
+    bound: usize,
+    text: &str,
+) {
+    let risen = risen_of(rt, &settings.builder(), steps, up_to).expect(rt, "no report");
+    assert_eq!(rt; risen.bound, bound);
+    let found = text_of(rt, &risen);
+    assert_eq!(rt; found.as_str(), text);
+}
+
+// Before the failing run are the default run, three in which thread 2 goes on once thread 1 has ended, and one in which it does
+// when thread 1 has sent.
+const FAILS: &str =
+    "failed after 5 runs: an assertion of the body failed: replay its choices to see how the run came there\nreplay: t0 l0 t1 t2";
+
 #[test]
-fn the_bound_rises_up_to_a_failure(rt: HostRuntime) -> Result<(), Fail> {
-    let body = Script::new(rt.alloc(), ASKS_EARLY)?;
-    // Of each bound that is given, the bound of the last check and its report's text. Before the failing run are the default
-    // run, three in which thread 2 goes on once thread 1 has ended, and one in which it does when thread 1 has sent.
-    let table = [
-        (0, 0, "complete: 1 run, none failed"),
-        (
-            1,
-            1,
-            "failed after 5 runs: an assertion of the body failed: replay its choices to see how the run came there\nreplay: t0 l0 t1 t2",
-        ),
-        (
-            2,
-            1,
-            "failed after 5 runs: an assertion of the body failed: replay its choices to see how the run came there\nreplay: t0 l0 t1 t2",
-        ),
-    ];
-    for (up_to, last, text) in table {
-        let Risen { bound, report } = WHOLE.builder().check_rising(rt.alloc(), &body, up_to)?;
-        assert_eq!(rt; bound, last);
-        assert_eq!(rt; format!(in rt.alloc(); "{report}")?.as_str(), text);
-    }
-    Ok(())
+fn the_bound_rises_up_to_a_failure(rt: HostRuntime) {
+    rises(&rt, WHOLE, ASKS_EARLY, 0, 0, "complete: 1 run, none failed");
+    rises(&rt, WHOLE, ASKS_EARLY, 1, 1, FAILS);
+    rises(&rt, WHOLE, ASKS_EARLY, 2, 1, FAILS);
 }
 
 #[test]
-fn the_bound_rises_while_checks_are_complete(rt: HostRuntime) -> Result<(), Fail> {
-    let body = Script::new(rt.alloc(), LOCK_BESIDE)?;
-    let table = [
+fn the_bound_rises_while_checks_are_complete(rt: HostRuntime) {
+    for (up_to, text) in [
         (0, "complete: 1 run, none failed"),
         (1, "complete: 2 runs, none failed"),
         (2, "complete: 3 runs, none failed"),
         (255, "complete: 3 runs, none failed"),
-    ];
-    for (up_to, text) in table {
-        let Risen { bound, report } = WHOLE.builder().check_rising(rt.alloc(), &body, up_to)?;
-        assert_eq!(rt; bound, up_to);
-        assert!(rt; report.is_complete());
-        assert_eq!(rt; format!(in rt.alloc(); "{report}")?.as_str(), text);
-    }
-    Ok(())
-}
-
-#[test]
-fn a_limit_ends_it(rt: HostRuntime) -> Result<(), Fail> {
-    let body = Script::new(rt.alloc(), LOCK_BESIDE)?;
-    let Risen { bound, report } = TWO_RUNS.builder().check_rising(rt.alloc(), &body, 9)?;
-    assert_eq!(rt; bound, 2);
-    assert_eq!(rt;
-        format!(in rt.alloc(); "{report}")?.as_str(),
-        "stopped: `max_permutations` was reached after 2 runs"
-    );
-    Ok(())
-}
-
-#[test]
-fn settings_are_refused(rt: HostRuntime) -> Result<(), Fail> {
-    let body = Script::new(rt.alloc(), LOCK_BESIDE)?;
-    let no_threads = Builder {
-        max_threads: 0,
-        ..Builder::new()
-    };
-    let table = [
-        (&Builder::new(), 256, CheckError::PreemptionBound(256)),
-        (&no_threads, 256, CheckError::MaxThreads(0)),
-    ];
-    for (builder, up_to, error) in table {
-        match builder.check_rising(rt.alloc(), &body, up_to) {
-            Ok(_) => return Err(Fail::from("the settings were taken")),
-            Err(e) => assert_eq!(rt; e, error),
-        }
-    }
-    Ok(())
-}
-
-// The failure of a replay of the choices in this text.
-fn replayed(alloc: Global, body: &Script, text: &str) -> Result<Failure, Fail> {
-    let choices = Choices::parse(alloc, text)?;
-    match Builder::new().replay(alloc, body, choices.as_slice())? {
-        Replay::Failed { failure, choices } => {
-            drop(choices);
-            Ok(failure)
-        }
-        Replay::Ended { .. } => Err(Fail::from("the run ended")),
+    ] {
+        rises(&rt, WHOLE, LOCK_BESIDE, up_to, up_to, text);
     }
 }
 
 #[test]
-fn a_failure_replays_by_its_text(rt: HostRuntime) -> Result<(), Fail> {
-    let alloc = rt.alloc();
-    let body = Script::new(alloc, ASKS_EARLY)?;
-    let Risen { report, .. } = WHOLE.builder().check_rising(alloc, &body, 1)?;
-    let text = format!(in alloc; "{report}")?;
-    let (_, choices) = text.as_str().split_once("replay: ").ok_or("no choices")?;
-    let failure = replayed(alloc, &body, choices)?;
-    assert_eq!(rt; failure.kind, FailureKind::Assertion);
-    Ok(())
+fn a_limit_ends_it(rt: HostRuntime) {
+    let text = "stopped: `max_permutations` was reached after 2 runs";
+    rises(&rt, TWO_RUNS, LOCK_BESIDE, 9, 2, text);
+}
+
+// The bound or the builder is refused by this error.
+fn refuses(rt: &(impl Abort + AllocGlobal), builder: &Builder, up_to: usize, error: CheckError) {
+    let found = risen_of(rt, builder, LOCK_BESIDE, up_to);
+    assert_eq!(rt; found, Err(error));
 }
 
 #[test]
-fn texts_are_read_as_choices(rt: HostRuntime) -> Result<(), Fail> {
-    // What each text is written as again.
-    let table = [
+fn settings_are_refused(rt: HostRuntime) {
+    let mut builder = Builder::new();
+    refuses(&rt, &builder, 256, CheckError::PreemptionBound(256));
+    builder.max_threads = 0;
+    refuses(&rt, &builder, 256, CheckError::MaxThreads(0));
+}
+
+// What a run of the script comes to, which follows the choices in this text.
+fn replay_of(
+    rt: &(impl Abort + AllocGlobal),
+    steps: &'static [Step],
+    text: &str,
+) -> Replay<Number> {
+    let body = script(rt, steps);
+    let choices = Choices::parse(rt.alloc(), text).expect(rt, "the text has other words");
+    let replay = Builder::new().replay(rt.alloc(), &body, choices.as_slice());
+    replay.expect(rt, "no run")
+}
+
+#[test]
+fn a_failure_replays_by_its_text(rt: HostRuntime) {
+    let risen = risen_of(&rt, &WHOLE.builder(), ASKS_EARLY, 1).expect(&rt, "no report");
+    let text = text_of(&rt, &risen);
+    let (_, choices) = text
+        .as_str()
+        .split_once("replay: ")
+        .expect(&rt, "no choices");
+    match &replay_of(&rt, ASKS_EARLY, choices) {
+        Replay::Failed { failure, .. } => assert_eq!(rt; failure.kind, FailureKind::Assertion),
+        Replay::Ended { .. } => panic!(rt; "the run ended"),
+    }
+}
+
+// The text is written as this again.
+fn is_read(rt: &(impl Abort + AllocGlobal), text: &str, again: &str) {
+    let choices = Choices::parse(rt.alloc(), text).expect(rt, text);
+    let shown = format!(in rt.alloc(); "{choices}").expect(rt, text);
+    assert_eq!(rt; shown.as_str(), again);
+}
+
+// The word of this number is none.
+fn is_refused(rt: &(impl Abort + AllocGlobal), text: &str, number: usize) {
+    match &Choices::parse(rt.alloc(), text) {
+        Ok(_) => panic!(rt; "the text was taken"),
+        Err(error) => assert_eq!(rt; *error, ChoicesError::NotAChoice(number)),
+    }
+}
+
+#[test]
+fn texts_are_read_as_choices(rt: HostRuntime) {
+    for (text, again) in [
         ("", ""),
         (" \t\n", ""),
         ("t0", "t0"),
         ("  t0 t-\n l1\ts0 s1\r\n", "t0 t- l1 s0 s1"),
         ("t4 l6", "t4 l6"),
-    ];
-    for (text, again) in table {
-        let choices = Choices::parse(rt.alloc(), text)?;
-        assert_eq!(rt; format!(in rt.alloc(); "{choices}")?.as_str(), again);
+    ] {
+        is_read(&rt, text, again);
     }
-    // The number of the word that is none.
-    let table = [
+    for (text, number) in [
         ("t", 1),
         ("t0t1", 1),
         ("t0 t12", 2),
@@ -161,12 +174,7 @@ fn texts_are_read_as_choices(rt: HostRuntime) -> Result<(), Fail> {
         ("T0", 1),
         ("t0 t1 x", 3),
         ("t0,t1", 1),
-    ];
-    for (text, number) in table {
-        match Choices::parse(rt.alloc(), text) {
-            Ok(_) => return Err(Fail::from("the text was taken")),
-            Err(e) => assert_eq!(rt; e, ChoicesError::NotAChoice(number)),
-        }
+    ] {
+        is_refused(&rt, text, number);
     }
-    Ok(())
 }

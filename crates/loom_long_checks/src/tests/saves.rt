@@ -1,11 +1,11 @@
 //! What a check saves, and how it goes on with that.
-use super::{NO_NODES, ONE_NODE, Shelf, TWO_NODES, given, holding};
+use super::{NO_NODES, ONE_NODE, Shelf, TWO_NODES, given, gives, holding};
 use loom::MemoryStore;
 use loom::model::Builder;
 use loom_row_bodies::bodies::{LOCK_BESIDE, TWO_MUTEXES_DEADLOCK};
 use loom_row_bodies::rows::WHOLE;
 use loom_row_bodies::settings::Builds;
-use std::test::Fail;
+use std::process::Abort;
 
 // A builder that saves before each run.
 fn saves_each(builder: Builder) -> Builder {
@@ -16,39 +16,44 @@ fn saves_each(builder: Builder) -> Builder {
 }
 
 #[test]
-fn each_run_is_saved(rt: HostRuntime) -> Result<(), Fail> {
+fn each_run_is_saved(rt: HostRuntime) {
     let builder = saves_each(WHOLE.builder());
     let mut shelf = Shelf::new(rt.alloc(), 0);
-    let found = given(rt.alloc(), &builder, LOCK_BESIDE, &mut shelf)?;
-    let runs = " t0 t1 t1 t-\n t1 t1 t0 t-\n t1 t0 t1 t-\n";
-    assert_eq!(rt;
-        found.as_str(),
-        format!(in rt.alloc(); "{runs}complete 3")?.as_str()
-    );
+    let runs = " t0 t1 t1 t-\n t1 t1 t0 t-\n t1 t0 t1 t-\ncomplete 3";
+    gives(&rt, &builder, LOCK_BESIDE, &mut shelf, runs);
     assert_eq!(rt; shelf.texts.len(), 3);
     for (saved, text) in shelf.texts.iter().zip([NO_NODES, ONE_NODE, TWO_NODES]) {
         assert_eq!(rt; saved.as_str(), text);
     }
-    Ok(())
 }
 
 #[test]
-fn a_failing_run_is_saved_before(rt: HostRuntime) -> Result<(), Fail> {
+fn a_failing_run_is_saved_before(rt: HostRuntime) {
     let builder = saves_each(Builder::new());
     let mut shelf = Shelf::new(rt.alloc(), 0);
     let steps = TWO_MUTEXES_DEADLOCK;
-    let found = given(rt.alloc(), &builder, steps, &mut shelf)?;
+    let found = given(&rt, &builder, steps, &mut shelf);
     assert!(rt; found.as_str().ends_with("failed 2 3 t1 t1 t2 t2 t-"));
     assert_eq!(rt; shelf.texts.len(), 4);
-    let last = shelf.texts.last().ok_or("no text was saved")?;
-    let mut store = holding(rt.alloc(), last.as_str().as_bytes())?;
-    let found = given(rt.alloc(), &builder, steps, &mut store)?;
-    assert_eq!(rt; found.as_str(), "failed 2 0 t1 t1 t2 t2 t-");
-    Ok(())
+    let last = shelf.texts.last().expect(&rt, "no text was saved");
+    let mut store = holding(&rt, last.as_str().as_bytes());
+    gives(
+        &rt,
+        &builder,
+        steps,
+        &mut store,
+        "failed 2 0 t1 t1 t2 t2 t-",
+    );
+}
+
+// The store holds this text.
+fn has(rt: &impl Abort, store: &MemoryStore, text: &str) {
+    let saved = store.text.as_ref().expect(rt, "no text was saved");
+    assert_eq!(rt; saved.as_slice(), text.as_bytes());
 }
 
 #[test]
-fn a_check_goes_on_where_it_stopped(rt: HostRuntime) -> Result<(), Fail> {
+fn a_check_goes_on_where_it_stopped(rt: HostRuntime) {
     let mut store = MemoryStore::new(rt.alloc());
     let legs = [
         (Some(0), "stopped 0", NO_NODES),
@@ -61,10 +66,7 @@ fn a_check_goes_on_where_it_stopped(rt: HostRuntime) -> Result<(), Fail> {
             max_permutations,
             ..WHOLE.builder()
         };
-        let found = given(rt.alloc(), &builder, LOCK_BESIDE, &mut store)?;
-        assert_eq!(rt; found.as_str(), line);
-        let saved = store.text.as_ref().ok_or("no text was saved")?;
-        assert_eq!(rt; saved.as_slice(), text.as_bytes());
+        gives(&rt, &builder, LOCK_BESIDE, &mut store, line);
+        has(&rt, &store, text);
     }
-    Ok(())
 }

@@ -1,49 +1,45 @@
 //! What a check makes of a text that it is to begin with.
-use super::{TWO_NODES, given, holding};
+use super::{TWO_NODES, gives, holding};
 use loom::model::Builder;
 use loom_row_bodies::bodies::{FINISH_ONLY, LOCK_BESIDE, STORE_SEVEN};
 use loom_row_bodies::rows::{DEFAULTS, WHOLE};
 use loom_row_bodies::settings::{Builds, Settings};
 use loom_scripts::step::Step;
-use std::alloc::{AllocError, Global};
 use std::process::Abort;
-use std::test::Fail;
 
-// What a check of lock_beside answers that begins with this text.
-fn answer(alloc: Global, builder: &Builder, text: &[u8]) -> Result<String, Fail> {
-    given(alloc, builder, LOCK_BESIDE, &mut holding(alloc, text)?)
+// A check of lock_beside that begins with this text answers this line.
+fn answers(rt: &(impl Abort + AllocGlobal), builder: &Builder, text: &[u8], line: &str) {
+    gives(rt, builder, LOCK_BESIDE, &mut holding(rt, text), line);
 }
 
+static TEXTS: [(&[u8], &str); 9] = [
+    (b"\xff", "error 7"),
+    (b"{\"version\":\"\xff\"}", "error 7"),
+    (b"{\"version\":1", "error 7"),
+    (b"[]", "error 8"),
+    (b"{}", "error 8"),
+    (b"{\"version\":\"1\"}", "error 8"),
+    (b"{\"version\":1}", "error 8"),
+    (b"{\"version\":2}", "error 9"),
+    (b"{\"version\":7}", "error 9"),
+];
+
 #[test]
-fn whole_texts(rt: HostRuntime) -> Result<(), Fail> {
+fn whole_texts(rt: HostRuntime) {
     let builder = WHOLE.builder();
     let bytes = TWO_NODES.as_bytes();
     for end in 0..bytes.len() {
-        let found = answer(rt.alloc(), &builder, &bytes[..end])?;
-        assert_eq!(rt; found.as_str(), "error 7", "{end}");
+        answers(&rt, &builder, &bytes[..end], "error 7");
     }
-    let table = [
-        (b"\xff".as_slice(), "error 7"),
-        (b"{\"version\":\"\xff\"}", "error 7"),
-        (b"{\"version\":1", "error 7"),
-        (b"[]", "error 8"),
-        (b"{}", "error 8"),
-        (b"{\"version\":\"1\"}", "error 8"),
-        (b"{\"version\":1}", "error 8"),
-        (b"{\"version\":2}", "error 9"),
-        (b"{\"version\":7}", "error 9"),
-    ];
-    for (text, line) in table {
-        let found = answer(rt.alloc(), &builder, text)?;
-        assert_eq!(rt; found.as_str(), line);
+    for (text, line) in &TEXTS {
+        answers(&rt, &builder, text, line);
     }
-    Ok(())
 }
 
 // The text of two nodes, in which the one part stands in place of the other.
-fn changed(alloc: Global, part: &str, other: &str) -> Result<String, Fail> {
-    let (before, behind) = TWO_NODES.split_once(part).ok_or("no such part")?;
-    Ok(format!(in alloc; "{before}{other}{behind}")?)
+fn changed(rt: &(impl Abort + AllocGlobal), part: &str, other: &str) -> String {
+    let (before, behind) = TWO_NODES.split_once(part).expect(rt, "no such part");
+    format!(in rt.alloc(); "{before}{other}{behind}").expect(rt, "no memory for the text")
 }
 
 // A part of the text of two nodes, what stands in its place, and the answer.
@@ -130,18 +126,14 @@ static CHANGES: [(&str, &str, &str); 22] = [
 ];
 
 #[test]
-fn changed_texts(rt: HostRuntime) -> Result<(), Fail> {
-    let builder = WHOLE.builder();
-    for (part, other, line) in &CHANGES {
-        let text = changed(rt.alloc(), part, other)?;
-        let found = answer(rt.alloc(), &builder, text.as_str().as_bytes())?;
-        assert_eq!(rt; found.as_str(), *line, "{other}");
-    }
+fn changed_texts(rt: HostRuntime) {
     let mut builder = WHOLE.builder();
+    for (part, other, line) in &CHANGES {
+        let text = changed(&rt, part, other);
+        answers(&rt, &builder, text.as_str().as_bytes(), line);
+    }
     builder.max_branches = 1;
-    let found = answer(rt.alloc(), &builder, TWO_NODES.as_bytes())?;
-    assert_eq!(rt; found.as_str(), "error 11");
-    Ok(())
+    answers(&rt, &builder, TWO_NODES.as_bytes(), "error 11");
 }
 
 // A schedule at which the one thread could go on.
@@ -153,10 +145,11 @@ const ONE_PENDING: &str =
     "{\"exploring\":true,\"first\":0,\"schedule\":[\"Active\",\"Pending\",\"Disabled\",\"Disabled\",\"Disabled\"]}";
 
 // The text of these nodes.
-fn text_of(alloc: Global, reduce: bool, nodes: &str) -> Result<String, AllocError> {
-    format!(in alloc;
+fn text_of(rt: &(impl Abort + AllocGlobal), reduce: bool, nodes: &str) -> String {
+    let text = format!(in rt.alloc();
         "{{\"exploring\":true,\"nodes\":[{nodes}],\"preemption_bound\":null,\"reduce\":{reduce},\"version\":1}}"
-    )
+    );
+    text.expect(rt, "no memory for the text")
 }
 
 // A check of the body that begins with the text answers this line.
@@ -166,27 +159,34 @@ fn finds(
     steps: &'static [Step],
     text: &str,
     line: &str,
-) -> Result<(), Fail> {
-    let mut store = holding(rt.alloc(), text.as_bytes())?;
-    let found = given(rt.alloc(), &settings.builder(), steps, &mut store)?;
-    assert_eq!(rt; found.as_str(), line);
-    Ok(())
+) {
+    let mut store = holding(rt, text.as_bytes());
+    gives(rt, &settings.builder(), steps, &mut store, line);
+}
+
+// The same, of a text of these nodes, which is of a check with these settings.
+fn meets(
+    rt: &(impl Abort + AllocGlobal),
+    settings: Settings,
+    steps: &'static [Step],
+    nodes: &str,
+    line: &str,
+) {
+    let text = text_of(rt, settings.reduce, nodes);
+    finds(rt, settings, steps, text.as_str(), line);
 }
 
 #[test]
-fn texts_of_other_bodies(rt: HostRuntime) -> Result<(), Fail> {
-    let alloc = rt.alloc();
-    finds(&rt, WHOLE, FINISH_ONLY, TWO_NODES, "failed 20 0")?;
-    let alone = text_of(alloc, false, ZERO_ALONE)?;
-    finds(&rt, WHOLE, LOCK_BESIDE, alone.as_str(), "failed 20 0")?;
+fn texts_of_other_bodies(rt: HostRuntime) {
+    finds(&rt, WHOLE, FINISH_ONLY, TWO_NODES, "failed 20 0");
+    meets(&rt, WHOLE, LOCK_BESIDE, ZERO_ALONE, "failed 20 0");
     let z = ZERO_ALONE;
-    let eight = format!(in alloc;
+    let eight = format!(in rt.alloc();
         "{z},{z},{z},{z},{z},{z},{z},{z},{{\"at\":0,\"exploring\":true,\"load\":[0,1]}}"
-    )?;
-    let eight = text_of(alloc, true, eight.as_str())?;
+    );
+    let eight = eight.expect(&rt, "no memory for the nodes");
     let line = "failed 20 0 t0 t0 t0 t0 t0 t0 t0 t0";
-    finds(&rt, DEFAULTS, STORE_SEVEN, eight.as_str(), line)?;
-    let pending = text_of(alloc, true, ONE_PENDING)?;
+    meets(&rt, DEFAULTS, STORE_SEVEN, eight.as_str(), line);
     let line = " t0 t1 t1 t-\n t1 t1 t0 t-\ncomplete 2";
-    finds(&rt, DEFAULTS, LOCK_BESIDE, pending.as_str(), line)
+    meets(&rt, DEFAULTS, LOCK_BESIDE, ONE_PENDING, line);
 }

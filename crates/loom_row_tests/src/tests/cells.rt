@@ -1,14 +1,12 @@
 //! Cells, counted references and tracked values: what their rows print and find.
+use super::lists::has_one_run;
+use super::litmus::each_run_gives;
 use super::replays::finds;
-use super::{NONE, ZERO, runs_of};
-use loom::{Choice, FailureKind};
+use super::{NONE, ZERO};
+use loom::FailureKind;
 use loom_objects::operation::{CellOp, Op, ThreadOp};
 use loom_row_bodies::bodies::cells::{ARC_COUNT, ARC_UNWRAP};
-use loom_scripts::number::Number;
-use loom_scripts::script::Script;
 use loom_scripts::step::{END, EXIT, Step, Value};
-use std::process::Abort;
-use std::test::Fail;
 
 /// Main exchanges the data of two cells, the second of which a thread writes.
 pub static SWAP_BESIDE_A_WRITE: [Step; 12] = [
@@ -42,38 +40,18 @@ pub static SWAP_WITH_ITSELF: [Step; 12] = [
     END,
 ];
 
-// The script has one run, with these choices, whose main finishes with 7.
-fn has_one_run(
-    rt: &(impl Abort + AllocGlobal),
-    steps: &'static [Step],
-    choices: &[Choice],
-) -> Result<(), Fail> {
-    let runs = runs_of(rt.alloc(), &Script::new(rt.alloc(), steps)?)?;
-    let [run] = runs.as_slice() else {
-        return Err(Fail::from("there is another number of runs"));
-    };
-    assert_eq!(rt; run.choices.as_slice(), choices);
-    assert_eq!(rt; run.value, Number(7));
-    Ok(())
+#[test]
+fn counting_has_branch_points(rt: HostRuntime) {
+    has_one_run(&rt, ARC_COUNT, &[ZERO, ZERO, ZERO, ZERO, NONE], 7);
+    has_one_run(&rt, ARC_UNWRAP, &[ZERO, ZERO, NONE], 7);
 }
 
 #[test]
-fn counting_has_branch_points(rt: HostRuntime) -> Result<(), Fail> {
-    has_one_run(&rt, ARC_COUNT, &[ZERO, ZERO, ZERO, ZERO, NONE])?;
-    has_one_run(&rt, ARC_UNWRAP, &[ZERO, ZERO, NONE])
+fn a_swap_writes_the_second_cell(rt: HostRuntime) {
+    finds(&rt, &SWAP_BESIDE_A_WRITE, FailureKind::Race);
 }
 
 #[test]
-fn a_swap_writes_the_second_cell(rt: HostRuntime) -> Result<(), Fail> {
-    finds(&rt, &SWAP_BESIDE_A_WRITE, FailureKind::Race)
-}
-
-#[test]
-fn a_cell_and_itself_are_not_written(rt: HostRuntime) -> Result<(), Fail> {
-    let runs = runs_of(rt.alloc(), &Script::new(rt.alloc(), &SWAP_WITH_ITSELF)?)?;
-    assert!(rt; !runs.is_empty());
-    for run in runs.as_slice() {
-        assert_eq!(rt; run.value, Number(8));
-    }
-    Ok(())
+fn a_cell_and_itself_are_not_written(rt: HostRuntime) {
+    each_run_gives(&rt, &SWAP_WITH_ITSELF, 8);
 }

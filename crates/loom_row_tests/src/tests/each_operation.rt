@@ -1,4 +1,5 @@
 //! Scripts that between them make every operation: with memory enough none fails for want of it.
+use super::script;
 use loom::model::{Builder, Report};
 use loom::sync::atomic::Ordering::{AcqRel, Release, SeqCst};
 use loom_objects::operation::{
@@ -8,12 +9,11 @@ use loom_objects::operation::{
 use loom_objects::rt::thread::Name;
 use loom_row_bodies::bodies::FAIL_AT_ONCE;
 use loom_row_bodies::bodies::locks::UNREACHABLE;
-use loom_scripts::script::Script;
 use loom_scripts::step::{END, EXIT, PARK, Step, Value, YIELD};
 use loom_views::rt::change::Change::{Add, And, Max, Min, Nand, Or, Sub, Swap, Xor};
 use loom_views::rt::num::Numbers;
 use std::process::Abort;
-use std::test::Fail;
+use std::rt::Files;
 
 const FINISH: Step = Step::Do(0, Op::Thread(ThreadOp::Finish(Value::Plain(7)), None));
 
@@ -219,28 +219,33 @@ static THREADS: [Step; 9] = [
     END,
 ];
 
+// What a check of the script reports.
+fn report_of(rt: &(impl Abort + AllocGlobal + Files), steps: &'static [Step]) -> Report {
+    let body = script(rt, steps);
+    let report = Builder::new().check(rt, rt.alloc(), &body);
+    report.expect(rt, "the check gives no report")
+}
+
+fn completes(rt: &(impl Abort + AllocGlobal + Files), steps: &'static [Step], name: &str) {
+    assert!(rt; report_of(rt, steps).is_complete(), "{name}");
+}
+
+fn fails(rt: &(impl Abort + AllocGlobal + Files), steps: &'static [Step]) {
+    let report = report_of(rt, steps);
+    assert!(rt; matches!(&report, Report::Failed { .. }));
+}
+
 #[test]
-fn each_operation_finds_memory(rt: HostRuntime) -> Result<(), Fail> {
-    let complete: [(&str, &'static [Step]); 9] = [
-        ("atomics", &ATOMICS),
-        ("cells", &CELLS),
-        ("counts", &COUNTS),
-        ("locks", &LOCKS),
-        ("waits", &WAITS),
-        ("channels", &CHANNELS),
-        ("wakers", &WAKERS),
-        ("values", &VALUES),
-        ("threads", &THREADS),
-    ];
-    for (name, steps) in complete {
-        let body = Script::new(rt.alloc(), steps)?;
-        let report = Builder::new().check(&rt, rt.alloc(), &body)?;
-        assert!(rt; matches!(report, Report::Complete { .. }), "{name}");
-    }
-    for steps in [FAIL_AT_ONCE, UNREACHABLE] {
-        let body = Script::new(rt.alloc(), steps)?;
-        let report = Builder::new().check(&rt, rt.alloc(), &body)?;
-        assert!(rt; matches!(report, Report::Failed { .. }));
-    }
-    Ok(())
+fn each_operation_finds_memory(rt: HostRuntime) {
+    completes(&rt, &ATOMICS, "atomics");
+    completes(&rt, &CELLS, "cells");
+    completes(&rt, &COUNTS, "counts");
+    completes(&rt, &LOCKS, "locks");
+    completes(&rt, &WAITS, "waits");
+    completes(&rt, &CHANNELS, "channels");
+    completes(&rt, &WAKERS, "wakers");
+    completes(&rt, &VALUES, "values");
+    completes(&rt, &THREADS, "threads");
+    fails(&rt, FAIL_AT_ONCE);
+    fails(&rt, UNREACHABLE);
 }

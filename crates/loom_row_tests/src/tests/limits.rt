@@ -1,7 +1,7 @@
 //! Misuse and limits: what the rows find.
 use super::NONE;
 use super::lists::has_one_run;
-use super::replays::{finds, finds_by};
+use super::replays::{finds, finds_by, replay_of};
 use loom::FailureKind;
 use loom::model::Replay;
 use loom_row_bodies::bodies::limits::{
@@ -9,35 +9,29 @@ use loom_row_bodies::bodies::limits::{
     TOO_MANY_FENCES, TOO_MANY_STORES,
 };
 use loom_row_bodies::rows::{LONG_RUNS, THREE_NODES};
-use loom_row_bodies::settings::Builds;
-use loom_scripts::script::Script;
-use std::test::Fail;
 
 #[test]
-fn as_many_fences_as_may_be(rt: HostRuntime) -> Result<(), Fail> {
-    has_one_run(&rt, &Script::new(rt.alloc(), FENCES)?, &[NONE], 7)?;
-    finds(&rt, TOO_MANY_FENCES, FailureKind::TooManyVersions)
+fn as_many_fences_as_may_be(rt: HostRuntime) {
+    has_one_run(&rt, FENCES, &[NONE], 7);
+    finds(&rt, TOO_MANY_FENCES, FailureKind::TooManyVersions);
 }
 
 #[test]
-fn as_many_stores_as_may_be(rt: HostRuntime) -> Result<(), Fail> {
-    let body = Script::new(rt.alloc(), MANY_STORES)?;
-    match LONG_RUNS.builder().replay(rt.alloc(), &body, &[])? {
-        Replay::Ended { .. } => Ok(()),
-        Replay::Failed { .. } => Err(Fail::from("the run failed")),
-    }
+fn as_many_stores_as_may_be(rt: HostRuntime) {
+    let replay = replay_of(&rt, LONG_RUNS, MANY_STORES, &[]);
+    assert!(rt; matches!(&replay, Replay::Ended { .. }));
 }
 
 #[test]
-fn one_store_more_replays(rt: HostRuntime) -> Result<(), Fail> {
-    finds_by(&rt, LONG_RUNS, TOO_MANY_STORES, FailureKind::TooManyStores)
+fn one_store_more_replays(rt: HostRuntime) {
+    finds_by(&rt, LONG_RUNS, TOO_MANY_STORES, FailureKind::TooManyStores);
 }
 
 #[test]
-fn misuse_replays(rt: HostRuntime) -> Result<(), Fail> {
-    finds(&rt, FINISH_TWICE, FailureKind::Misuse)?;
-    finds(&rt, EXIT_FIRST, FailureKind::Misuse)?;
-    finds(&rt, PUT_ABSENT, FailureKind::Misuse)?;
-    finds(&rt, GUARD_LEFT, FailureKind::Deadlock)?;
-    finds_by(&rt, THREE_NODES, SPIN_ALONE, FailureKind::TooManyBranches)
+fn misuse_replays(rt: HostRuntime) {
+    finds(&rt, FINISH_TWICE, FailureKind::Misuse);
+    finds(&rt, EXIT_FIRST, FailureKind::Misuse);
+    finds(&rt, PUT_ABSENT, FailureKind::Misuse);
+    finds(&rt, GUARD_LEFT, FailureKind::Deadlock);
+    finds_by(&rt, THREE_NODES, SPIN_ALONE, FailureKind::TooManyBranches);
 }

@@ -5,11 +5,9 @@ use loom_row_bodies::bodies::locks::TOO_MANY_LOCKS;
 use loom_row_bodies::rows::{self, Checked, DEFAULTS, LONG_RUNS, Row, WHOLE};
 use loom_row_bodies::settings::Settings;
 use loom_scripts::step::Step;
-use std::alloc::Global;
 use std::io::{self, ErrorKind, Write};
 use std::process::Abort;
 use std::rt::Files;
-use std::test::Fail;
 
 // Each row's line and status, but for those of runs as long as they may be.
 static LINES: [(&str, &str, u8); 98] = [
@@ -141,6 +139,10 @@ static LINES: [(&str, &str, u8); 98] = [
     ("guard_left", "failed 2 0 t0 t1 t-\n", 1),
 ];
 
+fn rows_of(rt: &(impl Abort + AllocGlobal)) -> Vec<Row> {
+    rows::all_rows(rt.alloc()).expect(rt, "no memory for the rows")
+}
+
 // Runs the row of this name, which answers this status and writes nothing on standard error. Gives what it prints.
 fn printed_by(
     rt: &(impl Abort + AllocGlobal + Files),
@@ -157,70 +159,64 @@ fn printed_by(
 }
 
 // The rows print these lines.
-fn print(rt: &(impl Abort + AllocGlobal + Files), lines: &[(&str, &str, u8)]) -> Result<(), Fail> {
-    let rows = rows::all_rows(rt.alloc())?;
-    let rows = rows.as_slice();
+fn print(rt: &(impl Abort + AllocGlobal + Files), lines: &[(&str, &str, u8)]) {
+    let rows = rows_of(rt);
     for (name, line, status) in lines {
-        let out = printed_by(rt, rows, name, *status);
+        let out = printed_by(rt, rows.as_slice(), name, *status);
         assert_eq!(rt; out.as_slice(), line.as_bytes(), "{name}");
     }
-    Ok(())
 }
 
 #[test]
-fn each_row_prints_its_line(rt: HostRuntime) -> Result<(), Fail> {
-    print(&rt, LINES.as_slice())
+fn each_row_prints_its_line(rt: HostRuntime) {
+    print(&rt, LINES.as_slice());
 }
 
 #[test]
-fn fences_are_counted(rt: HostRuntime) -> Result<(), Fail> {
+fn fences_are_counted(rt: HostRuntime) {
     let lines = [
         ("fences", "complete 1\n", 0),
         ("too_many_fences", "failed 10 0\n", 1),
     ];
-    print(&rt, lines.as_slice())
+    print(&rt, lines.as_slice());
+}
+
+// Puts the text so often behind the line.
+fn put(rt: &impl Abort, line: &mut Vec<u8>, text: &[u8], times: usize) {
+    for _ in 0..times {
+        line.extend_from_slice(text)
+            .expect(rt, "no memory for the line");
+    }
 }
 
 // A line that begins so, goes on with these choices of main and of the other thread, and ends.
-fn long_line(alloc: Global, begins: &[u8], main: usize, other: usize) -> Result<Vec<u8>, Fail> {
-    let mut line = Vec::new(alloc);
-    line.extend_from_slice(begins)?;
-    for _ in 0..main {
-        line.extend_from_slice(b" t0".as_slice())?;
-    }
-    for _ in 0..other {
-        line.extend_from_slice(b" t1".as_slice())?;
-    }
-    line.extend_from_slice(b"\n".as_slice())?;
-    Ok(line)
+fn long_line(rt: &(impl Abort + AllocGlobal), begins: &[u8], main: usize, other: usize) -> Vec<u8> {
+    let mut line = Vec::new(rt.alloc());
+    put(rt, &mut line, begins, 1);
+    put(rt, &mut line, b" t0".as_slice(), main);
+    put(rt, &mut line, b" t1".as_slice(), other);
+    put(rt, &mut line, b"\n".as_slice(), 1);
+    line
 }
 
 #[test]
-fn accesses_are_counted(rt: HostRuntime) -> Result<(), Fail> {
-    let line = long_line(rt.alloc(), b"failed 10 0".as_slice(), 65_535, 0)?;
-    let rows = rows::all_rows(rt.alloc())?;
-    let out = printed_by(&rt, rows.as_slice(), "too_many_locks", 1);
+fn accesses_are_counted(rt: HostRuntime) {
+    let line = long_line(&rt, b"failed 10 0".as_slice(), 65_535, 0);
+    let out = printed_by(&rt, rows_of(&rt).as_slice(), "too_many_locks", 1);
     assert!(rt; out == line);
     let settings = Settings {
         reduce: false,
         ..LONG_RUNS
     };
-    let mut out = Vec::new(rt.alloc());
-    let mut err = Vec::new(rt.alloc());
-    let row = row_of(TOO_MANY_LOCKS, settings);
-    let status = rows::check_row(&rt, &row, None, &mut out, &mut err)?;
-    assert_eq!(rt; status, 1);
+    let out = printed_of(&rt, &row_of(TOO_MANY_LOCKS, settings), "not reduced");
     assert!(rt; out == line);
-    Ok(())
 }
 
 #[test]
-fn stores_are_counted(rt: HostRuntime) -> Result<(), Fail> {
-    let line = long_line(rt.alloc(), b"failed 11 0".as_slice(), 40_000, 25_536)?;
-    let rows = rows::all_rows(rt.alloc())?;
-    let out = printed_by(&rt, rows.as_slice(), "too_many_stores", 1);
+fn stores_are_counted(rt: HostRuntime) {
+    let line = long_line(&rt, b"failed 11 0".as_slice(), 40_000, 25_536);
+    let out = printed_by(&rt, rows_of(&rt).as_slice(), "too_many_stores", 1);
     assert!(rt; out == line);
-    Ok(())
 }
 
 // A writer that takes nothing.
@@ -238,8 +234,8 @@ impl Write for Broken {
 }
 
 #[test]
-fn other_words_print_the_usage(rt: HostRuntime) -> Result<(), Fail> {
-    let rows = rows::all_rows(rt.alloc())?;
+fn other_words_print_the_usage(rt: HostRuntime) {
+    let rows = rows_of(&rt);
     let rows = rows.as_slice();
     let usage = b"usage: loom_rows NAME [FILE]\n".as_slice();
     let words = ["no_such_row", "lock_beside", "lock_beside"];
@@ -251,12 +247,11 @@ fn other_words_print_the_usage(rt: HostRuntime) -> Result<(), Fail> {
         assert!(rt; out.is_empty(), "{from} to {to}");
         assert_eq!(rt; err.as_slice(), usage, "{from} to {to}");
     }
-    Ok(())
 }
 
 #[test]
-fn a_writer_that_fails_gives_status_2(rt: HostRuntime) -> Result<(), Fail> {
-    let rows = rows::all_rows(rt.alloc())?;
+fn a_writer_that_fails_gives_status_2(rt: HostRuntime) {
+    let rows = rows_of(&rt);
     let rows = rows.as_slice();
     let mut taken = Vec::new(rt.alloc());
     let answer = rows::run_row(&rt, rows, &["lock_beside"], &mut Broken, &mut taken);
@@ -264,7 +259,6 @@ fn a_writer_that_fails_gives_status_2(rt: HostRuntime) -> Result<(), Fail> {
     let answer = rows::run_row(&rt, rows, &["no_such_row"], &mut taken, &mut Broken);
     assert_eq!(rt; answer, 2);
     assert!(rt; taken.is_empty());
-    Ok(())
 }
 
 // A row of a script, checked with these settings.
@@ -277,23 +271,18 @@ fn row_of(steps: &'static [Step], settings: Settings) -> Row {
 }
 
 // Checks lock_beside with these settings, and compares what is printed on standard error.
-fn refuses(
-    rt: &(impl Abort + AllocGlobal + Files),
-    settings: Settings,
-    line: &str,
-) -> Result<(), Fail> {
+fn refuses(rt: &(impl Abort + AllocGlobal + Files), settings: Settings, line: &str) {
     let row = row_of(LOCK_BESIDE, settings);
     let mut out = Vec::new(rt.alloc());
     let mut err = Vec::new(rt.alloc());
-    let status = rows::check_row(rt, &row, None, &mut out, &mut err)?;
+    let status = rows::check_row(rt, &row, None, &mut out, &mut err).expect(rt, line);
     assert_eq!(rt; status, 2, "{line}");
     assert!(rt; out.is_empty(), "{line}");
     assert_eq!(rt; err.as_slice(), line.as_bytes());
-    Ok(())
 }
 
 #[test]
-fn settings_out_of_range_are_refused(rt: HostRuntime) -> Result<(), Fail> {
+fn settings_out_of_range_are_refused(rt: HostRuntime) {
     for (max_threads, max_branches, line) in [
         (0, DEFAULTS.max_branches, "error 1\n"),
         (6, DEFAULTS.max_branches, "error 1\n"),
@@ -307,41 +296,51 @@ fn settings_out_of_range_are_refused(rt: HostRuntime) -> Result<(), Fail> {
             max_steps: 0,
             ..DEFAULTS
         };
-        refuses(&rt, settings, line)?;
+        refuses(&rt, settings, line);
     }
     let no_steps = Settings {
         max_steps: 0,
         ..DEFAULTS
     };
-    refuses(&rt, no_steps, "error 5\n")?;
+    refuses(&rt, no_steps, "error 5\n");
     let large_bound = Settings {
         preemption_bound: Some(256),
         ..no_steps
     };
-    refuses(&rt, large_bound, "error 3\n")
+    refuses(&rt, large_bound, "error 3\n");
 }
 
-// Checks the row, and compares the line that is printed of a failure.
-fn fails(rt: &(impl Abort + AllocGlobal + Files), row: Row, line: &str) -> Result<(), Fail> {
+// Checks the row, which fails. Gives what is printed.
+fn printed_of(rt: &(impl Abort + AllocGlobal + Files), row: &Row, name: &str) -> Vec<u8> {
     let mut out = Vec::new(rt.alloc());
     let mut err = Vec::new(rt.alloc());
-    let status = rows::check_row(rt, &row, None, &mut out, &mut err)?;
-    assert_eq!(rt; status, 1, "{line}");
+    let status = rows::check_row(rt, row, None, &mut out, &mut err).expect(rt, name);
+    assert_eq!(rt; status, 1, "{name}");
+    out
+}
+
+// Checks a script, and compares the line that is printed of a failure.
+fn fails(
+    rt: &(impl Abort + AllocGlobal + Files),
+    steps: &'static [Step],
+    settings: Settings,
+    line: &str,
+) {
+    let out = printed_of(rt, &row_of(steps, settings), line);
     assert_eq!(rt; out.as_slice(), line.as_bytes());
-    Ok(())
 }
 
 #[test]
-fn limits_fail_a_run(rt: HostRuntime) -> Result<(), Fail> {
+fn limits_fail_a_run(rt: HostRuntime) {
     let short = Settings {
         max_branches: 3,
         ..WHOLE
     };
-    fails(&rt, row_of(LOCK_BESIDE, short), "failed 9 0 t0 t1 t1\n")?;
-    fails(&rt, row_of(&FIVE_SPAWNS, DEFAULTS), "failed 8 0\n")
+    fails(&rt, LOCK_BESIDE, short, "failed 9 0 t0 t1 t1\n");
+    fails(&rt, &FIVE_SPAWNS, DEFAULTS, "failed 8 0\n");
 }
 
 #[test]
-fn a_thread_is_joined_once(rt: HostRuntime) -> Result<(), Fail> {
-    fails(&rt, row_of(&JOIN_TWICE, DEFAULTS), "failed 14 0 t1 t1 t0\n")
+fn a_thread_is_joined_once(rt: HostRuntime) {
+    fails(&rt, &JOIN_TWICE, DEFAULTS, "failed 14 0 t1 t1 t0\n");
 }

@@ -1,19 +1,16 @@
 //! Small bodies with the runs of their searches, each of which tells a search from one that is a little wrong.
-use super::{Keeper, Run};
+use super::{Run, check_of, script};
 use loom::sync::atomic::Ordering::Relaxed;
-use loom::{MemoryStore, NoClock};
 use loom_objects::operation::{ArcOp, AtomicOp, MutexOp, Op, ThreadOp};
 use loom_row_bodies::bodies::atomics::{ACQ_REL, THREE_ADDS};
 use loom_row_bodies::bodies::{LOAD_BESIDE, LOCK_BESIDE, TWO_MUTEXES_DEADLOCK};
 use loom_row_bodies::line::ShownChoices;
 use loom_row_bodies::rows::DEFAULTS;
-use loom_row_bodies::settings::{Builds, Settings};
+use loom_row_bodies::settings::Settings;
 use loom_scripts::number::Number;
-use loom_scripts::script::Script;
 use loom_scripts::step::{END, EXIT, PARK, Step, Value, YIELD};
 use loom_views::rt::num::Numbers;
 use std::process::Abort;
-use std::test::Fail;
 
 const NEW: Step = Step::Do(0, Op::Atomic(AtomicOp::New(Numbers::U64, 0), None));
 
@@ -371,82 +368,80 @@ static CASES: [Case; 35] = [
 ];
 
 /// The runs that end.
-pub fn ended<R: Abort + AllocGlobal>(
-    rt: &R,
+pub fn ended(
+    rt: &(impl Abort + AllocGlobal),
     steps: &'static [Step],
     reduce: bool,
     bound: Option<usize>,
-) -> Result<Vec<Run>, Fail> {
-    let alloc = rt.alloc();
+) -> Vec<Run> {
     let settings = Settings {
         reduce,
         preemption_bound: bound,
         ..DEFAULTS
     };
-    let mut keeper = Keeper {
-        alloc,
-        runs: Vec::new(alloc),
-    };
-    let body = Script::new(alloc, steps)?;
-    let builder = settings.builder();
-    let mut store = None::<MemoryStore>;
-    let log = None::<HostRuntime>;
-    builder.check_with(alloc, &body, &mut keeper, &mut NoClock, &mut store, &log)?;
-    Ok(keeper.runs)
+    check_of(rt, settings, &script(rt, steps)).runs
+}
+
+// The choices of the run are these.
+fn is_list(rt: &(impl Abort + AllocGlobal), run: &Run, list: &str, name: &str) {
+    let shown = ShownChoices(run.choices.as_slice());
+    let shown = format!(in rt.alloc(); "{shown}").expect(rt, name);
+    let found = shown.as_str().strip_prefix(" ");
+    assert_eq!(rt; found, Some(list), "{name}");
 }
 
 // The runs begin with these.
-fn begin_with<R: Abort + AllocGlobal>(
-    rt: &R,
-    runs: &Vec<Run>,
-    lists: &[&str],
-    name: &str,
-) -> Result<(), Fail> {
+fn begin_with(rt: &(impl Abort + AllocGlobal), runs: &[Run], lists: &[&str], name: &str) {
     assert!(rt; lists.len() <= runs.len(), "{name}");
     for (run, list) in runs.iter().zip(lists) {
-        let shown = ShownChoices(run.choices.as_slice());
-        let shown = format!(in rt.alloc(); "{shown}")?;
-        let wanted = format!(in rt.alloc(); " {list}")?;
-        assert_eq!(rt; shown.as_str(), wanted.as_str(), "{name}");
+        is_list(rt, run, list, name);
     }
-    Ok(())
+}
+
+// So many runs end, the first of which are these.
+fn makes(rt: &(impl Abort + AllocGlobal), case: &Case) {
+    let name = case.name;
+    let runs = ended(rt, case.steps, case.reduce, case.bound);
+    assert_eq!(rt; runs.len(), case.runs, "{name}");
+    begin_with(rt, runs.as_slice(), case.lists, name);
 }
 
 #[test]
-fn searches_make_these_runs(rt: HostRuntime) -> Result<(), Fail> {
+fn searches_make_these_runs(rt: HostRuntime) {
     for case in &CASES {
-        let (name, bound) = (case.name, case.bound);
-        let runs = ended(&rt, case.steps, case.reduce, bound)?;
-        assert_eq!(rt; runs.len(), case.runs, "{name}");
-        begin_with(&rt, &runs, case.lists, name)?;
+        makes(&rt, case);
     }
-    Ok(())
 }
 
-#[test]
-fn a_deadlock_comes_after_three_runs(rt: HostRuntime) -> Result<(), Fail> {
-    let runs = ended(&rt, TWO_MUTEXES_DEADLOCK, true, None)?;
-    let lists = [
+static CROSSWISE: Case = Case {
+    name: "crosswise",
+    steps: TWO_MUTEXES_DEADLOCK,
+    reduce: true,
+    bound: None,
+    runs: 3,
+    lists: &[
         "t1 t1 t1 t1 t0 t2 t2 t2 t2 t0 t-",
         "t1 t1 t1 t2 t2 t2 t2 t1 t0 t0 t-",
         "t1 t1 t1 t2 t2 t2 t1 t0 t2 t0 t-",
-    ];
-    assert_eq!(rt; runs.len(), lists.len());
-    begin_with(&rt, &runs, lists.as_slice(), "crosswise")
+    ],
+};
+
+#[test]
+fn a_deadlock_comes_after_three_runs(rt: HostRuntime) {
+    makes(&rt, &CROSSWISE);
 }
 
 // How many runs there are by each bound, where the search is reduced and where it isn't.
 #[test]
-fn bounds_leave_few_runs(rt: HostRuntime) -> Result<(), Fail> {
+fn bounds_leave_few_runs(rt: HostRuntime) {
     for (reduce, bound, runs) in [
         (false, 1usize, 16usize),
         (false, 2, 84),
         (true, 1, 12),
         (true, 2, 68),
     ] {
-        assert_eq!(rt; ended(&rt, THREE_ADDS, reduce, Some(bound))?.len(), runs);
+        assert_eq!(rt; ended(&rt, THREE_ADDS, reduce, Some(bound)).len(), runs);
     }
-    Ok(())
 }
 
 // What the two threads that wait have found, added up.
@@ -456,12 +451,11 @@ fn sum_of(run: &Run) -> u64 {
 }
 
 #[test]
-fn both_flags_may_be_seen(rt: HostRuntime) -> Result<(), Fail> {
-    let runs = ended(&rt, ACQ_REL, true, Some(1))?;
+fn both_flags_may_be_seen(rt: HostRuntime) {
+    let runs = ended(&rt, ACQ_REL, true, Some(1));
     assert_eq!(rt; runs.len(), 412);
     for sum in 0..3u64 {
         assert!(rt; runs.iter().any(|run| sum_of(run) == sum), "{sum}");
     }
     assert!(rt; runs.iter().all(|run| sum_of(run) <= 2));
-    Ok(())
 }

@@ -1,15 +1,14 @@
 //! Runs as large as they may be: five threads, three guards of one thread, a path of 1,000 nodes.
-use super::{NONE, ZERO, runs_of};
+use super::lists::has_one_run;
+use super::replays::ends_again;
+use super::{NONE, Run, ZERO, runs_of, script};
 use loom::Choice;
-use loom::model::{Builder, Replay};
 use loom::sync::atomic::Ordering::Relaxed;
 use loom_objects::operation::{AtomicOp, NotifyOp, Op, RwLockOp, ThreadOp};
 use loom_scripts::number::Number;
-use loom_scripts::script::Script;
 use loom_scripts::step::{END, EXIT, Step, Value};
 use loom_views::rt::change::Change::Add;
 use loom_views::rt::num::Numbers;
-use std::test::Fail;
 
 const FINISH: Step = Step::Do(0, Op::Thread(ThreadOp::Finish(Value::Plain(7)), None));
 
@@ -68,45 +67,33 @@ static THOUSAND_NODES: [Step; 9] = [
     END,
 ];
 
+// How often the last of five threads is chosen.
+fn chooses_last(run: &Run) -> usize {
+    let last = Choice::Thread(Some(4));
+    run.choices.iter().filter(|choice| **choice == last).count()
+}
+
 // The last thread is chosen twice, the ends and joins of the others take six choices in one order: 28 ways to join these.
 #[test]
-fn five_threads_stand_beside_one_another(rt: HostRuntime) -> Result<(), Fail> {
-    let runs = runs_of(rt.alloc(), &Script::new(rt.alloc(), &FIVE_THREADS)?)?;
+fn five_threads_stand_beside_one_another(rt: HostRuntime) {
+    let runs = runs_of(&rt, &FIVE_THREADS);
     assert_eq!(rt; runs.len(), 28);
-    let last = Choice::Thread(Some(4));
-    for run in runs.as_slice() {
-        let chosen = run.choices.iter().filter(|choice| **choice == last);
-        assert_eq!(rt; chosen.count(), 2);
-    }
-    Ok(())
+    assert!(rt; runs.iter().all(|run| chooses_last(run) == 2));
 }
 
 #[test]
-fn a_thread_reads_three_times_at_once(rt: HostRuntime) -> Result<(), Fail> {
-    let runs = runs_of(rt.alloc(), &Script::new(rt.alloc(), &READ_THREE_TIMES)?)?;
-    let [run] = runs.as_slice() else {
-        return Err(Fail::from("there is another number of runs"));
-    };
-    assert_eq!(rt; run.choices.as_slice(), [ZERO, ZERO, ZERO, NONE].as_slice());
-    assert_eq!(rt; run.value, Number(1));
-    Ok(())
+fn a_thread_reads_three_times_at_once(rt: HostRuntime) {
+    has_one_run(&rt, &READ_THREE_TIMES, &[ZERO, ZERO, ZERO, NONE], 1);
 }
 
 #[test]
-fn a_thousand_nodes_are_followed(rt: HostRuntime) -> Result<(), Fail> {
-    let body = Script::new(rt.alloc(), &THOUSAND_NODES)?;
-    let runs = runs_of(rt.alloc(), &body)?;
+fn a_thousand_nodes_are_followed(rt: HostRuntime) {
+    let body = script(&rt, &THOUSAND_NODES);
+    let runs = runs_of(&rt, &THOUSAND_NODES);
     assert_eq!(rt; runs.len(), 2);
     for run in runs.as_slice() {
         assert_eq!(rt; run.choices.len(), 1000);
         assert_eq!(rt; run.value, Number(497));
-        match Builder::new().replay(rt.alloc(), &body, run.choices.as_slice())? {
-            Replay::Ended { choices, value } => {
-                assert_eq!(rt; choices.as_slice(), run.choices.as_slice());
-                assert_eq!(rt; value, run.value);
-            }
-            Replay::Failed { .. } => return Err(Fail::from("the run failed")),
-        }
+        ends_again(&rt, &body, run);
     }
-    Ok(())
 }
