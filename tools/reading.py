@@ -36,7 +36,7 @@ OPERATIONS = re.compile(r"^(?!Op$)\w+Op$|^Exchange$|^Change$|^Numbers$")
 # how the code keeps the nodes of a path and the state of a run
 LAYOUT = {"Execution", "Load", "Node", "Path", "RunState", "Schedule", "Spurious", "Views"}
 
-IMPORT = re.compile(r"^\s*use Rattle\.(\w+)\.specs\.([\w.]+)", re.M)
+IMPORT = re.compile(r"^\s*(?:unfoldable )?(?:pub )?use Rattle\.(\w+)\.specs\.([\w.]+)", re.M)
 DECLARATION = r"^(?:pub )?(?:enum|struct|trait|type) {name}\b"
 
 
