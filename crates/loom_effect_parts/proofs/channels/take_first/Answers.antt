@@ -15,3 +15,6 @@ returns-in-None g c =
     let same : c.take.new.self ≡ channel = search rules in
     let stays : slice_set c.args.scene.now.objects c.args.number (object.Channel c.take.new.self) ≡ c.args.scene.now.objects = rw same (kept c.args.scene.now.objects c.args.number channel at) in
     keeps (takes_first c.args.number) c.args.scene.now _ None refl (λ p left. search rules)
+
+pub returns-after-is_waited_for : goal.returns-after-is_waited_for
+returns-after-is_waited_for g c = search rules

@@ -14,3 +14,6 @@ returns g c = elim c.if-is_unread.branch [
   | else-is_unread w ↦
       gives (read_release c.args.number) _ _ _ c.release.new.self.views (λ p. points_after_release p c.args.scene.now.active c.args.number Release) (ap (λ (s : Stage g.row.D.Denot). s.views) w.scene-is) c.release.ensures.views (λ p left. search rules)
 ]
+
+pub returns-in_err-is_unread : goal.returns-in_err-is_unread
+returns-in_err-is_unread g c = search rules
