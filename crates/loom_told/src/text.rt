@@ -3,6 +3,7 @@ mod answers;
 mod calls;
 mod layout;
 mod lines;
+mod manners;
 mod names;
 mod objects;
 mod page;

@@ -1,4 +1,5 @@
 //! Operations as written in code.
+use crate::text::manners::{self, Deed, Manner};
 use crate::text::names::{Value, order_name};
 use crate::text::objects::Kind;
 use crate::text::page::Page;
@@ -7,33 +8,19 @@ use loom_objects::operation::{
     ArcOp, AtomicOp, AtomicWakerOp, CellOp, ChannelOp, CondvarOp, ExploreOp, LazyOp, LocalOp,
     MutexOp, NotifyOp, Op, RwLockOp, ThreadOp, TrackOp, WakerOp,
 };
+use loom_objects::rt::thread::Name;
 use loom_views::rt::change::Change;
 use loom_views::rt::num::Numbers;
 use std::sync::atomic::Ordering;
 
-/// What is asked of who uses a counted reference.
-const REFERENCE: &str = "a reference is to be left, and the value is to be in";
-
 /// What is asked of who uses a lock.
 const DATA_IN: &str = "its data isn't to be out, by `get_mut`";
 
-/// What is asked of who gives data back.
-const DATA_OUT: &str = "the thread is to have the data out, by `get_mut`";
+/// What is asked of who uses a waker.
+const A_WAKER: &str = "a waker is to be left";
 
-/// What is asked of who takes data out of a lock, or takes it apart.
-const FREE: &str = "nobody is to hold it, or have its data out";
-
-/// What is asked of who reads on, or ends a read.
-const READ_OPEN: &str = "the thread is to have a read open";
-
-/// What is asked of who receives.
-const RECEIVER: &str = "the receiver is to be left";
-
-/// What is asked of a thread's last operations.
-const IN_ORDER: &str = "`finish`, `exit` and `end` come once each, in this order";
-
-/// What is done at a wait.
-const NOTIFICATION: &str = "waits for a notification of";
+/// The number of an object, how a call on it is written, and its manner.
+type Words = (usize, &'static str, &'static Manner);
 
 /// An argument of a call.
 #[derive(Clone, Copy)]
@@ -53,30 +40,6 @@ pub(crate) enum Subject {
     Lazy(usize),
     /// A thread, which stands after the words.
     Thread(u8),
-}
-
-/// What an operation does to its object, as far as it is kept.
-#[derive(Clone, Copy)]
-pub(crate) enum Deed {
-    Nothing,
-    /// The thread has it from now on, where the reply gives its data.
-    Takes,
-    /// The thread has it no more.
-    Gives,
-    /// One reference or waker more.
-    Clones,
-    /// One waker more of this future.
-    ClonesWaker(usize),
-    /// One reference or waker fewer.
-    Drops,
-    /// A message more, if it was sent.
-    Sends,
-    /// A message or a reference fewer, where the reply gives it.
-    Receives,
-    /// No message is left.
-    Empties,
-    /// It is no more.
-    TakesApart,
 }
 
 /// An operation: as it is written in code, `#0.store(1, Relaxed)`, what it does, what it waits for, and what it asks.
@@ -141,59 +104,30 @@ impl Page {
 }
 
 impl Call {
-    fn of(subject: Subject, words: &'static str) -> Call {
+    fn of(subject: Subject, words: &'static str, manner: &Manner) -> Call {
         Call {
             subject,
             words,
             arguments: Arguments(Argument::Nothing, Argument::Nothing),
             name: None,
             kind: None,
-            deed: Deed::Nothing,
-            waits: None,
-            passes: "goes on",
-            asks: "",
+            deed: manner.deed,
+            waits: manner.waits,
+            passes: manner.passes,
+            asks: manner.asks,
         }
     }
 
     fn plain(words: &'static str) -> Call {
-        Call::of(Subject::Nothing, words)
+        Call::of(Subject::Nothing, words, &manners::PLAIN)
     }
 
-    fn on(number: usize, words: &'static str) -> Call {
-        Call::of(Subject::Object(number), words)
+    fn on(number: usize, words: &'static str, manner: &Manner) -> Call {
+        Call::of(Subject::Object(number), words, manner)
     }
 
-    fn with(mut self, first: Argument, second: Argument) -> Call {
-        self.arguments = Arguments(first, second);
-        self
-    }
-
-    fn with_object(self, number: usize) -> Call {
-        self.with(Argument::Object(number), Argument::Nothing)
-    }
-
-    fn called(mut self, name: Option<&'static str>) -> Call {
-        self.name = name;
-        self
-    }
-
-    fn does(mut self, deed: Deed) -> Call {
-        self.deed = deed;
-        self
-    }
-
-    fn waits(mut self, words: &'static str) -> Call {
-        self.waits = Some(words);
-        self
-    }
-
-    fn passes(mut self, words: &'static str) -> Call {
-        self.passes = words;
-        self
-    }
-
-    fn asks(mut self, words: &'static str) -> Call {
-        self.asks = words;
+    fn with(mut self, arguments: Arguments) -> Call {
+        self.arguments = arguments;
         self
     }
 
@@ -225,28 +159,60 @@ impl Call {
 
 /// The operation as written in code, with what it does, waits for and asks.
 pub(crate) fn call_of(op: &Op<(), ()>, world: &World) -> Call {
+    let call = call_in(op, world);
+    match kind_of(op) {
+        Some((kind, asks)) => call.of_kind(kind, asks),
+        None => call,
+    }
+}
+
+/// Of which kind the operation's object is to be, and what is asked where nothing else is.
+fn kind_of(op: &Op<(), ()>) -> Option<(Kind, &'static str)> {
+    let kind = match op {
+        Op::Atomic(..) => (Kind::Atomic(Numbers::U64), "the atomic is to be there"),
+        Op::Cell(..) => (Kind::Cell, "the cell is to be there, with its data"),
+        Op::Arc(..) => (
+            Kind::Arc,
+            "a reference is to be left, and the value is to be in",
+        ),
+        Op::Track(..) => (Kind::Track, "the value is to be in"),
+        Op::Mutex(..) => (Kind::Mutex, DATA_IN),
+        Op::RwLock(..) => (Kind::RwLock, DATA_IN),
+        Op::Condvar(..) => (Kind::Condvar, "it is to be there"),
+        Op::Notify(..) => (Kind::Notifier, "it is to be the body's own"),
+        Op::Channel(..) => (Kind::Channel, "a sender is to be left"),
+        Op::Waker(..) => (Kind::Wakers, A_WAKER),
+        Op::AtomicWaker(..) => (Kind::Place, A_WAKER),
+        Op::Fence(..)
+        | Op::Local(..)
+        | Op::Lazy(..)
+        | Op::Explore(..)
+        | Op::Thread(..)
+        | Op::Fail(_)
+        | Op::Unreachable(_) => return None,
+    };
+    Some(kind)
+}
+
+/// The operation as written in code, whatever its object is to be.
+fn call_in(op: &Op<(), ()>, world: &World) -> Call {
     match op {
-        Op::Atomic(op, _) => {
-            atomic_call(*op, world).of_kind(Kind::Atomic(Numbers::U64), "the atomic is to be there")
-        }
-        Op::Fence(order, _) => Call::plain("fence").with(
+        Op::Atomic(op, _) => atomic_call(*op, world),
+        Op::Fence(order, _) => Call::plain("fence").with(Arguments(
             Argument::Order(*order),
             Argument::Nothing,
-        ),
-        Op::Cell(op, _) => cell_call(op).of_kind(
-            Kind::Cell,
-            "the cell is to be there, with its data",
-        ),
-        Op::Arc(op, _) => arc_call(op).of_kind(Kind::Arc, REFERENCE),
-        Op::Track(op, _) => track_call(op).of_kind(Kind::Track, "the value is to be in"),
-        Op::Mutex(op, _) => mutex_call(op).of_kind(Kind::Mutex, DATA_IN),
-        Op::RwLock(op, _) => rwlock_call(op).of_kind(Kind::RwLock, DATA_IN),
-        Op::Condvar(op, _) => condvar_call(op).of_kind(Kind::Condvar, "it is to be there"),
-        Op::Notify(op, _) => notify_call(*op).of_kind(Kind::Notifier, "it is to be the body's own"),
-        Op::Channel(op, _) => channel_call(op).of_kind(Kind::Channel, "a sender is to be left"),
-        Op::Waker(op, _) => waker_call(*op).of_kind(Kind::Wakers, "a waker is to be left"),
-        Op::AtomicWaker(op, _) => place_call(*op).of_kind(Kind::Place, "a waker is to be left"),
-        Op::Local(op, _) => local_call(op).asks("the thread is to have a value of this key"),
+        )),
+        Op::Cell(op, _) => cell_call(op),
+        Op::Arc(op, _) => arc_call(op),
+        Op::Track(op, _) => track_call(op),
+        Op::Mutex(op, _) => mutex_call(op),
+        Op::RwLock(op, _) => rwlock_call(op),
+        Op::Condvar(op, _) => condvar_call(op),
+        Op::Notify(op, _) => notify_call(*op),
+        Op::Channel(op, _) => channel_call(op),
+        Op::Waker(op, _) => waker_call(*op),
+        Op::AtomicWaker(op, _) => place_call(*op),
+        Op::Local(op, _) => local_call(op),
         Op::Lazy(op, _) => lazy_call(op),
         Op::Explore(ExploreOp::Explore, _) => Call::plain("explore()"),
         Op::Explore(ExploreOp::StopExploring, _) => Call::plain("stop_exploring()"),
@@ -286,235 +252,241 @@ fn change_words(change: Change) -> (&'static str, u64) {
     }
 }
 
+/// A value of the atomic, as an argument.
+fn value_of(world: &World, atomic: usize, bits: u64) -> Argument {
+    Argument::Value(world.value(atomic, bits))
+}
+
 fn atomic_call(op: AtomicOp, world: &World) -> Call {
-    let nothing = Argument::Nothing;
     match op {
-        AtomicOp::New(numbers, bits) => {
-            Call::plain(new_atomic(numbers)).with(Argument::Value(Value { numbers, bits }), nothing)
-        }
+        AtomicOp::New(numbers, bits) => new_atomic_call(numbers, bits),
         AtomicOp::Load(atomic, order) => {
-            Call::on(atomic, ".load").with(Argument::Order(order), nothing)
+            access_call(atomic, ".load", Argument::Order(order), Argument::Nothing)
         }
-        AtomicOp::Store(atomic, bits, order) => Call::on(atomic, ".store").with(
-            Argument::Value(world.value(atomic, bits)),
-            Argument::Order(order),
-        ),
+        AtomicOp::Store(atomic, bits, order) => {
+            let value = value_of(world, atomic, bits);
+            access_call(atomic, ".store", value, Argument::Order(order))
+        }
         AtomicOp::Update(atomic, change, order) => {
             let (words, bits) = change_words(change);
-            Call::on(atomic, words).with(
-                Argument::Value(world.value(atomic, bits)),
-                Argument::Order(order),
-            )
+            let value = value_of(world, atomic, bits);
+            access_call(atomic, words, value, Argument::Order(order))
         }
-        AtomicOp::CompareExchange(atomic, exchange) => Call::on(atomic, ".compare_exchange").with(
-            Argument::Value(world.value(atomic, exchange.expected)),
-            Argument::Value(world.value(atomic, exchange.new)),
-        ),
+        AtomicOp::CompareExchange(atomic, exchange) => {
+            let expected = value_of(world, atomic, exchange.expected);
+            let new = value_of(world, atomic, exchange.new);
+            access_call(atomic, ".compare_exchange", expected, new)
+        }
         AtomicOp::CompareAndSwap(atomic, expected, new, _) => {
-            Call::on(atomic, ".compare_and_swap").with(
-                Argument::Value(world.value(atomic, expected)),
-                Argument::Value(world.value(atomic, new)),
-            )
+            let expected = value_of(world, atomic, expected);
+            let new = value_of(world, atomic, new);
+            access_call(atomic, ".compare_and_swap", expected, new)
         }
-        AtomicOp::UnsyncLoad(atomic) => Call::on(atomic, ".unsync_load()"),
-        AtomicOp::IntoInner(atomic) => Call::on(atomic, ".into_inner()").does(Deed::TakesApart),
-        AtomicOp::WithMut(atomic) => Call::on(atomic, ".with_mut()").does(Deed::Takes),
-        AtomicOp::WithMutEnd(atomic, bits) => Call::on(atomic, " ends with ")
-            .with(Argument::Value(world.value(atomic, bits)), nothing)
-            .does(Deed::Gives)
-            .asks("a mutation is ended by the thread that opened it"),
+        AtomicOp::UnsyncLoad(atomic) => Call::on(atomic, ".unsync_load()", &manners::PLAIN),
+        AtomicOp::IntoInner(atomic) => Call::on(atomic, ".into_inner()", &manners::TAKES_APART),
+        AtomicOp::WithMut(atomic) => Call::on(atomic, ".with_mut()", &manners::TAKES),
+        AtomicOp::WithMutEnd(atomic, bits) => {
+            let arguments = Arguments(value_of(world, atomic, bits), Argument::Nothing);
+            Call::on(atomic, " ends with ", &manners::ENDS_MUTATION).with(arguments)
+        }
     }
+}
+
+/// An access to an atomic, of which nothing is kept.
+fn access_call(atomic: usize, words: &'static str, first: Argument, second: Argument) -> Call {
+    Call::on(atomic, words, &manners::PLAIN).with(Arguments(first, second))
+}
+
+fn new_atomic_call(numbers: Numbers, bits: u64) -> Call {
+    let value = Argument::Value(Value { numbers, bits });
+    Call::plain(new_atomic(numbers)).with(Arguments(value, Argument::Nothing))
 }
 
 fn cell_call(op: &CellOp<()>) -> Call {
-    match op {
-        CellOp::New(_) => Call::plain("UnsafeCell::new"),
-        CellOp::Read(cell) => Call::on(*cell, ".get()"),
-        CellOp::ReadEnd(cell) => Call::on(*cell, " ends").does(Deed::Gives).asks(READ_OPEN),
-        CellOp::WriteEnd(cell, _) => {
-            Call::on(*cell, " ends")
-                .does(Deed::Gives)
-                .asks("the thread is to have a write open")
-        }
-        CellOp::Deref(cell) => Call::on(*cell, ".deref()").asks(READ_OPEN),
-        CellOp::Write(cell) => Call::on(*cell, ".get_mut()"),
-        CellOp::IntoInner(cell) => Call::on(*cell, ".into_inner()").does(Deed::TakesApart),
-        CellOp::Get(cell) => Call::on(*cell, ".get()"),
-        CellOp::Replace(cell, _) => Call::on(*cell, ".replace()"),
-        CellOp::Swap(cell, other) => Call::on(*cell, ".swap").with_object(*other),
-    }
+    let (cell, words, manner): Words = match op {
+        CellOp::New(_) => return Call::plain("UnsafeCell::new"),
+        CellOp::Swap(cell, other) => return on_two(*cell, ".swap", *other, &manners::PLAIN),
+        CellOp::Read(cell) => (*cell, ".get()", &manners::PLAIN),
+        CellOp::ReadEnd(cell) => (*cell, " ends", &manners::ENDS_READ),
+        CellOp::WriteEnd(cell, _) => (*cell, " ends", &manners::ENDS_WRITE),
+        CellOp::Deref(cell) => (*cell, ".deref()", &manners::READS_ON),
+        CellOp::Write(cell) => (*cell, ".get_mut()", &manners::PLAIN),
+        CellOp::IntoInner(cell) => (*cell, ".into_inner()", &manners::TAKES_APART),
+        CellOp::Get(cell) => (*cell, ".get()", &manners::PLAIN),
+        CellOp::Replace(cell, _) => (*cell, ".replace()", &manners::PLAIN),
+    };
+    Call::on(cell, words, manner)
+}
+
+/// A call on an object that has another object in its parentheses.
+fn on_two(number: usize, words: &'static str, other: usize, manner: &Manner) -> Call {
+    Call::on(number, words, manner).with(Arguments(Argument::Object(other), Argument::Nothing))
 }
 
 fn arc_call(op: &ArcOp<()>) -> Call {
-    match op {
-        ArcOp::New(_) => Call::plain("Arc::new"),
-        ArcOp::Clone(arc) => Call::on(*arc, ".clone()").does(Deed::Clones),
-        ArcOp::Drop(arc) => Call::on(*arc, ".drop()").does(Deed::Drops),
-        ArcOp::Get(arc) => Call::on(*arc, ".get()"),
-        ArcOp::GetMut(arc) => Call::on(*arc, ".get_mut()").does(Deed::Takes),
-        ArcOp::Put(arc, _) => Call::on(*arc, ".put()").does(Deed::Gives).asks(DATA_OUT),
-        ArcOp::TryUnwrap(arc) => Call::on(*arc, ".try_unwrap()")
-            .does(Deed::Receives)
-            .passes("has the one reference"),
-        ArcOp::StrongCount(arc) => Call::on(*arc, ".strong_count()"),
-    }
+    let (arc, words, manner): Words = match op {
+        ArcOp::New(_) => return Call::plain("Arc::new"),
+        ArcOp::Clone(arc) => (*arc, ".clone()", &manners::CLONES),
+        ArcOp::Drop(arc) => (*arc, ".drop()", &manners::DROPS),
+        ArcOp::Get(arc) => (*arc, ".get()", &manners::PLAIN),
+        ArcOp::GetMut(arc) => (*arc, ".get_mut()", &manners::TAKES),
+        ArcOp::Put(arc, _) => (*arc, ".put()", &manners::GIVES_BACK),
+        ArcOp::TryUnwrap(arc) => (*arc, ".try_unwrap()", &manners::UNWRAPS),
+        ArcOp::StrongCount(arc) => (*arc, ".strong_count()", &manners::PLAIN),
+    };
+    Call::on(arc, words, manner)
 }
 
 fn track_call(op: &TrackOp<()>) -> Call {
-    match op {
-        TrackOp::New(_) => Call::plain("Track::new"),
-        TrackOp::GetRef(track) => Call::on(*track, ".get_ref()"),
-        TrackOp::GetMut(track) => Call::on(*track, ".get_mut()").does(Deed::Takes),
-        TrackOp::Put(track, _) => Call::on(*track, ".put()").does(Deed::Gives).asks(DATA_OUT),
-        TrackOp::IntoInner(track) => Call::on(*track, ".into_inner()").does(Deed::TakesApart),
-        TrackOp::Drop(track) => Call::on(*track, ".drop()").does(Deed::TakesApart),
-    }
+    let (track, words, manner): Words = match op {
+        TrackOp::New(_) => return Call::plain("Track::new"),
+        TrackOp::GetRef(track) => (*track, ".get_ref()", &manners::PLAIN),
+        TrackOp::GetMut(track) => (*track, ".get_mut()", &manners::TAKES),
+        TrackOp::Put(track, _) => (*track, ".put()", &manners::GIVES_BACK),
+        TrackOp::IntoInner(track) => (*track, ".into_inner()", &manners::TAKES_APART),
+        TrackOp::Drop(track) => (*track, ".drop()", &manners::TAKES_APART),
+    };
+    Call::on(track, words, manner)
 }
 
 fn mutex_call(op: &MutexOp<()>) -> Call {
-    match op {
-        MutexOp::New(_) => Call::plain("Mutex::new"),
-        MutexOp::Lock(mutex) => Call::on(*mutex, ".lock()").waits("waits for"),
-        MutexOp::TryLock(mutex) => Call::on(*mutex, ".try_lock()").waits("waits for"),
-        MutexOp::Release(mutex, _) => Call::on(*mutex, ".release()")
-            .does(Deed::Gives)
-            .asks("the thread is to hold it"),
-        MutexOp::GetMut(mutex) => Call::on(*mutex, ".get_mut()").does(Deed::Takes).asks(FREE),
-        MutexOp::Put(mutex, _) => Call::on(*mutex, ".put()").does(Deed::Gives).asks(DATA_OUT),
-        MutexOp::IntoInner(mutex) => Call::on(*mutex, ".into_inner()")
-            .does(Deed::TakesApart)
-            .asks(FREE),
-    }
+    let (mutex, words, manner): Words = match op {
+        MutexOp::New(_) => return Call::plain("Mutex::new"),
+        MutexOp::Lock(mutex) => (*mutex, ".lock()", &manners::WAITS),
+        MutexOp::TryLock(mutex) => (*mutex, ".try_lock()", &manners::WAITS),
+        MutexOp::Release(mutex, _) => (*mutex, ".release()", &manners::RELEASES),
+        MutexOp::GetMut(mutex) => (*mutex, ".get_mut()", &manners::TAKES_FREE),
+        MutexOp::Put(mutex, _) => (*mutex, ".put()", &manners::GIVES_BACK),
+        MutexOp::IntoInner(mutex) => (*mutex, ".into_inner()", &manners::TAKES_FREE_APART),
+    };
+    Call::on(mutex, words, manner)
 }
 
 fn rwlock_call(op: &RwLockOp<()>) -> Call {
-    match op {
-        RwLockOp::New(_) => Call::plain("RwLock::new"),
-        RwLockOp::Read(lock) => Call::on(*lock, ".read()").waits("waits to read"),
-        RwLockOp::TryRead(lock) => Call::on(*lock, ".try_read()").waits("waits to read"),
-        RwLockOp::ReadRelease(lock) | RwLockOp::WriteRelease(lock, _) => {
-            Call::on(*lock, ".release()")
-                .does(Deed::Gives)
-                .asks("the thread is to hold it so")
-        }
-        RwLockOp::Write(lock) => Call::on(*lock, ".write()").waits("waits to write"),
-        RwLockOp::TryWrite(lock) => Call::on(*lock, ".try_write()").waits("waits to write"),
-        RwLockOp::GetMut(lock) => Call::on(*lock, ".get_mut()").does(Deed::Takes).asks(FREE),
-        RwLockOp::Put(lock, _) => Call::on(*lock, ".put()").does(Deed::Gives).asks(DATA_OUT),
-        RwLockOp::IntoInner(lock) => Call::on(*lock, ".into_inner()")
-            .does(Deed::TakesApart)
-            .asks(FREE),
-    }
+    let (lock, words, manner): Words = match op {
+        RwLockOp::New(_) => return Call::plain("RwLock::new"),
+        RwLockOp::Read(lock) => (*lock, ".read()", &manners::WAITS_TO_READ),
+        RwLockOp::TryRead(lock) => (*lock, ".try_read()", &manners::WAITS_TO_READ),
+        RwLockOp::ReadRelease(lock) => (*lock, ".release()", &manners::RELEASES_SO),
+        RwLockOp::Write(lock) => (*lock, ".write()", &manners::WAITS_TO_WRITE),
+        RwLockOp::TryWrite(lock) => (*lock, ".try_write()", &manners::WAITS_TO_WRITE),
+        RwLockOp::WriteRelease(lock, _) => (*lock, ".release()", &manners::RELEASES_SO),
+        RwLockOp::GetMut(lock) => (*lock, ".get_mut()", &manners::TAKES_FREE),
+        RwLockOp::Put(lock, _) => (*lock, ".put()", &manners::GIVES_BACK),
+        RwLockOp::IntoInner(lock) => (*lock, ".into_inner()", &manners::TAKES_FREE_APART),
+    };
+    Call::on(lock, words, manner)
 }
 
 fn condvar_call(op: &CondvarOp<()>) -> Call {
     match op {
         CondvarOp::New => Call::plain("Condvar::new"),
-        CondvarOp::Wait(condvar, mutex, _) => wait_call(*condvar, ".wait", *mutex),
-        CondvarOp::WaitTimeout(condvar, mutex, _) => wait_call(*condvar, ".wait_timeout", *mutex),
-        CondvarOp::NotifyOne(condvar) => Call::on(*condvar, ".notify_one()"),
-        CondvarOp::NotifyAll(condvar) => Call::on(*condvar, ".notify_all()"),
+        CondvarOp::Wait(condvar, mutex, _) => on_two(*condvar, ".wait", *mutex, &manners::SLEEPS),
+        CondvarOp::WaitTimeout(condvar, mutex, _) => on_two(
+            *condvar,
+            ".wait_timeout",
+            *mutex,
+            &manners::SLEEPS,
+        ),
+        CondvarOp::NotifyOne(condvar) => Call::on(*condvar, ".notify_one()", &manners::PLAIN),
+        CondvarOp::NotifyAll(condvar) => Call::on(*condvar, ".notify_all()", &manners::PLAIN),
     }
-}
-
-fn wait_call(condvar: usize, words: &'static str, mutex: usize) -> Call {
-    Call::on(condvar, words)
-        .with_object(mutex)
-        .waits("asleep on")
-        .asks("the thread is to hold the mutex")
 }
 
 fn notify_call(op: NotifyOp) -> Call {
     match op {
         NotifyOp::New => Call::plain("Notify::new"),
-        NotifyOp::Notify(notifier) => Call::on(notifier, ".notify()"),
-        NotifyOp::Wait(notifier) => Call::on(notifier, ".wait()").waits(NOTIFICATION),
+        NotifyOp::Notify(notifier) => Call::on(notifier, ".notify()", &manners::PLAIN),
+        NotifyOp::Wait(notifier) => Call::on(notifier, ".wait()", &manners::WAITS_FOR_NOTIFICATION),
     }
 }
 
 fn channel_call(op: &ChannelOp<()>) -> Call {
-    match op {
-        ChannelOp::New => Call::plain("channel"),
-        ChannelOp::Send(channel, _) => Call::on(*channel, ".send()").does(Deed::Sends),
-        ChannelOp::Recv(channel) => Call::on(*channel, ".recv()")
-            .does(Deed::Receives)
-            .waits("waits for a message of")
-            .asks(RECEIVER),
-        ChannelOp::TryRecv(channel) => Call::on(*channel, ".try_recv()")
-            .does(Deed::Receives)
-            .asks(RECEIVER),
-        ChannelOp::CloneSender(channel) => Call::on(*channel, ".sender.clone()"),
-        ChannelOp::DropSender(channel) => Call::on(*channel, ".sender.drop()"),
-        ChannelOp::DropReceiver(channel) => Call::on(*channel, ".receiver.drop()")
-            .does(Deed::Empties)
-            .passes("takes a message out")
-            .asks(RECEIVER),
-    }
+    let (channel, words, manner): Words = match op {
+        ChannelOp::New => return Call::plain("channel"),
+        ChannelOp::Send(channel, _) => (*channel, ".send()", &manners::SENDS),
+        ChannelOp::Recv(channel) => (*channel, ".recv()", &manners::RECEIVES),
+        ChannelOp::TryRecv(channel) => (*channel, ".try_recv()", &manners::TRIES_TO_RECEIVE),
+        ChannelOp::CloneSender(channel) => (*channel, ".sender.clone()", &manners::PLAIN),
+        ChannelOp::DropSender(channel) => (*channel, ".sender.drop()", &manners::PLAIN),
+        ChannelOp::DropReceiver(channel) => (*channel, ".receiver.drop()", &manners::EMPTIES),
+    };
+    Call::on(channel, words, manner)
 }
 
 fn waker_call(op: WakerOp) -> Call {
-    match op {
-        WakerOp::New => Call::plain("BlockOn::new"),
-        WakerOp::Wait(wakers) => Call::on(wakers, ".wait()").waits(NOTIFICATION),
-        WakerOp::Finish(wakers) => Call::on(wakers, ".finish()").does(Deed::Drops),
-        WakerOp::Clone(wakers) => Call::on(wakers, ".waker.clone()").does(Deed::Clones),
-        WakerOp::Wake(wakers) => Call::on(wakers, ".waker.wake()").does(Deed::Drops),
-        WakerOp::WakeByRef(wakers) => Call::on(wakers, ".waker.wake_by_ref()"),
-        WakerOp::Drop(wakers) => Call::on(wakers, ".waker.drop()").does(Deed::Drops),
-    }
+    let (wakers, words, manner): Words = match op {
+        WakerOp::New => return Call::plain("BlockOn::new"),
+        WakerOp::Wait(wakers) => (wakers, ".wait()", &manners::WAITS_FOR_NOTIFICATION),
+        WakerOp::Finish(wakers) => (wakers, ".finish()", &manners::DROPS),
+        WakerOp::Clone(wakers) => (wakers, ".waker.clone()", &manners::CLONES),
+        WakerOp::Wake(wakers) => (wakers, ".waker.wake()", &manners::DROPS),
+        WakerOp::WakeByRef(wakers) => (wakers, ".waker.wake_by_ref()", &manners::PLAIN),
+        WakerOp::Drop(wakers) => (wakers, ".waker.drop()", &manners::DROPS),
+    };
+    Call::on(wakers, words, manner)
 }
 
 fn place_call(op: AtomicWakerOp) -> Call {
-    match op {
-        AtomicWakerOp::New => Call::plain("AtomicWaker::new"),
-        AtomicWakerOp::Register(place, wakers) => Call::on(place, ".register").with_object(wakers),
-        AtomicWakerOp::RegisterByRef(place, wakers) => {
-            Call::on(place, ".register_by_ref")
-                .with_object(wakers)
-                .does(Deed::ClonesWaker(wakers))
+    let (place, words, manner): Words = match op {
+        AtomicWakerOp::New => return Call::plain("AtomicWaker::new"),
+        AtomicWakerOp::Register(place, wakers) => {
+            return on_two(place, ".register", wakers, &manners::PLAIN);
         }
-        AtomicWakerOp::Wake(place) => Call::on(place, ".wake()").waits("waits for"),
-        AtomicWakerOp::TakeWaker(place) => Call::on(place, ".take_waker()").waits("waits for"),
-        AtomicWakerOp::Drop(place) => Call::on(place, ".drop()"),
-    }
+        AtomicWakerOp::RegisterByRef(place, wakers) => {
+            let mut call = on_two(place, ".register_by_ref", wakers, &manners::PLAIN);
+            call.deed = Deed::ClonesWaker(wakers);
+            return call;
+        }
+        AtomicWakerOp::Wake(place) => (place, ".wake()", &manners::WAITS),
+        AtomicWakerOp::TakeWaker(place) => (place, ".take_waker()", &manners::WAITS),
+        AtomicWakerOp::Drop(place) => (place, ".drop()", &manners::PLAIN),
+    };
+    Call::on(place, words, manner)
 }
 
 fn local_call(op: &LocalOp<()>) -> Call {
-    match op {
-        LocalOp::With(key) => Call::of(Subject::Local(*key), ".with()"),
-        LocalOp::TryWith(key) => Call::of(Subject::Local(*key), ".try_with()"),
-        LocalOp::Init(key, _) => Call::of(Subject::Local(*key), ".init()"),
-        LocalOp::Put(key, _) => Call::of(Subject::Local(*key), ".put()"),
-    }
+    let (key, words) = match op {
+        LocalOp::With(key) => (*key, ".with()"),
+        LocalOp::TryWith(key) => (*key, ".try_with()"),
+        LocalOp::Init(key, _) => (*key, ".init()"),
+        LocalOp::Put(key, _) => (*key, ".put()"),
+    };
+    Call::of(Subject::Local(key), words, &manners::OF_ITS_KEY)
 }
 
 fn lazy_call(op: &LazyOp<()>) -> Call {
-    match op {
-        LazyOp::Get(key) => Call::of(Subject::Lazy(*key), ".get()"),
-        LazyOp::Init(key, _) => Call::of(Subject::Lazy(*key), ".init()"),
-    }
+    let (key, words) = match op {
+        LazyOp::Get(key) => (*key, ".get()"),
+        LazyOp::Init(key, _) => (*key, ".init()"),
+    };
+    Call::of(Subject::Lazy(key), words, &manners::PLAIN)
 }
 
 fn thread_call(op: &ThreadOp<(), ()>, world: &World) -> Call {
-    match op {
-        ThreadOp::Spawn(_, name) => {
-            let name = match name {
-                Some(name) => Some(name.text),
-                None => None,
-            };
-            Call::of(Subject::Thread(world.next_thread()), "spawn thread").called(name)
-        }
-        ThreadOp::Join(thread, _) => Call::of(Subject::Thread(*thread), "join thread")
-            .waits("waits for the end of")
-            .asks("a thread is joined once, by its own notifier"),
-        ThreadOp::Current => Call::plain("current()"),
-        ThreadOp::Park => Call::plain("park()").waits("parked, without a token,"),
-        ThreadOp::Unpark(thread) => Call::of(Subject::Thread(*thread), "unpark thread").asks(
-            "there is no such thread",
-        ),
-        ThreadOp::Yield => Call::plain("yield_now()"),
-        ThreadOp::Finish(_) => Call::plain("finish()").asks(IN_ORDER),
-        ThreadOp::Exit => Call::plain("exit()").asks(IN_ORDER),
-        ThreadOp::End => Call::plain("end()").asks(IN_ORDER),
-    }
+    let (subject, words, manner): (Subject, &'static str, &'static Manner) = match op {
+        ThreadOp::Spawn(_, name) => return spawn_call(*name, world),
+        ThreadOp::Join(thread, _) => (Subject::Thread(*thread), "join thread", &manners::JOINS),
+        ThreadOp::Current => (Subject::Nothing, "current()", &manners::PLAIN),
+        ThreadOp::Park => (Subject::Nothing, "park()", &manners::PARKS),
+        ThreadOp::Unpark(thread) => (Subject::Thread(*thread), "unpark thread", &manners::UNPARKS),
+        ThreadOp::Yield => (Subject::Nothing, "yield_now()", &manners::PLAIN),
+        ThreadOp::Finish(_) => (Subject::Nothing, "finish()", &manners::IN_ORDER),
+        ThreadOp::Exit => (Subject::Nothing, "exit()", &manners::IN_ORDER),
+        ThreadOp::End => (Subject::Nothing, "end()", &manners::IN_ORDER),
+    };
+    Call::of(subject, words, manner)
+}
+
+fn spawn_call(name: Option<Name>, world: &World) -> Call {
+    let mut call = Call::of(
+        Subject::Thread(world.next_thread()),
+        "spawn thread",
+        &manners::PLAIN,
+    );
+    call.name = match name {
+        Some(name) => Some(name.text),
+        None => None,
+    };
+    call
 }
