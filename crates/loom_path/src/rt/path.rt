@@ -268,7 +268,8 @@ impl Path {
     fn explores_each(&self) -> bool
         ensures { result ≡ (not self.now.search.reduce && is_on self.now.exploring) }
     {
-        !self.search.reduce && self.is_exploring()
+        let is_whole = !self.search.reduce;
+        is_whole && self.is_exploring()
     }
 
     /// Whether each option of a schedule that is made next is to be tried: in a search that isn't reduced, where the run explores,
