@@ -30,11 +30,11 @@ impl Model for Script {
     ghost view = { λ script. record { steps = script.steps.now; state = script.state.value } };
 }
 
-// Answers the operation that is made of this one, if its slots keep such handles.
-macro_rules! answer_made {
-    ($made:expr, $kind:ident, $label:expr) => {
+// Breaks the block off with the operation that is made of this one, if its slots keep such handles.
+macro_rules! break_made {
+    ($block:lifetime, $made:expr, $kind:ident, $label:expr) => {
         if let Some(op) = $made {
-            return Ok(Op::$kind(op, *$label));
+            break $block Op::$kind(op, $label);
         }
     };
 }
@@ -79,27 +79,32 @@ impl Script {
         ensures { IfOk result (λ made. made ≡ operation self.now op.now) }
     {
         let state = self.state();
-        match op {
-            Op::Atomic(op, label) => answer_made!(state.atomic_op(*op), Atomic, label),
-            Op::Fence(order, label) => return Ok(Op::Fence(*order, *label)),
-            Op::Cell(op, label) => answer_made!(state.cell_op(op), Cell, label),
-            Op::Arc(op, label) => answer_made!(state.arc_op(op), Arc, label),
-            Op::Track(op, label) => answer_made!(state.track_op(op), Track, label),
-            Op::Mutex(op, label) => answer_made!(state.mutex_op(op), Mutex, label),
-            Op::RwLock(op, label) => answer_made!(state.rwlock_op(op), RwLock, label),
-            Op::Condvar(op, label) => answer_made!(state.condvar_op(op), Condvar, label),
-            Op::Notify(op, label) => answer_made!(state.notify_op(*op), Notify, label),
-            Op::Channel(op, label) => answer_made!(state.channel_op(op), Channel, label),
-            Op::Waker(op, label) => answer_made!(state.waker_op(*op), Waker, label),
-            Op::AtomicWaker(op, label) => answer_made!(state.place_op(*op), AtomicWaker, label),
-            Op::Local(op, label) => return Ok(Op::Local(state.local_op(op), *label)),
-            Op::Lazy(op, label) => return Ok(Op::Lazy(state.lazy_op(op), *label)),
-            Op::Explore(op, label) => return Ok(Op::Explore(*op, *label)),
-            Op::Thread(op, label) => return self.thread_operation(op, *label),
-            Op::Fail(label) => return Ok(Op::Fail(*label)),
-            Op::Unreachable(label) => return Ok(Op::Unreachable(*label)),
-        }
-        Ok(Op::Fail(None))
+        let label = op.label();
+        let op = 'made: {
+            match op {
+                Op::Atomic(op, _) => break_made!('made, state.atomic_op(*op), Atomic, label),
+                Op::Fence(order, _) => break 'made Op::Fence(*order, label),
+                Op::Cell(op, _) => break_made!('made, state.cell_op(op), Cell, label),
+                Op::Arc(op, _) => break_made!('made, state.arc_op(op), Arc, label),
+                Op::Track(op, _) => break_made!('made, state.track_op(op), Track, label),
+                Op::Mutex(op, _) => break_made!('made, state.mutex_op(op), Mutex, label),
+                Op::RwLock(op, _) => break_made!('made, state.rwlock_op(op), RwLock, label),
+                Op::Condvar(op, _) => break_made!('made, state.condvar_op(op), Condvar, label),
+                Op::Notify(op, _) => break_made!('made, state.notify_op(*op), Notify, label),
+                Op::Channel(op, _) => break_made!('made, state.channel_op(op), Channel, label),
+                Op::Waker(op, _) => break_made!('made, state.waker_op(*op), Waker, label),
+                Op::AtomicWaker(op, _) =>
+                    break_made!('made, state.place_op(*op), AtomicWaker, label),
+                Op::Local(op, _) => break 'made Op::Local(state.local_op(op), label),
+                Op::Lazy(op, _) => break 'made Op::Lazy(state.lazy_op(op), label),
+                Op::Explore(op, _) => break 'made Op::Explore(*op, label),
+                Op::Thread(op, _) => return self.thread_operation(op, label),
+                Op::Fail(_) => break 'made Op::Fail(label),
+                Op::Unreachable(_) => break 'made Op::Unreachable(label),
+            }
+            Op::Fail(None)
+        };
+        Ok(op)
     }
 
     /// The operation of threads. Where a slot keeps no such handle the step fails.
