@@ -7,8 +7,9 @@ use Rattle.loom.specs.declared.model.Report.{Report}
 use Rattle.loom_row_bodies.specs.Builders.{builder_of}
 use Rattle.loom_row_bodies.specs.Line.{report_text, status_of}
 use Rattle.loom_row_bodies.specs.Rows.{ReportsScript}
-use Rattle.loom_row_tables.specs.Measured.{Named, all, body_of}
-use Rattle.loom_row_tables.specs.declared.measured.Measured.{Measured}
+use Rattle.loom_row_parts.specs.Measured.{Named}
+use Rattle.loom_row_tables.specs.Measured.{all, body_of}
+use Rattle.loom_row_parts.specs.declared.measured.Measured.{Measured}
 
 -- the line that is printed: the name, and the text of a report
 abbrev pub line_of : List ℕ → Report → List ℕ

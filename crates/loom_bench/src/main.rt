@@ -12,7 +12,8 @@ ghost use Rattle.loom_bench.specs.Measures.{PrintedBody, PrintedLine, PrintedNam
 use loom::model::Report;
 use loom_row_bodies::line::{self, ShownReport};
 use loom_row_bodies::settings::Builds;
-use loom_row_tables::measured::{Measured, all_bodies, body_of};
+use loom_row_parts::measured::Measured;
+use loom_row_tables::measured::{all_bodies, body_of};
 use loom_scripts::script::Script;
 use std::env;
 use std::io::{self, Write};

@@ -6,11 +6,11 @@ use Rattle.std.specs.List.{find}
 use Rattle.std.specs.Str.{bytes_eq}
 use Rattle.loom.specs.declared.builder.Builder.{Builder}
 use Rattle.loom.specs.declared.model.Report.{Report}
-use Rattle.loom_row_tables.specs.declared.rows.Checked.{Checked}
-use Rattle.loom_row_tables.specs.declared.rows.Checked.TheVariants.{Script, Updater}
-use Rattle.loom_row_tables.specs.declared.rows.Row.{Row}
-use Rattle.loom_row_tables.specs.Meanings.{Named, meant, named}
-use Rattle.loom_row_tables.specs.Rows.{file_in, row_of, meant_by}
+use Rattle.loom_row_parts.specs.declared.rows.Checked.{Checked}
+use Rattle.loom_row_parts.specs.declared.rows.Checked.TheVariants.{Script, Updater}
+use Rattle.loom_row_parts.specs.declared.rows.Row.{Row}
+use Rattle.loom_row_parts.specs.Meanings.{Named, meant, named}
+use Rattle.loom_row_parts.specs.Rows.{file_in, row_of, meant_by}
 use Rattle.loom_row_bodies.specs.Rows.{named_by, ReportsOf, ReportsMeant, PrintedChecked, PrintedRow, PrintedNamed}
 use Rattle.loom_row_tables.specs.Names.{IsTable}
 

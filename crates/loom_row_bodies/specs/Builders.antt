@@ -3,7 +3,7 @@ use Rattle.std.specs.Prelude.{ℕ, ◌≡◌, List, Option, Some, None, String, 
 use Rattle.std.specs.declared.alloc.Global.{Global}
 use Rattle.loom.specs.Settings.{defaults}
 use Rattle.loom.specs.declared.builder.Builder.{Builder}
-use Rattle.loom_row_tables.specs.declared.settings.Settings.{Settings}
+use Rattle.loom_row_parts.specs.declared.settings.Settings.{Settings}
 
 -- a builder as it begins with, but for these settings
 abbrev pub builder_of : Settings → Builder

@@ -12,14 +12,14 @@ use Rattle.loom_scripts.specs.Script as script
 use Rattle.loom_scripts.specs.declared.step.Step.{Step}
 use Rattle.loom_row_bodies.specs.Builders.{IsBuilder}
 use Rattle.loom_row_bodies.specs.Line.{PrintedOf}
-use Rattle.loom_row_tables.specs.Meanings.{Meant, Steps, Updates, Named}
+use Rattle.loom_row_parts.specs.Meanings.{Meant, Steps, Updates, Named}
 use Rattle.loom_row_tables.specs.Names.{IsTable}
-use Rattle.loom_row_tables.specs.Rows.{file_in, meant_by}
+use Rattle.loom_row_parts.specs.Rows.{file_in, meant_by}
 use Rattle.loom_row_bodies.specs.Updates as updates
-use Rattle.loom_row_tables.specs.declared.rows.Checked.{Checked}
-use Rattle.loom_row_tables.specs.declared.rows.Checked.TheVariants.{Script, Updater}
-use Rattle.loom_row_tables.specs.declared.rows.Row.{Row}
-use Rattle.loom_row_tables.specs.declared.settings.Settings.{Settings}
+use Rattle.loom_row_parts.specs.declared.rows.Checked.{Checked}
+use Rattle.loom_row_parts.specs.declared.rows.Checked.TheVariants.{Script, Updater}
+use Rattle.loom_row_parts.specs.declared.rows.Row.{Row}
+use Rattle.loom_row_parts.specs.declared.settings.Settings.{Settings}
 
 -- ---- rows
 

@@ -19,9 +19,9 @@ use Rattle.loom_scripts.specs.declared.number.Number.{Number}
 use Rattle.loom_row_bodies.specs.Builders.{IsBuilder}
 use Rattle.loom_row_bodies.specs.Line.{PrintedOf, choices_text, report_text, status_of}
 use Rattle.loom_row_bodies.specs.Updates as updates
-use Rattle.loom_row_tables.specs.declared.rows.Checked.{Checked}
-use Rattle.loom_row_tables.specs.declared.rows.Checked.TheVariants.{Script, Updater}
-use Rattle.loom_row_tables.specs.declared.settings.Settings.{Settings}
+use Rattle.loom_row_parts.specs.declared.rows.Checked.{Checked}
+use Rattle.loom_row_parts.specs.declared.rows.Checked.TheVariants.{Script, Updater}
+use Rattle.loom_row_parts.specs.declared.settings.Settings.{Settings}
 use Rattle.loom_row_bodies.specs.declared.tasks.Task.{Task}
 use Rattle.loom_row_bodies.specs.declared.tasks.Task.TheVariants as task
 

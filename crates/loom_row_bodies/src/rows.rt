@@ -12,11 +12,11 @@ use crate::updates::Updater;
 use loom::Body;
 use loom::error::CheckError;
 use loom::model::{Builder, Report};
-use loom_row_tables::rows::meant;
-pub use loom_row_tables::rows::{
-    Checked, DEFAULTS, EXPLICIT, LONG_RUNS, Row, TEN_STEPS, THREE_NODES, TWO_RUNS, WHOLE, all_rows,
-    row_of,
+use loom_row_parts::rows::meant;
+pub use loom_row_parts::rows::{
+    Checked, DEFAULTS, EXPLICIT, LONG_RUNS, Row, TEN_STEPS, THREE_NODES, TWO_RUNS, WHOLE, row_of,
 };
+pub use loom_row_tables::rows::all_rows;
 use loom_scripts::number::Number;
 use loom_scripts::script::Script;
 use std::io::{self, Write};

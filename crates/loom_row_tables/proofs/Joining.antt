@@ -1,9 +1,21 @@
 -- Tables that are put together.
-use Rattle.std.proofs.Common.{◌≡◌, List, ◌++◌, Result, Ok, Err, IfOk, map, ap, sym, subst, ◌∙◌}
-use Rattle.std.proofs.lemmas.List.{map-append}
-use Rattle.loom_row_tables.specs.declared.rows.Row.{Row}
-use Rattle.loom_row_tables.specs.Meanings.{named}
+use Rattle.std.proofs.Common.{ℕ, ◌+◌, ◌<◌, ◌≡◌, List, [], ◌∷◌, ◌++◌, Result, Ok, Err, IfOk, flat_map, get_or, length, map, take, ap, sym, subst, ◌∙◌}
+use Rattle.std.proofs.lemmas.List.{flat_map_more, map-append, take_more}
+use Rattle.loom_row_parts.specs.declared.rows.Row.{Row}
+use Rattle.loom_row_parts.specs.Meanings.{named}
 use Rattle.loom_row_tables.specs.Names.{IsTable}
+
+-- what the first tables have, with one table more
+pub one_more : {Table Item : Type 0} (has : Table → List Item) (tables : List Table) (i : ℕ) (table : Table) (items more : List Item)
+    → items ≡ flat_map has (take i tables) → i < length tables → table ≡ get_or tables i table → more ≡ items ++ has table
+    → more ≡ flat_map has (take (i + 1) tables)
+one_more has tables i table items more before less is put =
+    let first = take i tables in
+    put
+    ∙ ap (λ l. l ++ has table) before
+    ∙ flat_map_more has [] first table
+    ∙ ap (λ t. flat_map has (first ++ t ∷ [])) is
+    ∙ ap (flat_map has) (sym (take_more tables i table less))
 
 -- what two tables mean, one behind the other
 pub behind : {Said Meant : Type 0} (means : Said → Meant) (table others : List Said) (one more : List Meant) → map means table ≡ one

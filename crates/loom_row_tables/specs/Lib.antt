@@ -1,5 +1,3 @@
-pub mod Meanings
 pub mod Measured
 pub mod Names
-pub mod Rows
 pub mod Scripts

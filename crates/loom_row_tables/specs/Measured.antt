@@ -1,32 +1,13 @@
 -- The table of the bodies that are measured: each name, the steps that it means, how they are checked, and how often.
-use Rattle.std.specs.Prelude.{ℕ, Bool, true, false, List, [], ◌∷◌, ◌++◌, Option, Some, None, codes}
+use Rattle.std.specs.Prelude.{ℕ, true, false, List, [], ◌∷◌, ◌++◌, Option, Some, None, codes}
 use Rattle.std.specs.List.{find}
 use Rattle.std.specs.Str.{bytes_eq}
 use Rattle.loom_scripts.specs.declared.step.Step.{Step}
-use Rattle.loom_row_tables.specs.Names.{defaults}
-use Rattle.loom_row_tables.specs.declared.settings.Settings.{Settings}
+use Rattle.loom_row_parts.specs.Measured.{Named, measured, search, many}
 use Rattle.loom_row_tables.specs.Scripts.Atomics.{three_adds, acq_rel}
 use Rattle.loom_row_tables.specs.Scripts.First.{two_mutexes_deadlock}
-use Rattle.loom_row_tables.specs.Scripts.Measured.{store_buffering, locks_in_turn, writers_beside_a_reader, wait_and_notify, three_threads, stores_apart, long_line, long_line_10000, long_turn}
-use Rattle.loom_row_tables.specs.declared.measured.Measured.{Measured}
-
--- a name, the steps that it means, how they are checked, and how often
-pub record Named : Type 0 where
-  pub name : List ℕ
-  pub steps : List Step
-  pub settings : Settings
-  pub checks : ℕ
-
-abbrev pub named : Measured → Named
-named body = record { name = body.name.now; steps = body.steps.now; settings = body.settings; checks = body.checks }
-
--- a search of runs with so many nodes at most, reduced or not, and with a bound on preemptions, if there is one
-abbrev pub search : ℕ → Bool → Option ℕ → Settings
-search max_branches reduce bound =
-    record defaults { max_branches = max_branches; preemption_bound = bound; reduce = reduce }
-
-abbrev pub measured : List ℕ → List Step → ℕ → Settings → Named
-measured name steps checks settings = record { name = name; steps = steps; settings = settings; checks = checks }
+use Rattle.loom_row_tables.specs.Scripts.Measured.{store_buffering, locks_in_turn, writers_beside_a_reader, wait_and_notify, three_threads, long_line, long_line_10000, long_turn}
+use Rattle.loom_row_parts.specs.declared.measured.Measured.{Measured}
 
 -- a body by six searches: not reduced and reduced, without a bound and with the bounds 1 and 2
 abbrev pub six : List ℕ → List Step → ℕ → List Named
@@ -69,12 +50,6 @@ crosswise = six (codes "locks_crosswise") two_mutexes_deadlock 1000
 -- threads that wait for flags
 abbrev pub flags : List Named
 flags = six (codes "acq_rel") acq_rel 1
-
--- many runs
-abbrev pub many : List Named
-many =
-    measured (codes "stores_apart") stores_apart 1 (search 1000 false None) ∷
-    measured (codes "stores_apart reduced") stores_apart 1 (search 1000 true None) ∷ []
 
 -- long runs
 abbrev pub long : List Named

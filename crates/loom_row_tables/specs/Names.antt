@@ -1,8 +1,9 @@
 -- The table of the program's rows: each name, what it means, and how this is checked.
-use Rattle.std.specs.Prelude.{ℕ, ◌≡◌, List, [], ◌∷◌, ◌++◌, Some, None, true, false, codes}
+use Rattle.std.specs.Prelude.{◌≡◌, List, [], ◌∷◌, ◌++◌, codes}
 use Rattle.loom_objects.specs.declared.rt.thread.Name.{Name}
-use Rattle.loom_scripts.specs.declared.step.Step.{Step}
-use Rattle.loom_row_tables.specs.Meanings.{Steps, Updates, Named}
+use Rattle.loom_row_parts.specs.FewThreads.{few_thread_rows, lock_beside}
+use Rattle.loom_row_parts.specs.Meanings.{Named}
+use Rattle.loom_row_parts.specs.Names.{script, whole, short, long, few, explicit, updates}
 use Rattle.loom_row_tables.specs.Scripts.First as first
 use Rattle.loom_row_tables.specs.Scripts.Atomics as atomics
 use Rattle.loom_row_tables.specs.Scripts.Cells as cells
@@ -12,82 +13,6 @@ use Rattle.loom_row_tables.specs.Scripts.Wakers as wakers
 use Rattle.loom_row_tables.specs.Scripts.Values as values
 use Rattle.loom_row_tables.specs.Scripts.Exploring as exploring
 use Rattle.loom_row_tables.specs.Scripts.Limits as limits
-use Rattle.loom_row_tables.specs.declared.settings.Settings.{Settings}
-
--- the settings that a builder begins with
-abbrev pub defaults : Settings
-defaults = record {
-  max_threads = 5;
-  max_branches = 1000;
-  max_steps = 1000000;
-  max_permutations = None;
-  reduce = true;
-  preemption_bound = None;
-  expect_explicit_explore = false;
-}
-
--- the same, but each schedule tries every thread that can go on
-abbrev pub whole_search : Settings
-whole_search = record defaults { reduce = false }
-
--- the same, but two runs are made at most
-abbrev pub two_runs : Settings
-two_runs = record whole_search { max_permutations = Some 2 }
-
--- the defaults, but the threads of a run hand over ten operations at most
-abbrev pub ten_steps : Settings
-ten_steps = record defaults { max_steps = 10 }
-
--- the defaults, but a run may have 100,000 nodes
-abbrev pub long_runs : Settings
-long_runs = record defaults { max_branches = 100000 }
-
--- the defaults, but a run may have three nodes
-abbrev pub three_nodes : Settings
-three_nodes = record defaults { max_branches = 3 }
-
--- each schedule tries every thread that can go on, from where a run begins to explore
-abbrev pub explicit_search : Settings
-explicit_search = record whole_search { expect_explicit_explore = true }
-
--- the script of these steps, by the defaults
-abbrev pub script : List ℕ → List Step → Named
-script name steps = record { name = name; means = Steps steps; settings = defaults }
-
--- the same by a search that isn't reduced
-abbrev pub whole : List ℕ → List Step → Named
-whole name steps = record { name = name; means = Steps steps; settings = whole_search }
-
--- the same, of which two runs are made at most
-abbrev pub limited : List ℕ → List Step → Named
-limited name steps = record { name = name; means = Steps steps; settings = two_runs }
-
--- the same by ten operations at most
-abbrev pub short : List ℕ → List Step → Named
-short name steps = record { name = name; means = Steps steps; settings = ten_steps }
-
--- the same in runs of 100,000 nodes at most
-abbrev pub long : List ℕ → List Step → Named
-long name steps = record { name = name; means = Steps steps; settings = long_runs }
-
--- the same in runs of three nodes at most
-abbrev pub few : List ℕ → List Step → Named
-few name steps = record { name = name; means = Steps steps; settings = three_nodes }
-
--- the same by a search that isn't reduced, from where a run begins to explore
-abbrev pub explicit : List ℕ → List Step → Named
-explicit name steps = record { name = name; means = Steps steps; settings = explicit_search }
-
--- the thread that updates its atomic, with these two numbers, by the defaults
-abbrev pub updates : List ℕ → ℕ → ℕ → Named
-updates name one other = record { name = name; means = Updates one other; settings = defaults }
-
--- of one thread or two, and a mutex
-abbrev pub few_thread_rows : List Named
-few_thread_rows =
-    script (codes "finish_only") first.finish_only ∷ script (codes "spawn_only") first.spawn_only ∷
-    whole (codes "lock_beside") first.lock_beside ∷ script (codes "lock_beside_reduced") first.lock_beside ∷
-    limited (codes "lock_beside_two") first.lock_beside ∷ short (codes "mutex_forever") first.mutex_forever ∷ []
 
 -- of an assertion that fails, and of a deadlock
 abbrev pub failing_rows : List Named
@@ -279,7 +204,7 @@ abbrev pub exploring_rows : List Named
 exploring_rows =
     whole (codes "stop_exploring") exploring.stop_exploring ∷
     whole (codes "stop_exploring_twice") exploring.stop_exploring_twice ∷ whole (codes "skip_branch") exploring.skip_branch ∷
-    explicit (codes "never_explore") first.lock_beside ∷ explicit (codes "explore_first") exploring.explore_first ∷ []
+    explicit (codes "never_explore") lock_beside ∷ explicit (codes "explore_first") exploring.explore_first ∷ []
 
 -- about misuse and limits
 abbrev pub limit_rows : List Named

@@ -10,52 +10,16 @@ pub mod values;
 pub mod wakers;
 
 ghost use Rattle.std.specs.Prelude.{◌≡◌, map};
-ghost use Rattle.loom_row_tables.specs.Meanings.{named};
-ghost use Rattle.loom_row_tables.specs.Names.{buffering_rows, failing_rows, few_thread_rows, load_rows, ordering_rows};
+ghost use Rattle.loom_row_parts.specs.Meanings.{named};
+ghost use Rattle.loom_row_tables.specs.Names.{buffering_rows, failing_rows, load_rows, ordering_rows};
 
-use crate::rows::{DEFAULTS, Row, TEN_STEPS, TWO_RUNS, WHOLE, row};
 use loom_objects::operation::{AtomicOp, MutexOp, Op, ThreadOp};
+pub use loom_row_parts::few_threads::{FINISH_ONLY, LOCK_BESIDE, MUTEX_FOREVER, SPAWN_ONLY};
+use loom_row_parts::row;
+use loom_row_parts::rows::{Row, WHOLE};
 use loom_scripts::step::{END, EXIT, FAIL, Step, Value};
 use loom_views::rt::num::Numbers;
 use std::sync::atomic::Ordering::{Acquire, Relaxed, Release};
-
-/// Main finishes, exits and ends.
-pub const FINISH_ONLY: &[Step] = &[
-    Step::Do(0, Op::Thread(ThreadOp::Finish(Value::Plain(7)), None)),
-    EXIT,
-    END,
-];
-
-/// Main spawns a thread, which does nothing but end.
-pub const SPAWN_ONLY: &[Step] = &[
-    Step::Do(0, Op::Thread(ThreadOp::Spawn(4, None), None)),
-    Step::Do(0, Op::Thread(ThreadOp::Finish(Value::Plain(7)), None)),
-    EXIT,
-    END,
-    Step::Do(0, Op::Thread(ThreadOp::Finish(Value::Plain(3)), None)),
-    EXIT,
-    END,
-];
-
-/// Main locks a mutex beside a thread that does nothing but end.
-pub const LOCK_BESIDE: &[Step] = &[
-    Step::Do(0, Op::Mutex(MutexOp::New(Value::Plain(0)), None)),
-    Step::Do(1, Op::Thread(ThreadOp::Spawn(7, None), None)),
-    Step::Do(0, Op::Mutex(MutexOp::Lock(0), None)),
-    Step::Do(0, Op::Mutex(MutexOp::Release(0, Value::Plain(0)), None)),
-    Step::Do(0, Op::Thread(ThreadOp::Finish(Value::Plain(7)), None)),
-    EXIT,
-    END,
-    Step::Do(0, Op::Thread(ThreadOp::Finish(Value::Plain(3)), None)),
-    EXIT,
-    END,
-];
-
-/// Main makes mutexes without end.
-pub const MUTEX_FOREVER: &[Step] = &[
-    Step::Do(0, Op::Mutex(MutexOp::New(Value::Plain(0)), None)),
-    Step::Jump(0),
-];
 
 /// Main's assertion fails.
 pub const FAIL_AT_ONCE: &[Step] = &[FAIL];
@@ -216,22 +180,6 @@ pub const CHECKS_FAIL: &[Step] = &[
     EXIT,
     END,
 ];
-
-static FEW_THREADS: [Row; 6] = [
-    row!("finish_only", FINISH_ONLY),
-    row!("spawn_only", SPAWN_ONLY),
-    row!("lock_beside", LOCK_BESIDE, WHOLE),
-    row!("lock_beside_reduced", LOCK_BESIDE),
-    row!("lock_beside_two", LOCK_BESIDE, TWO_RUNS),
-    row!("mutex_forever", MUTEX_FOREVER, TEN_STEPS),
-];
-
-/// The rows of one thread or two, and a mutex.
-pub fn few_threads() -> &'static [Row]
-    ensures { map named result.now ≡ few_thread_rows }
-{
-    &FEW_THREADS
-}
 
 static FAILING: [Row; 2] = [
     row!("fail_at_once", FAIL_AT_ONCE),

@@ -1,20 +1,20 @@
 //! The bodies that `loom_bench` measures: their scripts, and how each is checked.
 ghost use Rattle.std.specs.Prelude.{◌≡◌, IfOk, map, option_copied};
+ghost use Rattle.loom_row_parts.specs.Measured.{named};
 ghost use Rattle.loom_row_tables.specs.Measured as table;
-ghost use Rattle.loom_row_tables.specs.Measured.{body_of, named};
+ghost use Rattle.loom_row_tables.specs.Measured.{body_of};
 
 use crate::bodies::TWO_MUTEXES_DEADLOCK;
 use crate::bodies::atomics::{ACQ_REL, THREE_ADDS};
-use crate::rows::{DEFAULTS, LONG_RUNS, WHOLE};
-use crate::settings::Settings;
 use crate::tables::joined;
 use loom_objects::operation::{AtomicOp, CondvarOp, MutexOp, Op, RwLockOp, ThreadOp};
+use loom_row_parts::measured::{self, FINISH, Measured};
+use loom_row_parts::rows::{DEFAULTS, LONG_RUNS, WHOLE};
+use loom_row_parts::settings::Settings;
 use loom_scripts::step::{END, EXIT, Step, Value, YIELD};
 use loom_views::rt::num::Numbers;
 use std::alloc::{AllocError, Global};
 use std::sync::atomic::Ordering;
-
-const FINISH: Step = Step::Do(0, Op::Thread(ThreadOp::Finish(Value::Plain(0)), None));
 
 /// Two threads store to an atomic each, and load from the other's.
 const STORE_BUFFERING: &[Step] = &[
@@ -78,49 +78,6 @@ const THREE_THREADS: &[Step] = &[
         0,
         Op::Atomic(AtomicOp::Store(2, 2, Ordering::Relaxed), None),
     ),
-    FINISH,
-    EXIT,
-    END,
-];
-
-// A store to the atomic that a thread has for itself.
-const STORE_MAIN: Step = Step::Do(
-    0,
-    Op::Atomic(AtomicOp::Store(0, 1, Ordering::Relaxed), None),
-);
-
-const STORE_FIRST: Step = Step::Do(
-    0,
-    Op::Atomic(AtomicOp::Store(1, 1, Ordering::Relaxed), None),
-);
-
-const STORE_SECOND: Step = Step::Do(
-    0,
-    Op::Atomic(AtomicOp::Store(2, 1, Ordering::Relaxed), None),
-);
-
-/// Three threads store to an atomic each: main five times, and the others three times. Main joins them.
-const STORES_APART: &[Step] = &[
-    Step::Do(0, Op::Atomic(AtomicOp::New(Numbers::U64, 0), None)),
-    Step::Do(1, Op::Atomic(AtomicOp::New(Numbers::U64, 0), None)),
-    Step::Do(2, Op::Atomic(AtomicOp::New(Numbers::U64, 0), None)),
-    Step::Do(3, Op::Thread(ThreadOp::Spawn(13, None), None)),
-    Step::Do(4, Op::Thread(ThreadOp::Spawn(17, None), None)),
-    STORE_MAIN,
-    STORE_MAIN,
-    STORE_MAIN,
-    STORE_MAIN,
-    STORE_MAIN,
-    Step::Do(0, Op::Thread(ThreadOp::Join(3, 3), None)),
-    Step::Do(0, Op::Thread(ThreadOp::Join(4, 4), None)),
-    Step::Jump(20),
-    STORE_FIRST,
-    STORE_FIRST,
-    STORE_FIRST,
-    Step::Jump(20),
-    STORE_SECOND,
-    STORE_SECOND,
-    STORE_SECOND,
     FINISH,
     EXIT,
     END,
@@ -228,19 +185,6 @@ const LONG_TURN: &[Step] = &[
     Step::Do(0, Op::Mutex(MutexOp::Release(0, Value::Held(0)), None)),
     Step::Jump(8),
 ];
-
-/// A body with a name, and how it is checked.
-#[derive(Clone, Copy)]
-pub struct Measured {
-    /// The word that means the body.
-    pub name: &'static str,
-    /// The steps of its threads.
-    pub steps: &'static [Step],
-    /// How it is checked.
-    pub settings: Settings,
-    /// How many checks are made, one after another.
-    pub checks: u64,
-}
 
 /// A search that isn't reduced, of runs with one preemption at most.
 const WHOLE_1: Settings = Settings {
@@ -378,18 +322,6 @@ fn flags() -> &'static [Measured]
     &FLAGS
 }
 
-static MANY: [Measured; 2] = [
-    measured!("stores_apart", STORES_APART, 1, WHOLE),
-    measured!("stores_apart reduced", STORES_APART, 1, DEFAULTS),
-];
-
-// Many runs.
-fn many() -> &'static [Measured]
-    ensures { map named result.now ≡ table.many }
-{
-    &MANY
-}
-
 static LONG: [Measured; 5] = [
     measured!("long_line", LONG_LINE, 10_000, LONG_RUNS),
     measured!("long_line_10000", LONG_LINE_10000, 1000, LONG_RUNS),
@@ -420,7 +352,7 @@ pub fn all_bodies(alloc: Global) -> Result<Vec<Measured>, AllocError>
             adds(),
             crosswise(),
             flags(),
-            many(),
+            measured::many(),
             long(),
         ],
     )

@@ -11,7 +11,7 @@ use Rattle.loom_objects.specs.declared.operation.Op.TheVariants as op
 use Rattle.loom_scripts.specs.declared.step.Step.{Step}
 use Rattle.loom_scripts.specs.declared.step.Step.TheVariants.{Do, Jump, Unless}
 use Rattle.loom_scripts.specs.declared.step.Value.TheVariants.{Plain, Held, Next, Both}
-use Rattle.loom_row_tables.specs.Scripts.Steps.{exit, end, yield, fail}
+use Rattle.loom_row_parts.specs.Steps.{exit, end, yield, fail}
 
 -- A number of 64 bits (loom's `tests/atomic_int.rs`).
 abbrev pub num_a : ℕ

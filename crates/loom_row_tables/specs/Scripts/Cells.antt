@@ -11,7 +11,7 @@ use Rattle.loom_objects.specs.declared.operation.Op.TheVariants as op
 use Rattle.loom_scripts.specs.declared.step.Step.{Step}
 use Rattle.loom_scripts.specs.declared.step.Step.TheVariants.{Do, Unless}
 use Rattle.loom_scripts.specs.declared.step.Value.TheVariants.{Plain, Held, Next}
-use Rattle.loom_row_tables.specs.Scripts.Steps.{exit, end, fail}
+use Rattle.loom_row_parts.specs.Steps.{exit, end, fail}
 
 -- A thread writes a cell and releases that by an atomic. Main reads the cell where it acquires that, before and after it joins
 -- the thread, and asserts what it reads (loom's `tests/unsafe_cell.rs`).

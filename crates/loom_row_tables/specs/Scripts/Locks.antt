@@ -13,7 +13,7 @@ use Rattle.loom_objects.specs.declared.rt.thread.Name.{Name}
 use Rattle.loom_scripts.specs.declared.step.Step.{Step}
 use Rattle.loom_scripts.specs.declared.step.Step.TheVariants.{Do, Unless}
 use Rattle.loom_scripts.specs.declared.step.Value.TheVariants.{Plain, Held, Next}
-use Rattle.loom_row_tables.specs.Scripts.Steps.{exit, end, park, yield, fail}
+use Rattle.loom_row_parts.specs.Steps.{exit, end, park, yield, fail}
 
 abbrev pub finish : Step
 finish = Do 0 (op.Thread (threads.Finish (Plain 7)) None)

@@ -11,21 +11,8 @@ use Rattle.loom_objects.specs.declared.operation.ThreadOp.TheVariants as threads
 use Rattle.loom_scripts.specs.declared.step.Step.{Step}
 use Rattle.loom_scripts.specs.declared.step.Step.TheVariants.{Do, Store, Jump, Unless}
 use Rattle.loom_scripts.specs.declared.step.Value.TheVariants.{Plain, Held, Next, Both}
-use Rattle.loom_row_tables.specs.Scripts.Steps.{exit, end, yield}
-
--- the thread finishes with 0
-abbrev pub finish : Step
-finish = Do 0 (op.Thread (threads.Finish (Plain 0)) None)
-
--- stores to the atomics that three threads have for themselves
-abbrev pub store_main : Step
-store_main = Do 0 (op.Atomic (atomic.Store 0 1 Relaxed) None)
-
-abbrev pub store_first : Step
-store_first = Do 0 (op.Atomic (atomic.Store 1 1 Relaxed) None)
-
-abbrev pub store_second : Step
-store_second = Do 0 (op.Atomic (atomic.Store 2 1 Relaxed) None)
+use Rattle.loom_row_parts.specs.Measured.{finish}
+use Rattle.loom_row_parts.specs.Steps.{exit, end, yield}
 
 -- Two threads store to an atomic each, and load from the other's.
 abbrev pub store_buffering : List Step
@@ -48,15 +35,6 @@ three_threads =
     Do 0 (op.Atomic (atomic.Store 1 2 Relaxed) None) ∷ Jump 19 ∷ Do 0 (op.Atomic (atomic.Load 0 Relaxed) None) ∷
     Do 1 (op.Atomic (atomic.Load 0 Relaxed) None) ∷ Do 0 (op.Atomic (atomic.Store 2 1 Relaxed) None) ∷
     Do 0 (op.Atomic (atomic.Store 2 2 Relaxed) None) ∷ finish ∷ exit ∷ end ∷ []
-
--- Three threads store to an atomic each: main five times, and the others three times. Main joins them.
-abbrev pub stores_apart : List Step
-stores_apart =
-    Do 0 (op.Atomic (atomic.New numbers.U64 0) None) ∷ Do 1 (op.Atomic (atomic.New numbers.U64 0) None) ∷
-    Do 2 (op.Atomic (atomic.New numbers.U64 0) None) ∷ Do 3 (op.Thread (threads.Spawn 13 None) None) ∷
-    Do 4 (op.Thread (threads.Spawn 17 None) None) ∷ store_main ∷ store_main ∷ store_main ∷ store_main ∷ store_main ∷
-    Do 0 (op.Thread (threads.Join 3 3) None) ∷ Do 0 (op.Thread (threads.Join 4 4) None) ∷ Jump 20 ∷ store_first ∷
-    store_first ∷ store_first ∷ Jump 20 ∷ store_second ∷ store_second ∷ store_second ∷ finish ∷ exit ∷ end ∷ []
 
 -- Two threads lock two mutexes in the same order, beside a main that joins them.
 abbrev pub locks_in_turn : List Step

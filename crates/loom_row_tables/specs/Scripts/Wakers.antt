@@ -10,7 +10,7 @@ use Rattle.loom_objects.specs.declared.operation.Op.TheVariants as op
 use Rattle.loom_scripts.specs.declared.step.Step.{Step}
 use Rattle.loom_scripts.specs.declared.step.Step.TheVariants.{Do, Jump, Unless}
 use Rattle.loom_scripts.specs.declared.step.Value.TheVariants.{Plain}
-use Rattle.loom_row_tables.specs.Scripts.Steps.{exit, end, fail}
+use Rattle.loom_row_parts.specs.Steps.{exit, end, fail}
 
 abbrev pub finish : Step
 finish = Do 0 (op.Thread (threads.Finish (Plain 7)) None)

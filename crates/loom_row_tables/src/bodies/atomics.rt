@@ -1,10 +1,11 @@
 //! The scripts of the rows about atomics and fences.
 ghost use Rattle.std.specs.Prelude.{◌≡◌, map};
-ghost use Rattle.loom_row_tables.specs.Meanings.{named};
+ghost use Rattle.loom_row_parts.specs.Meanings.{named};
 ghost use Rattle.loom_row_tables.specs.Names.{fence_rows, function_rows, unsynchronized_rows, update_rows};
 
-use crate::rows::{Checked, DEFAULTS, Row, TEN_STEPS, row};
 use loom_objects::operation::{AtomicOp, Exchange, MutexOp, Op, ThreadOp};
+use loom_row_parts::row;
+use loom_row_parts::rows::{Checked, DEFAULTS, Row, TEN_STEPS};
 use loom_scripts::step::{END, EXIT, FAIL, Step, Value, YIELD};
 use loom_views::rt::change::Change::{Add, Max, Min, Nand, Xor};
 use loom_views::rt::num::Numbers;

@@ -1,10 +1,11 @@
 //! The scripts of the rows about cells, counted references and tracked values.
 ghost use Rattle.std.specs.Prelude.{◌≡◌, map};
-ghost use Rattle.loom_row_tables.specs.Meanings.{named};
+ghost use Rattle.loom_row_parts.specs.Meanings.{named};
 ghost use Rattle.loom_row_tables.specs.Names.{causality_rows, main_alone_rows, read_race_rows, synchronized_rows, thread_race_rows, turn_rows, write_race_rows};
 
-use crate::rows::{DEFAULTS, Row, row};
 use loom_objects::operation::{ArcOp, AtomicOp, CellOp, Op, ThreadOp, TrackOp};
+use loom_row_parts::row;
+use loom_row_parts::rows::Row;
 use loom_scripts::step::{END, EXIT, FAIL, Step, Value};
 use loom_views::rt::num::Numbers;
 use std::sync::atomic::Ordering::{Acquire, Release};

@@ -1,11 +1,12 @@
 //! The scripts of the rows about channels.
 ghost use Rattle.std.specs.Prelude.{◌≡◌, map};
-ghost use Rattle.loom_row_tables.specs.Meanings.{named};
+ghost use Rattle.loom_row_parts.specs.Meanings.{named};
 ghost use Rattle.loom_row_tables.specs.Names.{AreEndRows, message_rows};
 
-use crate::rows::{DEFAULTS, Row, row};
 use loom_objects::operation::{ChannelOp, Op, ThreadOp};
 use loom_objects::rt::thread::Name;
+use loom_row_parts::row;
+use loom_row_parts::rows::Row;
 use loom_scripts::step::{END, EXIT, FAIL, Step, Value};
 
 const FINISH: Step = Step::Do(0, Op::Thread(ThreadOp::Finish(Value::Plain(7)), None));

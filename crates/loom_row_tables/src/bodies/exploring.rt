@@ -1,11 +1,12 @@
 //! The scripts of the rows about runs that explore from somewhere on, or up to somewhere.
 ghost use Rattle.std.specs.Prelude.{◌≡◌, map};
-ghost use Rattle.loom_row_tables.specs.Meanings.{named};
+ghost use Rattle.loom_row_parts.specs.Meanings.{named};
 ghost use Rattle.loom_row_tables.specs.Names.{exploring_rows};
 
-use crate::bodies::LOCK_BESIDE;
-use crate::rows::{EXPLICIT, Row, WHOLE, row};
 use loom_objects::operation::{ExploreOp, MutexOp, Op, ThreadOp};
+use loom_row_parts::few_threads::LOCK_BESIDE;
+use loom_row_parts::row;
+use loom_row_parts::rows::{EXPLICIT, Row, WHOLE};
 use loom_scripts::step::{END, EXIT, Step, Value};
 
 const FINISH: Step = Step::Do(0, Op::Thread(ThreadOp::Finish(Value::Plain(7)), None));

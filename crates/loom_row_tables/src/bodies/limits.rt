@@ -1,10 +1,11 @@
 //! The scripts of the rows about misuse, and about runs that reach a limit.
 ghost use Rattle.std.specs.Prelude.{◌≡◌, map};
-ghost use Rattle.loom_row_tables.specs.Meanings.{named};
+ghost use Rattle.loom_row_parts.specs.Meanings.{named};
 ghost use Rattle.loom_row_tables.specs.Names.{limit_rows};
 
-use crate::rows::{DEFAULTS, LONG_RUNS, Row, THREE_NODES, row};
 use loom_objects::operation::{AtomicOp, LocalOp, MutexOp, Op, ThreadOp};
+use loom_row_parts::row;
+use loom_row_parts::rows::{LONG_RUNS, Row, THREE_NODES};
 use loom_scripts::step::{END, EXIT, Step, Value, YIELD};
 use loom_views::rt::num::Numbers;
 use std::sync::atomic::Ordering::{Relaxed, Release};

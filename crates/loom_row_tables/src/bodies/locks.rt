@@ -1,11 +1,12 @@
 //! The scripts of the rows about locks, condition variables, notifiers and threads that wait for one another.
 ghost use Rattle.std.specs.Prelude.{◌≡◌, map};
-ghost use Rattle.loom_row_tables.specs.Meanings.{named};
+ghost use Rattle.loom_row_parts.specs.Meanings.{named};
 ghost use Rattle.loom_row_tables.specs.Names.{AreOtherRows, condvar_rows, mutex_rows, rwlock_rows, waking_rows};
 
-use crate::rows::{DEFAULTS, LONG_RUNS, Row, row};
 use loom_objects::operation::{AtomicOp, CondvarOp, MutexOp, NotifyOp, Op, RwLockOp, ThreadOp};
 use loom_objects::rt::thread::Name;
+use loom_row_parts::row;
+use loom_row_parts::rows::{LONG_RUNS, Row};
 use loom_scripts::step::{END, EXIT, FAIL, PARK, Step, Value, YIELD};
 use loom_views::rt::num::Numbers;
 use std::sync::atomic::Ordering::Relaxed;

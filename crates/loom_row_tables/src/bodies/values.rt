@@ -1,10 +1,11 @@
 //! The scripts of the rows about values that threads have for themselves, and values that are made once a run.
 ghost use Rattle.std.specs.Prelude.{◌≡◌, map};
-ghost use Rattle.loom_row_tables.specs.Meanings.{named};
+ghost use Rattle.loom_row_parts.specs.Meanings.{named};
 ghost use Rattle.loom_row_tables.specs.Names.{value_rows};
 
-use crate::rows::{DEFAULTS, Row, row};
 use loom_objects::operation::{LazyOp, LocalOp, Op, ThreadOp};
+use loom_row_parts::row;
+use loom_row_parts::rows::Row;
 use loom_scripts::step::{END, EXIT, FAIL, Step, Value};
 
 const FINISH: Step = Step::Do(0, Op::Thread(ThreadOp::Finish(Value::Plain(7)), None));

@@ -1,10 +1,11 @@
 //! The scripts of the rows about wakers of futures, and places for them.
 ghost use Rattle.std.specs.Prelude.{◌≡◌, map};
-ghost use Rattle.loom_row_tables.specs.Meanings.{named};
+ghost use Rattle.loom_row_parts.specs.Meanings.{named};
 ghost use Rattle.loom_row_tables.specs.Names.{waker_rows};
 
-use crate::rows::{DEFAULTS, Row, row};
 use loom_objects::operation::{AtomicOp, AtomicWakerOp, Op, ThreadOp, WakerOp};
+use loom_row_parts::row;
+use loom_row_parts::rows::Row;
 use loom_scripts::step::{END, EXIT, FAIL, Step, Value};
 use loom_views::rt::num::Numbers;
 use std::sync::atomic::Ordering::{Acquire, Release};

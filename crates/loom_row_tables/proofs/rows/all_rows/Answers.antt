@@ -1,14 +1,14 @@
 use Rattle.std.proofs.Common.{[], refl}
-use Rattle.loom_row_tables.specs.Meanings.{named}
+use Rattle.loom_row_parts.specs.Meanings.{named}
 use Rattle.loom_row_tables.proofs.Joining.{are_table, behind}
 use Rattle.loom_row_tables.proofs.rows.all_rows.Goals as goal
 
 pub returns : goal.returns
 returns c =
-    let limits = behind named _ [] _ [] c.rows-4.ensures refl in
-    let exploring = behind named _ _ _ _ c.rows-3.ensures limits in
-    let values = behind named _ _ _ _ c.rows-2.ensures exploring in
-    let wakers = behind named _ _ _ _ c.rows.ensures values in
+    let limits = behind named _ [] _ [] c.rows-5.ensures refl in
+    let exploring = behind named _ _ _ _ c.rows-4.ensures limits in
+    let values = behind named _ _ _ _ c.rows-3.ensures exploring in
+    let wakers = behind named _ _ _ _ c.rows-2.ensures values in
     let ends = behind named _ _ _ _ c.ends.ensures.2 wakers in
     let messages = behind named _ _ _ _ c.messages.ensures ends in
     let others = behind named _ _ _ _ c.others.ensures.2 messages in
@@ -31,5 +31,5 @@ returns c =
     let buffering = behind named _ _ _ _ c.buffering.ensures orderings in
     let loads = behind named _ _ _ _ c.loads.ensures buffering in
     let failing = behind named _ _ _ _ c.failing.ensures loads in
-    let few_threads = behind named _ _ _ _ c.few_threads.ensures failing in
+    let few_threads = behind named _ _ _ _ c.rows.ensures failing in
     are_table c.joined.result (λ all. all.items) _ c.joined.ensures (c.others.ensures.0, c.ends.ensures.0, c.others.ensures.1, c.ends.ensures.1, few_threads)

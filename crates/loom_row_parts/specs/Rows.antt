@@ -2,7 +2,7 @@
 use Rattle.std.specs.Prelude.{ℕ, List, [], ◌∷◌, Option, Some, None}
 use Rattle.std.specs.List.{find}
 use Rattle.std.specs.Str.{bytes_eq}
-use Rattle.loom_row_tables.specs.declared.rows.Row.{Row}
+use Rattle.loom_row_parts.specs.declared.rows.Row.{Row}
 
 -- the file that words name: the second of two
 abbrev pub file_in : List (List ℕ) → Option (List ℕ)

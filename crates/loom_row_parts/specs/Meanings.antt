@@ -1,10 +1,10 @@
 -- What is checked, as lists and numbers.
 use Rattle.std.specs.Prelude.{ℕ, List}
 use Rattle.loom_scripts.specs.declared.step.Step.{Step}
-use Rattle.loom_row_tables.specs.declared.rows.Checked.{Checked}
-use Rattle.loom_row_tables.specs.declared.rows.Checked.TheVariants.{Script, Updater}
-use Rattle.loom_row_tables.specs.declared.rows.Row.{Row}
-use Rattle.loom_row_tables.specs.declared.settings.Settings.{Settings}
+use Rattle.loom_row_parts.specs.declared.rows.Checked.{Checked}
+use Rattle.loom_row_parts.specs.declared.rows.Checked.TheVariants.{Script, Updater}
+use Rattle.loom_row_parts.specs.declared.rows.Row.{Row}
+use Rattle.loom_row_parts.specs.declared.settings.Settings.{Settings}
 
 -- a script of these steps, or the thread that updates its atomic, with these two numbers
 pub data Meant : Type 0 where
