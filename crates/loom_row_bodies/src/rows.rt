@@ -1,24 +1,17 @@
 //! What the program does with words that mean a row: it checks the row, and prints what the check finds.
 ghost use Rattle.std.specs.Prelude.{◌≡◌, ◌⊎◌, IfOk, map, option_copied};
-ghost use Rattle.loom_runs.specs.Runs.{runs as runs_of};
-ghost use Rattle.loom.specs.Check.{ReportsAlone};
-ghost use Rattle.loom.specs.Settings.{explores};
 ghost use Rattle.loom_row_bodies.specs.Line.{PrintedOf};
-ghost use Rattle.loom_row_bodies.specs.Rows.{PrintedChecked, PrintedNamed, PrintedRow, PrintedSome};
+ghost use Rattle.loom_row_bodies.specs.Rows.{PrintedChecked, PrintedNamed, PrintedRow};
 
 use crate::line::{self, ShownReport};
-use crate::settings::Builds;
-use crate::updates::Updater;
-use loom::Body;
+use crate::tasks::{Task, do_task};
 use loom::error::CheckError;
-use loom::model::{Builder, Report};
+use loom::model::Report;
 use loom_row_parts::rows::meant;
 pub use loom_row_parts::rows::{
     Checked, DEFAULTS, EXPLICIT, LONG_RUNS, Row, TEN_STEPS, THREE_NODES, TWO_RUNS, WHOLE, row_of,
 };
 pub use loom_row_tables::rows::all_rows;
-use loom_scripts::number::Number;
-use loom_scripts::script::Script;
 use std::io::{self, Write};
 use std::rt::Files;
 
@@ -86,32 +79,7 @@ pub fn check_row<R: AllocGlobal + Files, O: Write, E: Write>(
 ) -> io::Result<u8>
     ensures { IfOk result (λ status. (status ≡ 2) ⊎ PrintedChecked row.now.checked row.now.settings (option_copied file.entry) (O.contents out.old) (O.contents out.new) status) }
 {
-    let builder = row.settings.builder_with(rt.alloc(), file)?;
-    match row.checked {
-        Checked::Script(steps) => {
-            let script = Script::new(rt.alloc(), steps)?;
-            check_body(rt, &builder, &script, out, err)
-        }
-        Checked::Updater(one, other) => {
-            let updater = Updater::main(one, other);
-            check_body(rt, &builder, &updater, out, err)
-        }
-    }
-}
-
-fn check_body<R: AllocGlobal + Files, B: Body<Data = Number>, O: Write, E: Write>(
-    rt: &R,
-    builder: &Builder,
-    body: &B,
-    out: &mut O,
-    err: &mut E,
-) -> io::Result<u8>
-    ensures { IfOk result (λ status. (status ≡ 2) ⊎ PrintedSome (ReportsAlone builder.now (runs_of B.next (explores builder.now) builder.now.max_threads builder.now.max_steps body.now)) (O.contents out.old) (O.contents out.new) status) }
-{
-    match builder.check(rt, rt.alloc(), body) {
-        Ok(report) => print_report(out, &report),
-        Err(error) => refuse_check(err, error),
-    }
+    do_task(rt, row, Task::Check, false, file, out, err)
 }
 
 /// There is no report.

@@ -3,7 +3,7 @@
 ghost use Rattle.std.specs.Prelude.{◌≡◌, ◌⊎◌, Some, IfOk, OnOk, false, option_copied};
 ghost use Rattle.loom_runs.specs.Runs.{runs as runs_of};
 ghost use Rattle.loom.specs.Settings.{explores};
-ghost use Rattle.loom_row_bodies.specs.Tasks.{PrintedBy, PrintedReplay, PrintedRisen, PrintedTask, replay_status, replay_text, risen_text};
+ghost use Rattle.loom_row_bodies.specs.Tasks.{PrintedBy, PrintedReplay, PrintedRisen, PrintedTask, replay_status, replay_text, risen_text, tree_of};
 
 use crate::line::{self, ShownChoices, ShownReport};
 use crate::rows::{Checked, Row, print_report, refuse_check};
@@ -82,14 +82,29 @@ pub fn do_task<R: AllocGlobal + Files, O: Write, E: Write>(
     ensures { IfOk result (λ status. (status ≡ 2) ⊎ PrintedTask task.entry explains row.now.checked row.now.settings (option_copied file.entry) (O.contents out.old) (O.contents out.new) status) }
 {
     let builder = row.settings.builder_with(rt.alloc(), file)?;
-    match row.checked {
+    with_builder(rt, &builder, row.checked, task, explains, out, err)
+}
+
+/// The same with the builder that is made of the row's settings.
+fn with_builder<R: AllocGlobal + Files, O: Write, E: Write>(
+    rt: &R,
+    builder: &Builder,
+    checked: Checked,
+    task: Task,
+    explains: bool,
+    out: &mut O,
+    err: &mut E,
+) -> io::Result<u8>
+    ensures { IfOk result (λ status. (status ≡ 2) ⊎ PrintedBy task.entry explains builder.now (tree_of checked builder.now) (O.contents out.old) (O.contents out.new) status) }
+{
+    match checked {
         Checked::Script(steps) => {
             let script = Script::new(rt.alloc(), steps)?;
-            with_body(rt, &builder, &script, task, explains, out, err)
+            with_body(rt, builder, &script, task, explains, out, err)
         }
         Checked::Updater(one, other) => {
             let updater = Updater::main(one, other);
-            with_body(rt, &builder, &updater, task, explains, out, err)
+            with_body(rt, builder, &updater, task, explains, out, err)
         }
     }
 }
