@@ -12,8 +12,10 @@ use crate::bodies::values::{AFTER_EXIT, AFTER_MAIN, MADE_TWICE};
 use crate::texts;
 use loom::model::Builder;
 use loom_choices::choices::Choices;
+use loom_parts::choice::Choice;
 use loom_scripts::script::Script;
 use loom_scripts::step::Step;
+use std::alloc::Global;
 use std::test::Fail;
 
 /// A body, the choices that its run follows, and what is told of it.
@@ -86,21 +88,41 @@ static CHOICES: [Row; 3] = [
 ];
 
 // Where a run has more than 65,535 choices, its text is kept up to them.
-fn is_beginning(row: &Row, text: &str) -> bool {
-    row.name == "too_many_stores" && text.starts_with(row.text)
+fn is_told(row: &Row, text: &str) -> bool {
+    text == row.text || row.name == "too_many_stores" && text.starts_with(row.text)
 }
 
-fn tells(rt: &HostRuntime, builder: &Builder, row: &'static Row) -> Result<(), Fail> {
-    let body = Script::new(rt.alloc(), row.steps)?;
-    let choices = Choices::parse(rt.alloc(), row.choices)?;
-    let explanation = builder.explain(rt.alloc(), &body, choices.as_slice())?;
-    let text = format!(in rt.alloc(); "{explanation}")?;
-    if text.as_str() == row.text || is_beginning(row, text.as_str()) {
+// What is told of the body's run that follows these choices.
+fn explanation(
+    alloc: Global,
+    builder: &Builder,
+    body: &Script,
+    choices: &[Choice],
+) -> Result<String, Fail> {
+    let explanation = builder.explain(alloc, body, choices)?;
+    Ok(format!(in alloc; "{explanation}")?)
+}
+
+// What is told of the row's run.
+fn told(alloc: Global, builder: &Builder, row: &'static Row) -> Result<String, Fail> {
+    let body = Script::new(alloc, row.steps)?;
+    let choices = Choices::parse(alloc, row.choices)?;
+    explanation(alloc, builder, &body, choices.as_slice())
+}
+
+// Fails where the row has another text, and prints this one.
+fn compare(rt: &HostRuntime, row: &Row, text: &str) -> Result<(), Fail> {
+    if is_told(row, text) {
         return Ok(());
     }
     let name = row.name;
     println!(rt; "=== {name}\n{text}")?;
     Err(Fail::from("another text"))
+}
+
+fn tells(rt: &HostRuntime, builder: &Builder, row: &'static Row) -> Result<(), Fail> {
+    let text = told(rt.alloc(), builder, row)?;
+    compare(rt, row, text.as_str())
 }
 
 fn tells_each(rt: &HostRuntime, rows: &'static [Row]) -> Result<(), Fail> {

@@ -225,20 +225,30 @@ fn data(reply: Reply<Number>) -> Option<u64> {
     }
 }
 
-// Whether a compare-exchange has read this.
-fn exchanged<T: Numeric>(read: Result<T, T>, wanted: Result<u64, u64>) -> bool {
-    match (read, wanted) {
-        (Ok(read), Ok(wanted)) | (Err(read), Err(wanted)) => read.into_u64() == wanted,
-        _ => false,
+// What an atomic holds, in 64 bits.
+fn value<T: Numeric>(reply: &Reply<Number>) -> Option<u64> {
+    Some(Atomic::<T>::value(reply)?.into_u64())
+}
+
+// What a compare-exchange has read, in 64 bits.
+fn exchanged<T: Numeric>(reply: &Reply<Number>) -> Option<Result<u64, u64>> {
+    match Atomic::<T>::exchanged(reply)? {
+        Ok(read) => Some(Ok(read.into_u64())),
+        Err(read) => Some(Err(read.into_u64())),
     }
 }
 
-// What an update has read, or else what it has replaced.
-fn fetched<T: Numeric>(found: Fetched<T>) -> Result<u64, u64> {
-    match found {
-        Fetched::Read(value) => Ok(value.into_u64()),
-        Fetched::Replaced(value) => Err(value.into_u64()),
+// What an update has read, or else what it has replaced, in 64 bits.
+fn fetched<T: Numeric>(reply: &Reply<Number>) -> Option<Result<u64, u64>> {
+    match FetchUpdate::<T>::fetched(reply)? {
+        Fetched::Read(value) => Some(Ok(value.into_u64())),
+        Fetched::Replaced(value) => Some(Err(value.into_u64())),
     }
+}
+
+// The number of the waker that was taken out of its place.
+fn waker(reply: &Reply<Number>) -> Option<usize> {
+    Some(Waker::from_reply(reply)?.number)
 }
 
 // Whether the messages are these.
@@ -279,52 +289,76 @@ fn stood(reply: &Reply<Number>, one: u64, other: u64) -> bool {
 }
 
 // Whether the thread that asked is this one.
+fn is_asking(reply: &Reply<Number>, number: u8, name: Option<&'static str>) -> bool {
+    match Thread::from_reply(reply) {
+        Some(thread) => is_thread(thread, number, name),
+        None => false,
+    }
+}
+
+// Whether the thread that was spawned is this one.
+fn is_spawned(reply: &Reply<Number>, number: u8, name: Option<&'static str>) -> bool {
+    match JoinHandle::from_reply(reply) {
+        Some(handle) => is_thread(handle.thread(), number, name),
+        None => false,
+    }
+}
+
 fn is_thread(thread: Thread, number: u8, name: Option<&'static str>) -> bool {
     thread.id() == ThreadId(number) && thread.name() == name
 }
 
 impl Answer {
     /// Whether it is what the reply says, where atomics hold a `T`.
-    pub fn is<T: Numeric>(self, reply: Reply<Number>) -> Option<bool> {
-        Some(match self {
+    pub fn is<T: Numeric>(self, reply: Reply<Number>) -> bool {
+        let is = self.is_read::<T>(&reply);
+        self.is_taken(reply) && is
+    }
+
+    // Whether it is what is read off the reply.
+    fn is_read<T: Numeric>(self, reply: &Reply<Number>) -> bool {
+        match self {
             Answer::Start => matches!(reply, Reply::Start),
             Answer::Done => matches!(reply, Reply::Done),
-            Answer::Blocks => TryLockError::from_reply(&reply).is_some(),
+            Answer::Blocks => TryLockError::from_reply(reply).is_some(),
             Answer::Shared => matches!(reply, Reply::Shared),
-            Answer::Count(count) => matches!(reply, Reply::Value(found) if found == count),
-            Answer::Data(number) => {
-                matches!(reply, Reply::Data(Number(found)) if found == number)
-            }
-            Answer::New(object, number) => object.made(&reply)? == number,
-            Answer::Holds(guard, number, held) => {
-                guard.held(&reply)? == number && data(reply)? == held
-            }
-            Answer::Takes(guard, number, held) => guard.taken(reply)? == (number, held),
-            Answer::Value(value) => Atomic::<T>::value(&reply)?.into_u64() == value,
-            Answer::Exchanged(wanted) => exchanged(Atomic::<T>::exchanged(&reply)?, wanted),
-            Answer::Read(value) => fetched(FetchUpdate::<T>::fetched(&reply)?) == Ok(value),
-            Answer::Replaced(value) => fetched(FetchUpdate::<T>::fetched(&reply)?) == Err(value),
+            Answer::Count(count) => matches!(reply, Reply::Value(found) if *found == count),
+            Answer::Data(data) => matches!(reply, Reply::Data(Number(found)) if *found == data),
+            Answer::New(object, number) => object.made(reply) == Some(number),
+            Answer::Holds(guard, number, _) => guard.held(reply) == Some(number),
+            Answer::Takes(_, _, _) => true,
+            Answer::Value(number) => value::<T>(reply) == Some(number),
+            Answer::Exchanged(read) => exchanged::<T>(reply) == Some(read),
+            Answer::Read(number) => fetched::<T>(reply) == Some(Ok(number)),
+            Answer::Replaced(number) => fetched::<T>(reply) == Some(Err(number)),
             Answer::Empty => matches!(reply, Reply::Empty),
             Answer::NoSender => matches!(reply, Reply::RecvError),
-            Answer::Back(number) => came_back(&reply, number),
+            Answer::Back(data) => came_back(reply, data),
             Answer::Messages(numbers) => {
-                matches!(&reply, Reply::Messages(found) if are_messages(found, numbers))
+                matches!(reply, Reply::Messages(found) if are_messages(found, numbers))
             }
-            Answer::Waker(number) => Waker::from_reply(&reply)?.number == number,
+            Answer::Waker(number) => waker(reply) == Some(number),
             Answer::NoWaker => matches!(reply, Reply::NoWaker),
             Answer::Absent => matches!(reply, Reply::Absent),
-            Answer::Gone => AccessError::from_reply(&reply).is_some(),
-            Answer::Stood(one, other) => stood(&reply, one, other),
+            Answer::Gone => AccessError::from_reply(reply).is_some(),
+            Answer::Stood(one, other) => stood(reply, one, other),
             Answer::Locals(values) => {
-                matches!(&reply, Reply::Locals(found) if are_locals(found.as_slice(), values))
+                matches!(reply, Reply::Locals(found) if are_locals(found.as_slice(), values))
             }
             Answer::Lazies(values) => {
-                matches!(&reply, Reply::Lazies(found) if are_lazies(found.as_slice(), values))
+                matches!(reply, Reply::Lazies(found) if are_lazies(found.as_slice(), values))
             }
-            Answer::Thread(number, name) => is_thread(Thread::from_reply(&reply)?, number, name),
-            Answer::Spawned(number, name) => {
-                is_thread(JoinHandle::from_reply(&reply)?.thread(), number, name)
-            }
-        })
+            Answer::Thread(number, name) => is_asking(reply, number, name),
+            Answer::Spawned(number, name) => is_spawned(reply, number, name),
+        }
+    }
+
+    // Whether it is what is taken out of the reply, if anything is.
+    fn is_taken(self, reply: Reply<Number>) -> bool {
+        match self {
+            Answer::Holds(_, _, held) => data(reply) == Some(held),
+            Answer::Takes(guard, number, held) => guard.taken(reply) == Some((number, held)),
+            _ => true,
+        }
     }
 }

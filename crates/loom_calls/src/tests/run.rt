@@ -7,7 +7,7 @@ use loom_objects::failure::Stop;
 use loom_objects::operation::Turn;
 use loom_scripts::number::Number;
 use loom_views::rt::num::Numeric;
-use std::alloc::{AllocError, Global};
+use std::alloc::Global;
 use std::mem;
 use std::test::Fail;
 
@@ -19,6 +19,11 @@ const SEARCH: Search = Search {
     explores: true,
 };
 
+const LIMITS: Limits = Limits {
+    max_threads: 2,
+    max_steps: 40,
+};
+
 /// Makes the calls, in a run of main, and of one thread more where main spawns it, where atomics hold a `T`. Each comes to what the table says, and else that is the error.
 pub fn come_to<T: Numeric>(
     alloc: Global,
@@ -28,31 +33,28 @@ pub fn come_to<T: Numeric>(
     if calls.len() != table.len() {
         return Err(Fail::from("the table has another length"));
     }
-    match first_wrong::<T>(alloc, calls, table)? {
+    let mut execution = Execution::new(alloc, LIMITS)?;
+    let mut path = Path::new(alloc, SEARCH);
+    match first_wrong::<T>(&mut execution, &mut path, calls, table) {
         Some(name) => Err(Fail::from(name)),
         None => Ok(()),
     }
 }
 
-// The first call that doesn't come to what the table says. It fails only where the run is refused memory before the first call.
+// The first call that doesn't come to what the table says.
 fn first_wrong<T: Numeric>(
-    alloc: Global,
+    execution: &mut Execution<Number>,
+    path: &mut Path,
     calls: &mut [Op<Number, ()>],
     table: &[Row],
-) -> Result<Option<&'static str>, AllocError> {
-    let limits = Limits {
-        max_threads: 2,
-        max_steps: 40,
-    };
-    let mut execution = Execution::new(alloc, limits)?;
-    let mut path = Path::new(alloc, SEARCH);
+) -> Option<&'static str> {
     for (call, (name, comes)) in calls.iter_mut().zip(table) {
-        let turn = execution.submit(&mut path, mem::replace(call, Op::Fail(None)));
+        let turn = execution.submit(path, mem::replace(call, Op::Fail(None)));
         if !is_so::<T>(turn, *comes) {
-            return Ok(Some(*name));
+            return Some(*name);
         }
     }
-    Ok(None)
+    None
 }
 
 // Whether the call comes to this.
@@ -69,10 +71,7 @@ fn is_so<T: Numeric>(turn: Result<Turn<Number>, Stop>, comes: Comes) -> bool {
 // Whether this thread goes on, and is told this.
 fn tells<T: Numeric>(turn: Result<Turn<Number>, Stop>, thread: u8, answer: Answer) -> bool {
     match turn {
-        Ok(Turn::Reply(told, reply)) => match answer.is::<T>(reply) {
-            Some(is) => is && told == thread,
-            None => false,
-        },
+        Ok(Turn::Reply(told, reply)) => answer.is::<T>(reply) && told == thread,
         Ok(Turn::Start(told)) => told == thread && matches!(answer, Answer::Start),
         Ok(Turn::Ended(_)) | Err(_) => false,
     }
