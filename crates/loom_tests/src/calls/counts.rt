@@ -1,13 +1,13 @@
 //! Counted references and tracked values.
-use crate::tests::answer::Answer::{Count, Data, Done, New, Shared};
-use crate::tests::answer::Comes::{Fails, Main};
-use crate::tests::answer::{Object, Row};
-use crate::tests::run::come_to;
+use crate::asserting::same;
+use crate::calls::answer::Answer::{Count, Data, Done, New, Shared};
+use crate::calls::answer::Comes::{Fails, Main};
+use crate::calls::answer::{Object, Row};
+use crate::calls::run::come_to;
 use loom::alloc::Track;
 use loom::sync::Arc;
 use loom::{FailureKind, Op};
 use loom_scripts::number::Number;
-use std::process::Abort;
 use std::test::Fail;
 
 // Main has two references to one value, asks for the value while it has both, and again once it has one, changes it, takes it
@@ -76,11 +76,10 @@ static TRACK: [Row; 8] = [
 ];
 
 #[test]
-fn references_are_told_apart(rt: HostRuntime) -> Result<(), Fail> {
+fn references_are_told_apart(rt: HostRuntime) {
     let one = Arc { number: 0 };
-    assert!(rt; one.ptr_eq(one));
-    assert!(rt; !one.ptr_eq(Arc { number: 1 }));
-    Ok(())
+    same(&rt, one.ptr_eq(one), true);
+    same(&rt, one.ptr_eq(Arc { number: 1 }), false);
 }
 
 #[test]

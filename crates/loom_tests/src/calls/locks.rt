@@ -1,8 +1,8 @@
 //! Locks, condition variables and notifiers.
-use crate::tests::answer::Answer::{Blocks, Data, Done, Holds, New, Spawned, Start, Takes};
-use crate::tests::answer::Comes::{Fails, Main, Other};
-use crate::tests::answer::{Guard, Object, Row};
-use crate::tests::run::come_to;
+use crate::calls::answer::Answer::{Blocks, Data, Done, Holds, New, Spawned, Start, Takes};
+use crate::calls::answer::Comes::{Fails, Main, Other};
+use crate::calls::answer::{Guard, Object, Row};
+use crate::calls::run::come_to;
 use loom::sync::{Condvar, Mutex, MutexGuard, Notify, RwLock, RwLockReadGuard, RwLockWriteGuard};
 use loom::{FailureKind, Op, thread};
 use loom_scripts::number::Number;

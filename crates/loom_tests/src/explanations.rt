@@ -1,15 +1,17 @@
 //! The text of each body's run, whole.
-use crate::bodies::limits::{FENCES, ORDERS_EQUAL, STORES, THREE_SPAWNED};
-use crate::bodies::locks::{
+mod bodies;
+mod texts;
+
+use crate::explanations::bodies::limits::{FENCES, ORDERS_EQUAL, STORES, THREE_SPAWNED};
+use crate::explanations::bodies::locks::{
     ALL_WAIT, ARC_LEFT, ASLEEP, CROSSED, LOST_UPDATE, MESSAGE_LEFT, SPINS, SPINS_AND_YIELDS,
     TRACK_LEFT, TWICE, WAKER_LEFT,
 };
-use crate::bodies::misuses::{
+use crate::explanations::bodies::misuses::{
     APART, ENDS_FIRST, FENCE, RELEASED_BY_MAIN, STOPPED_TWICE, TWO_WAIT, UNREACHABLE,
 };
-use crate::bodies::races::{BESIDE, MUTATED, OPEN, SPIN, THREE, UNRELEASED};
-use crate::bodies::values::{AFTER_EXIT, AFTER_MAIN, MADE_TWICE};
-use crate::texts;
+use crate::explanations::bodies::races::{BESIDE, MUTATED, OPEN, SPIN, THREE, UNRELEASED};
+use crate::explanations::bodies::values::{AFTER_EXIT, AFTER_MAIN, MADE_TWICE};
 use loom::model::Builder;
 use loom_choices::choices::Choices;
 use loom_parts::choice::Choice;

@@ -1,8 +1,8 @@
 //! Cells.
-use crate::tests::answer::Answer::{Data, Done, Holds, New, Takes};
-use crate::tests::answer::Comes::{Fails, Main};
-use crate::tests::answer::{Guard, Object, Row};
-use crate::tests::run::come_to;
+use crate::calls::answer::Answer::{Data, Done, Holds, New, Takes};
+use crate::calls::answer::Comes::{Fails, Main};
+use crate::calls::answer::{Guard, Object, Row};
+use crate::calls::run::come_to;
 use loom::cell::{Cell, ConstPtr, MutPtr, UnsafeCell};
 use loom::{FailureKind, Op};
 use loom_scripts::number::Number;

@@ -1,8 +1,8 @@
 //! Wakers of futures, and places for them.
-use crate::tests::answer::Answer::{Done, New, NoWaker, Waker as Held};
-use crate::tests::answer::Comes::{Fails, Main};
-use crate::tests::answer::{Object, Row};
-use crate::tests::run::come_to;
+use crate::calls::answer::Answer::{Done, New, NoWaker, Waker as Held};
+use crate::calls::answer::Comes::{Fails, Main};
+use crate::calls::answer::{Object, Row};
+use crate::calls::run::come_to;
 use loom::future::{AtomicWaker, BlockOn, Waker};
 use loom::{FailureKind, Op};
 use loom_scripts::number::Number;

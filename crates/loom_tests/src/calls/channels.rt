@@ -1,8 +1,8 @@
 //! Channels.
-use crate::tests::answer::Answer::{Back, Data, Done, Empty, Messages, New, NoSender};
-use crate::tests::answer::Comes::{Fails, Main};
-use crate::tests::answer::{Object, Row};
-use crate::tests::run::come_to;
+use crate::calls::answer::Answer::{Back, Data, Done, Empty, Messages, New, NoSender};
+use crate::calls::answer::Comes::{Fails, Main};
+use crate::calls::answer::{Object, Row};
+use crate::calls::run::come_to;
 use loom::sync::mpsc::{Receiver, Sender, channel};
 use loom::{FailureKind, Op};
 use loom_scripts::number::Number;

@@ -1,10 +1,11 @@
+//! Small histories of views: what may be read after what, and what races.
+use crate::asserting::{holds, same};
 use loom_views::rt::atomic::Reader;
 use loom_views::rt::change::Change;
 use loom_views::rt::failure::FailureKind;
 use loom_views::rt::num::{Numbers, Numeric};
 use loom_views::rt::table::Views;
 use loom_views::rt::vv::VersionVec;
-use std::fmt::Debug;
 use std::process::Abort;
 use std::sync::atomic::Ordering;
 use std::test::Fail;
@@ -19,11 +20,6 @@ const SECOND: [bool; 7] = [false, true, false, false, false, false, false];
 const LAST_TWO: [bool; 7] = [false, true, true, false, false, false, false];
 
 const THIRD: [bool; 7] = [false, false, true, false, false, false, false];
-
-// Ends the test where a call didn't answer what it is to answer.
-fn same<T: PartialEq + Debug + Drop>(rt: &impl Abort, found: T, wanted: T) {
-    assert_eq!(rt; found, wanted);
-}
 
 // Main has a notifier, 0, and an atomic, 1, which begins with 5; it spawns a child, and stores 7.
 fn stored(rt: &(impl Abort + AllocGlobal)) -> Result<Views, Fail> {
@@ -254,13 +250,13 @@ fn five_threads_are_the_most(rt: HostRuntime) -> Result<(), Fail> {
 fn vectors_are_joined_and_compared(rt: HostRuntime) -> Result<(), Fail> {
     let mut one = VersionVec::new();
     let mut other = VersionVec::new();
-    assert!(rt; one.inc(0));
-    assert!(rt; other.inc(3));
+    holds(&rt, one.inc(0), "no version more");
+    holds(&rt, other.inc(3), "no version more");
     same(&rt, one.partial_cmp(&other), None);
     same(&rt, one.ahead(&other), Some(3));
     one.join(&other);
     same(&rt, one.versions(), [1, 0, 0, 1, 0]);
-    assert!(rt; other < one);
+    holds(&rt, other < one, "the vector is not behind");
     Ok(())
 }
 
@@ -268,7 +264,7 @@ fn vectors_are_joined_and_compared(rt: HostRuntime) -> Result<(), Fail> {
 fn numbers_keep_their_value(rt: HostRuntime) -> Result<(), Fail> {
     same(&rt, i8::from_u64((-3i8).into_u64()), -3i8);
     same(&rt, u64::from_u64(u64::MAX.into_u64()), u64::MAX);
-    assert!(rt; bool::from_u64(true.into_u64()));
+    same(&rt, bool::from_u64(true.into_u64()), true);
     Ok(())
 }
 

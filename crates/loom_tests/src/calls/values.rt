@@ -1,13 +1,13 @@
 //! Values that threads have for themselves, values that are made once a run, and the exploring switches.
-use crate::tests::answer::Answer::{Absent, Data, Done, Gone, Lazies, Locals, Stood};
-use crate::tests::answer::Comes::{Fails, Main};
-use crate::tests::answer::Row;
-use crate::tests::run::come_to;
+use crate::asserting::same;
+use crate::calls::answer::Answer::{Absent, Data, Done, Gone, Lazies, Locals, Stood};
+use crate::calls::answer::Comes::{Fails, Main};
+use crate::calls::answer::Row;
+use crate::calls::run::come_to;
 use loom::lazy_static::{self, Lazy};
 use loom::thread::{self, AccessError, LocalKey};
 use loom::{FailureKind, Op, explore, skip_branch, stop_exploring};
 use loom_scripts::number::Number;
-use std::process::Abort;
 use std::test::Fail;
 
 // Main makes a value of its own, changes it, has it back when it exits, and finds that it is gone.
@@ -98,13 +98,12 @@ fn the_search_is_switched(rt: HostRuntime) -> Result<(), Fail> {
 
 #[test]
 fn keys_and_errors_are_printed(rt: HostRuntime) -> Result<(), Fail> {
-    let mut text = String::new(rt.alloc());
-    let error = AccessError;
-    write!(text, "{:?} {:?} ", LocalKey::new(1), Lazy::new(2))?;
-    write!(text, "{error:?} {error}")?;
-    assert_eq!(rt;
+    let (key, lazy, error) = (LocalKey::new(1), Lazy::new(2), AccessError);
+    let text = format!(in rt.alloc(); "{key:?} {lazy:?} {error:?} {error}")?;
+    same(
+        &rt,
         text.as_str(),
-        "LocalKey { .. } Lazy { .. } AccessError already destroyed"
+        "LocalKey { .. } Lazy { .. } AccessError already destroyed",
     );
     Ok(())
 }

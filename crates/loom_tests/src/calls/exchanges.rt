@@ -1,9 +1,9 @@
 //! Exchanges and updates of atomics, of each type of integers.
-use crate::tests::answer::Answer::{Exchanged, New, Read, Replaced, Value};
-use crate::tests::answer::Comes::Main;
-use crate::tests::answer::{Object, Row};
-use crate::tests::atomics::first_atomic;
-use crate::tests::run::come_to;
+use crate::calls::answer::Answer::{Exchanged, New, Read, Replaced, Value};
+use crate::calls::answer::Comes::Main;
+use crate::calls::answer::{Object, Row};
+use crate::calls::atomics::first_atomic;
+use crate::calls::run::come_to;
 use loom::Op;
 use loom::sync::atomic::Ordering::SeqCst;
 use loom::sync::atomic::{Atomic, Integer};

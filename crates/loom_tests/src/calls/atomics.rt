@@ -1,15 +1,15 @@
 //! Atomics and fences.
-use crate::tests::answer::Answer::{Done, New, Value};
-use crate::tests::answer::Comes::{Fails, Main};
-use crate::tests::answer::{Object, Row};
-use crate::tests::run::come_to;
+use crate::asserting::same;
+use crate::calls::answer::Answer::{Done, New, Value};
+use crate::calls::answer::Comes::{Fails, Main};
+use crate::calls::answer::{Object, Row};
+use crate::calls::run::come_to;
 use loom::sync::atomic::Ordering::{Acquire, Release, SeqCst};
 use loom::sync::atomic::{Atomic, AtomicBool, AtomicI8, AtomicU8, AtomicU64, fence};
 use loom::{FailureKind, Op};
 use loom_scripts::number::Number;
 use loom_views::rt::num::Numeric;
 use std::marker::PhantomData;
-use std::process::Abort;
 use std::test::Fail;
 
 /// The first object of a run, which is an atomic.
@@ -157,7 +157,7 @@ fn an_atomic_is_changed_in_place(rt: HostRuntime) -> Result<(), Fail> {
 
 #[test]
 fn a_sign_is_extended(rt: HostRuntime) -> Result<(), Fail> {
-    assert!(rt; (-99i8).into_u64() == MINUS_99);
+    same(&rt, (-99i8).into_u64(), MINUS_99);
     come_to::<i8>(rt.alloc(), &mut compare_signed(), &COMPARE_SIGNED)
 }
 

@@ -1,3 +1,4 @@
+//! Each call of the handles once: a table has calls of `loom_ops` and what each is to be told.
 mod answer;
 mod atomics;
 mod cells;

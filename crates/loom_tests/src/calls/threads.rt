@@ -1,13 +1,13 @@
 //! Threads: their names, and those that wait.
-use crate::tests::answer::Answer::{Done, Spawned, Start, Thread};
-use crate::tests::answer::Comes::{Fails, Main, Other};
-use crate::tests::answer::Row;
-use crate::tests::run::come_to;
+use crate::asserting::same;
+use crate::calls::answer::Answer::{Done, Spawned, Start, Thread};
+use crate::calls::answer::Comes::{Fails, Main, Other};
+use crate::calls::answer::Row;
+use crate::calls::run::come_to;
 use loom::sync::atomic::spin_loop_hint;
 use loom::thread::{self, Builder, ThreadId};
 use loom::{FailureKind, Op, hint};
 use loom_scripts::number::Number;
-use std::process::Abort;
 use std::test::Fail;
 
 // Main asks which thread it is, and so does a child with a name.
@@ -69,9 +69,9 @@ fn a_thread_finds_its_name(rt: HostRuntime) -> Result<(), Fail> {
 
 #[test]
 fn a_thread_prints_its_number(rt: HostRuntime) -> Result<(), Fail> {
-    let mut text = String::new(rt.alloc());
-    write!(text, "{:?}", ThreadId(1))?;
-    assert_eq!(rt; text.as_str(), "ThreadId(1)");
+    let id = ThreadId(1);
+    let text = format!(in rt.alloc(); "{id:?}")?;
+    same(&rt, text.as_str(), "ThreadId(1)");
     Ok(())
 }
 

@@ -1,5 +1,5 @@
 //! A run in which the calls of a table are made.
-use crate::tests::answer::{Answer, Comes, Row};
+use crate::calls::answer::{Answer, Comes, Row};
 use loom::Op;
 use loom::rt::execution::{Execution, Limits};
 use loom::rt::path::{Path, Search};

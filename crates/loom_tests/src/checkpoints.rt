@@ -1,0 +1,220 @@
+//! Texts of paths, good and bad: which are read, and why others are refused. Each is given to the reader, and what comes is compared.
+use crate::asserting::{holds, same};
+use loom_checkpoint::error::PathError;
+use loom_checkpoint::text::{from_text, to_text};
+use loom_path::rt::path::{Path, Search};
+use std::alloc::{AllocError, Global};
+use std::test::Fail;
+
+const TWO_NODES: &str =
+    "{\"exploring\":true,\"nodes\":[{\"exploring\":true,\"first\":0,\"schedule\":[\"Visited\",\"Active\",\"Disabled\",\"Disabled\",\"Disabled\"]},{\"exploring\":true,\"first\":1,\"schedule\":[\"Active\",\"Visited\",\"Disabled\",\"Disabled\",\"Disabled\"]}],\"preemption_bound\":null,\"reduce\":false,\"version\":1}";
+
+const NO_NODES: &str =
+    "{\"exploring\":true,\"nodes\":[],\"preemption_bound\":null,\"reduce\":false,\"version\":1}";
+
+fn whole() -> Search {
+    Search {
+        reduce: false,
+        bound: None,
+        max_branches: 1000,
+        explores: true,
+    }
+}
+
+// The number of the error that a text gives, or 0.
+fn refusal(alloc: Global, text: &[u8], search: Search) -> u8 {
+    match from_text(alloc, text, search) {
+        Ok(_) => 0,
+        Err(PathError::NotJson) => 7,
+        Err(PathError::WrongShape) => 8,
+        Err(PathError::WrongVersion(_)) => 9,
+        Err(PathError::OtherSettings(_)) => 10,
+        Err(PathError::TooManyNodes(_)) => 11,
+        Err(PathError::BadNode) => 12,
+        Err(PathError::Memory(_)) => 14,
+    }
+}
+
+// The text gives this number.
+fn gives(rt: &HostRuntime, text: &[u8], search: Search, number: u8) {
+    same(rt, refusal(rt.alloc(), text, search), number);
+}
+
+// The path has this text.
+fn has_text(rt: &HostRuntime, path: &Path, text: &str) -> Result<(), Fail> {
+    let found = to_text(rt.alloc(), path)?;
+    same(rt, found.as_str(), text);
+    Ok(())
+}
+
+// The text is read, and written again as it was.
+fn is_rewritten(rt: &HostRuntime, text: &str) -> Result<(), Fail> {
+    let path = from_text(rt.alloc(), text.as_bytes(), whole())?;
+    has_text(rt, &path, text)
+}
+
+#[test]
+fn texts_are_read_and_written_again(rt: HostRuntime) -> Result<(), Fail> {
+    is_rewritten(&rt, NO_NODES)?;
+    is_rewritten(&rt, TWO_NODES)?;
+    let path = Path::new(rt.alloc(), whole());
+    has_text(&rt, &path, NO_NODES)
+}
+
+#[test]
+fn a_beginning_is_no_text(rt: HostRuntime) {
+    let text = TWO_NODES.as_bytes();
+    for len in 0..text.len() {
+        gives(&rt, &text[..len], whole(), 7);
+    }
+    gives(&rt, b"\xff", whole(), 7);
+}
+
+// The members may come in any order, and of two with one key the last stays.
+static WHOLE_VALUES: [(&str, u8); 15] = [
+    ("[]", 8),
+    ("{}", 8),
+    ("{\"version\":\"1\"}", 8),
+    ("{\"version\":1.0}", 8),
+    ("{\"version\":-1}", 8),
+    ("{\"version\":-0}", 8),
+    ("{\"version\":1e999}", 7),
+    ("{\"version\":1}", 8),
+    ("{\"version\":2}", 9),
+    ("{\"version\":7}", 9),
+    ("{\"version\":1", 7),
+    (
+        "{\"exploring\":\"true\",\"nodes\":[],\"preemption_bound\":null,\"reduce\":false,\"version\":1}",
+        8,
+    ),
+    (
+        "{\"exploring\":true,\"nodes\":[],\"preemption_bound\":null,\"reduce\":false,\"sixth\":0,\"version\":1}",
+        8,
+    ),
+    (
+        "{\"exploring\":true,\"nodes\":[7],\"preemption_bound\":null,\"reduce\":false,\"version\":1}",
+        12,
+    ),
+    (
+        " {\"version\":7,\"version\":1,\"nodes\":[],\"reduce\":false,\"preemption_bound\":null,\"exploring\":true}\n",
+        0,
+    ),
+];
+
+#[test]
+fn whole_values(rt: HostRuntime) {
+    for (text, number) in &WHOLE_VALUES {
+        gives(&rt, text.as_bytes(), whole(), *number);
+    }
+}
+
+// A search with these settings.
+fn search(reduce: bool, bound: Option<u8>, max_branches: u32, explores: bool) -> Search {
+    Search {
+        reduce,
+        bound,
+        max_branches,
+        explores,
+    }
+}
+
+#[test]
+fn other_settings(rt: HostRuntime) {
+    let text = TWO_NODES.as_bytes();
+    gives(&rt, text, search(true, None, 1000, true), 10);
+    gives(&rt, text, search(false, Some(1), 1000, true), 10);
+    gives(&rt, text, search(false, None, 1000, false), 10);
+    gives(&rt, text, search(true, None, 1, true), 10);
+    gives(&rt, text, search(false, None, 1, true), 11);
+    gives(&rt, text, search(false, None, 2, true), 0);
+}
+
+// The path that is read from the text of a path.
+fn read_back(rt: &HostRuntime, path: &Path) -> Path {
+    let text = to_text(rt.alloc(), path).expect(rt, "no memory for the text");
+    from_text(rt.alloc(), text.as_str().as_bytes(), path.search()).expect(rt, "no path")
+}
+
+#[test]
+fn paths_are_told_apart(rt: HostRuntime) {
+    let mut path = Path::new(rt.alloc(), whole());
+    let same_search = Path::new(rt.alloc(), whole());
+    let other_search = Path::new(rt.alloc(), search(false, None, 999, true));
+    holds(&rt, path == same_search, "another path of the same search");
+    holds(&rt, path != other_search, "the same path of another search");
+    holds(&rt, path.branch_spurious().is_ok(), "no node is made");
+    // What is read back has passed no node yet.
+    let read = read_back(&rt, &path);
+    holds(&rt, read != path, "a node was passed");
+    // The node takes its other answer, and the path is at its start too.
+    holds(&rt, path.step(), "no other answer");
+    holds(&rt, read != path, "the answer is the first one");
+    let read = read_back(&rt, &path);
+    holds(&rt, read == path, "another path is read back");
+}
+
+// What a text gives that has this node after the first of the two.
+fn node_refusal(alloc: Global, node: &str) -> Result<u8, AllocError> {
+    let text = format!(in alloc;
+        "{{\"exploring\":true,\"nodes\":[{{\"exploring\":true,\"first\":0,\"schedule\":[\"Visited\",\"Active\",\"Disabled\",\"Disabled\",\"Disabled\"]}},{node}],\"preemption_bound\":null,\"reduce\":false,\"version\":1}}"
+    )?;
+    Ok(refusal(alloc, text.as_str().as_bytes(), whole()))
+}
+
+static NODES: [(&str, u8); 19] = [
+    (
+        "{\"exploring\":true,\"first\":1,\"schedule\":[\"Active\",\"Active\",\"Disabled\",\"Disabled\",\"Disabled\"]}",
+        12,
+    ),
+    (
+        "{\"exploring\":true,\"first\":1,\"schedule\":[\"Visited\",\"Visited\",\"Disabled\",\"Disabled\",\"Disabled\"]}",
+        12,
+    ),
+    (
+        "{\"exploring\":true,\"first\":5,\"schedule\":[\"Active\",\"Visited\",\"Disabled\",\"Disabled\",\"Disabled\"]}",
+        12,
+    ),
+    (
+        "{\"exploring\":true,\"first\":2,\"schedule\":[\"Active\",\"Visited\",\"Disabled\",\"Disabled\",\"Disabled\"]}",
+        12,
+    ),
+    (
+        "{\"exploring\":true,\"first\":1,\"schedule\":[\"Active\",\"Visited\",\"Disabled\",\"Disabled\"]}",
+        12,
+    ),
+    (
+        "{\"exploring\":true,\"first\":1,\"schedule\":[\"Active\",\"Visited\",\"Off\",\"Disabled\",\"Disabled\"]}",
+        12,
+    ),
+    (
+        "{\"exploring\":true,\"first\":null,\"schedule\":[\"Active\",\"Disabled\",\"Disabled\",\"Disabled\",\"Disabled\"]}",
+        12,
+    ),
+    (
+        "{\"exploring\":false,\"first\":0,\"schedule\":[\"Active\",\"Pending\",\"Disabled\",\"Disabled\",\"Disabled\"]}",
+        12,
+    ),
+    (
+        "{\"exploring\":true,\"first\":0,\"schedule\":[\"Active\",\"Pending\",\"Skip\",\"Yield\",\"Disabled\"]}",
+        0,
+    ),
+    ("{\"at\":1,\"exploring\":true,\"load\":[0]}", 12),
+    ("{\"at\":0,\"exploring\":true,\"load\":[1,0]}", 12),
+    ("{\"at\":0,\"exploring\":true,\"load\":[0,0]}", 12),
+    ("{\"at\":0,\"exploring\":true,\"load\":[7]}", 12),
+    ("{\"at\":0,\"exploring\":true,\"load\":[]}", 12),
+    ("{\"at\":1,\"exploring\":false,\"load\":[0,6]}", 12),
+    ("{\"at\":1,\"exploring\":true,\"load\":[0,6]}", 0),
+    ("{\"exploring\":false,\"spurious\":true}", 12),
+    ("{\"exploring\":true,\"spurious\":true}", 0),
+    ("{\"exploring\":true,\"spurious\":true,\"x\":0}", 12),
+];
+
+#[test]
+fn nodes(rt: HostRuntime) -> Result<(), Fail> {
+    for (node, number) in &NODES {
+        let found = node_refusal(rt.alloc(), *node)?;
+        same(&rt, found, *number);
+    }
+    Ok(())
+}
