@@ -4,6 +4,7 @@ use loom_checkpoint::error::PathError;
 use loom_checkpoint::text::{from_text, to_text};
 use loom_path::rt::path::{Path, Search};
 use std::alloc::{AllocError, Global};
+use std::process::Abort;
 use std::test::Fail;
 
 const TWO_NODES: &str =
@@ -36,19 +37,19 @@ fn refusal(alloc: Global, text: &[u8], search: Search) -> u8 {
 }
 
 // The text gives this number.
-fn gives(rt: &HostRuntime, text: &[u8], search: Search, number: u8) {
+fn gives(rt: &(impl Abort + AllocGlobal), text: &[u8], search: Search, number: u8) {
     same(rt, refusal(rt.alloc(), text, search), number);
 }
 
 // The path has this text.
-fn has_text(rt: &HostRuntime, path: &Path, text: &str) -> Result<(), Fail> {
+fn has_text(rt: &(impl Abort + AllocGlobal), path: &Path, text: &str) -> Result<(), Fail> {
     let found = to_text(rt.alloc(), path)?;
     same(rt, found.as_str(), text);
     Ok(())
 }
 
 // The text is read, and written again as it was.
-fn is_rewritten(rt: &HostRuntime, text: &str) -> Result<(), Fail> {
+fn is_rewritten(rt: &(impl Abort + AllocGlobal), text: &str) -> Result<(), Fail> {
     let path = from_text(rt.alloc(), text.as_bytes(), whole())?;
     has_text(rt, &path, text)
 }
@@ -130,7 +131,7 @@ fn other_settings(rt: HostRuntime) {
 }
 
 // The path that is read from the text of a path.
-fn read_back(rt: &HostRuntime, path: &Path) -> Path {
+fn read_back(rt: &(impl Abort + AllocGlobal), path: &Path) -> Path {
     let text = to_text(rt.alloc(), path).expect(rt, "no memory for the text");
     from_text(rt.alloc(), text.as_str().as_bytes(), path.search()).expect(rt, "no path")
 }
