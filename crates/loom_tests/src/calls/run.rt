@@ -7,7 +7,7 @@ use loom_objects::failure::Stop;
 use loom_objects::operation::Turn;
 use loom_scripts::number::Number;
 use loom_views::rt::num::Numeric;
-use std::alloc::Global;
+use std::alloc::{AllocError, Global};
 use std::mem;
 use std::test::Fail;
 
@@ -33,16 +33,25 @@ pub fn come_to<T: Numeric>(
     if calls.len() != table.len() {
         return Err(Fail::from("the table has another length"));
     }
-    let mut execution = Execution::new(alloc, LIMITS)?;
-    let mut path = Path::new(alloc, SEARCH);
-    match first_wrong::<T>(&mut execution, &mut path, calls, table) {
+    match first_wrong::<T>(alloc, calls, table)? {
         Some(name) => Err(Fail::from(name)),
         None => Ok(()),
     }
 }
 
-// The first call that doesn't come to what the table says.
+// The first call that doesn't come to what the table says. It fails only where a run is refused memory.
 fn first_wrong<T: Numeric>(
+    alloc: Global,
+    calls: &mut [Op<Number, ()>],
+    table: &[Row],
+) -> Result<Option<&'static str>, AllocError> {
+    let mut execution = Execution::new(alloc, LIMITS)?;
+    let mut path = Path::new(alloc, SEARCH);
+    Ok(wrong_in::<T>(&mut execution, &mut path, calls, table))
+}
+
+// The first such call, in this run.
+fn wrong_in<T: Numeric>(
     execution: &mut Execution<Number>,
     path: &mut Path,
     calls: &mut [Op<Number, ()>],
