@@ -86,9 +86,12 @@ impl Atomic {
 
     // Whether an earlier access that conflicts with this one is outside of the view of the point.
     fn is_race(&self, access: Access, graph: &Graph, point: usize) -> bool {
-        self.accesses.iter().any(|earlier| {
-            conflicts(access, earlier.access) && !graph.is_inside(earlier.point, point)
-        })
+        for earlier in &self.accesses {
+            if conflicts(access, earlier.access) && !graph.is_inside(earlier.point, point) {
+                return true;
+            }
+        }
+        false
     }
 
     // The value of the newest store.
@@ -141,13 +144,13 @@ impl Machine {
 
     // That the atomic was made counts as a mutation. Its first store releases.
     fn atomic_new(&mut self, numbers: Numbers, value: u64) -> Told {
-        let number = self.new_number();
-        let none = Atomic::none(self.alloc);
-        let has_grown = self.objects.atomics.add(number, none);
-        self.grows(has_grown);
-        let atomic = self.objects.atomics.at(number);
+        let mut atomic = Atomic::none(self.alloc);
         atomic.numbers = numbers;
         atomic.is_whole = true;
+        let objects = &mut *self.objects;
+        let number = objects
+            .atomics
+            .add(atomic, &mut objects.count, &mut self.halt);
         self.keeps_access(number, Access::Mutation);
         let start = self.fresh_point();
         self.makes_store(number, value, Ordering::Release, start);
@@ -184,8 +187,7 @@ impl Machine {
     fn keeps_access(&mut self, number: usize, access: Access) {
         let point = self.present();
         let accesses = &mut self.objects.atomics.at(number).accesses;
-        let has_grown = push(accesses, Accessed { access, point });
-        self.grows(has_grown);
+        push(accesses, Accessed { access, point }, &mut self.halt);
     }
 
     /// The access of the chosen thread takes effect.
@@ -337,8 +339,8 @@ impl Machine {
             is_seq_cst: order == Ordering::SeqCst,
             touches: self.touches([None; 5]),
         };
-        let has_grown = push(&mut self.objects.atomics.at(number).stores, store);
-        self.grows(has_grown);
+        let stores = &mut self.objects.atomics.at(number).stores;
+        push(stores, store, &mut self.halt);
     }
 
     // The active thread acquires from the point, by some orderings.

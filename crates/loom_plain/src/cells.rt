@@ -31,7 +31,12 @@ impl Cell {
 
 // Whether the views of all these points are inside that of this one.
 fn are_inside(graph: &Graph, points: &Vec<usize>, present: usize) -> bool {
-    points.iter().all(|point| graph.is_inside(*point, present))
+    for point in points {
+        if !graph.is_inside(*point, present) {
+            return false;
+        }
+    }
+    true
 }
 
 impl Machine {
@@ -61,12 +66,11 @@ impl Machine {
 
     // That the cell was made counts as a read and a write.
     fn cell_new(&mut self, value: Number) -> Told {
-        let number = self.new_number();
-        let has_grown = self.objects.cells.add(number, Cell::none(self.alloc));
-        self.grows(has_grown);
-        let cell = self.objects.cells.at(number);
+        let mut cell = Cell::none(self.alloc);
         cell.value = Some(value);
         cell.is_whole = true;
+        let objects = &mut *self.objects;
+        let number = objects.cells.add(cell, &mut objects.count, &mut self.halt);
         self.keeps_read(number);
         self.keeps_write(number);
         Some(Reply::Cell(number))
@@ -103,9 +107,10 @@ impl Machine {
     // A read of the active thread ends.
     fn cell_read_end(&mut self, number: usize) -> Told {
         let active = self.active;
-        let is_reading = self.cell(number).readers.has(active);
+        let readers = &mut self.cell(number).readers;
+        let is_reading = readers.has(active);
+        readers.close(active);
         self.require(is_reading);
-        self.cell(number).readers.close(active);
         self.meets_read(number);
         Some(Reply::Done)
     }
@@ -124,11 +129,12 @@ impl Machine {
 
     // The write of the active thread ends, and leaves this data.
     fn cell_write_end(&mut self, number: usize, value: Number) -> Told {
-        let writer = self.cell(number).writer;
-        self.require(writer == Some(self.active));
+        let active = self.active;
         let cell = self.cell(number);
+        let is_writing = cell.writer == Some(active);
         cell.writer = None;
         cell.value = Some(value);
+        self.require(is_writing);
         self.meets_write(number);
         Some(Reply::Done)
     }
@@ -172,14 +178,14 @@ impl Machine {
     // The active thread's present point is one of a read.
     fn keeps_read(&mut self, number: usize) {
         let present = self.present();
-        let has_grown = push(&mut self.objects.cells.at(number).reads, present);
-        self.grows(has_grown);
+        let reads = &mut self.objects.cells.at(number).reads;
+        push(reads, present, &mut self.halt);
     }
 
     // The active thread's present point is one of a write.
     fn keeps_write(&mut self, number: usize) {
         let present = self.present();
-        let has_grown = push(&mut self.objects.cells.at(number).writes, present);
-        self.grows(has_grown);
+        let writes = &mut self.objects.cells.at(number).writes;
+        push(writes, present, &mut self.halt);
     }
 }

@@ -66,10 +66,11 @@ impl Machine {
     }
 
     fn channel_new(&mut self) -> Told {
-        let number = self.new_number();
         let channel = Channel::of(self.alloc, 1, self.fresh_point());
-        let has_grown = self.objects.channels.add(number, channel);
-        self.grows(has_grown);
+        let objects = &mut *self.objects;
+        let number = objects
+            .channels
+            .add(channel, &mut objects.count, &mut self.halt);
         Some(Reply::Channel(number))
     }
 

@@ -11,7 +11,12 @@ pub type Options = [Option<Choice>; 7];
 
 /// The default of these options.
 pub fn default_of(options: &Options) -> Option<Choice> {
-    options.iter().find_map(|option| *option)
+    for option in options {
+        if option.is_some() {
+            return *option;
+        }
+    }
+    None
 }
 
 /// What stood where a thread was chosen.
@@ -66,18 +71,19 @@ impl Machine {
         self.check(place < self.choices.most, FailureKind::TooManyBranches);
         let choice = self.choices.given(place).or(default_of(&options));
         self.check(options.contains(&choice), FailureKind::NotDeterministic);
+        let Some(choice) = choice else {
+            return None;
+        };
         if self.has_halted() {
             return None;
         }
-        let choice = choice?;
         let made = Made {
             choice,
             options,
             standing,
             is_exploring: self.choices.is_exploring,
         };
-        let has_grown = push(&mut self.choices.made, made);
-        self.grows(has_grown);
+        push(&mut self.choices.made, made, &mut self.halt);
         Some(choice)
     }
 

@@ -40,10 +40,11 @@ impl Machine {
     }
 
     fn condvar_new(&mut self) -> Told {
-        let number = self.new_number();
         let condvar = Condvar::new(self.alloc);
-        let has_grown = self.objects.condvars.add(number, condvar);
-        self.grows(has_grown);
+        let objects = &mut *self.objects;
+        let number = objects
+            .condvars
+            .add(condvar, &mut objects.count, &mut self.halt);
         Some(Reply::Condvar(number))
     }
 

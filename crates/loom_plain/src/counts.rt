@@ -54,20 +54,20 @@ impl Machine {
     }
 
     fn arc_new(&mut self, value: Number) -> Told {
-        let number = self.new_number();
         let arc = Counted::of(Some(value), self.fresh_point());
-        let has_grown = self.objects.arcs.add(number, arc);
-        self.grows(has_grown);
+        let objects = &mut *self.objects;
+        let number = objects.arcs.add(arc, &mut objects.count, &mut self.halt);
         Some(Reply::Arc(number))
     }
 
     // The active thread, which has the value out, puts it back.
     fn arc_put(&mut self, number: usize, value: Number) -> Told {
-        let lent = self.arc(number).lent;
-        self.require(lent == Some(self.active));
+        let active = self.active;
         let arc = self.arc(number);
+        let is_out = arc.lent == Some(active);
         arc.lent = None;
         arc.value = Some(value);
+        self.require(is_out);
         Some(Reply::Done)
     }
 
@@ -158,10 +158,11 @@ impl Machine {
     }
 
     fn track_new(&mut self, value: Number) -> Told {
-        let number = self.new_number();
         let track = Tracked::of(Some(value));
-        let has_grown = self.objects.tracks.add(number, track);
-        self.grows(has_grown);
+        let objects = &mut *self.objects;
+        let number = objects
+            .tracks
+            .add(track, &mut objects.count, &mut self.halt);
         Some(Reply::Track(number))
     }
 
@@ -179,11 +180,12 @@ impl Machine {
 
     // The active thread, which has the value out, puts it back.
     fn track_put(&mut self, number: usize, value: Number) -> Told {
-        let lent = self.track(number).lent;
-        self.require(lent == Some(self.active));
+        let active = self.active;
         let track = self.track(number);
+        let is_out = track.lent == Some(active);
         track.lent = None;
         track.value = Some(value);
+        self.require(is_out);
         Some(Reply::Done)
     }
 }

@@ -1,6 +1,8 @@
 //! Which accesses to objects are ordered: a graph of its own, in which each scheduled operation on an object is a point.
 use crate::graph::Graph;
-use std::alloc::{AllocError, Global};
+use crate::halt::Halt;
+use crate::memory::push;
+use std::alloc::Global;
 
 /// What an operation does to its object, as far as others depend on it.
 #[derive(Clone, Copy, PartialEq, Eq)]
@@ -78,10 +80,9 @@ impl Dependence {
     }
 
     /// Main, which comes after nothing.
-    pub fn main(&mut self) -> Result<(), AllocError> {
-        let point = self.graph.add(&[], None)?;
-        self.threads.push(point)?;
-        Ok(())
+    pub fn main(&mut self, halt: &mut Option<Halt>) {
+        let point = self.graph.add(&[], None, halt);
+        push(&mut self.threads, point, halt);
     }
 
     // The point of the thread's last access, or of its parent's before it was made.
@@ -90,21 +91,20 @@ impl Dependence {
     }
 
     /// A thread more, which this one makes.
-    pub fn child(&mut self, parent: u8) -> Result<(), AllocError> {
+    pub fn child(&mut self, parent: u8, halt: &mut Option<Halt>) {
         let own = self.own(parent);
-        self.threads.push(own)?;
-        Ok(())
+        push(&mut self.threads, own, halt);
     }
 
     // The last access that this use depends on.
     fn last_before(&self, used: Use) -> Option<Access> {
-        self.accesses
-            .iter()
-            .rev()
-            .find(|access| {
-                access.used.object == used.object && depends(used.action, access.used.action)
-            })
-            .copied()
+        let mut last = None;
+        for access in &self.accesses {
+            if access.used.object == used.object && depends(used.action, access.used.action) {
+                last = Some(*access);
+            }
+        }
+        last
     }
 
     /// The place of the last access that this use depends on, where no chain of edges leads from that to the thread.
@@ -119,30 +119,33 @@ impl Dependence {
 
     /// How many accesses the thread has made.
     pub fn accesses_of(&self, thread: u8) -> usize {
-        self.accesses
-            .iter()
-            .filter(|access| access.thread == thread)
-            .count()
+        let mut count = 0usize;
+        for access in &self.accesses {
+            if access.thread == thread {
+                count = count.saturating_add(1);
+            }
+        }
+        count
     }
 
     /// The thread, chosen at this place, makes an access: it comes after the thread's last one and after the last one that it
     /// depends on.
-    pub fn record(&mut self, thread: u8, used: Use, place: usize) -> Result<(), AllocError> {
+    pub fn record(&mut self, thread: u8, used: Use, place: usize, halt: &mut Option<Halt>) {
         let own = self.own(thread);
         let before = match self.last_before(used) {
             Some(access) => access.point,
             None => own,
         };
-        let point = self.graph.add(&[own, before], None)?;
+        let point = self.graph.add(&[own, before], None, halt);
         if let Some(last) = self.threads.get_mut(usize::from(thread)) {
             *last = point;
         }
-        self.accesses.push(Access {
+        let access = Access {
             thread,
             used,
             point,
             place,
-        })?;
-        Ok(())
+        };
+        push(&mut self.accesses, access, halt);
     }
 }

@@ -1,5 +1,7 @@
 //! Points, each with the points that reach it by edges. A view is what reaches a point.
-use std::alloc::{AllocError, Global};
+use crate::halt::Halt;
+use crate::memory::push;
+use std::alloc::Global;
 
 #[derive(Drop)]
 struct Point {
@@ -25,18 +27,22 @@ impl Graph {
         }
     }
 
-    /// A point after these, which raises the thread, if there is one. What reaches one of these reaches it.
-    pub fn add(&mut self, after: &[usize], raises: Option<u8>) -> Result<usize, AllocError> {
+    /// A point after these, which raises the thread, if there is one. What reaches one of these reaches it. Where memory is
+    /// refused, the run can't be made.
+    pub fn add(&mut self, after: &[usize], raises: Option<u8>, halt: &mut Option<Halt>) -> usize {
         let place = self.points.len();
-        let mut reached = vec![in self.alloc; false; place]?;
+        let Ok(mut reached) = vec![in self.alloc; false; place] else {
+            *halt = Some(Halt::Memory);
+            return place;
+        };
         for before in after {
             if let Some(before) = self.points.get(*before) {
                 mark_all(&mut reached, &before.reached);
             }
         }
-        reached.push(true)?;
-        self.points.push(Point { reached, raises })?;
-        Ok(place)
+        push(&mut reached, true, halt);
+        push(&mut self.points, Point { reached, raises }, halt);
+        place
     }
 
     /// Whether the one point reaches the other, or is it.
@@ -49,24 +55,31 @@ impl Graph {
 
     /// Whether the view of the one point is inside that of the other: each raising point that reaches the one reaches the other.
     pub fn is_inside(&self, one: usize, other: usize) -> bool {
-        self.points.iter().enumerate().all(|(place, each)| {
-            each.raises.is_none() || !self.reaches(place, one) || self.reaches(place, other)
-        })
+        for (place, each) in self.points.iter().enumerate() {
+            if each.raises.is_some() && self.reaches(place, one) && !self.reaches(place, other) {
+                return false;
+            }
+        }
+        true
     }
 
     /// How many points of the thread reach this one.
     pub fn versions(&self, point: usize, thread: u8) -> usize {
-        self.points
-            .iter()
-            .enumerate()
-            .filter(|(place, each)| each.raises == Some(thread) && self.reaches(*place, point))
-            .count()
+        let mut count = 0usize;
+        for (place, each) in self.points.iter().enumerate() {
+            if each.raises == Some(thread) && self.reaches(place, point) {
+                count = count.saturating_add(1);
+            }
+        }
+        count
     }
 }
 
 // Marks each place that is marked in the other list.
 fn mark_all(marks: &mut Vec<bool>, others: &Vec<bool>) {
-    for (mark, other) in marks.iter_mut().zip(others) {
-        *mark = *mark || *other;
+    for (place, other) in others.iter().enumerate() {
+        if *other && let Some(mark) = marks.get_mut(place) {
+            *mark = true;
+        }
     }
 }

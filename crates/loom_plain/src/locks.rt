@@ -39,10 +39,11 @@ impl Machine {
     }
 
     fn mutex_new(&mut self, value: Number) -> Told {
-        let number = self.new_number();
         let mutex = Mutex::of(Some(value), self.fresh_point());
-        let has_grown = self.objects.mutexes.add(number, mutex);
-        self.grows(has_grown);
+        let objects = &mut *self.objects;
+        let number = objects
+            .mutexes
+            .add(mutex, &mut objects.count, &mut self.halt);
         Some(Reply::Mutex(number))
     }
 
@@ -61,11 +62,12 @@ impl Machine {
 
     // The active thread, which has the data out, puts it back.
     fn mutex_put(&mut self, number: usize, value: Number) -> Told {
-        let lent = self.mutex(number).lent;
-        self.require(lent == Some(self.active));
+        let active = self.active;
         let mutex = self.mutex(number);
+        let is_out = mutex.lent == Some(active);
         mutex.lent = None;
         mutex.value = Some(value);
+        self.require(is_out);
         Some(Reply::Done)
     }
 

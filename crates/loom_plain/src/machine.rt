@@ -126,6 +126,14 @@ impl Machine {
         self.thread(active)
     }
 
+    /// The thread of this number, if it is there and is another one than the active thread.
+    pub fn other(&mut self, number: u8) -> Option<&mut Thread> {
+        if number == self.active {
+            return None;
+        }
+        self.threads.get_mut(usize::from(number))
+    }
+
     /// The point that the active thread is at.
     pub fn present(&mut self) -> usize {
         self.me().present
@@ -133,13 +141,7 @@ impl Machine {
 
     /// A point after these, which raises the thread, if there is one.
     pub fn point(&mut self, after: &[usize], raises: Option<u8>) -> usize {
-        match self.graph.add(after, raises) {
-            Ok(point) => point,
-            Err(_) => {
-                self.halt = Some(Halt::Memory);
-                0
-            }
-        }
+        self.graph.add(after, raises, &mut self.halt)
     }
 
     /// A point without edges.
@@ -201,9 +203,10 @@ impl Machine {
 
     /// Each other thread that is pending on the object comes to this state.
     pub fn set_pending(&mut self, number: usize, state: State) {
-        let active = usize::from(self.active);
-        for (place, thread) in self.threads.iter_mut().enumerate() {
-            if place != active && thread.pending.is_on(number) {
+        for other in 0..5u8 {
+            if let Some(thread) = self.other(other)
+                && thread.pending.is_on(number)
+            {
                 thread.state = state;
             }
         }
@@ -211,9 +214,10 @@ impl Machine {
 
     /// Each other thread that is about to do this to the object is blocked.
     pub fn block(&mut self, action: Action, number: usize) {
-        let active = usize::from(self.active);
-        for (place, thread) in self.threads.iter_mut().enumerate() {
-            if place != active && thread.pending.does(action, number) {
+        for other in 0..5u8 {
+            if let Some(thread) = self.other(other)
+                && thread.pending.does(action, number)
+            {
                 thread.state = State::Blocked;
             }
         }

@@ -1,5 +1,7 @@
 //! Which runs a run calls for: preemptions, marks and alternatives.
 use crate::choices::{Made, Standing, default_of};
+use crate::halt::Halt;
+use crate::memory::push;
 use crate::run::Settings;
 use loom_objects::choice::Choice;
 use std::alloc::{AllocError, Global};
@@ -59,8 +61,12 @@ pub fn preemptions(made: &[Made], place: usize) -> usize {
 
 // The nearest exploring schedule from this place down.
 fn nearest(made: &[Made], place: usize) -> Option<usize> {
-    (0..place.saturating_add(1)).rev().find(|here| standing_at(made, *here).is_some()
-        && explores_at(made, *here))
+    for here in (0..place.saturating_add(1)).rev() {
+        if standing_at(made, here).is_some() && explores_at(made, here) {
+            return Some(here);
+        }
+    }
+    None
 }
 
 // The nearest exploring schedule before this place that chose another thread than the one before it, or else the first one, if that
@@ -79,64 +85,57 @@ fn switch_before(made: &[Made], place: usize) -> Option<usize> {
         }
         later = Some(here);
     }
-    later.filter(|first| explores_at(made, *first))
-}
-
-// The thread is added at the schedule, unless the schedule's count is the bound.
-fn add(
-    bound: Option<usize>,
-    made: &[Made],
-    all: &mut Vec<Added>,
-    added: Added,
-) -> Result<(), AllocError> {
-    if bound != Some(preemptions(made, added.place)) {
-        all.push(added)?;
-    }
-    Ok(())
-}
-
-// The thread is added for one access: at the nearest schedule from its place down, and under a bound before that one too.
-fn add_for(
-    bound: Option<usize>,
-    made: &[Made],
-    all: &mut Vec<Added>,
-    access: usize,
-    thread: u8,
-) -> Result<(), AllocError> {
-    let Some(place) = nearest(made, access) else {
-        return Ok(());
-    };
-    add(bound, made, all, Added { place, thread })?;
-    match switch_before(made, place) {
-        Some(place) if bound.is_some() => add(bound, made, all, Added { place, thread }),
-        Some(_) | None => Ok(()),
+    match later {
+        Some(first) if explores_at(made, first) => later,
+        Some(_) | None => None,
     }
 }
 
-// Each thread is added for the access that it isn't ordered after at this schedule.
-fn add_each(
-    bound: Option<usize>,
-    made: &[Made],
-    all: &mut Vec<Added>,
-    standing: Standing,
-) -> Result<(), AllocError> {
-    for (thread, access) in (0..5u8).zip(&standing.unordered) {
-        if let Some(access) = *access {
-            add_for(bound, made, all, access, thread)?;
+// The threads that a run adds.
+#[derive(Drop)]
+struct Adding {
+    list: Vec<Added>,
+    halt: Option<Halt>,
+}
+
+impl Adding {
+    // The thread is added at the schedule, unless the schedule's count is the bound.
+    fn add(&mut self, bound: Option<usize>, made: &[Made], added: Added) {
+        if bound != Some(preemptions(made, added.place)) {
+            push(&mut self.list, added, &mut self.halt);
         }
     }
-    Ok(())
-}
 
-// All threads that a run adds.
-fn added_of(alloc: Global, bound: Option<usize>, made: &[Made]) -> Result<Vec<Added>, AllocError> {
-    let mut all = Vec::new(alloc);
-    for each in made {
-        if let Some(standing) = each.standing {
-            add_each(bound, made, &mut all, standing)?;
+    // The thread is added for one access: at the nearest schedule from its place down, and under a bound before that one too.
+    fn add_for(&mut self, bound: Option<usize>, made: &[Made], access: usize, thread: u8) {
+        let Some(place) = nearest(made, access) else {
+            return;
+        };
+        self.add(bound, made, Added { place, thread });
+        if let Some(place) = switch_before(made, place)
+            && bound.is_some()
+        {
+            self.add(bound, made, Added { place, thread });
         }
     }
-    Ok(all)
+
+    // Each thread is added for the access that it isn't ordered after at this schedule.
+    fn add_each(&mut self, bound: Option<usize>, made: &[Made], standing: Standing) {
+        for (thread, access) in (0..5u8).zip(&standing.unordered) {
+            if let Some(access) = *access {
+                self.add_for(bound, made, access, thread);
+            }
+        }
+    }
+
+    // Threads are added for each schedule of the run.
+    fn add_all(&mut self, bound: Option<usize>, made: &[Made]) {
+        for each in made {
+            if let Some(standing) = each.standing {
+                self.add_each(bound, made, standing);
+            }
+        }
+    }
 }
 
 // Whether the thread, added here, marks the option: it is the thread's, or the thread was disabled. The default isn't marked.
@@ -210,7 +209,12 @@ fn alternatives_at(
 
 // Whether a thread that is added at this place marks the option.
 fn is_marked(added: &Vec<Added>, here: &Made, place: usize, option: Choice) -> bool {
-    added.iter().any(|each| each.place == place && marks(here, each.thread, option))
+    for each in added {
+        if each.place == place && marks(here, each.thread, option) {
+            return true;
+        }
+    }
+    false
 }
 
 /// The alternatives of a run, each up to the option in which it differs.
@@ -218,17 +222,22 @@ pub fn alternatives(
     alloc: Global,
     settings: Settings,
     made: &[Made],
-) -> Result<Vec<Vec<Choice>>, AllocError> {
-    let added = if settings.reduce {
-        added_of(alloc, settings.bound, made)?
-    } else {
-        Vec::new(alloc)
+) -> Result<Vec<Vec<Choice>>, Halt> {
+    let mut adding = Adding {
+        list: Vec::new(alloc),
+        halt: None,
     };
+    if settings.reduce {
+        adding.add_all(settings.bound, made);
+    }
     let mut lists = Vec::new(alloc);
     for place in 0..made.len() {
-        alternatives_at(alloc, settings, made, &added, place, &mut lists)?;
+        alternatives_at(alloc, settings, made, &adding.list, place, &mut lists)?;
     }
-    Ok(lists)
+    match adding.halt {
+        Some(halt) => Err(halt),
+        None => Ok(lists),
+    }
 }
 
 /// The alternatives of a run at this place, in a search that isn't reduced.

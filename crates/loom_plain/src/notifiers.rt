@@ -42,11 +42,11 @@ impl Machine {
 
     /// A new notifier, by its number.
     pub fn notify_new(&mut self, is_of_thread: bool) -> usize {
-        let number = self.new_number();
         let notify = Notify::new(is_of_thread, self.fresh_point());
-        let has_grown = self.objects.notifies.add(number, notify);
-        self.grows(has_grown);
-        number
+        let objects = &mut *self.objects;
+        objects
+            .notifies
+            .add(notify, &mut objects.count, &mut self.halt)
     }
 
     /// The active thread comes to wait on the notifier, unless it wakes without a notification.

@@ -69,88 +69,88 @@ impl Objects {
     }
 }
 
-impl Machine {
-    /// The number of the next object.
-    pub fn new_number(&mut self) -> usize {
-        let number = self.objects.count;
-        self.objects.count = number.saturating_add(1);
-        number
+// To use the object is a misuse, unless the test holds or the run has failed already.
+fn require(test: bool, failure: &mut Option<FailureKind>) {
+    if !test && failure.is_none() {
+        *failure = Some(FailureKind::Misuse);
     }
+}
 
+impl Machine {
     /// The atomic of this number, which is whole.
     pub fn atomic(&mut self, number: usize) -> &mut Atomic {
-        let is_whole = self.objects.atomics.at(number).is_whole;
-        self.require(is_whole);
-        self.objects.atomics.at(number)
+        let atomic = self.objects.atomics.at(number);
+        require(atomic.is_whole, &mut self.failure);
+        atomic
     }
 
     /// The cell of this number, which is whole.
     pub fn cell(&mut self, number: usize) -> &mut Cell {
-        let is_whole = self.objects.cells.at(number).is_whole;
-        self.require(is_whole);
-        self.objects.cells.at(number)
+        let cell = self.objects.cells.at(number);
+        require(cell.is_whole, &mut self.failure);
+        cell
     }
 
     /// The counted reference of this number, of which some are left.
     pub fn arc(&mut self, number: usize) -> &mut Counted {
-        let count = self.objects.arcs.at(number).count;
-        self.require(count > 0);
-        self.objects.arcs.at(number)
+        let arc = self.objects.arcs.at(number);
+        require(arc.count > 0, &mut self.failure);
+        arc
     }
 
     /// The tracked value of this number, which wasn't given back.
     pub fn track(&mut self, number: usize) -> &mut Tracked {
-        let is_tracked = self.objects.tracks.at(number).is_tracked;
-        self.require(is_tracked);
-        self.objects.tracks.at(number)
+        let track = self.objects.tracks.at(number);
+        require(track.is_tracked, &mut self.failure);
+        track
     }
 
     /// The mutex of this number, which is whole.
     pub fn mutex(&mut self, number: usize) -> &mut Mutex {
-        let is_whole = self.objects.mutexes.at(number).is_whole;
-        self.require(is_whole);
-        self.objects.mutexes.at(number)
+        let mutex = self.objects.mutexes.at(number);
+        require(mutex.is_whole, &mut self.failure);
+        mutex
     }
 
     /// The read-write lock of this number, which is whole.
     pub fn rwlock(&mut self, number: usize) -> &mut RwLock {
-        let is_whole = self.objects.rwlocks.at(number).is_whole;
-        self.require(is_whole);
-        self.objects.rwlocks.at(number)
+        let rwlock = self.objects.rwlocks.at(number);
+        require(rwlock.is_whole, &mut self.failure);
+        rwlock
     }
 
     /// The condition variable of this number.
     pub fn condvar(&mut self, number: usize) -> &mut Condvar {
-        let is_there = self.objects.condvars.has(number);
-        self.require(is_there);
-        self.objects.condvars.at(number)
+        let condvars = &mut self.objects.condvars;
+        require(condvars.has(number), &mut self.failure);
+        condvars.at(number)
     }
 
     /// The notifier of this number.
     pub fn notify(&mut self, number: usize) -> &mut Notify {
-        let is_there = self.objects.notifies.has(number);
-        self.require(is_there);
-        self.objects.notifies.at(number)
+        let notifies = &mut self.objects.notifies;
+        require(notifies.has(number), &mut self.failure);
+        notifies.at(number)
     }
 
     /// The channel of this number.
     pub fn channel(&mut self, number: usize) -> &mut Channel {
-        let is_there = self.objects.channels.has(number);
-        self.require(is_there);
-        self.objects.channels.at(number)
+        let channels = &mut self.objects.channels;
+        require(channels.has(number), &mut self.failure);
+        channels.at(number)
     }
 
     /// The wakers of this number, of which some are left.
     pub fn wakers(&mut self, number: usize) -> &mut Wakers {
-        let count = self.objects.wakers.at(number).count;
-        self.require(count > 0);
-        self.objects.wakers.at(number)
+        let wakers = self.objects.wakers.at(number);
+        require(wakers.count > 0, &mut self.failure);
+        wakers
     }
 
     /// The place for wakers of this number.
     pub fn place(&mut self, number: usize) -> &mut Place {
-        let is_there = self.objects.places.has(number);
-        self.require(is_there);
-        self.objects.places.at(number)
+        let places = &mut self.objects.places;
+        require(places.has(number), &mut self.failure);
+        places.at(number)
     }
 }

@@ -12,14 +12,20 @@ impl Readers {
 
     /// Whether some thread has one open.
     pub fn is_any(&self) -> bool {
-        self.0.iter().any(|count| *count > 0)
+        for count in &self.0 {
+            if *count > 0 {
+                return true;
+            }
+        }
+        false
     }
 
     /// Whether the thread has one open.
     pub fn has(&self, thread: u8) -> bool {
-        self.0
-            .get(usize::from(thread))
-            .is_some_and(|count| *count > 0)
+        match self.0.get(usize::from(thread)) {
+            Some(count) => *count > 0,
+            None => false,
+        }
     }
 
     /// The thread opens one more.

@@ -48,12 +48,19 @@ pub fn run<B: Body<Data = Number>>(
     body: &B,
     list: Vec<Choice>,
 ) -> Result<PlainRun, Halt> {
-    let mut bodies = Vec::new(alloc);
-    bodies.push(body.try_clone()?)?;
     let mut machine = opening(alloc, settings, list)?;
-    let ending = goes_on(&mut machine, &mut bodies, settings.max_steps)?;
-    let made = mem::replace(&mut machine.choices.made, Vec::new(alloc));
-    Ok(PlainRun { made, ending })
+    let mut bodies = Vec::new(alloc);
+    push_copy(&mut bodies, body, &mut machine.halt);
+    goes_on(&mut machine, &mut bodies, settings.max_steps);
+    machine.comes_to_end()
+}
+
+// One more body, in the same state as this one.
+fn push_copy<B: Body<Data = Number>>(bodies: &mut Vec<B>, body: &B, halt: &mut Option<Halt>) {
+    match body.try_clone() {
+        Ok(copy) => push(bodies, copy, halt),
+        Err(_) => *halt = Some(Halt::Memory),
+    }
 }
 
 // Main alone, about to hand over its first operation.
@@ -66,38 +73,55 @@ fn opening(alloc: Global, settings: Settings, list: Vec<Choice>) -> Result<Machi
         is_settled: false,
     };
     let mut machine = Machine::new(alloc, settings.max_threads, choices)?;
-    machine.global = machine.fresh_point();
-    let present = machine.fresh_point();
-    let released = machine.fresh_point();
-    let main = Thread::new(alloc, present, released);
-    let has_grown = push(&mut machine.threads, main) && machine.dependence.main().is_ok();
-    machine.grows(has_grown);
+    machine.starts_main();
     Ok(machine)
 }
 
 // The threads' operations up to the run's end.
-fn goes_on<B: Body<Data = Number>>(
-    machine: &mut Machine,
-    bodies: &mut Vec<B>,
-    steps: usize,
-) -> Result<Ending, Halt> {
+fn goes_on<B: Body<Data = Number>>(machine: &mut Machine, bodies: &mut Vec<B>, steps: usize) {
     let mut reply = Reply::Start;
     for _ in 0..steps {
-        let active = usize::from(machine.active);
-        let op = bodies.get_mut(active).ok_or(Halt::Broken)?.resume(reply)?;
-        let (op, child) = op.split();
-        if let Some(child) = child {
-            bodies.push(child)?;
-        }
-        match machine.submit(op) {
+        match step(machine, bodies, reply) {
             Some(told) => reply = told,
-            None => return machine.ends(),
+            None => return,
         }
     }
-    Ok(Ending::Failed(FailureKind::TooManySteps))
+    machine.fails(FailureKind::TooManySteps);
+}
+
+// The thread whose turn it is is told the reply, and hands its next operation over. Gives what is told next, or nothing at the
+// run's end.
+fn step<B: Body<Data = Number>>(
+    machine: &mut Machine,
+    bodies: &mut Vec<B>,
+    reply: Reply<Number>,
+) -> Told {
+    let Some(body) = bodies.get_mut(usize::from(machine.active)) else {
+        machine.expect(false);
+        return None;
+    };
+    let Ok(op) = body.resume(reply) else {
+        machine.grows(false);
+        return None;
+    };
+    let (op, child) = op.split();
+    if let Some(child) = child {
+        push(bodies, child, &mut machine.halt);
+    }
+    machine.submit(op)
 }
 
 impl Machine {
+    // Main is the first thread.
+    fn starts_main(&mut self) {
+        self.global = self.fresh_point();
+        let present = self.fresh_point();
+        let released = self.fresh_point();
+        let main = Thread::new(self.alloc, present, released);
+        push(&mut self.threads, main, &mut self.halt);
+        self.dependence.main(&mut self.halt);
+    }
+
     // The active thread hands the operation over. Gives what is told to the thread whose turn it is then, or nothing at the
     // run's end.
     fn submit(&mut self, op: Op<Number, ()>) -> Told {
@@ -200,8 +224,10 @@ impl Machine {
         };
         self.active = chosen;
         self.makes_access(place);
-        for (number, thread) in self.threads.iter_mut().enumerate() {
-            if number != usize::from(chosen) && thread.state == State::Yielding {
+        for number in 0..5u8 {
+            if let Some(thread) = self.other(number)
+                && thread.state == State::Yielding
+            {
                 thread.state = State::Runnable;
             }
         }
@@ -214,25 +240,33 @@ impl Machine {
         if let Some(used) = self.me().pending.used() {
             let count = self.dependence.accesses_of(active);
             self.check(count < 65_534, FailureKind::TooManyVersions);
-            let has_grown = self.dependence.record(active, used, place).is_ok();
-            self.grows(has_grown);
+            self.dependence.record(active, used, place, &mut self.halt);
         }
     }
 
     // Which threads are disabled, and which accesses they aren't ordered after.
     fn standing(&self) -> Standing {
-        let mut disabled = [true; 5];
-        let mut unordered = [None; 5];
-        let each = disabled.iter_mut().zip(unordered.iter_mut());
-        for (number, (is_disabled, place)) in (0..5u8).zip(each) {
-            *is_disabled = !self.is_in(number, State::Runnable)
-                && !self.is_in(number, State::Yielding);
-            *place = self.unordered(number);
-        }
         Standing {
-            disabled,
-            unordered,
+            disabled: [
+                self.is_disabled(0),
+                self.is_disabled(1),
+                self.is_disabled(2),
+                self.is_disabled(3),
+                self.is_disabled(4),
+            ],
+            unordered: [
+                self.unordered(0),
+                self.unordered(1),
+                self.unordered(2),
+                self.unordered(3),
+                self.unordered(4),
+            ],
         }
+    }
+
+    // Whether the thread can neither go on nor yields.
+    fn is_disabled(&self, number: u8) -> bool {
+        self.lateness(number).is_none()
     }
 
     // Where the thread's pending operation depends on an access that it isn't ordered after: the place of that one's schedule.
@@ -251,8 +285,11 @@ impl Machine {
         let default = self.default_thread();
         let mut options = [None; 7];
         options[0] = Some(Choice::Thread(default));
-        for (number, option) in (0..5u8).zip(options.iter_mut().skip(1)) {
-            if default != Some(number) && self.is_in(number, State::Runnable) {
+        for number in 0..5u8 {
+            if default != Some(number)
+                && self.is_in(number, State::Runnable)
+                && let Some(option) = options.get_mut(usize::from(number).saturating_add(1))
+            {
                 *option = Some(Choice::Thread(Some(number)));
             }
         }
@@ -267,47 +304,60 @@ impl Machine {
         }
     }
 
-    // The active thread if it is runnable; else the runnable one that has yielded least often, the first of these; else the
-    // first that yields.
+    // How late the thread comes where it isn't chosen: the active one is the first, then come others that are runnable, those
+    // that have yielded less often first, and then those that yield. Others don't come.
+    fn lateness(&self, number: u8) -> Option<u64> {
+        match self.threads.get(usize::from(number)) {
+            Some(thread) => match thread.state {
+                State::Runnable if number == self.active => Some(0),
+                State::Runnable => Some(thread.yields.saturating_add(1)),
+                State::Yielding => Some(u64::MAX),
+                State::Blocked | State::Parked | State::Sleeping | State::Ended => None,
+            },
+            None => None,
+        }
+    }
+
+    // The thread that comes first; of those that come equally late the first.
     fn default_thread(&self) -> Option<u8> {
-        if self.is_in(self.active, State::Runnable) {
-            return Some(self.active);
-        }
-        match self.least_yielding() {
-            Some(number) => Some(number),
-            None => self.first_yielding(),
-        }
-    }
-
-    // The runnable thread that has yielded least often, the first of these.
-    fn least_yielding(&self) -> Option<u8> {
-        let mut least = None;
-        let mut yields = 0;
-        for (number, thread) in (0..5u8).zip(&self.threads) {
-            if thread.state == State::Runnable && (least.is_none() || thread.yields < yields) {
-                least = Some(number);
-                yields = thread.yields;
+        let mut first = None;
+        let mut least = 0;
+        for number in 0..5u8 {
+            if let Some(late) = self.lateness(number)
+                && (first.is_none() || late < least)
+            {
+                first = Some(number);
+                least = late;
             }
         }
-        least
+        first
     }
 
-    // The first thread that yields.
-    fn first_yielding(&self) -> Option<u8> {
-        for (number, thread) in (0..5u8).zip(&self.threads) {
-            if thread.state == State::Yielding {
-                return Some(number);
+    // Whether each thread has ended.
+    fn has_ended(&self) -> bool {
+        for thread in &self.threads {
+            if thread.phase != Phase::Over {
+                return false;
             }
         }
-        None
+        true
     }
 
-    // The run is over. It fails where some thread hasn't ended or some object is left, unless it has failed already.
+    // The run is over, and gives its choices away.
+    fn comes_to_end(&mut self) -> Result<PlainRun, Halt> {
+        match self.ends() {
+            Ok(ending) => {
+                let none = Vec::new(self.alloc);
+                let made = mem::replace(&mut self.choices.made, none);
+                Ok(PlainRun { made, ending })
+            }
+            Err(halt) => Err(halt),
+        }
+    }
+
+    // How the run has ended. It fails where some thread hasn't ended or some object is left, unless it has failed already.
     fn ends(&mut self) -> Result<Ending, Halt> {
-        let has_ended = self
-            .threads
-            .iter()
-            .all(|thread| thread.phase == Phase::Over);
+        let has_ended = self.has_ended();
         self.check(has_ended, FailureKind::Deadlock);
         if let Some(kind) = self.objects.leak() {
             self.fails(kind);

@@ -47,10 +47,11 @@ impl Machine {
     }
 
     fn rwlock_new(&mut self, value: Number) -> Told {
-        let number = self.new_number();
         let lock = RwLock::of(Some(value), self.fresh_point());
-        let has_grown = self.objects.rwlocks.add(number, lock);
-        self.grows(has_grown);
+        let objects = &mut *self.objects;
+        let number = objects
+            .rwlocks
+            .add(lock, &mut objects.count, &mut self.halt);
         Some(Reply::RwLock(number))
     }
 
@@ -79,11 +80,12 @@ impl Machine {
 
     // The active thread, which has the data out, puts it back.
     fn rwlock_put(&mut self, number: usize, value: Number) -> Told {
-        let lent = self.rwlock(number).lent;
-        self.require(lent == Some(self.active));
+        let active = self.active;
         let lock = self.rwlock(number);
+        let is_out = lock.lent == Some(active);
         lock.lent = None;
         lock.value = Some(value);
+        self.require(is_out);
         Some(Reply::Done)
     }
 

@@ -17,17 +17,23 @@ pub struct Found {
 
 // Whether the run makes these choices, and then defaults.
 fn is_run_of(run: &PlainRun, list: &[Choice]) -> bool {
-    let made = run.made.as_slice();
-    made.len() >= list.len()
-        && made
-            .iter()
-            .zip(list)
-            .all(|(each, choice)| each.choice == *choice)
-        && made.iter().skip(list.len()).all(|each| is_default(each))
+    for (place, each) in run.made.iter().enumerate() {
+        let wanted = list.get(place).copied().or(default_of(&each.options));
+        if wanted != Some(each.choice) {
+            return false;
+        }
+    }
+    run.made.len() >= list.len()
 }
 
-fn is_default(each: &Made) -> bool {
-    default_of(&each.options) == Some(each.choice)
+// Whether one of these runs makes these choices, and then defaults.
+fn is_run(runs: &Vec<PlainRun>, list: &[Choice]) -> bool {
+    for run in runs {
+        if is_run_of(run, list) {
+            return true;
+        }
+    }
+    false
 }
 
 /// The set, unless it has more than so many runs. The default run is the first of it.
@@ -37,15 +43,43 @@ pub fn least_set<B: Body<Data = Number>>(
     body: &B,
     most: usize,
 ) -> Result<Vec<Found>, Halt> {
-    let mut runs = vec![in alloc; run(alloc, settings, body, Vec::new(alloc))?]?;
+    let mut runs = Vec::new(alloc);
+    add_run(alloc, settings, body, Vec::new(alloc), &mut runs)?;
     for place in 0..most {
-        let Some(here) = runs.get(place) else {
+        if place >= runs.len() {
             return found_of(alloc, &runs);
-        };
-        let lists = alternatives(alloc, settings, here.made.as_slice())?;
-        add_runs(alloc, settings, body, lists, &mut runs)?;
+        }
+        add_alternatives(alloc, settings, body, place, &mut runs)?;
     }
     Err(Halt::TooManyRuns)
+}
+
+// Adds the run that makes these choices, and then defaults.
+fn add_run<B: Body<Data = Number>>(
+    alloc: Global,
+    settings: Settings,
+    body: &B,
+    list: Vec<Choice>,
+    runs: &mut Vec<PlainRun>,
+) -> Result<(), Halt> {
+    let run = run(alloc, settings, body, list)?;
+    runs.push(run)?;
+    Ok(())
+}
+
+// Adds the alternatives of the run at this place.
+fn add_alternatives<B: Body<Data = Number>>(
+    alloc: Global,
+    settings: Settings,
+    body: &B,
+    place: usize,
+    runs: &mut Vec<PlainRun>,
+) -> Result<(), Halt> {
+    let Some(here) = runs.get(place) else {
+        return Ok(());
+    };
+    let lists = alternatives(alloc, settings, here.made.as_slice())?;
+    add_runs(alloc, settings, body, lists, runs)
 }
 
 // Adds the runs of these lists that aren't there.
@@ -57,8 +91,8 @@ fn add_runs<B: Body<Data = Number>>(
     runs: &mut Vec<PlainRun>,
 ) -> Result<(), Halt> {
     for list in lists {
-        if !runs.iter().any(|each| is_run_of(each, list.as_slice())) {
-            runs.push(run(alloc, settings, body, list)?)?;
+        if !is_run(runs, list.as_slice()) {
+            add_run(alloc, settings, body, list, runs)?;
         }
     }
     Ok(())
@@ -67,12 +101,19 @@ fn add_runs<B: Body<Data = Number>>(
 fn found_of(alloc: Global, runs: &Vec<PlainRun>) -> Result<Vec<Found>, Halt> {
     let mut found = Vec::new(alloc);
     for each in runs {
-        found.push(Found {
-            choices: choices_of(alloc, each.made.as_slice())?,
-            ending: each.ending,
-        })?;
+        add_found(alloc, each, &mut found)?;
     }
     Ok(found)
+}
+
+// Adds the run as one that was found.
+fn add_found(alloc: Global, run: &PlainRun, found: &mut Vec<Found>) -> Result<(), Halt> {
+    let choices = choices_of(alloc, run.made.as_slice())?;
+    found.push(Found {
+        choices,
+        ending: run.ending,
+    })?;
+    Ok(())
 }
 
 /// The runs of a search that isn't reduced, those that share a beginning together, the default first, up to the first that
@@ -89,19 +130,30 @@ pub fn runs_in_order<B: Body<Data = Number>>(
         let Some(list) = lists.pop() else {
             return Ok(runs);
         };
-        let length = list.len();
-        let plain = run(alloc, settings, body, list)?;
-        let made = plain.made.as_slice();
-        push_later(alloc, settings, made, length, &mut lists)?;
-        runs.push(Found {
-            choices: choices_of(alloc, made)?,
-            ending: plain.ending,
-        })?;
-        if let Ending::Failed(_) = plain.ending {
+        if add_in_order(alloc, settings, body, list, &mut lists, &mut runs)? {
             return Ok(runs);
         }
     }
     Err(Halt::TooManyRuns)
+}
+
+// Adds the run of the list, and the lists of its alternatives past that. Whether it fails.
+fn add_in_order<B: Body<Data = Number>>(
+    alloc: Global,
+    settings: Settings,
+    body: &B,
+    list: Vec<Choice>,
+    lists: &mut Vec<Vec<Choice>>,
+    runs: &mut Vec<Found>,
+) -> Result<bool, Halt> {
+    let length = list.len();
+    let plain = run(alloc, settings, body, list)?;
+    push_later(alloc, settings, plain.made.as_slice(), length, lists)?;
+    add_found(alloc, &plain, runs)?;
+    Ok(match plain.ending {
+        Ending::Failed(_) => true,
+        Ending::Ended(_) => false,
+    })
 }
 
 // The alternatives of the run past so many choices. What is to be made first comes last: the deepest, and of one place the first option.

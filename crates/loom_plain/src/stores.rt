@@ -34,15 +34,24 @@ fn slot(store: &Store) -> usize {
 
 /// The kept store in the slot.
 pub fn store_in(stores: &[Store], wanted: usize) -> Option<&Store> {
-    kept(stores).iter().find(|store| slot(*store) == wanted)
+    for store in kept(stores) {
+        if slot(store) == wanted {
+            return Some(store);
+        }
+    }
+    None
 }
 
 /// Whether the store is seen from the point: a thread's first touch of it reaches the point.
 pub fn is_seen(graph: &Graph, store: &Store, point: usize) -> bool {
-    store.touches.iter().any(|touch| match touch {
-        Some(touch) => reaches(graph, *touch, point),
-        None => false,
-    })
+    for touch in &store.touches {
+        if let Some(touch) = *touch
+            && reaches(graph, touch, point)
+        {
+            return true;
+        }
+    }
+    false
 }
 
 // Whether the touch reaches the point. One before which nothing has raised its thread reaches all points.
@@ -107,31 +116,44 @@ fn is_dropped(
     store: &Store,
     below: usize,
 ) -> bool {
-    kept(stores).iter().any(|other| slot(other) < below && drops(graph, reader, other, store))
+    for other in kept(stores) {
+        if slot(other) < below && drops(graph, reader, other, store) {
+            return true;
+        }
+    }
+    false
 }
 
 // Whether another kept store has an order equal to the store's, and no store in a slot lower than that one drops the store.
 fn has_equal(graph: &Graph, reader: Reader, stores: &[Store], store: &Store) -> bool {
-    kept(stores).iter().any(|other| {
-        other.number != store.number
+    for other in kept(stores) {
+        if other.number != store.number
             && is_level(graph, store, other)
             && !is_dropped(graph, reader, stores, store, slot(other))
-    })
+        {
+            return true;
+        }
+    }
+    false
 }
 
 /// Whether the orders of two kept stores are equal, so that it can't be told which may be read.
 pub fn are_orders_equal(graph: &Graph, reader: Reader, stores: &[Store]) -> bool {
-    kept(stores)
-        .iter()
-        .any(|store| has_equal(graph, reader, stores, store))
+    for store in kept(stores) {
+        if has_equal(graph, reader, stores, store) {
+            return true;
+        }
+    }
+    false
 }
 
 /// The slots that may be read, in rising order.
 pub fn readable(graph: &Graph, reader: Reader, stores: &[Store]) -> Options {
     let mut slots = [None; 7];
-    for (number, option) in (0..7u8).zip(slots.iter_mut()) {
+    for number in 0..7u8 {
         if let Some(store) = store_in(stores, usize::from(number))
             && !is_dropped(graph, reader, stores, store, KEPT)
+            && let Some(option) = slots.get_mut(usize::from(number))
         {
             *option = Some(Choice::Load(number));
         }

@@ -1,4 +1,5 @@
 //! Objects of one kind by their numbers.
+use crate::halt::Halt;
 use crate::memory::push;
 use std::alloc::Global;
 
@@ -26,19 +27,33 @@ impl<T: Drop> Table<T> {
         }
     }
 
-    /// One object more. Whether there was memory.
-    pub fn add(&mut self, number: usize, object: T) -> bool {
-        push(&mut self.list, Numbered { number, object })
+    /// One object more, which has the next number of all objects. Where memory is refused the run can't be made.
+    pub fn add(&mut self, object: T, count: &mut usize, halt: &mut Option<Halt>) -> usize {
+        let number = *count;
+        *count = number.saturating_add(1);
+        push(&mut self.list, Numbered { number, object }, halt);
+        number
+    }
+
+    // The place of the object of this number in the list, or the list's end.
+    fn place_of(&self, number: usize) -> usize {
+        for (place, each) in self.list.iter().enumerate() {
+            if each.number == number {
+                return place;
+            }
+        }
+        self.list.len()
     }
 
     /// Whether there is an object of this number.
     pub fn has(&self, number: usize) -> bool {
-        self.list.iter().any(|each| each.number == number)
+        self.place_of(number) < self.list.len()
     }
 
     /// The object of this number, or what stands for it.
     pub fn at(&mut self, number: usize) -> &mut T {
-        match self.list.iter_mut().find(|each| each.number == number) {
+        let place = self.place_of(number);
+        match self.list.get_mut(place) {
             Some(each) => &mut each.object,
             None => &mut self.none,
         }

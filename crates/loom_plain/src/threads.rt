@@ -83,10 +83,8 @@ impl Machine {
         thread.raised = Some(begins);
         thread.notifier = Some(notifier);
         thread.name = name;
-        let has_grown = push(&mut self.threads, thread);
-        self.grows(has_grown);
-        let has_grown = self.dependence.child(self.active).is_ok();
-        self.grows(has_grown);
+        push(&mut self.threads, thread, &mut self.halt);
+        self.dependence.child(self.active, &mut self.halt);
     }
 
     fn join_begins(&mut self, number: u8, notifier: usize) -> Told {

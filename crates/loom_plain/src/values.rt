@@ -1,7 +1,6 @@
 //! Threads' own values, and values that are made once in a run.
 use crate::halt::Told;
 use crate::machine::Machine;
-use crate::memory::push;
 use crate::state::{Local, Phase};
 use loom_objects::operation::{Keyed, Lazy, LazyOp, LocalOp, Reply};
 use loom_scripts::number::Number;
@@ -12,7 +11,12 @@ use std::mem;
 impl Machine {
     // The active thread's own value of this key.
     fn local(&mut self, key: usize) -> Option<&mut Local> {
-        self.me().locals.iter_mut().find(|local| local.key == key)
+        for local in self.me().locals.iter_mut() {
+            if local.key == key {
+                return Some(local);
+            }
+        }
+        None
     }
 
     // The value of this key, or whether it was given back.
@@ -53,7 +57,7 @@ impl Machine {
             key,
             value: Some(value),
         };
-        let has_grown = push(&mut self.me().locals, local);
+        let has_grown = self.me().locals.push(local).is_ok();
         self.grows(has_grown);
         Some(Reply::Data(value))
     }
@@ -83,13 +87,21 @@ impl Machine {
 
     // The value of this key, if it was made, once the active thread has acquired what its maker has seen.
     fn lazy(&mut self, key: usize) -> Option<Number> {
-        let mut lazies = self.lazies.as_slice().iter();
-        let (value, point) = match lazies.find(|lazy| lazy.key == key) {
-            Some(lazy) => (lazy.value, lazy.stamp),
-            None => return None,
+        let Some((value, point)) = self.lazy_value(key) else {
+            return None;
         };
         self.acquire(point);
         Some(value)
+    }
+
+    // The value of this key, if it was made, and the point that is acquired with it.
+    fn lazy_value(&self, key: usize) -> Option<(Number, usize)> {
+        for lazy in self.lazies.as_slice() {
+            if lazy.key == key {
+                return Some((lazy.value, lazy.stamp));
+            }
+        }
+        None
     }
 
     /// An operation of values that are made once in a run.

@@ -52,10 +52,11 @@ impl Machine {
     // A notifier, and then the count of its wakers.
     fn block_on_new(&mut self) -> Told {
         let notifier = self.notify_new(false);
-        let number = self.new_number();
         let wakers = Wakers::of(notifier, 1, self.fresh_point());
-        let has_grown = self.objects.wakers.add(number, wakers);
-        self.grows(has_grown);
+        let objects = &mut *self.objects;
+        let number = objects
+            .wakers
+            .add(wakers, &mut objects.count, &mut self.halt);
         Some(Reply::BlockOn(number))
     }
 
@@ -119,10 +120,11 @@ impl Machine {
     }
 
     fn place_new(&mut self) -> Told {
-        let number = self.new_number();
         let place = Place::new(self.fresh_point());
-        let has_grown = self.objects.places.add(number, place);
-        self.grows(has_grown);
+        let objects = &mut *self.objects;
+        let number = objects
+            .places
+            .add(place, &mut objects.count, &mut self.halt);
         Some(Reply::AtomicWaker(number))
     }
 
