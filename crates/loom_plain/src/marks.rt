@@ -121,8 +121,9 @@ impl Adding {
 
     // Each thread is added for the access that it isn't ordered after at this schedule.
     fn add_each(&mut self, bound: Option<usize>, made: &[Made], standing: Standing) {
-        for (thread, access) in (0..5u8).zip(&standing.unordered) {
-            if let Some(access) = *access {
+        for thread in 0..5u8 {
+            let access = standing.unordered.get(usize::from(thread)).copied();
+            if let Some(Some(access)) = access {
                 self.add_for(bound, made, access, thread);
             }
         }

@@ -2,17 +2,6 @@
 use loom_views::rt::change::Change;
 use loom_views::rt::num::Numbers;
 
-// How many bits the type has.
-fn width(numbers: Numbers) -> u32 {
-    match numbers {
-        Numbers::Bool => 1,
-        Numbers::U8 | Numbers::I8 => 8,
-        Numbers::U16 | Numbers::I16 => 16,
-        Numbers::U32 | Numbers::I32 => 32,
-        Numbers::U64 | Numbers::I64 => 64,
-    }
-}
-
 // Whether the type has negative numbers.
 fn is_signed(numbers: Numbers) -> bool {
     match numbers {
@@ -23,9 +12,13 @@ fn is_signed(numbers: Numbers) -> bool {
 
 // Ones in the lowest bits, as many as the type has.
 fn ones(numbers: Numbers) -> u64 {
-    u64::MAX
-        .checked_shr(64u32.saturating_sub(width(numbers)))
-        .unwrap_or(0)
+    match numbers {
+        Numbers::Bool => 1,
+        Numbers::U8 | Numbers::I8 => 0xff,
+        Numbers::U16 | Numbers::I16 => 0xffff,
+        Numbers::U32 | Numbers::I32 => 0xffff_ffff,
+        Numbers::U64 | Numbers::I64 => u64::MAX,
+    }
 }
 
 /// The bits as a number of the type: the lowest ones, with the sign above them; of truth values whether there is any.

@@ -167,9 +167,7 @@ fn push_later(
     for place in length..made.len() {
         let mut here = alternatives_past(alloc, settings, made, place)?;
         here.reverse();
-        for list in here {
-            lists.push(list)?;
-        }
+        lists.append(&mut here)?;
     }
     Ok(())
 }

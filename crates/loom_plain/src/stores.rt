@@ -164,8 +164,10 @@ pub fn readable(graph: &Graph, reader: Reader, stores: &[Store]) -> Options {
 /// This point, and the orders of all kept stores that are seen from the other point.
 pub fn seen_orders(graph: &Graph, stores: &[Store], here: usize, point: usize) -> [usize; 8] {
     let mut orders = [here; 8];
-    for (order, store) in orders.iter_mut().zip(kept(stores)) {
-        if is_seen(graph, store, point) {
+    for (place, store) in kept(stores).iter().enumerate() {
+        if is_seen(graph, store, point)
+            && let Some(order) = orders.get_mut(place)
+        {
             *order = store.order;
         }
     }

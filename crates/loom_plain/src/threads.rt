@@ -57,9 +57,10 @@ impl Machine {
 
     // The active thread comes from the one phase to the other.
     fn moves_on(&mut self, from: Phase, to: Phase) {
-        let phase = self.me().phase;
-        self.require(phase == from);
-        self.me().phase = to;
+        let me = self.me();
+        let is_from = me.phase == from;
+        me.phase = to;
+        self.require(is_from);
     }
 
     fn spawn(&mut self, name: Option<Name>) -> Told {
