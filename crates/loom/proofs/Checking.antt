@@ -1,7 +1,7 @@
 -- A check under way: rounds from the path with which it began, with the runs that its visitor was given.
 use Rattle.std.proofs.Common.{◌≡◌, ◌+◌, ℕ, inl, inr, List, [], ◌∷◌, ◌++◌, length, take, refl, ap, ap₂, sym, ◌∙◌, subst, arith, append-nil, length-append}
 use Rattle.std.proofs.lemmas.List.{append_assoc}
-use Rattle.std.specs.Prelude.{◌≤◌, ◌<◌, Bool, true, false, Option, Some, None, Ok, Err, Result, String, Vec, string_bytes}
+use Rattle.std.specs.Prelude.{◌≤◌, ◌<◌, Bool, true, false, Option, Some, None, Ok, Err, Result, IfOk, String, Vec, string_bytes}
 use Rattle.loom_views.specs.declared.rt.failure.FailureKind.{FailureKind}
 use Rattle.loom_parts.specs.declared.choice.Choice.{Choice}
 use Rattle.loom_objects.specs.Tree.{Tree}
@@ -12,13 +12,14 @@ use Rattle.loom_walks.specs.Trees.Check.{Makes, makes_none}
 use Rattle.loom_walks.specs.Trees.Marks.{marking}
 use Rattle.loom_walks.specs.Trees.Sound.{EndsUnchosen}
 use Rattle.loom_path.specs.declared.rt.node.Node.{Node}
-use Rattle.loom_path.specs.Routes.{Route, at_rest, stored, trail, chosen, drives}
+use Rattle.loom_path.specs.Routes.{Route, IsSameSearch, at_rest, stored, trail, chosen, drives}
 use Rattle.loom_runs.specs.Trees.{IsRunTree}
 use Rattle.loom_stores.specs.Stores.{Keeps}
 use Rattle.loom_walks.proofs.Trees.Rounds.{another_round, final_round}
 use Rattle.loom_parts.specs.declared.failure.Failure.{Failure}
 use Rattle.serde_json.specs.Written.{compact_text}
 use Rattle.loom_checkpoint.specs.Grammar.{path_data}
+use Rattle.std.specs.declared.alloc.AllocError.{AllocError}
 use Rattle.std.specs.declared.alloc.Global.{Global}
 use Rattle.std.specs.declared.time.Duration.{Duration}
 use Rattle.loom.specs.declared.builder.Builder.{Builder}
@@ -27,8 +28,10 @@ use Rattle.loom.specs.declared.model.Limit.TheVariants.{Permutations, Duration a
 use Rattle.loom.specs.declared.model.Report.TheVariants.{Complete, Stopped, Failed}
 use Rattle.loom.specs.Beginning.{Given, WasGiven}
 use Rattle.loom.specs.Check.{IsTextOf, Completes, GoesOn, Fails, IsHeld, ReadsAs, Reports, StopsBy}
-use Rattle.loom.specs.declared.search.Round.TheVariants as round
-use Rattle.loom.specs.Loop.{IsBegun, IsKept, IsSavedAs, HasEnded, HasReached, ComesTo}
+use Rattle.loom_check_parts.specs.declared.rounds.Round.{Round}
+use Rattle.loom_check_parts.specs.declared.rounds.Round.TheVariants as round
+use Rattle.loom_check_parts.specs.Rounds.{HasGone, IsOver}
+use Rattle.loom.specs.Loop.{IsBegun, IsKept, IsSavedAs, HasEnded, HasReached, ComesTo, IsRoundLocated}
 use Rattle.loom.specs.Settings.{explores, most_runs, search_of}
 use Rattle.loom.proofs.Paths.{MayBegin, begins, completes, goes_to, may_go_on, all_chosen, fails_there}
 
@@ -364,3 +367,38 @@ pub reached_stops : (answered : Duration → Type 0) (b : Builder) (count : ℕ)
     → HasReached answered b count (Some limit) → StopsBy answered b (Stopped count limit checkpoint)
 reached_stops answered b count Permutations checkpoint within full = omega (arith, within, full)
 reached_stops answered b count Lasting checkpoint within lasted = (within, lasted.0)
+
+-- ---- what follows a run
+
+module _ {V D : Type 0} (takes : V → List Choice → D → V → Type 0) (tree : Tree D) (old after : Route) (visitor : V) where
+  -- it ended
+  pub gone : (value : D) (answer : Result Round AllocError) (new : Route) (later : V) → drives tree old ≡ (Ok value, trail after) → IsSameSearch old after
+      → IfOk answer (λ round. HasGone takes value after visitor round new later) → IfOk answer (λ round. ComesTo takes tree old visitor round new later)
+  gone value (Err e) new later drive same z = z
+  gone value (Ok round.Next) new later drive same z =
+      record { value = value; after = after; drive = drive; took = z.took; steps = z.steps; rests = z.rests ∙ ap₂ (λ k e. at_rest k e new.nodes) same.0 same.1 }
+  gone value (Ok round.Last) new later drive same z =
+      record { value = value; after = after; drive = drive; took = z.took; steps = z.steps; rests = z.rests ∙ ap₂ (λ k e. at_rest k e new.nodes) same.0 same.1 }
+  gone value (Ok (round.Failed failure choices)) new later drive same z = absurd z
+
+  pub gone_located : (keeps : Bool) (value : D) (answer : Result Round AllocError) (new : Route) (later : V)
+      → IfOk answer (λ round. HasGone takes value after visitor round new later) → IfOk answer (IsRoundLocated keeps)
+  gone_located keeps value (Err e) new later z = z
+  gone_located keeps value (Ok round.Next) new later z = tt
+  gone_located keeps value (Ok round.Last) new later z = tt
+  gone_located keeps value (Ok (round.Failed failure choices)) new later z = absurd z
+
+  -- or it failed
+  pub over : (failure : Failure) (answer : Result Round AllocError) → drives tree old ≡ (Err failure.kind, trail after) → IfOk answer (IsOver failure after)
+      → IfOk answer (λ round. ComesTo takes tree old visitor round after visitor)
+  over failure (Err e) drive z = z
+  over failure (Ok round.Next) drive z = absurd z
+  over failure (Ok round.Last) drive z = absurd z
+  over failure (Ok (round.Failed why choices)) drive z = (after, drive ∙ ap (λ (f : Failure). (Err f.kind, trail after)) (sym z.0), z.1, refl)
+
+pub over_located : (keeps : Bool) (failure : Failure) (after : Route) (answer : Result Round AllocError) → (keeps ≡ false → failure.location ≡ None) → IfOk answer (IsOver failure after)
+    → IfOk answer (IsRoundLocated keeps)
+over_located keeps failure after (Err e) placed z = z
+over_located keeps failure after (Ok round.Next) placed z = absurd z
+over_located keeps failure after (Ok round.Last) placed z = absurd z
+over_located keeps failure after (Ok (round.Failed why choices)) placed z = λ none. ap (λ (f : Failure). f.location) z.0 ∙ placed none

@@ -11,8 +11,8 @@ use Rattle.loom_walks.specs.Trees.Meeting.{Settings}
 use Rattle.loom.specs.declared.builder.Builder.{Builder}
 use Rattle.loom.specs.declared.model.Limit.{Limit}
 use Rattle.loom.specs.declared.model.Limit.TheVariants.{Permutations, Duration as Lasting}
-use Rattle.loom.specs.declared.search.Round.{Round}
-use Rattle.loom.specs.declared.search.Round.TheVariants.{Next, Last, Failed}
+use Rattle.loom_check_parts.specs.declared.rounds.Round.{Round}
+use Rattle.loom_check_parts.specs.declared.rounds.Round.TheVariants.{Next, Last, Failed}
 use Rattle.loom.specs.Check.{IsTextOf, ReadsAs, HasLasted}
 use Rattle.loom.specs.Settings.{most_runs}
 

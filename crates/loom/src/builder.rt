@@ -1,11 +1,10 @@
 ghost use Rattle.std.specs.Prelude.{◌≡◌, ◌≤◌, ◌<◌, OnOk, IfOk, IfErr, IfSome, Some, None, String, string_bytes};
-ghost use Rattle.loom_path.specs.Routes.{settings};
 ghost use Rattle.loom.specs.Environment.{of_environment};
-ghost use Rattle.loom.specs.Settings.{defaults, explores, search_of, tested, tested_bound};
+ghost use Rattle.loom.specs.Settings.{defaults, tested, tested_bound};
 
 use crate::env::{Env, number_or, optional, seconds};
 use crate::error::{CheckError, Variable};
-use loom_path::rt::path::Search;
+use loom_check_parts::limits::default_threads;
 use std::alloc::{AllocError, Global};
 use std::time::Duration;
 
@@ -55,7 +54,7 @@ impl Builder {
         ensures { result ≡ defaults }
     {
         Builder {
-            max_threads: 5,
+            max_threads: default_threads(),
             max_branches: 1000,
             max_steps: 1_000_000,
             max_permutations: None,
@@ -127,33 +126,6 @@ impl Builder {
             return Err(CheckError::MaxSteps);
         }
         Ok(())
-    }
-
-    // The search along the path of a check.
-    pub(crate) fn path_search(&self) -> Search
-        requires branches { self.now.max_branches ≤ 1000000 }
-        requires bound { IfSome self.now.preemption_bound (λ bound. bound ≤ 255) }
-        ensures settings { settings result ≡ search_of self.now }
-        ensures explores { result.explores ≡ explores self.now }
-    {
-        let bound = as_byte(self.preemption_bound);
-        Search {
-            reduce: self.reduce,
-            bound,
-            max_branches: self.max_branches as u32,
-            explores: !self.expect_explicit_explore,
-        }
-    }
-}
-
-/// The bound, if there is one, as a number of 8 bits.
-fn as_byte(bound: Option<usize>) -> Option<u8>
-    requires within { IfSome bound (λ most. most ≤ 255) }
-    ensures { result ≡ bound }
-{
-    match bound {
-        Some(most) => Some(most as u8),
-        None => None,
     }
 }
 

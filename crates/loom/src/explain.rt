@@ -7,6 +7,7 @@ ghost use Rattle.loom.specs.Settings.{explores, tested};
 
 use crate::builder::Builder;
 use crate::error::CheckError;
+use loom_check_parts::paths::following;
 use loom_engine::rt::execution::Limits;
 use loom_explain::options::options_at;
 use loom_explain::telling::tell;
@@ -60,6 +61,6 @@ impl Builder {
         ensures { IfOk result (λ path. path ≡ record (at_rest (whole_search self.now.max_branches) (explores self.now) []) { given = choices.now }) }
     {
         let explores = !self.expect_explicit_explore;
-        Path::following(alloc, explores, self.max_branches as u32, choices)
+        following(alloc, explores, self.max_branches, choices)
     }
 }

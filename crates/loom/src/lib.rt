@@ -12,12 +12,11 @@ pub mod explain;
 pub mod laws;
 pub mod model;
 mod progress;
-mod receiver;
 mod report;
 pub mod rising;
 mod search;
-pub mod visitor;
 
+pub use loom_check_parts::visitor;
 pub use loom_choices::choices::{Choices, ChoicesError, ShownChoices};
 pub use loom_objects::body::Body;
 pub use loom_objects::data::Data;

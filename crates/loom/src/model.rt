@@ -8,15 +8,15 @@ ghost use Rattle.loom.specs.Settings.{defaults, explores, tested};
 
 pub use crate::builder::Builder;
 use crate::error::CheckError;
-use crate::receiver::{Listed, NoStore, Nobody, Unlisted};
-use crate::visitor::Visitor;
 use log::Log;
+use loom_check_parts::files::file_store;
+use loom_check_parts::receiver::{Listed, NoStore, Nobody, Unlisted};
+use loom_check_parts::visitor::Visitor;
 use loom_objects::body::Body;
 use loom_objects::choice::Choice;
 use loom_objects::failure::Failure;
 use loom_round::round::Ending;
 use loom_stores::clock::{Clock, NoClock};
-use loom_stores::file::FileStore;
 use loom_stores::store::CheckpointStore;
 use std::alloc::Global;
 use std::rt::Files;
@@ -79,8 +79,8 @@ impl Builder {
         ensures errors { IfErr result (IsNoReport self.now (gives_file self.now.checkpoint_file) (Unit {0})) }
         ensures no_store { self.now.checkpoint_file ≡ None → result ≢ Err CheckError.Store }
     {
-        match &self.checkpoint_file {
-            Some(file) => self.check_alone(alloc, body, &mut FileStore::new(rt, file.as_str())),
+        match file_store(rt, &self.checkpoint_file) {
+            Some(mut store) => self.check_alone(alloc, body, &mut store),
             None => self.check_alone(alloc, body, &mut NoStore),
         }
     }

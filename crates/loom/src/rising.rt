@@ -8,7 +8,8 @@ ghost use Rattle.loom.specs.Settings.{explores, tested};
 use crate::builder::Builder;
 use crate::error::CheckError;
 use crate::model::Report;
-use crate::receiver::NoStore;
+use loom_check_parts::limits::next_bound;
+use loom_check_parts::receiver::NoStore;
 use loom_objects::body::Body;
 use std::alloc::Global;
 
@@ -56,10 +57,10 @@ impl Builder {
         let mut bound = 0;
         loop {
             let report = self.check_bounded(alloc, body, bound)?;
-            if bound >= up_to || !report.is_complete() {
-                return Ok(Risen { bound, report });
+            match next_bound(bound, up_to) {
+                Some(next) if report.is_complete() => bound = next,
+                _ => return Ok(Risen { bound, report }),
             }
-            bound += 1;
         }
     }
 

@@ -7,36 +7,26 @@ ghost use Rattle.loom_walks.specs.Trees.Resuming.{AreAtRest, HasDefaults};
 ghost use Rattle.loom.specs.Check.{Reports};
 ghost use Rattle.loom.specs.Loop.{IsBegun, ComesTo, IsRoundLocated, IsKept, HasReached, IsSavedAs};
 ghost use Rattle.loom.specs.Refusals.{CountsFaults, IsNoBeginning, IsNoSave, IsNoReport};
-ghost use Rattle.loom.specs.Settings.{explores, most_runs, search_of, tested};
+ghost use Rattle.loom.specs.Settings.{explores, search_of, tested};
 
 use crate::builder::Builder;
 use crate::error::CheckError;
 use crate::model::{Limit, Report};
 use crate::progress::log_switches;
-use crate::receiver::Receiver;
 use log::{Log, info};
+use loom_check_parts::limits::{are_made, complete};
+use loom_check_parts::paths::path_search;
+use loom_check_parts::receiver::Receiver;
+use loom_check_parts::rounds::{Round, ended, failed};
 use loom_checkpoint::text::{from_text, to_text};
 use loom_engine::rt::execution::Limits;
 use loom_objects::body::Body;
-use loom_objects::choice::Choice;
-use loom_objects::failure::Failure;
 use loom_path::rt::path::Path;
 use loom_round::places::{LastPlaces, NoPlaces};
 use loom_round::round::{Ending, run};
 use loom_stores::clock::Clock;
 use loom_stores::store::CheckpointStore;
 use std::alloc::{AllocError, Global};
-
-/// What a round of a check came to.
-#[derive(Drop)]
-pub(crate) enum Round {
-    /// The run ended, and there is another.
-    Next,
-    /// The run ended, and it was the last one.
-    Last,
-    /// The run failed, under these choices.
-    Failed(Failure, Vec<Choice>),
-}
 
 impl Builder {
     /// The runs of a check, which a receiver is given.
@@ -76,7 +66,11 @@ impl Builder {
             until_save = self.keep(alloc, &path, store, log, runs, until_save)?;
             match self.round(alloc, body, receiver, &mut path, log)? {
                 Round::Next => runs += 1,
-                Round::Last => return Ok(complete(log, runs)),
+                Round::Last => {
+                    return Ok(Report::Complete {
+                        runs: complete(log, runs),
+                    });
+                }
                 Round::Failed(failure, choices) => {
                     return Ok(Report::Failed {
                         runs,
@@ -96,20 +90,15 @@ impl Builder {
         ensures errors { IfErr result (IsNoBeginning self.now (S.gives store.old)) }
         ensures faults { CountsFaults result (S.fault_count store.old) (S.fault_count store.new) }
     {
-        let search = self.path_search();
+        let search = path_search(
+            self.reduce,
+            self.preemption_bound,
+            self.max_branches,
+            self.expect_explicit_explore,
+        );
         match store.load(alloc)? {
             Some(text) => Ok(from_text(alloc, text.as_slice(), search)?),
             None => Ok(Path::new(alloc, search)),
-        }
-    }
-
-    /// How many runs a check makes at most.
-    fn most_runs(&self) -> u64
-        ensures { result ≡ most_runs self.now }
-    {
-        match self.max_permutations {
-            Some(most) => most as u64,
-            None => u64::MAX,
         }
     }
 
@@ -118,7 +107,7 @@ impl Builder {
         ensures reached { HasReached (C.answered clock.new) self.now runs result }
         ensures fits { result ≡ None → runs < 2 ^ 64 - 1 }
     {
-        if runs >= self.most_runs() {
+        if are_made(self.max_permutations, runs) {
             return Some(Limit::Permutations);
         }
         match self.max_duration {
@@ -178,15 +167,8 @@ impl Builder {
             log_switches(log, path);
         }
         match answer? {
-            Ending::Failed(failure) => Ok(Round::Failed(failure, path.choices(alloc)?)),
-            Ending::Ended(value) => {
-                receiver.receive(alloc, path, value)?;
-                if path.step() {
-                    Ok(Round::Next)
-                } else {
-                    Ok(Round::Last)
-                }
-            }
+            Ending::Failed(failure) => failed(alloc, failure, path),
+            Ending::Ended(value) => ended(alloc, value, receiver, path),
         }
     }
 
@@ -214,16 +196,6 @@ impl Builder {
             run(alloc, limits, body, path, &mut NoPlaces)
         }
     }
-}
-
-/// A check is complete with one run more than these, which the log is told.
-fn complete<L: Log>(log: &L, before: u64) -> Report
-    requires fits { before < 2 ^ 64 - 1 }
-    ensures { result ≡ Report.Complete (before + 1) }
-{
-    let runs = before + 1;
-    info!(log; "completed in {} iterations", runs);
-    Report::Complete { runs }
 }
 
 /// Saves the path, and answers its text.

@@ -1,6 +1,6 @@
 use Rattle.loom_runs.specs.Runs.{runs}
 use Rattle.loom.specs.Settings.{explores}
-use Rattle.loom.specs.declared.receiver.Nobody.{Nobody}
+use Rattle.loom_check_parts.specs.declared.receiver.Nobody.{Nobody}
 use Rattle.loom.proofs.Unheard.{unheard_ok, unheard_errors}
 use Rattle.loom.proofs.builder.Builder.check_alone.Goals as goal
 

@@ -1,44 +1,26 @@
-use Rattle.std.proofs.Common.{refl, ap₂, ◌∙◌}
-use Rattle.loom_path.specs.Routes.{at_rest}
+use Rattle.loom_runs.specs.Runs.{runs}
+use Rattle.loom.specs.Settings.{explores}
+use Rattle.loom.proofs.Checking.{gone, gone_located, over, over_located}
 use Rattle.loom.proofs.builder.Builder.round.Goals as goal
 
-pub returns-in_ok-choices-in-Failed : goal.returns-in_ok-choices-in-Failed
-returns-in_ok-choices-in-Failed g c =
-    let e = rw c.in-Failed.is at c.in_ok-failure.ensures.along in
-    let placed = rw c.in-Failed.is at c.in_ok-failure.ensures.located in
-    record {
-      comes = (c.run-answer.new.path, e, c.in_ok-choices-in-Failed.ensures.list, refl);
-      located = placed;
-    }
+pub returns-in-Failed-clause-comes : goal.returns-in-Failed-clause-comes
+returns-in-Failed-clause-comes g c =
+    let b = c.args.self.now in
+    let tree = runs g.B.Body.next (explores b) b.max_threads b.max_steps c.args.body.now in
+    over g.R.Receiver.receives tree c.args.path.now c.run-answer.new.path c.args.receiver.now c.in-Failed.failure c.failed.result (rw c.in-Failed.is at c.in_ok-failure.ensures.along) c.failed.ensures
 
-pub returns-then-step : goal.returns-then-step
-returns-then-step g c =
-    let e = rw c.in-Ended.is at c.in_ok-failure.ensures.along in
-    let same = c.run-answer.ensures.same in
-    record {
-      comes = record {
-        value = c.in-Ended.value;
-        after = c.run-answer.new.path;
-        drive = e;
-        took = c.in_ok-receive-in-Ended.ensures;
-        steps = rw c.if-step.true at c.step.ensures.steps;
-        rests = c.step.ensures.rest ∙ ap₂ (λ k e. at_rest k e c.step.new.self.nodes) same.0 same.1;
-      };
-      located = tt;
-    }
+pub returns-in-Failed-clause-located : goal.returns-in-Failed-clause-located
+returns-in-Failed-clause-located g c =
+    over_located c.args.self.now.location c.in-Failed.failure c.run-answer.new.path c.failed.result (rw c.in-Failed.is at c.in_ok-failure.ensures.located) c.failed.ensures
 
-pub returns-else-step : goal.returns-else-step
-returns-else-step g c =
-    let e = rw c.in-Ended.is at c.in_ok-failure.ensures.along in
-    let same = c.run-answer.ensures.same in
-    record {
-      comes = record {
-        value = c.in-Ended.value;
-        after = c.run-answer.new.path;
-        drive = e;
-        took = c.in_ok-receive-in-Ended.ensures;
-        steps = rw c.if-step.false at c.step.ensures.steps;
-        rests = c.step.ensures.rest ∙ ap₂ (λ k e. at_rest k e c.step.new.self.nodes) same.0 same.1;
-      };
-      located = tt;
-    }
+pub returns-in-Ended-clause-comes : goal.returns-in-Ended-clause-comes
+returns-in-Ended-clause-comes g c =
+    let b = c.args.self.now in
+    let tree = runs g.B.Body.next (explores b) b.max_threads b.max_steps c.args.body.now in
+    gone g.R.Receiver.receives tree c.args.path.now c.run-answer.new.path c.args.receiver.now c.in-Ended.value c.ended.result c.ended.new.path c.ended.new.receiver
+    (rw c.in-Ended.is at c.in_ok-failure.ensures.along) c.run-answer.ensures.same c.ended.ensures
+
+pub returns-in-Ended-clause-located : goal.returns-in-Ended-clause-located
+returns-in-Ended-clause-located g c =
+    gone_located g.R.Receiver.receives (runs g.B.Body.next (explores c.args.self.now) c.args.self.now.max_threads c.args.self.now.max_steps c.args.body.now) c.args.path.now c.run-answer.new.path
+    c.args.receiver.now c.args.self.now.location c.in-Ended.value c.ended.result c.ended.new.path c.ended.new.receiver c.ended.ensures

@@ -1,0 +1,25 @@
+-- What comes after a run of a check.
+use Rattle.std.specs.Prelude.{◌≡◌, Bool, true, false, List}
+use Rattle.loom_parts.specs.declared.choice.Choice.{Choice}
+use Rattle.loom_parts.specs.declared.failure.Failure.{Failure}
+use Rattle.loom_path.specs.Routes.{Route, at_rest, chosen, Steps}
+use Rattle.loom_check_parts.specs.declared.rounds.Round.{Round}
+use Rattle.loom_check_parts.specs.declared.rounds.Round.TheVariants.{Next, Last, Failed}
+
+module _ {V D : Type 0} (takes : V → List Choice → D → V → Type 0) (value : D) (after : Route) (visitor : V) where
+  -- the receiver was given the run's choices and its value, and then the path stepped to the next run, or to none
+  pub record HasStepped (on : Bool) (new : Route) (later : V) : Type 0 where
+    pub took : takes visitor (chosen after) value later
+    pub steps : Steps after.nodes on new.nodes
+    pub rests : new ≡ at_rest after.search after.explores new.nodes
+
+  abbrev pub HasGone : Round → Route → V → Type 0
+  HasGone Next new later = HasStepped true new later
+  HasGone Last new later = HasStepped false new later
+  HasGone (Failed failure choices) new later = ⊥
+
+-- the run failed so, under the choices that the path has passed
+abbrev pub IsOver : Failure → Route → Round → Type 0
+IsOver why after Next = ⊥
+IsOver why after Last = ⊥
+IsOver why after (Failed failure choices) = (failure ≡ why) × (choices.items ≡ chosen after)

@@ -1,0 +1,44 @@
+//! What comes after a run of a check.
+ghost use Rattle.std.specs.Prelude.{IfOk};
+ghost use Rattle.loom_check_parts.specs.Rounds.{HasGone, IsOver};
+
+use crate::receiver::Receiver;
+use loom_parts::choice::Choice;
+use loom_parts::failure::Failure;
+use loom_path::rt::path::Path;
+use std::alloc::{AllocError, Global};
+
+/// What a round of a check came to.
+#[derive(Drop)]
+pub enum Round {
+    /// The run ended, and there is another.
+    Next,
+    /// The run ended, and it was the last one.
+    Last,
+    /// The run failed, under these choices.
+    Failed(Failure, Vec<Choice>),
+}
+
+/// The run along the path ended with this value, which the receiver is given, and the path steps to the next one.
+pub fn ended<D, Choices, R: Receiver<D, Choices>>(
+    alloc: Global,
+    value: D,
+    receiver: &mut R,
+    path: &mut Path,
+) -> Result<Round, AllocError>
+    ensures { IfOk result (λ round. HasGone R.receives value path.old receiver.old round path.new receiver.new) }
+{
+    receiver.receive(alloc, path, value)?;
+    if path.step() {
+        Ok(Round::Next)
+    } else {
+        Ok(Round::Last)
+    }
+}
+
+/// The run along the path failed so.
+pub fn failed(alloc: Global, failure: Failure, path: &Path) -> Result<Round, AllocError>
+    ensures { IfOk result (IsOver failure path.now) }
+{
+    Ok(Round::Failed(failure, path.choices(alloc)?))
+}
