@@ -41,6 +41,7 @@ use Rattle.loom_objects.specs.declared.rt.run.RunState.{RunState}
 use Rattle.loom_runs.proofs.Runs.Growing.{made_needs_memory}
 use Rattle.loom_dependence.specs.Shown.{ShowsOrder}
 use Rattle.loom_objects.specs.Uses.{use_at, uses}
+use Rattle.loom_engine_parts.specs.Ending.{kept_after, may_end}
 use Rattle.loom_engine.specs.declared.rt.execution.Progress.{Progress}
 use Rattle.loom_engine.specs.Execution.{ExecutionState, Notes, Starts, ShowsCourse, IsMarked, Comes, Along, MayBeRefused, Submits, SubmitsAt, over_after, takes_turn}
 use Rattle.loom_path.specs.Routes.{Route, IsSame, Switches, SwitchesAs, trail, Says, Backtracks, drives}
@@ -481,32 +482,47 @@ module _ {D : Type 0} where
   used_up_by true d path e = refl
   used_up_by false d path e = absurd (cc e)
 
-  module _ (old : Progress D) (path : Route) where
-    pub deadlocked : ((c : Course D) → ShowsCourse c old path → all_ended c.world ≡ false) → Along closes old path (Err (Failure (record { kind = Deadlock; location = None }))) old path
-    deadlocked ended c shown = closed_by (all_ended c.world) c path (ended c shown)
+  -- whether all threads have ended and whether the path is used up, as the code sees them
+  module _ (old : Progress D) (path : Route) (ended used_up : Bool) (all : (c : Course D) → ShowsCourse c old path → all_ended c.world ≡ ended)
+      (used : is_used_up (trail path) ≡ used_up) where
+    pub stays_open : (kind : FailureKind) → may_end ended used_up ≡ Err kind → Along closes old path (Err (Failure (record { kind = kind; location = None }))) old path
+    stays_open kind e c shown = by ended used_up (all c shown) used e
+      where
+        by : (ended used_up : Bool) → all_ended c.world ≡ ended → is_used_up (trail path) ≡ used_up → may_end ended used_up ≡ Err kind → drives (closes c) path ≡ (Err kind, trail path)
+        by false used_up all used e = (let same : Deadlock ≡ kind = cc e in closed_by (all_ended c.world) c path all ∙ ap (λ (k : FailureKind). (Err k, trail path)) same)
+        by true false all used e =
+            let same : NotDeterministic ≡ kind = cc e in
+            ended_by (all_ended c.world) c path all ∙ left_over (is_used_up (trail path)) (drives (carried c (ends c.world)) path) (trail path) used
+            ∙ ap (λ (k : FailureKind). (Err k, trail path)) same
+        by true true all used e = absurd (cc e)
 
-    module _ (ended : (c : Course D) → ShowsCourse c old path → all_ended c.world ≡ true) where
-      pub leftover : is_used_up (trail path) ≡ false → Along closes old path (Err (Failure (record { kind = NotDeterministic; location = None }))) old path
-      leftover e c shown =
-          ended_by (all_ended c.world) c path (ended c shown)
-          ∙ left_over (is_used_up (trail path)) (drives (carried c (ends c.world)) path) (trail path) e
+    pub closes_by : may_end ended used_up ≡ Ok tt → (result : Result (Turn D) Stop) (new : Progress D) → new.dependence ≡ old.dependence
+        → ((w : World D) → Shows w old.state → world_comes (ends w) result new.state) → Along closes old path result new path
+    closes_by e result new kept does c shown =
+        by result (does c.world shown.world) (goes ended used_up (all c shown) used e)
+      where
+        goes : (ended used_up : Bool) → all_ended c.world ≡ ended → is_used_up (trail path) ≡ used_up → may_end ended used_up ≡ Ok tt → drives (closes c) path ≡ drives (carried c (ends c.world)) path
+        goes true true all used e = ended_by (all_ended c.world) c path all ∙ used_up_by (is_used_up (trail path)) (drives (carried c (ends c.world)) path) (trail path) used
+        goes true false all used e = absurd (cc e)
+        goes false used_up all used e = absurd (cc e)
 
-      pub closes_by : is_used_up (trail path) ≡ true → (result : Result (Turn D) Stop) (new : Progress D) → new.dependence ≡ old.dependence
-          → ((w : World D) → Shows w old.state → world_comes (ends w) result new.state) → Along closes old path result new path
-      closes_by e result new kept does c shown =
-          by result (does c.world shown.world)
-          (ended_by (all_ended c.world) c path (ended c shown) ∙ used_up_by (is_used_up (trail path)) (drives (carried c (ends c.world)) path) (trail path) e)
-        where
-          by : (result : Result (Turn D) Stop) → world_comes (ends c.world) result new.state → drives (closes c) path ≡ drives (carried c (ends c.world)) path → Comes (closes c) path result new path
-          by (Ok turn) h e = (
-            record c { world = h.0 },
-            record { world = h.1; order = subst (λ d. ShowsOrder c.order d) (sym kept) shown.order; place = shown.place; exploring = shown.exploring },
-            e ∙ ap (λ (tree : Tree (Turn D × World D)). drives (carried c tree) path) h.2,
-          )
-          by (Err (Failure failure)) h e = e ∙ ap (λ (tree : Tree (Turn D × World D)). drives (carried c tree) path) h
-          by (Err Memory) h e = tt
+        by : (result : Result (Turn D) Stop) → world_comes (ends c.world) result new.state → drives (closes c) path ≡ drives (carried c (ends c.world)) path → Comes (closes c) path result new path
+        by (Ok turn) h e = (
+          record c { world = h.0 },
+          record { world = h.1; order = subst (λ d. ShowsOrder c.order d) (sym kept) shown.order; place = shown.place; exploring = shown.exploring },
+          e ∙ ap (λ (tree : Tree (Turn D × World D)). drives (carried c tree) path) h.2,
+        )
+        by (Err (Failure failure)) h e = e ∙ ap (λ (tree : Tree (Turn D × World D)). drives (carried c tree) path) h
+        by (Err Memory) h e = tt
 
   -- ---- one event
+
+  -- what is kept of an answer is what every further operation is answered
+  pub kept_over : (answer : Result (Turn D) Stop) → kept_after answer ≡ over_after answer
+  kept_over (Ok (turn.Reply thread reply)) = refl
+  kept_over (Ok (turn.Start thread)) = refl
+  kept_over (Ok (turn.Ended value)) = refl
+  kept_over (Err stop) = refl
 
   -- what the code kept of an operation that was begun, and of what it made
   pub started : (op : Op D ⊤) (entry : Entry D) (old : Progress D) (state : RunState D) (kept : Dependence) (parent threads objects : ℕ)

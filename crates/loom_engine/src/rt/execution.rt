@@ -2,7 +2,7 @@ ghost use Rattle.std.specs.Prelude.{Bool, ◌≡◌, ◌≢◌, ◌≤◌, ◌+�
 ghost use Rattle.std.specs.List.{Contains};
 ghost use Rattle.loom_parts.specs.declared.choice.Choice.{Choice};
 ghost use Rattle.loom_runs.specs.Courses.{Course, opening, used_in};
-ghost use Rattle.loom_engine.specs.Execution.{Notes, ShowsCourse, IsMarked, Starts, takes_turn, Along, AllNeedMemory, MayBeRefused, Submits, itself, over_after};
+ghost use Rattle.loom_engine.specs.Execution.{Notes, ShowsCourse, IsMarked, Starts, takes_turn, Along, AllNeedMemory, MayBeRefused, Submits, itself};
 ghost use Rattle.loom_dependence.specs.Shown.{ShowsOrder};
 ghost use Rattle.loom_objects.specs.Effects.{needs_memory};
 ghost use Rattle.loom_objects.specs.Exploring.{is_on};
@@ -14,6 +14,7 @@ ghost use Rattle.loom_path.specs.Routes.{Route, IsAtStart, IsSame, IsSameSearch,
 ghost use Rattle.loom_objects.specs.Asked.{which_store};
 
 use loom_dependence::rt::dependence::{Dependence, Use};
+use loom_engine_parts::ending::{may_end, record_end};
 use loom_machine::steps::{begin, end_run, enter_wait, read, resume};
 use loom_objects::data::Data;
 use loom_objects::failure::{Stop, failed};
@@ -103,18 +104,6 @@ impl<D: Data> Execution<D> {
         ensures { result ≡ self.now.run.state.scene.active }
     {
         self.run.state.scene.active()
-    }
-}
-
-/// Keeps what every operation after this answer is answered, if the run is over by it.
-fn record_end<D>(over: &mut Option<Stop>, answer: &Result<Turn<D>, Stop>)
-    requires { over.old ≡ None }
-    ensures { over.new ≡ over_after answer.now }
-{
-    match answer {
-        Ok(Turn::Ended(_)) => *over = Some(failed(FailureKind::Misuse)),
-        Ok(Turn::Reply(..)) | Ok(Turn::Start(_)) => {}
-        Err(stop) => *over = Some(*stop),
     }
 }
 
@@ -326,11 +315,8 @@ fn close<D: Drop>(run: &mut Progress<D>, path: &Path) -> Result<Turn<D>, Stop>
     ensures no_growth { result ≢ Err Stop.Memory }
     ensures steps { run.new.state.steps_left ≡ run.old.state.steps_left }
 {
-    if !run.state.scene.all_ended() {
-        return Err(failed(FailureKind::Deadlock));
+    match may_end(run.state.scene.all_ended(), path.is_used_up()) {
+        Err(kind) => Err(failed(kind)),
+        Ok(()) => end_run(&mut run.state),
     }
-    if !path.is_used_up() {
-        return Err(failed(FailureKind::NotDeterministic));
-    }
-    end_run(&mut run.state)
 }

@@ -1,15 +1,17 @@
 use Rattle.std.proofs.Common.{◌∙◌, ap, refl, sym}
 use Rattle.loom_objects.specs.Ending.{all_ended}
 use Rattle.loom_objects.specs.World.{World}
-use Rattle.loom_engine.proofs.Executing.{closes_by, deadlocked}
+use Rattle.loom_engine.proofs.Executing.{closes_by, stays_open}
 use Rattle.loom_engine.proofs.rt.execution.close.Goals as goal
 
-pub returns-then-not-all_ended-clause-along : goal.returns-then-not-all_ended-clause-along
-returns-then-not-all_ended-clause-along g c =
+pub returns-in-Err-clause-along : goal.returns-in-Err-clause-along
+returns-in-Err-clause-along g c =
     rw c.failed.ensures
-    (deadlocked c.args.run.now c.args.path.now (λ course shown. ap (λ (w : World _). all_ended w) shown.world.rest ∙ sym c.if-not-all_ended.ensures))
+    (stays_open c.args.run.now c.args.path.now c.all_ended.result c.is_used_up.result (λ course shown. ap (λ (w : World _). all_ended w) shown.world.rest ∙ sym c.all_ended.ensures)
+    (sym c.is_used_up.ensures) c.in-Err.kind (sym c.may_end.ensures ∙ c.in-Err.is))
 
-pub returns-clause-along : goal.returns-clause-along
-returns-clause-along g c =
-    closes_by c.args.run.now c.args.path.now (λ course shown. ap (λ (w : World _). all_ended w) shown.world.rest ∙ sym c.if-not-all_ended.ensures) (sym c.if-not-is_used_up.ensures)
+pub returns-in-Ok-clause-along : goal.returns-in-Ok-clause-along
+returns-in-Ok-clause-along g c =
+    closes_by c.args.run.now c.args.path.now c.all_ended.result c.is_used_up.result (λ course shown. ap (λ (w : World _). all_ended w) shown.world.rest ∙ sym c.all_ended.ensures)
+    (sym c.is_used_up.ensures) (sym c.may_end.ensures ∙ c.in-Ok.is)
     c.end_run.result (record { state = c.end_run.new.run; dependence = c.args.run.now.dependence }) refl c.end_run.ensures.does
