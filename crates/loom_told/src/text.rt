@@ -1,9 +1,9 @@
 //! The text of an explanation: why the run failed, the choices that make it again, and its events in columns.
 mod answers;
 mod calls;
+mod forms;
 mod layout;
 mod lines;
-mod manners;
 mod names;
 mod objects;
 mod page;

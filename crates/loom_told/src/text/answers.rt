@@ -1,6 +1,6 @@
 //! What an operation's reply says, and what the operation did to an atomic, a cell, a lock or a count.
 use crate::text::calls::Call;
-use crate::text::manners::Deed;
+use crate::text::forms::Deed;
 use crate::text::names::Value;
 use crate::text::objects::{Manner, Store};
 use crate::text::page::Page;

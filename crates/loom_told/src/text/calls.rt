@@ -1,5 +1,5 @@
 //! Operations as written in code.
-use crate::text::manners::{self, Deed, Manner};
+use crate::text::forms::{self, Deed, Form};
 use crate::text::names::{Value, order_name};
 use crate::text::objects::Kind;
 use crate::text::page::Page;
@@ -19,8 +19,8 @@ const DATA_IN: &str = "its data isn't to be out, by `get_mut`";
 /// What is asked of who uses a waker.
 const A_WAKER: &str = "a waker is to be left";
 
-/// The number of an object, how a call on it is written, and its manner.
-type Words = (usize, &'static str, &'static Manner);
+/// The number of an object, how a call on it is written, and its form.
+type Words = (usize, &'static str, &'static Form);
 
 /// An argument of a call.
 #[derive(Clone, Copy)]
@@ -104,26 +104,26 @@ impl Page {
 }
 
 impl Call {
-    fn of(subject: Subject, words: &'static str, manner: &Manner) -> Call {
+    fn of(subject: Subject, words: &'static str, form: &Form) -> Call {
         Call {
             subject,
             words,
             arguments: Arguments(Argument::Nothing, Argument::Nothing),
             name: None,
             kind: None,
-            deed: manner.deed,
-            waits: manner.waits,
-            passes: manner.passes,
-            asks: manner.asks,
+            deed: form.deed,
+            waits: form.waits,
+            passes: form.passes,
+            asks: form.asks,
         }
     }
 
     fn plain(words: &'static str) -> Call {
-        Call::of(Subject::Nothing, words, &manners::PLAIN)
+        Call::of(Subject::Nothing, words, &forms::PLAIN)
     }
 
-    fn on(number: usize, words: &'static str, manner: &Manner) -> Call {
-        Call::of(Subject::Object(number), words, manner)
+    fn on(number: usize, words: &'static str, form: &Form) -> Call {
+        Call::of(Subject::Object(number), words, form)
     }
 
     fn with(mut self, arguments: Arguments) -> Call {
@@ -282,19 +282,19 @@ fn atomic_call(op: AtomicOp, world: &World) -> Call {
             let new = value_of(world, atomic, new);
             access_call(atomic, ".compare_and_swap", expected, new)
         }
-        AtomicOp::UnsyncLoad(atomic) => Call::on(atomic, ".unsync_load()", &manners::PLAIN),
-        AtomicOp::IntoInner(atomic) => Call::on(atomic, ".into_inner()", &manners::TAKES_APART),
-        AtomicOp::WithMut(atomic) => Call::on(atomic, ".with_mut()", &manners::TAKES),
+        AtomicOp::UnsyncLoad(atomic) => Call::on(atomic, ".unsync_load()", &forms::PLAIN),
+        AtomicOp::IntoInner(atomic) => Call::on(atomic, ".into_inner()", &forms::TAKES_APART),
+        AtomicOp::WithMut(atomic) => Call::on(atomic, ".with_mut()", &forms::TAKES),
         AtomicOp::WithMutEnd(atomic, bits) => {
             let arguments = Arguments(value_of(world, atomic, bits), Argument::Nothing);
-            Call::on(atomic, " ends with ", &manners::ENDS_MUTATION).with(arguments)
+            Call::on(atomic, " ends with ", &forms::ENDS_MUTATION).with(arguments)
         }
     }
 }
 
 /// An access to an atomic, of which nothing is kept.
 fn access_call(atomic: usize, words: &'static str, first: Argument, second: Argument) -> Call {
-    Call::on(atomic, words, &manners::PLAIN).with(Arguments(first, second))
+    Call::on(atomic, words, &forms::PLAIN).with(Arguments(first, second))
 }
 
 fn new_atomic_call(numbers: Numbers, bits: u64) -> Call {
@@ -303,146 +303,146 @@ fn new_atomic_call(numbers: Numbers, bits: u64) -> Call {
 }
 
 fn cell_call(op: &CellOp<()>) -> Call {
-    let (cell, words, manner): Words = match op {
+    let (cell, words, form): Words = match op {
         CellOp::New(_) => return Call::plain("UnsafeCell::new"),
-        CellOp::Swap(cell, other) => return on_two(*cell, ".swap", *other, &manners::PLAIN),
-        CellOp::Read(cell) => (*cell, ".get()", &manners::PLAIN),
-        CellOp::ReadEnd(cell) => (*cell, " ends", &manners::ENDS_READ),
-        CellOp::WriteEnd(cell, _) => (*cell, " ends", &manners::ENDS_WRITE),
-        CellOp::Deref(cell) => (*cell, ".deref()", &manners::READS_ON),
-        CellOp::Write(cell) => (*cell, ".get_mut()", &manners::PLAIN),
-        CellOp::IntoInner(cell) => (*cell, ".into_inner()", &manners::TAKES_APART),
-        CellOp::Get(cell) => (*cell, ".get()", &manners::PLAIN),
-        CellOp::Replace(cell, _) => (*cell, ".replace()", &manners::PLAIN),
+        CellOp::Swap(cell, other) => return on_two(*cell, ".swap", *other, &forms::PLAIN),
+        CellOp::Read(cell) => (*cell, ".get()", &forms::PLAIN),
+        CellOp::ReadEnd(cell) => (*cell, " ends", &forms::ENDS_READ),
+        CellOp::WriteEnd(cell, _) => (*cell, " ends", &forms::ENDS_WRITE),
+        CellOp::Deref(cell) => (*cell, ".deref()", &forms::READS_ON),
+        CellOp::Write(cell) => (*cell, ".get_mut()", &forms::PLAIN),
+        CellOp::IntoInner(cell) => (*cell, ".into_inner()", &forms::TAKES_APART),
+        CellOp::Get(cell) => (*cell, ".get()", &forms::PLAIN),
+        CellOp::Replace(cell, _) => (*cell, ".replace()", &forms::PLAIN),
     };
-    Call::on(cell, words, manner)
+    Call::on(cell, words, form)
 }
 
 /// A call on an object that has another object in its parentheses.
-fn on_two(number: usize, words: &'static str, other: usize, manner: &Manner) -> Call {
-    Call::on(number, words, manner).with(Arguments(Argument::Object(other), Argument::Nothing))
+fn on_two(number: usize, words: &'static str, other: usize, form: &Form) -> Call {
+    Call::on(number, words, form).with(Arguments(Argument::Object(other), Argument::Nothing))
 }
 
 fn arc_call(op: &ArcOp<()>) -> Call {
-    let (arc, words, manner): Words = match op {
+    let (arc, words, form): Words = match op {
         ArcOp::New(_) => return Call::plain("Arc::new"),
-        ArcOp::Clone(arc) => (*arc, ".clone()", &manners::CLONES),
-        ArcOp::Drop(arc) => (*arc, ".drop()", &manners::DROPS),
-        ArcOp::Get(arc) => (*arc, ".get()", &manners::PLAIN),
-        ArcOp::GetMut(arc) => (*arc, ".get_mut()", &manners::TAKES),
-        ArcOp::Put(arc, _) => (*arc, ".put()", &manners::GIVES_BACK),
-        ArcOp::TryUnwrap(arc) => (*arc, ".try_unwrap()", &manners::UNWRAPS),
-        ArcOp::StrongCount(arc) => (*arc, ".strong_count()", &manners::PLAIN),
+        ArcOp::Clone(arc) => (*arc, ".clone()", &forms::CLONES),
+        ArcOp::Drop(arc) => (*arc, ".drop()", &forms::DROPS),
+        ArcOp::Get(arc) => (*arc, ".get()", &forms::PLAIN),
+        ArcOp::GetMut(arc) => (*arc, ".get_mut()", &forms::TAKES),
+        ArcOp::Put(arc, _) => (*arc, ".put()", &forms::GIVES_BACK),
+        ArcOp::TryUnwrap(arc) => (*arc, ".try_unwrap()", &forms::UNWRAPS),
+        ArcOp::StrongCount(arc) => (*arc, ".strong_count()", &forms::PLAIN),
     };
-    Call::on(arc, words, manner)
+    Call::on(arc, words, form)
 }
 
 fn track_call(op: &TrackOp<()>) -> Call {
-    let (track, words, manner): Words = match op {
+    let (track, words, form): Words = match op {
         TrackOp::New(_) => return Call::plain("Track::new"),
-        TrackOp::GetRef(track) => (*track, ".get_ref()", &manners::PLAIN),
-        TrackOp::GetMut(track) => (*track, ".get_mut()", &manners::TAKES),
-        TrackOp::Put(track, _) => (*track, ".put()", &manners::GIVES_BACK),
-        TrackOp::IntoInner(track) => (*track, ".into_inner()", &manners::TAKES_APART),
-        TrackOp::Drop(track) => (*track, ".drop()", &manners::TAKES_APART),
+        TrackOp::GetRef(track) => (*track, ".get_ref()", &forms::PLAIN),
+        TrackOp::GetMut(track) => (*track, ".get_mut()", &forms::TAKES),
+        TrackOp::Put(track, _) => (*track, ".put()", &forms::GIVES_BACK),
+        TrackOp::IntoInner(track) => (*track, ".into_inner()", &forms::TAKES_APART),
+        TrackOp::Drop(track) => (*track, ".drop()", &forms::TAKES_APART),
     };
-    Call::on(track, words, manner)
+    Call::on(track, words, form)
 }
 
 fn mutex_call(op: &MutexOp<()>) -> Call {
-    let (mutex, words, manner): Words = match op {
+    let (mutex, words, form): Words = match op {
         MutexOp::New(_) => return Call::plain("Mutex::new"),
-        MutexOp::Lock(mutex) => (*mutex, ".lock()", &manners::WAITS),
-        MutexOp::TryLock(mutex) => (*mutex, ".try_lock()", &manners::WAITS),
-        MutexOp::Release(mutex, _) => (*mutex, ".release()", &manners::RELEASES),
-        MutexOp::GetMut(mutex) => (*mutex, ".get_mut()", &manners::TAKES_FREE),
-        MutexOp::Put(mutex, _) => (*mutex, ".put()", &manners::GIVES_BACK),
-        MutexOp::IntoInner(mutex) => (*mutex, ".into_inner()", &manners::TAKES_FREE_APART),
+        MutexOp::Lock(mutex) => (*mutex, ".lock()", &forms::WAITS),
+        MutexOp::TryLock(mutex) => (*mutex, ".try_lock()", &forms::WAITS),
+        MutexOp::Release(mutex, _) => (*mutex, ".release()", &forms::RELEASES),
+        MutexOp::GetMut(mutex) => (*mutex, ".get_mut()", &forms::TAKES_FREE),
+        MutexOp::Put(mutex, _) => (*mutex, ".put()", &forms::GIVES_BACK),
+        MutexOp::IntoInner(mutex) => (*mutex, ".into_inner()", &forms::TAKES_FREE_APART),
     };
-    Call::on(mutex, words, manner)
+    Call::on(mutex, words, form)
 }
 
 fn rwlock_call(op: &RwLockOp<()>) -> Call {
-    let (lock, words, manner): Words = match op {
+    let (lock, words, form): Words = match op {
         RwLockOp::New(_) => return Call::plain("RwLock::new"),
-        RwLockOp::Read(lock) => (*lock, ".read()", &manners::WAITS_TO_READ),
-        RwLockOp::TryRead(lock) => (*lock, ".try_read()", &manners::WAITS_TO_READ),
-        RwLockOp::ReadRelease(lock) => (*lock, ".release()", &manners::RELEASES_SO),
-        RwLockOp::Write(lock) => (*lock, ".write()", &manners::WAITS_TO_WRITE),
-        RwLockOp::TryWrite(lock) => (*lock, ".try_write()", &manners::WAITS_TO_WRITE),
-        RwLockOp::WriteRelease(lock, _) => (*lock, ".release()", &manners::RELEASES_SO),
-        RwLockOp::GetMut(lock) => (*lock, ".get_mut()", &manners::TAKES_FREE),
-        RwLockOp::Put(lock, _) => (*lock, ".put()", &manners::GIVES_BACK),
-        RwLockOp::IntoInner(lock) => (*lock, ".into_inner()", &manners::TAKES_FREE_APART),
+        RwLockOp::Read(lock) => (*lock, ".read()", &forms::WAITS_TO_READ),
+        RwLockOp::TryRead(lock) => (*lock, ".try_read()", &forms::WAITS_TO_READ),
+        RwLockOp::ReadRelease(lock) => (*lock, ".release()", &forms::RELEASES_SO),
+        RwLockOp::Write(lock) => (*lock, ".write()", &forms::WAITS_TO_WRITE),
+        RwLockOp::TryWrite(lock) => (*lock, ".try_write()", &forms::WAITS_TO_WRITE),
+        RwLockOp::WriteRelease(lock, _) => (*lock, ".release()", &forms::RELEASES_SO),
+        RwLockOp::GetMut(lock) => (*lock, ".get_mut()", &forms::TAKES_FREE),
+        RwLockOp::Put(lock, _) => (*lock, ".put()", &forms::GIVES_BACK),
+        RwLockOp::IntoInner(lock) => (*lock, ".into_inner()", &forms::TAKES_FREE_APART),
     };
-    Call::on(lock, words, manner)
+    Call::on(lock, words, form)
 }
 
 fn condvar_call(op: &CondvarOp<()>) -> Call {
     match op {
         CondvarOp::New => Call::plain("Condvar::new"),
-        CondvarOp::Wait(condvar, mutex, _) => on_two(*condvar, ".wait", *mutex, &manners::SLEEPS),
+        CondvarOp::Wait(condvar, mutex, _) => on_two(*condvar, ".wait", *mutex, &forms::SLEEPS),
         CondvarOp::WaitTimeout(condvar, mutex, _) => on_two(
             *condvar,
             ".wait_timeout",
             *mutex,
-            &manners::SLEEPS,
+            &forms::SLEEPS,
         ),
-        CondvarOp::NotifyOne(condvar) => Call::on(*condvar, ".notify_one()", &manners::PLAIN),
-        CondvarOp::NotifyAll(condvar) => Call::on(*condvar, ".notify_all()", &manners::PLAIN),
+        CondvarOp::NotifyOne(condvar) => Call::on(*condvar, ".notify_one()", &forms::PLAIN),
+        CondvarOp::NotifyAll(condvar) => Call::on(*condvar, ".notify_all()", &forms::PLAIN),
     }
 }
 
 fn notify_call(op: NotifyOp) -> Call {
     match op {
         NotifyOp::New => Call::plain("Notify::new"),
-        NotifyOp::Notify(notifier) => Call::on(notifier, ".notify()", &manners::PLAIN),
-        NotifyOp::Wait(notifier) => Call::on(notifier, ".wait()", &manners::WAITS_FOR_NOTIFICATION),
+        NotifyOp::Notify(notifier) => Call::on(notifier, ".notify()", &forms::PLAIN),
+        NotifyOp::Wait(notifier) => Call::on(notifier, ".wait()", &forms::WAITS_FOR_NOTIFICATION),
     }
 }
 
 fn channel_call(op: &ChannelOp<()>) -> Call {
-    let (channel, words, manner): Words = match op {
+    let (channel, words, form): Words = match op {
         ChannelOp::New => return Call::plain("channel"),
-        ChannelOp::Send(channel, _) => (*channel, ".send()", &manners::SENDS),
-        ChannelOp::Recv(channel) => (*channel, ".recv()", &manners::RECEIVES),
-        ChannelOp::TryRecv(channel) => (*channel, ".try_recv()", &manners::TRIES_TO_RECEIVE),
-        ChannelOp::CloneSender(channel) => (*channel, ".sender.clone()", &manners::PLAIN),
-        ChannelOp::DropSender(channel) => (*channel, ".sender.drop()", &manners::PLAIN),
-        ChannelOp::DropReceiver(channel) => (*channel, ".receiver.drop()", &manners::EMPTIES),
+        ChannelOp::Send(channel, _) => (*channel, ".send()", &forms::SENDS),
+        ChannelOp::Recv(channel) => (*channel, ".recv()", &forms::RECEIVES),
+        ChannelOp::TryRecv(channel) => (*channel, ".try_recv()", &forms::TRIES_TO_RECEIVE),
+        ChannelOp::CloneSender(channel) => (*channel, ".sender.clone()", &forms::PLAIN),
+        ChannelOp::DropSender(channel) => (*channel, ".sender.drop()", &forms::PLAIN),
+        ChannelOp::DropReceiver(channel) => (*channel, ".receiver.drop()", &forms::EMPTIES),
     };
-    Call::on(channel, words, manner)
+    Call::on(channel, words, form)
 }
 
 fn waker_call(op: WakerOp) -> Call {
-    let (wakers, words, manner): Words = match op {
+    let (wakers, words, form): Words = match op {
         WakerOp::New => return Call::plain("BlockOn::new"),
-        WakerOp::Wait(wakers) => (wakers, ".wait()", &manners::WAITS_FOR_NOTIFICATION),
-        WakerOp::Finish(wakers) => (wakers, ".finish()", &manners::DROPS),
-        WakerOp::Clone(wakers) => (wakers, ".waker.clone()", &manners::CLONES),
-        WakerOp::Wake(wakers) => (wakers, ".waker.wake()", &manners::DROPS),
-        WakerOp::WakeByRef(wakers) => (wakers, ".waker.wake_by_ref()", &manners::PLAIN),
-        WakerOp::Drop(wakers) => (wakers, ".waker.drop()", &manners::DROPS),
+        WakerOp::Wait(wakers) => (wakers, ".wait()", &forms::WAITS_FOR_NOTIFICATION),
+        WakerOp::Finish(wakers) => (wakers, ".finish()", &forms::DROPS),
+        WakerOp::Clone(wakers) => (wakers, ".waker.clone()", &forms::CLONES),
+        WakerOp::Wake(wakers) => (wakers, ".waker.wake()", &forms::DROPS),
+        WakerOp::WakeByRef(wakers) => (wakers, ".waker.wake_by_ref()", &forms::PLAIN),
+        WakerOp::Drop(wakers) => (wakers, ".waker.drop()", &forms::DROPS),
     };
-    Call::on(wakers, words, manner)
+    Call::on(wakers, words, form)
 }
 
 fn place_call(op: AtomicWakerOp) -> Call {
-    let (place, words, manner): Words = match op {
+    let (place, words, form): Words = match op {
         AtomicWakerOp::New => return Call::plain("AtomicWaker::new"),
         AtomicWakerOp::Register(place, wakers) => {
-            return on_two(place, ".register", wakers, &manners::PLAIN);
+            return on_two(place, ".register", wakers, &forms::PLAIN);
         }
         AtomicWakerOp::RegisterByRef(place, wakers) => {
-            let mut call = on_two(place, ".register_by_ref", wakers, &manners::PLAIN);
+            let mut call = on_two(place, ".register_by_ref", wakers, &forms::PLAIN);
             call.deed = Deed::ClonesWaker(wakers);
             return call;
         }
-        AtomicWakerOp::Wake(place) => (place, ".wake()", &manners::WAITS),
-        AtomicWakerOp::TakeWaker(place) => (place, ".take_waker()", &manners::WAITS),
-        AtomicWakerOp::Drop(place) => (place, ".drop()", &manners::PLAIN),
+        AtomicWakerOp::Wake(place) => (place, ".wake()", &forms::WAITS),
+        AtomicWakerOp::TakeWaker(place) => (place, ".take_waker()", &forms::WAITS),
+        AtomicWakerOp::Drop(place) => (place, ".drop()", &forms::PLAIN),
     };
-    Call::on(place, words, manner)
+    Call::on(place, words, form)
 }
 
 fn local_call(op: &LocalOp<()>) -> Call {
@@ -452,7 +452,7 @@ fn local_call(op: &LocalOp<()>) -> Call {
         LocalOp::Init(key, _) => (*key, ".init()"),
         LocalOp::Put(key, _) => (*key, ".put()"),
     };
-    Call::of(Subject::Local(key), words, &manners::OF_ITS_KEY)
+    Call::of(Subject::Local(key), words, &forms::OF_ITS_KEY)
 }
 
 fn lazy_call(op: &LazyOp<()>) -> Call {
@@ -460,29 +460,29 @@ fn lazy_call(op: &LazyOp<()>) -> Call {
         LazyOp::Get(key) => (*key, ".get()"),
         LazyOp::Init(key, _) => (*key, ".init()"),
     };
-    Call::of(Subject::Lazy(key), words, &manners::PLAIN)
+    Call::of(Subject::Lazy(key), words, &forms::PLAIN)
 }
 
 fn thread_call(op: &ThreadOp<(), ()>, world: &World) -> Call {
-    let (subject, words, manner): (Subject, &'static str, &'static Manner) = match op {
+    let (subject, words, form): (Subject, &'static str, &'static Form) = match op {
         ThreadOp::Spawn(_, name) => return spawn_call(*name, world),
-        ThreadOp::Join(thread, _) => (Subject::Thread(*thread), "join thread", &manners::JOINS),
-        ThreadOp::Current => (Subject::Nothing, "current()", &manners::PLAIN),
-        ThreadOp::Park => (Subject::Nothing, "park()", &manners::PARKS),
-        ThreadOp::Unpark(thread) => (Subject::Thread(*thread), "unpark thread", &manners::UNPARKS),
-        ThreadOp::Yield => (Subject::Nothing, "yield_now()", &manners::PLAIN),
-        ThreadOp::Finish(_) => (Subject::Nothing, "finish()", &manners::IN_ORDER),
-        ThreadOp::Exit => (Subject::Nothing, "exit()", &manners::IN_ORDER),
-        ThreadOp::End => (Subject::Nothing, "end()", &manners::IN_ORDER),
+        ThreadOp::Join(thread, _) => (Subject::Thread(*thread), "join thread", &forms::JOINS),
+        ThreadOp::Current => (Subject::Nothing, "current()", &forms::PLAIN),
+        ThreadOp::Park => (Subject::Nothing, "park()", &forms::PARKS),
+        ThreadOp::Unpark(thread) => (Subject::Thread(*thread), "unpark thread", &forms::UNPARKS),
+        ThreadOp::Yield => (Subject::Nothing, "yield_now()", &forms::PLAIN),
+        ThreadOp::Finish(_) => (Subject::Nothing, "finish()", &forms::IN_ORDER),
+        ThreadOp::Exit => (Subject::Nothing, "exit()", &forms::IN_ORDER),
+        ThreadOp::End => (Subject::Nothing, "end()", &forms::IN_ORDER),
     };
-    Call::of(subject, words, manner)
+    Call::of(subject, words, form)
 }
 
 fn spawn_call(name: Option<Name>, world: &World) -> Call {
     let mut call = Call::of(
         Subject::Thread(world.next_thread()),
         "spawn thread",
-        &manners::PLAIN,
+        &forms::PLAIN,
     );
     call.name = match name {
         Some(name) => Some(name.text),

@@ -1,5 +1,5 @@
 //! Deadlocks: what each thread waits for, since when, and who has it.
-use crate::text::calls::{Subject, call_of};
+use crate::text::calls::{Call, Subject, call_of};
 use crate::text::objects::Member;
 use crate::text::page::Page;
 use crate::text::reasons::Scene;
@@ -33,29 +33,31 @@ fn put_wait(out: &mut Page, scene: Scene<'_>, waiter: (u8, u8), op: &Op<(), ()>,
     let call = call_of(op, scene.world);
     let (thread, stage) = waiter;
     out.words(": ");
-    match (call.subject, call.argument()) {
-        (Subject::Object(_), Some(mutex)) if stage > 1 => {
+    let object = match call.argument() {
+        Some(mutex) if stage > 1 => {
             out.thing("was woken, and waits for ", scene.world.thing(mutex));
-            out.event(" since ", number);
-            put_holder(out, scene, thread, mutex);
+            Some(mutex)
         }
-        (Subject::Object(object), _) => {
-            out.words(call.waits.unwrap_or("waits"));
-            out.thing(" ", scene.world.thing(object));
-            out.event(" since ", number);
-            put_holder(out, scene, thread, object);
+        _ => {
+            put_waited_for(out, scene, &call);
+            call.number()
         }
-        (Subject::Thread(other), _) => {
-            out.words(call.waits.unwrap_or("waits"));
-            out.thread(" ", other);
-            out.event(" since ", number);
-        }
-        (Subject::Nothing | Subject::Local(_) | Subject::Lazy(_), _) => {
-            out.words(call.waits.unwrap_or("waits"));
-            out.event(" since ", number);
-        }
+    };
+    out.event(" since ", number);
+    if let Some(object) = object {
+        put_holder(out, scene, thread, object);
     }
     out.words("\n");
+}
+
+/// What a thread does that waits at the call, and for which object or thread.
+fn put_waited_for(out: &mut Page, scene: Scene<'_>, call: &Call) {
+    out.words(call.waits.unwrap_or("waits"));
+    match call.subject {
+        Subject::Object(object) => out.thing(" ", scene.world.thing(object)),
+        Subject::Thread(other) => out.thread(" ", other),
+        Subject::Nothing | Subject::Local(_) | Subject::Lazy(_) => {}
+    }
 }
 
 /// Who has the object, if a thread has it.

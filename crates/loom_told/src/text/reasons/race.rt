@@ -12,19 +12,24 @@ use std::sync::atomic::Ordering;
 
 /// Which objects an operation accesses, and how: one, and for a swap of two cells another one.
 fn targets(scene: Scene<'_>) -> Option<(usize, usize, Manner)> {
-    let op = scene.op()?;
-    if let Op::Atomic(op, _) = op {
-        let numbers = scene.world.numbers(op.atomic()?);
-        let touch = touch_of(*op, &Reply::Start, numbers)?;
-        return Some((touch.atomic, touch.atomic, touch.manner));
+    match scene.op() {
+        Some(Op::Atomic(op, _)) => atomic_targets(scene, *op),
+        Some(Op::Cell(op, _)) => cell_targets(op),
+        _ => None,
     }
-    let Op::Cell(op, _) = op else {
-        return None;
-    };
-    match op {
-        CellOp::ReadEnd(cell) => Some((*cell, *cell, Manner::CellRead)),
-        CellOp::WriteEnd(cell, _) => Some((*cell, *cell, Manner::CellWrite)),
-        CellOp::Swap(cell, other) => Some((*cell, *other, Manner::CellWrite)),
+}
+
+fn atomic_targets(scene: Scene<'_>, op: AtomicOp) -> Option<(usize, usize, Manner)> {
+    let numbers = scene.world.numbers(op.atomic()?);
+    let touch = touch_of(op, &Reply::Start, numbers)?;
+    Some((touch.atomic, touch.atomic, touch.manner))
+}
+
+fn cell_targets(op: &CellOp<()>) -> Option<(usize, usize, Manner)> {
+    let targets = match op {
+        CellOp::ReadEnd(cell) => (*cell, *cell, Manner::CellRead),
+        CellOp::WriteEnd(cell, _) => (*cell, *cell, Manner::CellWrite),
+        CellOp::Swap(cell, other) => (*cell, *other, Manner::CellWrite),
         CellOp::New(_)
         | CellOp::Read(_)
         | CellOp::Deref(_)
@@ -33,9 +38,10 @@ fn targets(scene: Scene<'_>) -> Option<(usize, usize, Manner)> {
         | CellOp::Get(_)
         | CellOp::Replace(..) => {
             let (cell, manner) = cell_touch(op)?;
-            Some((cell, cell, manner))
+            (cell, cell, manner)
         }
-    }
+    };
+    Some(targets)
 }
 
 /// The last access of this thread that conflicts with the one that failed.

@@ -41,7 +41,7 @@ pub(crate) enum Deed {
 
 /// What an operation does, waits for and asks, whichever object it is on.
 #[derive(Clone, Copy)]
-pub(crate) struct Manner {
+pub(crate) struct Form {
     pub(crate) deed: Deed,
     /// What a thread does that waits at it, if one may.
     pub(crate) waits: Option<&'static str>,
@@ -52,203 +52,203 @@ pub(crate) struct Manner {
 }
 
 /// An operation of which nothing is kept, that doesn't wait and asks no more than that its object is there.
-pub(crate) static PLAIN: Manner = Manner {
+pub(crate) static PLAIN: Form = Form {
     deed: Deed::Nothing,
     waits: None,
     passes: GOES_ON,
     asks: "",
 };
 
-pub(crate) static TAKES: Manner = Manner {
+pub(crate) static TAKES: Form = Form {
     deed: Deed::Takes,
     waits: None,
     passes: GOES_ON,
     asks: "",
 };
 
-pub(crate) static TAKES_FREE: Manner = Manner {
+pub(crate) static TAKES_FREE: Form = Form {
     deed: Deed::Takes,
     waits: None,
     passes: GOES_ON,
     asks: FREE,
 };
 
-pub(crate) static GIVES_BACK: Manner = Manner {
+pub(crate) static GIVES_BACK: Form = Form {
     deed: Deed::Gives,
     waits: None,
     passes: GOES_ON,
     asks: DATA_OUT,
 };
 
-pub(crate) static TAKES_APART: Manner = Manner {
+pub(crate) static TAKES_APART: Form = Form {
     deed: Deed::TakesApart,
     waits: None,
     passes: GOES_ON,
     asks: "",
 };
 
-pub(crate) static TAKES_FREE_APART: Manner = Manner {
+pub(crate) static TAKES_FREE_APART: Form = Form {
     deed: Deed::TakesApart,
     waits: None,
     passes: GOES_ON,
     asks: FREE,
 };
 
-pub(crate) static ENDS_MUTATION: Manner = Manner {
+pub(crate) static ENDS_MUTATION: Form = Form {
     deed: Deed::Gives,
     waits: None,
     passes: GOES_ON,
     asks: "a mutation is ended by the thread that opened it",
 };
 
-pub(crate) static READS_ON: Manner = Manner {
+pub(crate) static READS_ON: Form = Form {
     deed: Deed::Nothing,
     waits: None,
     passes: GOES_ON,
     asks: READ_OPEN,
 };
 
-pub(crate) static ENDS_READ: Manner = Manner {
+pub(crate) static ENDS_READ: Form = Form {
     deed: Deed::Gives,
     waits: None,
     passes: GOES_ON,
     asks: READ_OPEN,
 };
 
-pub(crate) static ENDS_WRITE: Manner = Manner {
+pub(crate) static ENDS_WRITE: Form = Form {
     deed: Deed::Gives,
     waits: None,
     passes: GOES_ON,
     asks: "the thread is to have a write open",
 };
 
-pub(crate) static CLONES: Manner = Manner {
+pub(crate) static CLONES: Form = Form {
     deed: Deed::Clones,
     waits: None,
     passes: GOES_ON,
     asks: "",
 };
 
-pub(crate) static DROPS: Manner = Manner {
+pub(crate) static DROPS: Form = Form {
     deed: Deed::Drops,
     waits: None,
     passes: GOES_ON,
     asks: "",
 };
 
-pub(crate) static UNWRAPS: Manner = Manner {
+pub(crate) static UNWRAPS: Form = Form {
     deed: Deed::Receives,
     waits: None,
     passes: "has the one reference",
     asks: "",
 };
 
-pub(crate) static WAITS: Manner = Manner {
+pub(crate) static WAITS: Form = Form {
     deed: Deed::Nothing,
     waits: Some("waits for"),
     passes: GOES_ON,
     asks: "",
 };
 
-pub(crate) static WAITS_TO_READ: Manner = Manner {
+pub(crate) static WAITS_TO_READ: Form = Form {
     deed: Deed::Nothing,
     waits: Some("waits to read"),
     passes: GOES_ON,
     asks: "",
 };
 
-pub(crate) static WAITS_TO_WRITE: Manner = Manner {
+pub(crate) static WAITS_TO_WRITE: Form = Form {
     deed: Deed::Nothing,
     waits: Some("waits to write"),
     passes: GOES_ON,
     asks: "",
 };
 
-pub(crate) static WAITS_FOR_NOTIFICATION: Manner = Manner {
+pub(crate) static WAITS_FOR_NOTIFICATION: Form = Form {
     deed: Deed::Nothing,
     waits: Some("waits for a notification of"),
     passes: GOES_ON,
     asks: "",
 };
 
-pub(crate) static SLEEPS: Manner = Manner {
+pub(crate) static SLEEPS: Form = Form {
     deed: Deed::Nothing,
     waits: Some("asleep on"),
     passes: GOES_ON,
     asks: "the thread is to hold the mutex",
 };
 
-pub(crate) static RELEASES: Manner = Manner {
+pub(crate) static RELEASES: Form = Form {
     deed: Deed::Gives,
     waits: None,
     passes: GOES_ON,
     asks: "the thread is to hold it",
 };
 
-pub(crate) static RELEASES_SO: Manner = Manner {
+pub(crate) static RELEASES_SO: Form = Form {
     deed: Deed::Gives,
     waits: None,
     passes: GOES_ON,
     asks: "the thread is to hold it so",
 };
 
-pub(crate) static SENDS: Manner = Manner {
+pub(crate) static SENDS: Form = Form {
     deed: Deed::Sends,
     waits: None,
     passes: GOES_ON,
     asks: "",
 };
 
-pub(crate) static RECEIVES: Manner = Manner {
+pub(crate) static RECEIVES: Form = Form {
     deed: Deed::Receives,
     waits: Some("waits for a message of"),
     passes: GOES_ON,
     asks: RECEIVER,
 };
 
-pub(crate) static TRIES_TO_RECEIVE: Manner = Manner {
+pub(crate) static TRIES_TO_RECEIVE: Form = Form {
     deed: Deed::Receives,
     waits: None,
     passes: GOES_ON,
     asks: RECEIVER,
 };
 
-pub(crate) static EMPTIES: Manner = Manner {
+pub(crate) static EMPTIES: Form = Form {
     deed: Deed::Empties,
     waits: None,
     passes: "takes a message out",
     asks: RECEIVER,
 };
 
-pub(crate) static OF_ITS_KEY: Manner = Manner {
+pub(crate) static OF_ITS_KEY: Form = Form {
     deed: Deed::Nothing,
     waits: None,
     passes: GOES_ON,
     asks: "the thread is to have a value of this key",
 };
 
-pub(crate) static JOINS: Manner = Manner {
+pub(crate) static JOINS: Form = Form {
     deed: Deed::Nothing,
     waits: Some("waits for the end of"),
     passes: GOES_ON,
     asks: "a thread is joined once, by its own notifier",
 };
 
-pub(crate) static PARKS: Manner = Manner {
+pub(crate) static PARKS: Form = Form {
     deed: Deed::Nothing,
     waits: Some("parked, without a token,"),
     passes: GOES_ON,
     asks: "",
 };
 
-pub(crate) static UNPARKS: Manner = Manner {
+pub(crate) static UNPARKS: Form = Form {
     deed: Deed::Nothing,
     waits: None,
     passes: GOES_ON,
     asks: "there is no such thread",
 };
 
-pub(crate) static IN_ORDER: Manner = Manner {
+pub(crate) static IN_ORDER: Form = Form {
     deed: Deed::Nothing,
     waits: None,
     passes: GOES_ON,
