@@ -9,6 +9,7 @@ use loom::thread::{self, Leaving};
 use loom::{Body, Op, Reply, fail};
 use loom_scripts::number::Number;
 use std::alloc::AllocError;
+use std::mem;
 
 /// What a thread is about to be told.
 #[derive(Clone, Copy, Debug)]
@@ -49,44 +50,44 @@ impl Spin {
         Spin { release, awaits }
     }
 
-    /// What comes after this reply, and the operation that the thread hands over, if it knows the reply.
-    fn turn(&self, reply: Reply<Number>) -> Option<(Awaits, Op<Number, Spin>)>
-        ensures { result ≡ turn self.now self.now.awaits reply }
+    /// What comes after this reply, and the operation that the thread hands over, if it knows the reply. What the reply holds is
+    /// taken out of it, so that it is let go at one place.
+    fn turn(&self, reply: &mut Reply<Number>) -> Option<(Awaits, Op<Number, Spin>)>
+        ensures { result ≡ turn self.now self.now.awaits reply.old }
     {
-        match self.awaits {
-            Awaits::Main => Some((Awaits::TheFlag, AtomicBool::new(false))),
+        let next = match self.awaits {
+            Awaits::Main => (Awaits::TheFlag, AtomicBool::new(false)),
             Awaits::TheFlag => {
-                let flag = AtomicBool::from_reply(&reply)?;
-                Some((Awaits::TheCell(flag), UnsafeCell::new(Number(0))))
+                let flag = AtomicBool::from_reply(reply)?;
+                (Awaits::TheCell(flag), UnsafeCell::new(Number(0)))
             }
             Awaits::TheCell(flag) => {
-                let awaits = Awaits::Trying(flag, UnsafeCell::from_reply(&reply)?);
-                Some((awaits, thread::spawn(Spin { awaits, ..*self })))
+                let awaits = Awaits::Trying(flag, UnsafeCell::from_reply(reply)?);
+                (awaits, thread::spawn(Spin { awaits, ..*self }))
             }
             Awaits::Trying(flag, cell) => {
                 let exchange = flag.compare_exchange(false, true, Acquire, Relaxed);
-                Some((Awaits::TheLock(flag, cell), exchange))
+                (Awaits::TheLock(flag, cell), exchange)
             }
-            Awaits::TheLock(flag, cell) => match AtomicBool::exchanged(&reply)? {
-                Ok(_) => Some((Awaits::TheNumber(flag), cell.get_mut())),
-                Err(_) => Some((Awaits::Trying(flag, cell), thread::yield_now())),
+            Awaits::TheLock(flag, cell) => match AtomicBool::exchanged(reply)? {
+                Ok(_) => (Awaits::TheNumber(flag), cell.get_mut()),
+                Err(_) => (Awaits::Trying(flag, cell), thread::yield_now()),
             },
             Awaits::TheNumber(flag) => {
-                let (pointer, Number(number)) = MutPtr::take(reply)?;
-                Some((
-                    Awaits::Written(flag),
-                    pointer.end(Number(number.wrapping_add(1))),
-                ))
+                let (pointer, Number(number)) = MutPtr::take(mem::replace(reply, Reply::Done))?;
+                let next = Number(number.wrapping_add(1));
+                (Awaits::Written(flag), pointer.end(next))
             }
             Awaits::Written(flag) => {
                 let free = flag.store(false, self.release);
-                Some((Awaits::Leaving(Leaving::Finish), free))
+                (Awaits::Leaving(Leaving::Finish), free)
             }
             Awaits::Leaving(leaving) => {
                 let (leaving, op) = leaving.next(Number(0));
-                Some((Awaits::Leaving(leaving), op))
+                (Awaits::Leaving(leaving), op)
             }
-        }
+        };
+        Some(next)
     }
 }
 
@@ -95,10 +96,10 @@ impl Body for Spin {
 
     ghost next = { next_of };
 
-    fn resume(&mut self, reply: Reply<Number>) -> Result<Op<Number, Spin>, AllocError>
+    fn resume(&mut self, mut reply: Reply<Number>) -> Result<Op<Number, Spin>, AllocError>
         ensures { IfOk result (λ op. (self.new, op) ≡ next_of self.old reply) }
     {
-        let (awaits, op) = self.turn(reply).unwrap_or((self.awaits, fail()));
+        let (awaits, op) = self.turn(&mut reply).unwrap_or((self.awaits, fail()));
         self.awaits = awaits;
         Ok(op)
     }
