@@ -1,7 +1,7 @@
 //! The handles of a run, under loom's paths: each method makes an operation, and no handle does more. A body makes its
 //! operations by them, and reads a reply by `from_reply`. `sync`, `cell`, `thread`, `future`, `lazy_static`, `alloc` and
 //! `hint` are loom's modules. It uses the operations of `loom_objects` alone. `loom` hands its modules on, and the bodies of
-//! `loom_row_bodies` and `loom_calls` are written with it.
+//! `loom_row_bodies` and `loom_tests` are written with it.
 #![tactic(auto)]
 
 ghost use Rattle.std.specs.Prelude.{◌≡◌, None};
