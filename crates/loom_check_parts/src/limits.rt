@@ -3,7 +3,7 @@ ghost use Rattle.std.specs.Prelude.{◌≡◌, ◌≤◌, ◌<◌, ◌+◌, ◌-
 ghost use Rattle.std.specs.Option.{unwrap_or};
 ghost use Rattle.loom_views.specs.Limits.{highest_count};
 
-use log::{Log, info};
+use log::{Log, info, target_or};
 
 /// How many threads a run may have by default, main included.
 pub fn default_threads() -> usize
@@ -31,13 +31,13 @@ pub fn are_made(max_permutations: Option<usize>, runs: u64) -> bool
     runs >= most_runs(max_permutations)
 }
 
-/// A check is complete with one run more than these, which the log is told.
+/// A check is complete with one run more than these, which the log is told by the loop's name.
 pub fn complete<L: Log>(log: &L, before: u64) -> u64
     requires fits { before < 2 ^ 64 - 1 }
     ensures { result ≡ before + 1 }
 {
     let runs = before + 1;
-    info!(log; "completed in {} iterations", runs);
+    info!(log; target: target_or(log, "loom::search"), "completed in {} iterations", runs);
     runs
 }
 
