@@ -30,7 +30,7 @@ RULES = {
         "Wakers", "World",
     ]
 } | {f"loom_parts/specs/{name}.antt" for name in ["Defaults", "Leaks", "Lent"]}
-RULES |= {"loom_dependence/specs/Depends.antt", "loom_views/specs/Graph.antt"}
+RULES |= {"loom_dependence/specs/Depends.antt", "loom_view_parts/specs/Graph.antt"}
 # the operations of one kind of object each: a body's runs hand them on to those rules
 OPERATIONS = re.compile(r"^(?!Op$)\w+Op$|^Exchange$|^Change$|^Numbers$")
 # how the code keeps the nodes of a path and the state of a run
@@ -59,10 +59,9 @@ def source_file(crate, modules):
     above = source_file(crate, modules[:-1])
     if file.is_file() or not above.is_file():
         return file
-    for use in re.finditer(r"^pub use (loom_\w+)((?:::\w+)+);", above.read_text(), re.M):
-        inner = use.group(2).split("::")[1:]
-        if inner[-1] == modules[-1]:
-            return source_file(use.group(1), inner)
+    for use in re.finditer(r"^pub use (loom_\w+)((?:::\w+)*)::(?:\{([^}]*)\}|(\w+));", above.read_text(), re.M):
+        if modules[-1] in re.findall(r"\w+", use.group(3) or use.group(4)):
+            return source_file(use.group(1), [*use.group(2).split("::")[1:], modules[-1]])
     return file
 
 

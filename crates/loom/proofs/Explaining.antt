@@ -11,7 +11,7 @@ use Rattle.loom_objects.specs.Tree.{Tree}
 use Rattle.loom_path.specs.Routes.{Route, at_rest, chosen, drives, stored, trail}
 use Rattle.loom_runs.specs.Runs.{Meaning, runs}
 use Rattle.loom_runs.proofs.Runs.Bodies.{run_tree_law}
-use Rattle.loom_views.specs.declared.rt.failure.FailureKind.{FailureKind}
+use Rattle.loom_view_parts.specs.declared.rt.failure.FailureKind.{FailureKind}
 use Rattle.loom_walks.specs.Walk.Path.{choices}
 use Rattle.loom_walks.specs.Trees.Check.{following}
 use Rattle.loom_walks.specs.Trees.Marks.{marking}

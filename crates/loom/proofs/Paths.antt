@@ -2,7 +2,7 @@
 use Rattle.std.proofs.Math.Seq.{take-length}
 use Rattle.std.proofs.Common.{◌≡◌, ℕ, suc, inl, inr, List, [], ◌∷◌, length, refl, ap, ap₂, sym, ◌∙◌, subst, arith}
 use Rattle.std.specs.Prelude.{◌≤◌, ◌≢◌, ◌⊎◌, map, Some, None, Option, Ok, Err, Result, Bool}
-use Rattle.loom_views.specs.declared.rt.failure.FailureKind.{FailureKind}
+use Rattle.loom_view_parts.specs.declared.rt.failure.FailureKind.{FailureKind}
 use Rattle.loom_parts.specs.declared.choice.Choice.{Choice}
 use Rattle.loom_parts.specs.declared.choice.Choice.TheVariants.{Thread}
 use Rattle.loom_objects.specs.Tree.{Tree}

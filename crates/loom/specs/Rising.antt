@@ -1,6 +1,6 @@
 -- What a check with rising bounds on preemptions promises.
 use Rattle.std.specs.Prelude.{ℕ, ◌≡◌, ◌≢◌, ◌<◌, ◌≤◌, Bool, true, false, List, Some, None, Err}
-use Rattle.loom_views.specs.declared.rt.failure.FailureKind.{FailureKind}
+use Rattle.loom_view_parts.specs.declared.rt.failure.FailureKind.{FailureKind}
 use Rattle.loom_parts.specs.declared.choice.Choice.{Choice}
 use Rattle.loom_objects.specs.Tree.{Tree}
 use Rattle.loom_bounds.specs.Within.{IsWithin}

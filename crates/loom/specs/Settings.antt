@@ -1,7 +1,7 @@
 -- Which settings a check takes, and which search they make.
 use Rattle.std.specs.Prelude.{ℕ, ◌||◌, ⊤, Bool, not, true, false, Option, Some, None, Result, Ok, Err, cond, nat_lt}
 use Rattle.std.specs.Option.{unwrap_or}
-use Rattle.loom_views.specs.Limits.{highest_count}
+use Rattle.loom_view_parts.specs.Limits.{highest_count}
 use Rattle.loom_walks.specs.Trees.Meeting.{Settings}
 use Rattle.loom.specs.declared.error.CheckError.{CheckError}
 use Rattle.loom.specs.declared.error.CheckError.TheVariants.{MaxThreads, MaxBranches, PreemptionBound, CheckpointInterval, MaxSteps}

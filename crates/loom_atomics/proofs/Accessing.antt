@@ -4,9 +4,9 @@ use Rattle.std.specs.Prelude.{true, false, List, [], ◌∷◌, Bool, slice_get,
 use Rattle.std.specs.List.{Contains}
 use Rattle.std.specs.declared.sync.atomic.Ordering.{Ordering}
 use Rattle.loom_views.specs.Table.{Points, ShowsViews, MovesAs, OffersAs, slot_set, points_after_raise, readable_slots_of}
-use Rattle.loom_views.specs.declared.rt.atomic.Reader.{Reader}
-use Rattle.loom_views.specs.declared.rt.change.Change.{Change}
-use Rattle.loom_views.specs.declared.rt.failure.FailureKind.{FailureKind}
+use Rattle.loom_view_parts.specs.declared.rt.reader.Reader.{Reader}
+use Rattle.loom_view_parts.specs.declared.rt.change.Change.{Change}
+use Rattle.loom_view_parts.specs.declared.rt.failure.FailureKind.{FailureKind}
 use Rattle.loom_views.specs.declared.rt.table.Views.{Views}
 use Rattle.loom_views.proofs.Table.Kept.{offered_slots_are_kept_law}
 use Rattle.loom_objects.specs.declared.operation.AtomicOp.{AtomicOp}

@@ -1,6 +1,6 @@
 -- A run without a preemption that only a bound of 1 makes.
 use Rattle.std.specs.Prelude.{ℕ, zero, suc, ◌≡◌, true, [], ◌∷◌, Some, Err}
-use Rattle.loom_views.specs.declared.rt.failure.FailureKind.TheVariants.{Assertion}
+use Rattle.loom_view_parts.specs.declared.rt.failure.FailureKind.TheVariants.{Assertion}
 use Rattle.loom_parts.specs.declared.choice.Choice.{Choice}
 use Rattle.loom_parts.specs.declared.choice.Choice.TheVariants.{Thread}
 use Rattle.loom_parts.specs.declared.ability.Ability.TheVariants.{Able, Unable}

@@ -2,7 +2,7 @@
 use Rattle.std.proofs.Common.{◌≡◌, ℕ, sym, subst}
 use Rattle.std.specs.Prelude.{Ok, Err, Result, IfOk}
 use Rattle.loom_views.specs.Table.{Points, ShowsViews}
-use Rattle.loom_views.specs.declared.rt.failure.FailureKind.{FailureKind}
+use Rattle.loom_view_parts.specs.declared.rt.failure.FailureKind.{FailureKind}
 use Rattle.loom_cells.specs.Memory.{memory_outside}
 use Rattle.loom_objects.specs.Scene.{Stage, world_of, points_of, Does}
 use Rattle.loom_objects.specs.World.{World}

@@ -3,8 +3,8 @@ use Rattle.std.proofs.Common.{◌≡◌, ◌∙◌, ℕ, ap, refl, sym}
 use Rattle.std.specs.Prelude.{◌++◌, ◌&&◌, Bool, true, false, nat_lt, List, [], ◌∷◌, slice_set, Option, Some, None, Result, Ok, Err}
 use Rattle.loom_channels.specs.Stages.{content, gives_back, goes_on}
 use Rattle.loom_effect_parts.specs.Taking.{gathers, takes_first, takes_from}
-use Rattle.loom_views.specs.declared.rt.failure.FailureKind.{FailureKind}
-use Rattle.loom_views.specs.declared.rt.failure.FailureKind.TheVariants.{Misuse, TooManySteps}
+use Rattle.loom_view_parts.specs.declared.rt.failure.FailureKind.{FailureKind}
+use Rattle.loom_view_parts.specs.declared.rt.failure.FailureKind.TheVariants.{Misuse, TooManySteps}
 use Rattle.loom_objects.specs.declared.operation.Message.{Message}
 use Rattle.loom_objects.specs.declared.operation.Reply.{Reply}
 use Rattle.loom_objects.specs.declared.operation.Reply.TheVariants as reply

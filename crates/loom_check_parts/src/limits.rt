@@ -1,7 +1,7 @@
 //! How far a check goes: how many threads and runs there are, and the next bound.
 ghost use Rattle.std.specs.Prelude.{◌≡◌, ◌≤◌, ◌<◌, ◌+◌, ◌-◌, ◌^◌, IfSome, None, true, false};
 ghost use Rattle.std.specs.Option.{unwrap_or};
-ghost use Rattle.loom_views.specs.Limits.{highest_count};
+ghost use Rattle.loom_view_parts.specs.Limits.{highest_count};
 
 use log::{Log, info, target_or};
 

@@ -3,9 +3,9 @@ use Rattle.std.proofs.Common.{zero, suc, subst, ◌≡◌, ℕ, ◌+◌, ◌<◌
 use Rattle.std.specs.List.{slice_get}
 use Rattle.std.proofs.lemmas.Bool.{cases_Bool}
 use Rattle.std.proofs.lemmas.List.{ext_get_or}
-use Rattle.loom_views.specs.Graph.{Graph, reaches, Shows, IsChained}
-use Rattle.loom_views.specs.Versions.{within}
-use Rattle.loom_views.proofs.Views.{shows-inside}
+use Rattle.loom_view_parts.specs.Graph.{Graph, reaches, Shows, IsChained}
+use Rattle.loom_view_parts.specs.Versions.{within}
+use Rattle.loom_view_parts.proofs.Views.{shows-inside}
 use Rattle.loom_view_laws.specs.Reaching.{is_raising}
 use Rattle.loom_view_laws.proofs.Sweeping.{past-is}
 use Rattle.loom_view_laws.proofs.Reaching.Raising.{staying_law, extends-itself}

@@ -4,10 +4,10 @@ use Rattle.std.specs.Prelude.{OnOk, IfOk}
 use Rattle.std.specs.List.{slice_get}
 use Rattle.std.proofs.lemmas.Bool.{cases_eq}
 use Rattle.std.proofs.lemmas.Option.{slice_get_past}
-use Rattle.loom_views.specs.Graph.{Graph, raised, Shows, IsChained, IsPresent, moved}
-use Rattle.loom_views.specs.Versions.{zeros}
-use Rattle.loom_views.proofs.Views.{chained-moved, shows-start, raised-no}
-use Rattle.loom_views.proofs.Growth.{GrownBy, shows-grown, present-grown}
+use Rattle.loom_view_parts.specs.Graph.{Graph, raised, Shows, IsChained, IsPresent, moved}
+use Rattle.loom_view_parts.specs.Versions.{zeros}
+use Rattle.loom_view_parts.proofs.Views.{chained-moved, shows-start, raised-no}
+use Rattle.loom_view_parts.proofs.Growth.{GrownBy, shows-grown, present-grown}
 use Rattle.loom_views.proofs.Table.Carried.{none-grown}
 use Rattle.loom_views.proofs.Table.Lists.{get-append_same, get-append_other}
 use Rattle.loom_view_laws.proofs.Reaching.Raising.{raising-extends, extends-grown}

@@ -5,12 +5,12 @@ use Rattle.std.specs.List.{slice_get}
 use Rattle.std.proofs.lemmas.Bool.{cases_eq, cases_lt, lt-ltb, le-ltb}
 use Rattle.std.proofs.lemmas.List.{length-set, get_or-set_same, get_or-set_other, get_or_past}
 use Rattle.std.proofs.lemmas.Option.{slice_get_within, slice_get_past}
-use Rattle.loom_views.specs.declared.rt.failure.FailureKind.TheVariants.{Misuse, TooManyVersions}
-use Rattle.loom_views.specs.Graph.{Graph, raised, Shows, IsChained, IsPresent, moved_raising}
-use Rattle.loom_views.specs.Versions.{raised_at}
-use Rattle.loom_views.proofs.Views.{chained-moved, chained-raising, present-new, shows-joined, shows-raised}
-use Rattle.loom_views.proofs.ThreadMoves.{own-version}
-use Rattle.loom_views.proofs.Growth.{GrownBy, same, quiet, raising}
+use Rattle.loom_view_parts.specs.declared.rt.failure.FailureKind.TheVariants.{Misuse, TooManyVersions}
+use Rattle.loom_view_parts.specs.Graph.{Graph, raised, Shows, IsChained, IsPresent, moved_raising}
+use Rattle.loom_view_parts.specs.Versions.{raised_at}
+use Rattle.loom_view_parts.proofs.Views.{chained-moved, chained-raising, present-new, shows-joined, shows-raised}
+use Rattle.loom_view_parts.proofs.ThreadMoves.{own-version}
+use Rattle.loom_view_parts.proofs.Growth.{GrownBy, same, quiet, raising}
 use Rattle.loom_views.proofs.Table.Lists.{get-set_same, get-set_other}
 use Rattle.loom_view_laws.proofs.Reaching.Raising.{new-raises}
 use Rattle.loom_dependence.specs.declared.rt.dependence.Action.{Action}

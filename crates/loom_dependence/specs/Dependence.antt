@@ -1,9 +1,9 @@
 -- Which accesses to objects depend on each other, and in which order they come: a graph of its own, beside that of views.
 use Rattle.std.specs.Prelude.{ℕ, zero, suc, Bool, cond, List, [], ◌∷◌, ◌++◌, length, nat_lt, slice_get, slice_index_or, slice_set, Option, Some, None, Result, Ok, Err}
-use Rattle.loom_views.specs.declared.rt.failure.FailureKind.{FailureKind}
-use Rattle.loom_views.specs.declared.rt.failure.FailureKind.TheVariants.{Misuse, TooManyVersions}
-use Rattle.loom_views.specs.Graph.{Graph, is_among, past, raised, moved, moved_raising}
-use Rattle.loom_views.specs.Limits.{highest_version}
+use Rattle.loom_view_parts.specs.declared.rt.failure.FailureKind.{FailureKind}
+use Rattle.loom_view_parts.specs.declared.rt.failure.FailureKind.TheVariants.{Misuse, TooManyVersions}
+use Rattle.loom_view_parts.specs.Graph.{Graph, is_among, past, raised, moved, moved_raising}
+use Rattle.loom_view_parts.specs.Limits.{highest_version}
 use Rattle.loom_dependence.specs.declared.rt.dependence.Action.{Action}
 use Rattle.loom_dependence.specs.declared.rt.dependence.Use.{Use}
 pub use Rattle.loom_dependence.specs.Depends.{depends_on}

@@ -1,8 +1,8 @@
 -- What the vectors of accesses tell of their order.
 use Rattle.std.specs.Prelude.{ℕ, ◌≡◌, ◌<◌, List, length, slice_get, slice_index, slice_index_or, Option, Some, None}
 use Rattle.std.specs.List.{AllByRecursion, filter}
-use Rattle.loom_views.specs.Graph.{Graph, reaches, raised, Shows}
-use Rattle.loom_views.specs.Versions.{within}
+use Rattle.loom_view_parts.specs.Graph.{Graph, reaches, raised, Shows}
+use Rattle.loom_view_parts.specs.Versions.{within}
 use Rattle.loom_dependence.specs.declared.rt.dependence.Dependence.{Dependence}
 use Rattle.loom_dependence.specs.declared.rt.dependence.Use.{Use}
 use Rattle.loom_dependence.specs.declared.rt.last.LastAccess.{LastAccess}

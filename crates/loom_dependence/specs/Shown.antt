@@ -1,9 +1,9 @@
 -- What is kept of accesses shows the order: vectors count the points that raise.
 use Rattle.std.specs.Prelude.{ℕ, ◌≡◌, IsTrue, List, [], length, slice_get, slice_index_or, Option, Some, None, Result, Ok, Err}
 use Rattle.std.specs.List.{AllByRecursion}
-use Rattle.loom_views.specs.declared.rt.failure.FailureKind.{FailureKind}
-use Rattle.loom_views.specs.Graph.{Graph, raised, Shows, IsChained, IsPresent}
-use Rattle.loom_views.specs.Versions.{join}
+use Rattle.loom_view_parts.specs.declared.rt.failure.FailureKind.{FailureKind}
+use Rattle.loom_view_parts.specs.Graph.{Graph, raised, Shows, IsChained, IsPresent}
+use Rattle.loom_view_parts.specs.Versions.{join}
 use Rattle.loom_view_laws.specs.Reaching.{is_raising}
 use Rattle.loom_dependence.specs.declared.rt.dependence.Action.{Action}
 use Rattle.loom_dependence.specs.declared.rt.dependence.Action.TheVariants.{Read, Change, Increment, Decrement, Inspect, Send, Receive, Other}

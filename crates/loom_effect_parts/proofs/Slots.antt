@@ -2,9 +2,9 @@
 use Rattle.std.proofs.Common.{◌≡◌, ℕ, refl, subst}
 use Rattle.std.specs.Prelude.{◌==◌, true, slice_get, Ok, Err, Result}
 use Rattle.std.specs.declared.sync.atomic.Ordering.{Ordering}
-use Rattle.loom_views.specs.Changes.{fit}
+use Rattle.loom_view_parts.specs.Changes.{fit}
 use Rattle.loom_views.specs.Table.{Points, Accessed, ShowsViews, StoresAs, LoadsAs, IsSlotKept, points_after_update_read, points_after_update_write, points_after_update_fail}
-use Rattle.loom_views.specs.declared.rt.failure.FailureKind.{FailureKind}
+use Rattle.loom_view_parts.specs.declared.rt.failure.FailureKind.{FailureKind}
 use Rattle.loom_views.specs.declared.rt.table.Views.{Views}
 use Rattle.loom_views.proofs.Table.Kept.{reading_keeps_slots_law}
 use Rattle.loom_objects.specs.declared.operation.Exchange.{Exchange}

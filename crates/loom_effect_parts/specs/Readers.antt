@@ -1,6 +1,6 @@
 -- How an access reads.
-use Rattle.loom_views.specs.declared.rt.atomic.Reader.{Reader}
-use Rattle.loom_views.specs.declared.rt.atomic.Reader.TheVariants as reader
+use Rattle.loom_view_parts.specs.declared.rt.reader.Reader.{Reader}
+use Rattle.loom_view_parts.specs.declared.rt.reader.Reader.TheVariants as reader
 use Rattle.loom_objects.specs.declared.operation.AtomicOp.{AtomicOp}
 use Rattle.loom_objects.specs.declared.operation.AtomicOp.TheVariants.{New, Load, Store, Update, CompareExchange, CompareAndSwap, UnsyncLoad, IntoInner, WithMut, WithMutEnd}
 

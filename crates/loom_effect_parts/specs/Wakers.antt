@@ -1,7 +1,7 @@
 -- Wakers of a future.
 use Rattle.std.specs.Prelude.{ℕ, nat_lt, List, Result, Ok}
-use Rattle.loom_views.specs.declared.rt.failure.FailureKind.{FailureKind}
-use Rattle.loom_views.specs.declared.rt.failure.FailureKind.TheVariants.{Misuse}
+use Rattle.loom_view_parts.specs.declared.rt.failure.FailureKind.{FailureKind}
+use Rattle.loom_view_parts.specs.declared.rt.failure.FailureKind.TheVariants.{Misuse}
 use Rattle.loom_objects.specs.declared.rt.object.Object.{Object}
 use Rattle.loom_objects.specs.declared.rt.sync.Wakers.{Wakers}
 use Rattle.loom_objects.specs.Lookup.{wakers_at}

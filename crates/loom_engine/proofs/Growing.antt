@@ -2,8 +2,8 @@
 use Rattle.std.proofs.Common.{◌≡◌, ◌≤◌, ◌+◌, List, ℕ, zero, suc, Bool, true, false, [], ◌∷◌, length, Option, Some, None, inl, inr, ap, refl, sym, ◌∙◌, subst, arith, length-append}
 use Rattle.std.proofs.lemmas.List.{length-map}
 use Rattle.std.specs.Prelude.{Result, Ok, Err, cond, nat_lt, slice_get, ⊤}
-use Rattle.loom_views.specs.declared.rt.failure.FailureKind.{FailureKind}
-use Rattle.loom_views.specs.declared.rt.failure.FailureKind.TheVariants.{NotDeterministic, TooManyBranches}
+use Rattle.loom_view_parts.specs.declared.rt.failure.FailureKind.{FailureKind}
+use Rattle.loom_view_parts.specs.declared.rt.failure.FailureKind.TheVariants.{NotDeterministic, TooManyBranches}
 use Rattle.loom_parts.specs.declared.choice.Choice.{Choice}
 use Rattle.loom_parts.specs.declared.choice.Choice.TheVariants.{Thread, Load, Spurious}
 use Rattle.loom_objects.specs.declared.failure.Stop.{Stop}

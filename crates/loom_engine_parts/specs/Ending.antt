@@ -1,7 +1,7 @@
 -- How a run ends.
 use Rattle.std.specs.Prelude.{Bool, true, false, ⊤, Option, Some, None, Result, Ok, Err}
-use Rattle.loom_views.specs.declared.rt.failure.FailureKind.{FailureKind}
-use Rattle.loom_views.specs.declared.rt.failure.FailureKind.TheVariants.{Deadlock, Misuse, NotDeterministic}
+use Rattle.loom_view_parts.specs.declared.rt.failure.FailureKind.{FailureKind}
+use Rattle.loom_view_parts.specs.declared.rt.failure.FailureKind.TheVariants.{Deadlock, Misuse, NotDeterministic}
 use Rattle.loom_objects.specs.declared.failure.Stop.{Stop}
 use Rattle.loom_objects.specs.declared.failure.Stop.TheVariants.{Failure}
 use Rattle.loom_objects.specs.declared.operation.Turn.{Turn}

@@ -3,7 +3,7 @@ use Rattle.std.specs.Prelude.{ℕ, ◌+◌, ◌%◌, ◌^◌, ◌==◌, Bool, no
 use Rattle.std.specs.Option.{option_map}
 use Rattle.std.specs.declared.sync.atomic.Ordering.{Ordering}
 use Rattle.std.specs.declared.sync.atomic.Ordering.TheVariants.{Acquire, Relaxed}
-use Rattle.loom_views.specs.declared.rt.num.Numbers.TheVariants as numbers
+use Rattle.loom_view_parts.specs.declared.rt.num.Numbers.TheVariants as numbers
 use Rattle.loom_objects.specs.declared.operation.AtomicOp.TheVariants as atomic
 use Rattle.loom_objects.specs.declared.operation.CellOp.TheVariants as cells
 use Rattle.loom_objects.specs.declared.operation.Op.{Op}

@@ -1,7 +1,7 @@
 -- When data is copied, for which memory may be refused: a reader of a lock gets a copy.
 use Rattle.std.specs.Prelude.{ℕ, ◌≡◌, Result, Ok, Err}
 use Rattle.loom_views.specs.Table.{Points}
-use Rattle.loom_views.specs.declared.rt.failure.FailureKind.{FailureKind}
+use Rattle.loom_view_parts.specs.declared.rt.failure.FailureKind.{FailureKind}
 use Rattle.loom_objects.specs.declared.operation.Reply.{Reply}
 use Rattle.loom_objects.specs.declared.operation.Reply.TheVariants.{ReadLocked}
 use Rattle.loom_objects.specs.Scene.{Stage, world_of}

@@ -4,8 +4,8 @@ use Rattle.std.specs.Prelude.{Bool, true, false, List, [], ◌∷◌, nat_lt, Re
 use Rattle.std.specs.List.{Contains}
 use Rattle.std.specs.Result.{MatchResult, IsErrAnd}
 use Rattle.loom_views.specs.Table.{Points, ShowsViews}
-use Rattle.loom_views.specs.declared.rt.failure.FailureKind.{FailureKind}
-use Rattle.loom_views.specs.declared.rt.failure.FailureKind.TheVariants.{TooManySteps}
+use Rattle.loom_view_parts.specs.declared.rt.failure.FailureKind.{FailureKind}
+use Rattle.loom_view_parts.specs.declared.rt.failure.FailureKind.TheVariants.{TooManySteps}
 use Rattle.loom_parts.specs.declared.choice.Choice.{Choice}
 use Rattle.loom_parts.specs.declared.choice.Choice.TheVariants as choice
 use Rattle.loom_objects.specs.declared.failure.Stop.{Stop}

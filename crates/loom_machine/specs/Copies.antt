@@ -1,7 +1,7 @@
 -- When the chosen thread gets a copy of data, for which memory may be refused: it takes a read-write lock to read.
 use Rattle.std.specs.Prelude.{ℕ, ◌≡◌, Bool, false, Option, Some, None, Result, Ok}
 use Rattle.loom_views.specs.Table.{Points, ShowsViews}
-use Rattle.loom_views.specs.declared.rt.failure.FailureKind.{FailureKind}
+use Rattle.loom_view_parts.specs.declared.rt.failure.FailureKind.{FailureKind}
 use Rattle.loom_objects.specs.declared.operation.Reply.TheVariants.{ReadLocked}
 use Rattle.loom_objects.specs.declared.operation.Turn.TheVariants as turn
 use Rattle.loom_objects.specs.declared.rt.run.Passed.{Passed}

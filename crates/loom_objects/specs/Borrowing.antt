@@ -1,10 +1,10 @@
 -- What objects end as, where a `&mut` to one of them is returned.
 use Rattle.std.specs.Prelude.{ℕ, List, slice_set, Result}
 use Rattle.std.specs.Borrow.{LendsIfOk, Fml, RattleType, MutBor}
-use Rattle.loom_views.specs.declared.rt.failure.FailureKind.{FailureKind}
+use Rattle.loom_view_parts.specs.declared.rt.failure.FailureKind.{FailureKind}
 use Rattle.loom_objects.specs.declared.rt.object.Object.{Object}
 use Rattle.loom_objects.specs.contracts.rt.object.Object as object_contracts
-use Rattle.loom_views.specs.contracts.sequence.Sequence as sequence_contracts
+use Rattle.loom_view_parts.specs.contracts.sequence.Sequence as sequence_contracts
 
 -- the object is what was left behind r, as the variant; at an error it stays as it was
 abbrev pub lends_kind : (D T : RattleType) → (T.Denot → Object D.Denot) → MutBor (Object D.Denot) → Result (MutBor T.Denot) FailureKind → Fml

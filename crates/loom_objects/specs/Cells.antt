@@ -2,9 +2,9 @@
 use Rattle.std.specs.Prelude.{ℕ, ◌+◌, ◌-◌, ◌==◌, ◌&&◌, Bool, true, false, nat_lt, [], ◌∷◌, ◌++◌, length, is_none, slice_get, slice_set, if◌then◌else◌, Option, Some, None, Result, Ok, Err, ⊤}
 use Rattle.std.specs.List.{list_all}
 use Rattle.loom_views.specs.Table.{points_with_cell, points_after_read, points_after_write}
-use Rattle.loom_views.specs.declared.rt.failure.FailureKind.{FailureKind}
-use Rattle.loom_views.specs.declared.rt.failure.FailureKind.TheVariants.{Misuse, OpenAccess, TooManySteps}
-use Rattle.loom_views.specs.Limits.{highest_count}
+use Rattle.loom_view_parts.specs.declared.rt.failure.FailureKind.{FailureKind}
+use Rattle.loom_view_parts.specs.declared.rt.failure.FailureKind.TheVariants.{Misuse, OpenAccess, TooManySteps}
+use Rattle.loom_view_parts.specs.Limits.{highest_count}
 use Rattle.loom_objects.specs.declared.operation.CellOp.{CellOp}
 use Rattle.loom_objects.specs.declared.operation.CellOp.TheVariants.{New, Read, ReadEnd, Deref, Write, WriteEnd, IntoInner, Get, Replace, Swap}
 use Rattle.loom_objects.specs.declared.operation.Reply.TheVariants as reply

@@ -1,8 +1,8 @@
 -- What channels do.
 use Rattle.std.specs.Prelude.{ℕ, ◌+◌, ◌-◌, ◌^◌, ◌==◌, ◌&&◌, ◌++◌, Bool, true, false, nat_lt, List, [], ◌∷◌, length, Option, Some, None, Result, Ok}
-use Rattle.loom_views.specs.declared.rt.failure.FailureKind.{FailureKind}
-use Rattle.loom_views.specs.declared.rt.failure.FailureKind.TheVariants.{Misuse, TooManySteps}
-use Rattle.loom_views.specs.Limits.{highest_count}
+use Rattle.loom_view_parts.specs.declared.rt.failure.FailureKind.{FailureKind}
+use Rattle.loom_view_parts.specs.declared.rt.failure.FailureKind.TheVariants.{Misuse, TooManySteps}
+use Rattle.loom_view_parts.specs.Limits.{highest_count}
 use Rattle.loom_objects.specs.declared.operation.ChannelOp.{ChannelOp}
 use Rattle.loom_objects.specs.declared.operation.ChannelOp.TheVariants.{New, Send, Recv, TryRecv, CloneSender, DropSender, DropReceiver}
 use Rattle.loom_objects.specs.declared.operation.Message.{Message}

@@ -1,7 +1,7 @@
 -- When a run may end, and how.
 use Rattle.std.specs.Prelude.{Bool, true, false, Result, Ok}
 use Rattle.std.specs.List.{list_all}
-use Rattle.loom_views.specs.declared.rt.failure.FailureKind.{FailureKind}
+use Rattle.loom_view_parts.specs.declared.rt.failure.FailureKind.{FailureKind}
 use Rattle.loom_objects.specs.declared.operation.Turn.{Turn}
 use Rattle.loom_objects.specs.declared.operation.Turn.TheVariants.{Ended as TurnEnded}
 use Rattle.loom_objects.specs.declared.rt.thread.State.{State}

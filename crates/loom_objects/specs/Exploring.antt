@@ -1,7 +1,7 @@
 -- Whether the search explores at the nodes that a run meets, and how operations switch that.
 use Rattle.std.specs.Prelude.{Bool, true, false, Result, Ok, Err}
-use Rattle.loom_views.specs.declared.rt.failure.FailureKind.{FailureKind}
-use Rattle.loom_views.specs.declared.rt.failure.FailureKind.TheVariants.{ExploreSwitch}
+use Rattle.loom_view_parts.specs.declared.rt.failure.FailureKind.{FailureKind}
+use Rattle.loom_view_parts.specs.declared.rt.failure.FailureKind.TheVariants.{ExploreSwitch}
 use Rattle.loom_objects.specs.declared.operation.ExploreOp.{ExploreOp}
 use Rattle.loom_objects.specs.declared.operation.ExploreOp.TheVariants.{Explore, StopExploring, SkipBranch}
 use Rattle.loom_objects.specs.declared.rt.exploring.Exploring.{Exploring}

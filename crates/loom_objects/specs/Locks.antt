@@ -1,7 +1,7 @@
 -- What mutexes do.
 use Rattle.std.specs.Prelude.{ℕ, Bool, true, false, cond, length, is_none, is_some, Option, Some, None, ⊤, Result, Ok}
-use Rattle.loom_views.specs.declared.rt.failure.FailureKind.{FailureKind}
-use Rattle.loom_views.specs.declared.rt.failure.FailureKind.TheVariants.{Misuse}
+use Rattle.loom_view_parts.specs.declared.rt.failure.FailureKind.{FailureKind}
+use Rattle.loom_view_parts.specs.declared.rt.failure.FailureKind.TheVariants.{Misuse}
 use Rattle.loom_objects.specs.declared.operation.MutexOp.{MutexOp}
 use Rattle.loom_objects.specs.declared.operation.MutexOp.TheVariants.{New, Lock, TryLock, Release, GetMut, Put, IntoInner}
 use Rattle.loom_objects.specs.declared.operation.Reply.{Reply}

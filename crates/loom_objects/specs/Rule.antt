@@ -1,6 +1,6 @@
 -- Rules without a choice: each comes to something, or fails by name.
 use Rattle.std.specs.Prelude.{Bool, true, false, Option, Some, None, Result, Ok, Err, ⊤}
-use Rattle.loom_views.specs.declared.rt.failure.FailureKind.{FailureKind}
+use Rattle.loom_view_parts.specs.declared.rt.failure.FailureKind.{FailureKind}
 
 -- the one rule, and from what it comes to the other
 infixr 5 ◌>>=◌

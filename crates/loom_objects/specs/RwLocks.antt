@@ -1,9 +1,9 @@
 -- What read-write locks do.
 use Rattle.std.specs.Prelude.{ℕ, List, ◌+◌, ◌-◌, ◌&&◌, ◌||◌, Bool, true, false, not, nat_lt, cond, [], ◌∷◌, length, is_none, is_some, slice_get, slice_set, Option, Some, None, Result, Ok, Err}
 use Rattle.std.specs.List.{list_all}
-use Rattle.loom_views.specs.declared.rt.failure.FailureKind.{FailureKind}
-use Rattle.loom_views.specs.declared.rt.failure.FailureKind.TheVariants.{Misuse, TooManySteps}
-use Rattle.loom_views.specs.Limits.{highest_count}
+use Rattle.loom_view_parts.specs.declared.rt.failure.FailureKind.{FailureKind}
+use Rattle.loom_view_parts.specs.declared.rt.failure.FailureKind.TheVariants.{Misuse, TooManySteps}
+use Rattle.loom_view_parts.specs.Limits.{highest_count}
 use Rattle.loom_objects.specs.declared.operation.RwLockOp.{RwLockOp}
 use Rattle.loom_objects.specs.declared.operation.RwLockOp.TheVariants as lock_op
 use Rattle.loom_objects.specs.declared.operation.Reply.{Reply}

@@ -2,7 +2,7 @@
 use Rattle.std.specs.Prelude.{ℕ, ◌≡◌, true, List, slice_get, Option, Some, None, Result, Ok, Err, ⊤}
 use Rattle.std.specs.List.{Contains}
 use Rattle.loom_views.specs.Table.{Points, ShowsViews, IsSlotKept}
-use Rattle.loom_views.specs.declared.rt.failure.FailureKind.{FailureKind}
+use Rattle.loom_view_parts.specs.declared.rt.failure.FailureKind.{FailureKind}
 use Rattle.loom_views.specs.declared.rt.table.Views.{Views}
 use Rattle.loom_objects.specs.declared.operation.AtomicOp.{AtomicOp}
 use Rattle.loom_objects.specs.declared.operation.Lazy.{Lazy}

@@ -1,7 +1,7 @@
 -- What a scene ends as, where a `&mut` to one of its parts is returned.
 use Rattle.std.specs.Prelude.{ℕ, slice_set, Result}
 use Rattle.std.specs.Borrow.{LendsIfOk, Fml, RattleType, MutBor}
-use Rattle.loom_views.specs.declared.rt.failure.FailureKind.{FailureKind}
+use Rattle.loom_view_parts.specs.declared.rt.failure.FailureKind.{FailureKind}
 use Rattle.loom_objects.specs.declared.rt.object.Object.{Object}
 use Rattle.loom_objects.specs.contracts.rt.scene.Scene as scene_contracts
 use Rattle.loom_objects.specs.Scene.{Stage}

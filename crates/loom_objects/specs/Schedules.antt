@@ -1,7 +1,7 @@
 -- What threads offer to a schedule, and how one is chosen.
 use Rattle.std.specs.Prelude.{ℕ, List, [], ◌∷◌, map, Option, Some, None, Result, Ok, slice_get, slice_set}
-use Rattle.loom_views.specs.declared.rt.failure.FailureKind.{FailureKind}
-use Rattle.loom_views.specs.declared.rt.failure.FailureKind.TheVariants.{Misuse}
+use Rattle.loom_view_parts.specs.declared.rt.failure.FailureKind.{FailureKind}
+use Rattle.loom_view_parts.specs.declared.rt.failure.FailureKind.TheVariants.{Misuse}
 use Rattle.loom_parts.specs.declared.ability.Ability.{Ability}
 use Rattle.loom_parts.specs.declared.ability.Ability.TheVariants as ability
 use Rattle.loom_parts.specs.declared.ability.Ability.TheVariants.{Able, Unable}

@@ -1,6 +1,6 @@
 -- The steps of the machine, as trees: where an access reads, which store it reads is asked.
 use Rattle.std.specs.Prelude.{ℕ, Bool, List, [], ◌∷◌, ⊤}
-use Rattle.loom_views.specs.declared.rt.failure.FailureKind.TheVariants.{Misuse, NotDeterministic}
+use Rattle.loom_view_parts.specs.declared.rt.failure.FailureKind.TheVariants.{Misuse, NotDeterministic}
 use Rattle.loom_parts.specs.declared.choice.Choice.{Choice}
 use Rattle.loom_parts.specs.declared.choice.Choice.TheVariants as choice
 use Rattle.loom_objects.specs.declared.operation.Op.{Op}

@@ -1,6 +1,6 @@
 -- What comes of an effect, once the thread was chosen that it is of.
 use Rattle.std.specs.Prelude.{Result, Ok}
-use Rattle.loom_views.specs.declared.rt.failure.FailureKind.{FailureKind}
+use Rattle.loom_view_parts.specs.declared.rt.failure.FailureKind.{FailureKind}
 use Rattle.loom_objects.specs.declared.operation.Reply.{Reply}
 use Rattle.loom_objects.specs.declared.operation.Turn.TheVariants as turn
 use Rattle.loom_objects.specs.declared.rt.run.Passed.{Passed}

@@ -1,8 +1,8 @@
 -- What a thread's own values do, and values that are made once a run.
 use Rattle.std.specs.Prelude.{ℕ, ◌==◌, ◌++◌, ◌∷◌, [], List, Bool, true, false, not, length, Option, Some, None, Result, Ok, Err, slice_get}
 use Rattle.std.specs.List.{find, list_any}
-use Rattle.loom_views.specs.declared.rt.failure.FailureKind.{FailureKind}
-use Rattle.loom_views.specs.declared.rt.failure.FailureKind.TheVariants.{Misuse, KeyTaken, LazyShutdown, LocalGone}
+use Rattle.loom_view_parts.specs.declared.rt.failure.FailureKind.{FailureKind}
+use Rattle.loom_view_parts.specs.declared.rt.failure.FailureKind.TheVariants.{Misuse, KeyTaken, LazyShutdown, LocalGone}
 use Rattle.loom_objects.specs.declared.operation.Keyed.{Keyed}
 use Rattle.loom_objects.specs.declared.operation.Lazy.{Lazy}
 use Rattle.loom_objects.specs.declared.operation.LazyOp.{LazyOp}

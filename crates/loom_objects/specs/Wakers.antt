@@ -1,8 +1,8 @@
 -- What wakers of futures and places for wakers do.
 use Rattle.std.specs.Prelude.{ℕ, ◌+◌, ◌-◌, ◌==◌, Bool, true, false, nat_lt, length, is_none, is_some, Option, Some, None, Result, Ok}
-use Rattle.loom_views.specs.declared.rt.failure.FailureKind.{FailureKind}
-use Rattle.loom_views.specs.declared.rt.failure.FailureKind.TheVariants.{Misuse, TooManySteps}
-use Rattle.loom_views.specs.Limits.{highest_count}
+use Rattle.loom_view_parts.specs.declared.rt.failure.FailureKind.{FailureKind}
+use Rattle.loom_view_parts.specs.declared.rt.failure.FailureKind.TheVariants.{Misuse, TooManySteps}
+use Rattle.loom_view_parts.specs.Limits.{highest_count}
 use Rattle.loom_objects.specs.declared.operation.AtomicWakerOp.{AtomicWakerOp}
 use Rattle.loom_objects.specs.declared.operation.AtomicWakerOp.TheVariants as place_op
 use Rattle.loom_objects.specs.declared.operation.WakerOp.{WakerOp}

@@ -1,7 +1,7 @@
 -- The first leak of a list, found from one object to the next.
 use Rattle.std.proofs.Common.{◌≡◌, ℕ, zero, suc, List, [], ◌∷◌, length, drop, Option, Some, None, refl, ap}
 use Rattle.std.specs.Prelude.{slice_get}
-use Rattle.loom_views.specs.declared.rt.failure.FailureKind.{FailureKind}
+use Rattle.loom_view_parts.specs.declared.rt.failure.FailureKind.{FailureKind}
 use Rattle.loom_parts.specs.Leaks.{first_of, first_leak}
 
 module _ {A : Type 0} (leak_of : A → Option FailureKind) where

@@ -1,6 +1,6 @@
 -- The first leak of what is left.
 use Rattle.std.specs.Prelude.{List, [], ◌∷◌, Option, Some, None}
-use Rattle.loom_views.specs.declared.rt.failure.FailureKind.{FailureKind}
+use Rattle.loom_view_parts.specs.declared.rt.failure.FailureKind.{FailureKind}
 
 -- the first of two, if there is one
 abbrev pub first_of : Option FailureKind → Option FailureKind → Option FailureKind

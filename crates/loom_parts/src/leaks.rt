@@ -1,6 +1,6 @@
 //! What may not be left at a run's end.
 ghost use Rattle.std.specs.Prelude.{◌≡◌, Option};
-ghost use Rattle.loom_views.specs.declared.rt.failure.FailureKind.{FailureKind};
+ghost use Rattle.loom_view_parts.specs.declared.rt.failure.FailureKind.{FailureKind};
 ghost use Rattle.loom_parts.specs.Leaks as rules;
 
 use loom_views::rt::failure::FailureKind;

@@ -1,7 +1,7 @@
 -- What is printed of a row besides the line of a check.
 use Rattle.std.specs.Prelude.{ℕ, ◌≡◌, ◌++◌, Bool, false, List, Option, codes, decimal}
 use Rattle.std.specs.Io.KnownBytes.{Appends}
-use Rattle.loom_views.specs.Failures.{number_of}
+use Rattle.loom_view_parts.specs.Failures.{number_of}
 use Rattle.loom_objects.specs.Tree.{Tree}
 use Rattle.loom.specs.Beginning.{Replays}
 use Rattle.loom.specs.Check.{ReportsAlone}

@@ -1,7 +1,7 @@
 -- What the thread with two updates does: from what it awaits and a reply, what it awaits next and its operation.
 use Rattle.std.specs.Prelude.{ℕ, ◌==◌, Option, Some, None, cond}
 use Rattle.std.specs.declared.sync.atomic.Ordering.TheVariants.{SeqCst}
-use Rattle.loom_views.specs.declared.rt.num.Numbers.TheVariants.{U64}
+use Rattle.loom_view_parts.specs.declared.rt.num.Numbers.TheVariants.{U64}
 use Rattle.loom_objects.specs.declared.operation.AtomicOp.TheVariants.{New, Load}
 use Rattle.loom_objects.specs.declared.operation.Op.{Op}
 use Rattle.loom_objects.specs.declared.operation.Op.TheVariants.{Atomic as OnAtomic, Thread as OnThread, Fail}

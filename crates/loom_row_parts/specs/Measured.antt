@@ -1,7 +1,7 @@
 -- What is measured: names, the steps that they mean, how these are checked, and how often; and the script of many runs.
 use Rattle.std.specs.Prelude.{ℕ, Bool, true, false, List, [], ◌∷◌, Option, None, codes}
 use Rattle.std.specs.declared.sync.atomic.Ordering.TheVariants.{Relaxed}
-use Rattle.loom_views.specs.declared.rt.num.Numbers.TheVariants as numbers
+use Rattle.loom_view_parts.specs.declared.rt.num.Numbers.TheVariants as numbers
 use Rattle.loom_objects.specs.declared.operation.AtomicOp.TheVariants as atomic
 use Rattle.loom_objects.specs.declared.operation.Op.TheVariants as op
 use Rattle.loom_objects.specs.declared.operation.ThreadOp.TheVariants as threads

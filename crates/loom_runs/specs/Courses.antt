@@ -1,7 +1,7 @@
 -- The course of a run: the state of the machine, the order of the accesses so far, how many nodes the run has passed, and
 -- whether the search explores at those that come.
 use Rattle.std.specs.Prelude.{ℕ, suc, Bool, ◌-◌, List, length, Option, Some, None, Result, Ok, Err}
-use Rattle.loom_views.specs.declared.rt.failure.FailureKind.{FailureKind}
+use Rattle.loom_view_parts.specs.declared.rt.failure.FailureKind.{FailureKind}
 use Rattle.loom_dependence.specs.Dependence.{Order, opening as no_accesses, grown, unordered, after_use}
 use Rattle.loom_dependence.specs.declared.rt.dependence.Use.{Use}
 use Rattle.loom_objects.specs.Exploring.{initially}

@@ -1,6 +1,6 @@
 -- The machine: one operation that is handed over is one event, up to the next turn.
 use Rattle.std.specs.Prelude.{ℕ, zero, suc, Bool, Some, None, ⊤}
-use Rattle.loom_views.specs.declared.rt.failure.FailureKind.TheVariants.{Deadlock, Misuse, NotDeterministic}
+use Rattle.loom_view_parts.specs.declared.rt.failure.FailureKind.TheVariants.{Deadlock, Misuse, NotDeterministic}
 use Rattle.loom_parts.specs.declared.choice.Choice.{Choice}
 use Rattle.loom_parts.specs.declared.choice.Choice.TheVariants.{Thread, Load, Spurious}
 use Rattle.loom_objects.specs.declared.operation.ExploreOp.{ExploreOp}

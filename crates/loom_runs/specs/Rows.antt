@@ -1,11 +1,11 @@
 -- Small bodies, and what their runs come to.
 use Rattle.std.specs.Prelude.{ℕ, true, ◌≡◌, List, [], ◌∷◌, Option, Some, None, Result, Ok, Err, slice_index_or, ⊤}
 use Rattle.std.specs.declared.sync.atomic.Ordering.TheVariants.{Relaxed}
-use Rattle.loom_views.specs.declared.rt.failure.FailureKind.{FailureKind}
-use Rattle.loom_views.specs.declared.rt.failure.FailureKind.TheVariants.{Deadlock, Misuse, TooManyBranches, TooManySteps}
+use Rattle.loom_view_parts.specs.declared.rt.failure.FailureKind.{FailureKind}
+use Rattle.loom_view_parts.specs.declared.rt.failure.FailureKind.TheVariants.{Deadlock, Misuse, TooManyBranches, TooManySteps}
 use Rattle.loom_parts.specs.declared.choice.Choice.{Choice}
 use Rattle.loom_parts.specs.declared.choice.Choice.TheVariants as choice
-use Rattle.loom_views.specs.declared.rt.num.Numbers.TheVariants.{U64}
+use Rattle.loom_view_parts.specs.declared.rt.num.Numbers.TheVariants.{U64}
 use Rattle.loom_objects.specs.declared.operation.ArcOp.TheVariants as arc
 use Rattle.loom_objects.specs.declared.operation.AtomicOp.TheVariants as atomic
 use Rattle.loom_objects.specs.declared.operation.MutexOp.TheVariants as mutex

@@ -1,6 +1,6 @@
 -- A copy of a thread's own value, which may have been given back.
 use Rattle.std.specs.Prelude.{ℕ, Option, Some, None, Result, Ok, ◌≡◌}
-use Rattle.loom_views.specs.declared.rt.failure.FailureKind.{FailureKind}
+use Rattle.loom_view_parts.specs.declared.rt.failure.FailureKind.{FailureKind}
 use Rattle.loom_objects.specs.declared.rt.run.Entry.{Entry}
 use Rattle.loom_objects.specs.Scene.{Stage, world_of}
 use Rattle.loom_objects.specs.Values.{local_or}

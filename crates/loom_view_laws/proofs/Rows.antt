@@ -1,8 +1,9 @@
 -- What may be read in small histories, by computation.
 use Rattle.std.proofs.Common.{refl}
-use Rattle.loom_views.specs.Graph.{reaches, raised, version, counts, inside}
+use Rattle.loom_view_parts.specs.Graph.{reaches, raised, version, counts, inside}
 use Rattle.loom_views.specs.Slots.{number_in_slot}
-use Rattle.loom_views.specs.Atomic.{is_seen, is_below, has_same_order, drops, races}
+use Rattle.loom_view_parts.specs.Records.{races}
+use Rattle.loom_views.specs.Atomic.{is_seen, is_below, has_same_order, drops}
 use Rattle.loom_view_laws.specs.Examples.{start, main, after, value_of, made, stored, two, seven, child, parent, beside, ExampleLaw}
 
 pub examples : ExampleLaw

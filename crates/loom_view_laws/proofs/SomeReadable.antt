@@ -2,15 +2,15 @@
 use Rattle.std.proofs.Common.{zero, suc, subst, ◌≡◌, ◌≢◌, ℕ, ◌<◌, min, Bool, true, false, not, cond, ◌&&◌, List, [], ◌∷◌, ◌++◌, length, refl, ap, sym, ◌∙◌, arith, ⊎_elim}
 use Rattle.std.specs.List.{list_any, filter, AllByRecursion}
 use Rattle.std.proofs.lemmas.Bool.{cases_Bool, and_parts, and_from, or_from, true≢false, false_from_ne_true, not-true, not_from_false}
-use Rattle.loom_views.specs.declared.rt.atomic.Reader.{Reader}
-use Rattle.loom_views.specs.declared.rt.atomic.Reader.TheVariants.{Load, Update}
-use Rattle.loom_views.specs.Graph.{Graph, counts, inside, IsChained}
-use Rattle.loom_views.specs.VersionOrder.{within-transitive}
+use Rattle.loom_view_parts.specs.declared.rt.reader.Reader.{Reader}
+use Rattle.loom_view_parts.specs.declared.rt.reader.Reader.TheVariants.{Load, Update}
+use Rattle.loom_view_parts.specs.Graph.{Graph, counts, inside, IsChained}
+use Rattle.loom_view_parts.specs.VersionOrder.{within-transitive}
 use Rattle.loom_views.specs.Slots.{upto, slots}
-use Rattle.loom_views.specs.Threads.{ThreadPoints}
+use Rattle.loom_view_parts.specs.Threads.{ThreadPoints}
 use Rattle.loom_views.specs.Atomic.{StorePoints, in_slot, is_below, drops, drops_in_slot, readable}
-use Rattle.loom_views.proofs.Views.{within-counts}
-use Rattle.loom_views.proofs.Counting.{all-weaker}
+use Rattle.loom_view_parts.proofs.Views.{within-counts}
+use Rattle.loom_view_parts.proofs.Counting.{all-weaker}
 
 data Among : ℕ → List ℕ → Type 0 where
   here : {x : ℕ} {xs : List ℕ} → Among x (x ∷ xs)

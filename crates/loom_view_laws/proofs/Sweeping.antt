@@ -3,8 +3,8 @@ use Rattle.std.proofs.Common.{◌≡◌, ℕ, Bool, true, false, ◌||◌, ◌&&
 use Rattle.std.specs.Prelude.{◌==◌}
 use Rattle.std.specs.List.{list_any}
 use Rattle.std.proofs.lemmas.Bool.{cases_Bool, cases_eq, eq-eqb, ne_eqb}
-use Rattle.loom_views.specs.Graph.{Point, Graph, reaches, is_among, past}
-use Rattle.loom_views.proofs.Reaching.{reaches-new, reaches-other, reaches-none}
+use Rattle.loom_view_parts.specs.Graph.{Point, Graph, reaches, is_among, past}
+use Rattle.loom_view_parts.proofs.Reaching.{reaches-new, reaches-other, reaches-none}
 use Rattle.loom_views.proofs.Loops.{list_any-append}
 
 never : (i : ℕ) (ks : List ℕ) → list_any (λ k. reaches [] i k) ks ≡ false

@@ -2,8 +2,8 @@
 use Rattle.std.specs.Prelude.{◌≡◌, true, false, [], ◌∷◌, slice_get, is_ok, Some, Result, Ok, Err}
 use Rattle.std.specs.Option.{option_map}
 use Rattle.std.specs.declared.sync.atomic.Ordering.TheVariants.{Release}
-use Rattle.loom_views.specs.declared.rt.failure.FailureKind.{FailureKind}
-use Rattle.loom_views.specs.Graph.{reaches, inside}
+use Rattle.loom_view_parts.specs.declared.rt.failure.FailureKind.{FailureKind}
+use Rattle.loom_view_parts.specs.Graph.{reaches, inside}
 use Rattle.loom_views.specs.Table.{Points, opening, points_after_raise, points_after_acquire, points_after_release, points_with_point, points_after_spawn, points_with_cell, points_after_read, points_after_write}
 use Rattle.loom_view_laws.specs.Reaching.{is_raising, reads_of}
 

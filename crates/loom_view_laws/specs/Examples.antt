@@ -1,10 +1,10 @@
 -- Small histories of one atomic, and what may be read in them.
 use Rattle.std.specs.Prelude.{ℕ, ◌+◌, ◌≡◌, false, [], ◌∷◌, length, None, Result, Ok, Err}
 use Rattle.std.specs.declared.sync.atomic.Ordering.TheVariants.{Relaxed}
-use Rattle.loom_views.specs.declared.rt.failure.FailureKind.{FailureKind}
-use Rattle.loom_views.specs.declared.rt.atomic.Reader.TheVariants.{Load, Update}
-use Rattle.loom_views.specs.Graph.{Graph, moved, moved_raising}
-use Rattle.loom_views.specs.Threads.{ThreadPoints}
+use Rattle.loom_view_parts.specs.declared.rt.failure.FailureKind.{FailureKind}
+use Rattle.loom_view_parts.specs.declared.rt.reader.Reader.TheVariants.{Load, Update}
+use Rattle.loom_view_parts.specs.Graph.{Graph, moved, moved_raising}
+use Rattle.loom_view_parts.specs.Threads.{ThreadPoints}
 use Rattle.loom_views.specs.Atomic.{Scene, Answer, readable, fails_by_orders, scene_raised, new_step, store_step, load_step}
 
 -- main's present and released points, without edges

@@ -3,15 +3,15 @@ use Rattle.std.specs.Prelude.{ℕ, ◌+◌, ◌-◌, ◌≡◌, ◌≢◌, ◌<�
 use Rattle.std.specs.List.{Any, filter}
 use Rattle.std.specs.declared.sync.atomic.Ordering.{Ordering}
 use Rattle.std.specs.declared.sync.atomic.Ordering.TheVariants.{AcqRel, SeqCst}
-use Rattle.loom_views.specs.declared.rt.atomic.Reader.{Reader}
-use Rattle.loom_views.specs.declared.rt.failure.FailureKind.{FailureKind}
-use Rattle.loom_views.specs.declared.rt.failure.FailureKind.TheVariants.{Race}
+use Rattle.loom_view_parts.specs.declared.rt.reader.Reader.{Reader}
+use Rattle.loom_view_parts.specs.declared.rt.failure.FailureKind.{FailureKind}
+use Rattle.loom_view_parts.specs.declared.rt.failure.FailureKind.TheVariants.{Race}
 use Rattle.loom_views.specs.declared.rt.table.Views.{Views}
-use Rattle.loom_views.specs.Graph.{Point, Graph, threads, is_among, past, reaches, raised, inside, IsChained, Shows}
-use Rattle.loom_views.specs.Versions.{within, versions_eq}
-use Rattle.loom_views.specs.Threads.{ThreadPoints}
+use Rattle.loom_view_parts.specs.Graph.{Point, Graph, threads, is_among, past, reaches, raised, inside, IsChained, Shows}
+use Rattle.loom_view_parts.specs.Versions.{within, versions_eq}
+use Rattle.loom_view_parts.specs.Threads.{ThreadPoints}
 use Rattle.loom_views.specs.Atomic.{StorePoints, History, blank, readable}
-use Rattle.loom_views.specs.Cells.{Accesses}
+use Rattle.loom_view_parts.specs.Cells.{Accesses}
 use Rattle.loom_views.specs.Table.{Place, Meets, Keeps, Records, Points, Accessed, ShowsViews, IsSlotKept, readable_slots_of, points_after_raise, points_after_acquire, points_after_release, points_after_release_fence, points_after_acquire_fence, points_after_yield, points_with_point, points_with_stamp, points_after_stamp, points_after_stamp_release, points_after_stamp_acquire, points_with_atomic, points_after_spawn, points_after_join, points_after_load, points_after_store, points_after_update_read, points_after_update_write, points_after_update_fail, points_after_unsync_load, points_after_with_mut, points_after_with_mut_end, points_with_cell, points_after_read, points_after_write, points_after_fence}
 
 -- a sweep from a point finds the points that reach it

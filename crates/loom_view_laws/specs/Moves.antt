@@ -2,10 +2,10 @@
 use Rattle.std.specs.Prelude.{ℕ, ◌≡◌, ◌≤◌, ◌||◌, ◌↔◌, ◌⊎◌, false, IsTrue, IfOk, List, ◌++◌, length, slice_get, Option, Some, Result, Ok, Err}
 use Rattle.std.specs.List.{Any}
 use Rattle.std.specs.declared.sync.atomic.Ordering.{Ordering}
-use Rattle.loom_views.specs.declared.rt.failure.FailureKind.{FailureKind}
-use Rattle.loom_views.specs.declared.rt.failure.FailureKind.TheVariants.{Race}
-use Rattle.loom_views.specs.Graph.{Graph, is_among, reaches}
-use Rattle.loom_views.specs.Threads.{ThreadPoints}
+use Rattle.loom_view_parts.specs.declared.rt.failure.FailureKind.{FailureKind}
+use Rattle.loom_view_parts.specs.declared.rt.failure.FailureKind.TheVariants.{Race}
+use Rattle.loom_view_parts.specs.Graph.{Graph, is_among, reaches}
+use Rattle.loom_view_parts.specs.Threads.{ThreadPoints}
 use Rattle.loom_views.specs.Atomic.{History}
 use Rattle.loom_views.specs.Table.{Place, Keeps, Points, Accessed, opening, points_after_raise, points_after_acquire, points_after_release, points_after_yield, points_with_point, points_with_stamp, points_after_stamp, points_after_stamp_release, points_after_stamp_acquire, points_with_atomic, points_after_spawn, points_after_join, points_after_load, points_after_store, points_after_update_read, points_after_update_write, points_after_update_fail, points_after_unsync_load, points_after_with_mut, points_after_with_mut_end, points_with_cell, points_after_read, points_after_write, points_after_fence}
 use Rattle.loom_view_laws.specs.Laws.{HasOutside}

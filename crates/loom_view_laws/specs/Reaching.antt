@@ -2,10 +2,10 @@
 use Rattle.std.specs.Prelude.{ℕ, ◌≡◌, ◌≤◌, ◌↔◌, ◌⊎◌, Bool, false, if◌then◌else◌, IsTrue, IfOk, List, [], ◌∷◌, ◌++◌, length, slice_get, Option, Some, None, Ok, Err}
 use Rattle.std.specs.List.{Any, list_any}
 use Rattle.std.specs.declared.sync.atomic.Ordering.{Ordering}
-use Rattle.loom_views.specs.declared.rt.failure.FailureKind.TheVariants.{Race}
-use Rattle.loom_views.specs.Graph.{Graph, threads, is_among, reaches, raised, inside}
-use Rattle.loom_views.specs.Threads.{ThreadPoints}
-use Rattle.loom_views.specs.Cells.{Accesses}
+use Rattle.loom_view_parts.specs.declared.rt.failure.FailureKind.TheVariants.{Race}
+use Rattle.loom_view_parts.specs.Graph.{Graph, threads, is_among, reaches, raised, inside}
+use Rattle.loom_view_parts.specs.Threads.{ThreadPoints}
+use Rattle.loom_view_parts.specs.Cells.{Accesses}
 use Rattle.loom_views.specs.Table.{Place, Meets, Keeps, Records, Points, points_after_raise, points_after_load, points_after_store, points_after_update_read, points_after_update_write, points_after_read, points_after_write}
 
 -- the later graph is the earlier one with further points in front

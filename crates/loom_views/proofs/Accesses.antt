@@ -1,105 +1,28 @@
 -- Whole accesses of an atomic: what is kept in vectors answers as the scene's step does.
-use Rattle.std.proofs.Common.{suc, subst, ◌≡◌, ℕ, ◌+◌, ◌-◌, ◌%◌, set, ◌<◌, max, Bool, true, false, not, cond, ◌||◌, ◌&&◌, List, [], ◌∷◌, ◌++◌, length, map, get_or, refl, ap, sym, ◌∙◌, arith, ⊎_elim, Option, Some, None, Result, Ok, Err}
-use Rattle.std.specs.Prelude.{leb, nat_lt, if◌then◌else◌}
-use Rattle.std.specs.List.{list_any, list_all, AllByRecursion}
-use Rattle.std.proofs.lemmas.Bool.{cases_Bool, cases_eq, and_from, and_parts, le-leb}
+use Rattle.std.proofs.Common.{subst, ◌≡◌, ℕ, ◌+◌, ◌-◌, ◌%◌, set, ◌<◌, Bool, true, false, not, cond, ◌||◌, ◌&&◌, List, [], ◌∷◌, length, get_or, refl, ap, sym, ◌∙◌, arith, ⊎_elim, Option, Some, None, Result, Ok, Err}
+use Rattle.std.specs.Prelude.{nat_lt, if◌then◌else◌}
+use Rattle.std.proofs.lemmas.Bool.{cases_Bool, cases_eq}
 use Rattle.std.specs.declared.sync.atomic.Ordering.{Ordering}
 use Rattle.std.specs.declared.sync.atomic.Ordering.TheVariants.{Release}
-use Rattle.loom_views.specs.declared.rt.failure.FailureKind.{FailureKind}
-use Rattle.loom_views.specs.declared.rt.failure.FailureKind.TheVariants.{Race, OpenAccess, TooManyStores}
+use Rattle.loom_view_parts.specs.declared.rt.failure.FailureKind.{FailureKind}
+use Rattle.loom_view_parts.specs.declared.rt.failure.FailureKind.TheVariants.{Race, OpenAccess, TooManyStores}
 use Rattle.loom_views.specs.declared.rt.atomic.State.{State}
 use Rattle.loom_views.specs.declared.rt.atomic.Store.{Store}
-use Rattle.loom_views.specs.declared.rt.synchronize.ThreadViews.{ThreadViews}
-use Rattle.loom_views.specs.Graph.{Point, Graph, version, counts, inside, Shows, IsChained, IsPresent, moved}
-use Rattle.loom_views.specs.Orderings.{is_acquire, is_release}
+use Rattle.loom_view_parts.specs.declared.rt.synchronize.ThreadViews.{ThreadViews}
+use Rattle.loom_view_parts.specs.Graph.{Point, Graph, Shows, IsChained, IsPresent, moved}
+use Rattle.loom_view_parts.specs.Orderings.{is_acquire, is_release}
 use Rattle.std.proofs.lemmas.List.{get_or-set_same, get_or-set_other, length-set}
 use Rattle.loom_views.specs.Slots.{number_in_slot}
 use Rattle.loom_views.proofs.SlotNumbers.{in_slot-set_same, in_slot-set_other}
-use Rattle.loom_views.specs.Versions.{zeros, join, join_all, within}
-use Rattle.loom_views.specs.Threads.{ThreadPoints, ShowsThread, graph_after_load}
+use Rattle.loom_view_parts.specs.Versions.{zeros, join, within}
+use Rattle.loom_view_parts.specs.Threads.{ThreadPoints, ShowsThread, graph_after_load}
 use Rattle.loom_views.specs.Atomic.{Scene, Answer, in_slot, seen_orders, graph_with_order, graph_with_start, races, scene_read, scene_loaded, scene_made, scene_recorded_load, scene_recorded_store, scene_recorded_unsync_load, scene_recorded_mutation, load_step, store_step, update_read_step, update_write_step, unsync_load_step, mutate_step, mutate_end_step, new_step, newest_value, new_history, with_newest, blank, StorePoints}
 use Rattle.loom_views.specs.Ring.{Accessed, store_at, state_read, state_made, views_loaded, load_now, store_now, load_passed, store_passed, update_read_now, update_read_passed, update_write_now, update_write_passed, unsync_load_now, value_passed, mutate_now, mutate_passed, mutate_end_now, ended, newest_slot, state_closed, state_blank, blank_store}
 use Rattle.loom_views.specs.Shown.{ShowsStart, ShowsStore, ShowsRecord, ShowsScene}
-use Rattle.loom_views.specs.VersionOrder.{within-transitive}
-use Rattle.loom_views.proofs.VersionLists.{join-bound}
-use Rattle.loom_views.proofs.Views.{within-counts, shows-old, shows-joined, chained-moved, present-old, present-new}
-use Rattle.loom_views.proofs.Shown.{touch-old, thread-old, state-old, read-shown, make-shown}
-
-same_tests : (a b : Bool) → (a ≡ true → b ≡ true) → (b ≡ true → a ≡ true) → a ≡ b
-same_tests true b f h = sym (f refl)
-same_tests false true f h = h refl
-same_tests false false f h = refl
-
--- a joined vector is inside another just where both parts are
-within-join : (us vs ws : List ℕ) → length us ≡ length vs → within (join us vs) ws ≡ (within us ws && within vs ws)
-within-join us vs ws e =
-    let b = join-bound us vs e in
-    same_tests (within (join us vs) ws) (within us ws && within vs ws)
-    (λ h. and_from (within us ws) (within vs ws) (within-transitive us (join us vs) ws b.left h) (within-transitive vs (join us vs) ws b.right h))
-    (λ h. let p = and_parts (within us ws) (within vs ws) h in b.least ws p.0 p.1)
-
-length-counts : (g : Graph) (k : ℕ) → length (counts g k) ≡ 5
-unfolding counts
-length-counts g k = refl
-
-length-join : (us vs : List ℕ) → length us ≡ length vs → length (join us vs) ≡ length us
-length-join [] vs e = refl
-length-join (u ∷ us) [] e = absurd (omega arith)
-length-join (u ∷ us) (v ∷ vs) e = ap suc (length-join us vs (omega arith))
-
-and_assoc : (a b c : Bool) → ((a && b) && c) ≡ (a && (b && c))
-and_assoc true b c = refl
-and_assoc false b c = refl
-
-within-joined : (g : Graph) (a : ℕ) (us : List ℕ) (ks : List ℕ) → IsChained g → length us ≡ 5 → within (join_all us (map (counts g) ks)) (counts g a) ≡ (within us (counts g a) && list_all (λ k. inside g k a) ks)
-within-joined g a us [] c e = and_true (within us (counts g a))
-  where
-    and_true : (b : Bool) → b ≡ (b && true)
-    and_true true = refl
-    and_true false = refl
-within-joined g a us (k ∷ ks) c e =
-    within-joined g a (join us (counts g k)) ks c (length-join us (counts g k) (e ∙ sym (length-counts g k)) ∙ e)
-    ∙ ap (λ b. b && list_all (λ k. inside g k a) ks) (within-join us (counts g k) (counts g a) (e ∙ sym (length-counts g k)) ∙ ap (λ b. within us (counts g a) && b) (within-counts g k a c))
-    ∙ and_assoc (within us (counts g a)) (inside g k a) (list_all (λ k. inside g k a) ks)
-
-zeros-within : (v0 v1 v2 v3 v4 : ℕ) → within zeros (v0 ∷ v1 ∷ v2 ∷ v3 ∷ v4 ∷ []) ≡ true
-zeros-within v0 v1 v2 v3 v4 = and_from (leb 0 v0) _ (le-leb 0 v0 (omega arith)) (and_from (leb 0 v1) _ (le-leb 0 v1 (omega arith)) (and_from (leb 0 v2) _ (le-leb 0 v2 (omega arith)) (and_from (leb 0 v3) _ (le-leb 0 v3 (omega arith)) (and_from (leb 0 v4) true (le-leb 0 v4 (omega arith)) refl))))
-
-zeros-counts : (g : Graph) (a : ℕ) → within zeros (counts g a) ≡ true
-unfolding counts
-zeros-counts g a = zeros-within (version g a 0) (version g a 1) (version g a 2) (version g a 3) (version g a 4)
-
-none-outside : (p : ℕ → Bool) (ks : List ℕ) → list_all p ks ≡ not (list_any (λ k. not (p k)) ks)
-none-outside p [] = refl
-none-outside p (k ∷ ks) = ap (λ b. p k && b) (none-outside p ks) ∙ step (p k) (list_any (λ k. not (p k)) ks)
-  where
-    step : (a b : Bool) → (a && not b) ≡ not (not a || b)
-    step true b = refl
-    step false b = refl
-
--- the joined vector of the accesses of a kind is inside the present one just where none of them races
-pub races-is : (g : Graph) (a : ℕ) (ks : List ℕ) (vs ws : List ℕ) → IsChained g → ShowsRecord g ks vs → Shows g a ws → within vs ws ≡ not (races g ks a)
-unfolding races
-races-is g a ks vs ws c r s = rw (r.joined, s.counted, within-joined g a zeros ks c refl, zeros-counts g a) (none-outside (λ k. inside g k a) ks)
-
-join_all-append : (vs : List ℕ) (wss : List (List ℕ)) (ws : List ℕ) → join_all vs (wss ++ ws ∷ []) ≡ join (join_all vs wss) ws
-join_all-append vs [] ws = refl
-join_all-append vs (us ∷ wss) ws = join_all-append (join vs us) wss ws
-
-map-push : (f : ℕ → List ℕ) (xs : List ℕ) (n : ℕ) → map f (xs ++ n ∷ []) ≡ map f xs ++ f n ∷ []
-map-push f [] n = refl
-map-push f (x ∷ xs) n = ap (λ ys. f x ∷ ys) (map-push f xs n)
-
-all_push : (P : ℕ → Type 0) (n : ℕ) (xs : List ℕ) → AllByRecursion P xs → P n → AllByRecursion P (xs ++ n ∷ [])
-all_push P n [] a b = (b, tt)
-all_push P n (x ∷ xs) a b = (a.0, all_push P n xs a.1 b)
-
--- one more access of a kind
-pub record-more : (g : Graph) (a : ℕ) (ks : List ℕ) (vs ws : List ℕ) → ShowsRecord g ks vs → Shows g a ws → ShowsRecord g (ks ++ a ∷ []) (join vs ws)
-record-more g a ks vs ws r s = record {
-  made = all_push (λ k. k < length g) a ks r.made s.made;
-  joined = rw (r.joined, s.counted, map-push (counts g) ks a) (sym (join_all-append zeros (map (counts g) ks) (counts g a)));
-}
+use Rattle.loom_view_parts.proofs.Views.{shows-old, shows-joined, chained-moved, present-old, present-new}
+use Rattle.loom_view_parts.proofs.Records.{races-is, record-one, record-more}
+use Rattle.loom_view_parts.proofs.ThreadMoves.{touch-old, thread-old}
+use Rattle.loom_views.proofs.Shown.{state-old, read-shown, make-shown}
 
 -- a new point that raises nothing
 pub scene_grown : (t : ℕ) (s : Scene) (views : ThreadViews) (state : State) (js : List ℕ) → ShowsScene t s views state → ShowsScene t (record s { graph = moved s.graph js }) views state
@@ -405,13 +328,6 @@ replaced-shown g stores kept slot st st' i a b e h c o = ⊎_elim
     (λ q. rw (in_slot-set_other stores st slot i a c q, get_or-set_other kept slot i st' blank_store q) o)
     (cases_eq i slot)
 
-pub zeros-join : (g : Graph) (k : ℕ) → join zeros (counts g k) ≡ counts g k
-unfolding counts
-zeros-join g k = rw (max-zero (version g k 0), max-zero (version g k 1), max-zero (version g k 2), max-zero (version g k 3), max-zero (version g k 4)) refl
-  where
-    max-zero : (n : ℕ) → max 0 n ≡ n
-    max-zero n = omega arith
-
 -- a value put into the newest store
 pub closed-shown : (t : ℕ) (s : Scene) (views : ThreadViews) (state : State) (value : ℕ) → 0 < length s.history.stores → ShowsScene t s views state → ShowsScene t (record s { history = record s.history { mutating = false; stores = with_newest s.history.stores value } }) views (state_closed state value)
 closed-shown t s views state value h z = record {
@@ -453,10 +369,6 @@ mutate_end-agrees t s views state value h z =
     let shown = closed-shown t s views state value h z in
     tests-agree t false false _ _ _ (Ok (record (state_closed state value) { unsync_mut_at = join state.unsync_mut_at views.present })) (ended views value) refl (all_inside t closed views (state_closed state value) shown) refl refl
     (refl, recorded_mutation-shown t closed views (state_closed state value) shown)
-
--- the first access of a kind
-pub record-one : (g : Graph) (k : ℕ) (ws : List ℕ) → Shows g k ws → ShowsRecord g (k ∷ []) ws
-record-one g k ws s = record { made = (s.made, tt); joined = s.counted ∙ sym (zeros-join g k) }
 
 -- a new atomic
 pub new-shown : (t : ℕ) (g : Graph) (p : ThreadPoints) (views : ThreadViews) (stores : List Store) (value : ℕ) → t < 5 → length stores ≡ 7 → IsChained g → IsPresent g t p.present → ShowsThread g t p views → ShowsScene t (new_step t g p value) views (state_made (state_blank views.present stores) t views zeros value Release)

@@ -3,19 +3,19 @@ use Rattle.std.proofs.Common.{subst, ◌≡◌, ℕ, ◌<◌, min, Bool, not, �
 use Rattle.std.specs.Prelude.{◌==◌, slice_index_or, MatchResult}
 use Rattle.std.specs.List.{list_any, filter, AllByRecursion}
 use Rattle.std.proofs.lemmas.Bool.{cases_Bool}
-use Rattle.loom_views.specs.declared.rt.failure.FailureKind.{FailureKind}
-use Rattle.loom_views.specs.declared.rt.atomic.Reader.{Reader}
-use Rattle.loom_views.specs.declared.rt.atomic.Reader.TheVariants.{Load, Update}
+use Rattle.loom_view_parts.specs.declared.rt.failure.FailureKind.{FailureKind}
+use Rattle.loom_view_parts.specs.declared.rt.reader.Reader.{Reader}
+use Rattle.loom_view_parts.specs.declared.rt.reader.Reader.TheVariants.{Load, Update}
 use Rattle.loom_views.specs.declared.rt.atomic.Store.{Store}
 use Rattle.loom_views.specs.declared.rt.atomic.State.{State}
-use Rattle.loom_views.specs.declared.rt.synchronize.ThreadViews.{ThreadViews}
-use Rattle.loom_views.specs.Graph.{Graph, IsChained}
+use Rattle.loom_view_parts.specs.declared.rt.synchronize.ThreadViews.{ThreadViews}
+use Rattle.loom_view_parts.specs.Graph.{Graph, IsChained}
 use Rattle.loom_views.specs.Slots.{upto, slots, readable_slots, has_order_of, has_equal_order_at, has_equal_orders}
-use Rattle.loom_views.specs.Threads.{ThreadPoints, ShowsTouch, ShowsThread}
+use Rattle.loom_view_parts.specs.Threads.{ThreadPoints, ShowsTouch, ShowsThread}
 use Rattle.loom_views.specs.Atomic.{StorePoints, Scene, Answer, in_slot, touch_of, is_touch_before, is_below, has_same_order, drops, drops_in_slot, has_same_order_in_slot, readable, fails_by_orders}
 use Rattle.loom_views.specs.Ring.{Accessed, store_at, is_version_before, is_order_below, is_order_same, is_same_slot, drops_store, drops_slot, readable_now, fails_now}
 use Rattle.loom_views.specs.Shown.{ShowsStore, ShowsScene, AnswersAs, FinishesAs}
-use Rattle.loom_views.proofs.Views.{shows-inside}
+use Rattle.loom_view_parts.proofs.Views.{shows-inside}
 use Rattle.loom_views.proofs.Loops.{all_upto, list_any-agree, filter-agree}
 use Rattle.loom_views.proofs.Shown.{seen-is}
 use Rattle.loom_views.proofs.Accesses.{Agrees}

@@ -1,16 +1,9 @@
-pub mod Reaching
-pub mod Counting
-pub mod Views
-pub mod Counted
-pub mod VersionLists
 pub mod Loops
 pub mod SlotNumbers
 pub mod SlotSets
 pub mod Shown
 pub mod Accesses
 pub mod Choices
-pub mod ThreadMoves
 pub mod Growth
 pub mod Fences
-pub mod Cells
 pub mod Table

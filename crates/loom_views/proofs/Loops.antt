@@ -4,7 +4,7 @@ use Rattle.std.specs.List.{list_any, filter, AllByRecursion}
 use Rattle.std.proofs.lemmas.Bool.{cases_eq, or_left, or_right, or_from}
 use Rattle.std.proofs.lemmas.List.Elements.{filter-append}
 use Rattle.loom_views.specs.Slots.{upto}
-use Rattle.loom_views.specs.Versions.{join, join_all}
+use Rattle.loom_view_parts.specs.Versions.{join, join_all}
 
 pub upto-push : (n : ℕ) → upto (n + 1) ≡ upto n ++ n ∷ []
 upto-push n = rw add-one refl

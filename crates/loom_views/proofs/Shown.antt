@@ -7,33 +7,22 @@ use Rattle.std.proofs.lemmas.List.{get_or-set_same, get_or-set_other, length-set
 use Rattle.std.specs.declared.sync.atomic.Ordering.{Ordering}
 use Rattle.loom_views.specs.declared.rt.atomic.Store.{Store}
 use Rattle.loom_views.specs.declared.rt.atomic.State.{State}
-use Rattle.loom_views.specs.declared.rt.synchronize.ThreadViews.{ThreadViews}
-use Rattle.loom_views.specs.Graph.{Point, Graph, threads, version, counts, Shows, IsChained}
+use Rattle.loom_view_parts.specs.declared.rt.synchronize.ThreadViews.{ThreadViews}
+use Rattle.loom_view_parts.specs.Graph.{Point, Graph, threads, version, Shows, IsChained}
 use Rattle.loom_views.specs.Untouched.{untouched}
-use Rattle.loom_views.specs.Orderings.{is_release, is_seq_cst}
-use Rattle.loom_views.specs.Versions.{zeros, join_all}
+use Rattle.loom_view_parts.specs.Orderings.{is_release, is_seq_cst}
+use Rattle.loom_view_parts.specs.Versions.{join_all}
 use Rattle.loom_views.specs.Slots.{slots, is_left_out, number_in_slot}
-use Rattle.loom_views.specs.Threads.{ThreadPoints, ShowsTouch, ShowsThread, graph_after_store}
+use Rattle.loom_view_parts.specs.Threads.{ThreadPoints, ShowsTouch, ShowsThread, graph_after_store}
 use Rattle.loom_views.specs.Atomic.{StorePoints, History, in_slot, touch_of, is_touch_seen, is_seen, is_order_seen_from, seen_orders, touch, graph_after_read, stores_after_read, graph_with_order, graph_with_start, graph_after_make, stores_after_make}
 use Rattle.loom_views.specs.Ring.{store_at, blank_store, is_version_seen, is_touch_in, is_order_seen, orders_seen, touch_version, store_read, state_read, vector_stored, store_made, state_made}
-use Rattle.loom_views.specs.Shown.{ShowsStore, ShowsRecord, ShowsState, ShowsStart}
-use Rattle.loom_views.proofs.Counting.{all-weaker}
+use Rattle.loom_views.specs.Shown.{ShowsStore, ShowsState, ShowsStart}
 use Rattle.loom_views.proofs.Loops.{all_upto, list_any-agree, filter-agree}
 use Rattle.loom_views.proofs.SlotNumbers.{in_slot-new, in_slot-old, in_slot-set_same, in_slot-set_other}
-use Rattle.loom_views.proofs.Views.{version-old, counts-old, shows-old, shows-moved, shows-start, shows-copied, chained-moved, touch-seen}
-
-pub touch-old : (p : Point) (g : Graph) (t : ℕ) (o v : Option ℕ) → ShowsTouch g t o v → ShowsTouch (p ∷ g) t o v
-touch-old p g t None None h = tt
-touch-old p g t None (Some n) h = absurd h
-touch-old p g t (Some k) None h = absurd h
-touch-old p g t (Some k) (Some n) h = (let b = h.0 in omega arith, h.1 ∙ sym (version-old p g k t h.0))
-
-pub thread-old : (p : Point) (g : Graph) (t : ℕ) (points : ThreadPoints) (views : ThreadViews) → ShowsThread g t points views → ShowsThread (p ∷ g) t points views
-thread-old p g t points views h = record {
-  present = shows-old p g points.present views.present h.present;
-  released = shows-old p g points.released views.released h.released;
-  yielded = touch-old p g t points.yielded views.last_yield h.yielded;
-}
+use Rattle.loom_view_parts.proofs.Counted.{counts-at}
+use Rattle.loom_view_parts.proofs.Records.{record-old}
+use Rattle.loom_view_parts.proofs.ThreadMoves.{touch-old, thread-old}
+use Rattle.loom_view_parts.proofs.Views.{shows-old, shows-moved, shows-start, shows-copied, chained-moved, touch-seen}
 
 pub store-old : (p : Point) (g : Graph) (points : StorePoints) (store : Store) → ShowsStore g points store → ShowsStore (p ∷ g) points store
 store-old p g points store h = record {
@@ -44,16 +33,6 @@ store-old p g points store h = record {
   five = h.five;
   five_kept = h.five_kept;
   touched = λ t l. touch-old p g t (touch_of points t) (slice_index_or store.first_seen.versions t None) (h.touched t l);
-}
-
-counts_map-old : (p : Point) (g : Graph) (ks : List ℕ) → AllByRecursion (λ k. k < length g) ks → map (counts (p ∷ g)) ks ≡ map (counts g) ks
-counts_map-old p g [] h = refl
-counts_map-old p g (k ∷ ks) h = ap (λ vs. vs ∷ map (counts (p ∷ g)) ks) (counts-old p g k h.0) ∙ ap (λ vss. counts g k ∷ vss) (counts_map-old p g ks h.1)
-
-pub record-old : (p : Point) (g : Graph) (ks : List ℕ) (vs : List ℕ) → ShowsRecord g ks vs → ShowsRecord (p ∷ g) ks vs
-record-old p g ks vs h = record {
-  made = all-weaker (λ k. k < length g) (λ k. k < suc (length g)) ks (λ k l. omega arith) h.made;
-  joined = h.joined ∙ ap (join_all zeros) (sym (counts_map-old p g ks h.made));
 }
 
 pub state-old : (p : Point) (g : Graph) (h : History) (state : State) → ShowsState g h state → ShowsState (p ∷ g) h state
@@ -67,15 +46,6 @@ state-old p g h state s = record {
   mutations = record-old p g h.mutations state.unsync_mut_at s.mutations;
   mutating = s.mutating;
 }
-
-pub counts-at : (g : Graph) (k t : ℕ) → t < 5 → get_or (counts g k) t 0 ≡ version g k t
-unfolding counts
-counts-at g k zero l = refl
-counts-at g k (suc zero) l = refl
-counts-at g k (suc (suc zero)) l = refl
-counts-at g k (suc (suc (suc zero))) l = refl
-counts-at g k (suc (suc (suc (suc zero)))) l = refl
-counts-at g k (suc (suc (suc (suc (suc t))))) l = absurd (omega arith)
 
 touch-is : (g : Graph) (t a : ℕ) (o v : Option ℕ) (view : List ℕ) → IsChained g → t < 5 → Shows g a view → ShowsTouch g t o v → is_touch_seen g t o a ≡ is_version_seen v (get_or view t 0)
 touch-is g t a None None view h l s z = refl

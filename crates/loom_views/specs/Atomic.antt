@@ -1,19 +1,20 @@
 -- The history of an atomic, by points of the graph.
 use Rattle.std.specs.Prelude.{ℕ, ◌-◌, Bool, true, false, not, ◌&&◌, ◌||◌, nat_le, if◌then◌else◌, List, [], ◌∷◌, ◌++◌, length, map, slice_index_or, slice_set, nat_lt, Option, Some, None, is_some, Result, Ok, Err}
-use Rattle.loom_views.specs.declared.rt.failure.FailureKind.{FailureKind}
-use Rattle.loom_views.specs.declared.rt.failure.FailureKind.TheVariants.{Race, OpenAccess, TooManyStores}
+use Rattle.loom_view_parts.specs.declared.rt.failure.FailureKind.{FailureKind}
+use Rattle.loom_view_parts.specs.declared.rt.failure.FailureKind.TheVariants.{Race, OpenAccess, TooManyStores}
 use Rattle.std.specs.List.{list_any, find, filter}
 use Rattle.std.specs.Option.{option_map_or}
 use Rattle.std.specs.declared.sync.atomic.Ordering.{Ordering}
 use Rattle.std.specs.declared.sync.atomic.Ordering.TheVariants.{Release}
-use Rattle.loom_views.specs.declared.rt.atomic.Reader.{Reader}
-use Rattle.loom_views.specs.declared.rt.atomic.Reader.TheVariants.{Load, Update}
-use Rattle.loom_views.specs.Graph.{Graph, moved, moved_raising, threads, reaches, raised, version, inside}
+use Rattle.loom_view_parts.specs.declared.rt.reader.Reader.{Reader}
+use Rattle.loom_view_parts.specs.declared.rt.reader.Reader.TheVariants.{Load, Update}
+use Rattle.loom_view_parts.specs.Graph.{Graph, moved, moved_raising, threads, reaches, raised, version, inside}
 use Rattle.loom_views.specs.Slots.{slots, is_left_out, number_in_slot, readable_slots, has_equal_orders}
 use Rattle.loom_views.specs.Untouched.{untouched}
-use Rattle.loom_views.specs.Orderings.{is_seq_cst}
-use Rattle.loom_views.specs.Threads.{ThreadPoints, graph_after_load, thread_after_load, graph_after_store}
-use Rattle.loom_views.specs.Limits.{most_stores}
+use Rattle.loom_view_parts.specs.Orderings.{is_seq_cst}
+use Rattle.loom_view_parts.specs.Threads.{ThreadPoints, graph_after_load, thread_after_load, graph_after_store}
+use Rattle.loom_view_parts.specs.Limits.{most_stores}
+pub use Rattle.loom_view_parts.specs.Records.{races}
 
 -- a store: its order point, its synchronization point, and for each thread its present point when it first touched the store
 pub record StorePoints : Type 0 where
@@ -91,10 +92,6 @@ readable g t p reader stores = readable_slots (drops_in_slot g t p reader stores
 -- the choice fails, since two orders are equal on the way
 abbrev pub fails_by_orders : Graph → ℕ → ThreadPoints → Reader → List StorePoints → Bool
 fails_by_orders g t p reader stores = has_equal_orders (has_same_order_in_slot g stores) (drops_in_slot g t p reader stores) (length stores)
-
--- some of the points recorded has a view that isn't inside that of point a
-unfoldable pub races : Graph → List ℕ → ℕ → Bool
-races g points a = list_any (λ k. not (inside g k a)) points
 
 -- the order points of the kept stores that are seen from point a, but for a slot that is left out
 abbrev pub is_order_seen_from : Graph → List StorePoints → ℕ → Option ℕ → ℕ → Bool

@@ -1,7 +1,7 @@
 -- Acquire fences: what a thread gains from the stores that it has seen.
 use Rattle.std.specs.Prelude.{◌-◌, if◌then◌else◌, List, [], ◌∷◌, length, drop}
-use Rattle.loom_views.specs.Graph.{Graph}
-use Rattle.loom_views.specs.Threads.{ThreadPoints, with_present, graph_after_acquire}
+use Rattle.loom_view_parts.specs.Graph.{Graph}
+use Rattle.loom_view_parts.specs.Threads.{ThreadPoints, with_present, graph_after_acquire}
 use Rattle.loom_views.specs.Atomic.{StorePoints, Scene, is_seen}
 
 -- where a thread stands: the graph, and the thread's points in it

@@ -1,6 +1,6 @@
 -- What holds of the slots in which stores are kept.
 use Rattle.std.specs.Prelude.{ℕ, ◌≡◌, true, List, slice_get, Some, Ok}
-use Rattle.loom_views.specs.declared.rt.atomic.Reader.{Reader}
+use Rattle.loom_view_parts.specs.declared.rt.reader.Reader.{Reader}
 use Rattle.loom_views.specs.Table.{Points, Accessed, IsSlotKept, readable_slots_of, slot_set, points_after_update_read}
 
 -- in each slot that is offered a store is kept

@@ -2,20 +2,20 @@
 use Rattle.std.specs.Prelude.{ℕ, ◌+◌, ◌%◌, Bool, true, false, not, ◌&&◌, ◌||◌, nat_le, if◌then◌else◌, List, [], ◌∷◌, map, slice_index, slice_index_or, slice_set, Option, Some, None, is_some, Result, Ok, Err, nat_lt}
 use Rattle.std.specs.List.{list_all}
 use Rattle.loom_views.specs.Untouched.{untouched}
-use Rattle.loom_views.specs.declared.rt.failure.FailureKind.{FailureKind}
-use Rattle.loom_views.specs.declared.rt.failure.FailureKind.TheVariants.{Race, OpenAccess, TooManyStores}
+use Rattle.loom_view_parts.specs.declared.rt.failure.FailureKind.{FailureKind}
+use Rattle.loom_view_parts.specs.declared.rt.failure.FailureKind.TheVariants.{Race, OpenAccess, TooManyStores}
 use Rattle.std.specs.List.{list_any, filter}
 use Rattle.std.specs.declared.sync.atomic.Ordering.{Ordering}
-use Rattle.loom_views.specs.declared.rt.atomic.Reader.{Reader}
-use Rattle.loom_views.specs.declared.rt.atomic.Reader.TheVariants.{Load, Update}
+use Rattle.loom_view_parts.specs.declared.rt.reader.Reader.{Reader}
+use Rattle.loom_view_parts.specs.declared.rt.reader.Reader.TheVariants.{Load, Update}
 use Rattle.loom_views.specs.declared.rt.atomic.Store.{Store}
 use Rattle.loom_views.specs.declared.rt.atomic.State.{State}
-use Rattle.loom_views.specs.declared.rt.synchronize.ThreadViews.{ThreadViews}
-use Rattle.loom_views.specs.Graph.{threads}
-use Rattle.loom_views.specs.Versions.{join_all, join, within, zeros}
+use Rattle.loom_view_parts.specs.declared.rt.synchronize.ThreadViews.{ThreadViews}
+use Rattle.loom_view_parts.specs.Graph.{threads}
+use Rattle.loom_view_parts.specs.Versions.{join_all, join, within, zeros}
 use Rattle.loom_views.specs.Slots.{slots, is_left_out, readable_slots, has_equal_orders}
-use Rattle.loom_views.specs.Orderings.{is_acquire, is_release, is_seq_cst}
-use Rattle.loom_views.specs.Limits.{most_stores}
+use Rattle.loom_view_parts.specs.Orderings.{is_acquire, is_release, is_seq_cst}
+use Rattle.loom_view_parts.specs.Limits.{most_stores}
 
 -- a kept version, if there is one, isn't above a view's
 abbrev pub is_version_seen : Option ℕ → ℕ → Bool

@@ -1,13 +1,13 @@
 -- What is kept in vectors shows the points of the graph.
-use Rattle.std.specs.Prelude.{ℕ, ◌<◌, ◌≡◌, List, length, map, slice_index_or, Option, Some, None, Result, Ok, Err}
-use Rattle.std.specs.List.{AllByRecursion}
-use Rattle.loom_views.specs.declared.rt.failure.FailureKind.{FailureKind}
+use Rattle.std.specs.Prelude.{ℕ, ◌<◌, ◌≡◌, List, length, slice_index_or, Option, Some, None, Result, Ok, Err}
+use Rattle.loom_view_parts.specs.declared.rt.failure.FailureKind.{FailureKind}
 use Rattle.loom_views.specs.declared.rt.atomic.Store.{Store}
 use Rattle.loom_views.specs.declared.rt.atomic.State.{State}
-use Rattle.loom_views.specs.declared.rt.synchronize.ThreadViews.{ThreadViews}
-use Rattle.loom_views.specs.Graph.{Graph, counts, Shows, IsChained, IsPresent}
-use Rattle.loom_views.specs.Versions.{zeros, join_all}
-use Rattle.loom_views.specs.Threads.{ShowsTouch, ShowsThread}
+use Rattle.loom_view_parts.specs.declared.rt.synchronize.ThreadViews.{ThreadViews}
+use Rattle.loom_view_parts.specs.Graph.{Graph, Shows, IsChained, IsPresent}
+use Rattle.loom_view_parts.specs.Versions.{zeros}
+use Rattle.loom_view_parts.specs.Threads.{ShowsTouch, ShowsThread}
+pub use Rattle.loom_view_parts.specs.Records.{ShowsRecord}
 use Rattle.loom_views.specs.Atomic.{StorePoints, History, Scene, Answer, in_slot, touch_of}
 use Rattle.loom_views.specs.Ring.{store_at}
 
@@ -25,11 +25,6 @@ pub record ShowsStore (g : Graph) (points : StorePoints) (store : Store) : Type 
 abbrev pub ShowsStart : Graph → Option ℕ → List ℕ → Type 0
 ShowsStart g None view = view ≡ zeros
 ShowsStart g (Some k) view = Shows g k view
-
--- the joined views of the accesses of one kind
-pub record ShowsRecord (g : Graph) (points : List ℕ) (view : List ℕ) : Type 0 where
-  pub made : AllByRecursion (λ k. k < length g) points
-  pub joined : view ≡ join_all zeros (map (counts g) points)
 
 -- what is kept of an atomic: its last seven stores, and the records of its accesses
 pub record ShowsState (g : Graph) (h : History) (state : State) : Type 0 where

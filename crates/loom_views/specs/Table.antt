@@ -3,20 +3,20 @@ use Rattle.std.specs.Prelude.{ℕ, ◌≤◌, ◌<◌, ◌≡◌, nat_le, nat_lt
 use Rattle.std.specs.List.{flat_map}
 use Rattle.std.specs.declared.sync.atomic.Ordering.{Ordering}
 use Rattle.std.specs.declared.sync.atomic.Ordering.TheVariants.{Relaxed, Release, Acquire, AcqRel, SeqCst}
-use Rattle.loom_views.specs.declared.rt.atomic.Reader.{Reader}
-use Rattle.loom_views.specs.declared.rt.synchronize.ThreadViews.{ThreadViews}
-use Rattle.loom_views.specs.declared.rt.failure.FailureKind.{FailureKind}
-use Rattle.loom_views.specs.declared.rt.failure.FailureKind.TheVariants.{TooManyThreads, TooManyVersions, OrdersEqual, Misuse}
+use Rattle.loom_view_parts.specs.declared.rt.reader.Reader.{Reader}
+use Rattle.loom_view_parts.specs.declared.rt.synchronize.ThreadViews.{ThreadViews}
+use Rattle.loom_view_parts.specs.declared.rt.failure.FailureKind.{FailureKind}
+use Rattle.loom_view_parts.specs.declared.rt.failure.FailureKind.TheVariants.{TooManyThreads, TooManyVersions, OrdersEqual, Misuse}
 use Rattle.loom_views.specs.declared.rt.table.Kept.{Kept}
 use Rattle.loom_views.specs.declared.rt.table.Kept.TheVariants.{Point, Atomic, Cell}
 use Rattle.loom_views.specs.declared.rt.table.Views.{Views}
-use Rattle.loom_views.specs.Graph.{Graph, moved, raised, Shows, IsChained, IsPresent}
-use Rattle.loom_views.specs.Threads.{ThreadPoints, ShowsThread, with_present, graph_after_raise, graph_after_acquire, graph_after_release, graph_after_release_fence, graph_after_store, graph_after_spawn, child_points, parent_points}
+use Rattle.loom_view_parts.specs.Graph.{Graph, moved, raised, Shows, IsChained, IsPresent}
+use Rattle.loom_view_parts.specs.Threads.{ThreadPoints, ShowsThread, with_present, graph_after_raise, graph_after_acquire, graph_after_release, graph_after_release_fence, graph_after_store, graph_after_spawn, child_points, parent_points}
 use Rattle.loom_views.specs.Atomic.{History, StorePoints, Scene, Answer, readable, fails_by_orders, load_step, store_step, update_read_step, update_write_step, update_fail_step, unsync_load_step, mutate_step, mutate_end_step, new_step}
 use Rattle.loom_views.specs.Fences.{after_stores, kept_stores}
-use Rattle.loom_views.specs.Cells.{Accesses, new_accesses, read_step, write_step, ShowsAccesses}
+use Rattle.loom_view_parts.specs.Cells.{Accesses, new_accesses, read_step, write_step, ShowsAccesses}
 use Rattle.loom_views.specs.Shown.{ShowsState}
-use Rattle.loom_views.specs.Limits.{highest_version}
+use Rattle.loom_view_parts.specs.Limits.{highest_version}
 pub use Rattle.loom_views.specs.Slots.{has_slot, slot_set}
 
 -- what an object has: the number of the point at which threads synchronize, the history of an atomic, or the accesses of a cell

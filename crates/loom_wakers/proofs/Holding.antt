@@ -3,8 +3,8 @@ use Rattle.std.proofs.Common.{◌≡◌, ◌∙◌, ℕ, ap, refl, sym}
 use Rattle.std.specs.Prelude.{◌-◌, ◌==◌, Bool, true, false, is_none, Option, Some, None, Result, Ok, Err, ⊤}
 use Rattle.loom_effect_parts.specs.Wakers.{wakers_left}
 use Rattle.loom_wakers.specs.Stages.{forgets, frees, holds, takes_place}
-use Rattle.loom_views.specs.declared.rt.failure.FailureKind.{FailureKind}
-use Rattle.loom_views.specs.declared.rt.failure.FailureKind.TheVariants.{Misuse}
+use Rattle.loom_view_parts.specs.declared.rt.failure.FailureKind.{FailureKind}
+use Rattle.loom_view_parts.specs.declared.rt.failure.FailureKind.TheVariants.{Misuse}
 use Rattle.loom_objects.specs.declared.operation.Reply.TheVariants as reply
 use Rattle.loom_objects.specs.declared.rt.sync.AtomicWaker.{AtomicWaker}
 use Rattle.loom_objects.specs.declared.rt.sync.Wakers.{Wakers}

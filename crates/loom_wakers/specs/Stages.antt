@@ -1,6 +1,6 @@
 -- Parts of what is done with a waker or with a place for one.
 use Rattle.std.specs.Prelude.{ℕ, ◌-◌, ◌==◌, Result, Ok, ⊤}
-use Rattle.loom_views.specs.declared.rt.failure.FailureKind.{FailureKind}
+use Rattle.loom_view_parts.specs.declared.rt.failure.FailureKind.{FailureKind}
 use Rattle.loom_objects.specs.declared.rt.run.Passed.{Passed}
 use Rattle.loom_objects.specs.declared.rt.sync.AtomicWaker.{AtomicWaker}
 use Rattle.loom_objects.specs.Moves.{a_place, releases}

@@ -5,7 +5,7 @@ ghost use Rattle.loom_objects.specs.Moves.{told_points};
 ghost use Rattle.loom_objects.specs.World.{MAX_THREADS};
 ghost use Rattle.loom_views.specs.Table as table;
 ghost use Rattle.loom_views.specs.Table.{Points, ShowsViews, MovesAs, LoadsAs, StoresAs, OffersAs, IsSlotKept};
-ghost use Rattle.loom_views.specs.declared.rt.failure.FailureKind.TheVariants.{Misuse};
+ghost use Rattle.loom_view_parts.specs.declared.rt.failure.FailureKind.TheVariants.{Misuse};
 
 use crate::rt::object::Object;
 use crate::rt::scene::Scene;

@@ -1,7 +1,7 @@
 -- The scripts of the rows about misuse, and about runs that reach a limit.
 use Rattle.std.specs.Prelude.{List, [], ◌∷◌, None}
 use Rattle.std.specs.declared.sync.atomic.Ordering.TheVariants.{Relaxed, Release}
-use Rattle.loom_views.specs.declared.rt.num.Numbers.TheVariants as numbers
+use Rattle.loom_view_parts.specs.declared.rt.num.Numbers.TheVariants as numbers
 use Rattle.loom_objects.specs.declared.operation.AtomicOp.TheVariants as atomic
 use Rattle.loom_objects.specs.declared.operation.LocalOp.TheVariants as local
 use Rattle.loom_objects.specs.declared.operation.MutexOp.TheVariants as mutex

@@ -1,7 +1,7 @@
 -- The scripts of the rows about locks, condition variables, notifiers and threads that wait for one another.
 use Rattle.std.specs.Prelude.{List, [], ◌∷◌, Some, None}
 use Rattle.std.specs.declared.sync.atomic.Ordering.TheVariants.{Relaxed}
-use Rattle.loom_views.specs.declared.rt.num.Numbers.TheVariants as numbers
+use Rattle.loom_view_parts.specs.declared.rt.num.Numbers.TheVariants as numbers
 use Rattle.loom_objects.specs.declared.operation.AtomicOp.TheVariants as atomic
 use Rattle.loom_objects.specs.declared.operation.CondvarOp.TheVariants as condvar
 use Rattle.loom_objects.specs.declared.operation.MutexOp.TheVariants as mutex

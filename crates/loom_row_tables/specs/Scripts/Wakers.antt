@@ -1,7 +1,7 @@
 -- The scripts of the rows about wakers of futures, and places for them.
 use Rattle.std.specs.Prelude.{List, [], ◌∷◌, None}
 use Rattle.std.specs.declared.sync.atomic.Ordering.TheVariants.{Release, Acquire}
-use Rattle.loom_views.specs.declared.rt.num.Numbers.TheVariants as numbers
+use Rattle.loom_view_parts.specs.declared.rt.num.Numbers.TheVariants as numbers
 use Rattle.loom_objects.specs.declared.operation.AtomicOp.TheVariants as atomic
 use Rattle.loom_objects.specs.declared.operation.AtomicWakerOp.TheVariants as place
 use Rattle.loom_objects.specs.declared.operation.ThreadOp.TheVariants as threads

@@ -1,13 +1,13 @@
 -- What is done to atomics, and a fence, keeps locks sound. Which store is read is asked among seven slots at most.
 use Rattle.std.proofs.Common.{◌≡◌, ℕ, Bool, refl}
 use Rattle.std.specs.Prelude.{◌==◌, true, false, not, Result, Ok, Err}
-use Rattle.loom_views.specs.declared.rt.failure.FailureKind.{FailureKind}
-use Rattle.loom_views.specs.declared.rt.failure.FailureKind.TheVariants.{Misuse, RelaxedFence}
+use Rattle.loom_view_parts.specs.declared.rt.failure.FailureKind.{FailureKind}
+use Rattle.loom_view_parts.specs.declared.rt.failure.FailureKind.TheVariants.{Misuse, RelaxedFence}
 use Rattle.std.specs.declared.sync.atomic.Ordering.{Ordering}
-use Rattle.loom_views.specs.Changes.{fit, changed}
+use Rattle.loom_view_parts.specs.Changes.{fit, changed}
 use Rattle.loom_views.specs.Slots.{slot_set}
-use Rattle.loom_views.specs.declared.rt.change.Change.{Change}
-use Rattle.loom_views.specs.declared.rt.atomic.Reader.{Reader}
+use Rattle.loom_view_parts.specs.declared.rt.change.Change.{Change}
+use Rattle.loom_view_parts.specs.declared.rt.reader.Reader.{Reader}
 use Rattle.loom_views.specs.Table.{Accessed, Points, points_after_load, points_after_store, points_after_update_read, points_after_update_write, points_after_unsync_load, points_after_with_mut, points_after_with_mut_end, readable_slots_of}
 use Rattle.loom_objects.specs.declared.operation.AtomicOp.{AtomicOp}
 use Rattle.loom_objects.specs.declared.operation.AtomicOp.TheVariants as atomic_op

@@ -1,8 +1,8 @@
 -- A step of the machine on the way of a run: what holds of the step holds of the course.
 use Rattle.std.proofs.Common.{ℕ, Bool, true, false, Option, Some, None}
 use Rattle.std.specs.Prelude.{cond, slice_get, Result, Ok, Err}
-use Rattle.loom_views.specs.declared.rt.failure.FailureKind.{FailureKind}
-use Rattle.loom_views.specs.declared.rt.failure.FailureKind.TheVariants.{TooManyVersions}
+use Rattle.loom_view_parts.specs.declared.rt.failure.FailureKind.{FailureKind}
+use Rattle.loom_view_parts.specs.declared.rt.failure.FailureKind.TheVariants.{TooManyVersions}
 use Rattle.loom_dependence.specs.Dependence.{Order, used_by}
 use Rattle.loom_dependence.specs.declared.rt.dependence.Use.{Use}
 use Rattle.loom_parts.specs.declared.choice.Choice.TheVariants.{Thread}

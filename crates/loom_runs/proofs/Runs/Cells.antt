@@ -1,8 +1,8 @@
 -- What is done to cells keeps locks sound.
 use Rattle.std.proofs.Common.{◌≢◌, ℕ, Bool, Option, Some, None}
 use Rattle.std.specs.Prelude.{◌==◌, ◌-◌, ◌^◌, true, false, nat_lt, is_none, Result, Ok, Err}
-use Rattle.loom_views.specs.declared.rt.failure.FailureKind.{FailureKind}
-use Rattle.loom_views.specs.declared.rt.failure.FailureKind.TheVariants.{Misuse, NotDeterministic, OpenAccess, TooManySteps}
+use Rattle.loom_view_parts.specs.declared.rt.failure.FailureKind.{FailureKind}
+use Rattle.loom_view_parts.specs.declared.rt.failure.FailureKind.TheVariants.{Misuse, NotDeterministic, OpenAccess, TooManySteps}
 use Rattle.loom_views.specs.Table.{Points, points_after_read, points_after_write}
 use Rattle.loom_objects.specs.declared.operation.CellOp.{CellOp}
 use Rattle.loom_objects.specs.declared.operation.CellOp.TheVariants as cell_op

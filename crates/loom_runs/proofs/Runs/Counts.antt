@@ -1,7 +1,7 @@
 -- What is done to counted references keeps locks sound.
 use Rattle.std.proofs.Common.{◌≡◌, ℕ, Bool, Option, Some, None, refl}
 use Rattle.std.specs.Prelude.{◌==◌, ◌-◌, ◌^◌, true, false, nat_lt, Ok, Err}
-use Rattle.loom_views.specs.declared.rt.failure.FailureKind.TheVariants.{Misuse, TooManySteps}
+use Rattle.loom_view_parts.specs.declared.rt.failure.FailureKind.TheVariants.{Misuse, TooManySteps}
 use Rattle.loom_objects.specs.declared.operation.ArcOp.{ArcOp}
 use Rattle.loom_objects.specs.declared.operation.ArcOp.TheVariants as arc_op
 use Rattle.loom_objects.specs.declared.rt.sync.Arc.{Arc}

@@ -3,14 +3,15 @@ use Rattle.std.proofs.Common.{◌≢◌, ℕ, Bool, true, false, List, [], ◌�
 use Rattle.std.specs.Prelude.{◌||◌, if◌then◌else◌, nat_le, nat_lt, slice_get, Result, Ok, Err}
 use Rattle.std.specs.List.{list_any}
 use Rattle.std.specs.declared.sync.atomic.Ordering.{Ordering}
-use Rattle.loom_views.specs.Atomic.{Scene, Answer, conflicts, races, load_step, store_step, update_read_step, update_write_step, unsync_load_step, mutate_step, mutate_end_step, scene_recorded_mutation, with_newest, fails_by_orders, in_slot, scene_read, scene_loaded, scene_made, scene_recorded_load, scene_recorded_store}
-use Rattle.loom_views.specs.Graph.{raised, Graph}
+use Rattle.loom_view_parts.specs.Records.{races}
+use Rattle.loom_views.specs.Atomic.{Scene, Answer, conflicts, load_step, store_step, update_read_step, update_write_step, unsync_load_step, mutate_step, mutate_end_step, scene_recorded_mutation, with_newest, fails_by_orders, in_slot, scene_read, scene_loaded, scene_made, scene_recorded_load, scene_recorded_store}
+use Rattle.loom_view_parts.specs.Graph.{raised, Graph}
 use Rattle.loom_views.specs.Table.{Place, Meets, Keeps, Records, Points, accessed, access, access_by, scene_of, raise_by, spawn_by, readable_by, points_after_raise, points_after_spawn, points_after_load, points_after_store, points_after_update_read, points_after_update_write, points_after_unsync_load, points_after_with_mut, points_after_with_mut_end, readable_slots_of, recorded, record_by, points_after_read, points_after_write}
-use Rattle.loom_views.specs.Cells.{Accesses, read_step, write_step}
-use Rattle.loom_views.specs.Threads.{ThreadPoints}
-use Rattle.loom_views.specs.declared.rt.atomic.Reader.{Reader}
-use Rattle.loom_views.specs.declared.rt.failure.FailureKind.{FailureKind}
-use Rattle.loom_views.specs.declared.rt.failure.FailureKind.TheVariants.{NotDeterministic, Race, OpenAccess, OrdersEqual, TooManyStores, TooManyThreads, TooManyVersions}
+use Rattle.loom_view_parts.specs.Cells.{Accesses, read_step, write_step}
+use Rattle.loom_view_parts.specs.Threads.{ThreadPoints}
+use Rattle.loom_view_parts.specs.declared.rt.reader.Reader.{Reader}
+use Rattle.loom_view_parts.specs.declared.rt.failure.FailureKind.{FailureKind}
+use Rattle.loom_view_parts.specs.declared.rt.failure.FailureKind.TheVariants.{NotDeterministic, Race, OpenAccess, OrdersEqual, TooManyStores, TooManyThreads, TooManyVersions}
 
 abbrev pub IsFairResult : {A : Type 0} → Result A FailureKind → Type 0
 IsFairResult (Ok a) = Unit {0}

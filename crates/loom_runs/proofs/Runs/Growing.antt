@@ -2,10 +2,10 @@
 use Rattle.std.proofs.Common.{◌≡◌, ◌+◌, ◌-◌, ◌<◌, ℕ, suc, Bool, true, false, List, [], ◌∷◌, length, Option, Some, None, arith, refl, ap, subst}
 use Rattle.std.specs.Prelude.{◌==◌, is_none, map, nat_lt, not, slice_get, slice_set, Result, Ok, Err, ⊤}
 use Rattle.std.specs.declared.sync.atomic.Ordering.{Ordering}
-use Rattle.loom_views.specs.declared.rt.failure.FailureKind.{FailureKind}
-use Rattle.loom_views.specs.declared.rt.failure.FailureKind.TheVariants.{Misuse, OpenAccess, RelaxedFence, SecondWaiter, TooManySteps}
-use Rattle.loom_views.specs.Changes.{fit}
-use Rattle.loom_views.specs.Limits.{highest_count}
+use Rattle.loom_view_parts.specs.declared.rt.failure.FailureKind.{FailureKind}
+use Rattle.loom_view_parts.specs.declared.rt.failure.FailureKind.TheVariants.{Misuse, OpenAccess, RelaxedFence, SecondWaiter, TooManySteps}
+use Rattle.loom_view_parts.specs.Changes.{fit}
+use Rattle.loom_view_parts.specs.Limits.{highest_count}
 use Rattle.loom_views.specs.Table.{Points, points_after_raise, points_after_read, points_after_unsync_load, points_after_with_mut, points_after_with_mut_end, points_after_write}
 use Rattle.loom_objects.specs.declared.operation.ArcOp.{ArcOp}
 use Rattle.loom_objects.specs.declared.operation.ArcOp.TheVariants as arc_op

@@ -3,14 +3,14 @@
 use Rattle.std.proofs.Common.{◌≡◌, ℕ, Bool, true, false, List, [], ◌∷◌, ◌++◌, length, map, Option, Some, None, refl, subst, sym}
 use Rattle.std.specs.Prelude.{◌==◌, is_none, is_some, nat_lt, not, slice_get, slice_set, Result, Ok, Err, ⊤}
 use Rattle.std.specs.declared.sync.atomic.Ordering.{Ordering}
-use Rattle.loom_views.specs.Changes.{changed as changed_number, fit}
-use Rattle.loom_views.specs.Limits.{highest_count}
+use Rattle.loom_view_parts.specs.Changes.{changed as changed_number, fit}
+use Rattle.loom_view_parts.specs.Limits.{highest_count}
 use Rattle.loom_views.specs.Slots.{slot_set}
 use Rattle.loom_views.specs.Table.{Accessed, Points, points_after_load, points_after_raise, points_after_read, points_after_spawn, points_after_store, points_after_unsync_load, points_after_update_read, points_after_update_write, points_after_with_mut, points_after_with_mut_end, points_after_write, readable_slots_of}
-use Rattle.loom_views.specs.declared.rt.atomic.Reader.{Reader}
-use Rattle.loom_views.specs.declared.rt.atomic.Reader.TheVariants as reader
-use Rattle.loom_views.specs.declared.rt.failure.FailureKind.{FailureKind}
-use Rattle.loom_views.specs.declared.rt.failure.FailureKind.TheVariants.{KeyTaken, Misuse, OpenAccess, RelaxedFence, SecondWaiter, TooManySteps, TooManyThreads}
+use Rattle.loom_view_parts.specs.declared.rt.reader.Reader.{Reader}
+use Rattle.loom_view_parts.specs.declared.rt.reader.Reader.TheVariants as reader
+use Rattle.loom_view_parts.specs.declared.rt.failure.FailureKind.{FailureKind}
+use Rattle.loom_view_parts.specs.declared.rt.failure.FailureKind.TheVariants.{KeyTaken, Misuse, OpenAccess, RelaxedFence, SecondWaiter, TooManySteps, TooManyThreads}
 use Rattle.loom_objects.specs.declared.operation.ArcOp.{ArcOp}
 use Rattle.loom_objects.specs.declared.operation.ArcOp.TheVariants as arc_op
 use Rattle.loom_objects.specs.declared.operation.AtomicOp.{AtomicOp}

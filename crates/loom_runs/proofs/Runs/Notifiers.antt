@@ -1,7 +1,7 @@
 -- What is done to notifiers, and a yield, keeps locks sound.
 use Rattle.std.proofs.Common.{◌≡◌, ℕ, Bool, None, refl}
 use Rattle.std.specs.Prelude.{◌-◌, ◌^◌, true, false, not, slice_get, nat_lt}
-use Rattle.loom_views.specs.declared.rt.failure.FailureKind.TheVariants.{Misuse, SecondWaiter, TooManySteps}
+use Rattle.loom_view_parts.specs.declared.rt.failure.FailureKind.TheVariants.{Misuse, SecondWaiter, TooManySteps}
 use Rattle.loom_objects.specs.declared.operation.NotifyOp.{NotifyOp}
 use Rattle.loom_objects.specs.declared.operation.NotifyOp.TheVariants as notify_op
 use Rattle.loom_objects.specs.declared.rt.sync.Notify.{Notify}

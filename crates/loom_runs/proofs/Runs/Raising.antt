@@ -1,6 +1,6 @@
 -- A thread that raises its version changes no object.
 use Rattle.std.specs.Prelude.{Result, Ok, Err}
-use Rattle.loom_views.specs.declared.rt.failure.FailureKind.{FailureKind}
+use Rattle.loom_view_parts.specs.declared.rt.failure.FailureKind.{FailureKind}
 use Rattle.loom_views.specs.Table.{Points, points_after_raise}
 use Rattle.loom_objects.specs.Moves.{raises, with_points}
 use Rattle.loom_objects.specs.Rule.{◌>>=◌}

@@ -2,9 +2,9 @@
 use Rattle.std.proofs.Common.{◌≡◌, ℕ, zero, suc, Bool, true, false, List, [], ◌∷◌, ◌++◌, map, length, Option, Some, None, refl, ap, subst, sym, inl, inr}
 use Rattle.std.proofs.lemmas.List.{map-append}
 use Rattle.std.specs.Prelude.{◌==◌, ◌+◌, ◌-◌, ◌⊎◌, ◌&&◌, cond, is_some, nat_lt, slice_get, slice_set, Result, Ok, Err, ⊤}
-use Rattle.loom_views.specs.Limits.{highest_count}
-use Rattle.loom_views.specs.declared.rt.failure.FailureKind.{FailureKind}
-use Rattle.loom_views.specs.declared.rt.failure.FailureKind.TheVariants.{LazyShutdown, Misuse, TooManySteps}
+use Rattle.loom_view_parts.specs.Limits.{highest_count}
+use Rattle.loom_view_parts.specs.declared.rt.failure.FailureKind.{FailureKind}
+use Rattle.loom_view_parts.specs.declared.rt.failure.FailureKind.TheVariants.{LazyShutdown, Misuse, TooManySteps}
 use Rattle.loom_objects.specs.declared.operation.ChannelOp.{ChannelOp}
 use Rattle.loom_objects.specs.declared.operation.ChannelOp.TheVariants as channel_op
 use Rattle.loom_objects.specs.declared.operation.Lazy.{Lazy}

@@ -1,8 +1,9 @@
 -- The runs that a reduced search makes of small bodies.
 use Rattle.std.proofs.Common.{refl}
 use native.Mathlib.Decide.{ℕ_discrete}
-use Rattle.loom_views.specs.Atomic.{drops, is_below, is_seen, has_same_order, races}
-use Rattle.loom_views.specs.Graph.{raised, reaches, inside, past}
+use Rattle.loom_view_parts.specs.Records.{races}
+use Rattle.loom_views.specs.Atomic.{drops, is_below, is_seen, has_same_order}
+use Rattle.loom_view_parts.specs.Graph.{raised, reaches, inside, past}
 use Rattle.loom_views.specs.Slots.{number_in_slot}
 use Rattle.loom_dependence.specs.Dependence.{comes_before}
 use Rattle.loom_walks.specs.Trees.Comparing.{same_made, same_ability, same_choices, same_offers}

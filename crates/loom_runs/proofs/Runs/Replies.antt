@@ -2,8 +2,8 @@
 use Rattle.std.proofs.Common.{◌≡◌, ℕ, Bool, true, false, List, [], ◌∷◌, Option, Some, None, refl}
 use Rattle.std.specs.Prelude.{◌==◌, Result, Ok, Err, ⊤, is_none, length, nat_lt, not, slice_get, ◌-◌, ◌^◌}
 use Rattle.std.specs.declared.sync.atomic.Ordering.{Ordering}
-use Rattle.loom_views.specs.declared.rt.failure.FailureKind.{FailureKind}
-use Rattle.loom_views.specs.Changes.{fit, changed}
+use Rattle.loom_view_parts.specs.declared.rt.failure.FailureKind.{FailureKind}
+use Rattle.loom_view_parts.specs.Changes.{fit, changed}
 use Rattle.loom_objects.specs.declared.operation.ArcOp.{ArcOp}
 use Rattle.loom_objects.specs.declared.operation.ArcOp.TheVariants as arc_op
 use Rattle.loom_objects.specs.declared.operation.AtomicOp.{AtomicOp}
@@ -41,7 +41,7 @@ use Rattle.loom_objects.specs.declared.rt.run.Resumed.{Resumed}
 use Rattle.loom_objects.specs.declared.rt.run.Resumed.TheVariants as resumed
 use Rattle.loom_objects.specs.declared.rt.sync.Channel.{Channel}
 use Rattle.loom_objects.specs.declared.rt.sync.Notify.{Notify}
-use Rattle.loom_views.specs.declared.rt.atomic.Reader.{Reader}
+use Rattle.loom_view_parts.specs.declared.rt.reader.Reader.{Reader}
 use Rattle.loom_views.specs.Slots.{slot_set}
 use Rattle.loom_views.specs.Table.{readable_slots_of}
 use Rattle.loom_objects.specs.declared.rt.sync.RwLock.{RwLock}
@@ -76,8 +76,8 @@ use Rattle.loom_objects.specs.declared.operation.ThreadOp.TheVariants.{Current, 
 use Rattle.loom_objects.specs.declared.operation.CellOp.TheVariants.{Deref, Get, ReadEnd, Replace, Swap, WriteEnd}
 use Rattle.loom_objects.specs.declared.rt.thread.Phase.TheVariants.{Finished}
 use Rattle.loom_objects.specs.declared.operation.TrackOp.TheVariants.{GetRef}
-use Rattle.loom_views.specs.declared.rt.failure.FailureKind.TheVariants.{KeyTaken, LazyShutdown, Misuse, OpenAccess, RelaxedFence, SecondWaiter, TooManySteps, TooManyThreads}
-use Rattle.loom_views.specs.Limits.{highest_count}
+use Rattle.loom_view_parts.specs.declared.rt.failure.FailureKind.TheVariants.{KeyTaken, LazyShutdown, Misuse, OpenAccess, RelaxedFence, SecondWaiter, TooManySteps, TooManyThreads}
+use Rattle.loom_view_parts.specs.Limits.{highest_count}
 use Rattle.loom_objects.specs.Moves.{a_cell, a_condvar, a_notifier, a_place, a_rwlock, a_track, acquires, active_thread, an_arc, an_atomic, at_phase, changes_active, is_number, raises, releases, takes_result, unparks, with_points, yields}
 use Rattle.loom_objects.specs.Accessed.{accessed}
 use Rattle.loom_objects.specs.Lent.{kept, value_in}

@@ -1,8 +1,9 @@
 -- What the runs of small bodies come to.
 use Rattle.std.proofs.Common.{refl}
 use native.Mathlib.Decide.{ℕ_discrete}
-use Rattle.loom_views.specs.Atomic.{drops, is_below, is_seen, has_same_order, races}
-use Rattle.loom_views.specs.Graph.{raised, reaches, inside}
+use Rattle.loom_view_parts.specs.Records.{races}
+use Rattle.loom_views.specs.Atomic.{drops, is_below, is_seen, has_same_order}
+use Rattle.loom_view_parts.specs.Graph.{raised, reaches, inside}
 use Rattle.loom_views.specs.Slots.{number_in_slot}
 use Rattle.loom_runs.specs.Machine.{schedule}
 use Rattle.loom_runs.specs.Runs.{play}

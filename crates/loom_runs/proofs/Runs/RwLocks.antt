@@ -3,7 +3,7 @@ use Rattle.std.proofs.Common.{◌≡◌, ℕ, zero, suc, Bool, List, [], ◌∷�
 use Rattle.std.specs.Prelude.{◌-◌, ◌^◌, ◌||◌, true, false, not, cond, slice_get, nat_lt, is_none, is_some, ◌&&◌}
 use Rattle.std.specs.List.{list_all}
 use Rattle.std.proofs.Math.Dec.{eqb-suc-zero}
-use Rattle.loom_views.specs.declared.rt.failure.FailureKind.TheVariants.{Misuse, TooManySteps}
+use Rattle.loom_view_parts.specs.declared.rt.failure.FailureKind.TheVariants.{Misuse, TooManySteps}
 use Rattle.loom_objects.specs.declared.operation.RwLockOp.{RwLockOp}
 use Rattle.loom_objects.specs.declared.operation.RwLockOp.TheVariants as lock_op
 use Rattle.loom_objects.specs.declared.rt.sync.RwLock.{RwLock}

@@ -1,9 +1,9 @@
 -- The tables of the machine keep locks sound, and never fail because a path isn't met.
 use Rattle.std.proofs.Common.{◌≡◌, ◌≢◌, ℕ, Bool, List, [], ◌∷◌, Option, Some, None, refl, subst, sym}
 use Rattle.std.specs.Prelude.{◌-◌, true, false, if◌then◌else◌, slice_get, nat_lt, Result, Ok, Err, ⊤}
-use Rattle.loom_views.specs.declared.rt.failure.FailureKind.{FailureKind}
-use Rattle.loom_views.specs.declared.rt.failure.FailureKind.TheVariants.{LeakArc, LeakMessages, LeakTrack, Misuse, NotDeterministic, TooManySteps}
-use Rattle.loom_views.specs.declared.rt.atomic.Reader.TheVariants as reader
+use Rattle.loom_view_parts.specs.declared.rt.failure.FailureKind.{FailureKind}
+use Rattle.loom_view_parts.specs.declared.rt.failure.FailureKind.TheVariants.{LeakArc, LeakMessages, LeakTrack, Misuse, NotDeterministic, TooManySteps}
+use Rattle.loom_view_parts.specs.declared.rt.reader.Reader.TheVariants as reader
 use Rattle.loom_objects.specs.declared.operation.AtomicOp.{AtomicOp}
 use Rattle.loom_objects.specs.declared.operation.AtomicOp.TheVariants as atomic_op
 use Rattle.loom_objects.specs.declared.operation.Op.{Op}
@@ -42,7 +42,7 @@ use Rattle.loom_runs.proofs.Runs.Notifiers.{awaits_keeping, notifier_begins_keep
 use Rattle.loom_runs.proofs.Runs.Mutexes.{lock_telling, try_lock_telling, get_mut_opening, into_inner_opening, mutex_begins_entering}
 use Rattle.loom_runs.proofs.Runs.Condvars.{falls_asleep_keeping, relocks_keeping, wakes_keeping, condvar_begins_entering}
 use Rattle.loom_objects.specs.declared.rt.run.Resumed.{Resumed}
-use Rattle.loom_views.specs.declared.rt.atomic.Reader.{Reader}
+use Rattle.loom_view_parts.specs.declared.rt.reader.Reader.{Reader}
 use Rattle.loom_runs.proofs.Runs.Answering.{Answers, GoesQuietly, clones_waker_goes, drains_goes, drops_waker_goes, registers_goes, takes_waker_goes, wakes_by_goes}
 use Rattle.loom_runs.specs.Histories.{returned_by, opened_by}
 use Rattle.loom_objects.specs.Locks.{lock, mutex_get_mut, mutex_into_inner}

@@ -3,10 +3,10 @@ use Rattle.std.proofs.Common.{◌≡◌, ℕ, Bool, true, false, length, refl}
 use Rattle.std.specs.Prelude.{◌==◌, ◌++◌, ◌∷◌, [], nat_lt, Result, Ok, Err}
 use Rattle.loom_views.specs.Slots.{slot_set}
 use Rattle.loom_views.specs.Table.{readable_slots_of}
-use Rattle.loom_views.specs.declared.rt.atomic.Reader.{Reader}
-use Rattle.loom_views.specs.declared.rt.atomic.Reader.TheVariants as reader
-use Rattle.loom_views.specs.declared.rt.failure.FailureKind.{FailureKind}
-use Rattle.loom_views.specs.declared.rt.failure.FailureKind.TheVariants.{Misuse}
+use Rattle.loom_view_parts.specs.declared.rt.reader.Reader.{Reader}
+use Rattle.loom_view_parts.specs.declared.rt.reader.Reader.TheVariants as reader
+use Rattle.loom_view_parts.specs.declared.rt.failure.FailureKind.{FailureKind}
+use Rattle.loom_view_parts.specs.declared.rt.failure.FailureKind.TheVariants.{Misuse}
 use Rattle.loom_objects.specs.declared.operation.AtomicOp.{AtomicOp}
 use Rattle.loom_objects.specs.declared.operation.AtomicOp.TheVariants as atomic_op
 use Rattle.loom_objects.specs.declared.operation.Reply.{Reply}

@@ -1,7 +1,7 @@
 -- What threads do keeps locks sound.
 use Rattle.std.proofs.Common.{◌≡◌, ℕ, Bool, length, Option, Some, None, refl, subst, sym}
 use Rattle.std.specs.Prelude.{true, false, not, slice_get, nat_lt, is_none, ⊤}
-use Rattle.loom_views.specs.declared.rt.failure.FailureKind.TheVariants.{Misuse, TooManyThreads}
+use Rattle.loom_view_parts.specs.declared.rt.failure.FailureKind.TheVariants.{Misuse, TooManyThreads}
 use Rattle.loom_views.specs.Table.{points_after_spawn}
 use Rattle.loom_objects.specs.declared.operation.ThreadOp.{ThreadOp}
 use Rattle.loom_objects.specs.declared.operation.ThreadOp.TheVariants as thread_op

@@ -1,6 +1,6 @@
 -- What is done to tracked values keeps locks sound.
 use Rattle.std.proofs.Common.{ℕ}
-use Rattle.loom_views.specs.declared.rt.failure.FailureKind.TheVariants.{Misuse}
+use Rattle.loom_view_parts.specs.declared.rt.failure.FailureKind.TheVariants.{Misuse}
 use Rattle.loom_objects.specs.declared.operation.TrackOp.{TrackOp}
 use Rattle.loom_objects.specs.declared.operation.TrackOp.TheVariants as track_op
 use Rattle.loom_objects.specs.Lent.{value_in}

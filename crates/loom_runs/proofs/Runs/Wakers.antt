@@ -1,8 +1,8 @@
 -- What is done to wakers and to places for wakers keeps locks sound.
 use Rattle.std.proofs.Common.{◌≡◌, ℕ, Bool, length, Option, Some, None, refl}
 use Rattle.std.specs.Prelude.{◌==◌, ◌+◌, ◌-◌, true, false, is_none, is_some, nat_lt}
-use Rattle.loom_views.specs.declared.rt.failure.FailureKind.TheVariants.{Misuse, TooManySteps}
-use Rattle.loom_views.specs.Limits.{highest_count}
+use Rattle.loom_view_parts.specs.declared.rt.failure.FailureKind.TheVariants.{Misuse, TooManySteps}
+use Rattle.loom_view_parts.specs.Limits.{highest_count}
 use Rattle.loom_objects.specs.declared.operation.AtomicWakerOp.{AtomicWakerOp}
 use Rattle.loom_objects.specs.declared.operation.AtomicWakerOp.TheVariants as place_op
 use Rattle.loom_objects.specs.declared.operation.WakerOp.{WakerOp}

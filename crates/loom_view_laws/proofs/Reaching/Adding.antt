@@ -4,9 +4,9 @@ use Rattle.std.specs.Prelude.{slice_set}
 use Rattle.std.specs.List.{slice_get, AllByRecursion}
 use Rattle.std.proofs.lemmas.Bool.{cases_eq}
 use Rattle.std.proofs.lemmas.Option.{slice_get_within, slice_get_past}
-use Rattle.loom_views.specs.Graph.{Graph}
+use Rattle.loom_view_parts.specs.Graph.{Graph}
 use Rattle.loom_views.specs.Table.{Place, Points}
-use Rattle.loom_views.proofs.Counting.{all-weaker}
+use Rattle.loom_view_parts.proofs.Counting.{all-weaker}
 use Rattle.loom_views.proofs.Table.Lists.{get-set_same, get-set_other, get-append_same, get-append_other}
 use Rattle.loom_view_laws.specs.Reaching.{Extends, is_raising, reads_of, writes_of, loads_of, stored_of}
 use Rattle.loom_view_laws.proofs.Reaching.Raising.{extends-itself, extends-joined, raising-extends}

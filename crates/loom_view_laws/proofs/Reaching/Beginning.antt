@@ -4,14 +4,16 @@ use Rattle.std.specs.Prelude.{IfOk, nat_lt, if◌then◌else◌, slice_set}
 use Rattle.std.specs.List.{slice_get, list_any}
 use Rattle.std.specs.declared.sync.atomic.Ordering.{Ordering}
 use Rattle.std.proofs.lemmas.Option.{slice_get_within}
-use Rattle.loom_views.specs.declared.rt.failure.FailureKind.{FailureKind}
-use Rattle.loom_views.specs.declared.rt.failure.FailureKind.TheVariants.{Race, OpenAccess, TooManyStores}
-use Rattle.loom_views.specs.Graph.{Graph}
-use Rattle.loom_views.specs.Threads.{ThreadPoints, with_present, graph_after_raise}
-use Rattle.loom_views.specs.Atomic.{Scene, Answer, History, races, conflicts, with_room, in_slot, load_step, store_step, update_read_step, update_write_step, scene_read, scene_loaded, scene_made, scene_recorded_load, scene_recorded_store}
-use Rattle.loom_views.specs.Cells.{Accesses, read_step, write_step}
+use Rattle.loom_view_parts.specs.declared.rt.failure.FailureKind.{FailureKind}
+use Rattle.loom_view_parts.specs.declared.rt.failure.FailureKind.TheVariants.{Race, OpenAccess, TooManyStores}
+use Rattle.loom_view_parts.specs.Graph.{Graph}
+use Rattle.loom_view_parts.specs.Threads.{ThreadPoints, with_present, graph_after_raise}
+use Rattle.loom_view_parts.specs.Records.{races}
+use Rattle.loom_views.specs.Atomic.{Scene, Answer, History, conflicts, with_room, in_slot, load_step, store_step, update_read_step, update_write_step, scene_read, scene_loaded, scene_made, scene_recorded_load, scene_recorded_store}
+use Rattle.loom_view_parts.specs.Cells.{Accesses, read_step, write_step}
 use Rattle.loom_views.specs.Table.{Place, Meets, Keeps, Records, Points, Accessed, with_thread, scene_of, points_of, accessed, access_by, recorded, record_by, points_after_load, points_after_store, points_after_update_read, points_after_update_write, points_after_read, points_after_write}
-use Rattle.loom_views.proofs.Growth.{GrownBy, grown-joined, scene_read-grown, scene_loaded-grown, scene_made-grown}
+use Rattle.loom_view_parts.proofs.Growth.{GrownBy, grown-joined}
+use Rattle.loom_views.proofs.Growth.{scene_read-grown, scene_loaded-grown, scene_made-grown}
 use Rattle.loom_views.proofs.Table.Lists.{get-set_same}
 use Rattle.loom_view_laws.specs.Reaching.{BeginningLaw, BeginsRaising, RecordsRaising, is_raising, reads_of, writes_of, loads_of, stored_of}
 use Rattle.loom_view_laws.proofs.Reaching.Raising.{raise-leads, raising-extends, extends-grown, new-raises}

@@ -1,7 +1,7 @@
 -- The end of a read that doesn't reach a later write, by computation over the definitions.
 use Rattle.std.proofs.Common.{refl}
-use Rattle.loom_views.specs.Graph.{reaches, raised, inside}
-use Rattle.loom_views.specs.Atomic.{races}
+use Rattle.loom_view_parts.specs.Graph.{reaches, raised, inside}
+use Rattle.loom_view_parts.specs.Records.{races}
 use Rattle.loom_view_laws.specs.Ends.{beside_an_end, EndLaw}
 
 pub end_law : EndLaw

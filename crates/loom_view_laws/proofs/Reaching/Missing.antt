@@ -1,7 +1,7 @@
 -- An access of a cell races just where a recorded point hasn't come to the present one.
 use Rattle.std.proofs.Common.{◌≡◌, ℕ, List, sym, ◌∙◌, refl, ⊎_elim, inl, inr}
 use Rattle.std.proofs.lemmas.Bool.{cases_Bool}
-use Rattle.loom_views.specs.Graph.{Graph, inside}
+use Rattle.loom_view_parts.specs.Graph.{Graph, inside}
 use Rattle.loom_view_laws.specs.Laws.{HasOutside}
 use Rattle.loom_view_laws.specs.Reaching.{UnreachedLaw, HasMissing, is_raising, has_come}
 use Rattle.loom_view_laws.proofs.Reaching.Raising.{extends-itself, staying_law}

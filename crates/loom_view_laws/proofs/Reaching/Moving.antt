@@ -6,15 +6,16 @@ use Rattle.std.specs.declared.sync.atomic.Ordering.{Ordering}
 use Rattle.std.specs.declared.sync.atomic.Ordering.TheVariants.{Relaxed, Release, Acquire, AcqRel, SeqCst}
 use Rattle.std.proofs.lemmas.List.{length-set}
 use Rattle.std.proofs.lemmas.Option.{slice_get_within}
-use Rattle.loom_views.specs.declared.rt.failure.FailureKind.{FailureKind}
-use Rattle.loom_views.specs.declared.rt.failure.FailureKind.TheVariants.{Race, TooManyThreads, TooManyVersions}
-use Rattle.loom_views.specs.Graph.{Graph, raised}
-use Rattle.loom_views.specs.Threads.{ThreadPoints, with_present, graph_after_raise, graph_after_acquire, graph_after_release_fence, graph_after_store, graph_after_spawn, graph_with_child, child_points, parent_points}
+use Rattle.loom_view_parts.specs.declared.rt.failure.FailureKind.{FailureKind}
+use Rattle.loom_view_parts.specs.declared.rt.failure.FailureKind.TheVariants.{Race, TooManyThreads, TooManyVersions}
+use Rattle.loom_view_parts.specs.Graph.{Graph, raised}
+use Rattle.loom_view_parts.specs.Threads.{ThreadPoints, with_present, graph_after_raise, graph_after_acquire, graph_after_release_fence, graph_after_store, graph_after_spawn, graph_with_child, child_points, parent_points}
 use Rattle.loom_views.specs.Fences.{Standing, after_stores}
 use Rattle.loom_views.specs.Atomic.{Scene, Answer, History, new_history, in_slot, load_step, store_step, update_read_step, update_write_step, unsync_load_step, mutate_step, mutate_end_step, scene_read, scene_loaded, scene_made, scene_recorded_load, scene_recorded_store, scene_recorded_mutation, with_newest}
-use Rattle.loom_views.specs.Cells.{Accesses, read_step, write_step}
+use Rattle.loom_view_parts.specs.Cells.{Accesses, read_step, write_step}
 use Rattle.loom_views.specs.Table.{Place, Meets, Keeps, Records, Points, Accessed, stores_at, with_thread, with_place, scene_of, points_of, accessed, access, access_by, recorded, record_by, acquire_by, release_by, stamp_by, stamp_release_by, stamp_acquire_by, fence_by, yield_by, spawn_by, join_by, add_atomic_by, add_cell_by, update_fail_by, acquire_fence_by, meet_by, points_after_raise, points_after_fence, points_after_acquire_fence, points_after_release_fence, points_after_load, points_after_store, points_after_update_read, points_after_update_write, points_after_unsync_load, points_after_with_mut, points_after_with_mut_end, points_after_read, points_after_write, points_after_spawn}
-use Rattle.loom_views.proofs.Growth.{GrownBy, same, quiet, raising, grown-joined, scene_read-grown, scene_loaded-grown, scene_made-grown}
+use Rattle.loom_view_parts.proofs.Growth.{GrownBy, same, quiet, raising, grown-joined}
+use Rattle.loom_views.proofs.Growth.{scene_read-grown, scene_loaded-grown, scene_made-grown}
 use Rattle.loom_views.proofs.Table.Lists.{get-set_same}
 use Rattle.loom_views.proofs.Table.Fences.{after_stores-grown}
 use Rattle.loom_view_laws.specs.Moves.{Moves, Leads, acquire, release, join, yielding, spawn, fence, new_point, new_stamp, stamp, release_to_stamp, acquire_from_stamp, new_atomic, load, store, update, update_fail, unsync_load, with_mut, with_mut_end, new_cell, begin_read, end_read, begin_write, end_write, none, later}

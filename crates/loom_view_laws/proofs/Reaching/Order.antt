@@ -4,12 +4,13 @@ use Rattle.std.specs.Prelude.{IfOk, ◌↔◌, ◌⊎◌, ◌==◌, if◌then◌
 use Rattle.std.specs.List.{slice_get, list_any, AllByRecursion}
 use Rattle.std.proofs.lemmas.Bool.{cases_Bool, eqb-true, true≢false, false≢true, or_cases, or_left, or_right}
 use Rattle.std.proofs.lemmas.List.Folds.{Any-from_list_any, list_any-from_Any, list_any-append}
-use Rattle.loom_views.specs.declared.rt.failure.FailureKind.{FailureKind}
-use Rattle.loom_views.specs.declared.rt.failure.FailureKind.TheVariants.{Race, OpenAccess}
-use Rattle.loom_views.specs.Graph.{Graph, is_among, inside, reaches}
-use Rattle.loom_views.specs.Threads.{ThreadPoints}
-use Rattle.loom_views.specs.Atomic.{Answer, History, Scene, races, conflicts, unsync_load_step, mutate_step, mutate_end_step, scene_recorded_mutation, with_newest}
-use Rattle.loom_views.specs.Cells.{Accesses, read_step, write_step}
+use Rattle.loom_view_parts.specs.declared.rt.failure.FailureKind.{FailureKind}
+use Rattle.loom_view_parts.specs.declared.rt.failure.FailureKind.TheVariants.{Race, OpenAccess}
+use Rattle.loom_view_parts.specs.Graph.{Graph, is_among, inside, reaches}
+use Rattle.loom_view_parts.specs.Threads.{ThreadPoints}
+use Rattle.loom_view_parts.specs.Records.{races}
+use Rattle.loom_views.specs.Atomic.{Answer, History, Scene, conflicts, unsync_load_step, mutate_step, mutate_end_step, scene_recorded_mutation, with_newest}
+use Rattle.loom_view_parts.specs.Cells.{Accesses, read_step, write_step}
 use Rattle.loom_views.specs.Table.{Place, Meets, Keeps, Records, Points, opening, scene_of, access, access_by, accessed, recorded, record_by, points_after_read, points_after_write, points_after_unsync_load, points_after_with_mut, points_after_with_mut_end}
 use Rattle.loom_view_laws.specs.Laws.{HasOutside}
 use Rattle.loom_view_laws.specs.Moves.{Leads, AddingLaw, RecordedLaw, HasUnreached, BesideLaw, ReachesIfPassed, OrderLaw}

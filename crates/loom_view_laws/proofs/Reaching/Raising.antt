@@ -4,14 +4,14 @@ use Rattle.std.specs.Prelude.{◌==◌, nat_lt, if◌then◌else◌}
 use Rattle.std.specs.List.{slice_get, list_any}
 use Rattle.std.proofs.lemmas.Bool.{cases_Bool, eqb-true, eq-eqb, false≢true, or_left, or_right, or_cases}
 use Rattle.std.proofs.lemmas.Option.{slice_get_within}
-use Rattle.loom_views.specs.declared.rt.failure.FailureKind.{FailureKind}
-use Rattle.loom_views.specs.declared.rt.failure.FailureKind.TheVariants.{TooManyVersions}
-use Rattle.loom_views.specs.Graph.{Point, Graph, threads, is_among, raises_version, raised, moved_raising}
-use Rattle.loom_views.specs.Threads.{ThreadPoints, with_present, graph_after_raise}
+use Rattle.loom_view_parts.specs.declared.rt.failure.FailureKind.{FailureKind}
+use Rattle.loom_view_parts.specs.declared.rt.failure.FailureKind.TheVariants.{TooManyVersions}
+use Rattle.loom_view_parts.specs.Graph.{Point, Graph, threads, is_among, raises_version, raised, moved_raising}
+use Rattle.loom_view_parts.specs.Threads.{ThreadPoints, with_present, graph_after_raise}
 use Rattle.loom_views.specs.Table.{Points, with_thread, raise_by, points_after_raise}
-use Rattle.loom_views.proofs.Reaching.{list_any-mono}
-use Rattle.loom_views.proofs.Views.{raised-yes, raised-no, raising-inside}
-use Rattle.loom_views.proofs.Growth.{GrownBy, same, quiet, raising}
+use Rattle.loom_view_parts.proofs.Reaching.{list_any-mono}
+use Rattle.loom_view_parts.proofs.Views.{raised-yes, raised-no, raising-inside}
+use Rattle.loom_view_parts.proofs.Growth.{GrownBy, same, quiet, raising}
 use Rattle.loom_view_laws.specs.Reaching.{Extends, StayingLaw, is_raising}
 
 -- a graph that grew is the old one with points in front

@@ -4,12 +4,12 @@ use Rattle.std.specs.Prelude.{IfOk, length, nat_le, nat_lt, if◌then◌else◌}
 use Rattle.std.specs.List.{slice_get}
 use Rattle.std.specs.declared.sync.atomic.Ordering.{Ordering}
 use Rattle.std.specs.declared.sync.atomic.Ordering.TheVariants.{Relaxed, Release, Acquire, AcqRel, SeqCst}
-use Rattle.loom_views.specs.declared.rt.failure.FailureKind.{FailureKind}
-use Rattle.loom_views.specs.declared.rt.failure.FailureKind.TheVariants.{TooManyThreads, TooManyVersions}
-use Rattle.loom_views.specs.Graph.{Graph, raised}
-use Rattle.loom_views.specs.Threads.{ThreadPoints}
+use Rattle.loom_view_parts.specs.declared.rt.failure.FailureKind.{FailureKind}
+use Rattle.loom_view_parts.specs.declared.rt.failure.FailureKind.TheVariants.{TooManyThreads, TooManyVersions}
+use Rattle.loom_view_parts.specs.Graph.{Graph, raised}
+use Rattle.loom_view_parts.specs.Threads.{ThreadPoints}
 use Rattle.loom_views.specs.Atomic.{Scene, Answer, load_step, store_step, update_read_step, update_write_step, unsync_load_step, mutate_step, mutate_end_step}
-use Rattle.loom_views.specs.Cells.{Accesses, read_step, write_step}
+use Rattle.loom_view_parts.specs.Cells.{Accesses, read_step, write_step}
 use Rattle.loom_views.specs.Table.{Place, Meets, Keeps, Records, Points, add_cell_by, recorded, record_by, accessed, access, access_by, scene_of, raise_by, acquire_by, release_by, stamp_by, stamp_release_by, stamp_acquire_by, fence_by, yield_by, spawn_by, join_by, add_atomic_by, update_fail_by, acquire_fence_by, points_after_fence, points_after_acquire_fence}
 use Rattle.loom_view_laws.specs.Laws.{IsGlobalKept, GlobalLaw}
 

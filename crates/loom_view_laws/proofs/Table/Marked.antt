@@ -4,10 +4,11 @@ use Rattle.std.specs.Prelude.{nat_lt, if◌then◌else◌}
 use Rattle.std.specs.List.{slice_get, list_any}
 use Rattle.std.specs.declared.sync.atomic.Ordering.TheVariants.{AcqRel, SeqCst}
 use Rattle.std.proofs.lemmas.Option.{slice_get_within}
-use Rattle.loom_views.specs.declared.rt.failure.FailureKind.{FailureKind}
-use Rattle.loom_views.specs.declared.rt.failure.FailureKind.TheVariants.{Race, OpenAccess, TooManyStores}
-use Rattle.loom_views.specs.Threads.{ThreadPoints}
-use Rattle.loom_views.specs.Atomic.{Scene, Answer, StorePoints, blank, in_slot, races, scene_loaded, scene_made, scene_recorded_store, store_step, update_write_step}
+use Rattle.loom_view_parts.specs.declared.rt.failure.FailureKind.{FailureKind}
+use Rattle.loom_view_parts.specs.declared.rt.failure.FailureKind.TheVariants.{Race, OpenAccess, TooManyStores}
+use Rattle.loom_view_parts.specs.Threads.{ThreadPoints}
+use Rattle.loom_view_parts.specs.Records.{races}
+use Rattle.loom_views.specs.Atomic.{Scene, Answer, StorePoints, blank, in_slot, scene_loaded, scene_made, scene_recorded_store, store_step, update_write_step}
 use Rattle.loom_views.specs.Table.{Place, Meets, Keeps, Records, Points, Accessed, scene_of, accessed, access, access_by}
 use Rattle.loom_view_laws.specs.Laws.{newest_marked, marked, MovesAsAcqRel}
 use Rattle.loom_views.proofs.Table.Lists.{get-set_same}

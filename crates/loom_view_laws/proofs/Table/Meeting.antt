@@ -5,13 +5,13 @@ use Rattle.std.specs.List.{slice_get, flat_map}
 use Rattle.std.proofs.lemmas.Bool.{or_left, or_right}
 use Rattle.std.proofs.lemmas.List.{length-set}
 use Rattle.std.proofs.lemmas.Option.{slice_get-get_or}
-use Rattle.loom_views.specs.Graph.{Point, reaches}
-use Rattle.loom_views.specs.Threads.{ThreadPoints, with_present, graph_after_release_fence, child_points}
+use Rattle.loom_view_parts.specs.Graph.{Point, reaches}
+use Rattle.loom_view_parts.specs.Threads.{ThreadPoints, with_present, graph_after_release_fence, child_points}
 use Rattle.loom_views.specs.Fences.{Standing, after_stores}
 use Rattle.loom_views.specs.Table.{Points, with_thread, stores_at, points_after_meet_global}
 use Rattle.loom_view_laws.specs.Laws.{MeetsGlobal, FencingLaw}
-use Rattle.loom_views.proofs.Reaching.{reaches-new, reaches-old, reaches-itself}
-use Rattle.loom_views.proofs.Growth.{quiet, shows-grown}
+use Rattle.loom_view_parts.proofs.Reaching.{reaches-new, reaches-old, reaches-itself}
+use Rattle.loom_view_parts.proofs.Growth.{quiet, shows-grown}
 use Rattle.loom_views.proofs.Table.Lists.{get-set_same}
 use Rattle.loom_views.proofs.Table.Fences.{after_stores-grown}
 

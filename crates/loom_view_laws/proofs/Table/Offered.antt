@@ -2,14 +2,15 @@
 use Rattle.std.proofs.Common.{◌≡◌, ◌≢◌, ℕ, ◌<◌, Bool, true, false, List, [], ◌∷◌, length, refl, Option, Some, None, Result, Ok, Err}
 use Rattle.std.specs.Prelude.{if◌then◌else◌}
 use Rattle.std.specs.List.{slice_get, list_any}
-use Rattle.loom_views.specs.declared.rt.failure.FailureKind.{FailureKind}
-use Rattle.loom_views.specs.declared.rt.failure.FailureKind.TheVariants.{OrdersEqual, Race, OpenAccess}
+use Rattle.loom_view_parts.specs.declared.rt.failure.FailureKind.{FailureKind}
+use Rattle.loom_view_parts.specs.declared.rt.failure.FailureKind.TheVariants.{OrdersEqual, Race, OpenAccess}
 use Rattle.loom_views.specs.declared.rt.table.Kept.{Kept}
 use Rattle.loom_views.specs.declared.rt.table.Kept.TheVariants.{Point, Atomic, Cell}
 use Rattle.loom_views.specs.declared.rt.table.Views.{Views}
 use Rattle.loom_views.specs.Slots.{number_in_slot}
-use Rattle.loom_views.specs.Threads.{ThreadPoints}
-use Rattle.loom_views.specs.Atomic.{History, Answer, Scene, conflicts, load_step, update_read_step, readable, fails_by_orders, races}
+use Rattle.loom_view_parts.specs.Threads.{ThreadPoints}
+use Rattle.loom_view_parts.specs.Records.{races}
+use Rattle.loom_views.specs.Atomic.{History, Answer, Scene, conflicts, load_step, update_read_step, readable, fails_by_orders}
 use Rattle.loom_views.specs.Table.{Place, Meets, Keeps, Records, Points, Accessed, ShowsPlaceAt, ShowsViews, IsSlotKept, scene_of, accessed, access_by, readable_by}
 use Rattle.loom_view_laws.specs.Laws.{OfferingLaw, LoadingLaw, UpdatingLaw, ReadsOneOfTheLast}
 use Rattle.loom_views.proofs.SlotNumbers.{number-bound, number-late}

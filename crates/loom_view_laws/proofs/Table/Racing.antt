@@ -3,10 +3,10 @@ use Rattle.std.proofs.Common.{◌≡◌, ℕ, Bool, true, false, not, ◌||◌, 
 use Rattle.std.specs.Prelude.{◌↔◌, ◌⊎◌, if◌then◌else◌}
 use Rattle.std.proofs.lemmas.Bool.{or_cases, or_left, or_right, false≢true}
 use Rattle.std.proofs.lemmas.List.Folds.{Any-from_list_any, list_any-from_Any}
-use Rattle.loom_views.specs.declared.rt.failure.FailureKind.TheVariants.{Race}
-use Rattle.loom_views.specs.Graph.{Graph, inside}
-use Rattle.loom_views.specs.Atomic.{races}
-use Rattle.loom_views.specs.Cells.{Accesses}
+use Rattle.loom_view_parts.specs.declared.rt.failure.FailureKind.TheVariants.{Race}
+use Rattle.loom_view_parts.specs.Graph.{Graph, inside}
+use Rattle.loom_view_parts.specs.Records.{races}
+use Rattle.loom_view_parts.specs.Cells.{Accesses}
 use Rattle.loom_views.specs.Table.{Points, recorded}
 use Rattle.loom_view_laws.specs.Laws.{HasOutside, RacingLaw}
 

@@ -2,12 +2,13 @@
 use Rattle.std.proofs.Common.{◌≡◌, ℕ, List, [], ◌∷◌, refl, Result, Ok, Err}
 use Rattle.std.specs.declared.sync.atomic.Ordering.{Ordering}
 use Rattle.std.specs.declared.sync.atomic.Ordering.TheVariants.{Relaxed, Release, AcqRel, SeqCst}
-use Rattle.loom_views.specs.declared.rt.atomic.Reader.TheVariants.{Load}
-use Rattle.loom_views.specs.declared.rt.failure.FailureKind.{FailureKind}
-use Rattle.loom_views.specs.declared.rt.failure.FailureKind.TheVariants.{Misuse}
-use Rattle.loom_views.specs.Graph.{reaches, raised, inside}
+use Rattle.loom_view_parts.specs.declared.rt.reader.Reader.TheVariants.{Load}
+use Rattle.loom_view_parts.specs.declared.rt.failure.FailureKind.{FailureKind}
+use Rattle.loom_view_parts.specs.declared.rt.failure.FailureKind.TheVariants.{Misuse}
+use Rattle.loom_view_parts.specs.Graph.{reaches, raised, inside}
 use Rattle.loom_views.specs.Slots.{number_in_slot}
-use Rattle.loom_views.specs.Atomic.{races, has_same_order, drops, is_below, is_seen}
+use Rattle.loom_view_parts.specs.Records.{races}
+use Rattle.loom_views.specs.Atomic.{has_same_order, drops, is_below, is_seen}
 use Rattle.loom_views.specs.Table.{Points, opening, points_after_raise, points_after_acquire, points_after_release, points_with_point, points_after_spawn, points_with_atomic, points_after_load, points_after_store, points_after_fence, readable_slots_of}
 
 abbrev then : {A B : Type 0} → Result A FailureKind → (A → Result B FailureKind) → Result B FailureKind

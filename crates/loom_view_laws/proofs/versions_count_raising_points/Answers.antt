@@ -1,4 +1,4 @@
-use Rattle.loom_views.proofs.Counted.{counted-is}
+use Rattle.loom_view_parts.proofs.Counted.{counted-is}
 use Rattle.loom_view_laws.proofs.versions_count_raising_points.Goals as goal
 
 pub returns : goal.returns

@@ -7,21 +7,22 @@ use Rattle.std.specs.declared.sync.atomic.Ordering.TheVariants.{Release}
 use Rattle.std.proofs.lemmas.Bool.{or_cases, eqb-true, false≢true}
 use Rattle.std.proofs.lemmas.List.{length-set, set-get_or}
 use Rattle.std.proofs.lemmas.Option.{slice_get_within}
-use Rattle.loom_views.specs.declared.rt.atomic.Reader.{Reader}
+use Rattle.loom_view_parts.specs.declared.rt.reader.Reader.{Reader}
 use Rattle.loom_views.specs.declared.rt.atomic.State.{State}
-use Rattle.loom_views.specs.declared.rt.failure.FailureKind.{FailureKind}
-use Rattle.loom_views.specs.declared.rt.failure.FailureKind.TheVariants.{OrdersEqual, Race, OpenAccess, TooManyStores}
-use Rattle.loom_views.specs.declared.rt.synchronize.ThreadViews.{ThreadViews}
+use Rattle.loom_view_parts.specs.declared.rt.failure.FailureKind.{FailureKind}
+use Rattle.loom_view_parts.specs.declared.rt.failure.FailureKind.TheVariants.{OrdersEqual, Race, OpenAccess, TooManyStores}
+use Rattle.loom_view_parts.specs.declared.rt.synchronize.ThreadViews.{ThreadViews}
 use Rattle.loom_views.specs.declared.rt.table.Kept.TheVariants.{Atomic}
 use Rattle.loom_views.specs.declared.rt.table.Views.{Views}
-use Rattle.loom_views.specs.Graph.{Graph, IsChained, IsPresent}
-use Rattle.loom_views.specs.Threads.{ThreadPoints, ShowsThread}
+use Rattle.loom_view_parts.specs.Graph.{Graph, IsChained, IsPresent}
+use Rattle.loom_view_parts.specs.Threads.{ThreadPoints, ShowsThread}
 use Rattle.loom_views.specs.Atomic.{History, Scene, Answer, in_slot, races, new_history, new_step, conflicts, load_step, store_step, readable, fails_by_orders, drops_in_slot, scene_read, scene_loaded, scene_made, scene_recorded_load, scene_recorded_store, StorePoints, touch}
 use Rattle.loom_views.specs.Shown.{ShowsScene, AnswersAs, FinishesAs}
 use Rattle.loom_views.specs.Table.{Place, Meets, Keeps, Records, has_slot, readable_by, Points, ShowsViews, LoadsAs, StoresAs, OffersAs, IsSlotKept, scene_of, points_of, accessed, slot_set, points_with_atomic, points_after_load, points_after_store, readable_slots_of}
 use Rattle.loom_views.specs.Slots.{number_in_slot}
 use Rattle.loom_views.proofs.Choices.{readable-bounds}
-use Rattle.loom_views.proofs.Growth.{GrownBy, shows-grown, grown-joined, scene_read-grown, scene_loaded-grown, scene_made-grown}
+use Rattle.loom_view_parts.proofs.Growth.{GrownBy, shows-grown, grown-joined}
+use Rattle.loom_views.proofs.Growth.{scene_read-grown, scene_loaded-grown, scene_made-grown}
 use Rattle.loom_views.proofs.Table.Carried.{Found, found, FoundAtomic, found_atomic, threads-set, places-set, places-grown, stamps-grown, place-added}
 
 -- what holds of the scene that an access leads to, if it leads to one

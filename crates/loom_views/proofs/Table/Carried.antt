@@ -6,20 +6,21 @@ use Rattle.std.proofs.lemmas.Bool.{cases_eq, ne_eqb}
 use Rattle.std.proofs.lemmas.List.{length-set, length-append}
 use Rattle.std.proofs.lemmas.Option.{slice_get-get_or}
 use Rattle.loom_views.specs.declared.rt.atomic.State.{State}
-use Rattle.loom_views.specs.declared.rt.cell.AccessRecords.{AccessRecords}
-use Rattle.loom_views.specs.declared.rt.synchronize.ThreadViews.{ThreadViews}
+use Rattle.loom_view_parts.specs.declared.rt.cell.AccessRecords.{AccessRecords}
+use Rattle.loom_view_parts.specs.declared.rt.synchronize.ThreadViews.{ThreadViews}
 use Rattle.loom_views.specs.declared.rt.table.Kept.{Kept}
 use Rattle.loom_views.specs.declared.rt.table.Kept.TheVariants.{Point, Atomic, Cell}
 use Rattle.loom_views.specs.declared.rt.table.Views.{Views}
-use Rattle.loom_views.specs.Graph.{Graph, raised, Shows, IsChained, IsPresent}
-use Rattle.loom_views.specs.Threads.{ThreadPoints, ShowsThread, child_points}
+use Rattle.loom_view_parts.specs.Graph.{Graph, raised, Shows, IsChained, IsPresent}
+use Rattle.loom_view_parts.specs.Threads.{ThreadPoints, ShowsThread, child_points}
 use Rattle.loom_views.specs.Atomic.{History}
-use Rattle.loom_views.specs.Cells.{Accesses, ShowsAccesses}
+use Rattle.loom_view_parts.specs.Cells.{Accesses, ShowsAccesses}
 use Rattle.loom_views.specs.Shown.{ShowsState}
 use Rattle.loom_views.specs.Table.{Place, Meets, Keeps, Records, Points, with_thread, with_place, with_new_place, ShowsThreadAt, ShowsThreads, ShowsPlace, ShowsPlaceAt, ShowsPlaces, ShowsStampAt, ShowsStamps, ShowsViews}
-use Rattle.loom_views.proofs.Views.{raised-no}
-use Rattle.loom_views.proofs.Cells.{accesses-grown}
-use Rattle.loom_views.proofs.Growth.{GrownBy, same, quiet, raising, shows-grown, thread-grown, state-grown, present-grown}
+use Rattle.loom_view_parts.proofs.Views.{raised-no}
+use Rattle.loom_view_parts.proofs.Cells.{accesses-grown}
+use Rattle.loom_view_parts.proofs.Growth.{GrownBy, same, quiet, raising, shows-grown, thread-grown, present-grown}
+use Rattle.loom_views.proofs.Growth.{state-grown}
 use Rattle.loom_views.proofs.Table.Lists.{get-set_same, get-set_other, get-append_same, get-append_other}
 
 -- another thread that has raised nothing has still raised nothing

@@ -3,16 +3,16 @@ use Rattle.std.proofs.Common.{◌≡◌, ℕ, ◌<◌, List, [], ◌∷◌, ◌+
 use Rattle.std.specs.Prelude.{OnErr}
 use Rattle.std.specs.List.{slice_get}
 use Rattle.std.proofs.lemmas.Option.{slice_get_within}
-use Rattle.loom_views.specs.declared.rt.cell.AccessRecords.{AccessRecords}
-use Rattle.loom_views.specs.declared.rt.failure.FailureKind.{FailureKind}
-use Rattle.loom_views.specs.declared.rt.synchronize.ThreadViews.{ThreadViews}
+use Rattle.loom_view_parts.specs.declared.rt.cell.AccessRecords.{AccessRecords}
+use Rattle.loom_view_parts.specs.declared.rt.failure.FailureKind.{FailureKind}
+use Rattle.loom_view_parts.specs.declared.rt.synchronize.ThreadViews.{ThreadViews}
 use Rattle.loom_views.specs.declared.rt.table.Kept.{Kept}
 use Rattle.loom_views.specs.declared.rt.table.Kept.TheVariants.{Cell}
 use Rattle.loom_views.specs.declared.rt.table.Views.{Views}
-use Rattle.loom_views.specs.Graph.{Graph, Shows, IsChained}
-use Rattle.loom_views.specs.Cells.{Accesses, new_accesses, ShowsAccesses, RecordsAs}
+use Rattle.loom_view_parts.specs.Graph.{Graph, Shows, IsChained}
+use Rattle.loom_view_parts.specs.Cells.{Accesses, new_accesses, ShowsAccesses, RecordsAs}
 use Rattle.loom_views.specs.Table.{Records, Points, ShowsViews, MovesAs, record_by, recorded, points_with_cell}
-use Rattle.loom_views.proofs.Growth.{same}
+use Rattle.loom_view_parts.proofs.Growth.{same}
 use Rattle.loom_views.proofs.Table.Lists.{set-same}
 use Rattle.loom_views.proofs.Table.Carried.{found, found_cell, place-stepped, place-added}
 

@@ -6,19 +6,20 @@ use Rattle.std.proofs.lemmas.List.{take_more, take_all}
 use Rattle.std.proofs.lemmas.List.Concat.{flat_map-append}
 use Rattle.std.proofs.lemmas.Option.{slice_get_within, get_or_from_slice_get}
 use Rattle.loom_views.specs.declared.rt.atomic.State.{State}
-use Rattle.loom_views.specs.declared.rt.synchronize.ThreadViews.{ThreadViews}
+use Rattle.loom_view_parts.specs.declared.rt.synchronize.ThreadViews.{ThreadViews}
 use Rattle.loom_views.specs.declared.rt.table.Kept.{Kept}
 use Rattle.loom_views.specs.declared.rt.table.Kept.TheVariants.{Atomic}
 use Rattle.loom_views.specs.declared.rt.table.Views.{Views}
-use Rattle.loom_views.specs.Graph.{Graph, Shows, IsChained, IsPresent}
-use Rattle.loom_views.specs.Threads.{ThreadPoints, ShowsThread, with_present, graph_after_acquire}
-use Rattle.loom_views.specs.Versions.{join}
+use Rattle.loom_view_parts.specs.Graph.{Graph, Shows, IsChained, IsPresent}
+use Rattle.loom_view_parts.specs.Threads.{ThreadPoints, ShowsThread, with_present, graph_after_acquire}
+use Rattle.loom_view_parts.specs.Versions.{join}
 use Rattle.loom_views.specs.Atomic.{StorePoints, Scene, is_seen}
 use Rattle.loom_views.specs.Fences.{Standing, after_store, after_stores, acquire_fence_step}
 use Rattle.loom_views.specs.Shown.{ShowsScene}
 use Rattle.loom_views.specs.Table.{Place, Keeps, Points, ShowsPlaces, ShowsViews, stores_at, points_after_acquire_fence, points_after_meet_global}
-use Rattle.loom_views.proofs.Views.{chained-moved, present-new, shows-joined}
-use Rattle.loom_views.proofs.Growth.{GrownBy, same, quiet, grown-joined, state-grown}
+use Rattle.loom_view_parts.proofs.Views.{chained-moved, present-new, shows-joined}
+use Rattle.loom_view_parts.proofs.Growth.{GrownBy, same, quiet, grown-joined}
+use Rattle.loom_views.proofs.Growth.{state-grown}
 use Rattle.loom_views.proofs.Fences.{after_stores-append}
 use Rattle.loom_views.proofs.Table.Carried.{found, found_atomic, thread-stepped, global-stepped}
 use Rattle.loom_views.proofs.Table.Others.{other, other-stored}

@@ -4,9 +4,9 @@ use Rattle.std.specs.Prelude.{if◌then◌else◌}
 use Rattle.std.specs.List.{slice_get, list_any}
 use Rattle.std.proofs.lemmas.List.{length-set}
 use Rattle.std.proofs.lemmas.Option.{slice_get_within}
-use Rattle.loom_views.specs.declared.rt.failure.FailureKind.TheVariants.{Race, OpenAccess}
+use Rattle.loom_view_parts.specs.declared.rt.failure.FailureKind.TheVariants.{Race, OpenAccess}
 use Rattle.loom_views.specs.Slots.{number_in_slot}
-use Rattle.loom_views.specs.Threads.{ThreadPoints}
+use Rattle.loom_view_parts.specs.Threads.{ThreadPoints}
 use Rattle.loom_views.specs.Atomic.{Scene, Answer, StorePoints, History, in_slot, touch, races, conflicts, scene_read, scene_recorded_load, update_read_step}
 use Rattle.loom_views.specs.Table.{Place, Meets, Keeps, Records, Points, Accessed, IsSlotKept, has_slot, slot_set, scene_of, points_of, accessed, access_by}
 use Rattle.loom_views.specs.Kept.{KeepingLaw, SlotsStayLaw}

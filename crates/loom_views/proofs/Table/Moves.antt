@@ -5,16 +5,16 @@ use Rattle.std.specs.List.{slice_get}
 use Rattle.std.specs.declared.sync.atomic.Ordering.{Ordering}
 use Rattle.std.proofs.lemmas.Bool.{lt-ltb}
 use Rattle.std.proofs.lemmas.Option.{slice_get_within, slice_get_past}
-use Rattle.loom_views.specs.declared.rt.synchronize.ThreadViews.{ThreadViews}
+use Rattle.loom_view_parts.specs.declared.rt.synchronize.ThreadViews.{ThreadViews}
 use Rattle.loom_views.specs.declared.rt.table.Kept.TheVariants.{Point}
 use Rattle.loom_views.specs.declared.rt.table.Views.{Views}
-use Rattle.loom_views.specs.Graph.{Graph, Shows, version, raised, IsChained, IsPresent}
-use Rattle.loom_views.specs.Threads.{ThreadPoints, ShowsThread, with_present, graph_after_raise, graph_after_acquire, graph_after_release_fence, graph_after_store}
-use Rattle.loom_views.specs.Versions.{zeros}
+use Rattle.loom_view_parts.specs.Graph.{Graph, Shows, version, raised, IsChained, IsPresent}
+use Rattle.loom_view_parts.specs.Threads.{ThreadPoints, ShowsThread, with_present, graph_after_raise, graph_after_acquire, graph_after_release_fence, graph_after_store}
+use Rattle.loom_view_parts.specs.Versions.{zeros}
 use Rattle.loom_views.specs.Table.{Place, Meets, Keeps, Records, Points, ShowsPlaceAt, ShowsViews, MovesAs, stamp_by, points_after_raise, points_after_acquire, points_after_release, points_after_release_fence, points_after_yield, points_with_point, points_with_stamp, points_after_stamp, points_after_stamp_release, points_after_stamp_acquire, points_after_join}
-use Rattle.loom_views.proofs.Views.{chained-moved, chained-raising, present-old, present-new, shows-start}
-use Rattle.loom_views.proofs.Shown.{counts-at}
-use Rattle.loom_views.proofs.Growth.{same, quiet, raising}
+use Rattle.loom_view_parts.proofs.Views.{chained-moved, chained-raising, present-old, present-new, shows-start}
+use Rattle.loom_view_parts.proofs.Counted.{counts-at}
+use Rattle.loom_view_parts.proofs.Growth.{same, quiet, raising}
 use Rattle.loom_views.proofs.Table.Lists.{set-past}
 use Rattle.loom_views.proofs.Table.Carried.{found, found_point, found_stamp, thread-stepped, place-stepped, place-added, stamp-stepped, stamp-more}
 

@@ -3,16 +3,16 @@ use Rattle.std.proofs.Common.{◌≡◌, ℕ, List, [], set, refl, Option, Some,
 use Rattle.std.specs.List.{slice_get}
 use Rattle.std.specs.declared.sync.atomic.Ordering.{Ordering}
 use Rattle.loom_views.specs.declared.rt.atomic.State.{State}
-use Rattle.loom_views.specs.declared.rt.cell.AccessRecords.{AccessRecords}
-use Rattle.loom_views.specs.declared.rt.failure.FailureKind.{FailureKind}
-use Rattle.loom_views.specs.declared.rt.failure.FailureKind.TheVariants.{Misuse}
+use Rattle.loom_view_parts.specs.declared.rt.cell.AccessRecords.{AccessRecords}
+use Rattle.loom_view_parts.specs.declared.rt.failure.FailureKind.{FailureKind}
+use Rattle.loom_view_parts.specs.declared.rt.failure.FailureKind.TheVariants.{Misuse}
 use Rattle.loom_views.specs.declared.rt.table.Kept.{Kept}
 use Rattle.loom_views.specs.declared.rt.table.Kept.TheVariants.{Point, Atomic, Cell}
 use Rattle.loom_views.specs.declared.rt.table.Views.{Views}
-use Rattle.loom_views.specs.Graph.{Graph}
-use Rattle.loom_views.specs.Threads.{ThreadPoints}
+use Rattle.loom_view_parts.specs.Graph.{Graph}
+use Rattle.loom_view_parts.specs.Threads.{ThreadPoints}
 use Rattle.loom_views.specs.Atomic.{History, Scene, Answer}
-use Rattle.loom_views.specs.Cells.{Accesses}
+use Rattle.loom_view_parts.specs.Cells.{Accesses}
 use Rattle.loom_views.specs.Table.{Place, Meets, Keeps, Records, Points, ShowsPlace, ShowsPlaceAt, ShowsViews, MovesAs, LoadsAs, StoresAs, access, access_by, record_by, release_by, points_after_release, stores_at}
 use Rattle.loom_views.proofs.Table.Lists.{set-same}
 

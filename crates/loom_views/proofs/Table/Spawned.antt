@@ -5,16 +5,16 @@ use Rattle.std.specs.List.{slice_get}
 use Rattle.std.proofs.lemmas.Bool.{lt-ltb, le-ltb, lt-leb, cases_eq, ne_eqb}
 use Rattle.std.proofs.lemmas.List.{length-set, length-append}
 use Rattle.std.proofs.lemmas.Option.{slice_get_past}
-use Rattle.loom_views.specs.declared.rt.failure.FailureKind.TheVariants.{TooManyVersions}
-use Rattle.loom_views.specs.declared.rt.synchronize.ThreadViews.{ThreadViews}
+use Rattle.loom_view_parts.specs.declared.rt.failure.FailureKind.TheVariants.{TooManyVersions}
+use Rattle.loom_view_parts.specs.declared.rt.synchronize.ThreadViews.{ThreadViews}
 use Rattle.loom_views.specs.declared.rt.table.Views.{Views}
-use Rattle.loom_views.specs.Graph.{Point, Graph, raised, IsChained, IsPresent, moved}
-use Rattle.loom_views.specs.Threads.{ThreadPoints, ShowsThread, graph_with_child, graph_after_spawn, child_points, parent_points}
-use Rattle.loom_views.specs.Versions.{zeros}
+use Rattle.loom_view_parts.specs.Graph.{Point, Graph, raised, IsChained, IsPresent, moved}
+use Rattle.loom_view_parts.specs.Threads.{ThreadPoints, ShowsThread, graph_with_child, graph_after_spawn, child_points, parent_points}
+use Rattle.loom_view_parts.specs.Versions.{zeros}
 use Rattle.loom_views.specs.Table.{Points, ShowsThreadAt, ShowsThreads, ShowsViews, MovesAs, opening, points_after_spawn}
-use Rattle.loom_views.proofs.Views.{chained-moved, chained-raising, present-old, present-new, shows-old, shows-start, raised-no}
-use Rattle.loom_views.proofs.ThreadMoves.{child-chained}
-use Rattle.loom_views.proofs.Growth.{GrownBy, same, quiet, raising, shows-grown, present-grown}
+use Rattle.loom_view_parts.proofs.Views.{chained-moved, chained-raising, present-old, present-new, shows-old, shows-start, raised-no}
+use Rattle.loom_view_parts.proofs.ThreadMoves.{child-chained}
+use Rattle.loom_view_parts.proofs.Growth.{GrownBy, same, quiet, raising, shows-grown, present-grown}
 use Rattle.loom_views.proofs.Table.Lists.{get-set_same, get-set_other, get-append_same, get-append_other}
 use Rattle.loom_views.proofs.Table.Carried.{found, thread_at-grown, places-grown, stamps-grown}
 

@@ -5,9 +5,9 @@ use Rattle.std.specs.List.{slice_get}
 use Rattle.std.specs.declared.sync.atomic.Ordering.{Ordering}
 use Rattle.std.proofs.lemmas.List.{length-set, set-get_or}
 use Rattle.loom_views.specs.declared.rt.atomic.State.{State}
-use Rattle.loom_views.specs.declared.rt.failure.FailureKind.{FailureKind}
-use Rattle.loom_views.specs.declared.rt.failure.FailureKind.TheVariants.{TooManyStores}
-use Rattle.loom_views.specs.declared.rt.synchronize.ThreadViews.{ThreadViews}
+use Rattle.loom_view_parts.specs.declared.rt.failure.FailureKind.{FailureKind}
+use Rattle.loom_view_parts.specs.declared.rt.failure.FailureKind.TheVariants.{TooManyStores}
+use Rattle.loom_view_parts.specs.declared.rt.synchronize.ThreadViews.{ThreadViews}
 use Rattle.loom_views.specs.declared.rt.table.Kept.{Kept}
 use Rattle.loom_views.specs.declared.rt.table.Kept.TheVariants.{Atomic}
 use Rattle.loom_views.specs.declared.rt.table.Views.{Views}
@@ -15,7 +15,8 @@ use Rattle.loom_views.specs.Atomic.{Scene, Answer, in_slot, blank, touch, scene_
 use Rattle.loom_views.specs.Slots.{number_in_slot}
 use Rattle.loom_views.specs.Shown.{ShowsScene, AnswersAs, FinishesAs}
 use Rattle.loom_views.specs.Table.{Keeps, Points, ShowsViews, LoadsAs, StoresAs, IsSlotKept, scene_of, access, points_after_update_read, points_after_update_write, points_after_update_fail, points_after_unsync_load, points_after_with_mut, points_after_with_mut_end}
-use Rattle.loom_views.proofs.Growth.{same, grown-joined, scene_read-grown, scene_loaded-grown, scene_made-grown}
+use Rattle.loom_view_parts.proofs.Growth.{same, grown-joined}
+use Rattle.loom_views.proofs.Growth.{scene_read-grown, scene_loaded-grown, scene_made-grown}
 use Rattle.loom_views.proofs.Table.Lists.{set-same}
 use Rattle.loom_views.proofs.Table.Carried.{found, found_atomic, thread-stepped}
 use Rattle.loom_views.proofs.Table.Accesses.{LeadsTo, Grows, HasStore, conflicts-leads, some-pushed, scene-shown, answers-stepped, finishes-stepped}

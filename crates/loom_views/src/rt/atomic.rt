@@ -6,33 +6,26 @@
 
 ghost use Rattle.std.specs.Prelude.{◌≡◌, ℕ, ◌+◌, ◌<◌, ◌≤◌, ◌==◌, ◌&&◌, not, min, IsTrue, None, slice_index_or, false, MatchResult, OnErr, Ok, Err, length};
 ghost use Rattle.std.specs.List.{list_any};
-ghost use Rattle.loom_views.specs.Limits.{most_stores};
-ghost use Rattle.loom_views.specs.Versions.{join, join_all};
+ghost use Rattle.loom_view_parts.specs.Limits.{most_stores};
+ghost use Rattle.loom_view_parts.specs.Versions.{join, join_all};
 ghost use Rattle.loom_views.specs.Untouched.{untouched};
-ghost use Rattle.loom_views.specs.declared.rt.failure.FailureKind.TheVariants.{OrdersEqual, TooManyStores};
+ghost use Rattle.loom_view_parts.specs.declared.rt.failure.FailureKind.TheVariants.{OrdersEqual, TooManyStores};
 ghost use Rattle.loom_views.specs.Slots.{slots, slot_set, has_equal_order_at};
 ghost use Rattle.loom_views.specs.Ring.{is_touch_in, is_version_before, touch_version, store_at, is_passed, drops_slot, is_same_slot, readable_now, fails_now, is_order_seen, orders_seen, state_read, state_made, load_tracked, store_tracked, unsync_load_tracked, unsync_mut_tracked, load_now, store_now, update_read_now, update_write_now, newest_slot, unsync_load_now, mutate_now, mutate_end_now, state_blank};
-ghost use Rattle.loom_views.specs.Graph.{Graph, IsChained, IsPresent};
-ghost use Rattle.loom_views.specs.Threads.{ThreadPoints, ShowsThread};
+ghost use Rattle.loom_view_parts.specs.Graph.{Graph, IsChained, IsPresent};
+ghost use Rattle.loom_view_parts.specs.Threads.{ThreadPoints, ShowsThread};
 ghost use Rattle.loom_views.specs.Fences.{standing_in, scene_at, after_store, acquire_fence_step};
 ghost use Rattle.loom_views.specs.Atomic.{in_slot, Scene, readable, fails_by_orders, load_step, store_step, update_read_step, update_write_step, update_fail_step, unsync_load_step, mutate_step, mutate_end_step, new_step};
-ghost use Rattle.loom_views.specs.declared.rt.atomic.Reader.{Reader};
+ghost use Rattle.loom_view_parts.specs.declared.rt.reader.Reader.{Reader};
 ghost use Rattle.loom_views.specs.Shown.{ShowsScene, AnswersAs, FinishesAs};
 
-use crate::rt::failure::FailureKind;
-use crate::rt::synchronize::{Synchronize, ThreadViews};
-use crate::rt::vv::VersionVec;
-use crate::rt::{MAX_ATOMIC_HISTORY, MAX_THREADS};
+use loom_view_parts::rt::failure::FailureKind;
+pub use loom_view_parts::rt::reader::Reader;
+use loom_view_parts::rt::reader::with_slot;
+use loom_view_parts::rt::synchronize::{Synchronize, ThreadViews};
+use loom_view_parts::rt::vv::VersionVec;
+use loom_view_parts::rt::{MAX_ATOMIC_HISTORY, MAX_THREADS};
 use std::sync::atomic::Ordering;
-
-/// Who reads (own; loom has two functions, in `rt/atomic.rs`).
-#[derive(Clone, Copy, PartialEq, Eq)]
-pub enum Reader {
-    /// A load of an ordering.
-    Load(Ordering),
-    /// A read-modify-write.
-    Update,
-}
 
 /// For each thread, its own version when it first touched a store (loom's `rt/atomic.rs`).
 #[derive(Clone, Copy, Debug)]
@@ -155,9 +148,9 @@ impl State {
         if other.order.is_within(&store.order) {
             return Err(FailureKind::OrdersEqual);
         }
-        match reader {
-            Reader::Update => Ok(true),
-            Reader::Load(order) => Ok(store.is_passed(other, thread, views, order)),
+        match reader.load_order() {
+            None => Ok(true),
+            Some(order) => Ok(store.is_passed(other, thread, views, order)),
         }
     }
 
@@ -197,7 +190,8 @@ impl State {
         let mut set = [false; MAX_ATOMIC_HISTORY];
         for i in 0..self.kept() {
             let is_dropped = self.is_dropped(thread, views, reader, i)?;
-            set[i] = !is_dropped;
+            let told = with_slot(set, i, !is_dropped);
+            set = told;
         }
         Ok(set)
     }
@@ -322,7 +316,7 @@ impl State {
         if self.is_mutating {
             return Err(FailureKind::OpenAccess);
         }
-        if !self.unsync_mut_at.is_within(&views.present) {
+        if !views.is_after(&self.unsync_mut_at) {
             return Err(FailureKind::Race);
         }
         self.loaded_at.join(&views.present);
@@ -337,9 +331,7 @@ impl State {
         if self.is_mutating {
             return Err(FailureKind::OpenAccess);
         }
-        if !self.unsync_mut_at.is_within(&views.present)
-            || !self.unsync_loaded_at.is_within(&views.present)
-        {
+        if !views.is_after(&self.unsync_mut_at) || !views.is_after(&self.unsync_loaded_at) {
             return Err(FailureKind::Race);
         }
         Ok(())
@@ -353,9 +345,7 @@ impl State {
         if self.is_mutating {
             return Err(FailureKind::OpenAccess);
         }
-        if !self.unsync_mut_at.is_within(&views.present)
-            || !self.stored_at.is_within(&views.present)
-        {
+        if !views.is_after(&self.unsync_mut_at) || !views.is_after(&self.stored_at) {
             return Err(FailureKind::Race);
         }
         self.unsync_loaded_at.join(&views.present);
@@ -370,10 +360,9 @@ impl State {
         if self.is_mutating {
             return Err(FailureKind::OpenAccess);
         }
-        let loads_inside = self.loaded_at.is_within(&views.present)
-            && self.unsync_loaded_at.is_within(&views.present);
-        let writes_inside = self.stored_at.is_within(&views.present)
-            && self.unsync_mut_at.is_within(&views.present);
+        let loads_inside = views.is_after(&self.loaded_at)
+            && views.is_after(&self.unsync_loaded_at);
+        let writes_inside = views.is_after(&self.stored_at) && views.is_after(&self.unsync_mut_at);
         if !(loads_inside && writes_inside) {
             return Err(FailureKind::Race);
         }
@@ -586,7 +575,7 @@ impl State {
         ensures { (t : ℕ) (s : Scene) → ShowsScene t s views.old self.now → slot < length s.history.stores →
             ShowsScene t (update_fail_step s slot failure) views.new self.now }
     {
-        self.stores[slot].sync.sync_load(views, failure);
+        self.stores[slot].sync.sync_fail(views, failure);
     }
 
     /// Loads the newest value without synchronizing. It is `OpenAccess` while a mutation is open, and `Race` with a store or a

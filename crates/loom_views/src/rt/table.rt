@@ -5,18 +5,18 @@
 //! thread and each object keeps its own.
 
 ghost use Rattle.std.specs.Prelude.{◌≡◌, ◌++◌, ◌∷◌, ◌<◌, ◌≤◌, [], Ok, Err, OnErr, OnOk, length, slice_get};
-ghost use Rattle.loom_views.specs.declared.rt.failure.FailureKind.TheVariants.{Misuse};
+ghost use Rattle.loom_view_parts.specs.declared.rt.failure.FailureKind.TheVariants.{Misuse};
 ghost use Rattle.loom_views.specs.declared.rt.table.Kept.TheVariants.{Point};
-ghost use Rattle.loom_views.specs.Versions.{zeros};
+ghost use Rattle.loom_view_parts.specs.Versions.{zeros};
 ghost use Rattle.loom_views.specs.Table.{Points, ShowsViews, MovesAs, LoadsAs, StoresAs, OffersAs, IsSlotKept, opening, points_after_raise, points_after_acquire, points_after_release, points_after_release_fence, points_after_yield, points_with_point, points_with_stamp, points_after_stamp, points_after_stamp_release, points_after_stamp_acquire, points_after_spawn, points_after_join, points_with_atomic, points_after_load, points_after_store, points_after_update_read, points_after_update_write, points_after_update_fail, points_after_unsync_load, points_after_with_mut, points_after_with_mut_end, points_after_acquire_fence, points_after_meet_global, points_after_fence, points_with_cell, points_after_read, points_after_write, readable_slots_of};
 
 use crate::rt::atomic::{Reader, State};
-use crate::rt::cell::AccessRecords;
-use crate::rt::failure::FailureKind;
-use crate::rt::synchronize::{Synchronize, ThreadViews};
-use crate::rt::vv::VersionVec;
-use crate::rt::{MAX_ATOMIC_HISTORY, MAX_THREADS};
-use crate::sequence::Sequence;
+use loom_view_parts::rt::cell::AccessRecords;
+use loom_view_parts::rt::failure::FailureKind;
+use loom_view_parts::rt::synchronize::{Synchronize, ThreadViews};
+use loom_view_parts::rt::vv::VersionVec;
+use loom_view_parts::rt::{MAX_ATOMIC_HISTORY, MAX_THREADS};
+use loom_view_parts::sequence::Sequence;
 use std::alloc::{AllocError, Global};
 use std::sync::atomic::Ordering;
 
@@ -196,8 +196,7 @@ impl Views {
             return;
         }
         let mut views = self.threads[thread];
-        views.acquire(&self.global);
-        self.global.join(&views.present);
+        views.meet(&mut self.global);
         self.threads[thread] = views;
     }
 

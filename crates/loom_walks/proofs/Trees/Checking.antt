@@ -15,7 +15,7 @@ use Rattle.loom_walks.proofs.Walk.Together.{complete_law as walk_complete, stopp
 use Rattle.loom_walks.proofs.Walk.Round.{round_law, fresh_law as walk_fresh}
 use Rattle.loom_walks.proofs.Walk.Ends.{ends_law as walk_ends}
 use Rattle.loom_walks.proofs.Walk.Order.{order_law as walk_order}
-use Rattle.loom_views.specs.declared.rt.failure.FailureKind.{FailureKind}
+use Rattle.loom_view_parts.specs.declared.rt.failure.FailureKind.{FailureKind}
 use Rattle.loom_objects.specs.Tree.{Tree, Gives, Fails, Closes, Asks}
 use Rattle.loom_walks.specs.Trees.Outcomes.{met, outcome, is_failure}
 use Rattle.loom_walks.specs.Trees.Sound.{IsQuiet, IsSoundTree}

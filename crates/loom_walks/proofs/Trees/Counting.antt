@@ -11,8 +11,8 @@ use Rattle.loom_walks.specs.Walk.Bound.{IsCount}
 use Rattle.loom_walks.proofs.Walk.Lists.{pick_same}
 use Rattle.loom_walks.proofs.Walk.Bound.{bound_law as walk_bound}
 use Rattle.loom_walks.proofs.Walk.EveryRun.{every_run_law as walk_every}
-use Rattle.loom_views.specs.declared.rt.failure.FailureKind.{FailureKind}
-use Rattle.loom_views.specs.declared.rt.failure.FailureKind.TheVariants.{TooManyBranches}
+use Rattle.loom_view_parts.specs.declared.rt.failure.FailureKind.{FailureKind}
+use Rattle.loom_view_parts.specs.declared.rt.failure.FailureKind.TheVariants.{TooManyBranches}
 use Rattle.loom_objects.specs.Tree.{Tree, Gives, Fails, Closes, Asks}
 use Rattle.loom_walks.specs.Trees.Outcomes.{met, outcome, passed}
 use Rattle.loom_walks.specs.Trees.Sound.{IsQuiet, IsSoundTree}

@@ -11,8 +11,8 @@ use Rattle.loom_walks.specs.Walk.UnderWay.{mark_with, IsUnderWay, begins, follow
 use Rattle.loom_walks.proofs.Walk.Lists.{node_on, choices_append, snoc_append}
 use Rattle.loom_walks.proofs.Walk.UnderWay.{over_law, meeting_law}
 use Rattle.loom_walks.proofs.Walk.After.{after_run_is}
-use Rattle.loom_views.specs.declared.rt.failure.FailureKind.{FailureKind}
-use Rattle.loom_views.specs.declared.rt.failure.FailureKind.TheVariants.{NotDeterministic, TooManyBranches}
+use Rattle.loom_view_parts.specs.declared.rt.failure.FailureKind.{FailureKind}
+use Rattle.loom_view_parts.specs.declared.rt.failure.FailureKind.TheVariants.{NotDeterministic, TooManyBranches}
 use Rattle.loom_walks.specs.Trees.Comparing.{same_made}
 use Rattle.loom_objects.specs.Tree.{Tree, Gives, Fails, Closes, Asks}
 use Rattle.loom_walks.specs.Trees.Outcomes.{met, outcome, passed}

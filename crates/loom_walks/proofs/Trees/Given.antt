@@ -8,8 +8,8 @@ use Rattle.loom_walks.specs.Walk.Choices.{among, pick}
 use Rattle.loom_walks.specs.Walk.Path.{Stored, choices}
 use Rattle.loom_walks.specs.Walk.Lists.{IsAllowed}
 use Rattle.loom_walks.proofs.Walk.Lists.{TwoSplits, earlier, same_place, later, two_splits, choices_append, snoc_append}
-use Rattle.loom_views.specs.declared.rt.failure.FailureKind.{FailureKind}
-use Rattle.loom_views.specs.declared.rt.failure.FailureKind.TheVariants.{NotDeterministic, TooManyBranches}
+use Rattle.loom_view_parts.specs.declared.rt.failure.FailureKind.{FailureKind}
+use Rattle.loom_view_parts.specs.declared.rt.failure.FailureKind.TheVariants.{NotDeterministic, TooManyBranches}
 use Rattle.loom_objects.specs.Tree.{Tree, Gives, Fails, Closes, Asks}
 use Rattle.loom_walks.specs.Trees.Outcomes.{outcome}
 use Rattle.loom_walks.specs.Trees.Sound.{IsSoundTree}

@@ -9,8 +9,8 @@ use Rattle.loom_walks.specs.Walk.Path.{Stored, choices, fresh}
 use Rattle.loom_walks.specs.Walk.UnderWay.{IsUnderWay, begins, follows, makes, IsPartedAt}
 use Rattle.loom_walks.proofs.Walk.Lists.{choices_append}
 use Rattle.loom_walks.proofs.Walk.UnderWay.{over_law, parted}
-use Rattle.loom_views.specs.declared.rt.failure.FailureKind.{FailureKind}
-use Rattle.loom_views.specs.declared.rt.failure.FailureKind.TheVariants.{NotDeterministic}
+use Rattle.loom_view_parts.specs.declared.rt.failure.FailureKind.{FailureKind}
+use Rattle.loom_view_parts.specs.declared.rt.failure.FailureKind.TheVariants.{NotDeterministic}
 use Rattle.loom_walks.specs.Trees.Comparing.{same_made}
 use Rattle.loom_objects.specs.Tree.{Tree, Gives, Fails, Closes, Asks}
 use Rattle.loom_walks.specs.Trees.Outcomes.{outcome, passed}

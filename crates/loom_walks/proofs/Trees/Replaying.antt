@@ -11,8 +11,8 @@ use Rattle.loom_walks.specs.Walk.UnderWay.{mark_with}
 use Rattle.loom_walks.specs.Walk.Lists.{IsAllowed}
 use Rattle.loom_walks.proofs.Walk.Lists.{choices_append, snoc_append}
 use Rattle.loom_walks.proofs.Walk.Defaults.{Defaults, over, on, run_is}
-use Rattle.loom_views.specs.declared.rt.failure.FailureKind.{FailureKind}
-use Rattle.loom_views.specs.declared.rt.failure.FailureKind.TheVariants.{NotDeterministic, TooManyBranches}
+use Rattle.loom_view_parts.specs.declared.rt.failure.FailureKind.{FailureKind}
+use Rattle.loom_view_parts.specs.declared.rt.failure.FailureKind.TheVariants.{NotDeterministic, TooManyBranches}
 use Rattle.loom_objects.specs.Tree.{Tree, Gives, Fails, Closes, Asks}
 use Rattle.loom_walks.specs.Trees.Outcomes.{met, outcome}
 use Rattle.loom_walks.specs.Trees.Sound.{IsSoundTree}

@@ -4,8 +4,8 @@ use Rattle.std.specs.Prelude.{Err}
 use Rattle.loom_parts.specs.declared.choice.Choice.{Choice}
 use Rattle.loom_objects.specs.Question.{Among, made_of}
 use Rattle.loom_objects.specs.Tree.{Tree, Gives, Fails, Closes, Asks}
-use Rattle.loom_views.specs.declared.rt.failure.FailureKind.{FailureKind}
-use Rattle.loom_views.specs.declared.rt.failure.FailureKind.TheVariants.{NotDeterministic}
+use Rattle.loom_view_parts.specs.declared.rt.failure.FailureKind.{FailureKind}
+use Rattle.loom_view_parts.specs.declared.rt.failure.FailureKind.TheVariants.{NotDeterministic}
 use Rattle.loom_walks.specs.Walk.Machine.{Machine}
 use Rattle.loom_walks.specs.Walk.Runs.{Reachable}
 use Rattle.loom_walks.specs.Walk.Choices.{among, pick}

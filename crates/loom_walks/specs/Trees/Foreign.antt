@@ -1,7 +1,7 @@
 -- A path whose nodes another tree asks for.
 use Rattle.std.specs.Prelude.{ℕ, ◌≡◌, [], ◌∷◌, Err}
 use Rattle.loom_walks.specs.Walk.Path.{Stored, Rest}
-use Rattle.loom_views.specs.declared.rt.failure.FailureKind.TheVariants.{Assertion}
+use Rattle.loom_view_parts.specs.declared.rt.failure.FailureKind.TheVariants.{Assertion}
 use Rattle.loom_objects.specs.Tree.{Tree, Fails}
 use Rattle.loom_walks.specs.Trees.Meeting.{Settings, machine_of}
 use Rattle.loom_walks.specs.Trees.Drive.{drive, at_start}

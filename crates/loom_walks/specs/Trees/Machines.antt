@@ -1,6 +1,6 @@
 -- A tree of runs is a machine for walks, and what a schedule marks.
 use Rattle.std.specs.Prelude.{ℕ, ◌≡◌, ◌≢◌, ◌≤◌, true, false, List, ◌++◌, Option, Some, None, slice_get, IsSomeAnd, Result, ◌↔◌}
-use Rattle.loom_views.specs.declared.rt.failure.FailureKind.{FailureKind}
+use Rattle.loom_view_parts.specs.declared.rt.failure.FailureKind.{FailureKind}
 use Rattle.loom_parts.specs.declared.choice.Choice.{Choice}
 use Rattle.loom_objects.specs.Question.{Made, Question}
 use Rattle.loom_objects.specs.Tree.{Tree}

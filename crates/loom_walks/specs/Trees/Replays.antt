@@ -1,6 +1,6 @@
 -- Laws of the run that takes given choices and then defaults.
 use Rattle.std.specs.Prelude.{◌≡◌, List, length, Some, Result}
-use Rattle.loom_views.specs.declared.rt.failure.FailureKind.{FailureKind}
+use Rattle.loom_view_parts.specs.declared.rt.failure.FailureKind.{FailureKind}
 use Rattle.loom_parts.specs.declared.choice.Choice.{Choice}
 use Rattle.loom_objects.specs.Tree.{Tree}
 use Rattle.loom_walks.specs.Walk.Lists.{IsAllowed}

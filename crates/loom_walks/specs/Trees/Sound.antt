@@ -1,6 +1,6 @@
 -- What holds of the trees that are a body's runs.
 use Rattle.std.specs.Prelude.{◌≡◌, ◌≢◌, true, None}
-use Rattle.loom_views.specs.declared.rt.failure.FailureKind.TheVariants.{NotDeterministic}
+use Rattle.loom_view_parts.specs.declared.rt.failure.FailureKind.TheVariants.{NotDeterministic}
 use Rattle.loom_parts.specs.declared.choice.Choice.{Choice}
 use Rattle.loom_parts.specs.declared.choice.Choice.TheVariants.{Thread}
 use Rattle.loom_objects.specs.Question.{Among, made_of, IsSound}

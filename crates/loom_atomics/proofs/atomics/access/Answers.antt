@@ -1,5 +1,5 @@
 use Rattle.std.proofs.Common.{subst}
-use Rattle.loom_views.specs.declared.rt.atomic.Reader.{Reader}
+use Rattle.loom_view_parts.specs.declared.rt.reader.Reader.{Reader}
 use Rattle.loom_objects.specs.declared.operation.AtomicOp.{AtomicOp}
 use Rattle.loom_objects.specs.Atomics.{accesses, opens}
 use Rattle.loom_objects.specs.Scene.{Does, world_of}

@@ -1,6 +1,6 @@
 use Rattle.std.proofs.Common.{rules, ◌∙◌}
 use Rattle.loom_views.specs.Table.{points_after_read}
-use Rattle.loom_views.specs.declared.rt.failure.FailureKind.TheVariants.{Misuse}
+use Rattle.loom_view_parts.specs.declared.rt.failure.FailureKind.TheVariants.{Misuse}
 use Rattle.loom_objects.specs.Cells.{cell_get}
 use Rattle.loom_objects.proofs.Showing.{leads_by, stops}
 use Rattle.loom_cells.proofs.Going.{copies, fails_outside}

@@ -1,6 +1,6 @@
 use Rattle.std.proofs.Common.{◌≡◌, arith, rules}
 use Rattle.std.specs.Prelude.{◌-◌, ◌^◌, true, nat_lt}
-use Rattle.loom_views.specs.declared.rt.failure.FailureKind.TheVariants.{Misuse}
+use Rattle.loom_view_parts.specs.declared.rt.failure.FailureKind.TheVariants.{Misuse}
 use Rattle.loom_objects.specs.Cells.{cell_read}
 use Rattle.loom_cells.proofs.Going.{copies, fails_outside}
 use Rattle.loom_cells.proofs.Opening.{read_opened, read_refused, reads_on}

@@ -2,7 +2,7 @@ ghost use Rattle.std.specs.Prelude.{◌≡◌, ◌++◌, ◌&&◌, drop, nat_lt,
 ghost use Rattle.loom_objects.specs.Channels.{first_of, fits_behind};
 ghost use Rattle.loom_objects.specs.Leaks.{is_none_left};
 ghost use Rattle.loom_objects.specs.Rule.{check};
-ghost use Rattle.loom_views.specs.declared.rt.failure.FailureKind.TheVariants.{TooManySteps};
+ghost use Rattle.loom_view_parts.specs.declared.rt.failure.FailureKind.TheVariants.{TooManySteps};
 
 use crate::operation::Message;
 use crate::rt::sync::Channel;

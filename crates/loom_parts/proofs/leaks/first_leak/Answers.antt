@@ -1,5 +1,5 @@
 use Rattle.std.proofs.Common.{refl, ap, sym, ◌∙◌, Option, length, suc, add-one, arith, ◌≡◌, ℕ, drop}
-use Rattle.loom_views.specs.declared.rt.failure.FailureKind.{FailureKind}
+use Rattle.loom_view_parts.specs.declared.rt.failure.FailureKind.{FailureKind}
 use Rattle.loom_parts.specs.Leaks.{first_leak, first_of}
 use Rattle.loom_parts.proofs.Leaking.{leak_from, none_after}
 use Rattle.loom_parts.proofs.leaks.first_leak.Goals as goal

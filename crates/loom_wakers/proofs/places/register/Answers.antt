@@ -2,7 +2,7 @@ use Rattle.std.proofs.Common.{◌≡◌, ◌∙◌, ap, rules, sym}
 use Rattle.std.specs.Prelude.{Bool, Ok, Result, false, is_none, true}
 use Rattle.loom_effect_parts.specs.Wakers.{wakers_left}
 use Rattle.loom_wakers.specs.Stages.{takes_place}
-use Rattle.loom_views.specs.declared.rt.failure.FailureKind.{FailureKind}
+use Rattle.loom_view_parts.specs.declared.rt.failure.FailureKind.{FailureKind}
 use Rattle.loom_objects.specs.declared.rt.sync.AtomicWaker.{AtomicWaker}
 use Rattle.loom_objects.specs.declared.rt.thread.AfterDrop.TheVariants as dropped
 use Rattle.loom_objects.specs.declared.rt.thread.AfterWake.TheVariants as woken

@@ -19,9 +19,9 @@ returns c = (
 )
 
 pub loop-i-preserved : goal.loop-i-preserved
-loop-i-preserved c = record {
+loop-i-preserved c = rw c.with_slot-told.ensures (record {
   seven = length-set c.loop-i.set c.loop-i.i (not c.in_ok-is_dropped.is_dropped) ∙ c.loop-i.invariant.seven;
   told = told-more c.loop-i.set (λ k. not (list_any (drops_slot c.args.self.now c.args.thread c.args.views.now c.args.reader k) (slots c.args.self.now.count))) c.loop-i.i (not c.in_ok-is_dropped.is_dropped) (omega (arith, c.loop-i.invariant.seven)) (ap not c.in_ok-is_dropped.ensures.0) c.loop-i.invariant.told;
   rest = rest-less c.loop-i.set c.loop-i.i (not c.in_ok-is_dropped.is_dropped) c.loop-i.invariant.rest;
   apart = none-more (has_equal_order_at (is_same_slot c.args.self.now) (drops_slot c.args.self.now c.args.thread c.args.views.now c.args.reader) c.args.self.now.count) c.loop-i.i c.in_ok-is_dropped.ensures.1 c.loop-i.invariant.apart;
-}
+})

@@ -9,4 +9,4 @@ pub returns : goal.returns
 returns c = λ t s z d.
     let ring = z.history.ring in
     let item : get_or c.args.self.now.stores c.args.slot c.index-self-slot.result ≡ store_at c.args.self.now.stores c.args.slot = get_or_default c.args.self.now.stores c.args.slot c.index-self-slot.result blank_store (omega arith) in
-    rw (c.sync_load.ensures.joined, item) (scene_loaded-shown t s c.args.views.now c.args.self.now (in_slot s.history.stores c.args.slot).sync (store_at c.args.self.now.stores c.args.slot).sync c.args.failure (z.history.stores c.args.slot c.requires d).sync z)
+    rw (c.sync_fail.ensures, item) (scene_loaded-shown t s c.args.views.now c.args.self.now (in_slot s.history.stores c.args.slot).sync (store_at c.args.self.now.stores c.args.slot).sync c.args.failure (z.history.stores c.args.slot c.requires d).sync z)

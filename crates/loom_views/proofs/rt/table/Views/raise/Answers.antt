@@ -1,6 +1,6 @@
 use Rattle.std.proofs.Common.{◌≢◌, ◌≤◌, length, sym, ◌∙◌, arith}
 use Rattle.std.proofs.lemmas.Bool.{OnTrue_at, true≢false}
-use Rattle.loom_views.specs.Graph.{raised}
+use Rattle.loom_view_parts.specs.Graph.{raised}
 use Rattle.loom_views.proofs.Table.Moves.{raise-moved}
 use Rattle.loom_views.proofs.rt.table.Views.raise.Goals as goal
 

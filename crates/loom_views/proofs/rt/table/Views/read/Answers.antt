@@ -1,5 +1,5 @@
 use Rattle.std.proofs.Common.{ap, ◌∙◌, Some}
-use Rattle.loom_views.specs.Cells.{read_step}
+use Rattle.loom_view_parts.specs.Cells.{read_step}
 use Rattle.loom_views.proofs.Table.Cells.{access-recorded, records-unchanged}
 use Rattle.loom_views.proofs.Table.Others.{other-records}
 use Rattle.loom_views.proofs.Table.Updates.{place-unchanged}

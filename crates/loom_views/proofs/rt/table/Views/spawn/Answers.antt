@@ -1,6 +1,6 @@
 use Rattle.std.proofs.Common.{◌≤◌, ◌≢◌, length, subst, sym, refl, arith}
 use Rattle.std.proofs.lemmas.Bool.{true≢false}
-use Rattle.loom_views.specs.Graph.{raised}
+use Rattle.loom_view_parts.specs.Graph.{raised}
 use Rattle.loom_views.proofs.Table.Spawned.{spawn-unmade, spawn-moved}
 use Rattle.loom_views.proofs.rt.table.Views.spawn.Goals as goal
 

@@ -1,0 +1,13 @@
+pub mod Failures
+pub mod Limits
+pub mod Lends
+pub mod Graph
+pub mod Versions
+pub mod VersionOrder
+pub mod Orderings
+pub mod Threads
+pub mod Records
+pub mod Cells
+pub mod Readers
+pub mod Numbers
+pub mod Changes

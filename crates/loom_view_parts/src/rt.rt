@@ -1,0 +1,14 @@
+//! What a run is made of, as far as it needs no threads.
+pub mod cell;
+pub mod change;
+pub mod failure;
+pub mod num;
+pub mod reader;
+pub mod synchronize;
+pub mod vv;
+
+/// The most threads that a run may have, main included.
+pub const MAX_THREADS: usize = 5;
+
+/// The most stores of an atomic that are kept.
+pub const MAX_ATOMIC_HISTORY: usize = 7;

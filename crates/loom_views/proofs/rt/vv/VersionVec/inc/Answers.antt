@@ -1,5 +1,0 @@
-use Rattle.std.proofs.Common.{rules}
-use Rattle.loom_views.proofs.rt.vv.VersionVec.inc.Goals as goal
-
-pub invariant_of-self : goal.invariant_of-self
-invariant_of-self c = search rules
