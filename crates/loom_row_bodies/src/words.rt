@@ -17,6 +17,8 @@ One of these may stand before NAME, and `--explain` before `--replay` or `--risi
   --replay CHOICES    make one run by choices as \"t0 l0 t1\", and then by defaults
   --rising            check with at most 0 preemptions, then 1, 2 and 3, up to a failure
   --help              print this
+This stands alone:
+  --tour              check four bodies, right and wrong, and explain what fails
 ";
 
 /// Does what the words ask for by the table of the program, prints what comes of it, and answers the exit status. Without an
@@ -50,7 +52,11 @@ fn has_option(words: &[&str]) -> bool
 fn is_option(word: &str) -> bool
     ensures { result ≡ is_option word.now }
 {
-    word == "--explain" || word == "--replay" || word == "--rising" || word == "--help"
+    word == "--explain"
+        || word == "--replay"
+        || word == "--rising"
+        || word == "--help"
+        || word == "--tour"
 }
 
 fn run_options<R: AllocGlobal + Files, O: Write, E: Write>(

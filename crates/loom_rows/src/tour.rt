@@ -1,8 +1,5 @@
-//! A first look: checks the four bodies of `loom_examples`, each right and wrong, and prints what each check finds. Of a failure it
-//! prints the story of the run. The ring and the queue are checked with few preemptions, since the whole reduced search of them is
-//! long. It takes no words, and nothing stands on it.
-#![tactic(auto)]
-
+//! A first look: checks of the four bodies of `loom_examples`, each right and wrong. Of a failure the story of the run is printed. The
+//! ring and the queue are checked with few preemptions, since the whole reduced search of them is long.
 use loom::Body;
 use loom::model::{Builder, Report};
 use loom::sync::atomic::Ordering::{Relaxed, Release};
@@ -11,15 +8,16 @@ use loom_examples::{peterson, queue, ring};
 use loom_scripts::script::Script;
 use loom_scripts::step::Step;
 
-fn main(rt: HostRuntime) -> anyhow::Result<()> {
-    check(&rt, "spin lock, right", &Spin::main(Release))?;
-    check(&rt, "spin lock, wrong", &Spin::main(Relaxed))?;
-    check_script(&rt, "Peterson's lock, right", peterson::RIGHT)?;
-    check_script(&rt, "Peterson's lock, wrong", peterson::WRONG)?;
-    rise(&rt, "ring, right", ring::RIGHT, 2)?;
-    rise(&rt, "ring, wrong", ring::WRONG, 2)?;
-    rise(&rt, "queue, right", queue::RIGHT, 1)?;
-    rise(&rt, "queue, wrong", queue::WRONG, 1)
+/// Checks the bodies, and prints what each check finds.
+pub fn tour(rt: &HostRuntime) -> anyhow::Result<()> {
+    check(rt, "spin lock, right", &Spin::main(Release))?;
+    check(rt, "spin lock, wrong", &Spin::main(Relaxed))?;
+    check_script(rt, "Peterson's lock, right", peterson::RIGHT)?;
+    check_script(rt, "Peterson's lock, wrong", peterson::WRONG)?;
+    rise(rt, "ring, right", ring::RIGHT, 2)?;
+    rise(rt, "ring, wrong", ring::WRONG, 2)?;
+    rise(rt, "queue, right", queue::RIGHT, 1)?;
+    rise(rt, "queue, wrong", queue::WRONG, 1)
 }
 
 /// Checks the body by the defaults, and prints what was found.
