@@ -11,7 +11,7 @@ use Rattle.loom_walks.specs.Trees.Drive.{drive, at_start}
 use Rattle.loom_walks.specs.Trees.Check.{Makes, makes_none}
 use Rattle.loom_walks.specs.Trees.Marks.{marking}
 use Rattle.loom_walks.specs.Trees.Sound.{EndsUnchosen}
-use Rattle.loom_path.specs.declared.rt.node.Node.{Node}
+use Rattle.loom_nodes.specs.declared.rt.node.Node.{Node}
 use Rattle.loom_path.specs.Routes.{Route, IsSameSearch, at_rest, stored, trail, chosen, drives}
 use Rattle.loom_runs.specs.Trees.{IsRunTree}
 use Rattle.loom_stores.specs.Stores.{Keeps}

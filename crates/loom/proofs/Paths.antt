@@ -14,13 +14,13 @@ use Rattle.loom_walks.specs.Trees.Marks.{marking}
 use Rattle.loom_walks.specs.Trees.Reports.{IsSearch, AreReachable}
 use Rattle.loom_walks.specs.Trees.Resuming.{AreAtRest, HasDefaults, WasStoppedFrom, choices_passed}
 use Rattle.loom_walks.specs.Trees.Sound.{EndsUnchosen}
-use Rattle.loom_path.specs.declared.rt.node.Node.{Node}
+use Rattle.loom_nodes.specs.declared.rt.node.Node.{Node}
 use Rattle.loom_path.specs.Routes.{Route, at_rest, settings, stored}
 use Rattle.loom_path.specs.declared.rt.path.Search.{Search}
 use Rattle.loom_runs.specs.Trees.{IsRunTree}
 use Rattle.loom_path.specs.WellFormed.{AreWellFormed, AreAtRest as AllAtRest, AreAlike, bare}
 use Rattle.loom_path.specs.Nodes.{seen}
-use Rattle.loom_path.specs.declared.rt.node.Node.TheVariants as node
+use Rattle.loom_nodes.specs.declared.rt.node.Node.TheVariants as node
 use Rattle.loom_path.proofs.WellFormed.{formed_at_rest, formed_well}
 use Rattle.loom_checkpoint.specs.Checkpoint.{IsPathOf, OfText}
 use Rattle.loom_checkpoint.proofs.ShapeLaws.{same_nodes}

@@ -4,7 +4,7 @@ use Rattle.std.specs.Prelude.{◌≢◌, ◌⊎◌, Option, Some, None, String, 
 use Rattle.std.specs.declared.alloc.Global.{Global}
 use Rattle.loom_parts.specs.declared.choice.Choice.{Choice}
 use Rattle.loom_objects.specs.Tree.{Tree}
-use Rattle.loom_path.specs.declared.rt.node.Node.{Node}
+use Rattle.loom_nodes.specs.declared.rt.node.Node.{Node}
 use Rattle.loom.specs.declared.builder.Builder.{Builder}
 use Rattle.loom.specs.declared.error.CheckError.{CheckError}
 use Rattle.loom.specs.declared.error.CheckError.TheVariants.{Store, Memory}

@@ -14,7 +14,7 @@ use Rattle.loom_walks.specs.Trees.Marks.{marking}
 use Rattle.loom_walks.specs.Trees.Meeting.{Settings}
 use Rattle.loom_walks.specs.Trees.Resuming.{HasCompletedFrom, WasStoppedFrom, HasFailedFrom}
 use Rattle.loom_runs.specs.Trees.{IsRunTree}
-use Rattle.loom_path.specs.declared.rt.node.Node.{Node}
+use Rattle.loom_nodes.specs.declared.rt.node.Node.{Node}
 use Rattle.loom_path.specs.Routes.{stored}
 use Rattle.serde_json.specs.Written.{compact_text}
 use Rattle.loom_checkpoint.specs.Checkpoint.{IsPathOf, OfText}

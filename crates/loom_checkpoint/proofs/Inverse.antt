@@ -7,8 +7,8 @@ use Rattle.std.proofs.lemmas.List.{length-map}
 use Rattle.serde_json.specs.Data.{unsigned, negative, float, Data, null, boolean, number, string, array, object, Members, no_members, member}
 use Rattle.serde_json.specs.Find.{as_bool, as_object}
 use Rattle.serde_json.specs.View.{items_of}
-use Rattle.loom_path.specs.declared.rt.node.Status.{Status}
-use Rattle.loom_path.specs.declared.rt.node.Status.TheVariants.{Disabled, Skip, Yield, Pending, Active, Visited}
+use Rattle.loom_nodes.specs.declared.rt.node.Status.{Status}
+use Rattle.loom_nodes.specs.declared.rt.node.Status.TheVariants.{Disabled, Skip, Yield, Pending, Active, Visited}
 use Rattle.loom_objects.specs.Question.{slots_from}
 use Rattle.loom_checkpoint.specs.Grammar.{whole, whole_or_null, list_data, status_data, status_text}
 use Rattle.loom_checkpoint.specs.Reading.{each, list_of, as_whole, as_list, as_whole_or_null, ends, expected, taken, status_named, status_of, statuses_of, is_number, begins_with, rest_of, marks_of}

@@ -6,9 +6,9 @@ use borrow.Author.Tests.{ltb-true}
 use Rattle.serde_json.specs.Data.{Data, boolean, object, Members, member}
 use Rattle.serde_json.specs.Find.{as_bool, as_object}
 use Rattle.serde_json.specs.View.{items_of}
-use Rattle.loom_path.specs.declared.rt.node.Status.{Status}
-use Rattle.loom_path.specs.declared.rt.node.Node.{Node}
-use Rattle.loom_path.specs.declared.rt.node.Node.TheVariants.{Schedule, Load, Spurious}
+use Rattle.loom_nodes.specs.declared.rt.node.Status.{Status}
+use Rattle.loom_nodes.specs.declared.rt.node.Node.{Node}
+use Rattle.loom_nodes.specs.declared.rt.node.Node.TheVariants.{Schedule, Load, Spurious}
 use Rattle.loom_objects.specs.Question.{slots_from, slots}
 use Rattle.loom_path.specs.WellFormed.{is_at, is_tried, is_well_formed_schedule, is_well_formed_load, is_well_formed_spurious, is_well_formed_from, IsWellFormed, bare, unnoted}
 use Rattle.loom_checkpoint.specs.Grammar.{whole, list_data, status_data, schedule_data, load_data, spurious_data, node_data}

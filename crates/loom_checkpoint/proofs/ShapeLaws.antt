@@ -3,10 +3,10 @@ use Rattle.std.proofs.Common.{◌≡◌, ◌≢◌, ℕ, ◌≤◌, Bool, if◌t
 use Rattle.std.proofs.lemmas.List.{length-map}
 use Rattle.serde_json.specs.Data.{Data, boolean, object, Members, member}
 use Rattle.serde_json.specs.Find.{as_bool, as_object}
-use Rattle.loom_path.specs.declared.rt.node.Node.{Node}
+use Rattle.loom_nodes.specs.declared.rt.node.Node.{Node}
 use Rattle.loom_walks.specs.Trees.Meeting.{Settings}
 use Rattle.loom_path.specs.WellFormed.{IsWellFormed, AreWellFormed, bare, AreAlike}
-use Rattle.loom_path.specs.declared.rt.node.Node.TheVariants.{Schedule, Load, Spurious}
+use Rattle.loom_nodes.specs.declared.rt.node.Node.TheVariants.{Schedule, Load, Spurious}
 use Rattle.loom_checkpoint.specs.declared.error.PathError.{PathError}
 use Rattle.loom_checkpoint.specs.declared.error.PathError.TheVariants.{NotJson, WrongShape, WrongVersion, OtherSettings, TooManyNodes, BadNode, Memory}
 use Rattle.loom_checkpoint.specs.Grammar.{whole, whole_or_null, list_data, node_data, shape_data, path_data}

@@ -5,10 +5,10 @@ use Rattle.loom_objects.specs.Question.{slots}
 use Rattle.loom_walks.specs.Trees.Meeting.{Settings}
 pub use Rattle.loom_checkpoint_parts.specs.Shape.{whole, whole_or_null, list_data}
 unfoldable pub use Rattle.loom_checkpoint_parts.specs.Shape.{shape_data}
-use Rattle.loom_path.specs.declared.rt.node.Status.{Status}
-use Rattle.loom_path.specs.declared.rt.node.Status.TheVariants.{Disabled, Skip, Yield, Pending, Active, Visited}
-use Rattle.loom_path.specs.declared.rt.node.Node.{Node}
-use Rattle.loom_path.specs.declared.rt.node.Node.TheVariants.{Schedule, Load, Spurious}
+use Rattle.loom_nodes.specs.declared.rt.node.Status.{Status}
+use Rattle.loom_nodes.specs.declared.rt.node.Status.TheVariants.{Disabled, Skip, Yield, Pending, Active, Visited}
+use Rattle.loom_nodes.specs.declared.rt.node.Node.{Node}
+use Rattle.loom_nodes.specs.declared.rt.node.Node.TheVariants.{Schedule, Load, Spurious}
 
 abbrev pub status_text : Status → List ℕ
 status_text Disabled = codes "Disabled"

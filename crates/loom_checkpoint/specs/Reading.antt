@@ -3,10 +3,10 @@ use Rattle.std.specs.Prelude.{ℕ, zero, suc, Bool, true, false, ◌&&◌, ◌==
 use Rattle.std.specs.Str.{bytes_eq}
 use Rattle.serde_json.specs.Data.{Data, null, boolean, number, string, array, object, Items, no_items, item, Members, member, no_members}
 use Rattle.serde_json.specs.Find.{as_bool, as_number, as_u64, as_str, as_array, as_object}
-use Rattle.loom_path.specs.declared.rt.node.Status.{Status}
-use Rattle.loom_path.specs.declared.rt.node.Status.TheVariants.{Disabled, Skip, Yield, Pending, Active, Visited}
-use Rattle.loom_path.specs.declared.rt.node.Node.{Node}
-use Rattle.loom_path.specs.declared.rt.node.Node.TheVariants.{Schedule, Load, Spurious}
+use Rattle.loom_nodes.specs.declared.rt.node.Status.{Status}
+use Rattle.loom_nodes.specs.declared.rt.node.Status.TheVariants.{Disabled, Skip, Yield, Pending, Active, Visited}
+use Rattle.loom_nodes.specs.declared.rt.node.Node.{Node}
+use Rattle.loom_nodes.specs.declared.rt.node.Node.TheVariants.{Schedule, Load, Spurious}
 use Rattle.loom_path.specs.WellFormed.{is_well_formed_schedule, is_well_formed_load, is_well_formed_spurious, unnoted}
 
 infixl 10 ◌>>=◌

@@ -1,7 +1,7 @@
 //! A path as a JSON value.
 ghost use Rattle.std.specs.Prelude.{◌≡◌, ◌≤◌, ◌⊎◌, List, length, Some, None, IfOk, IfErr, IfSome, map};
 ghost use Rattle.serde_json.specs.View.{view};
-ghost use Rattle.loom_path.specs.declared.rt.node.Node.{Node};
+ghost use Rattle.loom_nodes.specs.declared.rt.node.Node.{Node};
 ghost use Rattle.loom_path.specs.Routes.{at_rest, settings};
 ghost use Rattle.loom_path.specs.WellFormed.{AreWellFormed};
 ghost use Rattle.loom_checkpoint.specs.Checkpoint.{DiffersIn, IsPathOf, IsRefused, IsMemory, ValueLaw};

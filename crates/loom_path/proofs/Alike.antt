@@ -1,15 +1,15 @@
 -- The notes of a path's schedules follow from the rest of its nodes.
-use Rattle.std.proofs.Common.{◌≡◌, ◌≤◌, ◌+◌, ℕ, zero, suc, Bool, List, [], ◌∷◌, ◌++◌, length, map, take, get_or, Option, Some, None, refl, ap, ap₂, sym, ◌∙◌, subst, arith}
+use Rattle.std.proofs.Common.{◌≡◌, ◌≤◌, ◌+◌, ℕ, suc, List, [], ◌∷◌, ◌++◌, length, map, take, get_or, Option, Some, refl, ap, ap₂, sym, ◌∙◌, subst, arith}
 use Rattle.std.specs.Prelude.{slice_get}
 use Rattle.std.proofs.lemmas.List.{map-append, take_more}
 use Rattle.loom_parts.specs.declared.choice.Choice.{Choice}
 use Rattle.loom_objects.specs.Question.{Made}
-use Rattle.loom_path.specs.declared.rt.node.Node.{Node}
-use Rattle.loom_path.specs.declared.rt.node.Node.TheVariants as node
-use Rattle.loom_path.specs.declared.rt.node.Schedule.{Schedule}
-use Rattle.loom_path.specs.Tallies.{passes_to, IsNoted, AreNoted}
+use Rattle.loom_nodes.specs.declared.rt.node.Node.{Node}
+use Rattle.loom_nodes.specs.declared.rt.node.Node.TheVariants as node
+use Rattle.loom_nodes.specs.declared.rt.node.Schedule.{Schedule}
+use Rattle.loom_nodes.specs.Tallies.{passes_to, IsNoted, AreNoted}
 use Rattle.loom_path.specs.WellFormed.{unnoted, bare, AreAlike}
-use Rattle.loom_path.proofs.Notes.{passes_more}
+use Rattle.loom_nodes.proofs.Notes.{passes_more}
 
 -- a schedule with these notes
 abbrev with_notes : ℕ → Option ℕ → Option ℕ → Schedule → Schedule

@@ -1,6 +1,4 @@
 pub mod Marking
 pub mod Nodes
-pub mod Notes
-pub mod Tallies
 pub mod Alike
 pub mod WellFormed

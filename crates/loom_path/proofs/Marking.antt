@@ -1,7 +1,5 @@
 -- Proofs about the marks that a schedule makes at nodes before it.
 pub mod Adding
-pub mod Places
-pub mod Nearest
 pub mod Marked
 pub mod Noted
 pub mod Added

@@ -1,9 +1,4 @@
--- Proofs about the nodes of the path, and about the path.
-pub mod Statuses
-pub mod Choosing
+-- Proofs about the nodes that a path makes, and about the path.
 pub mod Making
 pub mod Given
-pub mod Turns
-pub mod Slots
 pub mod Paths
-pub mod Fronts

@@ -1,30 +1,27 @@
 -- A node is well formed where it is at rest, with a default.
-use Rattle.std.proofs.Common.{◌≡◌, ◌≢◌, ◌<◌, ◌≤◌, ◌+◌, ℕ, zero, suc, Bool, true, false, not, ◌&&◌, ◌||◌, List, [], ◌∷◌, length, map, count_by, slice_index, Option, Some, None, ◌⊎◌, inl, inr, refl, ap, ap₂, sym, ◌∙◌, subst, arith, tests}
-use Rattle.std.specs.Prelude.{slice_get, cond, nat_lt, slice_index_or, ◌==◌, IsTrue, ◌↔◌, IsSomeAnd}
-use Rattle.std.specs.List.{position_from}
+use Rattle.std.proofs.Common.{◌≡◌, ◌≢◌, ◌<◌, ◌≤◌, ◌+◌, ℕ, zero, suc, Bool, true, false, ◌&&◌, ◌||◌, List, [], ◌∷◌, length, map, count_by, slice_index, Option, Some, None, ◌⊎◌, inl, inr, refl, ap, sym, ◌∙◌, arith, tests}
+use Rattle.std.specs.Prelude.{slice_get, cond, nat_lt, slice_index_or, ◌↔◌}
 use Rattle.std.proofs.lemmas.Bool.{false≢true, eqb-true, eq-eqb}
 use Rattle.std.proofs.lemmas.List.Sums.{sum_by-cons}
 use borrow.Author.Tests.{ltb-true}
 use Rattle.loom_parts.specs.declared.choice.Choice.{Choice}
 use Rattle.loom_parts.specs.declared.choice.Choice.TheVariants.{Thread, Load, Spurious}
-use Rattle.loom_parts.specs.declared.ability.Ability.{Ability}
 use Rattle.loom_parts.specs.declared.ability.Ability.TheVariants.{Able}
 use Rattle.loom_objects.specs.Question.{Made, Among, able_threads, slots_from, slots, asked_store, made_of}
 use Rattle.loom_walks.specs.Walk.Machine.{is_thread}
 use Rattle.loom_walks.specs.Walk.Choices.{same, among, pick}
-use Rattle.loom_walks.specs.Walk.Path.{Status as State, Closed, Skip as Skipped, Pending as ToTry, Active as Chosen, Visited as Tried, Stored, IsAtRest}
+use Rattle.loom_walks.specs.Walk.Path.{Status as State, Closed, Skip as Skipped, Pending as ToTry, Active as Chosen, Visited as Tried, IsAtRest}
 use Rattle.loom_walks.specs.Trees.Drive.{value_status}
 use Rattle.loom_walks.proofs.Trees.Machines.{able_among}
-use Rattle.loom_path.specs.declared.rt.node.Status.{Status}
-use Rattle.loom_path.specs.declared.rt.node.Status.TheVariants.{Disabled, Skip, Yield, Pending, Active, Visited}
-use Rattle.loom_path.specs.declared.rt.node.Node.{Node}
-use Rattle.loom_path.specs.declared.rt.node.Node.TheVariants as node
-use Rattle.loom_path.specs.Nodes.{ability_of, state_of, state_at, thread_state, active_thread, is_active, seen, seen_threads, in_turn, IsWell, IsWellSchedule}
-use Rattle.loom_path.specs.WellFormed.{is_tried, is_marked, is_at, is_well_formed_schedule, is_well_formed_load, is_well_formed_spurious, is_well_formed_from, IsWellFormed, IsSettled, WellFormedLaw, AreWellFormed, AreAtRest}
-use Rattle.loom_path.specs.Nodes.{AreWell}
+use Rattle.loom_nodes.specs.declared.rt.node.Status.{Status}
+use Rattle.loom_nodes.specs.declared.rt.node.Status.TheVariants.{Disabled, Skip, Yield, Pending, Active, Visited}
+use Rattle.loom_nodes.specs.declared.rt.node.Node.{Node}
+use Rattle.loom_nodes.specs.declared.rt.node.Node.TheVariants as node
+use Rattle.loom_nodes.specs.Nodes.{ability_of, state_of, state_at, thread_state, active_thread, is_active, seen_threads, in_turn, IsWell}
+use Rattle.loom_path.specs.WellFormed.{is_tried, is_marked, is_at, is_well_formed_schedule, is_well_formed_spurious, is_well_formed_from, IsWellFormed, IsSettled, WellFormedLaw, AreWellFormed, AreAtRest}
+use Rattle.loom_nodes.specs.Nodes.{AreWell}
 use Rattle.loom_path.specs.Routes.{stored}
-use Rattle.loom_path.proofs.Nodes.Statuses.{active_is, pending_is, state_there, first_found, first_is}
-use Rattle.loom_path.proofs.Nodes.Making.{pick_yes, pick_no}
+use Rattle.loom_nodes.proofs.Nodes.Statuses.{active_is, state_there, first_is}
 
 -- ---- tests
 

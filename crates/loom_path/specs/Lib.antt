@@ -1,6 +1,6 @@
-pub mod Nodes
+pub use Rattle.loom_nodes.specs.Nodes
+pub use Rattle.loom_nodes.specs.Tallies
 pub mod Routes
-pub mod Tallies
 pub mod Marking
 pub mod WellFormed
 pub mod Same

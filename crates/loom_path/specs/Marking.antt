@@ -1,15 +1,13 @@
 -- What the marks of a schedule do to a path, one thread after the other.
-use Rattle.std.specs.Prelude.{ℕ, suc, ◌≡◌, Bool, true, ◌&&◌, eqb, List, [], ◌∷◌, Option, Some, None, slice_get, IsSomeAnd}
+use Rattle.std.specs.Prelude.{ℕ, ◌≡◌, Bool, ◌&&◌, eqb, List, [], ◌∷◌, Option, slice_get}
 use Rattle.loom_parts.specs.declared.choice.Choice.{Choice}
 use Rattle.loom_objects.specs.Question.{Made}
-use Rattle.loom_walks.specs.Walk.Machine.{is_thread}
 use Rattle.loom_walks.specs.Walk.UnderWay.{mark_with}
-use Rattle.loom_walks.specs.Trees.Drive.{passes_of, pass_of}
-use Rattle.loom_walks.specs.Trees.Marks.{schedules_down, from_exploring, adds_there, adds_any, is_off_bound}
+use Rattle.loom_walks.specs.Trees.Drive.{passes_of}
+use Rattle.loom_walks.specs.Trees.Marks.{adds_there, adds_any, is_off_bound}
 use Rattle.loom_walks.specs.Trees.Meeting.{count, front_of}
 use Rattle.loom_path.specs.Routes.{Route, stored, trail}
-use Rattle.loom_path.specs.declared.rt.node.Node.{Node}
-use Rattle.std.specs.Prelude.{map}
+pub use Rattle.loom_nodes.specs.Nearest.{passes_in, IsScheduleAt, IsNearest}
 
 -- the marks for these pairs of a place and a thread
 abbrev pub marks_for : Option ℕ → List (Made × Choice) → List (ℕ × ℕ) → ℕ → Choice → Bool
@@ -30,18 +28,3 @@ Adds old place thread new = IsMarked old (marks_at old.search.bound (passes_of (
 -- the thread was added for the access that was made at this place
 abbrev pub Marks : Route → ℕ → ℕ → Route → Type 0
 Marks old place thread new = IsMarked old (marks_for old.search.bound (passes_of (trail old)) ((place, thread) ∷ [])) new
-
--- the nodes that were passed, with their choices
-abbrev pub passes_in : List Node → List (Made × Choice)
-passes_in nodes = map pass_of (stored nodes)
-
--- a schedule was passed at this place
-abbrev pub IsScheduleAt : List (Made × Choice) → ℕ → Type 0
-IsScheduleAt passes k = IsSomeAnd (slice_get passes k) (λ pass. is_thread pass.0.default ≡ true)
-
--- the place of the nearest schedule that explores, from this place down, with the schedules before it
-abbrev pub IsNearest : List (Made × Choice) → ℕ → Option ℕ → Type 0
-IsNearest passes place None = from_exploring (schedules_down 0 (suc place) passes []) ≡ []
-IsNearest passes place (Some k) =
-    (pass : Made × Choice) × (slice_get passes k ≡ Some pass) × (is_thread pass.0.default ≡ true)
-    × (from_exploring (schedules_down 0 (suc place) passes []) ≡ (k, pass.0, pass.1) ∷ schedules_down 0 k passes [])

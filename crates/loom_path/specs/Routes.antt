@@ -1,5 +1,5 @@
 -- A path as its callers see it, and what it says to a run.
-use Rattle.std.specs.Prelude.{ℕ, ◌≡◌, ◌≢◌, ◌<◌, ◌+◌, Bool, true, false, List, [], length, map, take, Option, Some, None, slice_get, Result, Ok, Err, ⊤}
+use Rattle.std.specs.Prelude.{ℕ, ◌≡◌, ◌≢◌, ◌<◌, ◌+◌, Bool, true, List, [], length, take, Option, Some, None, slice_get, Result, Ok, Err, ⊤}
 use Rattle.std.specs.Option.{option_map}
 use Rattle.loom_view_parts.specs.declared.rt.failure.FailureKind.{FailureKind}
 use Rattle.loom_view_parts.specs.declared.rt.failure.FailureKind.TheVariants.{NotDeterministic}
@@ -14,13 +14,14 @@ use Rattle.loom_objects.specs.declared.operation.ExploreOp.{ExploreOp}
 use Rattle.loom_objects.specs.declared.rt.exploring.Exploring.{Exploring}
 use Rattle.loom_objects.specs.declared.rt.thread.Offers.{Offers}
 use Rattle.loom_objects.specs.Tree.{Tree}
-use Rattle.loom_path.specs.declared.rt.node.Node.{Node}
+use Rattle.loom_nodes.specs.declared.rt.node.Node.{Node}
 use Rattle.loom_path.specs.declared.rt.path.Search.{Search}
-use Rattle.loom_walks.specs.Walk.Path.{Stored, choices, step}
+use Rattle.loom_walks.specs.Walk.Path.{choices}
 use Rattle.loom_walks.specs.Trees.Meeting.{Settings}
 use Rattle.loom_walks.specs.Trees.Drive.{Trail, branch, drive, backtrack}
 use Rattle.loom_walks.specs.Trees.Marks.{marking}
-use Rattle.loom_path.specs.Nodes.{seen}
+pub use Rattle.loom_nodes.specs.Nodes.{stored}
+pub use Rattle.loom_nodes.specs.Ways.{Steps}
 
 -- the settings of its search, and whether its runs begin to explore; the nodes, how many of them the run has passed, whether it
 -- explores at those that come, and the choices that new nodes take in turn
@@ -60,9 +61,6 @@ SwitchesAs (Err kind) old result new = (result ≡ Err kind) × (new ≡ old)
 
 abbrev pub Switches : Route → ExploreOp → Result ⊤ FailureKind → Route → Type 0
 Switches old op result new = SwitchesAs (switched op old.exploring) old result new
-
-abbrev pub stored : List Node → List Stored
-stored nodes = map seen nodes
 
 -- the path as a walk sees it
 abbrev pub trail : Route → Trail
@@ -111,11 +109,6 @@ abbrev pub PassesLoad : Route → Result ℕ Stop → Route → Type 0
 PassesLoad old (Ok slot) new = (choice_here old ≡ Some (Load slot)) × (new ≡ record old { position = old.position + 1 })
 PassesLoad old (Err stop) new =
     ((slot : ℕ) → choice_here old ≢ Some (Load slot)) × (stop ≡ Failure (record { kind = NotDeterministic; location = None })) × (new ≡ old)
-
--- the deepest node that can go on does, and what follows it is dropped; or no node can
-abbrev pub Steps : List Node → Bool → List Node → Type 0
-Steps old true new = step (stored old) ≡ Some (stored new)
-Steps old false new = step (stored old) ≡ None
 
 -- the way through a tree that the path takes: what it comes to, and the path after it
 abbrev pub drives : {A : Type 0} → Tree A → Route → Result A FailureKind × Trail

@@ -11,11 +11,11 @@ use Rattle.loom_parts.specs.contracts.choice.ChoicePartialEq.TheImpl as choices
 use Rattle.loom_objects.specs.contracts.rt.exploring.Exploring as exploring
 use Rattle.loom_objects.specs.contracts.rt.exploring.ExploringPartialEq.TheImpl as switches
 use Rattle.loom_parts.specs.declared.choice.Choice.TheVariants as choice
-use Rattle.loom_path.specs.contracts.rt.node.NodePartialEq.TheImpl as nodes
-use Rattle.loom_path.specs.contracts.rt.node.Status as status
-use Rattle.loom_path.specs.contracts.rt.node.StatusPartialEq.TheImpl as statuses
+use Rattle.loom_nodes.specs.contracts.rt.node.NodePartialEq.TheImpl as nodes
+use Rattle.loom_nodes.specs.contracts.rt.node.Status as status
+use Rattle.loom_nodes.specs.contracts.rt.node.StatusPartialEq.TheImpl as statuses
 use Rattle.loom_path.specs.contracts.rt.path.SearchPartialEq.TheImpl as searches
-use Rattle.loom_path.specs.declared.rt.node.Node.TheVariants as node
+use Rattle.loom_nodes.specs.declared.rt.node.Node.TheVariants as node
 use Rattle.loom_path.specs.declared.rt.path.Search.{Search}
 use Rattle.loom_path.specs.Routes.{Route, settings}
 

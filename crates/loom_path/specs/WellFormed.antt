@@ -3,14 +3,12 @@ use Rattle.std.specs.Prelude.{ℕ, ◌≡◌, ◌≢◌, Bool, true, false, ◌&
 use Rattle.loom_parts.specs.declared.choice.Choice.TheVariants.{Thread}
 use Rattle.loom_objects.specs.Question.{slots}
 use Rattle.loom_walks.specs.Walk.Path.{Stored, IsAtRest}
-use Rattle.loom_path.specs.declared.rt.node.Status.{Status}
-use Rattle.loom_path.specs.declared.rt.node.Status.TheVariants.{Disabled, Skip, Yield, Pending, Active, Visited}
-use Rattle.loom_path.specs.declared.rt.node.Node.{Node}
-use Rattle.loom_path.specs.declared.rt.node.Node.TheVariants as node
-use Rattle.loom_path.specs.declared.rt.node.Schedule.{Schedule}
-use Rattle.loom_path.specs.declared.rt.node.Load.{Load}
-use Rattle.loom_path.specs.declared.rt.node.Spurious.{Spurious}
-use Rattle.loom_path.specs.Nodes.{seen, is_active, IsWell}
+use Rattle.loom_nodes.specs.declared.rt.node.Status.{Status}
+use Rattle.loom_nodes.specs.declared.rt.node.Status.TheVariants.{Disabled, Skip, Yield, Pending, Active, Visited}
+use Rattle.loom_nodes.specs.declared.rt.node.Node.{Node}
+use Rattle.loom_nodes.specs.declared.rt.node.Node.TheVariants as node
+use Rattle.loom_nodes.specs.declared.rt.node.Schedule.{Schedule}
+use Rattle.loom_nodes.specs.Nodes.{seen, is_active, IsWell}
 use Rattle.loom_path.specs.Routes.{Route}
 
 -- the thread is the choice, or was tried

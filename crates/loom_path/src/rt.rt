@@ -1,4 +1,6 @@
-//! The nodes of a path, and the path.
+//! The path, and the nodes of it.
 pub mod backtrack;
-pub mod node;
+mod making;
 pub mod path;
+
+pub use loom_nodes::rt::node;

@@ -4,15 +4,15 @@ use Rattle.std.specs.Prelude.{slice_get, slice_set}
 use Rattle.loom_walks.specs.Trees.Drive.{passes_of}
 use Rattle.loom_walks.specs.Trees.Marks.{is_off_bound}
 use Rattle.loom_walks.specs.Walk.UnderWay.{mark_with}
-use Rattle.loom_path.specs.declared.rt.node.Node.{Node}
-use Rattle.loom_path.specs.declared.rt.node.Node.TheVariants as node
-use Rattle.loom_path.specs.declared.rt.node.Schedule.{Schedule}
-use Rattle.loom_path.specs.Nodes.{seen_schedule, mark_added, AreWell, IsWellSchedule}
+use Rattle.loom_nodes.specs.declared.rt.node.Node.{Node}
+use Rattle.loom_nodes.specs.declared.rt.node.Node.TheVariants as node
+use Rattle.loom_nodes.specs.declared.rt.node.Schedule.{Schedule}
+use Rattle.loom_nodes.specs.Nodes.{seen_schedule, mark_added, AreWell, IsWellSchedule}
 use Rattle.loom_path.specs.Routes.{Route, stored, trail}
 use Rattle.loom_path.specs.Marking.{IsScheduleAt, Adds, marks_at}
-use Rattle.loom_path.specs.Tallies.{last_switch, AreNoted}
-use Rattle.loom_path.proofs.Marking.Nearest.{is_no_thread}
-use Rattle.loom_path.proofs.Marking.Noted.{schedule_within, is_schedule, got_node, well_got, added_off, added_at_bound, switch_here}
+use Rattle.loom_nodes.specs.Tallies.{last_switch, AreNoted}
+use Rattle.loom_nodes.proofs.Marking.Nearest.{got_node, is_no_thread}
+use Rattle.loom_path.proofs.Marking.Noted.{schedule_within, is_schedule, well_got, added_off, added_at_bound, switch_here}
 
 -- the path that is held, as its value, has a schedule at the place
 module _ (p old : Route) (view : p ≡ old) (place : ℕ) (asked : IsScheduleAt (passes_of (trail old)) place) (got : Node) (value : got ≡ get_or p.nodes place got) where

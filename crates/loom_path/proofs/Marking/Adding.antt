@@ -15,11 +15,11 @@ use Rattle.loom_walks.specs.Walk.Path.{Status as State, Closed, Skip as Skipped,
 use Rattle.loom_walks.specs.Trees.Marks.{is_unable, is_disabled, adds_there}
 use Rattle.loom_walks.proofs.Walk.Lists.{pick_same, pick_other}
 use Rattle.loom_walks.proofs.Walk.Resting.{mark_at_rest}
-use Rattle.loom_path.specs.declared.rt.node.Schedule.{Schedule}
-use Rattle.loom_path.specs.declared.rt.node.Status.{Status}
-use Rattle.loom_path.specs.declared.rt.node.Status.TheVariants.{Disabled, Skip, Yield, Pending, Active, Visited}
-use Rattle.loom_path.specs.Nodes.{ability_of, state_of, state_at, thread_state, is_active, active_thread, marked_status, mark_added, seen_threads, seen_schedule, IsWellSchedule}
-use Rattle.loom_path.proofs.Nodes.Statuses.{state_there, state_put, state_else, offers_put}
+use Rattle.loom_nodes.specs.declared.rt.node.Schedule.{Schedule}
+use Rattle.loom_nodes.specs.declared.rt.node.Status.{Status}
+use Rattle.loom_nodes.specs.declared.rt.node.Status.TheVariants.{Disabled, Skip, Yield, Pending, Active, Visited}
+use Rattle.loom_nodes.specs.Nodes.{ability_of, state_of, state_at, thread_state, is_active, active_thread, marked_status, mark_added, seen_threads, seen_schedule, IsWellSchedule}
+use Rattle.loom_nodes.proofs.Nodes.Statuses.{state_there, state_put, state_else, offers_put}
 
 -- ---- a schedule with marks
 

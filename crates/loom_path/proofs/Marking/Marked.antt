@@ -12,9 +12,9 @@ use Rattle.loom_walks.specs.Trees.Marks.{Place, schedules_down, from_exploring, 
 use Rattle.loom_walks.specs.Trees.Meeting.{count, front_of}
 use Rattle.loom_walks.proofs.Walk.UnderWay.{with_twice}
 use Rattle.loom_path.specs.Marking.{marks_for, marks_at}
-use Rattle.loom_path.specs.Tallies.{first_of}
+use Rattle.loom_nodes.specs.Tallies.{first_of}
 use Rattle.loom_path.proofs.Marking.Adding.{unmarked}
-use Rattle.loom_path.proofs.Marking.Places.{list_of, one_switch}
+use Rattle.loom_nodes.proofs.Marking.Places.{list_of, one_switch}
 
 -- ---- marks at one node
 

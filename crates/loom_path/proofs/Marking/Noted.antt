@@ -1,5 +1,5 @@
 -- A schedule that has a thread added, among the nodes of a path.
-use Rattle.std.proofs.Common.{◌≡◌, ◌≤◌, ◌<◌, ℕ, zero, suc, Bool, true, false, ◌&&◌, eqb, List, [], ◌∷◌, length, map, take, get_or, Option, Some, refl, ap, sym, ◌∙◌, subst, arith}
+use Rattle.std.proofs.Common.{◌≡◌, ◌≤◌, ◌<◌, ℕ, zero, suc, Bool, true, false, ◌&&◌, eqb, List, [], ◌∷◌, length, map, take, Option, Some, refl, ap, sym, ◌∙◌, subst, arith}
 use Rattle.std.specs.Prelude.{slice_get, slice_set, IsSomeAnd}
 use Rattle.std.specs.Option.{option_map}
 use Rattle.loom_parts.specs.declared.choice.Choice.TheVariants.{Thread}
@@ -12,16 +12,16 @@ use Rattle.loom_walks.specs.Walk.UnderWay.{mark_with}
 use Rattle.loom_walks.specs.Trees.Drive.{pass_of}
 use Rattle.loom_walks.specs.Trees.Marks.{switching, adds_there, is_off_bound}
 use Rattle.loom_walks.specs.Trees.Meeting.{count, front_of, start, tally}
-use Rattle.loom_path.specs.declared.rt.node.Node.{Node}
-use Rattle.loom_path.specs.declared.rt.node.Node.TheVariants as node
-use Rattle.loom_path.specs.declared.rt.node.Schedule.{Schedule}
-use Rattle.loom_path.specs.declared.rt.node.Tally.{Tally}
-use Rattle.loom_path.specs.Nodes.{seen, seen_schedule, mark_added, IsWell, AreWell}
+use Rattle.loom_nodes.specs.declared.rt.node.Node.{Node}
+use Rattle.loom_nodes.specs.declared.rt.node.Node.TheVariants as node
+use Rattle.loom_nodes.specs.declared.rt.node.Schedule.{Schedule}
+use Rattle.loom_nodes.specs.declared.rt.node.Tally.{Tally}
+use Rattle.loom_nodes.specs.Nodes.{seen, seen_schedule, mark_added, IsWell, AreWell}
 use Rattle.loom_path.specs.Routes.{stored}
 use Rattle.loom_path.specs.Marking.{IsScheduleAt, marks_at}
-use Rattle.loom_path.specs.Tallies.{first_of, passes_to, last_exploring, last_switch, IsNotedAt, AreNoted, IsTally}
+use Rattle.loom_nodes.specs.Tallies.{first_of, passes_to, last_exploring, last_switch, IsNotedAt, AreNoted, IsTally}
 use Rattle.loom_path.proofs.Marking.Marked.{with_marks, unmarked_node, one_marked, elsewhere}
-use Rattle.loom_path.proofs.Marking.Places.{down_front, front_passes}
+use Rattle.loom_nodes.proofs.Marking.Places.{down_front, front_passes}
 
 -- ---- a node that is set
 
@@ -41,11 +41,6 @@ got_else (x ∷ nodes) zero zero n h = absurd (h refl)
 got_else (x ∷ nodes) zero (suc j) n h = refl
 got_else (x ∷ nodes) (suc k) zero n h = refl
 got_else (x ∷ nodes) (suc k) (suc j) n h = got_else nodes k j n (λ e. h (ap suc e))
-
-pub got_node : (nodes : List Node) (k : ℕ) (n d : Node) → k < length nodes → get_or nodes k d ≡ n → slice_get nodes k ≡ Some n
-got_node [] k n d h e = absurd (omega arith)
-got_node (x ∷ nodes) zero n d h e = ap Some e
-got_node (x ∷ nodes) (suc k) n d h e = got_node nodes k n d (omega arith) e
 
 pub stored_get : (nodes : List Node) (k : ℕ) (n : Node) → slice_get nodes k ≡ Some n → slice_get (stored nodes) k ≡ Some (seen n)
 stored_get [] k n h = absurd (cc h)

@@ -9,10 +9,10 @@ use Rattle.loom_walks.specs.Walk.Path.{Stored}
 use Rattle.loom_walks.specs.Walk.UnderWay.{mark_with}
 use Rattle.loom_walks.specs.Trees.Drive.{pass_of, passes_of}
 use Rattle.loom_walks.specs.Trees.Marks.{schedules_down}
-use Rattle.loom_path.specs.Tallies.{last_switch}
+use Rattle.loom_nodes.specs.Tallies.{last_switch}
 use Rattle.loom_path.specs.Routes.{Route, stored, trail}
 use Rattle.loom_path.specs.Marking.{marks_at, IsMarked, Adds, Marks, IsNearest, IsScheduleAt}
-use Rattle.loom_path.proofs.Marking.Places.{switch_schedule}
+use Rattle.loom_nodes.proofs.Marking.Places.{switch_schedule}
 use Rattle.loom_path.proofs.Marking.Marked.{same_passes, marks_none, marks_first, marks_both}
 
 -- ---- a path with marks

@@ -13,16 +13,17 @@ use Rattle.loom_walks.specs.Walk.Machine.{is_thread}
 use Rattle.loom_walks.specs.Walk.Choices.{same, among, pick}
 use Rattle.loom_walks.specs.Walk.Path.{Status as State, Closed, Skip as Skipped, Pending as ToTry, Active as Chosen, Stored, IsAtRest, fresh, choose}
 use Rattle.loom_walks.specs.Trees.Drive.{value_status, made_at, new_node}
-use Rattle.loom_path.specs.declared.rt.node.Status.{Status}
-use Rattle.loom_path.specs.declared.rt.node.Status.TheVariants.{Active}
-use Rattle.loom_path.specs.Nodes.{ability_of, made_status, with_status, state_of, state_at, thread_state, active_thread, is_active, seen_threads}
+use Rattle.loom_nodes.specs.declared.rt.node.Status.{Status}
+use Rattle.loom_nodes.specs.declared.rt.node.Status.TheVariants.{Active}
+use Rattle.loom_nodes.specs.Nodes.{ability_of, made_status, with_status, state_of, state_at, thread_state, active_thread, is_active, seen_threads}
 use Rattle.loom_objects.specs.Tree.{Tree, Gives, Asks}
 use Rattle.loom_walks.specs.Trees.Sound.{IsSoundTree}
 use Rattle.loom_walks.specs.Trees.Meeting.{machine_of}
 use Rattle.loom_objects.specs.Asked.{which_thread}
 use Rattle.loom_walks.proofs.Walk.Resting.{fresh_at_rest}
 use Rattle.loom_walks.proofs.Trees.Machines.{able_among, machine_law}
-use Rattle.loom_path.proofs.Nodes.Statuses.{state_there, state_else, get_put, get_else, offers_put, first_is}
+use Rattle.loom_nodes.proofs.Nodes.Picks.{pick_yes, pick_no}
+use Rattle.loom_nodes.proofs.Nodes.Statuses.{state_there, state_else, get_put, get_else, offers_put, first_is}
 
 -- ---- what threads offer
 
@@ -226,14 +227,6 @@ default_offered offers sound = offered offers.default offers.abilities sound
     offered (Some k) abilities h = able_among abilities k 0 k (omega arith) h
 
 -- ---- a new node at a choice that was given
-
-pub pick_yes : {B C : Type 0} (d : Dec B) (x y : C) → B → pick d x y ≡ x
-pick_yes (yes a) x y b = refl
-pick_yes (no f) x y b = absurd (f b)
-
-pub pick_no : {B C : Type 0} (d : Dec B) (x y : C) → (B → ⊥) → pick d x y ≡ y
-pick_no (yes a) x y f = absurd (f a)
-pick_no (no g) x y f = refl
 
 module _ (every : Bool) where
   -- the default

@@ -1,26 +1,32 @@
 -- What a path says of its nodes, as a walk sees it.
-use Rattle.std.proofs.Common.{◌≡◌, ◌≤◌, ◌<◌, ◌+◌, ℕ, zero, suc, Bool, true, false, List, [], ◌∷◌, ◌++◌, length, map, take, get_or, Option, Some, None, refl, ap, ap₂, sym, ◌∙◌, subst, arith, length-append}
-use Rattle.std.specs.Prelude.{slice_get, nat_lt, cond, Ok, Err}
+use Rattle.std.proofs.Common.{◌≡◌, ◌≢◌, ◌≤◌, ◌<◌, ◌+◌, ℕ, zero, suc, Bool, true, false, List, [], ◌∷◌, ◌++◌, length, map, take, get_or, Option, Some, None, refl, ap, ap₂, sym, ◌∙◌, subst, arith, length-append}
+use Rattle.std.specs.Prelude.{slice_get, IsSomeAnd, nat_lt, cond, Ok, Err}
 use Rattle.std.specs.Option.{option_map}
 use Rattle.std.proofs.lemmas.List.{length-map}
 use Rattle.loom_view_parts.specs.declared.rt.failure.FailureKind.TheVariants.{NotDeterministic, TooManyBranches}
 use Rattle.loom_parts.specs.declared.choice.Choice.{Choice}
-use Rattle.loom_objects.specs.Question.{Question, made_of}
+use Rattle.loom_objects.specs.Question.{Question, made_of, asked_store}
 use Rattle.loom_walks.specs.Walk.Path.{Stored, choices}
 use Rattle.loom_walks.specs.Walk.Choices.{pick}
 use Rattle.loom_walks.specs.Trees.Comparing.{same_made}
 use Rattle.loom_walks.specs.Trees.Meeting.{Settings, every_at}
 use Rattle.loom_walks.specs.Trees.Drive.{Trail, Answer, passes_of, branch, branch_at, lengthen, new_node}
-use Rattle.loom_path.specs.declared.rt.node.Node.{Node}
-use Rattle.loom_path.specs.Nodes.{seen, IsWell, AreWell}
+use Rattle.loom_nodes.specs.declared.rt.node.Node.{Node}
+use Rattle.loom_nodes.specs.Nodes.{seen, IsWell, AreWell}
 use Rattle.loom_path.specs.Routes.{Route, stored, trail, choice_here, passed, Grows, Says}
-use Rattle.loom_path.proofs.Nodes.Making.{pick_yes, pick_no}
+use Rattle.loom_nodes.proofs.Notes.{node_within}
+use Rattle.loom_nodes.proofs.Nodes.Picks.{pick_yes, pick_no}
 
 -- the choices at the first nodes
 pub taken : (n : ℕ) (nodes : List Node) → choices (take n (stored nodes)) ≡ map (λ (x : Node). (seen x).present) (take n nodes)
 taken zero nodes = refl
 taken (suc n) [] = refl
 taken (suc n) (x ∷ nodes) = ap (λ l. (seen x).present ∷ l) (taken n nodes)
+
+-- in each search all its slots are to be tried
+pub every_load : (exploring : Bool) (xs : List ℕ) (path : Route) → every_at path.search (passes_of (trail path)) (made_of (asked_store exploring xs)) ≡ true
+every_load exploring [] path = refl
+every_load exploring (x ∷ xs) path = refl
 
 -- ---- a node at the end
 
@@ -52,6 +58,11 @@ stored_at : (nodes : List Node) (i : ℕ) (n : Node) → i < length nodes → n 
 stored_at [] i n h e = absurd (omega arith)
 stored_at (x ∷ nodes) zero n h e = ap (λ (m : Node). Some (seen m)) (sym e)
 stored_at (x ∷ nodes) (suc i) n h e = stored_at nodes i n (omega arith) e
+
+got_there : (nodes : List Node) (k : ℕ) (n : Node) → slice_get nodes k ≡ Some n → n ≡ get_or nodes k n
+got_there [] k n h = refl
+got_there (x ∷ nodes) zero n h = cc h
+got_there (x ∷ nodes) (suc k) n h = got_there nodes k n h
 
 -- the choice of the node at the position
 pub choice_stored : (path : Route) (n : Node) → path.position < length path.nodes → n ≡ get_or path.nodes path.position n → choice_here path ≡ Some (seen n).present
@@ -92,6 +103,18 @@ module _ (path : Route) (question : Question) where
   differs n h e f =
       ap (branch_at path.search (trail path) question) (stored_at path.nodes path.position n h e)
       ∙ pick_no (same_made (seen n).made (made_of question)) (Ok (seen n).present, trail (record path { position = path.position + 1 })) (Err NotDeterministic, trail path) f
+
+  -- the same of a node that was found there
+  pub follows_there : (n : Node) (o : Choice) → slice_get path.nodes path.position ≡ Some n → (seen n).made ≡ made_of question → o ≡ (seen n).present
+      → Branches (Ok o, trail (record path { position = path.position + 1 }))
+  follows_there n o h f g = follows n o (node_within path.nodes path.position n h) (got_there path.nodes path.position n h) f g
+
+  pub differs_there : IsSomeAnd (slice_get path.nodes path.position) (λ n. (seen n).made ≢ made_of question) → Branches (Err NotDeterministic, trail path)
+  differs_there h = go (slice_get path.nodes path.position) refl h
+    where
+      go : (o : Option Node) → slice_get path.nodes path.position ≡ o → IsSomeAnd o (λ n. (seen n).made ≢ made_of question) → Branches (Err NotDeterministic, trail path)
+      go None e f = absurd f
+      go (Some n) e f = differs n (node_within path.nodes path.position n e) (got_there path.nodes path.position n e) f
 
   -- past its end the path has room, or not
   pub full : length path.nodes ≤ path.position → path.search.max_branches ≤ path.position → Branches (Err TooManyBranches, trail path)

@@ -1,14 +1,15 @@
 //! The marks that a schedule makes at nodes before it (loom's `rt/path.rs`).
-ghost use Rattle.std.specs.Prelude.{◌≡◌, true, false, length};
+ghost use Rattle.std.specs.Prelude.{◌≡◌, true, false, length, map};
 ghost use Rattle.loom_walks.specs.Trees.Drive.{passes_of};
 ghost use Rattle.loom_walks.specs.Trees.Marks.{is_off_bound};
-ghost use Rattle.loom_path.specs.Marking.{Adds, Marks, IsNearest, IsScheduleAt, passes_in};
-ghost use Rattle.loom_path.specs.Nodes.{IsWellSchedule, mark_added, seen_schedule};
+ghost use Rattle.loom_path.specs.Marking.{Adds, Marks, IsNearest, IsScheduleAt};
+ghost use Rattle.loom_path.specs.Nodes.{IsWellSchedule, mark_added, marked_status, seen_schedule};
 ghost use Rattle.loom_path.specs.Routes.{Backtracks, trail};
-ghost use Rattle.loom_path.specs.Tallies.{AreNoted, last_switch};
+ghost use Rattle.loom_path.specs.Tallies.{last_switch};
 
-use crate::rt::node::{Node, Schedule};
 use crate::rt::path::Path;
+use loom_nodes::rt::node::{Node, Schedule, Status};
+use loom_nodes::rt::way::exploring_in;
 
 impl Path {
     /// Makes the marks of a schedule: each thread that isn't ordered after the access that was made at its place is to be tried
@@ -46,7 +47,7 @@ impl Path {
     fn exploring_from(&self, place: usize) -> Option<usize>
         ensures { IsNearest (passes_of (trail self.now)) place result }
     {
-        exploring_in(&self.nodes[..self.position], place)
+        exploring_in(&self.way.nodes[..self.way.position], place)
     }
 
     /// The thread is added at the schedule of this place, unless its count is the bound. It answers where the run went over to
@@ -57,10 +58,11 @@ impl Path {
         ensures switch { result ≡ last_switch place (passes_of (trail self.old)) }
     {
         let bound = self.search.bound;
-        let Node::Schedule(schedule) = &mut self.nodes[place] else {
+        let Node::Schedule(schedule) = &mut self.way.nodes[place] else {
             return None;
         };
         add_off_bound(schedule, bound, thread);
+        are_five(&schedule.statuses);
         schedule.switch
     }
 }
@@ -81,28 +83,56 @@ fn add_off_bound(schedule: &mut Schedule, bound: Option<u8>, thread: usize)
     ensures added { is_off_bound bound schedule.old.preemptions ≡ true → seen_schedule schedule.new ≡ mark_added thread (seen_schedule schedule.old) }
     ensures same { is_off_bound bound schedule.old.preemptions ≡ false → schedule.new ≡ schedule.old }
     ensures rests { IsWellSchedule schedule.new }
-    ensures five { length schedule.new.statuses ≡ 5 }
     ensures noted { (schedule.new.preemptions ≡ schedule.old.preemptions) × (schedule.new.switch ≡ schedule.old.switch) × (schedule.new.nearest ≡ schedule.old.nearest) }
 {
     if is_off_bound(bound, schedule.preemptions) {
-        schedule.add(thread);
+        add_thread(schedule, thread);
     }
 }
 
-/// The place of the nearest of these schedules that explores, from this place down. One that doesn't explore notes which that is.
-fn exploring_in(nodes: &[Node], place: usize) -> Option<usize>
-    requires { AreNoted nodes.now }
-    ensures { IsNearest (passes_in nodes.now) place result }
+/// The status of a thread that is to be tried too: what was to be skipped is pending.
+fn marked_status(status: Status) -> Status
+    ensures { result ≡ marked_status status }
 {
-    let mut left = nodes.len().min(place.saturating_add(1));
-    while left > 0 {
-        left -= 1;
-        if let Node::Schedule(schedule) = &nodes[left] {
-            if schedule.exploring {
-                return Some(left);
-            }
-            return Some(schedule.nearest? as usize);
-        }
+    match status {
+        Status::Skip => Status::Pending,
+        Status::Disabled => Status::Disabled,
+        Status::Yield => Status::Yield,
+        Status::Pending => Status::Pending,
+        Status::Active => Status::Active,
+        Status::Visited => Status::Visited,
     }
-    None
+}
+
+/// A schedule has five statuses.
+fn are_five(statuses: &[Status; 5])
+    ensures { length statuses.now ≡ 5 }
+{
+    let _ = statuses;
+}
+
+/// The statuses when each thread is to be tried too.
+fn marked_statuses(statuses: &[Status; 5]) -> [Status; 5]
+    ensures { result ≡ map marked_status statuses.now }
+{
+    statuses.map(|status| marked_status(status))
+}
+
+/// The thread is added: it is to be tried unless it was, or, where it can't go on, each thread that can is. Nothing where
+/// the run doesn't explore.
+fn add_thread(schedule: &mut Schedule, thread: usize)
+    requires { IsWellSchedule schedule.old }
+    ensures added { seen_schedule schedule.new ≡ mark_added thread (seen_schedule schedule.old) }
+    ensures rests { IsWellSchedule schedule.new }
+    ensures noted { (schedule.new.preemptions ≡ schedule.old.preemptions) × (schedule.new.switch ≡ schedule.old.switch) × (schedule.new.nearest ≡ schedule.old.nearest) }
+{
+    are_five(&schedule.statuses);
+    if !schedule.exploring || thread >= 5 {
+        return;
+    }
+    match schedule.statuses[thread] {
+        Status::Disabled => schedule.statuses = marked_statuses(&schedule.statuses),
+        Status::Skip => schedule.statuses[thread] = Status::Pending,
+        Status::Yield | Status::Pending | Status::Active | Status::Visited => {}
+    }
 }

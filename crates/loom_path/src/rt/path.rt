@@ -11,7 +11,10 @@ ghost use Rattle.loom_path.specs.Routes.{Route, settings, at_rest, chosen, store
 ghost use Rattle.loom_path.specs.Tallies.{Notes, IsNotedAt, AreNoted, IsValueAt};
 ghost use Rattle.loom_path.specs.WellFormed.{AreAlike, AreAtRest, AreWellFormed, Appends};
 
-use crate::rt::node::{Load, Node, Schedule, Spurious, Tally};
+use crate::rt::making;
+use loom_nodes::rt::node::{Load, Node, Schedule, Spurious, Tally};
+use loom_nodes::rt::trying::{explores_each, is_below};
+use loom_nodes::rt::way::{Way, step_nodes};
 use loom_objects::choice::Choice;
 use loom_objects::failure::{Stop, failed};
 use loom_objects::operation::ExploreOp;
@@ -38,9 +41,7 @@ pub struct Search {
 #[derive(Drop)]
 pub struct Path {
     pub(crate) search: Search,
-    pub(crate) nodes: Vec<Node>,
-    // how many nodes the run has passed
-    pub(crate) position: usize,
+    pub(crate) way: Way,
     // whether the run explores at the nodes that come
     exploring: Exploring,
     // what the next schedule notes of those among them
@@ -60,14 +61,14 @@ impl Model for Path {
     ghost view = { λ p. record {
       search = settings p.search;
       explores = p.search.explores;
-      nodes = p.nodes.items;
-      position = p.position;
+      nodes = p.way.nodes.items;
+      position = p.way.position;
       exploring = p.exploring;
       given = p.given.items;
     } };
 
-    ghost invariant = { λ p. (p.position ≤ length p.nodes.items) × (length p.nodes.items ≤ p.search.max_branches) × AreWell p.nodes.items
-        × AreNoted p.nodes.items × IsTally p.nodes.items p.position p.tally };
+    ghost invariant = { λ p. (p.way.position ≤ length p.way.nodes.items) × (length p.way.nodes.items ≤ p.search.max_branches) × AreWell p.way.nodes.items
+        × AreNoted p.way.nodes.items × IsTally p.way.nodes.items p.way.position p.tally };
 }
 
 /// Two paths are equal where callers see the same. Nothing is allocated, and each node is compared once at most.
@@ -83,9 +84,9 @@ impl PartialEq for Path {
         ensures { IsTrue result ↔ (self.now ≡ other.now) }
     {
         self.search == other.search
-            && self.position == other.position
+            && self.way.position == other.way.position
             && self.exploring == other.exploring
-            && self.nodes.as_slice() == other.nodes.as_slice()
+            && self.way.nodes.as_slice() == other.way.nodes.as_slice()
             && self.given.as_slice() == other.given.as_slice()
     }
 }
@@ -103,8 +104,10 @@ impl Path {
     {
         Path {
             search,
-            nodes: Vec::new(alloc),
-            position: 0,
+            way: Way {
+                nodes: Vec::new(alloc),
+                position: 0,
+            },
             exploring: Exploring::new(search.explores),
             tally: Tally::new(),
             given: Vec::new(alloc),
@@ -142,7 +145,7 @@ impl Path {
         for node in nodes {
             path.append(*node)?;
         }
-        path.position = 0;
+        path.way.position = 0;
         path.tally = Tally::new();
         Ok(path)
     }
@@ -186,13 +189,15 @@ impl Path {
         ensures { IfOk result (λ path. path ≡ self.now) }
     {
         let mut nodes = Vec::new(alloc);
-        nodes.extend_from_slice(&self.nodes)?;
+        nodes.extend_from_slice(&self.way.nodes)?;
         let mut given = Vec::new(alloc);
         given.extend_from_slice(&self.given)?;
         Ok(Path {
             search: self.search,
-            nodes,
-            position: self.position,
+            way: Way {
+                nodes,
+                position: self.way.position,
+            },
             exploring: self.exploring,
             tally: self.tally,
             given,
@@ -212,29 +217,29 @@ impl Path {
         ensures nodes { result.now ≡ self.now.nodes }
         ensures fits { length self.now.nodes ≤ self.now.search.max_branches }
     {
-        &self.nodes
+        &self.way.nodes
     }
 
     /// The nodes of a path are well formed where they are at rest, as a walk sees them, and have defaults.
     pub fn well_formed_rests(&self)
         ensures { AreWellFormed self.now.nodes ↔ AreAtRest (stored self.now.nodes) }
     {
-        let _ = &self.nodes;
+        let _ = &self.way.nodes;
     }
 
     /// Two paths whose nodes are the same but for their notes have the same nodes.
     pub fn notes_follow(&self, other: &Path)
         ensures { AreAlike self.now.nodes other.now.nodes → self.now.nodes ≡ other.now.nodes }
     {
-        let _ = &self.nodes;
-        let _ = &other.nodes;
+        let _ = &self.way.nodes;
+        let _ = &other.way.nodes;
     }
 
     /// The choice that was given for the node that is made next.
     fn given_here(&self) -> Option<Choice>
         ensures { result ≡ slice_get self.now.given self.now.position }
     {
-        self.given.get(self.position).copied()
+        self.given.get(self.way.position).copied()
     }
 
     /// Whether the run explores at the nodes that come.
@@ -248,7 +253,7 @@ impl Path {
     fn is_full(&self) -> bool
         ensures { IsTrue result ↔ (self.now.search.max_branches ≤ self.now.position) }
     {
-        self.position >= self.search.max_branches as usize
+        self.way.is_full(self.search.max_branches)
     }
 
     /// Makes a node at the end, without passing it. Without memory for it the path stays as it was.
@@ -260,7 +265,7 @@ impl Path {
         ensures made { IfOk result (λ _. self.new ≡ record self.old { nodes = self.old.nodes ++ node ∷ [] }) }
         ensures same { IfErr result (λ _. self.new ≡ self.old) }
     {
-        self.nodes.push(node)?;
+        self.way.push(node)?;
         Ok(())
     }
 
@@ -268,8 +273,7 @@ impl Path {
     fn explores_each(&self) -> bool
         ensures { result ≡ (not self.now.search.reduce && is_on self.now.exploring) }
     {
-        let is_whole = !self.search.reduce;
-        is_whole && self.is_exploring()
+        explores_each(self.search.reduce, self.is_exploring())
     }
 
     /// Whether each option of a schedule that is made next is to be tried: in a search that isn't reduced, where the run explores,
@@ -278,11 +282,7 @@ impl Path {
         ensures { (offers : Offers) (places : List (Option ℕ)) → result
             ≡ every_at self.now.search (passes_of (trail self.now)) (made_of (which_thread (is_on self.now.exploring) offers places)) }
     {
-        let is_below = match self.search.bound {
-            Some(bound) => self.tally.preemptions < bound as u32,
-            None => true,
-        };
-        self.explores_each() && is_below
+        self.explores_each() && is_below(self.search.bound, self.tally.preemptions)
     }
 
     /// A new schedule: at the choice that was given for its place, if any, or else at its default.
@@ -296,8 +296,8 @@ impl Path {
         let exploring = self.is_exploring();
         let every = self.tries_each();
         match self.given_here() {
-            Some(choice) => Schedule::at(exploring, offers, every, &self.tally, choice),
-            None => Some(Schedule::new(exploring, offers, every, &self.tally)),
+            Some(choice) => making::schedule_at(exploring, offers, every, &self.tally, choice),
+            None => Some(making::schedule(exploring, offers, every, &self.tally)),
         }
     }
 
@@ -306,8 +306,8 @@ impl Path {
         requires { slice_get self.old.nodes self.old.position ≡ Some (Node.Schedule schedule.now) }
         ensures { self.new ≡ record self.old { position = self.old.position + 1 } }
     {
-        self.tally.pass(schedule, self.position as u32);
-        self.position += 1;
+        self.tally.pass(schedule, self.way.position as u32);
+        self.way.position += 1;
     }
 
     /// The run passes the node at the position, which is no schedule.
@@ -315,7 +315,7 @@ impl Path {
         requires { IsValueAt self.old.nodes self.old.position }
         ensures { self.new ≡ record self.old { position = self.old.position + 1 } }
     {
-        self.position += 1;
+        self.way.position += 1;
     }
 
     /// Passes a schedule: follows the stored node, or makes one. Where it fails the path stays as it was.
@@ -326,15 +326,14 @@ impl Path {
         ensures same { IsSame self.old self.new }
     {
         let exploring = self.is_exploring();
-        if self.position < self.nodes.len() {
-            let Node::Schedule(schedule) = self.nodes[self.position] else {
-                return Err(failed(FailureKind::NotDeterministic));
+        if self.way.position < self.way.nodes.len() {
+            return match self.way.stored_schedule(exploring, offers) {
+                Ok(schedule) => {
+                    self.pass(&schedule);
+                    Ok(schedule.active())
+                }
+                Err(stop) => Err(stop),
             };
-            if !schedule.meets(exploring, offers) {
-                return Err(failed(FailureKind::NotDeterministic));
-            }
-            self.pass(&schedule);
-            return Ok(schedule.active());
         }
         if self.is_full() {
             return Err(failed(FailureKind::TooManyBranches));
@@ -362,8 +361,8 @@ impl Path {
         ensures same { IsSame self.old self.new × (self.new.position ≡ self.old.position) }
     {
         let exploring = self.is_exploring();
-        if self.position < self.nodes.len() {
-            let Node::Load(load) = self.nodes[self.position] else {
+        if self.way.position < self.way.nodes.len() {
+            let Node::Load(load) = self.way.nodes[self.way.position] else {
                 return Err(failed(FailureKind::NotDeterministic));
             };
             if !load.meets(exploring, readable) {
@@ -388,10 +387,10 @@ impl Path {
     pub fn branch_load(&mut self) -> Result<u8, Stop>
         ensures { PassesLoad self.old result self.new }
     {
-        if self.position >= self.nodes.len() {
+        if self.way.position >= self.way.nodes.len() {
             return Err(failed(FailureKind::NotDeterministic));
         }
-        let Node::Load(load) = self.nodes[self.position] else {
+        let Node::Load(load) = self.way.nodes[self.way.position] else {
             return Err(failed(FailureKind::NotDeterministic));
         };
         self.pass_value();
@@ -405,8 +404,8 @@ impl Path {
         ensures same { IsSame self.old self.new }
     {
         let exploring = self.is_exploring();
-        if self.position < self.nodes.len() {
-            let Node::Spurious(spurious) = self.nodes[self.position] else {
+        if self.way.position < self.way.nodes.len() {
+            let Node::Spurious(spurious) = self.way.nodes[self.way.position] else {
                 return Err(failed(FailureKind::NotDeterministic));
             };
             if !spurious.meets(exploring) {
@@ -459,7 +458,7 @@ impl Path {
     pub fn position(&self) -> usize
         ensures { result ≡ self.now.position }
     {
-        self.position
+        self.way.position
     }
 
     /// Whether the search is reduced. One that isn't makes no marks.
@@ -473,7 +472,7 @@ impl Path {
     pub fn is_used_up(&self) -> bool
         ensures { result ≡ is_used_up (trail self.now) }
     {
-        self.nodes.len() <= self.position && self.given.len() <= self.position
+        self.way.nodes.len() <= self.way.position && self.given.len() <= self.way.position
     }
 
     /// The choices at the nodes that the run has passed. An error only where there are some, and memory for them is refused.
@@ -481,10 +480,10 @@ impl Path {
         ensures list { IfOk result (λ list. list.items ≡ chosen self.now) }
         ensures growth { IfErr result (λ _. chosen self.now ≢ []) }
     {
-        if self.position == 0 {
+        if self.way.position == 0 {
             return Ok(Vec::new(alloc));
         }
-        choices_at(alloc, &self.nodes[..self.position])
+        choices_at(alloc, &self.way.nodes[..self.way.position])
     }
 
     /// After a run, goes on to the next one: the deepest node that has an option left takes it, and what follows it is
@@ -493,11 +492,11 @@ impl Path {
         ensures steps { Steps self.old.nodes result self.new.nodes }
         ensures rest { self.new ≡ at_rest self.old.search self.old.explores self.new.nodes }
     {
-        self.position = 0;
+        self.way.position = 0;
         self.exploring = Exploring::new(self.search.explores);
         self.tally = Tally::new();
         self.given.clear();
-        step_nodes(&mut self.nodes)
+        step_nodes(&mut self.way.nodes)
     }
 }
 
@@ -515,8 +514,8 @@ fn new_load(exploring: bool, readable: &[bool; 7], given: Option<Choice>) -> Opt
     ensures well { IfSome result IsWellLoad }
 {
     match given {
-        Some(choice) => Load::at(exploring, readable, choice),
-        None => Some(Load::new(exploring, readable)),
+        Some(choice) => making::load_at(exploring, readable, choice),
+        None => Some(making::load(exploring, readable)),
     }
 }
 
@@ -525,26 +524,7 @@ fn new_spurious(exploring: bool, given: Option<Choice>) -> Option<Spurious>
     ensures { option_map seen_spurious result ≡ new_node true (made_of (whether_spurious exploring)) given }
 {
     match given {
-        Some(choice) => Spurious::at(exploring, choice),
-        None => Some(Spurious::new(exploring)),
+        Some(choice) => making::spurious_at(exploring, choice),
+        None => Some(making::spurious(exploring)),
     }
-}
-
-/// The deepest node that can go on does, and what follows it is dropped. False if none can.
-fn step_nodes(nodes: &mut Vec<Node>) -> bool
-    requires well { AreWell nodes.old.items }
-    requires noted { AreNoted nodes.old.items }
-    ensures steps { Steps nodes.old.items result nodes.new.items }
-    ensures well { AreWell nodes.new.items }
-    ensures noted { AreNoted nodes.new.items }
-    ensures fewer { length nodes.new.items ≤ length nodes.old.items }
-{
-    while !nodes.is_empty() {
-        let last = nodes.len() - 1;
-        if nodes[last].advance() {
-            return true;
-        }
-        nodes.truncate(last);
-    }
-    false
 }

@@ -1,5 +1,5 @@
 use Rattle.std.proofs.Common.{sym, ◌∙◌}
-use Rattle.loom_path.proofs.Nodes.Slots.{slots_counted}
+use Rattle.loom_nodes.proofs.Nodes.Slots.{slots_counted}
 use Rattle.loom_checkpoint.proofs.read.count_slots.Goals as goal
 
 pub returns : goal.returns

@@ -1,5 +1,5 @@
 use Rattle.std.proofs.Common.{◌≡◌, ℕ, ◌<◌, length, get_or, Some}
-use Rattle.loom_path.specs.declared.rt.node.Status.{Status}
+use Rattle.loom_nodes.specs.declared.rt.node.Status.{Status}
 use Rattle.serde_json.specs.declared.value.Value.{Value}
 use Rattle.serde_json.specs.View.{view}
 use Rattle.loom_checkpoint.specs.Reading.{status_of}

@@ -1,7 +1,7 @@
 use Rattle.std.proofs.Common.{Bool, List, sym, ap, ◌∙◌, subst}
 use Rattle.serde_json.specs.View.{view}
 use Rattle.loom_walks.specs.Trees.Meeting.{Settings}
-use Rattle.loom_path.specs.declared.rt.node.Node.{Node}
+use Rattle.loom_nodes.specs.declared.rt.node.Node.{Node}
 use Rattle.loom_path.specs.Routes.{Route, at_rest, settings}
 use Rattle.loom_checkpoint.specs.Checkpoint.{IsPathOf}
 use Rattle.loom_checkpoint.proofs.ShapeLaws.{same_nodes}

@@ -1,10 +1,10 @@
 use Rattle.std.proofs.Common.{ap, ◌∙◌, arith}
 use Rattle.std.specs.Prelude.{slice_set}
 use Rattle.std.proofs.lemmas.List.{length-set}
-use Rattle.loom_path.specs.declared.rt.node.Node.TheVariants as node
+use Rattle.loom_nodes.specs.declared.rt.node.Node.TheVariants as node
 use Rattle.loom_path.specs.Routes.{Route}
 use Rattle.loom_path.specs.contracts.rt.path.Path.{the_view}
-use Rattle.loom_path.proofs.Nodes.Fronts.{well_set}
+use Rattle.loom_nodes.proofs.Nodes.Fronts.{well_set}
 use Rattle.loom_path.proofs.Marking.Added.{nothing_else, here, rests, adds, switch}
 use Rattle.loom_path.proofs.Marking.Noted.{noted_set, tally_set, same_pass}
 use Rattle.loom_path.proofs.rt.path.Path.add.Goals as goal
@@ -27,7 +27,7 @@ invariant_of-self-2 c =
     let size = length-set p.nodes c.args.place (node.Schedule new) in (
       omega (arith, size, c.self.invariant.0),
       omega (arith, size, c.self.invariant.1),
-      well_set p.nodes c.args.place (node.Schedule new) c.self.invariant.2 (c.add_off_bound.ensures.rests, c.add_off_bound.ensures.five),
+      well_set p.nodes c.args.place (node.Schedule new) c.self.invariant.2 (c.add_off_bound.ensures.rests, c.are_five.ensures),
       noted_set p.nodes c.args.place old new is same c.add_off_bound.ensures.noted c.self.invariant.3,
       tally_set p.nodes c.args.place old new is same p.position c.self.inside.tally c.self.invariant.4,
     )

@@ -1,8 +1,8 @@
 use Rattle.std.proofs.Common.{◌≡◌, List, map, take, ap, subst, sym, ◌∙◌}
 use Rattle.std.specs.Prelude.{IfOk}
 use Rattle.loom_parts.specs.declared.choice.Choice.{Choice}
-use Rattle.loom_path.specs.declared.rt.node.Node.{Node}
-use Rattle.loom_path.specs.Nodes.{seen}
+use Rattle.loom_nodes.specs.declared.rt.node.Node.{Node}
+use Rattle.loom_nodes.specs.Nodes.{seen}
 use Rattle.loom_path.specs.Routes.{chosen}
 use Rattle.loom_path.proofs.Nodes.Paths.{taken}
 use Rattle.loom_path.proofs.rt.path.Path.choices.Goals as goal
@@ -10,6 +10,6 @@ use Rattle.loom_path.proofs.rt.path.Path.choices.Goals as goal
 pub returns-clause-list : goal.returns-clause-list
 returns-clause-list c =
     let p = c.self.inside in
-    let same : map (λ (n : Node). (seen n).present) (take p.position c.deref.result.now) ≡ chosen c.args.self.now =
-    ap (λ l. map (λ (n : Node). (seen n).present) (take p.position l)) c.deref.ensures.value ∙ sym (taken p.position p.nodes.items) ∙ ap chosen c.self.view_is in
+    let same : map (λ (n : Node). (seen n).present) (take p.way.position c.deref.result.now) ≡ chosen c.args.self.now =
+    ap (λ l. map (λ (n : Node). (seen n).present) (take p.way.position l)) c.deref.ensures.value ∙ sym (taken p.way.position p.way.nodes.items) ∙ ap chosen c.self.view_is in
     subst (λ (l : List Choice). IfOk c.choices_at.result (λ list. list.items ≡ l)) same c.choices_at.ensures

@@ -2,18 +2,18 @@ use Rattle.std.proofs.Common.{take, ap, subst, sym, ◌∙◌}
 use Rattle.loom_walks.specs.Trees.Drive.{passes_of}
 use Rattle.loom_path.specs.Routes.{trail}
 use Rattle.loom_path.specs.Marking.{IsNearest, passes_in}
-use Rattle.loom_path.specs.Tallies.{AreNoted}
-use Rattle.loom_path.proofs.Notes.{noted_front}
-use Rattle.loom_path.proofs.Marking.Nearest.{passes_taken}
+use Rattle.loom_nodes.specs.Tallies.{AreNoted}
+use Rattle.loom_nodes.proofs.Notes.{noted_front}
+use Rattle.loom_nodes.proofs.Marking.Nearest.{passes_taken}
 use Rattle.loom_path.proofs.rt.path.Path.exploring_from.Goals as goal
 
 pub exploring_in-requires : goal.exploring_in-requires
 exploring_in-requires c =
     let p = c.self.inside in
-    subst (λ l. AreNoted (take p.position l)) (sym c.deref.ensures.value) (noted_front p.nodes.items p.position c.self.invariant.3)
+    subst (λ l. AreNoted (take p.way.position l)) (sym c.deref.ensures.value) (noted_front p.way.nodes.items p.way.position c.self.invariant.3)
 
 pub returns : goal.returns
 returns c =
     let p = c.self.inside in
     subst (λ l. IsNearest l c.args.place c.exploring_in.result)
-    (ap (λ l. passes_in (take p.position l)) c.deref.ensures.value ∙ passes_taken p.position p.nodes.items ∙ ap (λ r. passes_of (trail r)) c.self.view_is) c.exploring_in.ensures
+    (ap (λ l. passes_in (take p.way.position l)) c.deref.ensures.value ∙ passes_taken p.way.position p.way.nodes.items ∙ ap (λ r. passes_of (trail r)) c.self.view_is) c.exploring_in.ensures

@@ -1,18 +1,18 @@
 use Rattle.std.proofs.Common.{◌<◌, length, subst, sym, arith}
 use Rattle.loom_path.specs.Routes.{Route}
-use Rattle.loom_path.specs.Tallies.{IsValueAt}
-use Rattle.loom_path.proofs.Notes.{value_within, tally_value}
+use Rattle.loom_nodes.specs.Tallies.{IsValueAt}
+use Rattle.loom_nodes.proofs.Notes.{value_within, tally_value}
 use Rattle.loom_path.proofs.rt.path.Path.pass_value.Goals as goal
 
 pub invariant_of-self : goal.invariant_of-self
 invariant_of-self c =
     let p = c.self.inside in
-    let nodes = p.nodes.items in
-    let value : IsValueAt nodes p.position = subst (λ (r : Route). IsValueAt r.nodes r.position) (sym c.self.view_is) c.requires in
-    let within : p.position < length nodes = value_within nodes p.position value in (
+    let nodes = p.way.nodes.items in
+    let value : IsValueAt nodes p.way.position = subst (λ (r : Route). IsValueAt r.nodes r.position) (sym c.self.view_is) c.requires in
+    let within : p.way.position < length nodes = value_within nodes p.way.position value in (
       omega arith,
       c.self.invariant.1,
       c.self.invariant.2,
       c.self.invariant.3,
-      tally_value nodes p.position p.tally c.self.invariant.0 value c.self.invariant.4,
+      tally_value nodes p.way.position p.tally c.self.invariant.0 value c.self.invariant.4,
     )

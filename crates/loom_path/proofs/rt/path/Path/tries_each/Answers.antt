@@ -4,7 +4,6 @@ use Rattle.loom_walks.specs.Trees.Drive.{passes_of}
 use Rattle.loom_walks.specs.Trees.Meeting.{count, is_below}
 use Rattle.loom_path.specs.Routes.{Route, trail}
 use Rattle.loom_path.proofs.rt.path.Path.tries_each.Goals as goal
-use Rattle.loom_path.proofs.rt.path.Path.tries_each.Goals.{in-Some, in-None}
 
 pub returns-then-explores_each : goal.returns-then-explores_each
 returns-then-explores_each c = λ offers places.
@@ -12,11 +11,8 @@ returns-then-explores_each c = λ offers places.
     let bounds : c.self.inside.search.bound ≡ route.search.bound = ap (λ (r : Route). r.search.bound) c.self.view_is in
     let counts : c.self.inside.tally.preemptions ≡ count (passes_of (trail route)) =
     subst (λ (r : Route). c.self.inside.tally.preemptions ≡ count (passes_of (trail r))) c.self.view_is c.self.invariant.4.0 in
-    let below : c.match-self.is_below ≡ is_below route.search.bound (count (passes_of (trail route))) = elim c.match-self.branch [
-      | in-Some w ↦
-          w.is_below-is ∙ ap (λ (o : Option ℕ). is_below o c.self.inside.tally.preemptions) (sym w.in-Some.is ∙ bounds) ∙ ap (is_below route.search.bound) counts
-      | in-None w ↦ w.is_below-is ∙ ap (λ (o : Option ℕ). is_below o (count (passes_of (trail route)))) (sym w.in-None.is ∙ bounds)
-    ] in
+    let below : c.is_below.result ≡ is_below route.search.bound (count (passes_of (trail route))) =
+    c.is_below.ensures ∙ ap (λ (o : Option ℕ). is_below o c.self.inside.tally.preemptions) bounds ∙ ap (is_below route.search.bound) counts in
     below ∙ ap (λ (b : Bool). b && is_below route.search.bound (count (passes_of (trail route)))) (sym c.if-explores_each.true ∙ c.explores_each.ensures)
 
 pub returns-else-explores_each : goal.returns-else-explores_each

@@ -1,0 +1,5 @@
+pub mod Nodes
+pub mod Marking
+pub mod Notes
+pub mod Tallies
+pub mod Ways

@@ -1,0 +1,3 @@
+-- Proofs about the schedules below a place, and the nearest that explores.
+pub mod Places
+pub mod Nearest

@@ -1,0 +1,4 @@
+pub mod Nodes
+pub mod Tallies
+pub mod Nearest
+pub mod Ways
