@@ -1,5 +1,5 @@
 -- Checks with rising bounds on preemptions.
-use Rattle.std.proofs.Common.{◌≡◌, ◌<◌, ◌≤◌, ◌+◌, ℕ, Bool, true, false, List, [], refl, ap, subst, inl, inr, arith}
+use Rattle.std.proofs.Common.{◌≡◌, ◌<◌, ◌≤◌, ◌+◌, ℕ, Bool, true, false, [], refl, ap, subst, inl, inr, arith}
 use Rattle.std.specs.Prelude.{◌⊎◌, Some, None, Result, Ok, Err, IfErr, nat_lt}
 use Rattle.loom_objects.specs.Tree.{Tree}
 use Rattle.loom_runs.specs.Trees.{IsRunTree}
@@ -8,7 +8,7 @@ use Rattle.loom_walks.specs.Trees.Marks.{marking}
 use Rattle.loom_walks.proofs.Trees.Marks.{marking_law}
 use Rattle.loom.specs.declared.builder.Builder.{Builder}
 use Rattle.loom.specs.declared.error.CheckError.{CheckError}
-use Rattle.loom.specs.declared.error.CheckError.TheVariants.{Memory, Store}
+use Rattle.loom.specs.declared.error.CheckError.TheVariants.{Memory}
 use Rattle.loom.specs.declared.model.Report.{Report}
 use Rattle.loom.specs.declared.model.Report.TheVariants.{Complete, Stopped, Failed}
 use Rattle.loom.specs.Check.{ReadsAs, ReportsAlone}

@@ -1,7 +1,7 @@
 -- A check under way: rounds from the path with which it began, with the runs that its visitor was given.
 use Rattle.std.proofs.Common.{◌≡◌, ◌+◌, ℕ, inl, inr, List, [], ◌∷◌, ◌++◌, length, take, refl, ap, ap₂, sym, ◌∙◌, subst, arith, append-nil, length-append}
 use Rattle.std.proofs.lemmas.List.{append_assoc}
-use Rattle.std.specs.Prelude.{◌≤◌, ◌<◌, Bool, true, false, Option, Some, None, Ok, Err, Result, IfOk, String, Vec, string_bytes}
+use Rattle.std.specs.Prelude.{◌≤◌, ◌<◌, Bool, true, false, Option, Some, None, Ok, Err, Result, String, Vec, string_bytes}
 use Rattle.loom_view_parts.specs.declared.rt.failure.FailureKind.{FailureKind}
 use Rattle.loom_parts.specs.declared.choice.Choice.{Choice}
 use Rattle.loom_objects.specs.Tree.{Tree}
@@ -12,14 +12,13 @@ use Rattle.loom_walks.specs.Trees.Check.{Makes, makes_none}
 use Rattle.loom_walks.specs.Trees.Marks.{marking}
 use Rattle.loom_walks.specs.Trees.Sound.{EndsUnchosen}
 use Rattle.loom_nodes.specs.declared.rt.node.Node.{Node}
-use Rattle.loom_path.specs.Routes.{Route, IsSameSearch, at_rest, stored, trail, chosen, drives}
+use Rattle.loom_path.specs.Routes.{Route, IsAtStart, at_rest, stored, trail, chosen, drives}
 use Rattle.loom_runs.specs.Trees.{IsRunTree}
 use Rattle.loom_stores.specs.Stores.{Keeps}
 use Rattle.loom_walks.proofs.Trees.Rounds.{another_round, final_round}
 use Rattle.loom_parts.specs.declared.failure.Failure.{Failure}
 use Rattle.serde_json.specs.Written.{compact_text}
 use Rattle.loom_checkpoint.specs.Grammar.{path_data}
-use Rattle.std.specs.declared.alloc.AllocError.{AllocError}
 use Rattle.std.specs.declared.alloc.Global.{Global}
 use Rattle.std.specs.declared.time.Duration.{Duration}
 use Rattle.loom.specs.declared.builder.Builder.{Builder}
@@ -28,10 +27,11 @@ use Rattle.loom.specs.declared.model.Limit.TheVariants.{Permutations, Duration a
 use Rattle.loom.specs.declared.model.Report.TheVariants.{Complete, Stopped, Failed}
 use Rattle.loom.specs.Beginning.{Given, WasGiven}
 use Rattle.loom.specs.Check.{IsTextOf, Completes, GoesOn, Fails, IsHeld, ReadsAs, Reports, StopsBy}
-use Rattle.loom_check_parts.specs.declared.rounds.Round.{Round}
 use Rattle.loom_check_parts.specs.declared.rounds.Round.TheVariants as round
-use Rattle.loom_check_parts.specs.Rounds.{HasGone, IsOver}
-use Rattle.loom.specs.Loop.{IsBegun, IsKept, IsSavedAs, HasEnded, HasReached, ComesTo, IsRoundLocated}
+use Rattle.loom_check_parts.specs.Rounds.{ComesTo, HasEnded}
+use Rattle.loom_saves.specs.Beginning.{IsBegun}
+use Rattle.loom_saves.specs.Saving.{IsKept, IsSavedAs}
+use Rattle.loom.specs.Loop.{Comes, HasReached}
 use Rattle.loom.specs.Settings.{explores, most_runs, search_of}
 use Rattle.loom.proofs.Paths.{MayBegin, begins, completes, goes_to, may_go_on, all_chosen, fails_there}
 
@@ -90,10 +90,10 @@ module _ {D : Type 0} (b : Builder) (tree : Tree D) (sound : IsRunTree tree) (sh
 
       -- a run that ended, given to the visitor
       module _ (path : Route) (visitor : V) (count : ℕ) (z : IsWalking path visitor count) where
-        pub ended : (on : Bool) (later : Route) (new : V) (h : HasEnded takes tree path visitor on later new) → chosen h.after ≡ choices (stored h.after.nodes)
-        ended on later new h = all_chosen s tree sound start good z.runs (stored path.nodes) h.value (trail h.after) z.makes (driven path h.after (Ok h.value) z.rests h.drive)
+        pub ended : (on : Bool) (later : Route) (new : V) (h : HasEnded (Comes tree b.location) takes path visitor on later new) → chosen h.after ≡ choices (stored h.after.nodes)
+        ended on later new h = all_chosen s tree sound start good z.runs (stored path.nodes) h.value (trail h.after) z.makes (driven path h.after (Ok h.value) z.rests h.came)
 
-        pub more_given : (on : Bool) (later : Route) (new : V) (h : HasEnded takes tree path visitor on later new)
+        pub more_given : (on : Bool) (later : Route) (new : V) (h : HasEnded (Comes tree b.location) takes path visitor on later new)
             → WasGiven takes old new (z.runs ++ (choices (stored h.after.nodes), h.value) ∷ []) (count + 1)
         more_given on later new h = record {
           given = given_more takes old z.runs visitor new (choices (stored h.after.nodes)) h.value z.given (subst (λ l. takes visitor l h.value new) (ended on later new h) h.took);
@@ -101,7 +101,7 @@ module _ {D : Type 0} (b : Builder) (tree : Tree D) (sound : IsRunTree tree) (sh
         }
 
         -- and a step to the next one
-        abbrev pub walking_on : (later : Route) (new : V) → HasEnded takes tree path visitor true later new → IsWalking later new (count + 1)
+        abbrev pub walking_on : (later : Route) (new : V) → HasEnded (Comes tree b.location) takes path visitor true later new → IsWalking later new (count + 1)
         walking_on later new h =
             let g = more_given true later new h in
             record {
@@ -109,18 +109,18 @@ module _ {D : Type 0} (b : Builder) (tree : Tree D) (sound : IsRunTree tree) (sh
               given = g.given;
               counted = g.counted;
               makes = another_round s (marking s.bound) tree (stored start) (stored path.nodes) (stored later.nodes) z.runs h.value (trail h.after) z.makes
-                  (driven path h.after (Ok h.value) z.rests h.drive) h.steps;
+                  (driven path h.after (Ok h.value) z.rests h.came) h.steps;
               rests = h.rests ∙ ap₂ (λ k e. at_rest k e later.nodes) (ap (λ (p : Route). p.search) z.rests) (ap (λ (p : Route). p.explores) z.rests);
             }
 
         -- the last run
-        pub walking_ends : (later : Route) (new : V) → HasEnded takes tree path visitor false later new
+        pub walking_ends : (later : Route) (new : V) → HasEnded (Comes tree b.location) takes path visitor false later new
             → (made : List Choice × D) × WasGiven takes old new (z.runs ++ made ∷ []) (count + 1) × Completes (search_of b) tree start (z.runs ++ made ∷ [])
         walking_ends later new h = (
           (choices (stored h.after.nodes), h.value),
           more_given false later new h,
           completes s tree sound start (z.runs ++ (choices (stored h.after.nodes), h.value) ∷ []) good.rest good.size
-              (final_round s (marking s.bound) tree (stored start) (stored path.nodes) z.runs h.value (trail h.after) z.makes (driven path h.after (Ok h.value) z.rests h.drive) h.steps),
+              (final_round s (marking s.bound) tree (stored start) (stored path.nodes) z.runs h.value (trail h.after) z.makes (driven path h.after (Ok h.value) z.rests h.came) h.steps),
         )
 
         -- a run that fails
@@ -224,6 +224,12 @@ module _ {D : Type 0} (b : Builder) (tree : Tree D) (sound : IsRunTree tree) (sh
       good : MayBegin (search_of b) (stored z.start)
       good = begins s (explores b) z.text z.start z.reads
 
+      -- its path is at the start of a run
+      pub checking_starts : IsAtStart (explores b) path
+      checking_starts =
+          let is = z.walking.rests in
+          (ap (λ (p : Route). p.position) is, ap (λ (p : Route). p.explores) is, ap (λ (p : Route). p.exploring) is)
+
       -- a check may begin with its path
       pub checking_well : MayBegin (search_of b) (stored path.nodes)
       checking_well = rests_well takes old z.start good path visitor count z.walking
@@ -242,7 +248,7 @@ module _ {D : Type 0} (b : Builder) (tree : Tree D) (sound : IsRunTree tree) (sh
       }
 
       -- the path was saved, or there was time
-      pub checking_kept : (now : Option (List ℕ) → Type 0) (until left : ℕ) → most + until ≤ b.checkpoint_interval → IsKept b until path holds now left
+      pub checking_kept : (now : Option (List ℕ) → Type 0) (until left : ℕ) → most + until ≤ b.checkpoint_interval → IsKept b.checkpoint_interval until path holds now left
           → (behind : ℕ) × IsChecking now path visitor count behind × (behind + left + 1 ≤ b.checkpoint_interval)
       checking_kept now until left few (inl kept) = (
         most,
@@ -270,7 +276,7 @@ module _ {D : Type 0} (b : Builder) (tree : Tree D) (sound : IsRunTree tree) (sh
       )
 
       -- a run more
-      pub checking_on : (later : Route) (new : V) → HasEnded takes tree path visitor true later new → IsChecking holds later new (count + 1) (most + 1)
+      pub checking_on : (later : Route) (new : V) → HasEnded (Comes tree b.location) takes path visitor true later new → IsChecking holds later new (count + 1) (most + 1)
       checking_on later new h =
           let w = walking_on takes old z.start good path visitor count z.walking later new h in
           record {
@@ -283,7 +289,7 @@ module _ {D : Type 0} (b : Builder) (tree : Tree D) (sound : IsRunTree tree) (sh
           }
 
       module _ (answered : Duration → Type 0) where
-        pub checking_ends : (later : Route) (new : V) → most + 1 ≤ b.checkpoint_interval → count + 1 ≤ most_runs b → HasEnded takes tree path visitor false later new
+        pub checking_ends : (later : Route) (new : V) → most + 1 ≤ b.checkpoint_interval → count + 1 ≤ most_runs b → HasEnded (Comes tree b.location) takes path visitor false later new
             → Reports takes old new b tree gives holds answered (Complete (count + 1))
         checking_ends later new few limit h =
             let w = walking_ends takes old z.start good path visitor count z.walking later new h in
@@ -340,65 +346,30 @@ module _ {D : Type 0} (b : Builder) (tree : Tree D) (sound : IsRunTree tree) (sh
 
     -- no limit was reached, and the path was saved, or there was time
     module _ (holds now : Option (List ℕ) → Type 0) (path : Route) (visitor : V) (count most until left : ℕ) (z : IsChecking holds path visitor count most)
-        (few : most + until ≤ b.checkpoint_interval) (kept : IsKept b until path holds now left) where
+        (few : most + until ≤ b.checkpoint_interval) (kept : IsKept b.checkpoint_interval until path holds now left) where
       behind_by : (behind : ℕ) × IsChecking now path visitor count behind × (behind + left + 1 ≤ b.checkpoint_interval)
       behind_by = checking_kept holds path visitor count most z now until left few kept
 
       -- then a run ended, and there is another
-      pub round_on : (later : Route) (new : V) → HasEnded takes tree path visitor true later new
+      pub round_on : (later : Route) (new : V) → HasEnded (Comes tree b.location) takes path visitor true later new
           → (behind : ℕ) × IsChecking now later new (count + 1) behind × (behind + left ≤ b.checkpoint_interval)
       round_on later new h = (behind_by.0 + 1, checking_on now path visitor count behind_by.0 behind_by.1 later new h, omega (arith, behind_by.2))
 
       module _ (answered : Duration → Type 0) (within : count < most_runs b) where
         -- or it was the last one
-        pub round_ends : (later : Route) (new : V) → HasEnded takes tree path visitor false later new → Reports takes old new b tree gives now answered (Complete (count + 1))
+        pub round_ends : (later : Route) (new : V) → HasEnded (Comes tree b.location) takes path visitor false later new → Reports takes old new b tree gives now answered (Complete (count + 1))
         round_ends later new h =
             checking_ends now path visitor count behind_by.0 behind_by.1 answered later new (omega (arith, behind_by.2)) (omega (arith, within)) h
 
         -- or it failed
-        pub round_fails : (failure : Failure) (list : Vec Choice Global) (later : Route) (new : V) → (b.location ≡ false → failure.location ≡ None) → ComesTo takes tree path visitor (round.Failed failure list) later new
+        pub round_fails : (failure : Failure) (list : Vec Choice Global) (later : Route) (new : V) → ComesTo (Comes tree b.location) takes path visitor (round.Failed failure list) later new
             → Reports takes old new b tree gives now answered (Failed count failure list)
-        round_fails failure list later new placed h =
+        round_fails failure list later new h =
             subst (λ (v : V). Reports takes old v b tree gives now answered (Failed count failure list)) (sym h.3)
-            (checking_fails now path visitor count behind_by.0 behind_by.1 answered failure list h.0 (omega (arith, behind_by.2)) within placed h.1 h.2)
+            (checking_fails now path visitor count behind_by.0 behind_by.1 answered failure list h.0 (omega (arith, behind_by.2)) within h.1.1 h.1.0 h.2)
 
 -- the limit that was reached
 pub reached_stops : (answered : Duration → Type 0) (b : Builder) (count : ℕ) (limit : Limit) (checkpoint : String Global) → count ≤ most_runs b
     → HasReached answered b count (Some limit) → StopsBy answered b (Stopped count limit checkpoint)
 reached_stops answered b count Permutations checkpoint within full = omega (arith, within, full)
 reached_stops answered b count Lasting checkpoint within lasted = (within, lasted.0)
-
--- ---- what follows a run
-
-module _ {V D : Type 0} (takes : V → List Choice → D → V → Type 0) (tree : Tree D) (old after : Route) (visitor : V) where
-  -- it ended
-  pub gone : (value : D) (answer : Result Round AllocError) (new : Route) (later : V) → drives tree old ≡ (Ok value, trail after) → IsSameSearch old after
-      → IfOk answer (λ round. HasGone takes value after visitor round new later) → IfOk answer (λ round. ComesTo takes tree old visitor round new later)
-  gone value (Err e) new later drive same z = z
-  gone value (Ok round.Next) new later drive same z =
-      record { value = value; after = after; drive = drive; took = z.took; steps = z.steps; rests = z.rests ∙ ap₂ (λ k e. at_rest k e new.nodes) same.0 same.1 }
-  gone value (Ok round.Last) new later drive same z =
-      record { value = value; after = after; drive = drive; took = z.took; steps = z.steps; rests = z.rests ∙ ap₂ (λ k e. at_rest k e new.nodes) same.0 same.1 }
-  gone value (Ok (round.Failed failure choices)) new later drive same z = absurd z
-
-  pub gone_located : (keeps : Bool) (value : D) (answer : Result Round AllocError) (new : Route) (later : V)
-      → IfOk answer (λ round. HasGone takes value after visitor round new later) → IfOk answer (IsRoundLocated keeps)
-  gone_located keeps value (Err e) new later z = z
-  gone_located keeps value (Ok round.Next) new later z = tt
-  gone_located keeps value (Ok round.Last) new later z = tt
-  gone_located keeps value (Ok (round.Failed failure choices)) new later z = absurd z
-
-  -- or it failed
-  pub over : (failure : Failure) (answer : Result Round AllocError) → drives tree old ≡ (Err failure.kind, trail after) → IfOk answer (IsOver failure after)
-      → IfOk answer (λ round. ComesTo takes tree old visitor round after visitor)
-  over failure (Err e) drive z = z
-  over failure (Ok round.Next) drive z = absurd z
-  over failure (Ok round.Last) drive z = absurd z
-  over failure (Ok (round.Failed why choices)) drive z = (after, drive ∙ ap (λ (f : Failure). (Err f.kind, trail after)) (sym z.0), z.1, refl)
-
-pub over_located : (keeps : Bool) (failure : Failure) (after : Route) (answer : Result Round AllocError) → (keeps ≡ false → failure.location ≡ None) → IfOk answer (IsOver failure after)
-    → IfOk answer (IsRoundLocated keeps)
-over_located keeps failure after (Err e) placed z = z
-over_located keeps failure after (Ok round.Next) placed z = absurd z
-over_located keeps failure after (Ok round.Last) placed z = absurd z
-over_located keeps failure after (Ok (round.Failed why choices)) placed z = λ none. ap (λ (f : Failure). f.location) z.0 ∙ placed none

@@ -22,18 +22,17 @@ use Rattle.loom_path.specs.WellFormed.{AreWellFormed, AreAtRest as AllAtRest, Ar
 use Rattle.loom_path.specs.Nodes.{seen}
 use Rattle.loom_nodes.specs.declared.rt.node.Node.TheVariants as node
 use Rattle.loom_path.proofs.WellFormed.{formed_at_rest, formed_well}
-use Rattle.loom_checkpoint.specs.Checkpoint.{IsPathOf, OfText}
+use Rattle.loom_checkpoint.specs.Checkpoint.{IsPathOf}
 use Rattle.loom_checkpoint.proofs.ShapeLaws.{same_nodes}
 use Rattle.serde_json.specs.Data.{Data}
 use Rattle.loom_walks.proofs.Walk.After.{node_in}
-use Rattle.loom_walks.proofs.Walk.Lists.{node_on}
 use Rattle.loom_walks.proofs.Trees.Loading.{first_run_law}
 use Rattle.loom_walks.proofs.Trees.Rounds.{driven, next_driven}
 use Rattle.loom_walks.proofs.Trees.Reporting.{search_law, complete_report_law, stopped_report_law, failed_report_law}
 use Rattle.loom_walks.proofs.Trees.Resuming.{complete_from_law, stopped_from_law, failed_from_law, joined_law}
 use Rattle.loom_walks.proofs.Trees.Unchosen.{defaults_law}
 use Rattle.loom.specs.declared.builder.Builder.{Builder}
-use Rattle.loom.specs.Loop.{IsBegun}
+use Rattle.loom_saves.specs.Beginning.{IsBegun}
 use Rattle.loom.specs.Settings.{explores, search_of}
 use Rattle.loom.specs.Beginning.{AreAllRuns, IsCompleteReport, IsStoppedReport, IsFailedReport}
 use Rattle.loom.specs.Check.{IsTextOf, Completes, GoesOn, Fails, ReadsAs, AreTogether, ends, goes_on, TogetherLaw}
@@ -77,17 +76,6 @@ all_there p all = (
   (λ before n h. there HasDefault p before n (at_rest_there p all).1 h),
 )
 
--- and each of a list is as what stands at a place of it
-pub all_resting : (p : List Stored) → AreAtRest p → HasDefaults p → AllAtRest p
-unfolding node_at
-all_resting [] rest defaults = tt
-all_resting (n ∷ p) rest defaults = (
-  rest [] n refl,
-  defaults [] n refl,
-  all_resting p (λ before m h. rest (n.present ∷ before) m (node_on n p n.present before refl ∙ h))
-      (λ before m h. defaults (n.present ∷ before) m (node_on n p n.present before refl ∙ h)),
-)
-
 formed_begins : (s : Settings) (nodes : List Node) → AreWellFormed nodes → length nodes ≤ s.max_branches → MayBegin s (stored nodes)
 formed_begins s nodes formed size =
     let z = all_there (stored nodes) ((formed_at_rest nodes (formed_well nodes formed)).0 formed) in
@@ -97,14 +85,12 @@ pub begins : (s : Settings) (explores : Bool) (text : Option (List ℕ)) (path :
 begins s explores None path e = subst (λ (nodes : List Node). MayBegin s (stored nodes)) (sym e) (no_nodes s)
 begins s explores (Some text) path z = formed_begins s path z.1.2.well_formed z.1.2.fits
 
--- the path of a text that the store gave
-pub begun_by : (b : Builder) (search : Search) (path : Route) (text : List ℕ) (gives holds : Option (List ℕ) → Type 0) → settings search ≡ search_of b → search.explores ≡ explores b
-    → gives (Some text) → holds (Some text) → path ≡ at_rest (settings search) search.explores path.nodes
-    → OfText text (λ d. IsPathOf (settings search) search.explores d path.nodes) → IsBegun (search_of b) (explores b) gives holds path
-begun_by b search path text gives holds same_settings same_start gave held rests reads =
+-- the search is the one that the builder asks for
+pub begun_by : (b : Builder) (search : Search) (gives holds : Option (List ℕ) → Type 0) (path : Route) → settings search ≡ search_of b → search.explores ≡ explores b
+    → IsBegun (settings search) search.explores gives holds path → IsBegun (search_of b) (explores b) gives holds path
+begun_by b search gives holds path same_settings same_start begun =
     subst (λ (k : Settings). IsBegun k (explores b) gives holds path) same_settings
-    (subst (λ (on : Bool). IsBegun (settings search) on gives holds path) same_start
-    (record { rests = rests; text = Some text; gave = gave; held = held; reads = reads }))
+    (subst (λ (on : Bool). IsBegun (settings search) on gives holds path) same_start begun)
 
 module _ {D : Type 0} (s : Settings) (tree : Tree D) (sound : IsRunTree tree) where
   -- what the laws of reports rest on

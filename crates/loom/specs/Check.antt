@@ -17,25 +17,14 @@ use Rattle.loom_runs.specs.Trees.{IsRunTree}
 use Rattle.loom_nodes.specs.declared.rt.node.Node.{Node}
 use Rattle.loom_path.specs.Routes.{stored}
 use Rattle.serde_json.specs.Written.{compact_text}
-use Rattle.loom_checkpoint.specs.Checkpoint.{IsPathOf, OfText}
 use Rattle.loom_checkpoint.specs.Grammar.{path_data}
+pub use Rattle.loom_saves.specs.Texts.{IsTextOf, ReadsAs}
 use Rattle.loom.specs.Settings.{explores, most_runs, search_of}
 use Rattle.loom.specs.Beginning.{machine, IsCompleteReport, IsStoppedReport, IsFailedReport, WasGiven}
 use Rattle.loom.specs.declared.builder.Builder.{Builder}
 use Rattle.loom.specs.declared.model.Limit.TheVariants.{Permutations, Duration as Lasting}
 use Rattle.loom.specs.declared.model.Report.{Report}
 use Rattle.loom.specs.declared.model.Report.TheVariants.{Complete, Stopped, Failed}
-
--- ---- paths and texts
-
--- the text is that of a path with these nodes
-abbrev pub IsTextOf : Settings → Bool → List ℕ → List Node → Type 0
-IsTextOf s explores text nodes = OfText text (λ d. IsPathOf s explores d nodes)
-
--- the text reads as a path of these nodes; without a text there are none
-abbrev pub ReadsAs : Settings → Bool → Option (List ℕ) → List Node → Type 0
-ReadsAs s explores None path = path ≡ []
-ReadsAs s explores (Some text) path = IsTextOf s explores text path
 
 -- ---- checks that begin with a path
 

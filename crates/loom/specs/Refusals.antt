@@ -6,6 +6,8 @@ use Rattle.loom_checkpoint.specs.Checkpoint.{IsRefusedText}
 use Rattle.loom_stores.specs.declared.store.StoreError.{StoreError}
 use Rattle.loom_stores.specs.declared.store.StoreError.TheVariants as store
 use Rattle.loom_stores.specs.Stores.{HasRisen}
+use Rattle.loom_saves.specs.declared.beginning.BeginError.{BeginError}
+use Rattle.loom_saves.specs.declared.beginning.BeginError.TheVariants as beginning
 use Rattle.loom.specs.declared.builder.Builder.{Builder}
 use Rattle.loom.specs.declared.error.CheckError.{CheckError}
 use Rattle.loom.specs.declared.error.CheckError.TheVariants.{NotJson, WrongShape, WrongVersion, OtherSettings, TooManyNodes, BadNode, Store, Memory}
@@ -23,6 +25,10 @@ of_path (why.Memory e) = Memory
 abbrev pub of_store : StoreError → CheckError
 of_store store.Fault = Store
 of_store store.Memory = Memory
+
+abbrev pub of_beginning : BeginError → CheckError
+of_beginning (beginning.Text why) = of_path why
+of_beginning (beginning.Store why) = of_store why
 
 -- Error 13 comes exactly where the store's count of faults has risen in this check.
 abbrev pub CountsFaults : {A : Type 0} → Result A CheckError → ℕ → ℕ → Type 0

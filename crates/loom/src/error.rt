@@ -1,10 +1,11 @@
 ghost use Rattle.std.specs.Prelude.{◌≡◌};
 ghost use Rattle.loom.specs.Errors.{number_of};
-ghost use Rattle.loom.specs.Refusals.{of_path, of_store};
+ghost use Rattle.loom.specs.Refusals.{of_beginning, of_path, of_store};
 ghost use Rattle.loom.specs.declared.error.CheckError.TheVariants.{Memory};
 
 use loom_checkpoint::error::PathError;
 pub use loom_checkpoint::error::Setting;
+use loom_saves::beginning::BeginError;
 use loom_stores::store::StoreError;
 use std::alloc::AllocError;
 use std::fmt;
@@ -132,6 +133,17 @@ impl From<StoreError> for CheckError {
         match why {
             StoreError::Fault => CheckError::Store,
             StoreError::Memory => CheckError::Memory,
+        }
+    }
+}
+
+impl From<BeginError> for CheckError {
+    ghost from_gives = { λ why e. e ≡ of_beginning why };
+
+    fn from(why: BeginError) -> CheckError {
+        match why {
+            BeginError::Text(why) => CheckError::from(why),
+            BeginError::Store(why) => CheckError::from(why),
         }
     }
 }

@@ -1,16 +1,16 @@
 //! What happened in the run that follows given choices.
-ghost use Rattle.std.specs.Prelude.{◌≡◌, ◌≤◌, ◌⊎◌, [], Err, IfOk, IfErr};
-ghost use Rattle.loom_path.specs.Routes.{at_rest};
-ghost use Rattle.loom_walks.specs.Trees.Meeting.{whole_search};
+ghost use Rattle.std.specs.Prelude.{◌≡◌, ◌≤◌, ◌⊎◌, Err, IfOk, IfErr};
+ghost use Rattle.loom_explain.specs.Story.{IsToldAs, story_of};
+ghost use Rattle.loom_path.specs.Routes.{trail};
 ghost use Rattle.loom.specs.Explaining.{Explains};
 ghost use Rattle.loom.specs.Settings.{explores, tested};
 
 use crate::builder::Builder;
 use crate::error::CheckError;
-use loom_check_parts::paths::following;
+use loom_check_parts::runs::{Runs, follow};
 use loom_engine::rt::execution::Limits;
 use loom_explain::options::options_at;
-use loom_explain::telling::tell;
+use loom_explain::telling::{Told, tell};
 use loom_objects::body::Body;
 use loom_parts::choice::Choice;
 use loom_path::rt::path::Path;
@@ -33,12 +33,12 @@ impl Builder {
         ensures errors { IfErr result (λ e. (e ≡ CheckError.Memory) ⊎ (tested self.now ≡ Err e)) }
     {
         self.test()?;
-        let mut path = self.following(alloc, choices)?;
-        let limits = Limits {
-            max_threads: self.max_threads,
-            max_steps: self.max_steps,
+        let explores = !self.expect_explicit_explore;
+        let runs = ToldRuns {
+            builder: self,
+            body,
         };
-        let told = tell(alloc, limits, body, &mut path)?;
+        let (told, path) = follow(alloc, &runs, explores, self.max_branches, choices)?;
         let choices = path.choices(alloc)?;
         let options = options_at(alloc, path.nodes())?;
         let mut explanation = Explanation {
@@ -54,13 +54,27 @@ impl Builder {
         explanation.text = text::told(alloc, &explanation)?;
         Ok(explanation)
     }
+}
 
-    /// The path of a run that follows these choices and then takes defaults.
-    pub(crate) fn following(&self, alloc: Global, choices: &[Choice]) -> Result<Path, AllocError>
-        requires branches { self.now.max_branches ≤ 1000000 }
-        ensures { IfOk result (λ path. path ≡ record (at_rest (whole_search self.now.max_branches) (explores self.now) []) { given = choices.now }) }
-    {
-        let explores = !self.expect_explicit_explore;
-        following(alloc, explores, self.max_branches, choices)
+/// Makes the runs of a body, as a builder asks for them, and tells them.
+#[derive(Drop)]
+struct ToldRuns<'a, B> {
+    builder: &'a Builder,
+    body: &'a B,
+}
+
+impl<'a, B: Body> Runs<Told> for ToldRuns<'a, B> {
+    ghost may_run = { λ runs. (1 ≤ runs.builder.now.max_threads) × (runs.builder.now.max_threads ≤ 5) };
+
+    ghost begins_exploring = { λ runs. explores runs.builder.now };
+
+    ghost comes = { λ runs old told new. IsToldAs (story_of old.search B.next old.explores runs.builder.now.max_threads runs.builder.now.max_steps runs.body.now (trail old)) told new };
+
+    fn run(&self, alloc: Global, path: &mut Path) -> Result<Told, AllocError> {
+        let limits = Limits {
+            max_threads: self.builder.max_threads,
+            max_steps: self.builder.max_steps,
+        };
+        tell(alloc, limits, self.body, path)
     }
 }

@@ -10,6 +10,7 @@ pub use crate::builder::Builder;
 use crate::error::CheckError;
 use log::Log;
 use loom_check_parts::files::file_store;
+use loom_check_parts::paths::following;
 use loom_check_parts::receiver::{Listed, NoStore, Nobody, Unlisted};
 use loom_check_parts::visitor::Visitor;
 use loom_objects::body::Body;
@@ -147,7 +148,8 @@ impl Builder {
         ensures errors { IfErr result (λ e. (e ≡ CheckError.Memory) ⊎ (tested self.now ≡ Err e)) }
     {
         self.test()?;
-        let mut path = self.following(alloc, choices)?;
+        let explores = !self.expect_explicit_explore;
+        let mut path = following(alloc, explores, self.max_branches, choices)?;
         let ending = self.run(alloc, body, &mut path)?;
         let choices = path.choices(alloc)?;
         match ending {

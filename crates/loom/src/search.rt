@@ -1,29 +1,32 @@
 //! The loop of a check.
-ghost use Rattle.std.specs.Prelude.{◌≡◌, ◌≤◌, ◌<◌, ◌+◌, ◌-◌, ◌^◌, None, Err, IfOk, IfErr, IfSome, string_bytes};
-ghost use Rattle.loom_path.specs.Routes.{IsAtStart, IsSameSearch, at_rest, stored};
+ghost use Rattle.std.specs.Prelude.{◌≡◌, ◌≤◌, ◌<◌, ◌^◌, ◌-◌, None, Err, IfOk, IfErr, IfSome};
+ghost use Rattle.loom_path.specs.Routes.{IsAtStart, IsSameSearch};
 ghost use Rattle.loom_round.specs.Ending.{IsLocated, RunsAlong};
 ghost use Rattle.loom_runs.specs.Runs.{runs as runs_of};
-ghost use Rattle.loom_walks.specs.Trees.Resuming.{AreAtRest, HasDefaults};
+ghost use Rattle.loom_saves.specs.Beginning.{IsBegun};
 ghost use Rattle.loom.specs.Check.{Reports};
-ghost use Rattle.loom.specs.Loop.{IsBegun, ComesTo, IsRoundLocated, IsKept, HasReached, IsSavedAs};
-ghost use Rattle.loom.specs.Refusals.{CountsFaults, IsNoBeginning, IsNoSave, IsNoReport};
+ghost use Rattle.loom.specs.Loop.{Comes, HasReached};
+ghost use Rattle.loom.specs.Refusals.{CountsFaults, IsNoBeginning, IsNoReport};
 ghost use Rattle.loom.specs.Settings.{explores, search_of, tested};
 
 use crate::builder::Builder;
 use crate::error::CheckError;
 use crate::model::{Limit, Report};
 use crate::progress::log_switches;
-use log::{Log, info};
+use log::Log;
 use loom_check_parts::limits::{are_made, complete};
 use loom_check_parts::paths::path_search;
 use loom_check_parts::receiver::Receiver;
-use loom_check_parts::rounds::{Round, ended, failed};
-use loom_checkpoint::text::{from_text, to_text};
+use loom_check_parts::rounds::Round;
+use loom_check_parts::runs::Runs;
 use loom_engine::rt::execution::Limits;
 use loom_objects::body::Body;
+use loom_parts::failure::Failure;
 use loom_path::rt::path::Path;
 use loom_round::places::{LastPlaces, NoPlaces};
 use loom_round::round::{Ending, run};
+use loom_saves::beginning::begin;
+use loom_saves::saving::{Pace, save, save_and_run};
 use loom_stores::clock::Clock;
 use loom_stores::store::CheckpointStore;
 use std::alloc::{AllocError, Global};
@@ -52,28 +55,35 @@ impl Builder {
     {
         self.test()?;
         let mut path = self.begin(alloc, store)?;
-        let mut runs = 0u64;
-        let mut until_save = self.checkpoint_interval - 1;
+        let mut pace = Pace {
+            interval: self.checkpoint_interval,
+            runs: 0,
+            until_save: self.checkpoint_interval - 1,
+        };
         loop {
-            if let Some(limit) = self.reached(runs, clock) {
+            if let Some(limit) = self.reached(pace.runs, clock) {
                 let checkpoint = save(alloc, &path, store)?;
                 return Ok(Report::Stopped {
-                    runs,
+                    runs: pace.runs,
                     limit,
                     checkpoint,
                 });
             }
-            until_save = self.keep(alloc, &path, store, log, runs, until_save)?;
-            match self.round(alloc, body, receiver, &mut path, log)? {
-                Round::Next => runs += 1,
+            let runs = BodyRuns {
+                builder: self,
+                body,
+                log,
+            };
+            match save_and_run(alloc, &runs, receiver, &mut path, store, log, &mut pace)? {
+                Round::Next => pace.runs += 1,
                 Round::Last => {
                     return Ok(Report::Complete {
-                        runs: complete(log, runs),
+                        runs: complete(log, pace.runs),
                     });
                 }
                 Round::Failed(failure, choices) => {
                     return Ok(Report::Failed {
-                        runs,
+                        runs: pace.runs,
                         failure,
                         choices,
                     });
@@ -96,10 +106,7 @@ impl Builder {
             self.max_branches,
             self.expect_explicit_explore,
         );
-        match store.load(alloc)? {
-            Some(text) => Ok(from_text(alloc, text.as_slice(), search)?),
-            None => Ok(Path::new(alloc, search)),
-        }
+        Ok(begin(alloc, search, store)?)
     }
 
     /// The limit that a check has reached after so many runs, if any. The clock is asked where a duration is set.
@@ -113,62 +120,6 @@ impl Builder {
         match self.max_duration {
             Some(longest) if clock.elapsed() >= longest => Some(Limit::Duration),
             _ => None,
-        }
-    }
-
-    /// Saves the path before each run whose number is a multiple of the interval. Answers how many runs are made until the next
-    /// time.
-    fn keep<S: CheckpointStore, L: Log>(
-        &self,
-        alloc: Global,
-        path: &Path,
-        store: &mut S,
-        log: &L,
-        runs: u64,
-        until_save: usize,
-    ) -> Result<usize, CheckError>
-        requires fits { runs < 2 ^ 64 - 1 }
-        requires interval { 0 < self.now.checkpoint_interval }
-        requires rests { AreAtRest (stored path.now.nodes) }
-        requires defaults { HasDefaults (stored path.now.nodes) }
-        ensures kept { IfOk result (λ left. IsKept self.now until_save path.now (S.holds store.old) (S.holds store.new) left) }
-        ensures errors { IfErr result IsNoSave }
-        ensures faults { CountsFaults result (S.fault_count store.old) (S.fault_count store.new) }
-    {
-        if until_save > 0 {
-            return Ok(until_save - 1);
-        }
-        save(alloc, path, store)?;
-        info!(log; "iteration {}", runs + 1);
-        Ok(self.checkpoint_interval - 1)
-    }
-
-    /// One run along the path, which the receiver is given, and the step to the next one.
-    fn round<B, Choices, R, L>(
-        &self,
-        alloc: Global,
-        body: &B,
-        receiver: &mut R,
-        path: &mut Path,
-        log: &L,
-    ) -> Result<Round, AllocError>
-    where
-        B: Body,
-        R: Receiver<B::Data, Choices>,
-        L: Log,
-        requires some { 1 ≤ self.now.max_threads }
-        requires few { self.now.max_threads ≤ 5 }
-        requires starts { IsAtStart (explores self.now) path.old }
-        ensures comes { IfOk result (λ round. ComesTo R.receives (runs_of B.next (explores self.now) self.now.max_threads self.now.max_steps body.now) path.old receiver.old round path.new receiver.new) }
-        ensures located { IfOk result (IsRoundLocated self.now.location) }
-    {
-        let answer = self.run(alloc, body, path);
-        if self.log {
-            log_switches(log, path);
-        }
-        match answer? {
-            Ending::Failed(failure) => failed(alloc, failure, path),
-            Ending::Ended(value) => ended(alloc, value, receiver, path),
         }
     }
 
@@ -198,17 +149,29 @@ impl Builder {
     }
 }
 
-/// Saves the path, and answers its text.
-fn save<S: CheckpointStore>(alloc: Global, path: &Path, store: &mut S) -> Result<String, CheckError>
-    requires rests { AreAtRest (stored path.now.nodes) }
-    requires defaults { HasDefaults (stored path.now.nodes) }
-    ensures saved { IfOk result (λ text. IsSavedAs path.now (S.holds store.new) (string_bytes text)) }
-    ensures errors { IfErr result IsNoSave }
-    ensures faults { CountsFaults result (S.fault_count store.old) (S.fault_count store.new) }
-{
-    path.well_formed_rests();
-    let _nodes = path.nodes();
-    let text = to_text(alloc, path)?;
-    store.save(text.as_str())?;
-    Ok(text)
+/// Makes the runs of a body, as a builder asks for them. The log is told which thread goes on.
+#[derive(Drop)]
+struct BodyRuns<'a, B, L> {
+    builder: &'a Builder,
+    body: &'a B,
+    log: &'a L,
+}
+
+impl<'a, B: Body, L: Log> Runs<Result<B::Data, Failure>> for BodyRuns<'a, B, L> {
+    ghost may_run = { λ runs. (1 ≤ runs.builder.now.max_threads) × (runs.builder.now.max_threads ≤ 5) };
+
+    ghost begins_exploring = { λ runs. explores runs.builder.now };
+
+    ghost comes = { λ runs. Comes (runs_of B.next (explores runs.builder.now) runs.builder.now.max_threads runs.builder.now.max_steps runs.body.now) runs.builder.now.location };
+
+    fn run(&self, alloc: Global, path: &mut Path) -> Result<Result<B::Data, Failure>, AllocError> {
+        let answer = self.builder.run(alloc, self.body, path);
+        if self.builder.log {
+            log_switches(self.log, path);
+        }
+        match answer? {
+            Ending::Ended(value) => Ok(Ok(value)),
+            Ending::Failed(failure) => Ok(Err(failure)),
+        }
+    }
 }

@@ -1,5 +1,5 @@
--- What comes after a run of a check.
-use Rattle.std.specs.Prelude.{◌≡◌, Bool, true, false, List}
+-- What a round of a check comes to, and what comes after its run.
+use Rattle.std.specs.Prelude.{◌≡◌, Bool, true, false, List, Result, Ok, Err}
 use Rattle.loom_parts.specs.declared.choice.Choice.{Choice}
 use Rattle.loom_parts.specs.declared.failure.Failure.{Failure}
 use Rattle.loom_path.specs.Routes.{Route, at_rest, chosen, Steps}
@@ -23,3 +23,19 @@ abbrev pub IsOver : Failure → Route → Round → Type 0
 IsOver why after Next = ⊥
 IsOver why after Last = ⊥
 IsOver why after (Failed failure choices) = (failure ≡ why) × (choices.items ≡ chosen after)
+
+module _ {V D : Type 0} (comes : Route → Result D Failure → Route → Type 0) (takes : V → List Choice → D → V → Type 0) (old : Route) (receiver : V) where
+  -- the run along the path came to a value, which the receiver was given, and then the path stepped to the next, or to none
+  pub record HasEnded (on : Bool) (new : Route) (later : V) : Type 0 where
+    pub value : D
+    pub after : Route
+    pub came : comes old (Ok value) after
+    pub took : takes receiver (chosen after) value later
+    pub steps : Steps after.nodes on new.nodes
+    pub rests : new ≡ at_rest old.search old.explores new.nodes
+
+  -- what a round came to
+  abbrev pub ComesTo : Round → Route → V → Type 0
+  ComesTo Next new later = HasEnded true new later
+  ComesTo Last new later = HasEnded false new later
+  ComesTo (Failed failure choices) new later = (after : Route) × comes old (Err failure) after × (choices.items ≡ chosen after) × (later ≡ receiver)

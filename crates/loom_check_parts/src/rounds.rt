@@ -1,8 +1,10 @@
-//! What comes after a run of a check.
+//! A run of a check, and what comes after it.
 ghost use Rattle.std.specs.Prelude.{IfOk};
-ghost use Rattle.loom_check_parts.specs.Rounds.{HasGone, IsOver};
+ghost use Rattle.loom_path.specs.Routes.{IsAtStart};
+ghost use Rattle.loom_check_parts.specs.Rounds.{ComesTo, HasGone, IsOver};
 
 use crate::receiver::Receiver;
+use crate::runs::Runs;
 use loom_parts::choice::Choice;
 use loom_parts::failure::Failure;
 use loom_path::rt::path::Path;
@@ -19,8 +21,28 @@ pub enum Round {
     Failed(Failure, Vec<Choice>),
 }
 
+/// One run along the path, which the receiver is given, and the step to the next one.
+pub fn run_and_step<D: Drop, Choices, M, R>(
+    alloc: Global,
+    runs: &M,
+    receiver: &mut R,
+    path: &mut Path,
+) -> Result<Round, AllocError>
+where
+    M: Runs<Result<D, Failure>>,
+    R: Receiver<D, Choices>,
+    requires may { M.may_run runs.now }
+    requires starts { IsAtStart (M.begins_exploring runs.now) path.old }
+    ensures { IfOk result (λ round. ComesTo (M.comes runs.now) R.receives path.old receiver.old round path.new receiver.new) }
+{
+    match runs.run(alloc, path)? {
+        Err(failure) => failed(alloc, failure, path),
+        Ok(value) => ended(alloc, value, receiver, path),
+    }
+}
+
 /// The run along the path ended with this value, which the receiver is given, and the path steps to the next one.
-pub fn ended<D, Choices, R: Receiver<D, Choices>>(
+fn ended<D, Choices, R: Receiver<D, Choices>>(
     alloc: Global,
     value: D,
     receiver: &mut R,
@@ -37,7 +59,7 @@ pub fn ended<D, Choices, R: Receiver<D, Choices>>(
 }
 
 /// The run along the path failed so.
-pub fn failed(alloc: Global, failure: Failure, path: &Path) -> Result<Round, AllocError>
+fn failed(alloc: Global, failure: Failure, path: &Path) -> Result<Round, AllocError>
     ensures { IfOk result (IsOver failure path.now) }
 {
     Ok(Round::Failed(failure, path.choices(alloc)?))

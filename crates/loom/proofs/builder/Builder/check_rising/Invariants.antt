@@ -1,4 +1,4 @@
-use Rattle.std.proofs.Common.{◌≤◌, ◌-◌, ℕ}
+use Rattle.std.proofs.Common.{◌≤◌, ◌-◌}
 use Rattle.loom_runs.specs.Runs.{runs}
 use Rattle.loom.specs.Settings.{explores}
 use Rattle.loom.proofs.Bounds.{AreComplete}

@@ -1,10 +1,10 @@
-use Rattle.std.proofs.Common.{ℕ, ◌∙◌, subst, arith, rules}
+use Rattle.std.proofs.Common.{ℕ, ◌∙◌, refl, subst, arith, rules}
 use Rattle.loom_runs.specs.Runs.{runs}
 use Rattle.loom_runs.proofs.Runs.Bodies.{run_tree_law, unchosen_law}
 use Rattle.loom.specs.Refusals.{CountsFaults}
 use Rattle.loom.specs.Settings.{explores}
-use Rattle.loom.proofs.Errors.{uncounted}
-use Rattle.loom.proofs.Checking.{checking_start, checking_well, checking_stops, reached_stops, round_on, round_ends, round_fails}
+use Rattle.loom.proofs.Errors.{counted_error, uncounted}
+use Rattle.loom.proofs.Checking.{checking_start, checking_starts, checking_well, checking_stops, reached_stops, round_on, round_ends, round_fails}
 use Rattle.loom.proofs.builder.Builder.search.Goals as goal
 
 pub loop-limit-init : goal.loop-limit-init
@@ -16,6 +16,7 @@ loop-limit-init g c =
     record {
       most = 0;
       few = omega arith;
+      interval = refl;
       within = omega arith;
       checking = checking_start b tree sound shut g.R.Receiver.receives c.args.receiver.now (g.S.CheckpointStore.gives c.args.store.now)
           (g.S.CheckpointStore.holds c.begin.new.store) c.in_ok-path.path c.in_ok-path.ensures.begun;
@@ -30,7 +31,7 @@ save-requires-clause-rests g c =
     let shut = unchosen_law g.B.Body.next (explores b) b.max_threads b.max_steps c.args.body.now in
     let z = c.loop-limit.invariant in
     (checking_well b tree sound shut g.R.Receiver.receives c.args.receiver.now (g.S.CheckpointStore.gives c.args.store.now)
-    (g.S.CheckpointStore.holds c.loop-limit.store) c.loop-limit.path c.loop-limit.receiver c.loop-limit.runs z.most z.checking).rest
+    (g.S.CheckpointStore.holds c.loop-limit.store) c.loop-limit.path c.loop-limit.receiver c.loop-limit.pace.runs z.most z.checking).rest
 
 pub save-requires-clause-defaults : goal.save-requires-clause-defaults
 save-requires-clause-defaults g c =
@@ -40,11 +41,12 @@ save-requires-clause-defaults g c =
     let shut = unchosen_law g.B.Body.next (explores b) b.max_threads b.max_steps c.args.body.now in
     let z = c.loop-limit.invariant in
     (checking_well b tree sound shut g.R.Receiver.receives c.args.receiver.now (g.S.CheckpointStore.gives c.args.store.now)
-    (g.S.CheckpointStore.holds c.loop-limit.store) c.loop-limit.path c.loop-limit.receiver c.loop-limit.runs z.most z.checking).defaults
+    (g.S.CheckpointStore.holds c.loop-limit.store) c.loop-limit.path c.loop-limit.receiver c.loop-limit.pace.runs z.most z.checking).defaults
 
 pub returns-in_err-checkpoint-clause-faults : goal.returns-in_err-checkpoint-clause-faults
 returns-in_err-checkpoint-clause-faults g c =
-    let own : CountsFaults c.from_residual-in_err-checkpoint.result (g.S.CheckpointStore.fault_count c.loop-limit.store) (g.S.CheckpointStore.fault_count c.save.new.store) = search rules in
+    let own = counted_error c.from_residual-in_err-checkpoint.result c.in_err-checkpoint.field-0.0 (g.S.CheckpointStore.fault_count c.loop-limit.store) (g.S.CheckpointStore.fault_count c.save.new.store)
+    c.in_err-checkpoint.ensures.faults (search rules) in
     subst (λ (n : ℕ). CountsFaults c.from_residual-in_err-checkpoint.result n (g.S.CheckpointStore.fault_count c.save.new.store)) c.loop-limit.invariant.faultless own
 
 pub returns-in-Some-clause-reports : goal.returns-in-Some-clause-reports
@@ -56,34 +58,45 @@ returns-in-Some-clause-reports g c =
     let z = c.loop-limit.invariant in
     let answered = g.C.Clock.answered c.reached.new.clock in
     checking_stops b tree sound shut g.R.Receiver.receives c.args.receiver.now (g.S.CheckpointStore.gives c.args.store.now)
-    (g.S.CheckpointStore.holds c.loop-limit.store) c.loop-limit.path c.loop-limit.receiver c.loop-limit.runs z.most z.checking answered (g.S.CheckpointStore.holds c.save.new.store)
+    (g.S.CheckpointStore.holds c.loop-limit.store) c.loop-limit.path c.loop-limit.receiver c.loop-limit.pace.runs z.most z.checking answered (g.S.CheckpointStore.holds c.save.new.store)
     c.in-Some.limit c.in_ok-checkpoint.checkpoint c.in_ok-checkpoint.ensures.saved
-    (reached_stops answered b c.loop-limit.runs c.in-Some.limit c.in_ok-checkpoint.checkpoint z.within c.in-Some.ensures.reached)
+    (reached_stops answered b c.loop-limit.pace.runs c.in-Some.limit c.in_ok-checkpoint.checkpoint z.within c.in-Some.ensures.reached)
 
-pub keep-requires-clause-rests : goal.keep-requires-clause-rests
-keep-requires-clause-rests g c =
+pub save_and_run-requires-clause-starts : goal.save_and_run-requires-clause-starts
+save_and_run-requires-clause-starts g c =
+    let b = c.args.self.now in
+    let tree = runs g.B.Body.next (explores b) b.max_threads b.max_steps c.args.body.now in
+    let sound = run_tree_law g.B.Body.next (explores b) b.max_threads b.max_steps c.args.body.now in
+    let shut = unchosen_law g.B.Body.next (explores b) b.max_threads b.max_steps c.args.body.now in
+    let z = c.loop-limit.invariant in
+    checking_starts b tree sound shut g.R.Receiver.receives c.args.receiver.now (g.S.CheckpointStore.gives c.args.store.now)
+    (g.S.CheckpointStore.holds c.loop-limit.store) c.loop-limit.path c.loop-limit.receiver c.loop-limit.pace.runs z.most z.checking
+
+pub save_and_run-requires-clause-rests : goal.save_and_run-requires-clause-rests
+save_and_run-requires-clause-rests g c =
     let b = c.args.self.now in
     let tree = runs g.B.Body.next (explores b) b.max_threads b.max_steps c.args.body.now in
     let sound = run_tree_law g.B.Body.next (explores b) b.max_threads b.max_steps c.args.body.now in
     let shut = unchosen_law g.B.Body.next (explores b) b.max_threads b.max_steps c.args.body.now in
     let z = c.loop-limit.invariant in
     (checking_well b tree sound shut g.R.Receiver.receives c.args.receiver.now (g.S.CheckpointStore.gives c.args.store.now)
-    (g.S.CheckpointStore.holds c.loop-limit.store) c.loop-limit.path c.loop-limit.receiver c.loop-limit.runs z.most z.checking).rest
+    (g.S.CheckpointStore.holds c.loop-limit.store) c.loop-limit.path c.loop-limit.receiver c.loop-limit.pace.runs z.most z.checking).rest
 
-pub keep-requires-clause-defaults : goal.keep-requires-clause-defaults
-keep-requires-clause-defaults g c =
+pub save_and_run-requires-clause-defaults : goal.save_and_run-requires-clause-defaults
+save_and_run-requires-clause-defaults g c =
     let b = c.args.self.now in
     let tree = runs g.B.Body.next (explores b) b.max_threads b.max_steps c.args.body.now in
     let sound = run_tree_law g.B.Body.next (explores b) b.max_threads b.max_steps c.args.body.now in
     let shut = unchosen_law g.B.Body.next (explores b) b.max_threads b.max_steps c.args.body.now in
     let z = c.loop-limit.invariant in
     (checking_well b tree sound shut g.R.Receiver.receives c.args.receiver.now (g.S.CheckpointStore.gives c.args.store.now)
-    (g.S.CheckpointStore.holds c.loop-limit.store) c.loop-limit.path c.loop-limit.receiver c.loop-limit.runs z.most z.checking).defaults
+    (g.S.CheckpointStore.holds c.loop-limit.store) c.loop-limit.path c.loop-limit.receiver c.loop-limit.pace.runs z.most z.checking).defaults
 
-pub returns-in_err-until_save-clause-faults : goal.returns-in_err-until_save-clause-faults
-returns-in_err-until_save-clause-faults g c =
-    let own : CountsFaults c.from_residual-in_err-until_save.result (g.S.CheckpointStore.fault_count c.loop-limit.store) (g.S.CheckpointStore.fault_count c.keep.new.store) = search rules in
-    subst (λ (n : ℕ). CountsFaults c.from_residual-in_err-until_save.result n (g.S.CheckpointStore.fault_count c.keep.new.store)) c.loop-limit.invariant.faultless own
+pub returns-in_err-save_and_run-clause-faults : goal.returns-in_err-save_and_run-clause-faults
+returns-in_err-save_and_run-clause-faults g c =
+    let own = counted_error c.from_residual-in_err-save_and_run.result c.in_err-save_and_run.field-0.0 (g.S.CheckpointStore.fault_count c.loop-limit.store) (g.S.CheckpointStore.fault_count c.save_and_run.new.store)
+    c.in_err-save_and_run.ensures.faults (search rules) in
+    subst (λ (n : ℕ). CountsFaults c.from_residual-in_err-save_and_run.result n (g.S.CheckpointStore.fault_count c.save_and_run.new.store)) c.loop-limit.invariant.faultless own
 
 pub loop-limit-preserved : goal.loop-limit-preserved
 loop-limit-preserved g c =
@@ -92,16 +105,18 @@ loop-limit-preserved g c =
     let sound = run_tree_law g.B.Body.next (explores b) b.max_threads b.max_steps c.args.body.now in
     let shut = unchosen_law g.B.Body.next (explores b) b.max_threads b.max_steps c.args.body.now in
     let z = c.loop-limit.invariant in
-    let comes = rw c.in-Next.is at c.in_ok-round.ensures.comes in
+    let kept = rw z.interval at c.in_ok-save_and_run.ensures.kept in
+    let comes = rw c.in-Next.is at c.in_ok-save_and_run.ensures.comes in
     let on = round_on b tree sound shut g.R.Receiver.receives c.args.receiver.now (g.S.CheckpointStore.gives c.args.store.now)
-    (g.S.CheckpointStore.holds c.loop-limit.store) (g.S.CheckpointStore.holds c.keep.new.store) c.loop-limit.path c.loop-limit.receiver c.loop-limit.runs z.most c.loop-limit.until_save c.in_ok-until_save.until_save
-    z.checking z.few c.in_ok-until_save.ensures.kept c.round.new.path c.round.new.receiver comes in
+    (g.S.CheckpointStore.holds c.loop-limit.store) (g.S.CheckpointStore.holds c.save_and_run.new.store) c.loop-limit.path c.loop-limit.receiver c.loop-limit.pace.runs z.most c.loop-limit.pace.until_save c.save_and_run.new.pace.until_save
+    z.checking z.few kept c.save_and_run.new.path c.save_and_run.new.receiver comes in
     record {
       most = on.0;
       few = on.2;
-      within = omega (arith, c.in_default.ensures.reached);
-      checking = on.1;
-      faultless = uncounted c.keep.result c.in_ok-until_save.until_save _ _ c.in_ok-until_save.was c.keep.ensures.faults ∙ z.faultless;
+      interval = c.save_and_run.ensures.interval ∙ z.interval;
+      within = omega (arith, c.in_default.ensures.reached, c.save_and_run.ensures.runs);
+      checking = rw c.save_and_run.ensures.runs on.1;
+      faultless = c.in_ok-save_and_run.ensures.faults ∙ z.faultless;
     }
 
 pub returns-in-Last-clause-reports : goal.returns-in-Last-clause-reports
@@ -111,12 +126,13 @@ returns-in-Last-clause-reports g c =
     let sound = run_tree_law g.B.Body.next (explores b) b.max_threads b.max_steps c.args.body.now in
     let shut = unchosen_law g.B.Body.next (explores b) b.max_threads b.max_steps c.args.body.now in
     let z = c.loop-limit.invariant in
-    let comes = rw c.in-Last.is at c.in_ok-round.ensures.comes in
-    rw c.complete.ensures
+    let kept = rw z.interval at c.in_ok-save_and_run.ensures.kept in
+    let comes = rw c.in-Last.is at c.in_ok-save_and_run.ensures.comes in
+    rw (c.complete.ensures, c.save_and_run.ensures.runs)
     (round_ends b tree sound shut g.R.Receiver.receives c.args.receiver.now (g.S.CheckpointStore.gives c.args.store.now)
-    (g.S.CheckpointStore.holds c.loop-limit.store) (g.S.CheckpointStore.holds c.keep.new.store) c.loop-limit.path c.loop-limit.receiver c.loop-limit.runs z.most c.loop-limit.until_save c.in_ok-until_save.until_save
-    z.checking z.few c.in_ok-until_save.ensures.kept
-    (g.C.Clock.answered c.reached.new.clock) c.in_default.ensures.reached c.round.new.path c.round.new.receiver comes)
+    (g.S.CheckpointStore.holds c.loop-limit.store) (g.S.CheckpointStore.holds c.save_and_run.new.store) c.loop-limit.path c.loop-limit.receiver c.loop-limit.pace.runs z.most c.loop-limit.pace.until_save c.save_and_run.new.pace.until_save
+    z.checking z.few kept
+    (g.C.Clock.answered c.reached.new.clock) c.in_default.ensures.reached c.save_and_run.new.path c.save_and_run.new.receiver comes)
 
 pub returns-in-Failed-clause-reports : goal.returns-in-Failed-clause-reports
 returns-in-Failed-clause-reports g c =
@@ -125,9 +141,10 @@ returns-in-Failed-clause-reports g c =
     let sound = run_tree_law g.B.Body.next (explores b) b.max_threads b.max_steps c.args.body.now in
     let shut = unchosen_law g.B.Body.next (explores b) b.max_threads b.max_steps c.args.body.now in
     let z = c.loop-limit.invariant in
-    let placed = rw c.in-Failed.is at c.in_ok-round.ensures.located in
-    let comes = rw c.in-Failed.is at c.in_ok-round.ensures.comes in
-    round_fails b tree sound shut g.R.Receiver.receives c.args.receiver.now (g.S.CheckpointStore.gives c.args.store.now)
-    (g.S.CheckpointStore.holds c.loop-limit.store) (g.S.CheckpointStore.holds c.keep.new.store) c.loop-limit.path c.loop-limit.receiver c.loop-limit.runs z.most c.loop-limit.until_save c.in_ok-until_save.until_save
-    z.checking z.few c.in_ok-until_save.ensures.kept
-    (g.C.Clock.answered c.reached.new.clock) c.in_default.ensures.reached c.in-Failed.failure c.in-Failed.choices c.round.new.path c.round.new.receiver placed comes
+    let kept = rw z.interval at c.in_ok-save_and_run.ensures.kept in
+    let comes = rw c.in-Failed.is at c.in_ok-save_and_run.ensures.comes in
+    rw c.save_and_run.ensures.runs
+    (round_fails b tree sound shut g.R.Receiver.receives c.args.receiver.now (g.S.CheckpointStore.gives c.args.store.now)
+    (g.S.CheckpointStore.holds c.loop-limit.store) (g.S.CheckpointStore.holds c.save_and_run.new.store) c.loop-limit.path c.loop-limit.receiver c.loop-limit.pace.runs z.most c.loop-limit.pace.until_save c.save_and_run.new.pace.until_save
+    z.checking z.few kept
+    (g.C.Clock.answered c.reached.new.clock) c.in_default.ensures.reached c.in-Failed.failure c.in-Failed.choices c.save_and_run.new.path c.save_and_run.new.receiver comes)
