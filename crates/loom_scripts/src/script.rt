@@ -1,6 +1,5 @@
 //! Bodies that take one step of a list after another.
 ghost use Rattle.std.specs.Prelude.{◌≡◌, IfOk, option_copied};
-ghost use Rattle.loom_objects.specs.declared.operation.Op.TheVariants as ops;
 ghost use Rattle.loom_scripts.specs.Running.{spawned, started};
 ghost use Rattle.loom_scripts.specs.Script.{next_of, operation, spawn_at, step_operation, store};
 
@@ -9,7 +8,6 @@ use crate::state::{State, place_of};
 use crate::step::{Step, Value};
 use loom_objects::body::Body;
 use loom_objects::operation::{AtomicOp, Op, Reply, ThreadOp};
-use loom_parts::label::Label;
 use std::alloc::{AllocError, Global};
 use std::marker::Model;
 use std::sync::atomic::Ordering;
@@ -30,11 +28,11 @@ impl Model for Script {
     ghost view = { λ script. record { steps = script.steps.now; state = script.state.value } };
 }
 
-// Breaks the block off with the operation that is made of this one, if its slots keep such handles.
-macro_rules! break_made {
-    ($block:lifetime, $made:expr, $kind:ident, $label:expr) => {
+// Answers the operation that is made of this one, if its slots keep such handles.
+macro_rules! answer_made {
+    ($made:expr, $kind:ident, $label:expr) => {
         if let Some(op) = $made {
-            break $block Op::$kind(op, $label);
+            return Ok(Op::$kind(op, $label));
         }
     };
 }
@@ -80,45 +78,27 @@ impl Script {
     {
         let state = self.state();
         let label = op.label();
-        let op = 'made: {
-            match op {
-                Op::Atomic(op, _) => break_made!('made, state.atomic_op(*op), Atomic, label),
-                Op::Fence(order, _) => break 'made Op::Fence(*order, label),
-                Op::Cell(op, _) => break_made!('made, state.cell_op(op), Cell, label),
-                Op::Arc(op, _) => break_made!('made, state.arc_op(op), Arc, label),
-                Op::Track(op, _) => break_made!('made, state.track_op(op), Track, label),
-                Op::Mutex(op, _) => break_made!('made, state.mutex_op(op), Mutex, label),
-                Op::RwLock(op, _) => break_made!('made, state.rwlock_op(op), RwLock, label),
-                Op::Condvar(op, _) => break_made!('made, state.condvar_op(op), Condvar, label),
-                Op::Notify(op, _) => break_made!('made, state.notify_op(*op), Notify, label),
-                Op::Channel(op, _) => break_made!('made, state.channel_op(op), Channel, label),
-                Op::Waker(op, _) => break_made!('made, state.waker_op(*op), Waker, label),
-                Op::AtomicWaker(op, _) =>
-                    break_made!('made, state.place_op(*op), AtomicWaker, label),
-                Op::Local(op, _) => break 'made Op::Local(state.local_op(op), label),
-                Op::Lazy(op, _) => break 'made Op::Lazy(state.lazy_op(op), label),
-                Op::Explore(op, _) => break 'made Op::Explore(*op, label),
-                Op::Thread(op, _) => return self.thread_operation(op, label),
-                Op::Fail(_) => break 'made Op::Fail(label),
-                Op::Unreachable(_) => break 'made Op::Unreachable(label),
-            }
-            Op::Fail(None)
-        };
-        Ok(op)
-    }
-
-    /// The operation of threads. Where a slot keeps no such handle the step fails.
-    fn thread_operation(
-        &self,
-        op: &ThreadOp<Value, usize>,
-        label: Option<Label>,
-    ) -> Result<Op<Number, Script>, AllocError>
-        ensures { IfOk result (λ made. made ≡ operation self.now (ops.Thread op.now label)) }
-    {
-        match self.thread_op(op)? {
-            Some(op) => Ok(Op::Thread(op, label)),
-            None => Ok(Op::Fail(None)),
+        match op {
+            Op::Atomic(op, _) => answer_made!(state.atomic_op(*op), Atomic, label),
+            Op::Fence(order, _) => return Ok(Op::Fence(*order, label)),
+            Op::Cell(op, _) => answer_made!(state.cell_op(op), Cell, label),
+            Op::Arc(op, _) => answer_made!(state.arc_op(op), Arc, label),
+            Op::Track(op, _) => answer_made!(state.track_op(op), Track, label),
+            Op::Mutex(op, _) => answer_made!(state.mutex_op(op), Mutex, label),
+            Op::RwLock(op, _) => answer_made!(state.rwlock_op(op), RwLock, label),
+            Op::Condvar(op, _) => answer_made!(state.condvar_op(op), Condvar, label),
+            Op::Notify(op, _) => answer_made!(state.notify_op(*op), Notify, label),
+            Op::Channel(op, _) => answer_made!(state.channel_op(op), Channel, label),
+            Op::Waker(op, _) => answer_made!(state.waker_op(*op), Waker, label),
+            Op::AtomicWaker(op, _) => answer_made!(state.place_op(*op), AtomicWaker, label),
+            Op::Local(op, _) => return Ok(Op::Local(state.local_op(op), label)),
+            Op::Lazy(op, _) => return Ok(Op::Lazy(state.lazy_op(op), label)),
+            Op::Explore(op, _) => return Ok(Op::Explore(*op, label)),
+            Op::Thread(op, _) => answer_made!(self.thread_op(op)?, Thread, label),
+            Op::Fail(_) => return Ok(Op::Fail(label)),
+            Op::Unreachable(_) => return Ok(Op::Unreachable(label)),
         }
+        Ok(Op::Fail(None))
     }
 
     /// The store of the value into the atomic in the slot.
@@ -172,7 +152,11 @@ impl Body for Script {
     fn resume(&mut self, reply: Reply<Number>) -> Result<Op<Number, Script>, AllocError>
         ensures { IfOk result (λ op. (self.new, op) ≡ next_of self.old reply) }
     {
-        self.state.keep(&reply);
+        // The reply is let go before the operation is made, so that nothing of it is held beside that.
+        {
+            let reply = reply;
+            self.state.keep(&reply);
+        }
         let step = self.state.fetch(self.steps);
         self.step_operation(step)
     }

@@ -14,7 +14,7 @@ use std::collections::LinkedList;
 const LAST: usize = 3;
 
 /// What a slot keeps.
-#[derive(Clone, Copy, Debug)]
+#[derive(Clone, Copy)]
 pub enum Handle {
     /// Nothing yet.
     Empty,
@@ -27,7 +27,7 @@ pub enum Handle {
 }
 
 /// What a step keeps of a reply.
-#[derive(Clone, Copy, Debug)]
+#[derive(Clone, Copy)]
 pub enum Told {
     /// Nothing.
     Nothing,
