@@ -13,14 +13,12 @@ const TWO_NODES: &str =
 const NO_NODES: &str =
     "{\"exploring\":true,\"nodes\":[],\"preemption_bound\":null,\"reduce\":false,\"version\":1}";
 
-fn whole() -> Search {
-    Search {
-        reduce: false,
-        bound: None,
-        max_branches: 1000,
-        explores: true,
-    }
-}
+const WHOLE: Search = Search {
+    reduce: false,
+    bound: None,
+    max_branches: 1000,
+    explores: true,
+};
 
 // The number of the error that a text gives, or 0.
 fn refusal(alloc: Global, text: &[u8], search: Search) -> u8 {
@@ -50,7 +48,7 @@ fn has_text(rt: &(impl Abort + AllocGlobal), path: &Path, text: &str) -> Result<
 
 // The text is read, and written again as it was.
 fn is_rewritten(rt: &(impl Abort + AllocGlobal), text: &str) -> Result<(), Fail> {
-    let path = from_text(rt.alloc(), text.as_bytes(), whole())?;
+    let path = from_text(rt.alloc(), text.as_bytes(), WHOLE)?;
     has_text(rt, &path, text)
 }
 
@@ -58,7 +56,7 @@ fn is_rewritten(rt: &(impl Abort + AllocGlobal), text: &str) -> Result<(), Fail>
 fn texts_are_read_and_written_again(rt: HostRuntime) -> Result<(), Fail> {
     is_rewritten(&rt, NO_NODES)?;
     is_rewritten(&rt, TWO_NODES)?;
-    let path = Path::new(rt.alloc(), whole());
+    let path = Path::new(rt.alloc(), WHOLE);
     has_text(&rt, &path, NO_NODES)
 }
 
@@ -66,9 +64,9 @@ fn texts_are_read_and_written_again(rt: HostRuntime) -> Result<(), Fail> {
 fn a_beginning_is_no_text(rt: HostRuntime) {
     let text = TWO_NODES.as_bytes();
     for len in 0..text.len() {
-        gives(&rt, &text[..len], whole(), 7);
+        gives(&rt, &text[..len], WHOLE, 7);
     }
-    gives(&rt, b"\xff", whole(), 7);
+    gives(&rt, b"\xff", WHOLE, 7);
 }
 
 // The members may come in any order, and of two with one key the last stays.
@@ -105,29 +103,61 @@ static WHOLE_VALUES: [(&str, u8); 15] = [
 #[test]
 fn whole_values(rt: HostRuntime) {
     for (text, number) in &WHOLE_VALUES {
-        gives(&rt, text.as_bytes(), whole(), *number);
+        gives(&rt, text.as_bytes(), WHOLE, *number);
     }
 }
 
-// A search with these settings.
-fn search(reduce: bool, bound: Option<u8>, max_branches: u32, explores: bool) -> Search {
-    Search {
-        reduce,
-        bound,
-        max_branches,
-        explores,
-    }
-}
+static SETTINGS: [(Search, u8); 6] = [
+    (
+        Search {
+            reduce: true,
+            ..WHOLE
+        },
+        10,
+    ),
+    (
+        Search {
+            bound: Some(1),
+            ..WHOLE
+        },
+        10,
+    ),
+    (
+        Search {
+            explores: false,
+            ..WHOLE
+        },
+        10,
+    ),
+    (
+        Search {
+            reduce: true,
+            max_branches: 1,
+            ..WHOLE
+        },
+        10,
+    ),
+    (
+        Search {
+            max_branches: 1,
+            ..WHOLE
+        },
+        11,
+    ),
+    (
+        Search {
+            max_branches: 2,
+            ..WHOLE
+        },
+        0,
+    ),
+];
 
 #[test]
 fn other_settings(rt: HostRuntime) {
-    let text = TWO_NODES.as_bytes();
-    gives(&rt, text, search(true, None, 1000, true), 10);
-    gives(&rt, text, search(false, Some(1), 1000, true), 10);
-    gives(&rt, text, search(false, None, 1000, false), 10);
-    gives(&rt, text, search(true, None, 1, true), 10);
-    gives(&rt, text, search(false, None, 1, true), 11);
-    gives(&rt, text, search(false, None, 2, true), 0);
+    for (search, number) in &SETTINGS {
+        gives(&rt, TWO_NODES.as_bytes(), *search, *number);
+    }
 }
 
 // The path that is read from the text of a path.
@@ -138,9 +168,15 @@ fn read_back(rt: &(impl Abort + AllocGlobal), path: &Path) -> Path {
 
 #[test]
 fn paths_are_told_apart(rt: HostRuntime) {
-    let mut path = Path::new(rt.alloc(), whole());
-    let same_search = Path::new(rt.alloc(), whole());
-    let other_search = Path::new(rt.alloc(), search(false, None, 999, true));
+    let mut path = Path::new(rt.alloc(), WHOLE);
+    let same_search = Path::new(rt.alloc(), WHOLE);
+    let other_search = Path::new(
+        rt.alloc(),
+        Search {
+            max_branches: 999,
+            ..WHOLE
+        },
+    );
     holds(&rt, path == same_search, "another path of the same search");
     holds(&rt, path != other_search, "the same path of another search");
     holds(&rt, path.branch_spurious().is_ok(), "no node is made");
@@ -159,7 +195,7 @@ fn node_refusal(alloc: Global, node: &str) -> Result<u8, AllocError> {
     let text = format!(in alloc;
         "{{\"exploring\":true,\"nodes\":[{{\"exploring\":true,\"first\":0,\"schedule\":[\"Visited\",\"Active\",\"Disabled\",\"Disabled\",\"Disabled\"]}},{node}],\"preemption_bound\":null,\"reduce\":false,\"version\":1}}"
     )?;
-    Ok(refusal(alloc, text.as_str().as_bytes(), whole()))
+    Ok(refusal(alloc, text.as_str().as_bytes(), WHOLE))
 }
 
 static NODES: [(&str, u8); 19] = [

@@ -14,11 +14,17 @@ use crate::explanations::bodies::races::{BESIDE, MUTATED, OPEN, SPIN, THREE, UNR
 use crate::explanations::bodies::values::{AFTER_EXIT, AFTER_MAIN, MADE_TWICE};
 use loom::model::Builder;
 use loom_choices::choices::Choices;
-use loom_parts::choice::Choice;
 use loom_scripts::script::Script;
 use loom_scripts::step::Step;
 use std::alloc::Global;
 use std::test::Fail;
+
+/// The limits that a builder sets.
+struct Limits {
+    threads: usize,
+    branches: usize,
+    steps: usize,
+}
 
 /// A body, the choices that its run follows, and what is told of it.
 struct Row {
@@ -26,19 +32,32 @@ struct Row {
     steps: &'static [Step],
     choices: &'static str,
     text: &'static str,
+    // where they aren't the defaults
+    limits: Option<Limits>,
 }
 
 // A row, whose text stands in the file of this name.
 macro_rules! row {
     ($name:ident, $steps:expr, $choices:literal) => {
+        row!($name, $steps, $choices, None)
+    };
+    ($name:ident, $steps:expr, $choices:literal, $limits:expr) => {
         Row {
             name: stringify!($name),
             steps: $steps,
             choices: $choices,
             text: texts::$name::TEXT,
+            limits: $limits,
         }
     };
 }
+
+// The limits of a builder by default.
+const LIMITS: Limits = Limits {
+    threads: 5,
+    branches: 1000,
+    steps: 1_000_000,
+};
 
 static RACES: [Row; 5] = [
     row!(race, SPIN, "t0 l0 t0 t1 t1 l2"),
@@ -89,27 +108,72 @@ static CHOICES: [Row; 3] = [
     row!(not_deterministic, CROSSED, "t0 t1 l3"),
 ];
 
+static AT_LIMITS: [Row; 3] = [
+    row!(
+        too_many_threads,
+        THREE_SPAWNED,
+        "",
+        Some(Limits {
+            threads: 2,
+            ..LIMITS
+        })
+    ),
+    row!(
+        too_many_branches,
+        SPINS,
+        "",
+        Some(Limits {
+            threads: 2,
+            branches: 40,
+            ..LIMITS
+        })
+    ),
+    row!(
+        too_many_steps,
+        SPINS_AND_YIELDS,
+        "",
+        Some(Limits {
+            steps: 30,
+            ..LIMITS
+        })
+    ),
+];
+
+// These two take long.
+static MANY_FENCES: [Row; 1] = [row!(too_many_versions, FENCES, "")];
+
+static MANY_STORES: [Row; 1] = [row!(
+    too_many_stores,
+    STORES,
+    "",
+    Some(Limits {
+        branches: 100_000,
+        ..LIMITS
+    })
+)];
+
 // Where a run has more than 65,535 choices, its text is kept up to them.
 fn is_told(row: &Row, text: &str) -> bool {
     text == row.text || row.name == "too_many_stores" && text.starts_with(row.text)
 }
 
-// What is told of the body's run that follows these choices.
-fn explanation(
-    alloc: Global,
-    builder: &Builder,
-    body: &Script,
-    choices: &[Choice],
-) -> Result<String, Fail> {
-    let explanation = builder.explain(alloc, body, choices)?;
-    Ok(format!(in alloc; "{explanation}")?)
+// The builder by which the row's run is made.
+fn builder_of(row: &Row) -> Builder {
+    let mut builder = Builder::new();
+    if let Some(limits) = &row.limits {
+        builder.max_threads = limits.threads;
+        builder.max_branches = limits.branches;
+        builder.max_steps = limits.steps;
+    }
+    builder
 }
 
-// What is told of the row's run.
-fn told(alloc: Global, builder: &Builder, row: &'static Row) -> Result<String, Fail> {
+// What is told of the row's run that follows its choices.
+fn told(alloc: Global, row: &'static Row) -> Result<String, Fail> {
     let body = Script::new(alloc, row.steps)?;
     let choices = Choices::parse(alloc, row.choices)?;
-    explanation(alloc, builder, &body, choices.as_slice())
+    let explanation = builder_of(row).explain(alloc, &body, choices.as_slice())?;
+    Ok(format!(in alloc; "{explanation}")?)
 }
 
 // Fails where the row has another text, and prints this one.
@@ -122,14 +186,10 @@ fn compare(rt: &HostRuntime, row: &Row, text: &str) -> Result<(), Fail> {
     Err(Fail::from("another text"))
 }
 
-fn tells(rt: &HostRuntime, builder: &Builder, row: &'static Row) -> Result<(), Fail> {
-    let text = told(rt.alloc(), builder, row)?;
-    compare(rt, row, text.as_str())
-}
-
 fn tells_each(rt: &HostRuntime, rows: &'static [Row]) -> Result<(), Fail> {
     for row in rows {
-        tells(rt, &Builder::new(), row)?;
+        let text = told(rt.alloc(), row)?;
+        compare(rt, row, text.as_str())?;
     }
     Ok(())
 }
@@ -164,36 +224,17 @@ fn given_choices_have_their_texts(rt: HostRuntime) -> Result<(), Fail> {
     tells_each(&rt, &CHOICES)
 }
 
-static FEW_THREADS: Row = row!(too_many_threads, THREE_SPAWNED, "");
-
-static FEW_BRANCHES: Row = row!(too_many_branches, SPINS, "");
-
-static FEW_STEPS: Row = row!(too_many_steps, SPINS_AND_YIELDS, "");
-
-static MANY_FENCES: Row = row!(too_many_versions, FENCES, "");
-
-static MANY_STORES: Row = row!(too_many_stores, STORES, "");
-
 #[test]
 fn each_limit_has_its_text(rt: HostRuntime) -> Result<(), Fail> {
-    let mut few = Builder::new();
-    few.max_threads = 2;
-    tells(&rt, &few, &FEW_THREADS)?;
-    few.max_branches = 40;
-    tells(&rt, &few, &FEW_BRANCHES)?;
-    let mut few = Builder::new();
-    few.max_steps = 30;
-    tells(&rt, &few, &FEW_STEPS)
+    tells_each(&rt, &AT_LIMITS)
 }
 
 #[test]
 fn as_many_fences_have_their_text(rt: HostRuntime) -> Result<(), Fail> {
-    tells(&rt, &Builder::new(), &MANY_FENCES)
+    tells_each(&rt, &MANY_FENCES)
 }
 
 #[test]
 fn as_many_stores_have_their_text(rt: HostRuntime) -> Result<(), Fail> {
-    let mut many = Builder::new();
-    many.max_branches = 100_000;
-    tells(&rt, &many, &MANY_STORES)
+    tells_each(&rt, &MANY_STORES)
 }

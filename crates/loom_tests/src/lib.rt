@@ -14,4 +14,6 @@ mod checkpoints;
 #[cfg(test)]
 mod explanations;
 #[cfg(test)]
+mod page;
+#[cfg(test)]
 mod views;

@@ -1,249 +1,392 @@
 //! Small histories of views: what may be read after what, and what races.
 use crate::asserting::{holds, same};
-use loom_views::rt::atomic::Reader;
+use crate::page::Page;
+use crate::views::Call::{
+    Acquire, AcquireFromStamp, AddAtomic, AddCell, AddPoint, AddStamp, Fence, JoinThread, Load,
+    MarkYield, Raise, Read, Readable, Release, ReleaseFence, ReleaseToStamp, Spawn, Stamp, Store,
+    UnsyncLoad, UpdateFail, UpdateRead, UpdateWrite, WithMut, WithMutEnd, Write,
+};
+use loom_views::rt::atomic::Reader::{self, Load as Any, Update};
 use loom_views::rt::change::Change;
-use loom_views::rt::failure::FailureKind;
 use loom_views::rt::num::{Numbers, Numeric};
 use loom_views::rt::table::Views;
 use loom_views::rt::vv::VersionVec;
-use std::process::Abort;
-use std::sync::atomic::Ordering;
+use std::sync::atomic::Ordering::{self, Relaxed};
 use std::test::Fail;
 
-const ANY: Reader = Reader::Load(Ordering::Relaxed);
+/// A call of a method of views. The first number is the thread, where there is one, and the next one the object or the stamp.
+#[derive(Clone, Copy)]
+enum Call {
+    AddPoint,
+    AddAtomic(usize, u64),
+    AddCell(usize),
+    AddStamp,
+    Spawn(usize),
+    Raise(usize),
+    Acquire(usize, usize),
+    Release(usize, usize, Ordering),
+    Stamp(usize, usize),
+    ReleaseToStamp(usize, usize, Ordering),
+    AcquireFromStamp(usize, usize),
+    ReleaseFence(usize),
+    Fence(usize, Ordering),
+    JoinThread(usize, usize),
+    MarkYield(usize),
+    Readable(usize, usize, Reader),
+    Load(usize, usize, usize, Ordering),
+    Store(usize, usize, u64, Ordering),
+    UpdateRead(usize, usize, usize),
+    UpdateWrite(usize, usize, usize, u64, Ordering),
+    UpdateFail(usize, usize, usize, Ordering),
+    UnsyncLoad(usize, usize),
+    WithMut(usize, usize),
+    WithMutEnd(usize, usize, u64),
+    Read(usize, usize),
+    Write(usize, usize),
+}
+
+impl Call {
+    // Makes the call, and writes what it returns, if that is anything.
+    fn make(self, views: &mut Views, page: &mut Page) {
+        match self {
+            AddPoint => page.put(&views.add_point()),
+            AddAtomic(thread, value) => page.put(&views.add_atomic(thread, value)),
+            AddCell(thread) => page.put(&views.add_cell(thread)),
+            AddStamp => page.put(&views.add_stamp()),
+            Spawn(parent) => page.put(&views.spawn(parent)),
+            Raise(thread) => page.put(&views.raise(thread)),
+            Acquire(thread, place) => views.acquire(thread, place),
+            Release(thread, place, order) => views.release(thread, place, order),
+            Stamp(thread, stamp) => views.stamp(thread, stamp),
+            ReleaseToStamp(thread, stamp, order) => views.release_to_stamp(thread, stamp, order),
+            AcquireFromStamp(thread, stamp) => views.acquire_from_stamp(thread, stamp),
+            ReleaseFence(thread) => views.release_fence(thread),
+            Fence(thread, order) => views.fence(thread, order),
+            JoinThread(thread, other) => views.join_thread(thread, other),
+            MarkYield(thread) => views.mark_yield(thread),
+            Readable(thread, place, reader) => page.put(&views.readable(thread, place, reader)),
+            Load(thread, place, slot, order) => page.put(&views.load(thread, place, slot, order)),
+            Store(thread, place, value, order) => page.put(&views.store(
+                thread, place, value, order,
+            )),
+            UpdateRead(thread, place, slot) => page.put(&views.update_read(thread, place, slot)),
+            UpdateWrite(thread, place, slot, value, order) => {
+                page.put(&views.update_write(thread, place, slot, value, order))
+            }
+            UpdateFail(thread, place, slot, order) => {
+                views.update_fail(thread, place, slot, order)
+            }
+            UnsyncLoad(thread, place) => page.put(&views.unsync_load(thread, place)),
+            WithMut(thread, place) => page.put(&views.with_mut(thread, place)),
+            WithMutEnd(thread, place, value) => page.put(&views.with_mut_end(thread, place, value)),
+            Read(thread, place) => page.put(&views.read(thread, place)),
+            Write(thread, place) => page.put(&views.write(thread, place)),
+        }
+    }
+}
+
+/// A call, and what it returns, as a text.
+type Row = (Call, &'static str);
+
+const ANY: Reader = Any(Relaxed);
+
+const DONE: &str = "Ok(())";
+
+const RACE: &str = "Err(Race)";
+
+const MISUSE: &str = "Err(Misuse)";
 
 // The slots that may be read.
-const FIRST_TWO: [bool; 7] = [true, true, false, false, false, false, false];
+const FIRST_TWO: &str = "Ok([true, true, false, false, false, false, false])";
 
-const SECOND: [bool; 7] = [false, true, false, false, false, false, false];
+const SECOND: &str = "Ok([false, true, false, false, false, false, false])";
 
-const LAST_TWO: [bool; 7] = [false, true, true, false, false, false, false];
+const LAST_TWO: &str = "Ok([false, true, true, false, false, false, false])";
 
-const THIRD: [bool; 7] = [false, false, true, false, false, false, false];
+const THIRD: &str = "Ok([false, false, true, false, false, false, false])";
+
+/// Calls that come after some first ones.
+struct History {
+    name: &'static str,
+    first: &'static [Row],
+    then: &'static [Row],
+}
 
 // Main has a notifier, 0, and an atomic, 1, which begins with 5; it spawns a child, and stores 7.
-fn stored(rt: &(impl Abort + AllocGlobal)) -> Result<Views, Fail> {
-    let mut views = Views::new(rt.alloc());
-    views.add_point()?;
-    views.add_atomic(0, 5)?;
-    same(rt, views.spawn(0), Ok(()));
-    same(rt, views.raise(0), Ok(()));
-    same(rt, views.store(0, 1, 7, Ordering::Relaxed), Ok(()));
-    same(rt, views.raise(1), Ok(()));
-    Ok(views)
-}
-
-#[test]
-fn a_store_may_be_missed(rt: HostRuntime) -> Result<(), Fail> {
-    let mut views = stored(&rt)?;
-    views.release(0, 0, Ordering::Relaxed);
-    views.acquire(1, 0);
-    same(&rt, views.readable(1, 1, ANY), Ok(FIRST_TWO));
-    same(&rt, views.load(1, 1, 0, Ordering::Relaxed), Ok(5));
-    Ok(())
-}
-
-#[test]
-fn a_store_is_seen_once_it_was_released(rt: HostRuntime) -> Result<(), Fail> {
-    let mut views = stored(&rt)?;
-    views.release(0, 0, Ordering::Release);
-    views.acquire(1, 0);
-    same(&rt, views.readable(1, 1, ANY), Ok(SECOND));
-    same(&rt, views.load(1, 1, 1, Ordering::Relaxed), Ok(7));
-    Ok(())
-}
-
-// The sender stores 9 and releases that after the message was stamped.
-#[test]
-fn a_message_brings_what_was_released_before_it(rt: HostRuntime) -> Result<(), Fail> {
-    let mut views = stored(&rt)?;
-    let message = views.add_stamp()?;
-    let later = views.add_stamp()?;
-    same(&rt, [message, later], [0, 1]);
-    views.acquire_from_stamp(1, message);
-    same(&rt, views.readable(1, 1, ANY), Ok(FIRST_TWO));
-    views.release(0, 0, Ordering::Release);
-    views.stamp(0, message);
-    same(&rt, views.raise(0), Ok(()));
-    same(&rt, views.store(0, 1, 9, Ordering::Relaxed), Ok(()));
-    views.release(0, 0, Ordering::Release);
-    views.release_to_stamp(0, later, Ordering::Release);
-    views.acquire_from_stamp(1, message);
-    same(&rt, views.readable(1, 1, ANY), Ok(LAST_TWO));
-    views.acquire_from_stamp(1, later);
-    same(&rt, views.readable(1, 1, ANY), Ok(THIRD));
-    Ok(())
-}
-
-#[test]
-fn a_fence_releases_what_came_before_it(rt: HostRuntime) -> Result<(), Fail> {
-    let mut views = stored(&rt)?;
-    views.release_fence(0);
-    views.release(0, 0, Ordering::Relaxed);
-    views.acquire(1, 0);
-    same(&rt, views.readable(1, 1, ANY), Ok(SECOND));
-    Ok(())
-}
-
-#[test]
-fn a_join_brings_what_the_other_did(rt: HostRuntime) -> Result<(), Fail> {
-    let mut views = stored(&rt)?;
-    views.join_thread(1, 0);
-    same(&rt, views.readable(1, 1, ANY), Ok(SECOND));
-    Ok(())
-}
-
-#[test]
-fn a_yield_leaves_what_was_read(rt: HostRuntime) -> Result<(), Fail> {
-    let mut views = stored(&rt)?;
-    same(&rt, views.load(1, 1, 0, Ordering::Relaxed), Ok(5));
-    same(&rt, views.readable(1, 1, ANY), Ok(FIRST_TWO));
-    views.mark_yield(1);
-    same(&rt, views.readable(1, 1, ANY), Ok(SECOND));
-    Ok(())
-}
-
-// Main has two atomics, which begin with 0; it spawns a child. Each stores 1 to the atomic of its number, passes a fence, and is
-// about to load from the other's.
-fn buffered(rt: &(impl Abort + AllocGlobal), order: Ordering) -> Result<Views, Fail> {
-    let mut views = Views::new(rt.alloc());
-    views.add_atomic(0, 0)?;
-    views.add_atomic(0, 0)?;
-    same(rt, views.spawn(0), Ok(()));
-    for thread in 0..2 {
-        same(rt, views.raise(thread), Ok(()));
-        same(
-            rt,
-            views.store(thread, thread, 1, Ordering::Relaxed),
-            Ok(()),
-        );
-        same(rt, views.raise(thread), Ok(()));
-        views.fence(thread, order);
-        same(rt, views.raise(thread), Ok(()));
-    }
-    Ok(views)
-}
-
-#[test]
-fn one_of_two_sees_the_other_past_seq_cst_fences(rt: HostRuntime) -> Result<(), Fail> {
-    let views = buffered(&rt, Ordering::SeqCst)?;
-    same(&rt, views.readable(0, 1, ANY), Ok(FIRST_TWO));
-    same(&rt, views.readable(1, 0, ANY), Ok(SECOND));
-    let views = buffered(&rt, Ordering::AcqRel)?;
-    same(&rt, views.readable(0, 1, ANY), Ok(FIRST_TWO));
-    same(&rt, views.readable(1, 0, ANY), Ok(FIRST_TWO));
-    Ok(())
-}
-
-#[test]
-fn an_acquire_fence_takes_in_what_was_read_before(rt: HostRuntime) -> Result<(), Fail> {
-    let mut views = Views::new(rt.alloc());
-    views.add_atomic(0, 0)?;
-    views.add_atomic(0, 0)?;
-    same(&rt, views.spawn(0), Ok(()));
-    same(&rt, views.raise(0), Ok(()));
-    same(&rt, views.store(0, 0, 7, Ordering::Relaxed), Ok(()));
-    same(&rt, views.raise(0), Ok(()));
-    views.fence(0, Ordering::Release);
-    same(&rt, views.raise(0), Ok(()));
-    same(&rt, views.store(0, 1, 1, Ordering::Relaxed), Ok(()));
-    same(&rt, views.raise(1), Ok(()));
-    same(&rt, views.load(1, 1, 1, Ordering::Relaxed), Ok(1));
-    same(&rt, views.readable(1, 0, ANY), Ok(FIRST_TWO));
-    same(&rt, views.raise(1), Ok(()));
-    views.fence(1, Ordering::Acquire);
-    same(&rt, views.readable(1, 0, ANY), Ok(SECOND));
-    Ok(())
-}
-
-#[test]
-fn a_read_modify_write_reads_the_newest(rt: HostRuntime) -> Result<(), Fail> {
-    let mut views = stored(&rt)?;
-    same(&rt, views.readable(1, 1, Reader::Update), Ok(SECOND));
-    same(&rt, views.update_read(1, 1, 1), Ok(7));
-    same(
-        &rt,
-        views.update_write(1, 1, 1, 8, Ordering::Release),
-        Ok(()),
-    );
-    same(&rt, views.raise(0), Ok(()));
-    same(&rt, views.readable(0, 1, Reader::Update), Ok(THIRD));
-    same(&rt, views.update_read(0, 1, 2), Ok(8));
-    same(&rt, views.unsync_load(0, 1), Err(FailureKind::Race));
-    views.update_fail(0, 1, 2, Ordering::Acquire);
-    same(&rt, views.unsync_load(0, 1), Ok(8));
-    Ok(())
-}
-
-#[test]
-fn a_mutation_leaves_its_value(rt: HostRuntime) -> Result<(), Fail> {
-    let mut views = stored(&rt)?;
-    same(&rt, views.with_mut(1, 1), Err(FailureKind::Race));
-    same(&rt, views.with_mut(0, 1), Ok(7));
-    same(&rt, views.unsync_load(0, 1), Err(FailureKind::OpenAccess));
-    same(&rt, views.with_mut_end(0, 1, 9), Ok(()));
-    same(&rt, views.unsync_load(0, 1), Ok(9));
-    Ok(())
-}
+const STORED: &[Row] = &[
+    (AddPoint, DONE),
+    (AddAtomic(0, 5), DONE),
+    (Spawn(0), DONE),
+    (Raise(0), DONE),
+    (Store(0, 1, 7, Relaxed), DONE),
+    (Raise(1), DONE),
+];
 
 // Main has a notifier, 0, and a cell, 1; it spawns a child. Each is about to access the cell.
-fn with_cell(rt: &(impl Abort + AllocGlobal)) -> Result<Views, Fail> {
-    let mut views = Views::new(rt.alloc());
-    views.add_point()?;
-    views.add_cell(0)?;
-    same(rt, views.spawn(0), Ok(()));
-    same(rt, views.raise(0), Ok(()));
-    same(rt, views.raise(1), Ok(()));
-    Ok(views)
-}
+const WITH_CELL: &[Row] = &[
+    (AddPoint, DONE),
+    (AddCell(0), DONE),
+    (Spawn(0), DONE),
+    (Raise(0), DONE),
+    (Raise(1), DONE),
+];
 
-#[test]
-fn two_may_read_a_cell_and_neither_may_write_then(rt: HostRuntime) -> Result<(), Fail> {
-    let mut views = with_cell(&rt)?;
-    same(&rt, views.read(0, 1), Ok(()));
-    same(&rt, views.read(1, 1), Ok(()));
-    same(&rt, views.write(0, 1), Err(FailureKind::Race));
-    same(&rt, views.write(1, 1), Err(FailureKind::Race));
-    views.join_thread(0, 1);
-    same(&rt, views.write(0, 1), Ok(()));
-    same(&rt, views.read(1, 1), Err(FailureKind::Race));
-    Ok(())
-}
+static OF_STORES: [History; 4] = [
+    History {
+        name: "a store may be missed",
+        first: STORED,
+        then: &[
+            (Release(0, 0, Relaxed), ""),
+            (Acquire(1, 0), ""),
+            (Readable(1, 1, ANY), FIRST_TWO),
+            (Load(1, 1, 0, Relaxed), "Ok(5)"),
+        ],
+    },
+    History {
+        name: "a store is seen once it was released",
+        first: STORED,
+        then: &[
+            (Release(0, 0, Ordering::Release), ""),
+            (Acquire(1, 0), ""),
+            (Readable(1, 1, ANY), SECOND),
+            (Load(1, 1, 1, Relaxed), "Ok(7)"),
+        ],
+    },
+    // The sender stores 9 and releases that after the message was stamped.
+    History {
+        name: "a message brings what was released before it",
+        first: STORED,
+        then: &[
+            (AddStamp, "Ok(0)"),
+            (AddStamp, "Ok(1)"),
+            (AcquireFromStamp(1, 0), ""),
+            (Readable(1, 1, ANY), FIRST_TWO),
+            (Release(0, 0, Ordering::Release), ""),
+            (Stamp(0, 0), ""),
+            (Raise(0), DONE),
+            (Store(0, 1, 9, Relaxed), DONE),
+            (Release(0, 0, Ordering::Release), ""),
+            (ReleaseToStamp(0, 1, Ordering::Release), ""),
+            (AcquireFromStamp(1, 0), ""),
+            (Readable(1, 1, ANY), LAST_TWO),
+            (AcquireFromStamp(1, 1), ""),
+            (Readable(1, 1, ANY), THIRD),
+        ],
+    },
+    History {
+        name: "a fence releases what came before it",
+        first: STORED,
+        then: &[
+            (ReleaseFence(0), ""),
+            (Release(0, 0, Relaxed), ""),
+            (Acquire(1, 0), ""),
+            (Readable(1, 1, ANY), SECOND),
+        ],
+    },
+];
 
-#[test]
-fn a_release_brings_the_write_of_a_cell(rt: HostRuntime) -> Result<(), Fail> {
-    let mut views = with_cell(&rt)?;
-    same(&rt, views.write(0, 1), Ok(()));
-    views.release(0, 0, Ordering::Release);
-    same(&rt, views.read(1, 1), Err(FailureKind::Race));
-    views.acquire(1, 0);
-    same(&rt, views.read(1, 1), Ok(()));
-    same(&rt, views.write(1, 1), Ok(()));
-    same(&rt, views.read(1, 0), Err(FailureKind::Misuse));
-    Ok(())
-}
+static OF_READS: [History; 4] = [
+    History {
+        name: "a join brings what the other did",
+        first: STORED,
+        then: &[(JoinThread(1, 0), ""), (Readable(1, 1, ANY), SECOND)],
+    },
+    History {
+        name: "a yield leaves what was read",
+        first: STORED,
+        then: &[
+            (Load(1, 1, 0, Relaxed), "Ok(5)"),
+            (Readable(1, 1, ANY), FIRST_TWO),
+            (MarkYield(1), ""),
+            (Readable(1, 1, ANY), SECOND),
+        ],
+    },
+    History {
+        name: "a read-modify-write reads the newest",
+        first: STORED,
+        then: &[
+            (Readable(1, 1, Update), SECOND),
+            (UpdateRead(1, 1, 1), "Ok(7)"),
+            (UpdateWrite(1, 1, 1, 8, Ordering::Release), DONE),
+            (Raise(0), DONE),
+            (Readable(0, 1, Update), THIRD),
+            (UpdateRead(0, 1, 2), "Ok(8)"),
+            (UnsyncLoad(0, 1), RACE),
+            (UpdateFail(0, 1, 2, Ordering::Acquire), ""),
+            (UnsyncLoad(0, 1), "Ok(8)"),
+        ],
+    },
+    History {
+        name: "a mutation leaves its value",
+        first: STORED,
+        then: &[
+            (WithMut(1, 1), RACE),
+            (WithMut(0, 1), "Ok(7)"),
+            (UnsyncLoad(0, 1), "Err(OpenAccess)"),
+            (WithMutEnd(0, 1, 9), DONE),
+            (UnsyncLoad(0, 1), "Ok(9)"),
+        ],
+    },
+];
 
-#[test]
-fn a_notifier_holds_no_value(rt: HostRuntime) -> Result<(), Fail> {
-    let mut views = stored(&rt)?;
-    same(&rt, views.readable(1, 0, ANY), Err(FailureKind::Misuse));
-    same(
-        &rt,
-        views.store(1, 0, 7, Ordering::Relaxed),
-        Err(FailureKind::Misuse),
-    );
-    same(&rt, views.raise(2), Err(FailureKind::Misuse));
-    Ok(())
-}
+// Main has two atomics, which begin with 0; it spawns a child.
+const WITH_ATOMICS: &[Row] = &[
+    (AddAtomic(0, 0), DONE),
+    (AddAtomic(0, 0), DONE),
+    (Spawn(0), DONE),
+];
 
-#[test]
-fn five_threads_are_the_most(rt: HostRuntime) -> Result<(), Fail> {
-    let mut views = Views::new(rt.alloc());
-    for _ in 0..4 {
-        same(&rt, views.spawn(0), Ok(()));
+static OF_FENCES: [History; 3] = [
+    // Each thread stores 1 to the atomic of its number, passes a fence, and is about to load from the other's.
+    History {
+        name: "one of two sees the other past SeqCst fences",
+        first: WITH_ATOMICS,
+        then: &[
+            (Raise(0), DONE),
+            (Store(0, 0, 1, Relaxed), DONE),
+            (Raise(0), DONE),
+            (Fence(0, Ordering::SeqCst), ""),
+            (Raise(0), DONE),
+            (Raise(1), DONE),
+            (Store(1, 1, 1, Relaxed), DONE),
+            (Raise(1), DONE),
+            (Fence(1, Ordering::SeqCst), ""),
+            (Raise(1), DONE),
+            (Readable(0, 1, ANY), FIRST_TWO),
+            (Readable(1, 0, ANY), SECOND),
+        ],
+    },
+    History {
+        name: "neither needs to see the other past AcqRel fences",
+        first: WITH_ATOMICS,
+        then: &[
+            (Raise(0), DONE),
+            (Store(0, 0, 1, Relaxed), DONE),
+            (Raise(0), DONE),
+            (Fence(0, Ordering::AcqRel), ""),
+            (Raise(0), DONE),
+            (Raise(1), DONE),
+            (Store(1, 1, 1, Relaxed), DONE),
+            (Raise(1), DONE),
+            (Fence(1, Ordering::AcqRel), ""),
+            (Raise(1), DONE),
+            (Readable(0, 1, ANY), FIRST_TWO),
+            (Readable(1, 0, ANY), FIRST_TWO),
+        ],
+    },
+    History {
+        name: "an acquire fence takes in what was read before",
+        first: WITH_ATOMICS,
+        then: &[
+            (Raise(0), DONE),
+            (Store(0, 0, 7, Relaxed), DONE),
+            (Raise(0), DONE),
+            (Fence(0, Ordering::Release), ""),
+            (Raise(0), DONE),
+            (Store(0, 1, 1, Relaxed), DONE),
+            (Raise(1), DONE),
+            (Load(1, 1, 1, Relaxed), "Ok(1)"),
+            (Readable(1, 0, ANY), FIRST_TWO),
+            (Raise(1), DONE),
+            (Fence(1, Ordering::Acquire), ""),
+            (Readable(1, 0, ANY), SECOND),
+        ],
+    },
+];
+
+static OF_CELLS: [History; 4] = [
+    History {
+        name: "two may read a cell and neither may write then",
+        first: WITH_CELL,
+        then: &[
+            (Read(0, 1), DONE),
+            (Read(1, 1), DONE),
+            (Write(0, 1), RACE),
+            (Write(1, 1), RACE),
+            (JoinThread(0, 1), ""),
+            (Write(0, 1), DONE),
+            (Read(1, 1), RACE),
+        ],
+    },
+    History {
+        name: "a release brings the write of a cell",
+        first: WITH_CELL,
+        then: &[
+            (Write(0, 1), DONE),
+            (Release(0, 0, Ordering::Release), ""),
+            (Read(1, 1), RACE),
+            (Acquire(1, 0), ""),
+            (Read(1, 1), DONE),
+            (Write(1, 1), DONE),
+            (Read(1, 0), MISUSE),
+        ],
+    },
+    History {
+        name: "a notifier holds no value",
+        first: STORED,
+        then: &[
+            (Readable(1, 0, ANY), MISUSE),
+            (Store(1, 0, 7, Relaxed), MISUSE),
+            (Raise(2), MISUSE),
+        ],
+    },
+    History {
+        name: "five threads are the most",
+        first: &[],
+        then: &[
+            (Spawn(0), DONE),
+            (Spawn(0), DONE),
+            (Spawn(0), DONE),
+            (Spawn(0), DONE),
+            (Spawn(0), "Err(TooManyThreads)"),
+        ],
+    },
+];
+
+// Whether each call returns what its row says.
+fn all_return(views: &mut Views, page: &mut Page, rows: &[Row]) -> bool {
+    for (call, text) in rows {
+        page.clear();
+        call.make(views, page);
+        if !page.has(*text) {
+            return false;
+        }
     }
-    same(&rt, views.spawn(0), Err(FailureKind::TooManyThreads));
+    true
+}
+
+// Fails by the name of the first history in which a call returns something else.
+fn come_about(rt: &HostRuntime, histories: &'static [History]) -> Result<(), Fail> {
+    let mut page = Page::new(rt.alloc());
+    for history in histories {
+        let mut views = Views::new(rt.alloc());
+        if !all_return(&mut views, &mut page, history.first)
+            || !all_return(&mut views, &mut page, history.then)
+        {
+            return Err(Fail::from(history.name));
+        }
+    }
     Ok(())
+}
+
+#[test]
+fn stores_are_seen_in_time(rt: HostRuntime) -> Result<(), Fail> {
+    come_about(&rt, &OF_STORES)
+}
+
+#[test]
+fn reads_bring_what_was_done(rt: HostRuntime) -> Result<(), Fail> {
+    come_about(&rt, &OF_READS)
+}
+
+#[test]
+fn fences_release_and_acquire(rt: HostRuntime) -> Result<(), Fail> {
+    come_about(&rt, &OF_FENCES)
+}
+
+#[test]
+fn accesses_of_cells_race(rt: HostRuntime) -> Result<(), Fail> {
+    come_about(&rt, &OF_CELLS)
 }
 
 #[test]

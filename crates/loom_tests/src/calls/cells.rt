@@ -1,142 +1,148 @@
 //! Cells.
-use crate::calls::answer::Answer::{Data, Done, Holds, New, Takes};
-use crate::calls::answer::Comes::{Fails, Main};
-use crate::calls::answer::{Guard, Object, Row};
-use crate::calls::run::come_to;
+use crate::calls::run::{Calls, Kind, Row};
+use loom::Op;
 use loom::cell::{Cell, ConstPtr, MutPtr, UnsafeCell};
-use loom::{FailureKind, Op};
 use loom_scripts::number::Number;
-use std::test::Fail;
 
-// Main reads a cell, reads on while the read is open, reads it twice at a time, writes it by each call, takes it apart, and
-// finds that it is no more.
-fn read_and_write() -> [Op<Number, ()>; 15] {
+/// The calls of these tables, by their numbers there.
+pub fn call(number: usize) -> Op<Number, ()> {
     let cell = UnsafeCell { number: 0 };
     let reader = ConstPtr { number: 0 };
     let writer = MutPtr { number: 0 };
-    [
-        UnsafeCell::new(Number(1)),
-        cell.get(),
-        reader.deref(),
-        reader.with(),
-        reader.end(),
-        cell.get(),
-        cell.with(),
-        reader.end(),
-        reader.end(),
-        cell.get_mut(),
-        writer.end(Number(2)),
-        cell.with_mut(),
-        writer.end(Number(3)),
-        cell.into_inner(),
-        cell.get(),
-    ]
+    let (one, other) = (Cell { number: 0 }, Cell { number: 1 });
+    let beside = UnsafeCell { number: 1 };
+    match number {
+        0 => UnsafeCell::new(Number(1)),
+        1 => cell.get(),
+        2 => reader.deref(),
+        3 => reader.with(),
+        4 => reader.end(),
+        5 => cell.with(),
+        6 => cell.get_mut(),
+        7 => writer.end(Number(2)),
+        8 => cell.with_mut(),
+        9 => writer.end(Number(3)),
+        10 => cell.into_inner(),
+        11 => Cell::new(Number(1)),
+        12 => one.set(Number(2)),
+        13 => one.replace(Number(3)),
+        14 => one.take(Number(4)),
+        15 => one.get(),
+        16 => one.into_inner(),
+        17 => Cell::new(Number(2)),
+        18 => one.swap(other),
+        19 => other.get(),
+        20 => one.swap(one),
+        21 => one.swap(Cell { number: 9 }),
+        22 => UnsafeCell::new(Number(2)),
+        23 => beside.get(),
+        _ => one.swap(Cell { number: 1 }),
+    }
 }
 
+// Main reads a cell, reads on while the read is open, reads it twice at a time, writes it by each call, takes it apart, and
+// finds that it is no more.
 static READ_AND_WRITE: [Row; 15] = [
-    ("UnsafeCell::new", Main(New(Object::UnsafeCell, 0))),
-    ("cell.get", Main(Holds(Guard::Const, 0, 1))),
-    ("reader.deref", Main(Data(1))),
-    ("reader.with", Main(Data(1))),
-    ("reader.end", Main(Done)),
-    ("cell.get", Main(Holds(Guard::Const, 0, 1))),
-    ("cell.with", Main(Takes(Guard::Const, 0, 1))),
-    ("reader.end", Main(Done)),
-    ("reader.end", Main(Done)),
-    ("cell.get_mut", Main(Holds(Guard::Mut, 0, 1))),
-    ("writer.end", Main(Done)),
-    ("cell.with_mut", Main(Takes(Guard::Mut, 0, 2))),
-    ("writer.end", Main(Done)),
-    ("cell.into_inner", Main(Data(3))),
-    ("cell.get", Fails(FailureKind::Misuse)),
+    (
+        0,
+        "UnsafeCell::new",
+        "Reply(0, Cell(0)); UnsafeCell { number: 0 }; Cell { number: 0 }",
+    ),
+    (
+        1,
+        "cell.get",
+        "Reply(0, Reading(0, Number(1))); ConstPtr { number: 0 }; (ConstPtr { number: 0 }, Number(1))",
+    ),
+    (2, "reader.deref", "Reply(0, Data(Number(1)))"),
+    (3, "reader.with", "Reply(0, Data(Number(1)))"),
+    (4, "reader.end", "Reply(0, Done)"),
+    (
+        1,
+        "cell.get",
+        "Reply(0, Reading(0, Number(1))); ConstPtr { number: 0 }; (ConstPtr { number: 0 }, Number(1))",
+    ),
+    (
+        5,
+        "cell.with",
+        "Reply(0, Reading(0, Number(1))); ConstPtr { number: 0 }; (ConstPtr { number: 0 }, Number(1))",
+    ),
+    (4, "reader.end", "Reply(0, Done)"),
+    (4, "reader.end", "Reply(0, Done)"),
+    (
+        6,
+        "cell.get_mut",
+        "Reply(0, Writing(0, Number(1))); MutPtr { number: 0 }; (MutPtr { number: 0 }, Number(1)); Number(1)",
+    ),
+    (7, "writer.end", "Reply(0, Done)"),
+    (
+        8,
+        "cell.with_mut",
+        "Reply(0, Writing(0, Number(2))); MutPtr { number: 0 }; (MutPtr { number: 0 }, Number(2)); Number(2)",
+    ),
+    (9, "writer.end", "Reply(0, Done)"),
+    (10, "cell.into_inner", "Reply(0, Data(Number(3)))"),
+    (1, "cell.get", "Misuse"),
 ];
 
 // Main changes a cell by each call that replies what was there, takes it apart, and finds that it is no more.
-fn change() -> [Op<Number, ()>; 7] {
-    let cell = Cell { number: 0 };
-    [
-        Cell::new(Number(1)),
-        cell.set(Number(2)),
-        cell.replace(Number(3)),
-        cell.take(Number(4)),
-        cell.get(),
-        cell.into_inner(),
-        cell.get(),
-    ]
-}
-
 static CHANGE: [Row; 7] = [
-    ("Cell::new", Main(New(Object::Cell, 0))),
-    ("cell.set", Main(Data(1))),
-    ("cell.replace", Main(Data(2))),
-    ("cell.take", Main(Data(3))),
-    ("cell.get", Main(Data(4))),
-    ("cell.into_inner", Main(Data(4))),
-    ("cell.get", Fails(FailureKind::Misuse)),
+    (
+        11,
+        "Cell::new",
+        "Reply(0, Cell(0)); UnsafeCell { number: 0 }; Cell { number: 0 }",
+    ),
+    (12, "one.set", "Reply(0, Data(Number(1)))"),
+    (13, "one.replace", "Reply(0, Data(Number(2)))"),
+    (14, "one.take", "Reply(0, Data(Number(3)))"),
+    (15, "one.get", "Reply(0, Data(Number(4)))"),
+    (16, "one.into_inner", "Reply(0, Data(Number(4)))"),
+    (15, "one.get", "Misuse"),
 ];
 
 // Main exchanges what two cells hold, and a cell with itself, and then with one that was never made.
-fn swap() -> [Op<Number, ()>; 8] {
-    let one = Cell { number: 0 };
-    let other = Cell { number: 1 };
-    [
-        Cell::new(Number(1)),
-        Cell::new(Number(2)),
-        one.swap(other),
-        one.get(),
-        other.get(),
-        one.swap(one),
-        one.get(),
-        one.swap(Cell { number: 9 }),
-    ]
-}
-
 static SWAP: [Row; 8] = [
-    ("Cell::new", Main(New(Object::Cell, 0))),
-    ("Cell::new", Main(New(Object::Cell, 1))),
-    ("one.swap", Main(Done)),
-    ("one.get", Main(Data(2))),
-    ("other.get", Main(Data(1))),
-    ("one.swap", Main(Done)),
-    ("one.get", Main(Data(2))),
-    ("one.swap", Fails(FailureKind::Misuse)),
+    (
+        11,
+        "Cell::new",
+        "Reply(0, Cell(0)); UnsafeCell { number: 0 }; Cell { number: 0 }",
+    ),
+    (
+        17,
+        "Cell::new",
+        "Reply(0, Cell(1)); UnsafeCell { number: 1 }; Cell { number: 1 }",
+    ),
+    (18, "one.swap", "Reply(0, Done)"),
+    (15, "one.get", "Reply(0, Data(Number(2)))"),
+    (19, "other.get", "Reply(0, Data(Number(1)))"),
+    (20, "one.swap", "Reply(0, Done)"),
+    (15, "one.get", "Reply(0, Data(Number(2)))"),
+    (21, "one.swap", "Misuse"),
 ];
 
 // Main exchanges two cells, of which it reads one.
-fn swap_while_reading() -> [Op<Number, ()>; 4] {
-    let one = Cell { number: 0 };
-    let other = UnsafeCell { number: 1 };
-    [
-        Cell::new(Number(1)),
-        UnsafeCell::new(Number(2)),
-        other.get(),
-        one.swap(Cell { number: 1 }),
-    ]
-}
-
 static SWAP_WHILE_READING: [Row; 4] = [
-    ("Cell::new", Main(New(Object::Cell, 0))),
-    ("UnsafeCell::new", Main(New(Object::UnsafeCell, 1))),
-    ("other.get", Main(Holds(Guard::Const, 1, 2))),
-    ("one.swap", Fails(FailureKind::OpenAccess)),
+    (
+        11,
+        "Cell::new",
+        "Reply(0, Cell(0)); UnsafeCell { number: 0 }; Cell { number: 0 }",
+    ),
+    (
+        22,
+        "UnsafeCell::new",
+        "Reply(0, Cell(1)); UnsafeCell { number: 1 }; Cell { number: 1 }",
+    ),
+    (
+        23,
+        "beside.get",
+        "Reply(0, Reading(1, Number(2))); ConstPtr { number: 1 }; (ConstPtr { number: 1 }, Number(2))",
+    ),
+    (24, "one.swap", "OpenAccess"),
 ];
 
-#[test]
-fn a_cell_is_read_and_written(rt: HostRuntime) -> Result<(), Fail> {
-    come_to::<u64>(rt.alloc(), &mut read_and_write(), &READ_AND_WRITE)
-}
-
-#[test]
-fn a_cell_replies_what_was_there(rt: HostRuntime) -> Result<(), Fail> {
-    come_to::<u64>(rt.alloc(), &mut change(), &CHANGE)
-}
-
-#[test]
-fn cells_exchange_their_data(rt: HostRuntime) -> Result<(), Fail> {
-    come_to::<u64>(rt.alloc(), &mut swap(), &SWAP)
-}
-
-#[test]
-fn a_swap_meets_an_open_read(rt: HostRuntime) -> Result<(), Fail> {
-    come_to::<u64>(rt.alloc(), &mut swap_while_reading(), &SWAP_WHILE_READING)
+/// Makes these calls.
+pub fn make_all(calls: &mut Calls) {
+    calls.make::<u64>(Kind::Cells, &READ_AND_WRITE);
+    calls.make::<u64>(Kind::Cells, &CHANGE);
+    calls.make::<u64>(Kind::Cells, &SWAP);
+    calls.make::<u64>(Kind::Cells, &SWAP_WHILE_READING);
 }

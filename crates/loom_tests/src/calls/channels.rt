@@ -1,80 +1,67 @@
 //! Channels.
-use crate::calls::answer::Answer::{Back, Data, Done, Empty, Messages, New, NoSender};
-use crate::calls::answer::Comes::{Fails, Main};
-use crate::calls::answer::{Object, Row};
-use crate::calls::run::come_to;
+use crate::calls::run::{Calls, Kind, Row};
+use loom::Op;
 use loom::sync::mpsc::{Receiver, Sender, channel};
-use loom::{FailureKind, Op};
 use loom_scripts::number::Number;
-use std::test::Fail;
 
 const SENDER: Sender = Sender { number: 0 };
 
 const RECEIVER: Receiver = Receiver { number: 0 };
 
-// Main asks an empty channel, sends three numbers by two senders, receives two of them by each call, drops one sender and the
-// receiver, sends in vain, drops the other sender, and finds that there is none.
-fn send_and_receive() -> [Op<Number, ()>; 13] {
-    [
-        channel(),
-        SENDER.clone(),
-        RECEIVER.try_recv(),
-        SENDER.send(Number(1)),
-        SENDER.send(Number(2)),
-        SENDER.send(Number(3)),
-        RECEIVER.recv(),
-        RECEIVER.try_recv(),
-        SENDER.drop(),
-        RECEIVER.drop(),
-        SENDER.send(Number(4)),
-        SENDER.drop(),
-        SENDER.clone(),
-    ]
+/// The calls of these tables, by their numbers there.
+pub fn call(number: usize) -> Op<Number, ()> {
+    match number {
+        0 => channel(),
+        1 => SENDER.clone(),
+        2 => RECEIVER.try_recv(),
+        3 => SENDER.send(Number(1)),
+        4 => SENDER.send(Number(2)),
+        5 => SENDER.send(Number(3)),
+        6 => RECEIVER.recv(),
+        7 => SENDER.drop(),
+        8 => RECEIVER.drop(),
+        _ => SENDER.send(Number(4)),
+    }
 }
 
+// Main asks an empty channel, sends three numbers by two senders, receives two of them by each call, drops one sender and the
+// receiver, sends in vain, drops the other sender, and finds that there is none.
 static SEND_AND_RECEIVE: [Row; 13] = [
-    ("channel", Main(New(Object::Channel, 0))),
-    ("SENDER.clone", Main(Done)),
-    ("RECEIVER.try_recv", Main(Empty)),
-    ("SENDER.send", Main(Done)),
-    ("SENDER.send", Main(Done)),
-    ("SENDER.send", Main(Done)),
-    ("RECEIVER.recv", Main(Data(1))),
-    ("RECEIVER.try_recv", Main(Data(2))),
-    ("SENDER.drop", Main(Done)),
-    ("RECEIVER.drop", Main(Messages(&[3]))),
-    ("SENDER.send", Main(Back(4))),
-    ("SENDER.drop", Main(Done)),
-    ("SENDER.clone", Fails(FailureKind::Misuse)),
+    (
+        0,
+        "channel",
+        "Reply(0, Channel(0)); Sender { number: 0 }; Receiver { number: 0 }",
+    ),
+    (1, "SENDER.clone", "Reply(0, Done)"),
+    (2, "RECEIVER.try_recv", "Reply(0, Empty)"),
+    (3, "SENDER.send", "Reply(0, Done)"),
+    (4, "SENDER.send", "Reply(0, Done)"),
+    (5, "SENDER.send", "Reply(0, Done)"),
+    (6, "RECEIVER.recv", "Reply(0, Data(Number(1)))"),
+    (2, "RECEIVER.try_recv", "Reply(0, Data(Number(2)))"),
+    (7, "SENDER.drop", "Reply(0, Done)"),
+    (8, "RECEIVER.drop", "Reply(0, Messages([Number(3)]))"),
+    (9, "SENDER.send", "Reply(0, SendError(Number(4)))"),
+    (7, "SENDER.drop", "Reply(0, Done)"),
+    (1, "SENDER.clone", "Misuse"),
 ];
 
 // Main drops the sender, receives in vain by each call, drops the receiver, and finds that it is no more.
-fn receive_in_vain() -> [Op<Number, ()>; 6] {
-    [
-        channel(),
-        SENDER.drop(),
-        RECEIVER.recv(),
-        RECEIVER.try_recv(),
-        RECEIVER.drop(),
-        RECEIVER.recv(),
-    ]
-}
-
 static RECEIVE_IN_VAIN: [Row; 6] = [
-    ("channel", Main(New(Object::Channel, 0))),
-    ("SENDER.drop", Main(Done)),
-    ("RECEIVER.recv", Main(NoSender)),
-    ("RECEIVER.try_recv", Main(Empty)),
-    ("RECEIVER.drop", Main(Messages(&[]))),
-    ("RECEIVER.recv", Fails(FailureKind::Misuse)),
+    (
+        0,
+        "channel",
+        "Reply(0, Channel(0)); Sender { number: 0 }; Receiver { number: 0 }",
+    ),
+    (7, "SENDER.drop", "Reply(0, Done)"),
+    (6, "RECEIVER.recv", "Reply(0, RecvError)"),
+    (2, "RECEIVER.try_recv", "Reply(0, Empty)"),
+    (8, "RECEIVER.drop", "Reply(0, Messages([]))"),
+    (6, "RECEIVER.recv", "Misuse"),
 ];
 
-#[test]
-fn messages_are_received_in_their_order(rt: HostRuntime) -> Result<(), Fail> {
-    come_to::<u64>(rt.alloc(), &mut send_and_receive(), &SEND_AND_RECEIVE)
-}
-
-#[test]
-fn nothing_is_received_without_a_sender(rt: HostRuntime) -> Result<(), Fail> {
-    come_to::<u64>(rt.alloc(), &mut receive_in_vain(), &RECEIVE_IN_VAIN)
+/// Makes these calls.
+pub fn make_all(calls: &mut Calls) {
+    calls.make::<u64>(Kind::Channels, &SEND_AND_RECEIVE);
+    calls.make::<u64>(Kind::Channels, &RECEIVE_IN_VAIN);
 }

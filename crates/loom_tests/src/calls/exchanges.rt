@@ -1,83 +1,123 @@
 //! Exchanges and updates of atomics, of each type of integers.
-use crate::calls::answer::Answer::{Exchanged, New, Read, Replaced, Value};
-use crate::calls::answer::Comes::Main;
-use crate::calls::answer::{Object, Row};
 use crate::calls::atomics::first_atomic;
-use crate::calls::run::come_to;
-use loom::Op;
+use crate::calls::run::{Calls, Kind, Row};
 use loom::sync::atomic::Ordering::SeqCst;
 use loom::sync::atomic::{Atomic, Integer};
+use loom::{Numeric, Op};
 use loom_scripts::number::Number;
-use std::alloc::Global;
-use std::test::Fail;
+use std::fmt::Debug;
 
 const NUM_A: u64 = 11641914933775430211;
 
 const NUM_B: u64 = 13209405719799650717;
 
-// Main exchanges and updates an atomic of one type, which begins with the one number.
-fn exchanges<T: Integer>(a: T, b: T) -> [Op<Number, ()>; 8] {
+// What the calls come to, where the type holds the numbers so, and in 64 bits so.
+macro_rules! exchanged {
+    ($a:literal, $b:literal) => {
+        exchanged!($a, $b, $a, $b)
+    };
+    ($a:literal, $b:literal, $a_bits:literal, $b_bits:literal) => {
+        [
+            (
+                0,
+                "Atomic::new",
+                "Reply(0, Atomic(0)); Atomic { number: 0, holds: PhantomData<_> }",
+            ),
+            (
+                1,
+                "atomic.compare_exchange",
+                concat!("Reply(0, Exchanged(Err(", $a_bits, "))); Err(", $a, "); Read(", $a, ")"),
+            ),
+            (
+                2,
+                "atomic.compare_exchange",
+                concat!("Reply(0, Exchanged(Ok(", $a_bits, "))); Ok(", $a, "); Replaced(", $a, ")"),
+            ),
+            (
+                3,
+                "atomic.compare_exchange_weak",
+                concat!("Reply(0, Exchanged(Ok(", $b_bits, "))); Ok(", $b, "); Replaced(", $b, ")"),
+            ),
+            (
+                4,
+                "update.begin",
+                concat!("Reply(0, Value(", $a_bits, ")); ", $a, "; Read(", $a, ")"),
+            ),
+            (
+                5,
+                "update.exchange",
+                concat!("Reply(0, Exchanged(Ok(", $a_bits, "))); Ok(", $a, "); Replaced(", $a, ")"),
+            ),
+            (
+                4,
+                "update.begin",
+                concat!("Reply(0, Value(", $b_bits, ")); ", $b, "; Read(", $b, ")"),
+            ),
+            (
+                6,
+                "atomic.load",
+                concat!("Reply(0, Value(", $b_bits, ")); ", $b, "; Read(", $b, ")"),
+            ),
+        ]
+    };
+}
+
+static OF_U8: [Row; 8] = exchanged!("67", "157");
+
+static OF_I8: [Row; 8] = exchanged!("67", "-99", "67", "18446744073709551517");
+
+static OF_U16: [Row; 8] = exchanged!("62019", "55709");
+
+static OF_I16: [Row; 8] = exchanged!(
+    "-3517",
+    "-9827",
+    "18446744073709548099",
+    "18446744073709541789"
+);
+
+static OF_32_BITS: [Row; 8] = exchanged!("1694495299", "111925661");
+
+static OF_U64: [Row; 8] = exchanged!("11641914933775430211", "13209405719799650717");
+
+static OF_I64: [Row; 8] = exchanged!(
+    "-6804829139934121405",
+    "-5237338353909900899",
+    "11641914933775430211",
+    "13209405719799650717"
+);
+
+/// The calls of these tables, by their numbers there: main exchanges and updates an atomic of one type, which begins with the one
+/// number.
+pub fn call<T: Numeric>(number: usize) -> Op<Number, ()> {
+    let (a, b) = (T::from_u64(NUM_A), T::from_u64(NUM_B));
     let atomic = first_atomic::<T>();
     let update = atomic.fetch_update(SeqCst, SeqCst);
-    [
-        Atomic::new(a),
-        atomic.compare_exchange(b, a, SeqCst, SeqCst),
-        atomic.compare_exchange(a, b, SeqCst, SeqCst),
-        atomic.compare_exchange_weak(b, a, SeqCst, SeqCst),
-        update.begin(),
-        update.exchange(a, b),
-        update.begin(),
-        atomic.load(SeqCst),
-    ]
+    match number {
+        0 => Atomic::new(a),
+        1 => atomic.compare_exchange(b, a, SeqCst, SeqCst),
+        2 => atomic.compare_exchange(a, b, SeqCst, SeqCst),
+        3 => atomic.compare_exchange_weak(b, a, SeqCst, SeqCst),
+        4 => update.begin(),
+        5 => update.exchange(a, b),
+        _ => atomic.load(SeqCst),
+    }
 }
 
-// What these come to, where the type holds the numbers so in 64 bits.
-fn exchanged(a: u64, b: u64) -> [Row; 8] {
-    [
-        ("Atomic::new", Main(New(Object::Atomic, 0))),
-        ("atomic.compare_exchange", Main(Exchanged(Err(a)))),
-        ("atomic.compare_exchange", Main(Exchanged(Ok(a)))),
-        ("atomic.compare_exchange_weak", Main(Exchanged(Ok(b)))),
-        ("update.begin", Main(Read(a))),
-        ("update.exchange", Main(Replaced(a))),
-        ("update.begin", Main(Read(b))),
-        ("atomic.load", Main(Value(b))),
-    ]
+// Makes these calls, of an atomic of this type of integers.
+fn make_of<T: Integer + Debug + Drop>(calls: &mut Calls, rows: &[Row]) {
+    calls.make::<T>(Kind::Exchanges, rows);
 }
 
-// Each call of `exchanges` comes to that, with an atomic of this type.
-fn are_exchanged<T: Integer>(alloc: Global) -> Result<(), Fail> {
-    let (a, b) = (T::from_u64(NUM_A), T::from_u64(NUM_B));
-    let table = exchanged(a.into_u64(), b.into_u64());
-    come_to::<T>(alloc, &mut exchanges(a, b), &table)
-}
-
-#[test]
-fn bytes_are_exchanged(rt: HostRuntime) -> Result<(), Fail> {
-    are_exchanged::<u8>(rt.alloc())?;
-    are_exchanged::<i8>(rt.alloc())
-}
-
-#[test]
-fn integers_of_16_bits_are_exchanged(rt: HostRuntime) -> Result<(), Fail> {
-    are_exchanged::<u16>(rt.alloc())?;
-    are_exchanged::<i16>(rt.alloc())
-}
-
-#[test]
-fn integers_of_32_bits_are_exchanged(rt: HostRuntime) -> Result<(), Fail> {
-    are_exchanged::<u32>(rt.alloc())?;
-    are_exchanged::<i32>(rt.alloc())
-}
-
-#[test]
-fn integers_of_64_bits_are_exchanged(rt: HostRuntime) -> Result<(), Fail> {
-    are_exchanged::<u64>(rt.alloc())?;
-    are_exchanged::<i64>(rt.alloc())
-}
-
-#[test]
-fn sizes_are_exchanged(rt: HostRuntime) -> Result<(), Fail> {
-    are_exchanged::<usize>(rt.alloc())?;
-    are_exchanged::<isize>(rt.alloc())
+/// Makes these calls, of each type.
+pub fn make_all(calls: &mut Calls) {
+    make_of::<u8>(calls, &OF_U8);
+    make_of::<i8>(calls, &OF_I8);
+    make_of::<u16>(calls, &OF_U16);
+    make_of::<i16>(calls, &OF_I16);
+    make_of::<u32>(calls, &OF_32_BITS);
+    make_of::<i32>(calls, &OF_32_BITS);
+    make_of::<u64>(calls, &OF_U64);
+    make_of::<i64>(calls, &OF_I64);
+    make_of::<usize>(calls, &OF_U64);
+    make_of::<isize>(calls, &OF_I64);
 }

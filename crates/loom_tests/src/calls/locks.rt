@@ -1,157 +1,178 @@
 //! Locks, condition variables and notifiers.
-use crate::calls::answer::Answer::{Blocks, Data, Done, Holds, New, Spawned, Start, Takes};
-use crate::calls::answer::Comes::{Fails, Main, Other};
-use crate::calls::answer::{Guard, Object, Row};
-use crate::calls::run::come_to;
+use crate::calls::run::{Calls, Kind, Row};
 use loom::sync::{Condvar, Mutex, MutexGuard, Notify, RwLock, RwLockReadGuard, RwLockWriteGuard};
-use loom::{FailureKind, Op, thread};
+use loom::{Op, thread};
 use loom_scripts::number::Number;
-use std::test::Fail;
 
-// Main locks a mutex by each call, takes it apart, and finds that it is no more.
-fn use_mutex() -> [Op<Number, ()>; 10] {
-    let mutex = Mutex { number: 0 };
-    let guard = MutexGuard { number: 0 };
-    [
-        Mutex::new(Number(1)),
-        mutex.lock(),
-        mutex.try_lock(),
-        guard.release(Number(2)),
-        mutex.try_lock(),
-        guard.release(Number(3)),
-        mutex.get_mut(),
-        mutex.put(Number(4)),
-        mutex.into_inner(),
-        mutex.lock(),
-    ]
+/// The calls of these tables, by their numbers there.
+pub fn call(number: usize) -> Op<Number, ()> {
+    let (mutex, guard) = (Mutex { number: 0 }, MutexGuard { number: 0 });
+    let (lock, reader) = (RwLock { number: 0 }, RwLockReadGuard { number: 0 });
+    let writer = RwLockWriteGuard { number: 0 };
+    let (condvar, notifier) = (Condvar { number: 1 }, Notify { number: 0 });
+    match number {
+        0 => Mutex::new(Number(1)),
+        1 => mutex.lock(),
+        2 => mutex.try_lock(),
+        3 => guard.release(Number(2)),
+        4 => guard.release(Number(3)),
+        5 => mutex.get_mut(),
+        6 => mutex.put(Number(4)),
+        7 => mutex.into_inner(),
+        8 => RwLock::new(Number(1)),
+        9 => lock.read(),
+        10 => lock.try_read(),
+        11 => lock.try_write(),
+        12 => reader.release(),
+        13 => lock.write(),
+        14 => writer.release(Number(2)),
+        15 => writer.release(Number(3)),
+        16 => lock.get_mut(),
+        17 => lock.put(Number(4)),
+        18 => lock.into_inner(),
+        19 => Condvar::new(),
+        20 => thread::spawn(()),
+        21 => condvar.wait(guard, Number(2)),
+        22 => condvar.notify_one(),
+        23 => condvar.wait(guard, Number(4)),
+        24 => condvar.notify_all(),
+        25 => condvar.wait_timeout(guard, Number(5)),
+        26 => guard.release(Number(6)),
+        27 => thread::park(),
+        28 => Notify::new(),
+        29 => notifier.notify(),
+        _ => notifier.wait(),
+    }
 }
 
+// Main locks a mutex by each call, takes it apart, and finds that it is no more.
 static USE_MUTEX: [Row; 10] = [
-    ("Mutex::new", Main(New(Object::Mutex, 0))),
-    ("mutex.lock", Main(Holds(Guard::Mutex, 0, 1))),
-    ("mutex.try_lock", Main(Blocks)),
-    ("guard.release", Main(Done)),
-    ("mutex.try_lock", Main(Takes(Guard::Mutex, 0, 2))),
-    ("guard.release", Main(Done)),
-    ("mutex.get_mut", Main(Data(3))),
-    ("mutex.put", Main(Done)),
-    ("mutex.into_inner", Main(Data(4))),
-    ("mutex.lock", Fails(FailureKind::Misuse)),
+    (0, "Mutex::new", "Reply(0, Mutex(0)); Mutex { number: 0 }"),
+    (
+        1,
+        "mutex.lock",
+        "Reply(0, Locked(0, Number(1))); MutexGuard { number: 0 }; (MutexGuard { number: 0 }, Number(1))",
+    ),
+    (2, "mutex.try_lock", "Reply(0, WouldBlock); WouldBlock"),
+    (3, "guard.release", "Reply(0, Done)"),
+    (
+        2,
+        "mutex.try_lock",
+        "Reply(0, Locked(0, Number(2))); MutexGuard { number: 0 }; (MutexGuard { number: 0 }, Number(2))",
+    ),
+    (4, "guard.release", "Reply(0, Done)"),
+    (5, "mutex.get_mut", "Reply(0, Data(Number(3)))"),
+    (6, "mutex.put", "Reply(0, Done)"),
+    (7, "mutex.into_inner", "Reply(0, Data(Number(4)))"),
+    (1, "mutex.lock", "Misuse"),
 ];
 
 // Main reads and writes a lock by each call, takes it apart, and finds that it is no more.
-fn use_lock() -> [Op<Number, ()>; 15] {
-    let lock = RwLock { number: 0 };
-    let reader = RwLockReadGuard { number: 0 };
-    let writer = RwLockWriteGuard { number: 0 };
-    [
-        RwLock::new(Number(1)),
-        lock.read(),
-        lock.try_read(),
-        lock.try_write(),
-        reader.release(),
-        reader.release(),
-        lock.write(),
-        lock.try_read(),
-        writer.release(Number(2)),
-        lock.try_write(),
-        writer.release(Number(3)),
-        lock.get_mut(),
-        lock.put(Number(4)),
-        lock.into_inner(),
-        lock.read(),
-    ]
-}
-
 static USE_LOCK: [Row; 15] = [
-    ("RwLock::new", Main(New(Object::RwLock, 0))),
-    ("lock.read", Main(Holds(Guard::Read, 0, 1))),
-    ("lock.try_read", Main(Takes(Guard::Read, 0, 1))),
-    ("lock.try_write", Main(Blocks)),
-    ("reader.release", Main(Done)),
-    ("reader.release", Main(Done)),
-    ("lock.write", Main(Holds(Guard::Write, 0, 1))),
-    ("lock.try_read", Main(Blocks)),
-    ("writer.release", Main(Done)),
-    ("lock.try_write", Main(Takes(Guard::Write, 0, 2))),
-    ("writer.release", Main(Done)),
-    ("lock.get_mut", Main(Data(3))),
-    ("lock.put", Main(Done)),
-    ("lock.into_inner", Main(Data(4))),
-    ("lock.read", Fails(FailureKind::Misuse)),
+    (
+        8,
+        "RwLock::new",
+        "Reply(0, RwLock(0)); RwLock { number: 0 }",
+    ),
+    (
+        9,
+        "lock.read",
+        "Reply(0, ReadLocked(0, Number(1))); RwLockReadGuard { number: 0 }; (RwLockReadGuard { number: 0 }, Number(1))",
+    ),
+    (
+        10,
+        "lock.try_read",
+        "Reply(0, ReadLocked(0, Number(1))); RwLockReadGuard { number: 0 }; (RwLockReadGuard { number: 0 }, Number(1))",
+    ),
+    (11, "lock.try_write", "Reply(0, WouldBlock); WouldBlock"),
+    (12, "reader.release", "Reply(0, Done)"),
+    (12, "reader.release", "Reply(0, Done)"),
+    (
+        13,
+        "lock.write",
+        "Reply(0, WriteLocked(0, Number(1))); RwLockWriteGuard { number: 0 }; (RwLockWriteGuard { number: 0 }, Number(1))",
+    ),
+    (10, "lock.try_read", "Reply(0, WouldBlock); WouldBlock"),
+    (14, "writer.release", "Reply(0, Done)"),
+    (
+        11,
+        "lock.try_write",
+        "Reply(0, WriteLocked(0, Number(2))); RwLockWriteGuard { number: 0 }; (RwLockWriteGuard { number: 0 }, Number(2))",
+    ),
+    (15, "writer.release", "Reply(0, Done)"),
+    (16, "lock.get_mut", "Reply(0, Data(Number(3)))"),
+    (17, "lock.put", "Reply(0, Done)"),
+    (18, "lock.into_inner", "Reply(0, Data(Number(4)))"),
+    (9, "lock.read", "Misuse"),
 ];
 
 // Main sleeps on a condition variable, and the thread that it spawned starts, changes the number, wakes main and sleeps too.
 // Main sleeps again, by the call with a time, and the other thread goes on, wakes main and parks.
-fn wait_in_turn() -> [Op<Number, ()>; 15] {
-    let mutex = Mutex { number: 0 };
-    let guard = MutexGuard { number: 0 };
-    let condvar = Condvar { number: 1 };
-    [
-        Mutex::new(Number(1)),
-        Condvar::new(),
-        thread::spawn(()),
-        mutex.lock(),
-        condvar.wait(guard, Number(2)),
-        mutex.lock(),
-        guard.release(Number(3)),
-        condvar.notify_one(),
-        mutex.lock(),
-        condvar.wait(guard, Number(4)),
-        condvar.notify_all(),
-        condvar.wait_timeout(guard, Number(5)),
-        condvar.notify_all(),
-        guard.release(Number(6)),
-        thread::park(),
-    ]
-}
-
 static WAIT_IN_TURN: [Row; 15] = [
-    ("Mutex::new", Main(New(Object::Mutex, 0))),
-    ("Condvar::new", Main(New(Object::Condvar, 1))),
-    ("thread::spawn", Main(Spawned(1, None))),
-    ("mutex.lock", Main(Holds(Guard::Mutex, 0, 1))),
-    ("condvar.wait", Other(Start)),
-    ("mutex.lock", Other(Holds(Guard::Mutex, 0, 2))),
-    ("guard.release", Other(Done)),
-    ("condvar.notify_one", Other(Done)),
-    ("mutex.lock", Other(Holds(Guard::Mutex, 0, 3))),
-    ("condvar.wait", Main(Holds(Guard::Mutex, 0, 4))),
-    ("condvar.notify_all", Main(Done)),
-    ("condvar.wait_timeout", Other(Takes(Guard::Mutex, 0, 5))),
-    ("condvar.notify_all", Other(Done)),
-    ("guard.release", Other(Done)),
-    ("thread::park", Main(Holds(Guard::InTime, 0, 6))),
+    (0, "Mutex::new", "Reply(0, Mutex(0)); Mutex { number: 0 }"),
+    (
+        19,
+        "Condvar::new",
+        "Reply(0, Condvar(1)); Condvar { number: 1 }",
+    ),
+    (
+        20,
+        "thread::spawn",
+        "Reply(0, Spawned(1, None, 2)); ThreadId(1); None",
+    ),
+    (
+        1,
+        "mutex.lock",
+        "Reply(0, Locked(0, Number(1))); MutexGuard { number: 0 }; (MutexGuard { number: 0 }, Number(1))",
+    ),
+    (21, "condvar.wait", "Start(1)"),
+    (
+        1,
+        "mutex.lock",
+        "Reply(1, Locked(0, Number(2))); MutexGuard { number: 0 }; (MutexGuard { number: 0 }, Number(2))",
+    ),
+    (4, "guard.release", "Reply(1, Done)"),
+    (22, "condvar.notify_one", "Reply(1, Done)"),
+    (
+        1,
+        "mutex.lock",
+        "Reply(1, Locked(0, Number(3))); MutexGuard { number: 0 }; (MutexGuard { number: 0 }, Number(3))",
+    ),
+    (
+        23,
+        "condvar.wait",
+        "Reply(0, Locked(0, Number(4))); MutexGuard { number: 0 }; (MutexGuard { number: 0 }, Number(4))",
+    ),
+    (24, "condvar.notify_all", "Reply(0, Done)"),
+    (
+        25,
+        "condvar.wait_timeout",
+        "Reply(1, Locked(0, Number(5))); MutexGuard { number: 0 }; (MutexGuard { number: 0 }, Number(5))",
+    ),
+    (24, "condvar.notify_all", "Reply(1, Done)"),
+    (26, "guard.release", "Reply(1, Done)"),
+    (
+        27,
+        "thread::park",
+        "Reply(0, Waited(0, Number(6), false)); MutexGuard { number: 0 }; false; (MutexGuard { number: 0 }, Number(6))",
+    ),
 ];
 
 // Main waits on a notifier that was notified before.
-fn wait_on_notifier() -> [Op<Number, ()>; 3] {
-    let notifier = Notify { number: 0 };
-    [Notify::new(), notifier.notify(), notifier.wait()]
-}
-
 static WAIT_ON_NOTIFIER: [Row; 3] = [
-    ("Notify::new", Main(New(Object::Notify, 0))),
-    ("notifier.notify", Main(Done)),
-    ("notifier.wait", Main(Done)),
+    (
+        28,
+        "Notify::new",
+        "Reply(0, Notify(0)); Notify { number: 0 }",
+    ),
+    (29, "notifier.notify", "Reply(0, Done)"),
+    (30, "notifier.wait", "Reply(0, Done)"),
 ];
 
-#[test]
-fn a_mutex_is_locked_and_taken_apart(rt: HostRuntime) -> Result<(), Fail> {
-    come_to::<u64>(rt.alloc(), &mut use_mutex(), &USE_MUTEX)
-}
-
-#[test]
-fn a_lock_is_read_and_written_and_taken_apart(rt: HostRuntime) -> Result<(), Fail> {
-    come_to::<u64>(rt.alloc(), &mut use_lock(), &USE_LOCK)
-}
-
-#[test]
-fn a_thread_waits_for_a_notification(rt: HostRuntime) -> Result<(), Fail> {
-    come_to::<u64>(rt.alloc(), &mut wait_in_turn(), &WAIT_IN_TURN)
-}
-
-#[test]
-fn a_notifier_is_waited_on(rt: HostRuntime) -> Result<(), Fail> {
-    come_to::<u64>(rt.alloc(), &mut wait_on_notifier(), &WAIT_ON_NOTIFIER)
+/// Makes these calls.
+pub fn make_all(calls: &mut Calls) {
+    calls.make::<u64>(Kind::Locks, &USE_MUTEX);
+    calls.make::<u64>(Kind::Locks, &USE_LOCK);
+    calls.make::<u64>(Kind::Locks, &WAIT_IN_TURN);
+    calls.make::<u64>(Kind::Locks, &WAIT_ON_NOTIFIER);
 }

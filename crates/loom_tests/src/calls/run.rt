@@ -1,14 +1,13 @@
-//! A run in which the calls of a table are made.
-use crate::calls::answer::{Answer, Comes, Row};
-use loom::Op;
+//! The runs in which the calls of the tables are made.
+use crate::calls::answer::put_answer;
+use crate::calls::{atomics, cells, channels, counts, exchanges, locks, threads, values, wakers};
+use crate::page::Page;
 use loom::rt::execution::{Execution, Limits};
 use loom::rt::path::{Path, Search};
-use loom_objects::failure::Stop;
-use loom_objects::operation::Turn;
+use loom::{Numeric, Op};
 use loom_scripts::number::Number;
-use loom_views::rt::num::Numeric;
 use std::alloc::{AllocError, Global};
-use std::mem;
+use std::fmt::Debug;
 use std::test::Fail;
 
 // One run is made, so it doesn't matter what else is tried.
@@ -24,64 +23,110 @@ const LIMITS: Limits = Limits {
     max_steps: 40,
 };
 
-/// Makes the calls, in a run of main, and of one thread more where main spawns it, where atomics hold a `T`. Each comes to what the table says, and else that is the error.
-pub fn come_to<T: Numeric>(
-    alloc: Global,
-    calls: &mut [Op<Number, ()>],
-    table: &[Row],
-) -> Result<(), Fail> {
-    if calls.len() != table.len() {
-        return Err(Fail::from("the table has another length"));
+/// A call's number and name, and what it comes to, as `put_answer` writes it.
+pub type Row = (usize, &'static str, &'static str);
+
+/// The modules of calls.
+#[derive(Clone, Copy)]
+pub enum Kind {
+    Atomics,
+    Exchanges,
+    Cells,
+    Counts,
+    Locks,
+    Channels,
+    Threads,
+    Values,
+    Wakers,
+}
+
+impl Kind {
+    // The call of this number, where atomics hold a `T`. (An arm of such a match costs the proof some 0.2 seconds, and a function
+    // that makes an operation some 2.5. An operation costs 0.5 where it is handed on in place, or stands in an array.)
+    fn call<T: Numeric>(self, number: usize) -> Op<Number, ()> {
+        match self {
+            Kind::Atomics => atomics::call(number),
+            Kind::Exchanges => exchanges::call::<T>(number),
+            Kind::Cells => cells::call(number),
+            Kind::Counts => counts::call(number),
+            Kind::Locks => locks::call(number),
+            Kind::Channels => channels::call(number),
+            Kind::Threads => threads::call(number),
+            Kind::Values => values::call(number),
+            Kind::Wakers => wakers::call(number),
+        }
     }
-    match first_wrong::<T>(alloc, calls, table)? {
-        Some(name) => Err(Fail::from(name)),
-        None => Ok(()),
+}
+
+/// What the runs have come to.
+#[derive(Drop)]
+pub struct Calls {
+    alloc: Global,
+    // what the last call came to
+    page: Page,
+    // the first call that came to something else, after which none is made
+    wrong: Option<&'static str>,
+}
+
+impl Calls {
+    /// No calls yet.
+    pub fn new(alloc: Global) -> Calls {
+        Calls {
+            alloc,
+            page: Page::new(alloc),
+            wrong: None,
+        }
+    }
+
+    /// Makes the calls of a run of main, and of one thread more where main spawns it, where atomics hold a `T`.
+    pub fn make<T: Numeric + Debug + Drop>(&mut self, kind: Kind, rows: &[Row]) {
+        if self.wrong.is_none() {
+            self.wrong = match first_wrong::<T>(self.alloc, &mut self.page, kind, rows) {
+                Ok(wrong) => wrong,
+                Err(AllocError) => Some("no memory for a run"),
+            };
+        }
+    }
+
+    /// Fails by the first call that came to something else, and prints what that was.
+    pub fn end(&self, rt: &HostRuntime) -> Result<(), Fail> {
+        match self.wrong {
+            Some(name) => {
+                let text = self.page.as_str();
+                println!(rt; "{name}: {text}")?;
+                Err(Fail::from(name))
+            }
+            None => Ok(()),
+        }
     }
 }
 
 // The first call that doesn't come to what the table says. It fails only where a run is refused memory.
-fn first_wrong<T: Numeric>(
+fn first_wrong<T: Numeric + Debug + Drop>(
     alloc: Global,
-    calls: &mut [Op<Number, ()>],
-    table: &[Row],
+    page: &mut Page,
+    kind: Kind,
+    rows: &[Row],
 ) -> Result<Option<&'static str>, AllocError> {
     let mut execution = Execution::new(alloc, LIMITS)?;
     let mut path = Path::new(alloc, SEARCH);
-    Ok(wrong_in::<T>(&mut execution, &mut path, calls, table))
+    Ok(wrong_in::<T>(&mut execution, &mut path, page, kind, rows))
 }
 
 // The first such call, in this run.
-fn wrong_in<T: Numeric>(
+fn wrong_in<T: Numeric + Debug + Drop>(
     execution: &mut Execution<Number>,
     path: &mut Path,
-    calls: &mut [Op<Number, ()>],
-    table: &[Row],
+    page: &mut Page,
+    kind: Kind,
+    rows: &[Row],
 ) -> Option<&'static str> {
-    for (call, (name, comes)) in calls.iter_mut().zip(table) {
-        let turn = execution.submit(path, mem::replace(call, Op::Fail(None)));
-        if !is_so::<T>(turn, *comes) {
+    for (number, name, text) in rows {
+        page.clear();
+        put_answer::<T>(page, execution.submit(path, kind.call::<T>(*number)));
+        if !page.has(*text) {
             return Some(*name);
         }
     }
     None
-}
-
-// Whether the call comes to this.
-fn is_so<T: Numeric>(turn: Result<Turn<Number>, Stop>, comes: Comes) -> bool {
-    match comes {
-        Comes::Main(answer) => tells::<T>(turn, 0, answer),
-        Comes::Other(answer) => tells::<T>(turn, 1, answer),
-        Comes::Fails(kind) => {
-            matches!(turn, Err(Stop::Failure(failure)) if failure.kind == kind)
-        }
-    }
-}
-
-// Whether this thread goes on, and is told this.
-fn tells<T: Numeric>(turn: Result<Turn<Number>, Stop>, thread: u8, answer: Answer) -> bool {
-    match turn {
-        Ok(Turn::Reply(told, reply)) => answer.is::<T>(reply) && told == thread,
-        Ok(Turn::Start(told)) => told == thread && matches!(answer, Answer::Start),
-        Ok(Turn::Ended(_)) | Err(_) => false,
-    }
 }

@@ -1,99 +1,90 @@
 //! Wakers of futures, and places for them.
-use crate::calls::answer::Answer::{Done, New, NoWaker, Waker as Held};
-use crate::calls::answer::Comes::{Fails, Main};
-use crate::calls::answer::{Object, Row};
-use crate::calls::run::come_to;
+use crate::calls::run::{Calls, Kind, Row};
+use loom::Op;
 use loom::future::{AtomicWaker, BlockOn, Waker};
-use loom::{FailureKind, Op};
 use loom_scripts::number::Number;
-use std::test::Fail;
 
-// Main wakes itself by each call and waits each time, drops a waker, finishes, and finds that no waker is left.
-fn wake_and_wait() -> [Op<Number, ()>; 10] {
-    let block_on = BlockOn { number: 1 };
-    let waker = Waker { number: 1 };
-    [
-        BlockOn::new(),
-        waker.clone(),
-        waker.wake(),
-        block_on.wait(),
-        waker.wake_by_ref(),
-        block_on.wait(),
-        waker.clone(),
-        waker.drop(),
-        block_on.finish(),
-        waker.clone(),
-    ]
+/// The calls of these tables, by their numbers there.
+pub fn call(number: usize) -> Op<Number, ()> {
+    let (block_on, waker) = (BlockOn { number: 1 }, Waker { number: 1 });
+    let (later, its_waker) = (BlockOn { number: 2 }, Waker { number: 2 });
+    let place = AtomicWaker { number: 0 };
+    match number {
+        0 => BlockOn::new(),
+        1 => waker.clone(),
+        2 => waker.wake(),
+        3 => block_on.wait(),
+        4 => waker.wake_by_ref(),
+        5 => waker.drop(),
+        6 => block_on.finish(),
+        7 => AtomicWaker::new(),
+        8 => its_waker.clone(),
+        9 => place.register(its_waker),
+        10 => place.register_by_ref(&its_waker),
+        11 => place.take_waker(),
+        12 => place.wake(),
+        13 => later.wait(),
+        14 => place.drop(),
+        15 => its_waker.drop(),
+        _ => later.finish(),
+    }
 }
 
+// Main wakes itself by each call and waits each time, drops a waker, finishes, and finds that no waker is left.
 static WAKE_AND_WAIT: [Row; 10] = [
-    ("BlockOn::new", Main(New(Object::BlockOn, 1))),
-    ("waker.clone", Main(Done)),
-    ("waker.wake", Main(Done)),
-    ("block_on.wait", Main(Done)),
-    ("waker.wake_by_ref", Main(Done)),
-    ("block_on.wait", Main(Done)),
-    ("waker.clone", Main(Done)),
-    ("waker.drop", Main(Done)),
-    ("block_on.finish", Main(Done)),
-    ("waker.clone", Fails(FailureKind::Misuse)),
+    (
+        0,
+        "BlockOn::new",
+        "Reply(0, BlockOn(1)); Waker { number: 1 }; BlockOn { number: 1 }; Waker { number: 1 }",
+    ),
+    (1, "waker.clone", "Reply(0, Done)"),
+    (2, "waker.wake", "Reply(0, Done)"),
+    (3, "block_on.wait", "Reply(0, Done)"),
+    (4, "waker.wake_by_ref", "Reply(0, Done)"),
+    (3, "block_on.wait", "Reply(0, Done)"),
+    (1, "waker.clone", "Reply(0, Done)"),
+    (5, "waker.drop", "Reply(0, Done)"),
+    (6, "block_on.finish", "Reply(0, Done)"),
+    (1, "waker.clone", "Misuse"),
 ];
 
 // Main registers a waker by each call, takes one out, wakes by another, waits for that, and drops the place with the third one
 // in it.
-fn register_and_take() -> [Op<Number, ()>; 18] {
-    let place = AtomicWaker { number: 0 };
-    let block_on = BlockOn { number: 2 };
-    let waker = Waker { number: 2 };
-    [
-        AtomicWaker::new(),
-        BlockOn::new(),
-        waker.clone(),
-        place.register(waker),
-        place.register_by_ref(&waker),
-        place.take_waker(),
-        place.take_waker(),
-        place.register(waker),
-        place.wake(),
-        place.wake(),
-        block_on.wait(),
-        place.register_by_ref(&waker),
-        place.drop(),
-        place.drop(),
-        waker.drop(),
-        block_on.finish(),
-        place.wake(),
-        place.register(waker),
-    ]
-}
-
 static REGISTER_AND_TAKE: [Row; 18] = [
-    ("AtomicWaker::new", Main(New(Object::AtomicWaker, 0))),
-    ("BlockOn::new", Main(New(Object::BlockOn, 2))),
-    ("waker.clone", Main(Done)),
-    ("place.register", Main(Done)),
-    ("place.register_by_ref", Main(Done)),
-    ("place.take_waker", Main(Held(2))),
-    ("place.take_waker", Main(NoWaker)),
-    ("place.register", Main(Done)),
-    ("place.wake", Main(Done)),
-    ("place.wake", Main(Done)),
-    ("block_on.wait", Main(Done)),
-    ("place.register_by_ref", Main(Done)),
-    ("place.drop", Main(Held(2))),
-    ("place.drop", Main(NoWaker)),
-    ("waker.drop", Main(Done)),
-    ("block_on.finish", Main(Done)),
-    ("place.wake", Main(Done)),
-    ("place.register", Fails(FailureKind::Misuse)),
+    (
+        7,
+        "AtomicWaker::new",
+        "Reply(0, AtomicWaker(0)); AtomicWaker { number: 0 }",
+    ),
+    (
+        0,
+        "BlockOn::new",
+        "Reply(0, BlockOn(2)); Waker { number: 2 }; BlockOn { number: 2 }; Waker { number: 2 }",
+    ),
+    (8, "its_waker.clone", "Reply(0, Done)"),
+    (9, "place.register", "Reply(0, Done)"),
+    (10, "place.register_by_ref", "Reply(0, Done)"),
+    (
+        11,
+        "place.take_waker",
+        "Reply(0, Waker(2)); Waker { number: 2 }",
+    ),
+    (11, "place.take_waker", "Reply(0, NoWaker)"),
+    (9, "place.register", "Reply(0, Done)"),
+    (12, "place.wake", "Reply(0, Done)"),
+    (12, "place.wake", "Reply(0, Done)"),
+    (13, "later.wait", "Reply(0, Done)"),
+    (10, "place.register_by_ref", "Reply(0, Done)"),
+    (14, "place.drop", "Reply(0, Waker(2)); Waker { number: 2 }"),
+    (14, "place.drop", "Reply(0, NoWaker)"),
+    (15, "its_waker.drop", "Reply(0, Done)"),
+    (16, "later.finish", "Reply(0, Done)"),
+    (12, "place.wake", "Reply(0, Done)"),
+    (9, "place.register", "Misuse"),
 ];
 
-#[test]
-fn a_waker_wakes(rt: HostRuntime) -> Result<(), Fail> {
-    come_to::<u64>(rt.alloc(), &mut wake_and_wait(), &WAKE_AND_WAIT)
-}
-
-#[test]
-fn a_place_keeps_a_waker(rt: HostRuntime) -> Result<(), Fail> {
-    come_to::<u64>(rt.alloc(), &mut register_and_take(), &REGISTER_AND_TAKE)
+/// Makes these calls.
+pub fn make_all(calls: &mut Calls) {
+    calls.make::<u64>(Kind::Wakers, &WAKE_AND_WAIT);
+    calls.make::<u64>(Kind::Wakers, &REGISTER_AND_TAKE);
 }
