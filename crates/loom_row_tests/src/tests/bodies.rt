@@ -4,6 +4,7 @@ use loom_objects::operation::{
     ArcOp, AtomicOp, CellOp, CondvarOp, Exchange, MutexOp, NotifyOp, Op, RwLockOp, ThreadOp,
     TrackOp,
 };
+use loom_row_bodies::rows::{Checked, DEFAULTS, Row};
 use loom_scripts::step::{END, EXIT, Step, Value, YIELD};
 use loom_views::rt::change::Change::Add;
 use loom_views::rt::num::Numbers;
@@ -19,7 +20,7 @@ const GET: Step = Step::Do(0, Op::Cell(CellOp::Get(1), None));
 const REPLACE: Step = Step::Do(0, Op::Cell(CellOp::Replace(1, Value::Plain(3)), None));
 
 /// A thread writes a cell and hands it on by fences: main reads it where it loads the flag, behind a fence.
-pub static FENCES_HAND_ON: [Step; 14] = [
+const FENCES_HAND_ON: &[Step] = &[
     NEW,
     NEW_CELL,
     Step::Do(2, Op::Thread(ThreadOp::Spawn(10, None), None)),
@@ -37,7 +38,7 @@ pub static FENCES_HAND_ON: [Step; 14] = [
 ];
 
 /// A thread writes a cell and releases a number, to which main adds. Main reads the cell where it acquires the sum.
-pub static UPDATES_PASS_ON: [Step; 13] = [
+const UPDATES_PASS_ON: &[Step] = &[
     NEW,
     NEW_CELL,
     Step::Do(2, Op::Thread(ThreadOp::Spawn(10, None), None)),
@@ -54,7 +55,7 @@ pub static UPDATES_PASS_ON: [Step; 13] = [
 ];
 
 /// A thread writes a cell and releases a number. Main finds the number by an exchange that fails and acquires, and reads the cell.
-pub static FAILING_ACQUIRES: [Step; 12] = [
+const FAILING_ACQUIRES: &[Step] = &[
     NEW,
     NEW_CELL,
     Step::Do(2, Op::Thread(ThreadOp::Spawn(9, None), None)),
@@ -77,7 +78,7 @@ const FIVE: Exchange = Exchange {
 };
 
 /// Main yields between two loads, beside two stores.
-pub static YIELD_BETWEEN_LOADS: [Step; 11] = [
+const YIELD_BETWEEN_LOADS: &[Step] = &[
     NEW,
     Step::Do(1, Op::Thread(ThreadOp::Spawn(8, None), None)),
     Step::Do(1, Op::Atomic(AtomicOp::Load(0, Relaxed), None)),
@@ -92,7 +93,7 @@ pub static YIELD_BETWEEN_LOADS: [Step; 11] = [
 ];
 
 /// Two threads each store and load, all sequentially consistent.
-pub static SEQ_CST_BUFFERING: [Step; 13] = [
+const SEQ_CST_BUFFERING: &[Step] = &[
     NEW,
     Step::Do(1, Op::Atomic(AtomicOp::New(Numbers::U64, 0), None)),
     Step::Do(2, Op::Thread(ThreadOp::Spawn(10, None), None)),
@@ -109,7 +110,7 @@ pub static SEQ_CST_BUFFERING: [Step; 13] = [
 ];
 
 /// Main loads twice beside a thread that stores eight times, so that slots are used again.
-pub static STORES_WRAP: [Step; 15] = [
+const STORES_WRAP: &[Step] = &[
     NEW,
     Step::Do(1, Op::Thread(ThreadOp::Spawn(6, None), None)),
     Step::Do(0, Op::Atomic(AtomicOp::Load(0, Relaxed), None)),
@@ -128,7 +129,7 @@ pub static STORES_WRAP: [Step; 15] = [
 ];
 
 /// Two threads swap where they find 0. Main joins the other, opens a mutation and ends it, and takes the atomic apart.
-pub static SWAPS_THEN_MUTATION: [Step; 12] = [
+const SWAPS_THEN_MUTATION: &[Step] = &[
     NEW,
     Step::Do(1, Op::Thread(ThreadOp::Spawn(10, None), None)),
     Step::Do(
@@ -150,7 +151,7 @@ pub static SWAPS_THEN_MUTATION: [Step; 12] = [
 ];
 
 /// Main tries a mutex that the other thread locks, and takes it apart in the end.
-pub static TRIES_LOCK: [Step; 14] = [
+const TRIES_LOCK: &[Step] = &[
     Step::Do(0, Op::Mutex(MutexOp::New(Value::Plain(0)), None)),
     Step::Do(1, Op::Thread(ThreadOp::Spawn(11, None), None)),
     Step::Do(0, Op::Mutex(MutexOp::TryLock(0), None)),
@@ -168,7 +169,7 @@ pub static TRIES_LOCK: [Step; 14] = [
 ];
 
 /// Main reads a lock that the other thread tries to write, and takes the lock apart in the end.
-pub static TRIES_WRITE: [Step; 14] = [
+const TRIES_WRITE: &[Step] = &[
     Step::Do(0, Op::RwLock(RwLockOp::New(Value::Plain(0)), None)),
     Step::Do(1, Op::Thread(ThreadOp::Spawn(10, None), None)),
     Step::Do(0, Op::RwLock(RwLockOp::Read(0), None)),
@@ -189,7 +190,7 @@ pub static TRIES_WRITE: [Step; 14] = [
 ];
 
 /// Main writes a lock that the other thread tries to read.
-pub static TRIES_READ: [Step; 12] = [
+const TRIES_READ: &[Step] = &[
     Step::Do(0, Op::RwLock(RwLockOp::New(Value::Plain(0)), None)),
     Step::Do(1, Op::Thread(ThreadOp::Spawn(8, None), None)),
     Step::Do(0, Op::RwLock(RwLockOp::Write(0), None)),
@@ -208,7 +209,7 @@ pub static TRIES_READ: [Step; 12] = [
 ];
 
 /// Main waits for a notification with a time, by which a thread hands over a cell that it wrote under the mutex.
-pub static WAITS_WITH_TIME: [Step; 16] = [
+const WAITS_WITH_TIME: &[Step] = &[
     Step::Do(0, Op::Mutex(MutexOp::New(Value::Plain(0)), None)),
     NEW_CELL,
     Step::Do(2, Op::Condvar(CondvarOp::New, None)),
@@ -231,7 +232,7 @@ pub static WAITS_WITH_TIME: [Step; 16] = [
 ];
 
 /// Main waits on a notifier, by which a thread hands over a cell. Where it wakes without a notification it is a race.
-pub static NOTIFIER_HANDS_ON: [Step; 11] = [
+const NOTIFIER_HANDS_ON: &[Step] = &[
     Step::Do(0, Op::Notify(NotifyOp::New, None)),
     NEW_CELL,
     Step::Do(2, Op::Thread(ThreadOp::Spawn(8, None), None)),
@@ -246,7 +247,7 @@ pub static NOTIFIER_HANDS_ON: [Step; 11] = [
 ];
 
 /// Main waits on a notifier beside a thread that notifies it.
-pub static WAKES_EARLY: [Step; 8] = [
+const WAKES_EARLY: &[Step] = &[
     Step::Do(0, Op::Notify(NotifyOp::New, None)),
     Step::Do(1, Op::Thread(ThreadOp::Spawn(6, None), None)),
     Step::Do(0, Op::Notify(NotifyOp::Wait(0), None)),
@@ -258,7 +259,7 @@ pub static WAKES_EARLY: [Step; 8] = [
 ];
 
 /// Two threads share a counted reference. Main takes the value apart if it is alone, and else out for a moment, and drops it.
-pub static SHARED_COUNT: [Step; 14] = [
+const SHARED_COUNT: &[Step] = &[
     Step::Do(0, Op::Arc(ArcOp::New(Value::Plain(8)), None)),
     Step::Do(0, Op::Arc(ArcOp::Clone(0), None)),
     Step::Do(1, Op::Thread(ThreadOp::Spawn(12, None), None)),
@@ -276,7 +277,7 @@ pub static SHARED_COUNT: [Step; 14] = [
 ];
 
 /// Main looks at a tracked value and takes it out and back, before it gives the value back.
-pub static TRACKED: [Step; 8] = [
+const TRACKED: &[Step] = &[
     Step::Do(0, Op::Track(TrackOp::New(Value::Plain(2)), None)),
     Step::Do(0, Op::Track(TrackOp::GetRef(0), None)),
     Step::Do(0, Op::Track(TrackOp::GetMut(0), None)),
@@ -286,3 +287,26 @@ pub static TRACKED: [Step; 8] = [
     EXIT,
     END,
 ];
+
+static ROWS: [Row; 15] = [
+    row!("fences hand on", FENCES_HAND_ON),
+    row!("updates pass on", UPDATES_PASS_ON),
+    row!("failing acquires", FAILING_ACQUIRES),
+    row!("yield between loads", YIELD_BETWEEN_LOADS),
+    row!("seq cst buffering", SEQ_CST_BUFFERING),
+    row!("stores wrap", STORES_WRAP),
+    row!("swaps then mutation", SWAPS_THEN_MUTATION),
+    row!("tries lock", TRIES_LOCK),
+    row!("tries write", TRIES_WRITE),
+    row!("tries read", TRIES_READ),
+    row!("waits with time", WAITS_WITH_TIME),
+    row!("notifier hands on", NOTIFIER_HANDS_ON),
+    row!("wakes early", WAKES_EARLY),
+    row!("shared count", SHARED_COUNT),
+    row!("tracked", TRACKED),
+];
+
+/// The bodies with their names.
+pub fn rows() -> &'static [Row] {
+    &ROWS
+}

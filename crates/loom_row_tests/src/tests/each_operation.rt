@@ -1,19 +1,15 @@
 //! Scripts that between them make every operation: with memory enough none fails for want of it.
-use super::script;
-use loom::model::{Builder, Report};
+use super::finding::{Case, Shows, find};
 use loom::sync::atomic::Ordering::{AcqRel, Release, SeqCst};
 use loom_objects::operation::{
     ArcOp, AtomicOp, AtomicWakerOp, CellOp, ChannelOp, CondvarOp, Exchange, ExploreOp, LazyOp,
     LocalOp, MutexOp, NotifyOp, Op, RwLockOp, ThreadOp, TrackOp, WakerOp,
 };
 use loom_objects::rt::thread::Name;
-use loom_row_bodies::bodies::FAIL_AT_ONCE;
-use loom_row_bodies::bodies::locks::UNREACHABLE;
+use loom_row_bodies::rows::{Checked, DEFAULTS, Row};
 use loom_scripts::step::{END, EXIT, PARK, Step, Value, YIELD};
 use loom_views::rt::change::Change::{Add, And, Max, Min, Nand, Or, Sub, Swap, Xor};
 use loom_views::rt::num::Numbers;
-use std::process::Abort;
-use std::rt::Files;
 
 const FINISH: Step = Step::Do(0, Op::Thread(ThreadOp::Finish(Value::Plain(7)), None));
 
@@ -38,7 +34,7 @@ macro_rules! update {
     };
 }
 
-static ATOMICS: [Step; 22] = [
+const ATOMICS: &[Step] = &[
     Step::Do(0, Op::Atomic(AtomicOp::New(Numbers::U8, 1), None)),
     Step::Do(0, Op::Fence(SeqCst, None)),
     Step::Do(0, Op::Atomic(AtomicOp::Load(0, SeqCst), None)),
@@ -66,7 +62,7 @@ static ATOMICS: [Step; 22] = [
     END,
 ];
 
-static CELLS: [Step; 14] = [
+const CELLS: &[Step] = &[
     Step::Do(0, Op::Cell(CellOp::New(FIVE), None)),
     Step::Do(1, Op::Cell(CellOp::New(FIVE), None)),
     Step::Do(0, Op::Cell(CellOp::Read(0), None)),
@@ -83,7 +79,7 @@ static CELLS: [Step; 14] = [
     END,
 ];
 
-static COUNTS: [Step; 18] = [
+const COUNTS: &[Step] = &[
     Step::Do(0, Op::Arc(ArcOp::New(FIVE), None)),
     Step::Do(0, Op::Arc(ArcOp::Clone(0), None)),
     Step::Do(0, Op::Arc(ArcOp::StrongCount(0), None)),
@@ -104,7 +100,7 @@ static COUNTS: [Step; 18] = [
     END,
 ];
 
-static LOCKS: [Step; 21] = [
+const LOCKS: &[Step] = &[
     Step::Do(0, Op::Mutex(MutexOp::New(FIVE), None)),
     Step::Do(0, Op::Mutex(MutexOp::Lock(0), None)),
     Step::Do(0, Op::Mutex(MutexOp::TryLock(0), None)),
@@ -128,7 +124,7 @@ static LOCKS: [Step; 21] = [
     END,
 ];
 
-static WAITS: [Step; 22] = [
+const WAITS: &[Step] = &[
     Step::Do(0, Op::Mutex(MutexOp::New(FIVE), None)),
     Step::Do(1, Op::Condvar(CondvarOp::New, None)),
     Step::Do(0, Op::Mutex(MutexOp::Lock(0), None)),
@@ -153,7 +149,7 @@ static WAITS: [Step; 22] = [
     Step::Jump(11),
 ];
 
-static CHANNELS: [Step; 12] = [
+const CHANNELS: &[Step] = &[
     Step::Do(0, Op::Channel(ChannelOp::New, None)),
     Step::Do(0, Op::Channel(ChannelOp::CloneSender(0), None)),
     Step::Do(0, Op::Channel(ChannelOp::Send(0, FIVE), None)),
@@ -168,7 +164,7 @@ static CHANNELS: [Step; 12] = [
     END,
 ];
 
-static WAKERS: [Step; 18] = [
+const WAKERS: &[Step] = &[
     Step::Do(0, Op::AtomicWaker(AtomicWakerOp::New, None)),
     Step::Do(1, Op::Waker(WakerOp::New, None)),
     Step::Do(0, Op::Waker(WakerOp::Clone(1), None)),
@@ -189,7 +185,7 @@ static WAKERS: [Step; 18] = [
     END,
 ];
 
-static VALUES: [Step; 12] = [
+const VALUES: &[Step] = &[
     Step::Do(0, Op::Local(LocalOp::Init(1, FIVE), None)),
     Step::Do(0, Op::Local(LocalOp::With(1), None)),
     Step::Do(0, Op::Local(LocalOp::TryWith(1), None)),
@@ -204,7 +200,7 @@ static VALUES: [Step; 12] = [
     END,
 ];
 
-static THREADS: [Step; 9] = [
+const THREADS: &[Step] = &[
     Step::Do(0, Op::Thread(ThreadOp::Current, None)),
     Step::Do(0, Op::Thread(ThreadOp::Unpark(0), None)),
     PARK,
@@ -219,33 +215,38 @@ static THREADS: [Step; 9] = [
     END,
 ];
 
-// What a check of the script reports.
-fn report_of(rt: &(impl Abort + AllocGlobal + Files), steps: &'static [Step]) -> Report {
-    let body = script(rt, steps);
-    let report = Builder::new().check(rt, rt.alloc(), &body);
-    report.expect(rt, "the check gives no report")
+static ROWS: [Row; 9] = [
+    row!("atomics", ATOMICS),
+    row!("cells", CELLS),
+    row!("counts", COUNTS),
+    row!("locks", LOCKS),
+    row!("waits", WAITS),
+    row!("channels", CHANNELS),
+    row!("wakers", WAKERS),
+    row!("values", VALUES),
+    row!("threads", THREADS),
+];
+
+/// The scripts with their names.
+pub fn rows() -> &'static [Row] {
+    &ROWS
 }
 
-fn completes(rt: &(impl Abort + AllocGlobal + Files), steps: &'static [Step], name: &str) {
-    assert!(rt; report_of(rt, steps).is_complete(), "{name}");
-}
-
-fn fails(rt: &(impl Abort + AllocGlobal + Files), steps: &'static [Step]) {
-    let report = report_of(rt, steps);
-    assert!(rt; matches!(&report, Report::Failed { .. }));
-}
+static CASES: [Case; 11] = [
+    results!("atomics", DEFAULTS, "complete; 7"),
+    results!("cells", DEFAULTS, "complete; 7"),
+    results!("counts", DEFAULTS, "complete; 7"),
+    results!("locks", DEFAULTS, "complete; 7"),
+    results!("waits", DEFAULTS, "complete; 7"),
+    results!("channels", DEFAULTS, "complete; 7"),
+    results!("wakers", DEFAULTS, "complete; 7"),
+    results!("values", DEFAULTS, "complete; 7"),
+    results!("threads", DEFAULTS, "complete; 7"),
+    case!("fail_at_once", DEFAULTS, 0, "failed 1 0"),
+    case!("unreachable", DEFAULTS, 0, "failed 15 0"),
+];
 
 #[test]
 fn each_operation_finds_memory(rt: HostRuntime) {
-    completes(&rt, &ATOMICS, "atomics");
-    completes(&rt, &CELLS, "cells");
-    completes(&rt, &COUNTS, "counts");
-    completes(&rt, &LOCKS, "locks");
-    completes(&rt, &WAITS, "waits");
-    completes(&rt, &CHANNELS, "channels");
-    completes(&rt, &WAKERS, "wakers");
-    completes(&rt, &VALUES, "values");
-    completes(&rt, &THREADS, "threads");
-    fails(&rt, FAIL_AT_ONCE);
-    fails(&rt, UNREACHABLE);
+    find(&rt, &CASES);
 }

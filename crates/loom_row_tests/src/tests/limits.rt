@@ -1,37 +1,68 @@
 //! Misuse and limits: what the rows find.
-use super::NONE;
-use super::lists::has_one_run;
-use super::replays::{finds, finds_by, replay_of};
-use loom::FailureKind;
-use loom::model::Replay;
-use loom_row_bodies::bodies::limits::{
-    EXIT_FIRST, FENCES, FINISH_TWICE, GUARD_LEFT, MANY_STORES, PUT_ABSENT, SPIN_ALONE,
-    TOO_MANY_FENCES, TOO_MANY_STORES,
+use super::finding::{Case, Shows, find};
+use loom_row_bodies::rows::{DEFAULTS, LONG_RUNS, THREE_NODES, WHOLE};
+use loom_row_bodies::settings::Settings;
+
+static MANY_FENCES: [Case; 2] = [
+    case!("fences", WHOLE, 1, "complete 1; t- = 7"),
+    case!("too_many_fences", DEFAULTS, 0, "failed 10 0"),
+];
+
+static MANY_STORES: [Case; 1] = [case!(
+    "too_many_stores",
+    LONG_RUNS,
+    0,
+    "failed 11 0 65536 choices"
+)];
+
+// Runs of three nodes at most.
+const SHORT: Settings = Settings {
+    max_branches: 3,
+    ..WHOLE
 };
-use loom_row_bodies::rows::{LONG_RUNS, THREE_NODES};
+
+static FAILURES: [Case; 12] = [
+    case!("finish_twice", DEFAULTS, 0, "failed 14 0"),
+    case!("exit_first", DEFAULTS, 0, "failed 14 0"),
+    case!("put_absent", DEFAULTS, 0, "failed 14 0"),
+    // A thread is joined once.
+    case!("joined twice", DEFAULTS, 0, "failed 14 0 t1 t1 t0"),
+    case!("five spawns", DEFAULTS, 0, "failed 8 0"),
+    case!("lock_beside", SHORT, 0, "failed 9 0 t0 t1 t1"),
+    case!("fail after a lock", DEFAULTS, 0, "failed 1 0 t0"),
+    case!("guard_left", DEFAULTS, 0, "failed 2 0 t0 t1 t-"),
+    case!("spin_alone", THREE_NODES, 0, "failed 9 0 t0 t0 t0"),
+    case!(
+        "two_mutexes_deadlock",
+        DEFAULTS,
+        0,
+        "failed 2 3 t1 t1 t2 t2 t-"
+    ),
+    case!(
+        "check_ordering_invalid_1",
+        DEFAULTS,
+        0,
+        "failed 1 2 t1 t1 t1 t1 t0 l1 t0 l0"
+    ),
+    case!(
+        "checks_fail",
+        DEFAULTS,
+        0,
+        "failed 1 0 t1 t1 l0 t1 t1 t0 t2 t2 l0 t2 t2 t0 t0 l1"
+    ),
+];
 
 #[test]
 fn as_many_fences_as_may_be(rt: HostRuntime) {
-    has_one_run(&rt, FENCES, &[NONE], 7);
-    finds(&rt, TOO_MANY_FENCES, FailureKind::TooManyVersions);
-}
-
-#[test]
-fn as_many_stores_as_may_be(rt: HostRuntime) {
-    let replay = replay_of(&rt, LONG_RUNS, MANY_STORES, &[]);
-    assert!(rt; matches!(&replay, Replay::Ended { .. }));
+    find(&rt, &MANY_FENCES);
 }
 
 #[test]
 fn one_store_more_replays(rt: HostRuntime) {
-    finds_by(&rt, LONG_RUNS, TOO_MANY_STORES, FailureKind::TooManyStores);
+    find(&rt, &MANY_STORES);
 }
 
 #[test]
-fn misuse_replays(rt: HostRuntime) {
-    finds(&rt, FINISH_TWICE, FailureKind::Misuse);
-    finds(&rt, EXIT_FIRST, FailureKind::Misuse);
-    finds(&rt, PUT_ABSENT, FailureKind::Misuse);
-    finds(&rt, GUARD_LEFT, FailureKind::Deadlock);
-    finds_by(&rt, THREE_NODES, SPIN_ALONE, FailureKind::TooManyBranches);
+fn failures_replay(rt: HostRuntime) {
+    find(&rt, &FAILURES);
 }

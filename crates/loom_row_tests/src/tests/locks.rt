@@ -1,38 +1,36 @@
-//! Locks, condition variables, notifiers and threads that wait: what their rows print and find.
-use super::lists::{has_one_run, has_runs};
-use super::litmus::each_run_gives;
-use super::{NONE, ONE, ZERO};
-use loom::Choice;
-use loom_row_bodies::bodies::locks::{
-    CONDVAR_HANDS_OVER, MUTEX_INTO_INNER, NOTIFY_ALL, NOTIFY_WAIT, RWLOCK_READ_TWICE,
-    RWLOCK_WRITE_THEN_TRY_WRITE, UNPARK_THEN_PARK, UNPARK_WAKES, YIELD_BESIDE,
-};
+//! Locks, condition variables, notifiers and threads that wait: what their rows find.
+use super::finding::{Case, Shows, find};
 use loom_row_bodies::rows::WHOLE;
 
-const CALM: Choice = Choice::Spurious(false);
-
-const SPURIOUS: Choice = Choice::Spurious(true);
-
-const WAITS: &[(&[Choice], u64)] = &[
-    (&[ZERO, CALM, ZERO, NONE], 7),
-    (&[ZERO, SPURIOUS, ZERO, NONE], 7),
+static CASES: [Case; 9] = [
+    case!("rwlock_read_twice", WHOLE, 1, "complete 1; t0 t0 t- = 7"),
+    case!(
+        "rwlock_write_then_try_write",
+        WHOLE,
+        1,
+        "complete 1; t0 t0 t- = 7"
+    ),
+    case!("unpark_then_park", WHOLE, 1, "complete 1; t- = 7"),
+    case!(
+        "notify_wait",
+        WHOLE,
+        2,
+        "complete 2; t0 s0 t0 t- = 7; t0 s1 t0 t- = 7"
+    ),
+    case!(
+        "yield_beside",
+        WHOLE,
+        2,
+        "complete 2; t1 t1 t0 t- = 7; t1 t0 t1 t- = 7"
+    ),
+    // Main finds the number in every run.
+    results!("mutex_into_inner", WHOLE, "complete; 2"),
+    results!("condvar_hands_over", WHOLE, "complete; 7"),
+    results!("notify_all", WHOLE, "complete; 7"),
+    results!("unpark_wakes", WHOLE, "complete; 7"),
 ];
 
-const YIELDS: &[(&[Choice], u64)] = &[(&[ONE, ONE, ZERO, NONE], 7), (&[ONE, ZERO, ONE, NONE], 7)];
-
 #[test]
-fn waits_have_branch_points(rt: HostRuntime) {
-    has_one_run(&rt, RWLOCK_READ_TWICE, &[ZERO, ZERO, NONE], 7);
-    has_one_run(&rt, RWLOCK_WRITE_THEN_TRY_WRITE, &[ZERO, ZERO, NONE], 7);
-    has_one_run(&rt, UNPARK_THEN_PARK, &[NONE], 7);
-    has_runs(&rt, WHOLE, NOTIFY_WAIT, WAITS);
-    has_runs(&rt, WHOLE, YIELD_BESIDE, YIELDS);
-}
-
-#[test]
-fn main_finds_the_number_in_every_run(rt: HostRuntime) {
-    each_run_gives(&rt, MUTEX_INTO_INNER, 2);
-    each_run_gives(&rt, CONDVAR_HANDS_OVER, 7);
-    each_run_gives(&rt, NOTIFY_ALL, 7);
-    each_run_gives(&rt, UNPARK_WAKES, 7);
+fn locks_and_waits(rt: HostRuntime) {
+    find(&rt, &CASES);
 }

@@ -1,10 +1,7 @@
 //! What the rows print.
-use super::{FIVE_SPAWNS, JOIN_TWICE};
-use loom_row_bodies::bodies::LOCK_BESIDE;
-use loom_row_bodies::bodies::locks::TOO_MANY_LOCKS;
-use loom_row_bodies::rows::{self, Checked, DEFAULTS, LONG_RUNS, Row, WHOLE};
-use loom_row_bodies::settings::Settings;
-use loom_scripts::step::Step;
+use super::texts::{Printed, is_status, put_often, put_text};
+use super::words::says;
+use loom_row_bodies::rows::{all_rows, run_row};
 use std::io::{self, ErrorKind, Write};
 use std::process::Abort;
 use std::rt::Files;
@@ -139,84 +136,74 @@ static LINES: [(&str, &str, u8); 98] = [
     ("guard_left", "failed 2 0 t0 t1 t-\n", 1),
 ];
 
-fn rows_of(rt: &(impl Abort + AllocGlobal)) -> Vec<Row> {
-    rows::all_rows(rt.alloc()).expect(rt, "no memory for the rows")
-}
+static FENCES: [(&str, &str, u8); 2] = [
+    ("fences", "complete 1\n", 0),
+    ("too_many_fences", "failed 10 0\n", 1),
+];
 
-// Runs the row of this name, which answers this status and writes nothing on standard error. Gives what it prints.
-fn printed_by(
+// The rows print these lines, and nothing on standard error.
+fn print(
     rt: &(impl Abort + AllocGlobal + Files),
-    rows: &[Row],
-    name: &str,
-    status: u8,
-) -> Vec<u8> {
-    let mut out = Vec::new(rt.alloc());
-    let mut err = Vec::new(rt.alloc());
-    let answer = rows::run_row(rt, rows, &[name], &mut out, &mut err);
-    assert_eq!(rt; answer, status, "{name}");
-    assert!(rt; err.is_empty(), "{name}");
-    out
-}
-
-// The rows print these lines.
-fn print(rt: &(impl Abort + AllocGlobal + Files), lines: &[(&str, &str, u8)]) {
-    let rows = rows_of(rt);
+    lines: &'static [(&'static str, &'static str, u8)],
+) {
     for (name, line, status) in lines {
-        let out = printed_by(rt, rows.as_slice(), name, *status);
-        assert_eq!(rt; out.as_slice(), line.as_bytes(), "{name}");
+        let printed = Printed {
+            out: *line,
+            goes_on: false,
+            err: "",
+            status: *status,
+        };
+        says(rt, &[*name], &printed);
     }
 }
 
 #[test]
 fn each_row_prints_its_line(rt: HostRuntime) {
-    print(&rt, LINES.as_slice());
+    print(&rt, &LINES);
 }
 
 #[test]
 fn fences_are_counted(rt: HostRuntime) {
-    let lines = [
-        ("fences", "complete 1\n", 0),
-        ("too_many_fences", "failed 10 0\n", 1),
-    ];
-    print(&rt, lines.as_slice());
+    print(&rt, &FENCES);
 }
 
-// Puts the text so often behind the line.
-fn put(rt: &impl Abort, line: &mut Vec<u8>, text: &[u8], times: usize) {
-    for _ in 0..times {
-        line.extend_from_slice(text)
-            .expect(rt, "no memory for the line");
-    }
-}
-
-// A line that begins so, goes on with these choices of main and of the other thread, and ends.
-fn long_line(rt: &(impl Abort + AllocGlobal), begins: &[u8], main: usize, other: usize) -> Vec<u8> {
-    let mut line = Vec::new(rt.alloc());
-    put(rt, &mut line, begins, 1);
-    put(rt, &mut line, b" t0".as_slice(), main);
-    put(rt, &mut line, b" t1".as_slice(), other);
-    put(rt, &mut line, b"\n".as_slice(), 1);
+/// A line that begins so, goes on with these choices of main and of the other thread, and ends.
+pub fn long_line(
+    rt: &(impl Abort + AllocGlobal),
+    begins: &str,
+    main: usize,
+    other: usize,
+    ends: &str,
+) -> String {
+    let mut line = String::new(rt.alloc());
+    put_text(rt, &mut line, begins);
+    put_often(rt, &mut line, " t0", main);
+    put_often(rt, &mut line, " t1", other);
+    put_text(rt, &mut line, ends);
     line
+}
+
+// The row fails and prints this line.
+fn fails(rt: &(impl Abort + AllocGlobal + Files), name: &str, line: &str) {
+    let printed = Printed {
+        out: line,
+        goes_on: false,
+        err: "",
+        status: 1,
+    };
+    says(rt, &[name], &printed);
 }
 
 #[test]
 fn accesses_are_counted(rt: HostRuntime) {
-    let line = long_line(&rt, b"failed 10 0".as_slice(), 65_535, 0);
-    let out = printed_by(&rt, rows_of(&rt).as_slice(), "too_many_locks", 1);
-    assert!(rt; out == line);
-    let settings = Settings {
-        reduce: false,
-        ..LONG_RUNS
-    };
-    let out = printed_of(&rt, &row_of(TOO_MANY_LOCKS, settings), "not reduced");
-    assert!(rt; out == line);
+    let line = long_line(&rt, "failed 10 0", 65_535, 0, "\n");
+    fails(&rt, "too_many_locks", line.as_str());
 }
 
 #[test]
 fn stores_are_counted(rt: HostRuntime) {
-    let line = long_line(&rt, b"failed 11 0".as_slice(), 40_000, 25_536);
-    let out = printed_by(&rt, rows_of(&rt).as_slice(), "too_many_stores", 1);
-    assert!(rt; out == line);
+    let line = long_line(&rt, "failed 11 0", 40_000, 25_536, "\n");
+    fails(&rt, "too_many_stores", line.as_str());
 }
 
 // A writer that takes nothing.
@@ -234,113 +221,13 @@ impl Write for Broken {
 }
 
 #[test]
-fn other_words_print_the_usage(rt: HostRuntime) {
-    let rows = rows_of(&rt);
-    let rows = rows.as_slice();
-    let usage = b"usage: loom_rows NAME [FILE]\n".as_slice();
-    let words = ["no_such_row", "lock_beside", "lock_beside"];
-    for (from, to) in [(0usize, 0usize), (0, 1), (0, 3)] {
-        let mut out = Vec::new(rt.alloc());
-        let mut err = Vec::new(rt.alloc());
-        let answer = rows::run_row(&rt, rows, &words[from..to], &mut out, &mut err);
-        assert_eq!(rt; answer, 2, "{from} to {to}");
-        assert!(rt; out.is_empty(), "{from} to {to}");
-        assert_eq!(rt; err.as_slice(), usage, "{from} to {to}");
-    }
-}
-
-#[test]
 fn a_writer_that_fails_gives_status_2(rt: HostRuntime) {
-    let rows = rows_of(&rt);
+    let rows = all_rows(rt.alloc()).expect(&rt, "no memory for the rows");
     let rows = rows.as_slice();
     let mut taken = Vec::new(rt.alloc());
-    let answer = rows::run_row(&rt, rows, &["lock_beside"], &mut Broken, &mut taken);
-    assert_eq!(rt; answer, 2);
-    let answer = rows::run_row(&rt, rows, &["no_such_row"], &mut taken, &mut Broken);
-    assert_eq!(rt; answer, 2);
+    let status = run_row(&rt, rows, &["lock_beside"], &mut Broken, &mut taken);
+    is_status(&rt, status, 2, "lock_beside");
+    let status = run_row(&rt, rows, &["no_such_row"], &mut taken, &mut Broken);
+    is_status(&rt, status, 2, "no_such_row");
     assert!(rt; taken.is_empty());
-}
-
-// A row of a script, checked with these settings.
-fn row_of(steps: &'static [Step], settings: Settings) -> Row {
-    Row {
-        name: "a row of a test",
-        checked: Checked::Script(steps),
-        settings,
-    }
-}
-
-// Checks lock_beside with these settings, and compares what is printed on standard error.
-fn refuses(rt: &(impl Abort + AllocGlobal + Files), settings: Settings, line: &str) {
-    let row = row_of(LOCK_BESIDE, settings);
-    let mut out = Vec::new(rt.alloc());
-    let mut err = Vec::new(rt.alloc());
-    let status = rows::check_row(rt, &row, None, &mut out, &mut err).expect(rt, line);
-    assert_eq!(rt; status, 2, "{line}");
-    assert!(rt; out.is_empty(), "{line}");
-    assert_eq!(rt; err.as_slice(), line.as_bytes());
-}
-
-#[test]
-fn settings_out_of_range_are_refused(rt: HostRuntime) {
-    for (max_threads, max_branches, line) in [
-        (0, DEFAULTS.max_branches, "error 1\n"),
-        (6, DEFAULTS.max_branches, "error 1\n"),
-        (DEFAULTS.max_threads, 0, "error 2\n"),
-        (DEFAULTS.max_threads, 1_000_001, "error 2\n"),
-    ] {
-        let settings = Settings {
-            max_threads,
-            max_branches,
-            preemption_bound: Some(256),
-            max_steps: 0,
-            ..DEFAULTS
-        };
-        refuses(&rt, settings, line);
-    }
-    let no_steps = Settings {
-        max_steps: 0,
-        ..DEFAULTS
-    };
-    refuses(&rt, no_steps, "error 5\n");
-    let large_bound = Settings {
-        preemption_bound: Some(256),
-        ..no_steps
-    };
-    refuses(&rt, large_bound, "error 3\n");
-}
-
-// Checks the row, which fails. Gives what is printed.
-fn printed_of(rt: &(impl Abort + AllocGlobal + Files), row: &Row, name: &str) -> Vec<u8> {
-    let mut out = Vec::new(rt.alloc());
-    let mut err = Vec::new(rt.alloc());
-    let status = rows::check_row(rt, row, None, &mut out, &mut err).expect(rt, name);
-    assert_eq!(rt; status, 1, "{name}");
-    out
-}
-
-// Checks a script, and compares the line that is printed of a failure.
-fn fails(
-    rt: &(impl Abort + AllocGlobal + Files),
-    steps: &'static [Step],
-    settings: Settings,
-    line: &str,
-) {
-    let out = printed_of(rt, &row_of(steps, settings), line);
-    assert_eq!(rt; out.as_slice(), line.as_bytes());
-}
-
-#[test]
-fn limits_fail_a_run(rt: HostRuntime) {
-    let short = Settings {
-        max_branches: 3,
-        ..WHOLE
-    };
-    fails(&rt, LOCK_BESIDE, short, "failed 9 0 t0 t1 t1\n");
-    fails(&rt, &FIVE_SPAWNS, DEFAULTS, "failed 8 0\n");
-}
-
-#[test]
-fn a_thread_is_joined_once(rt: HostRuntime) {
-    fails(&rt, &JOIN_TWICE, DEFAULTS, "failed 14 0 t1 t1 t0\n");
 }

@@ -1,16 +1,11 @@
 //! Small bodies with the runs of their searches, each of which tells a search from one that is a little wrong.
-use super::{Run, check_of, script};
+use super::finding::{Case, Shows, find};
 use loom::sync::atomic::Ordering::Relaxed;
 use loom_objects::operation::{ArcOp, AtomicOp, MutexOp, Op, ThreadOp};
-use loom_row_bodies::bodies::atomics::{ACQ_REL, THREE_ADDS};
-use loom_row_bodies::bodies::{LOAD_BESIDE, LOCK_BESIDE, TWO_MUTEXES_DEADLOCK};
-use loom_row_bodies::line::ShownChoices;
-use loom_row_bodies::rows::DEFAULTS;
+use loom_row_bodies::rows::{Checked, DEFAULTS, Row, WHOLE};
 use loom_row_bodies::settings::Settings;
-use loom_scripts::number::Number;
 use loom_scripts::step::{END, EXIT, PARK, Step, Value, YIELD};
 use loom_views::rt::num::Numbers;
-use std::process::Abort;
 
 const NEW: Step = Step::Do(0, Op::Atomic(AtomicOp::New(Numbers::U64, 0), None));
 
@@ -171,291 +166,188 @@ const JOINED: &[Step] = &[
     Step::Jump(5),
 ];
 
+static ROWS: [Row; 10] = [
+    row!("stores", STORES),
+    row!("loads", LOADS),
+    row!("store, spawn", STORE_THEN_SPAWN),
+    row!("lock, unpark", UNPARK_AFTER_LOCK),
+    row!("yield, store", YIELD_THEN_STORE),
+    row!("load, store", LOAD_THEN_STORE),
+    row!("clones and drops", CLONES_AND_DROPS),
+    row!("count and drops", COUNT_AND_DROPS),
+    row!("three stores", THREE_STORES),
+    row!("joined", JOINED),
+];
+
 /// The bodies with their names, but for those that are rows.
-pub static BODIES: [(&str, &[Step]); 10] = [
-    ("stores", STORES),
-    ("loads", LOADS),
-    ("store, spawn", STORE_THEN_SPAWN),
-    ("lock, unpark", UNPARK_AFTER_LOCK),
-    ("yield, store", YIELD_THEN_STORE),
-    ("load, store", LOAD_THEN_STORE),
-    ("clones and drops", CLONES_AND_DROPS),
-    ("count and drops", COUNT_AND_DROPS),
-    ("three stores", THREE_STORES),
-    ("joined", JOINED),
-];
-
-// A body, how it is searched, how many runs end, and the first ones of these.
-struct Case {
-    name: &'static str,
-    steps: &'static [Step],
-    reduce: bool,
-    bound: Option<usize>,
-    runs: usize,
-    lists: &'static [&'static str],
+pub fn rows() -> &'static [Row] {
+    &ROWS
 }
 
-// A search that isn't reduced.
-macro_rules! whole {
-    ($name:expr, $steps:expr, $bound:expr, $runs:expr, $lists:expr) => {
-        Case {
-            name: $name,
-            steps: $steps,
-            reduce: false,
-            bound: $bound,
-            runs: $runs,
-            lists: $lists,
+// At most so many preemptions.
+macro_rules! by {
+    ($bound:expr, $settings:expr) => {
+        Settings {
+            preemption_bound: Some($bound),
+            ..$settings
         }
     };
 }
 
-macro_rules! reduced {
-    ($name:expr, $steps:expr, $bound:expr, $runs:expr, $lists:expr) => {
-        Case {
-            name: $name,
-            steps: $steps,
-            reduce: true,
-            bound: $bound,
-            runs: $runs,
-            lists: $lists,
-        }
-    };
-}
+const WHOLE_BY_0: Settings = by!(0, WHOLE);
 
-const LOCK: &[&str] = &["t0 t1 t1 t-", "t1 t1 t0 t-", "t1 t0 t1 t-"];
+const WHOLE_BY_1: Settings = by!(1, WHOLE);
 
-const LOAD_OR_STORE: &[&str] = &[
-    "t0 l0 t1 t1 t1 t-",
-    "t1 t1 t1 t0 l0 t-",
-    "t1 t1 t1 t0 l1 t-",
-    "t1 t0 l0 t1 t1 t-",
-];
+const WHOLE_BY_2: Settings = by!(2, WHOLE);
 
-const TWO_STORES: &[&str] = &["t0 t1 t1 t1 t-", "t1 t1 t1 t0 t-", "t1 t0 t1 t1 t-"];
+const REDUCED_BY_0: Settings = by!(0, DEFAULTS);
+
+const REDUCED_BY_1: Settings = by!(1, DEFAULTS);
+
+const REDUCED_BY_2: Settings = by!(2, DEFAULTS);
 
 static CASES: [Case; 35] = [
-    whole!("lock beside", LOCK_BESIDE, None, 3, LOCK),
-    whole!("lock beside", LOCK_BESIDE, Some(0), 1, &["t0 t1 t1 t-"]),
-    whole!(
-        "lock beside",
-        LOCK_BESIDE,
-        Some(1),
-        2,
-        &["t0 t1 t1 t-", "t1 t1 t0 t-"]
-    ),
-    reduced!("lock beside", LOCK_BESIDE, None, 1, &["t0 t1 t1 t-"]),
-    reduced!("load beside", LOAD_BESIDE, None, 4, LOAD_OR_STORE),
-    reduced!(
-        "load beside",
-        LOAD_BESIDE,
-        Some(0),
-        1,
-        &["t0 l0 t1 t1 t1 t-"]
-    ),
-    reduced!(
-        "load beside",
-        LOAD_BESIDE,
-        Some(1),
+    case!(
+        "lock_beside",
+        WHOLE,
         3,
-        &[
-            "t0 l0 t1 t1 t1 t-",
-            "t1 t1 t1 t0 l0 t-",
-            "t1 t1 t1 t0 l1 t-"
-        ]
+        "complete 3; t0 t1 t1 t- = 7; t1 t1 t0 t- = 7; t1 t0 t1 t- = 7"
     ),
-    whole!("stores", STORES, None, 4, &[]),
-    reduced!("stores", STORES, None, 3, TWO_STORES),
-    reduced!("stores", STORES, Some(0), 1, &["t0 t1 t1 t1 t-"]),
-    reduced!(
+    case!("lock_beside", WHOLE_BY_0, 1, "complete 1; t0 t1 t1 t- = 7"),
+    case!(
+        "lock_beside",
+        WHOLE_BY_1,
+        2,
+        "complete 2; t0 t1 t1 t- = 7; t1 t1 t0 t- = 7"
+    ),
+    case!("lock_beside", DEFAULTS, 1, "complete 1; t0 t1 t1 t- = 7"),
+    case!(
+        "load_beside",
+        DEFAULTS,
+        4,
+        "complete 4; t0 l0 t1 t1 t1 t- = 0; t1 t1 t1 t0 l0 t- = 0; t1 t1 t1 t0 l1 t- = 1; t1 t0 l0 t1 t1 t- = 0"
+    ),
+    case!(
+        "load_beside",
+        REDUCED_BY_0,
+        1,
+        "complete 1; t0 l0 t1 t1 t1 t- = 0"
+    ),
+    case!(
+        "load_beside",
+        REDUCED_BY_1,
+        3,
+        "complete 3; t0 l0 t1 t1 t1 t- = 0; t1 t1 t1 t0 l0 t- = 0; t1 t1 t1 t0 l1 t- = 1"
+    ),
+    case!("stores", WHOLE, 0, "complete 4"),
+    case!(
         "stores",
-        STORES,
-        Some(1),
-        2,
-        &["t0 t1 t1 t1 t-", "t1 t1 t1 t0 t-"]
+        DEFAULTS,
+        3,
+        "complete 3; t0 t1 t1 t1 t- = 7; t1 t1 t1 t0 t- = 7; t1 t0 t1 t1 t- = 7"
     ),
-    whole!("loads", LOADS, None, 4, &[]),
-    reduced!("loads", LOADS, None, 1, &["t0 l0 t1 t1 l0 t1 t-"]),
-    whole!("store, spawn", STORE_THEN_SPAWN, None, 15, &[]),
-    reduced!(
+    case!("stores", REDUCED_BY_0, 1, "complete 1; t0 t1 t1 t1 t- = 7"),
+    case!(
+        "stores",
+        REDUCED_BY_1,
+        2,
+        "complete 2; t0 t1 t1 t1 t- = 7; t1 t1 t1 t0 t- = 7"
+    ),
+    case!("loads", WHOLE, 0, "complete 4"),
+    case!("loads", DEFAULTS, 1, "complete 1; t0 l0 t1 t1 l0 t1 t- = 7"),
+    case!("store, spawn", WHOLE, 0, "complete 15"),
+    case!(
         "store, spawn",
-        STORE_THEN_SPAWN,
-        None,
+        DEFAULTS,
         1,
-        &["t0 t1 t1 t2 t2 t2 t-"]
+        "complete 1; t0 t1 t1 t2 t2 t2 t- = 7"
     ),
-    whole!("lock, unpark", UNPARK_AFTER_LOCK, None, 15, &[]),
-    reduced!(
+    case!("lock, unpark", WHOLE, 0, "complete 15"),
+    case!(
         "lock, unpark",
-        UNPARK_AFTER_LOCK,
-        None,
+        DEFAULTS,
         2,
-        &["t1 t0 t0 t1 t1 t1 t2 t2 t-", "t1 t0 t2 t2 t0 t1 t1 t1 t-"]
+        "complete 2; t1 t0 t0 t1 t1 t1 t2 t2 t- = 7; t1 t0 t2 t2 t0 t1 t1 t1 t- = 7"
     ),
-    whole!("yield, store", YIELD_THEN_STORE, None, 97, &[]),
-    reduced!(
+    case!("yield, store", WHOLE, 0, "complete 97"),
+    case!(
         "yield, store",
-        YIELD_THEN_STORE,
-        None,
+        DEFAULTS,
         2,
-        &["t0 t1 t2 t1 t1 t1 t2 t2 t-", "t1 t0 t2 t1 t1 t1 t2 t2 t-"]
+        "complete 2; t0 t1 t2 t1 t1 t1 t2 t2 t- = 7; t1 t0 t2 t1 t1 t1 t2 t2 t- = 7"
     ),
-    whole!("load, store", LOAD_THEN_STORE, None, 10, &[]),
-    reduced!(
+    case!("load, store", WHOLE, 0, "complete 10"),
+    case!(
         "load, store",
-        LOAD_THEN_STORE,
-        None,
+        DEFAULTS,
         3,
-        &[
-            "t0 l0 t0 t1 t1 t1 t-",
-            "t0 l0 t1 t1 t1 t0 t-",
-            "t0 l0 t1 t0 t1 t1 t-"
-        ]
+        "complete 3; t0 l0 t0 t1 t1 t1 t- = 7; t0 l0 t1 t1 t1 t0 t- = 7; t0 l0 t1 t0 t1 t1 t- = 7"
     ),
-    whole!("load, store", LOAD_THEN_STORE, Some(1), 3, &[]),
-    reduced!(
+    case!("load, store", WHOLE_BY_1, 0, "complete 3"),
+    case!(
         "load, store",
-        LOAD_THEN_STORE,
-        Some(1),
+        REDUCED_BY_1,
         3,
-        &[
-            "t0 l0 t0 t1 t1 t1 t-",
-            "t0 l0 t1 t1 t1 t0 t-",
-            "t1 t1 t1 t0 l0 t0 t-"
-        ]
+        "complete 3; t0 l0 t0 t1 t1 t1 t- = 7; t0 l0 t1 t1 t1 t0 t- = 7; t1 t1 t1 t0 l0 t0 t- = 7"
     ),
-    reduced!("load, store", LOAD_THEN_STORE, Some(2), 5, &[]),
-    whole!("clones and drops", CLONES_AND_DROPS, None, 21, &[]),
-    reduced!(
+    case!("load, store", REDUCED_BY_2, 0, "complete 5"),
+    case!("clones and drops", WHOLE, 0, "complete 21"),
+    case!(
         "clones and drops",
-        CLONES_AND_DROPS,
-        None,
-        10,
-        &[
-            "t0 t0 t0 t0 t1 t1 t1 t1 t1 t-",
-            "t0 t0 t0 t1 t1 t1 t1 t1 t0 t-",
-            "t0 t0 t0 t1 t1 t1 t0 t1 t1 t-",
-            "t0 t0 t0 t1 t1 t0 t1 t1 t1 t-",
-        ]
+        DEFAULTS,
+        4,
+        "complete 10; t0 t0 t0 t0 t1 t1 t1 t1 t1 t- = 7; t0 t0 t0 t1 t1 t1 t1 t1 t0 t- = 7; t0 t0 t0 t1 t1 t1 t0 t1 t1 t- = 7; t0 t0 t0 t1 t1 t0 t1 t1 t1 t- = 7"
     ),
-    reduced!("count and drops", COUNT_AND_DROPS, None, 14, &[]),
-    whole!("three stores", THREE_STORES, None, 140, &[]),
-    reduced!("three stores", THREE_STORES, None, 26, &[]),
-    whole!("three stores", THREE_STORES, Some(1), 8, &[]),
-    reduced!(
+    case!("count and drops", DEFAULTS, 0, "complete 14"),
+    case!("three stores", WHOLE, 0, "complete 140"),
+    case!("three stores", DEFAULTS, 0, "complete 26"),
+    case!("three stores", WHOLE_BY_1, 0, "complete 8"),
+    case!(
         "three stores",
-        THREE_STORES,
-        Some(1),
+        REDUCED_BY_1,
         6,
-        &[
-            "t0 t1 t1 t1 t2 t2 t2 t-",
-            "t0 t1 t2 t2 t2 t1 t1 t-",
-            "t0 t2 t2 t2 t1 t1 t1 t-",
-            "t0 t2 t1 t1 t1 t2 t2 t-",
-            "t1 t1 t1 t0 t2 t2 t2 t-",
-            "t2 t2 t2 t0 t1 t1 t1 t-",
-        ]
+        "complete 6; t0 t1 t1 t1 t2 t2 t2 t- = 7; t0 t1 t2 t2 t2 t1 t1 t- = 7; t0 t2 t2 t2 t1 t1 t1 t- = 7; t0 t2 t1 t1 t1 t2 t2 t- = 7; t1 t1 t1 t0 t2 t2 t2 t- = 7; t2 t2 t2 t0 t1 t1 t1 t- = 7"
     ),
-    reduced!("three stores", THREE_STORES, Some(2), 16, &[]),
-    whole!("joined", JOINED, None, 21, &[]),
-    reduced!(
+    case!("three stores", REDUCED_BY_2, 0, "complete 16"),
+    case!("joined", WHOLE, 0, "complete 21"),
+    case!(
         "joined",
-        JOINED,
-        None,
+        DEFAULTS,
         2,
-        &["t1 t1 t1 t0 t0 t2 t2 t-", "t1 t1 t2 t2 t1 t0 t0 t-"]
+        "complete 2; t1 t1 t1 t0 t0 t2 t2 t- = 7; t1 t1 t2 t2 t1 t0 t0 t- = 7"
     ),
-    reduced!("joined", JOINED, Some(1), 3, &[]),
+    case!("joined", REDUCED_BY_1, 0, "complete 3"),
 ];
 
-/// The runs that end.
-pub fn ended(
-    rt: &(impl Abort + AllocGlobal),
-    steps: &'static [Step],
-    reduce: bool,
-    bound: Option<usize>,
-) -> Vec<Run> {
-    let settings = Settings {
-        reduce,
-        preemption_bound: bound,
-        ..DEFAULTS
-    };
-    check_of(rt, settings, &script(rt, steps)).runs
-}
+// A deadlock comes after three runs.
+static CROSSWISE: [Case; 1] = [case!(
+    "two_mutexes_deadlock",
+    DEFAULTS,
+    3,
+    "failed 2 3 t1 t1 t2 t2 t-; t1 t1 t1 t1 t0 t2 t2 t2 t2 t0 t- = 0; t1 t1 t1 t2 t2 t2 t2 t1 t0 t0 t- = 0; t1 t1 t1 t2 t2 t2 t1 t0 t2 t0 t- = 0"
+)];
 
-// The choices of the run are these.
-fn is_list(rt: &(impl Abort + AllocGlobal), run: &Run, list: &str, name: &str) {
-    let shown = ShownChoices(run.choices.as_slice());
-    let shown = format!(in rt.alloc(); "{shown}").expect(rt, name);
-    let found = shown.as_str().strip_prefix(" ");
-    assert_eq!(rt; found, Some(list), "{name}");
-}
-
-// The runs begin with these.
-fn begin_with(rt: &(impl Abort + AllocGlobal), runs: &[Run], lists: &[&str], name: &str) {
-    assert!(rt; lists.len() <= runs.len(), "{name}");
-    for (run, list) in runs.iter().zip(lists) {
-        is_list(rt, run, list, name);
-    }
-}
-
-// So many runs end, the first of which are these.
-fn makes(rt: &(impl Abort + AllocGlobal), case: &Case) {
-    let name = case.name;
-    let runs = ended(rt, case.steps, case.reduce, case.bound);
-    assert_eq!(rt; runs.len(), case.runs, "{name}");
-    begin_with(rt, runs.as_slice(), case.lists, name);
-}
+// Bounds leave few runs. By `ACQ_REL` both flags may be seen, one of them, or none.
+static BOUNDED: [Case; 6] = [
+    case!("three_adds", WHOLE_BY_1, 0, "complete 16"),
+    case!("three_adds", WHOLE_BY_2, 0, "complete 84"),
+    case!("three_adds", REDUCED_BY_1, 0, "complete 12"),
+    case!("three_adds", REDUCED_BY_2, 0, "complete 68"),
+    case!("flags", REDUCED_BY_1, 0, "complete 412"),
+    results!("flags", REDUCED_BY_1, "complete; 0; 1; 10; 11"),
+];
 
 #[test]
 fn searches_make_these_runs(rt: HostRuntime) {
-    for case in &CASES {
-        makes(&rt, case);
-    }
+    find(&rt, &CASES);
 }
-
-static CROSSWISE: Case = Case {
-    name: "crosswise",
-    steps: TWO_MUTEXES_DEADLOCK,
-    reduce: true,
-    bound: None,
-    runs: 3,
-    lists: &[
-        "t1 t1 t1 t1 t0 t2 t2 t2 t2 t0 t-",
-        "t1 t1 t1 t2 t2 t2 t2 t1 t0 t0 t-",
-        "t1 t1 t1 t2 t2 t2 t1 t0 t2 t0 t-",
-    ],
-};
 
 #[test]
 fn a_deadlock_comes_after_three_runs(rt: HostRuntime) {
-    makes(&rt, &CROSSWISE);
+    find(&rt, &CROSSWISE);
 }
 
-// How many runs there are by each bound, where the search is reduced and where it isn't.
 #[test]
 fn bounds_leave_few_runs(rt: HostRuntime) {
-    for (reduce, bound, runs) in [
-        (false, 1usize, 16usize),
-        (false, 2, 84),
-        (true, 1, 12),
-        (true, 2, 68),
-    ] {
-        assert_eq!(rt; ended(&rt, THREE_ADDS, reduce, Some(bound)).len(), runs);
-    }
-}
-
-// What the two threads that wait have found, added up.
-fn sum_of(run: &Run) -> u64 {
-    let Number(both) = run.value;
-    (both / 10).saturating_add(both % 10)
-}
-
-#[test]
-fn both_flags_may_be_seen(rt: HostRuntime) {
-    let runs = ended(&rt, ACQ_REL, true, Some(1));
-    assert_eq!(rt; runs.len(), 412);
-    for sum in 0..3u64 {
-        assert!(rt; runs.iter().any(|run| sum_of(run) == sum), "{sum}");
-    }
-    assert!(rt; runs.iter().all(|run| sum_of(run) <= 2));
+    find(&rt, &BOUNDED);
 }

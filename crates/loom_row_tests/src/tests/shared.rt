@@ -5,6 +5,7 @@ use loom_objects::operation::{
     AtomicOp, AtomicWakerOp, CellOp, ChannelOp, ExploreOp, LazyOp, LocalOp, MutexOp, NotifyOp, Op,
     ThreadOp, WakerOp,
 };
+use loom_row_bodies::rows::{Checked, DEFAULTS, Row};
 use loom_scripts::step::{END, EXIT, Step, Value, YIELD};
 use loom_views::rt::num::Numbers;
 
@@ -355,20 +356,25 @@ const WAIT: Step = Step::Do(0, Op::Notify(NotifyOp::Wait(0), None));
 
 const NOTIFY: Step = Step::Do(0, Op::Notify(NotifyOp::Notify(0), None));
 
-pub static BODIES: [(&str, &[Step]); 15] = [
-    ("drop beside sends", DROP_BESIDE_SENDS),
-    ("try beside receive", TRY_BESIDE_RECV),
-    ("drain beside receive", DRAIN_BESIDE_RECV),
-    ("read behind receive", READ_BEHIND_RECV),
-    ("read too early", READ_TOO_EARLY),
-    ("receive beside drops", RECV_BESIDE_DROPS),
-    ("register twice", REGISTER_TWICE),
-    ("wake beside register", WAKE_BESIDE_REGISTER),
-    ("wait beside wake", WAIT_BESIDE_WAKE),
-    ("read behind drops", READ_BEHIND_DROPS),
-    ("lazy beside", LAZY_BESIDE),
-    ("locals beside", LOCALS_BESIDE),
-    ("stop between", STOP_BETWEEN),
-    ("skip beside", SKIP_BESIDE),
-    ("wait without", WAIT_WITHOUT),
+static ROWS: [Row; 15] = [
+    row!("drop beside sends", DROP_BESIDE_SENDS),
+    row!("try beside receive", TRY_BESIDE_RECV),
+    row!("drain beside receive", DRAIN_BESIDE_RECV),
+    row!("read behind receive", READ_BEHIND_RECV),
+    row!("read too early", READ_TOO_EARLY),
+    row!("receive beside drops", RECV_BESIDE_DROPS),
+    row!("register twice", REGISTER_TWICE),
+    row!("wake beside register", WAKE_BESIDE_REGISTER),
+    row!("wait beside wake", WAIT_BESIDE_WAKE),
+    row!("read behind drops", READ_BEHIND_DROPS),
+    row!("lazy beside", LAZY_BESIDE),
+    row!("locals beside", LOCALS_BESIDE),
+    row!("stop between", STOP_BETWEEN),
+    row!("skip beside", SKIP_BESIDE),
+    row!("wait without", WAIT_WITHOUT),
 ];
+
+/// The bodies with their names.
+pub fn rows() -> &'static [Row] {
+    &ROWS
+}

@@ -1,22 +1,17 @@
 //! Threads' own values, and values that are made once a run: what their rows find.
-use super::NONE;
-use super::lists::has_one_run;
-use super::replays::finds;
-use loom::FailureKind;
-use loom_row_bodies::bodies::values::{
-    LAZY_LATE, LAZY_ONCE, LOCAL_ACCESS_ERROR, LOCAL_GONE, LOCAL_ORDER, LOCAL_TWICE,
-};
+use super::finding::{Case, Shows, find};
+use loom_row_bodies::rows::{DEFAULTS, WHOLE};
+
+static CASES: [Case; 6] = [
+    case!("lazy_once", WHOLE, 1, "complete 1; t- = 5"),
+    case!("local_order", WHOLE, 1, "complete 1; t- = 7"),
+    case!("local_access_error", WHOLE, 1, "complete 1; t- = 7"),
+    case!("lazy_late", DEFAULTS, 0, "failed 17 0 t1"),
+    case!("local_twice", DEFAULTS, 0, "failed 22 0"),
+    case!("local_gone", DEFAULTS, 0, "failed 18 0"),
+];
 
 #[test]
-fn values_have_no_branch_point(rt: HostRuntime) {
-    has_one_run(&rt, LAZY_ONCE, &[NONE], 5);
-    has_one_run(&rt, LOCAL_ORDER, &[NONE], 7);
-    has_one_run(&rt, LOCAL_ACCESS_ERROR, &[NONE], 7);
-}
-
-#[test]
-fn failures_of_values_replay(rt: HostRuntime) {
-    finds(&rt, LAZY_LATE, FailureKind::LazyShutdown);
-    finds(&rt, LOCAL_TWICE, FailureKind::KeyTaken);
-    finds(&rt, LOCAL_GONE, FailureKind::LocalGone);
+fn values_of_threads_and_runs(rt: HostRuntime) {
+    find(&rt, &CASES);
 }

@@ -1,34 +1,22 @@
 //! Wakers and places for them: what their rows find.
-use super::lists::has_one_run;
-use super::replays::finds;
-use super::searches::ended;
-use super::{NONE, Run, ZERO};
-use loom::FailureKind;
-use loom_row_bodies::bodies::wakers::{READY_AT_ONCE, SPURIOUS_POLL, WAKER_LEAK, WAKER_ROUND};
-use loom_scripts::number::Number;
+use super::finding::{Case, Shows, find};
+use loom_row_bodies::rows::{DEFAULTS, WHOLE};
+
+static CASES: [Case; 5] = [
+    case!("ready_at_once", WHOLE, 1, "complete 1; t0 t- = 7"),
+    case!(
+        "waker_round",
+        WHOLE,
+        1,
+        "complete 1; t0 t0 t0 t0 t0 t0 t- = 7"
+    ),
+    // Main polls three times at most, and is seen to do so.
+    case!("spurious_poll", DEFAULTS, 0, "complete 35"),
+    results!("spurious_poll", DEFAULTS, "complete; 1; 2; 3"),
+    case!("waker_leak", DEFAULTS, 0, "failed 5 0 t0 t0 t-"),
+];
 
 #[test]
-fn wakers_have_branch_points(rt: HostRuntime) {
-    has_one_run(&rt, READY_AT_ONCE, &[ZERO, NONE], 7);
-    let choices = [ZERO, ZERO, ZERO, ZERO, ZERO, ZERO, NONE];
-    has_one_run(&rt, WAKER_ROUND, &choices, 7);
-}
-
-// How often main was polled.
-fn polls_of(run: &Run) -> u64 {
-    let Number(polls) = run.value;
-    polls
-}
-
-#[test]
-fn three_polls_are_seen(rt: HostRuntime) {
-    let runs = ended(&rt, SPURIOUS_POLL, true, None);
-    assert_eq!(rt; runs.len(), 35);
-    assert!(rt; runs.iter().any(|run| polls_of(run) == 3));
-    assert!(rt; runs.iter().all(|run| (1..=3).contains(&polls_of(run))));
-}
-
-#[test]
-fn a_waker_that_is_left_replays(rt: HostRuntime) {
-    finds(&rt, WAKER_LEAK, FailureKind::LeakArc);
+fn wakers(rt: HostRuntime) {
+    find(&rt, &CASES);
 }

@@ -1,68 +1,121 @@
-//! What the program does with options.
+//! What the program does with words.
+use super::texts::{Printed, is_printed};
 use loom_row_bodies::words::{HELP, run_words};
 use std::process::Abort;
 use std::rt::Files;
-use std::test::Fail;
 
-// What the words print on each of the two writers, and their status.
-fn says(rt: &(impl Abort + AllocGlobal + Files), words: &[&str], out: &str, err: &str, status: u8) {
-    let mut written = Vec::new(rt.alloc());
-    let mut told = Vec::new(rt.alloc());
-    let answer = run_words(rt, words, &mut written, &mut told);
-    assert_eq!(rt; answer, status, "{out}");
-    assert_eq!(rt; written.as_slice(), out.as_bytes());
-    assert_eq!(rt; told.as_slice(), err.as_bytes());
+// Words of the program, and what they print.
+struct Said {
+    words: &'static [&'static str],
+    printed: Printed<'static>,
+}
+
+// What is printed on standard output, on standard error, and the status.
+macro_rules! said {
+    ($words:expr, $out:expr, $err:expr, $status:expr) => {
+        Said {
+            words: $words,
+            printed: Printed {
+                out: $out,
+                goes_on: false,
+                err: $err,
+                status: $status,
+            },
+        }
+    };
+}
+
+const USAGE: &str = "usage: loom_rows NAME [FILE]\n";
+
+const REFUSED: &str =
+    "word 1 is no choice: a choice is `t0` to `t4` or `t-`, `l0` to `l6`, `s0` or `s1`, with a space between two\n";
+
+static WORDS: [Said; 13] = [
+    said!(&[], "", USAGE, 2),
+    said!(&["no_such_row"], "", USAGE, 2),
+    said!(&["no_such_row", "lock_beside", "lock_beside"], "", USAGE, 2),
+    // Few preemptions come first.
+    said!(
+        &["--rising", "two_mutexes_deadlock"],
+        "bound 1 failed 2 2 t1 t1 t2 t2 t-\n",
+        "",
+        1
+    ),
+    said!(&["--rising", "lock_beside"], "bound 3 complete 3\n", "", 0),
+    said!(&["--rising"], "", USAGE, 2),
+    said!(&["--rising", "no_such_row"], "", USAGE, 2),
+    // A failure is explained behind its line.
+    said!(&["--explain", "lock_beside"], "complete 3\n", "", 0),
+    Said {
+        words: &["--explain", "two_mutexes_deadlock"],
+        printed: Printed {
+            out: "failed 2 3 t1 t1 t2 t2 t-\n",
+            goes_on: true,
+            err: "",
+            status: 1,
+        },
+    },
+    said!(&["--explain", "--help"], "", USAGE, 2),
+    said!(&["--other", "lock_beside"], "", USAGE, 2),
+    said!(&["--help"], HELP, "", 0),
+    said!(&["--replay", "x", "finish_only"], "", REFUSED, 2),
+];
+
+// Choices are replayed. Where no run makes one, or it is left over at the end, the run fails behind those before it.
+static REPLAYS: [Said; 6] = [
+    said!(
+        &["--replay", "t1 t1 t2 t2 t-", "two_mutexes_deadlock"],
+        "failed 2 t1 t1 t2 t2 t-\n",
+        "",
+        1
+    ),
+    said!(&["--replay", "", "finish_only"], "ended t-\n", "", 0),
+    said!(
+        &["--replay", "t1 t1 t1", "lock_beside_reduced"],
+        "failed 20 t1 t1\n",
+        "",
+        1
+    ),
+    said!(
+        &["--replay", "t1 t2", "lock_beside_reduced"],
+        "failed 20 t1\n",
+        "",
+        1
+    ),
+    said!(
+        &["--replay", "l0", "lock_beside_reduced"],
+        "failed 20\n",
+        "",
+        1
+    ),
+    said!(
+        &["--replay", "t0 t1 t1 t- t-", "lock_beside_reduced"],
+        "failed 20 t0 t1 t1 t-\n",
+        "",
+        1
+    ),
+];
+
+/// The words print this.
+pub fn says(rt: &(impl Abort + AllocGlobal + Files), words: &[&str], printed: &Printed) {
+    let mut out = Vec::new(rt.alloc());
+    let mut err = Vec::new(rt.alloc());
+    let status = run_words(rt, words, &mut out, &mut err);
+    is_printed(rt, out.as_slice(), err.as_slice(), status, printed);
+}
+
+fn say(rt: &(impl Abort + AllocGlobal + Files), table: &'static [Said]) {
+    for said in table {
+        says(rt, said.words, &said.printed);
+    }
 }
 
 #[test]
-fn few_preemptions_come_first(rt: HostRuntime) {
-    let line = "bound 1 failed 2 2 t1 t1 t2 t2 t-\n";
-    says(&rt, &["--rising", "two_mutexes_deadlock"], line, "", 1);
-    says(
-        &rt,
-        &["--rising", "lock_beside"],
-        "bound 3 complete 3\n",
-        "",
-        0,
-    );
+fn words_print_these_texts(rt: HostRuntime) {
+    say(&rt, &WORDS);
 }
 
 #[test]
 fn choices_are_replayed(rt: HostRuntime) {
-    let choices = "t1 t1 t2 t2 t-";
-    let line = "failed 2 t1 t1 t2 t2 t-\n";
-    says(
-        &rt,
-        &["--replay", choices, "two_mutexes_deadlock"],
-        line,
-        "",
-        1,
-    );
-    says(&rt, &["--replay", "", "finish_only"], "ended t-\n", "", 0);
-    let refused =
-        "word 1 is no choice: a choice is `t0` to `t4` or `t-`, `l0` to `l6`, `s0` or `s1`, with a space between two\n";
-    says(&rt, &["--replay", "x", "finish_only"], "", refused, 2);
-}
-
-#[test]
-fn a_failure_is_explained_behind_its_line(rt: HostRuntime) -> Result<(), Fail> {
-    says(&rt, &["--explain", "lock_beside"], "complete 3\n", "", 0);
-    let mut written = Vec::new(rt.alloc());
-    let mut told = Vec::new(rt.alloc());
-    let words = ["--explain", "two_mutexes_deadlock"];
-    assert_eq!(rt; run_words(&rt, &words, &mut written, &mut told), 1);
-    let line = b"failed 2 3 t1 t1 t2 t2 t-\n".as_slice();
-    assert!(rt; written.as_slice().starts_with(line));
-    assert!(rt; written.len() > line.len());
-    Ok(())
-}
-
-#[test]
-fn other_options_print_the_usage(rt: HostRuntime) {
-    let usage = "usage: loom_rows NAME [FILE]\n";
-    says(&rt, &["--help"], HELP, "", 0);
-    says(&rt, &["--rising"], "", usage, 2);
-    says(&rt, &["--rising", "no_such_row"], "", usage, 2);
-    says(&rt, &["--explain", "--help"], "", usage, 2);
-    says(&rt, &["--other", "lock_beside"], "", usage, 2);
+    say(&rt, &REPLAYS);
 }
