@@ -16,13 +16,18 @@ ghost use Rattle.loom_stores.specs.Stores.{Counts};
 use loom::error::CheckError;
 use loom::model::{Builder, Report};
 use loom::visitor::Visitor;
-use loom::{CheckpointStore, Choice, MemoryStore, NoClock, StoreError};
+use loom::{CheckpointStore, Choice, Clock, MemoryStore, StoreError};
+use loom_row_bodies::bodies::LOCK_BESIDE;
 use loom_row_bodies::line::{ShownChoices, ShownReport};
+use loom_row_bodies::rows::{DEFAULTS, WHOLE};
+use loom_row_bodies::settings::{Builds, Settings};
 use loom_scripts::number::Number;
 use loom_scripts::script::Script;
 use loom_scripts::step::Step;
 use std::alloc::{AllocError, Global};
+use std::fmt::{Debug, Display};
 use std::process::Abort;
+use std::time::Duration;
 
 // The text with which a check of two threads goes on after its second run.
 const TWO_NODES: &str =
@@ -36,106 +41,121 @@ const ONE_NODE: &str =
 const NO_NODES: &str =
     "{\"exploring\":true,\"nodes\":[],\"preemption_bound\":null,\"reduce\":false,\"version\":1}";
 
-// Keeps the choices of each run that it is given, a line for each.
+// What stands before the nodes in such a text, and what stands behind them.
+const HEAD: &str = "{\"exploring\":true,\"nodes\":[";
+
+const WHOLE_END: &str = "],\"preemption_bound\":null,\"reduce\":false,\"version\":1}";
+
+static NAMES: [(&str, &str); 3] = [
+    (NO_NODES, "no nodes"),
+    (ONE_NODE, "one node"),
+    (TWO_NODES, "two nodes"),
+];
+
+// What tests call the text.
+fn name_of(text: &str) -> &'static str {
+    for (known, name) in &NAMES {
+        if text == *known {
+            return *name;
+        }
+    }
+    "another text"
+}
+
+// Ends the test where this isn't what was wanted. A call of it costs the proof less than an assertion where it stands.
+fn same<T: PartialEq + Debug + Drop>(rt: &impl Abort, found: T, wanted: T) {
+    assert_eq!(rt; found, wanted);
+}
+
+// What checks gave, in lines, among them one for each run that it is given. Where memory for a piece is refused it is missing,
+// and no test wants such a text.
 #[derive(Drop)]
-struct Lines {
-    alloc: Global,
+struct Page {
     text: String,
 }
 
-impl Lines {
-    fn new(alloc: Global) -> Lines {
-        Lines {
-            alloc,
+impl Page {
+    fn new(alloc: Global) -> Page {
+        Page {
             text: String::new(alloc),
+        }
+    }
+
+    // A page of these parts.
+    fn of(alloc: Global, parts: &[&str]) -> Page {
+        let mut page = Page::new(alloc);
+        for part in parts {
+            let _ = page.text.push_str(*part);
+        }
+        page
+    }
+
+    // A line that begins with this word.
+    fn put(&mut self, word: &str, shown: &impl Display) {
+        let _ = write!(self.text, "{word}{shown}\n");
+    }
+
+    // A line as a programmer reads it.
+    fn put_debug(&mut self, shown: &impl Debug) {
+        let _ = write!(self.text, "{shown:?}\n");
+    }
+
+    // The line of a report, and where a limit was reached which one, and with which text the check goes on.
+    fn put_report(&mut self, report: &Report) {
+        self.put("", &ShownReport(report));
+        if let Report::Stopped {
+            limit,
+            checkpoint,
+            ..
+        } = report
+        {
+            self.put("by ", limit);
+            self.put("at ", &name_of(checkpoint.as_str()));
+        }
+    }
+
+    // The same, or the number of the error.
+    fn put_found(&mut self, found: &Result<Report, CheckError>) {
+        match found {
+            Ok(report) => self.put_report(report),
+            Err(error) => self.put("error ", &error.number()),
         }
     }
 }
 
-impl Visitor<Number> for Lines {
+impl Visitor<Number> for Page {
     ghost takes = { λ old choices value new. Unit {0} };
 
     fn run(&mut self, choices: &[Choice], _value: Number) -> Result<(), AllocError> {
-        let shown = ShownChoices(choices);
-        let line = format!(in self.alloc; "{shown}\n")?;
-        self.text.push_str(line.as_str())?;
+        self.put("", &ShownChoices(choices));
         Ok(())
     }
 }
 
-// The script with these steps.
-fn script(rt: &(impl Abort + AllocGlobal), steps: &'static [Step]) -> Script {
-    Script::new(rt.alloc(), steps).expect(rt, "no memory for the script")
+// Two seconds have passed from its third answer on, and no time before.
+#[derive(Drop)]
+struct Slow {
+    answers: u64,
 }
 
-// What a check of the script comes to, of whose runs there are lines.
-fn checked<R: Abort + AllocGlobal, S: CheckpointStore>(
-    rt: &R,
-    builder: &Builder,
-    steps: &'static [Step],
-    lines: &mut Lines,
-    store: &mut S,
-) -> Result<Report, CheckError> {
-    let body = script(rt, steps);
-    let log = None::<HostRuntime>;
-    builder.check_with(rt.alloc(), &body, lines, &mut NoClock, store, &log)
-}
+impl Clock for Slow {
+    ghost answered = { λ _ _. Unit {0} };
 
-// The line of a report, or of an error.
-fn line_of(alloc: Global, found: &Result<Report, CheckError>) -> Result<String, AllocError> {
-    match found {
-        Ok(report) => {
-            let shown = ShownReport(report);
-            format!(in alloc; "{shown}")
-        }
-        Err(error) => {
-            let number = error.number();
-            format!(in alloc; "error {number}")
+    fn elapsed(&mut self) -> Duration {
+        self.answers = self.answers.saturating_add(1);
+        if self.answers > 2 {
+            Duration::from_secs(2)
+        } else {
+            Duration::ZERO
         }
     }
 }
 
-// What a check of the script gives: a line for each run that the visitor is given, and the line of the report or of the error.
-fn given<R: Abort + AllocGlobal, S: CheckpointStore>(
-    rt: &R,
-    builder: &Builder,
-    steps: &'static [Step],
-    store: &mut S,
-) -> String {
-    let mut lines = Lines::new(rt.alloc());
-    let found = checked(rt, builder, steps, &mut lines, store);
-    let line = line_of(rt.alloc(), &found).expect(rt, "no memory for the line");
-    lines
-        .text
-        .push_str(line.as_str())
-        .expect(rt, "no memory for the lines");
-    lines.text
-}
-
-// A check of the script gives this.
-fn gives<R: Abort + AllocGlobal, S: CheckpointStore>(
-    rt: &R,
-    builder: &Builder,
-    steps: &'static [Step],
-    store: &mut S,
-    text: &str,
-) {
-    let found = given(rt, builder, steps, store);
-    assert_eq!(rt; found.as_str(), text);
-}
-
-// A store that holds this text.
-fn holding(rt: &(impl Abort + AllocGlobal), text: &[u8]) -> MemoryStore {
-    let mut store = MemoryStore::new(rt.alloc());
-    store.text = Some(Vec::from_slice(rt.alloc(), text).expect(rt, "no memory for the text"));
-    store
-}
-
-// Keeps each text that is saved. Its call of this number meets a fault; the load is the first one.
+// A store in memory, and a page on which stands what was saved. Its call of this number meets a fault; the load is the first one.
 #[derive(Drop)]
 struct Shelf {
-    alloc: Global,
-    texts: Vec<String>,
+    store: MemoryStore,
+    saved: Page,
     calls: u64,
     fails_at: u64,
     faults: u64,
@@ -144,11 +164,26 @@ struct Shelf {
 impl Shelf {
     fn new(alloc: Global, fails_at: u64) -> Shelf {
         Shelf {
-            alloc,
-            texts: Vec::new(alloc),
+            store: MemoryStore::new(alloc),
+            saved: Page::new(alloc),
             calls: 0,
             fails_at,
             faults: 0,
+        }
+    }
+
+    // One that holds this text.
+    fn holding(alloc: Global, text: &[u8]) -> Shelf {
+        let mut shelf = Shelf::new(alloc, 0);
+        shelf.store.text = Vec::from_slice(alloc, text).ok();
+        shelf
+    }
+
+    // The text that it holds.
+    fn held(&self) -> &[u8] {
+        match &self.store.text {
+            Some(text) => text.as_slice(),
+            None => &[],
         }
     }
 
@@ -163,15 +198,6 @@ impl Shelf {
         }
         Ok(())
     }
-
-    // Puts the text behind the others.
-    fn put(&mut self, text: &str) -> Result<(), AllocError>
-        ensures { self.new.faults ≡ self.old.faults }
-    {
-        let copy = String::from_str(self.alloc, text)?;
-        self.texts.push(copy)?;
-        Ok(())
-    }
 }
 
 impl CheckpointStore for Shelf {
@@ -181,14 +207,18 @@ impl CheckpointStore for Shelf {
 
     ghost fault_count = { λ shelf. shelf.faults };
 
-    fn load(&mut self, _alloc: Global) -> Result<Option<Vec<u8>>, StoreError> {
+    fn load(&mut self, alloc: Global) -> Result<Option<Vec<u8>>, StoreError> {
         self.call()?;
-        Ok(None)
+        match self.store.load(alloc) {
+            Ok(text) => Ok(text),
+            Err(_) => Err(StoreError::Memory),
+        }
     }
 
     fn save(&mut self, text: &str) -> Result<(), StoreError> {
         self.call()?;
-        match self.put(text) {
+        self.saved.put("saves ", &name_of(text));
+        match self.store.save(text) {
             Ok(()) => Ok(()),
             Err(_) => Err(StoreError::Memory),
         }
@@ -196,5 +226,98 @@ impl CheckpointStore for Shelf {
 
     fn faults(&self) -> u64 {
         self.faults
+    }
+}
+
+// Puts on the page what a check of the script gives: a line for each run, the line of the report or of the error, how often the
+// clock was asked and how many faults the store met, if any, and what was saved.
+fn check(
+    alloc: Global,
+    builder: &Builder,
+    steps: &'static [Step],
+    page: &mut Page,
+    shelf: &mut Shelf,
+) {
+    let mut clock = Slow { answers: 0 };
+    if let Ok(body) = Script::new(alloc, steps) {
+        let log = None::<HostRuntime>;
+        let found = builder.check_with(alloc, &body, page, &mut clock, shelf, &log);
+        page.put_found(&found);
+    }
+    put_shelf(page, &clock, shelf);
+}
+
+// How often the clock was asked and how many faults the store met, if any, and what was saved.
+fn put_shelf(page: &mut Page, clock: &Slow, shelf: &Shelf) {
+    if clock.answers > 0 {
+        page.put("asked ", &clock.answers);
+    }
+    if shelf.faults > 0 {
+        page.put("faults ", &shelf.faults);
+    }
+    let _ = page.text.push_str(shelf.saved.text.as_str());
+}
+
+// A check of the script gives this.
+fn gives(
+    rt: &(impl Abort + AllocGlobal),
+    builder: &Builder,
+    steps: &'static [Step],
+    shelf: &mut Shelf,
+    text: &str,
+) {
+    let mut page = Page::new(rt.alloc());
+    check(rt.alloc(), builder, steps, &mut page, shelf);
+    same(rt, page.text.as_str(), text);
+}
+
+// The steps of lock_beside. A proof costs seconds where its function names the steps of a body, and next to nothing where it calls
+// this.
+fn lock_beside() -> &'static [Step] {
+    LOCK_BESIDE
+}
+
+// How lock_beside is checked, and what that gives.
+struct Case {
+    settings: Settings,
+    max_seconds: Option<u64>,
+    interval: usize,
+    fails_at: u64,
+    gives: &'static str,
+}
+
+const DEFAULT_CASE: Case = Case {
+    settings: DEFAULTS,
+    max_seconds: None,
+    interval: 20_000,
+    fails_at: 0,
+    gives: "",
+};
+
+const WHOLE_CASE: Case = Case {
+    settings: WHOLE,
+    ..DEFAULT_CASE
+};
+
+impl Case {
+    fn builder(&self) -> Builder {
+        let mut builder = self.settings.builder();
+        builder.checkpoint_interval = self.interval;
+        if let Some(seconds) = self.max_seconds {
+            builder.max_duration = Some(Duration::from_secs(seconds));
+        }
+        builder
+    }
+}
+
+// It gives its text, with a store of its own that holds none.
+fn case_holds(rt: &(impl Abort + AllocGlobal), case: &Case) {
+    let mut shelf = Shelf::new(rt.alloc(), case.fails_at);
+    gives(rt, &case.builder(), lock_beside(), &mut shelf, case.gives);
+}
+
+fn cases_hold(rt: &(impl Abort + AllocGlobal), cases: &[Case]) {
+    for case in cases {
+        case_holds(rt, case);
     }
 }

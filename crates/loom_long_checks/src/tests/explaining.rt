@@ -1,105 +1,75 @@
 //! What is told of runs that follow given choices.
-use loom::error::CheckError;
-use loom::explain::{End, Event, Explanation, Options};
+use super::{Page, lock_beside, same};
+use loom::Choice;
+use loom::explain::Explanation;
 use loom::model::Builder;
-use loom::{Choice, FailureKind};
-use loom_objects::operation::{MutexOp, Op, Reply, ThreadOp};
-use loom_row_bodies::bodies::LOCK_BESIDE;
+use loom_objects::operation::{Op, ThreadOp};
+use loom_row_bodies::rows::DEFAULTS;
+use loom_row_bodies::settings::{Builds, Settings};
 use loom_scripts::script::Script;
 use loom_scripts::step::{FAIL, Step};
-use std::alloc::Global;
-use std::test::Fail;
+use std::process::Abort;
 
 // Main waits for a thread, which fails.
-static CHILD_FAILS: [Step; 3] = [
+const CHILD_FAILS: &[Step] = &[
     Step::Do(0, Op::Thread(ThreadOp::Spawn(2, None), None)),
     Step::Do(0, Op::Thread(ThreadOp::Join(0, 0), None)),
     FAIL,
 ];
 
-fn explained(
-    alloc: Global,
+// Puts on the page the events, the run's end, its choices, and what could be chosen at each.
+fn put_told(told: &Explanation, page: &mut Page) {
+    page.put_debug(&told.events);
+    page.put_debug(&told.end);
+    page.put_debug(&told.choices);
+    page.put_debug(&told.options);
+}
+
+// This is told of the run of the script that follows the choices.
+fn tells(
+    rt: &(impl Abort + AllocGlobal),
+    settings: Settings,
     steps: &'static [Step],
     choices: &[Choice],
-) -> Result<Explanation, Fail> {
-    let body = Script::new(alloc, steps)?;
-    Ok(Builder::new().explain(alloc, &body, choices)?)
-}
-
-// Whose events they are, and how many choices were made before each.
-fn turns(alloc: Global, events: &[Event]) -> Result<String, Fail> {
-    let mut text = String::new(alloc);
-    for event in events {
-        let thread = event.thread;
-        let before = event.choices_before;
-        text.push_str(format!(in alloc; " {thread}:{before}")?.as_str())?;
-    }
-    Ok(text)
-}
-
-// The event at this place.
-fn event(events: &[Event], place: usize) -> Result<&Event, &'static str> {
-    events.get(place).ok_or("an event is missing")
-}
-
-#[test]
-fn a_run_that_fails_is_told_up_to_its_last_operation(rt: HostRuntime) -> Result<(), Fail> {
-    let told = explained(rt.alloc(), &CHILD_FAILS, &[])?;
-    let events = told.events.as_slice();
-    assert_eq!(rt; turns(rt.alloc(), events)?.as_str(), " 0:0 0:0 1:1");
-    let first = event(events, 0)?;
-    assert!(rt; matches!(&first.told, Reply::Start));
-    assert!(rt; matches!(&first.op, Op::Thread(ThreadOp::Spawn((), None), _)));
-    let second = event(events, 1)?;
-    assert!(rt; matches!(&second.told, Reply::Spawned(1, None, 0)));
-    assert!(rt; matches!(&second.op, Op::Thread(ThreadOp::Join(1, 0), _)));
-    let last = event(events, 2)?;
-    assert!(rt; matches!(&last.told, Reply::Start));
-    assert!(rt; matches!(&last.op, Op::Fail(_)));
-    let End::Failed(failure) = &told.end else {
-        return Err(Fail::from("the run ended"));
-    };
-    assert_eq!(rt; failure.kind, FailureKind::Assertion);
-    assert_eq!(rt;
-        told.choices.as_slice(),
-        [Choice::Thread(Some(1))].as_slice()
-    );
-    Ok(())
-}
-
-#[test]
-fn the_given_choices_are_followed(rt: HostRuntime) -> Result<(), Fail> {
-    // Thread 1 ends before main locks.
-    let told = explained(rt.alloc(), LOCK_BESIDE, &[Choice::Thread(Some(1))])?;
-    let events = told.events.as_slice();
-    let locking = event(events, 2)?;
-    assert_eq!(rt; locking.thread, 0);
-    assert!(rt; matches!(&locking.op, Op::Mutex(MutexOp::Lock(0), _)));
-    let starting = event(events, 3)?;
-    assert_eq!(rt; starting.thread, 1);
-    assert!(rt; matches!(&starting.told, Reply::Start));
-    assert!(rt; matches!(&told.end, End::Ended));
-    let options = told.options.as_slice();
-    assert_eq!(rt; options.len(), told.choices.len());
-    let Some(Options::Threads(threads)) = options.first() else {
-        return Err(Fail::from("no thread was chosen"));
-    };
-    assert_eq!(rt; threads.as_slice(), [0, 1].as_slice());
-    Ok(())
-}
-
-#[test]
-fn settings_are_refused(rt: HostRuntime) -> Result<(), Fail> {
-    let body = Script::new(rt.alloc(), LOCK_BESIDE)?;
-    let builder = Builder {
-        max_threads: 0,
-        ..Builder::new()
-    };
-    match builder.explain(rt.alloc(), &body, &[]) {
-        Ok(_) => Err(Fail::from("the settings were taken")),
-        Err(error) => {
-            assert_eq!(rt; error, CheckError::MaxThreads(0));
-            Ok(())
+    text: &str,
+) {
+    let mut page = Page::new(rt.alloc());
+    if let Ok(body) = Script::new(rt.alloc(), steps) {
+        match &settings.builder().explain(rt.alloc(), &body, choices) {
+            Ok(told) => put_told(told, &mut page),
+            Err(error) => page.put_debug(error),
         }
     }
+    same(rt, page.text.as_str(), text);
+}
+
+const FAILS: &str =
+    "[Event { thread: 0, told: Start, op: Thread(Spawn((), None), None), choices_before: 0 }, Event { thread: 0, told: Spawned(1, None, 0), op: Thread(Join(1, 0), None), choices_before: 0 }, Event { thread: 1, told: Start, op: Fail(None), choices_before: 1 }]
+Failed(Failure { kind: Assertion, location: None })
+[Thread(Some(1))]
+[Threads([1])]
+";
+
+// Thread 1 ends before main locks.
+const ENDS: &str =
+    "[Event { thread: 0, told: Start, op: Mutex(New(()), None), choices_before: 0 }, Event { thread: 0, told: Mutex(0), op: Thread(Spawn((), None), None), choices_before: 0 }, Event { thread: 0, told: Spawned(1, None, 1), op: Mutex(Lock(0), None), choices_before: 0 }, Event { thread: 1, told: Start, op: Thread(Finish(()), None), choices_before: 1 }, Event { thread: 1, told: Done, op: Thread(Exit, None), choices_before: 2 }, Event { thread: 1, told: Locals([]), op: Thread(End, None), choices_before: 2 }, Event { thread: 0, told: Locked(0, ()), op: Mutex(Release(0, ()), None), choices_before: 3 }, Event { thread: 0, told: Done, op: Thread(Finish(()), None), choices_before: 3 }, Event { thread: 0, told: Lazies([]), op: Thread(Exit, None), choices_before: 3 }, Event { thread: 0, told: Locals([]), op: Thread(End, None), choices_before: 3 }]
+Ended
+[Thread(Some(1)), Thread(Some(1)), Thread(Some(0)), Thread(None)]
+[Threads([0, 1]), Threads([0, 1]), Threads([0]), Threads([])]
+";
+
+const NO_THREADS: Settings = Settings {
+    max_threads: 0,
+    ..DEFAULTS
+};
+
+#[test]
+fn runs_are_told(rt: HostRuntime) {
+    // A run that fails is told up to its last operation.
+    tells(&rt, DEFAULTS, CHILD_FAILS, &[], FAILS);
+    // The given choices are followed.
+    let choices = [Choice::Thread(Some(1))];
+    tells(&rt, DEFAULTS, lock_beside(), &choices, ENDS);
+    // Settings are refused.
+    tells(&rt, NO_THREADS, lock_beside(), &[], "MaxThreads(0)\n");
 }

@@ -1,5 +1,5 @@
 //! The program with a checkpoint file.
-use super::TWO_NODES;
+use super::{TWO_NODES, same};
 use loom_row_bodies::rows::{self, Row};
 use std::fs;
 use std::process::Abort;
@@ -34,28 +34,37 @@ type Call = (&'static [&'static str], &'static str, &'static str, u8);
 
 // The words print this line, or write this error, and give this status.
 fn prints(rt: &(impl Abort + AllocGlobal + Files), rows: &[Row], call: &'static Call) {
-    let (words, line, error, status) = *call;
+    let (words, line, error, status) = call;
     let mut out = Vec::new(rt.alloc());
     let mut err = Vec::new(rt.alloc());
-    let answer = rows::run_row(rt, rows, words, &mut out, &mut err);
-    assert_eq!(rt; out.as_slice(), line.as_bytes(), "{line}{error}");
-    assert_eq!(rt; err.as_slice(), error.as_bytes(), "{line}{error}");
-    assert_eq!(rt; answer, status, "{line}{error}");
+    let answer = rows::run_row(rt, rows, *words, &mut out, &mut err);
+    same(rt, out.as_slice(), line.as_bytes());
+    same(rt, err.as_slice(), error.as_bytes());
+    same(rt, answer, *status);
 }
 
 // The file has the text of two nodes: only a stop is saved, and here each is after the second run.
 fn is_saved(rt: &(impl Abort + AllocGlobal + Files)) {
     let text = fs::read_to_string(rt, FILE).expect(rt, "the file isn't read");
-    assert_eq!(rt; text.as_str(), TWO_NODES);
+    same(rt, text.as_str(), TWO_NODES);
+}
+
+// Whether the file was there, which isn't any more.
+fn is_removed(rt: &impl Files) -> bool {
+    fs::remove_file(rt, FILE).is_ok()
+}
+
+fn calls_print(rt: &(impl Abort + AllocGlobal + Files), rows: &[Row]) {
+    for call in &CALLS {
+        prints(rt, rows, call);
+        is_saved(rt);
+    }
 }
 
 #[test]
 fn the_program_goes_on(rt: HostRuntime) {
-    let _ = fs::remove_file(&rt, FILE);
+    is_removed(&rt);
     let rows = rows::all_rows(rt.alloc()).expect(&rt, "no memory for the rows");
-    for call in &CALLS {
-        prints(&rt, rows.as_slice(), call);
-        is_saved(&rt);
-    }
-    fs::remove_file(&rt, FILE).expect(&rt, "the file isn't removed");
+    calls_print(&rt, rows.as_slice());
+    same(&rt, is_removed(&rt), true);
 }

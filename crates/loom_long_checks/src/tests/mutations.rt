@@ -1,22 +1,120 @@
 //! Texts that are changed at random: each is refused by name, or a check that begins with it ends.
-use super::{holding, script};
+use super::limits::check_alone;
+use super::texts::ZERO;
+use super::{HEAD, Page, Shelf, WHOLE_END, check, lock_beside, same};
 use loom::error::CheckError;
-use loom::model::{Builder, Report};
+use loom::model::Report;
 use loom::visitor::Visitor;
 use loom::{Choice, FailureKind, NoClock};
+use loom_row_bodies::bodies::LOAD_BESIDE;
 use loom_row_bodies::bodies::locks::NOTIFY_WAIT;
-use loom_row_bodies::bodies::{LOAD_BESIDE, LOCK_BESIDE};
 use loom_row_bodies::rows::WHOLE;
-use loom_row_bodies::settings::Builds;
+use loom_row_bodies::settings::{Builds, Settings};
 use loom_scripts::number::Number;
 use loom_scripts::script::Script;
 use loom_scripts::step::Step;
-use std::alloc::AllocError;
+use std::alloc::{AllocError, Global};
+use std::io::Write;
 use std::process::Abort;
 use std::rt::Files;
 
 // How many texts each test changes.
 const MUTATIONS: u64 = 10_000;
+
+// How many runs the search of a body makes that isn't reduced, and the nodes of the text with which it goes on after its first run.
+struct Searched {
+    runs: u64,
+    nodes: &'static [&'static str],
+}
+
+// A schedule that tries thread 1 next.
+const LOCKING: &str =
+    "{\"exploring\":true,\"first\":0,\"schedule\":[\"Visited\",\"Active\",\"Disabled\",\"Disabled\",\"Disabled\"]}";
+
+// A wait that is tried without a notification next.
+const WAITING: &str = "{\"exploring\":true,\"spurious\":true}";
+
+static SEARCHES: [Searched; 3] = [
+    Searched {
+        runs: 3,
+        nodes: &[LOCKING],
+    },
+    Searched {
+        runs: 6,
+        nodes: &[LOCKING],
+    },
+    Searched {
+        runs: 2,
+        nodes: &[ZERO, WAITING],
+    },
+];
+
+// The steps of the bodies.
+fn steps_of(search: usize) -> &'static [Step] {
+    match search {
+        0 => lock_beside(),
+        1 => LOAD_BESIDE,
+        _ => NOTIFY_WAIT,
+    }
+}
+
+// The nodes of all three.
+static POOL: [&str; 4] = [LOCKING, LOCKING, ZERO, WAITING];
+
+// Puts the text behind the bytes. Where memory is refused it is missing.
+fn put(bytes: &mut Vec<u8>, text: &str) {
+    let _ = bytes.extend_from_slice(text.as_bytes());
+}
+
+// The text of the first so many of these nodes, with this one at the place of another, or behind them.
+fn text_of(alloc: Global, nodes: &[&str], many: usize, at: usize, node: &str) -> Vec<u8> {
+    let mut text = Vec::new(alloc);
+    put(&mut text, HEAD);
+    for place in 0..many {
+        let kept = nodes.get(place).copied().unwrap_or(node);
+        put(&mut text, if place == 0 { "" } else { "," });
+        put(&mut text, if place == at { node } else { kept });
+    }
+    put(&mut text, WHOLE_END);
+    text
+}
+
+// The text of a search.
+fn text_at_first(alloc: Global, searched: &Searched) -> Vec<u8> {
+    let many = searched.nodes.len();
+    text_of(alloc, searched.nodes, many, many, "")
+}
+
+// The whole search is complete after so many runs.
+fn is_complete(rt: &(impl Abort + AllocGlobal + Files), steps: &'static [Step], runs: u64) {
+    let mut page = Page::new(rt.alloc());
+    check_alone(rt, &WHOLE.builder(), steps, &mut page);
+    let mut wanted = Page::new(rt.alloc());
+    wanted.put("complete ", &runs);
+    same(rt, page.text.as_str(), wanted.text.as_str());
+}
+
+// It goes on after its first run with this text.
+fn goes_on(rt: &(impl Abort + AllocGlobal), steps: &'static [Step], searched: &Searched) {
+    let first = Settings {
+        max_permutations: Some(1),
+        ..WHOLE
+    };
+    let mut shelf = Shelf::new(rt.alloc(), 0);
+    let mut page = Page::new(rt.alloc());
+    check(rt.alloc(), &first.builder(), steps, &mut page, &mut shelf);
+    let text = text_at_first(rt.alloc(), searched);
+    same(rt, shelf.held(), text.as_slice());
+}
+
+#[test]
+fn searches_go_on_with_their_texts(rt: HostRuntime) {
+    for search in 0..SEARCHES.len() {
+        let searched = &SEARCHES[search];
+        is_complete(&rt, steps_of(search), searched.runs);
+        goes_on(&rt, steps_of(search), searched);
+    }
+}
 
 // Numbers in a fixed order that looks random (Marsaglia's xorshift).
 #[derive(Drop)]
@@ -40,6 +138,66 @@ impl Numbers {
     }
 }
 
+// The text with another node in place of one, with one more, or with one fewer.
+fn with_other_nodes(alloc: Global, numbers: &mut Numbers, nodes: &[&str]) -> Vec<u8> {
+    let node = POOL.get(numbers.below(POOL.len())).copied().unwrap_or("");
+    let many = nodes.len();
+    let kind = numbers.below(3);
+    let at = if kind == 0 { numbers.below(many) } else { many };
+    let count = match kind {
+        0 => many,
+        1 => many.saturating_add(1),
+        _ => many.saturating_sub(1),
+    };
+    text_of(alloc, nodes, count, at, node)
+}
+
+// Puts another byte in place of one.
+fn change_byte(numbers: &mut Numbers, text: &mut [u8]) {
+    let at = numbers.below(text.len());
+    if let Some(place) = text.get_mut(at) {
+        *place = (numbers.next() % 256) as u8;
+    }
+}
+
+// How many digits a text has, and the text with the number in place of the digit before which so many stand.
+fn with_number(text: &[u8], before: usize, number: u64, changed: &mut Vec<u8>) -> usize {
+    let mut digits = 0usize;
+    for byte in text {
+        let is_digit = byte.is_ascii_digit();
+        if is_digit && digits == before {
+            let _ = write!(changed, "{number}");
+        } else {
+            let _ = changed.push(*byte);
+        }
+        if is_digit {
+            digits = digits.saturating_add(1);
+        }
+    }
+    digits
+}
+
+// The text with a number in place of a digit.
+fn with_other_number(alloc: Global, numbers: &mut Numbers, text: &[u8]) -> Vec<u8> {
+    let digits = with_number(text, text.len(), 0, &mut Vec::new(alloc));
+    let before = numbers.below(digits);
+    let bits = numbers.next() % 64;
+    let number = numbers.next() >> bits;
+    let mut changed = Vec::new(alloc);
+    let _ = with_number(text, before, number, &mut changed);
+    changed
+}
+
+fn mutation(alloc: Global, numbers: &mut Numbers, searched: &Searched) -> Vec<u8> {
+    let mut text = text_at_first(alloc, searched);
+    match numbers.below(3) {
+        0 => change_byte(numbers, text.as_mut_slice()),
+        1 => text = with_other_nodes(alloc, numbers, searched.nodes),
+        _ => text = with_other_number(alloc, numbers, text.as_slice()),
+    }
+    text
+}
+
 // Counts the runs that it is given.
 #[derive(Drop)]
 struct Count {
@@ -55,180 +213,11 @@ impl Visitor<Number> for Count {
     }
 }
 
-// A body whose search isn't reduced, how many runs that makes, and the text with which it goes on after its first run.
-#[derive(Drop)]
-struct Searched {
-    body: Script,
-    runs: u64,
-    text: String,
-}
-
-// How many runs a check that completes makes.
-fn runs_of(rt: &(impl Abort + AllocGlobal + Files), builder: &Builder, body: &Script) -> u64 {
-    let report = builder.check(rt, rt.alloc(), body).expect(rt, "no report");
-    match &report {
-        Report::Complete { runs } => *runs,
-        _ => panic!(rt; "the search is not complete"),
-    }
-}
-
-// The text with which a check goes on that stops.
-fn stopped_at(rt: &(impl Abort + AllocGlobal + Files), builder: &Builder, body: &Script) -> String {
-    let report = builder.check(rt, rt.alloc(), body).expect(rt, "no report");
-    match report {
-        Report::Stopped { checkpoint, .. } => checkpoint,
-        _ => panic!(rt; "the search was not stopped"),
-    }
-}
-
-fn search_of(rt: &(impl Abort + AllocGlobal + Files), steps: &'static [Step]) -> Searched {
-    let body = script(rt, steps);
-    let mut builder = WHOLE.builder();
-    let runs = runs_of(rt, &builder, &body);
-    builder.max_permutations = Some(1);
-    let text = stopped_at(rt, &builder, &body);
-    Searched { body, runs, text }
-}
-
-// The nodes in a text, without the braces round each.
-fn nodes_in<'a>(rt: &(impl Abort + AllocGlobal), text: &'a str) -> Vec<&'a str> {
-    let (_, nodes) = text.split_once("[{").expect(rt, "no nodes");
-    let (nodes, _) = nodes.split_once("}],").expect(rt, "no nodes");
-    nodes
-        .split("},{")
-        .collect::<Vec<_>>(rt.alloc())
-        .expect(rt, "no memory for the nodes")
-}
-
-// Puts the text behind the bytes.
-fn put(rt: &impl Abort, bytes: &mut Vec<u8>, text: &str) {
-    bytes
-        .extend_from_slice(text.as_bytes())
-        .expect(rt, "no memory for the text");
-}
-
-// The text of these nodes.
-fn text_of(rt: &(impl Abort + AllocGlobal), nodes: &[&str]) -> Vec<u8> {
-    let mut text = Vec::new(rt.alloc());
-    put(rt, &mut text, "{\"exploring\":true,\"nodes\":[");
-    let mut before = "{";
-    for node in nodes {
-        put(rt, &mut text, before);
-        put(rt, &mut text, node);
-        put(rt, &mut text, "}");
-        before = ",{";
-    }
-    put(
-        rt,
-        &mut text,
-        "],\"preemption_bound\":null,\"reduce\":false,\"version\":1}",
-    );
-    text
-}
-
-// Puts another node in place of one, puts one behind the others, or takes the last one away.
-fn change<'a>(rt: &impl Abort, numbers: &mut Numbers, nodes: &mut Vec<&'a str>, node: &'a str) {
-    match numbers.below(3) {
-        0 => {
-            let at = numbers.below(nodes.len());
-            if let Some(place) = nodes.get_mut(at) {
-                *place = node;
-            }
-        }
-        1 => nodes.push(node).expect(rt, "no memory for the node"),
-        _ => {
-            let _last = nodes.pop();
-        }
-    }
-}
-
-// The text with another node in place of one, with one more, or with one fewer.
-fn with_other_nodes<'a>(
-    rt: &(impl Abort + AllocGlobal),
-    numbers: &mut Numbers,
-    text: &'a str,
-    pool: &[&'a str],
-) -> Vec<u8> {
-    let mut nodes = nodes_in(rt, text);
-    let node = pool.get(numbers.below(pool.len())).expect(rt, "no nodes");
-    change(rt, numbers, &mut nodes, *node);
-    text_of(rt, nodes.as_slice())
-}
-
-// The text with another byte in place of one.
-fn with_other_byte(rt: &(impl Abort + AllocGlobal), numbers: &mut Numbers, text: &str) -> Vec<u8> {
-    let mut bytes = Vec::from_slice(rt.alloc(), text.as_bytes()).expect(rt, "no memory");
-    let at = numbers.below(bytes.len());
-    if let Some(place) = bytes.get_mut(at) {
-        *place = numbers.next().to_le_bytes()[0];
-    }
-    bytes
-}
-
-// The text with the number in place of the digit before which so many stand.
-fn with_number(rt: &(impl Abort + AllocGlobal), text: &str, before: usize, number: u64) -> Vec<u8> {
-    let shown = format!(in rt.alloc(); "{number}").expect(rt, "no memory for the number");
-    let mut bytes = Vec::new(rt.alloc());
-    let mut digits = 0usize;
-    for byte in text.bytes() {
-        let is_replaced = byte.is_ascii_digit() && digits == before;
-        if byte.is_ascii_digit() {
-            digits = digits.saturating_add(1);
-        }
-        if is_replaced {
-            put(rt, &mut bytes, shown.as_str());
-        } else {
-            bytes.push(byte).expect(rt, "no memory for the text");
-        }
-    }
-    bytes
-}
-
-// The text with a number in place of a digit.
-fn with_other_number(
-    rt: &(impl Abort + AllocGlobal),
-    numbers: &mut Numbers,
-    text: &str,
-) -> Vec<u8> {
-    let digits = text.bytes().filter(|byte| byte.is_ascii_digit()).count();
-    let before = numbers.below(digits);
-    let bits = numbers.next() % 64;
-    let number = numbers.next() >> bits;
-    with_number(rt, text, before, number)
-}
-
-fn mutation<'a>(
-    rt: &(impl Abort + AllocGlobal),
-    numbers: &mut Numbers,
-    text: &'a str,
-    pool: &[&'a str],
-) -> Vec<u8> {
-    match numbers.below(3) {
-        0 => with_other_byte(rt, numbers, text),
-        1 => with_other_nodes(rt, numbers, text, pool),
-        _ => with_other_number(rt, numbers, text),
-    }
-}
-
-// What a check comes to that begins with the text.
-fn checked(
-    rt: &(impl Abort + AllocGlobal),
-    body: &Script,
-    text: &[u8],
-    count: &mut Count,
-) -> Result<Report, CheckError> {
-    let builder = WHOLE.builder();
-    let mut store = holding(rt, text);
-    let log = None::<HostRuntime>;
-    builder.check_with(rt.alloc(), body, count, &mut NoClock, &mut store, &log)
-}
-
-// Whether a check that begins with the text is refused by name, meets nodes that aren't the body's in its first run, or makes no
-// more runs than the whole search.
-fn holds(rt: &(impl Abort + AllocGlobal), searched: &Searched, text: &[u8]) -> bool {
-    let mut count = Count { runs: 0 };
-    match &checked(rt, &searched.body, text, &mut count) {
-        Ok(Report::Complete { runs }) => *runs == count.runs && 0 < *runs && *runs <= searched.runs,
+// Whether a check is refused by name, meets nodes that aren't the body's in its first run, or makes no more runs than the whole
+// search, each of which is given.
+fn is_sound(found: &Result<Report, CheckError>, given: u64, most: u64) -> bool {
+    match found {
+        Ok(Report::Complete { runs }) => *runs == given && 0 < *runs && *runs <= most,
         Ok(Report::Failed { runs, failure, .. }) => *runs == 0
             && failure.kind == FailureKind::NotDeterministic,
         Ok(Report::Stopped { .. }) => false,
@@ -236,37 +225,35 @@ fn holds(rt: &(impl Abort + AllocGlobal), searched: &Searched, text: &[u8]) -> b
     }
 }
 
-// Puts the nodes in the text behind the others.
-fn pool_nodes<'a>(rt: &(impl Abort + AllocGlobal), pool: &mut Vec<&'a str>, text: &'a str) {
-    let nodes = nodes_in(rt, text);
-    pool.extend_from_slice(nodes.as_slice())
-        .expect(rt, "no memory for the nodes");
+// Whether a check of the body with the store is sound.
+fn finds_sound(alloc: Global, body: &Script, shelf: &mut Shelf, most: u64) -> bool {
+    let builder = WHOLE.builder();
+    let mut count = Count { runs: 0 };
+    let log = None::<HostRuntime>;
+    let found = builder.check_with(alloc, body, &mut count, &mut NoClock, shelf, &log);
+    is_sound(&found, count.runs, most)
+}
+
+// Whether a check is sound that begins with the text.
+fn holds(alloc: Global, steps: &'static [Step], text: &[u8], most: u64) -> bool {
+    let mut shelf = Shelf::holding(alloc, text);
+    match &Script::new(alloc, steps) {
+        Ok(body) => finds_sound(alloc, body, &mut shelf, most),
+        Err(_) => false,
+    }
 }
 
 // So many texts of these searches, which are changed by the numbers from this state on. None is 0.
-fn texts_end(rt: &(impl Abort + AllocGlobal), bodies: &[Searched], state: u64) {
-    let mut pool = Vec::new(rt.alloc());
-    for searched in bodies {
-        pool_nodes(rt, &mut pool, searched.text.as_str());
-    }
+fn mutations_end(rt: &(impl Abort + AllocGlobal), state: u64) {
     let mut numbers = Numbers { state };
     for at in 0..MUTATIONS {
-        let searched = bodies.get(numbers.below(3)).expect(rt, "no body");
-        let text = mutation(rt, &mut numbers, searched.text.as_str(), pool.as_slice());
-        assert!(rt;
-            holds(rt, searched, text.as_slice()),
-            "mutation {at} from {state}"
-        );
+        let search = numbers.below(3);
+        let searched = SEARCHES.get(search).unwrap_or(&SEARCHES[0]);
+        let text = mutation(rt.alloc(), &mut numbers, searched);
+        let steps = steps_of(search);
+        let holds = holds(rt.alloc(), steps, text.as_slice(), searched.runs);
+        same(rt, (at, holds), (at, true));
     }
-}
-
-fn mutations_end(rt: &(impl Abort + AllocGlobal + Files), state: u64) {
-    let bodies = [
-        search_of(rt, LOCK_BESIDE),
-        search_of(rt, LOAD_BESIDE),
-        search_of(rt, NOTIFY_WAIT),
-    ];
-    texts_end(rt, bodies.as_slice(), state);
 }
 
 #[test]

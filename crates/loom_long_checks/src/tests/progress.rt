@@ -1,49 +1,26 @@
 //! What a log is told.
-use super::{Lines, script};
+use super::{Page, lock_beside, same};
 use log::sink::Memory;
 use log::{Level, Logged};
 use loom::model::Builder;
 use loom::{MemoryStore, NoClock};
-use loom_row_bodies::bodies::LOCK_BESIDE;
 use loom_row_bodies::rows::WHOLE;
 use loom_row_bodies::settings::Builds;
+use loom_scripts::script::Script;
 
-const ITERATIONS: &[&str] = &[
-    "[INFO  loom::search] iteration 2",
-    "[INFO  loom::search] completed in 3 iterations",
-];
+const ITERATIONS: &str =
+    "complete 3\n[INFO  loom::search] iteration 2\n[INFO  loom::search] completed in 3 iterations\n";
 
-const SWITCHES: &[&str] = &[
-    "[DEBUG loom::progress] thread 1",
-    "[INFO  loom::search] iteration 2",
-    "[DEBUG loom::progress] thread 1",
-    "[DEBUG loom::progress] thread 0",
-    "[DEBUG loom::progress] thread 1",
-    "[DEBUG loom::progress] thread 0",
-    "[DEBUG loom::progress] thread 1",
-    "[INFO  loom::search] completed in 3 iterations",
-];
+const SWITCHES: &str =
+    "complete 3\n[DEBUG loom::progress] thread 1\n[INFO  loom::search] iteration 2\n[DEBUG loom::progress] thread 1\n[DEBUG loom::progress] thread 0\n[DEBUG loom::progress] thread 1\n[DEBUG loom::progress] thread 0\n[DEBUG loom::progress] thread 1\n[INFO  loom::search] completed in 3 iterations\n";
 
-#[test]
-fn a_log_is_told(rt: HostRuntime) {
-    let table = [
-        (Level::Info, false, ITERATIONS),
-        (Level::Debug, false, ITERATIONS),
-        (Level::Info, true, ITERATIONS),
-        (Level::Debug, true, SWITCHES),
-        (Level::Warn, true, &[]),
-    ];
-    for (level, switches, lines) in table {
-        let builder = Builder {
-            checkpoint_interval: 2,
-            log: switches,
-            ..WHOLE.builder()
-        };
-        let body = script(&rt, LOCK_BESIDE);
-        let log = Logged::new(rt, level, Memory::new(rt.alloc()));
-        let mut runs = Lines::new(rt.alloc());
+// Puts on the page what a check finds, and what a log of this level is told.
+fn put_log(rt: HostRuntime, builder: &Builder, level: Level, page: &mut Page) {
+    let log = Logged::new(rt, level, Memory::new(rt.alloc()));
+    if let Ok(body) = Script::new(rt.alloc(), lock_beside()) {
+        let mut runs = Page::new(rt.alloc());
         let mut store = None::<MemoryStore>;
-        let report = builder.check_with(
+        let found = builder.check_with(
             rt.alloc(),
             &body,
             &mut runs,
@@ -51,12 +28,31 @@ fn a_log_is_told(rt: HostRuntime) {
             &mut store,
             &log,
         );
-        assert!(rt; report.is_ok());
-        let (_, sink) = log.into_parts();
-        let told = sink.into_lines();
-        assert_eq!(rt; told.len(), lines.len());
-        for (found, line) in told.as_slice().iter().zip(lines) {
-            assert_eq!(rt; found.as_str(), *line);
-        }
+        page.put_found(&found);
+    }
+    let (_, sink) = log.into_parts();
+    for line in sink.into_lines().as_slice() {
+        page.put("", line);
+    }
+}
+
+// The log's level, whether it is told which thread goes on, and what it is told.
+static LOGS: [(Level, bool, &str); 5] = [
+    (Level::Info, false, ITERATIONS),
+    (Level::Debug, false, ITERATIONS),
+    (Level::Info, true, ITERATIONS),
+    (Level::Debug, true, SWITCHES),
+    (Level::Warn, true, "complete 3\n"),
+];
+
+#[test]
+fn a_log_is_told(rt: HostRuntime) {
+    for (level, switches, text) in &LOGS {
+        let mut builder = WHOLE.builder();
+        builder.checkpoint_interval = 2;
+        builder.log = *switches;
+        let mut page = Page::new(rt.alloc());
+        put_log(rt, &builder, *level, &mut page);
+        same(&rt, page.text.as_str(), *text);
     }
 }

@@ -1,17 +1,18 @@
 //! Checks with rising bounds on preemptions, and reports as texts.
-use super::script;
+use super::places::put_replay;
+use super::{Page, lock_beside, same};
+use loom::Choices;
 use loom::error::CheckError;
-use loom::model::{Builder, Replay};
+use loom::model::Builder;
 use loom::rising::Risen;
 use loom::sync::atomic::Ordering::Relaxed;
-use loom::{Choices, ChoicesError, FailureKind};
 use loom_objects::operation::{AtomicOp, ChannelOp, Op, ThreadOp};
-use loom_row_bodies::bodies::LOCK_BESIDE;
-use loom_row_bodies::rows::{TWO_RUNS, WHOLE};
+use loom_row_bodies::rows::{DEFAULTS, TWO_RUNS, WHOLE};
 use loom_row_bodies::settings::{Builds, Settings};
-use loom_scripts::number::Number;
+use loom_scripts::script::Script;
 use loom_scripts::step::{END, EXIT, FAIL, Step, Value};
 use loom_views::rt::num::Numbers;
+use std::alloc::Global;
 use std::process::Abort;
 
 // Main loads, and then waits for a thread that sends. Another one fails where it asks for the message before that.
@@ -37,144 +38,131 @@ const ASKS_EARLY: &[Step] = &[
     END,
 ];
 
-// What a check of the script with rising bounds comes to.
-fn risen_of(
-    rt: &(impl Abort + AllocGlobal),
-    builder: &Builder,
-    steps: &'static [Step],
-    up_to: usize,
-) -> Result<Risen, CheckError> {
-    let body = script(rt, steps);
-    builder.check_rising(rt.alloc(), &body, up_to)
+fn asks_early() -> &'static [Step] {
+    ASKS_EARLY
 }
 
-// The text of its report.
-fn text_of(rt: &(impl Abort + AllocGlobal), risen: &Risen) -> String {
-    let report = &risen.report;
-    format!(in rt.alloc(); "{report}").expect(rt, "no memory for the report")
+// Puts on the page at which bound it ended, and the report, or the error.
+fn put_risen(risen: &Result<Risen, CheckError>, page: &mut Page) {
+    match risen {
+        Ok(risen) => {
+            page.put("bound ", &risen.bound);
+            page.put("", &risen.report);
+        }
+        Err(error) => page.put_debug(error),
+    }
 }
 
-// It ends at this bound, with this report.
+// A check of the script with bounds that rise up to this one gives this.
 fn rises(
     rt: &(impl Abort + AllocGlobal),
     settings: Settings,
     steps: &'static [Step],
     up_to: usize,
-    bound: usize,
     text: &str,
 ) {
-    let risen = risen_of(rt, &settings.builder(), steps, up_to).expect(rt, "no report");
-    assert_eq!(rt; risen.bound, bound);
-    let found = text_of(rt, &risen);
-    assert_eq!(rt; found.as_str(), text);
+    let mut page = Page::new(rt.alloc());
+    if let Ok(body) = Script::new(rt.alloc(), steps) {
+        let risen = settings.builder().check_rising(rt.alloc(), &body, up_to);
+        put_risen(&risen, &mut page);
+    }
+    same(rt, page.text.as_str(), text);
 }
 
 // Before the failing run are the default run, three in which thread 2 goes on once thread 1 has ended, and one in which it does
 // when thread 1 has sent.
 const FAILS: &str =
-    "failed after 5 runs: an assertion of the body failed: replay its choices to see how the run came there\nreplay: t0 l0 t1 t2";
+    "bound 1\nfailed after 5 runs: an assertion of the body failed: replay its choices to see how the run came there\nreplay: t0 l0 t1 t2\n";
+
+// Up to which bound it is checked, and what that gives.
+static FAILING: [(usize, &str); 3] = [
+    (0, "bound 0\ncomplete: 1 run, none failed\n"),
+    (1, FAILS),
+    (2, FAILS),
+];
 
 #[test]
 fn the_bound_rises_up_to_a_failure(rt: HostRuntime) {
-    rises(&rt, WHOLE, ASKS_EARLY, 0, 0, "complete: 1 run, none failed");
-    rises(&rt, WHOLE, ASKS_EARLY, 1, 1, FAILS);
-    rises(&rt, WHOLE, ASKS_EARLY, 2, 1, FAILS);
-}
-
-#[test]
-fn the_bound_rises_while_checks_are_complete(rt: HostRuntime) {
-    for (up_to, text) in [
-        (0, "complete: 1 run, none failed"),
-        (1, "complete: 2 runs, none failed"),
-        (2, "complete: 3 runs, none failed"),
-        (255, "complete: 3 runs, none failed"),
-    ] {
-        rises(&rt, WHOLE, LOCK_BESIDE, up_to, up_to, text);
+    for (up_to, text) in &FAILING {
+        rises(&rt, WHOLE, asks_early(), *up_to, *text);
     }
 }
 
+const NO_THREADS: Settings = Settings {
+    max_threads: 0,
+    ..DEFAULTS
+};
+
+// How lock_beside is checked, up to which bound, and what that gives.
+static BOUNDS: [(Settings, usize, &str); 7] = [
+    (WHOLE, 0, "bound 0\ncomplete: 1 run, none failed\n"),
+    (WHOLE, 1, "bound 1\ncomplete: 2 runs, none failed\n"),
+    (WHOLE, 2, "bound 2\ncomplete: 3 runs, none failed\n"),
+    (WHOLE, 255, "bound 255\ncomplete: 3 runs, none failed\n"),
+    (
+        TWO_RUNS,
+        9,
+        "bound 2\nstopped: `max_permutations` was reached after 2 runs\n",
+    ),
+    (DEFAULTS, 256, "PreemptionBound(256)\n"),
+    (NO_THREADS, 256, "MaxThreads(0)\n"),
+];
+
 #[test]
-fn a_limit_ends_it(rt: HostRuntime) {
-    let text = "stopped: `max_permutations` was reached after 2 runs";
-    rises(&rt, TWO_RUNS, LOCK_BESIDE, 9, 2, text);
+fn the_bound_rises_while_checks_are_complete(rt: HostRuntime) {
+    for (settings, up_to, text) in &BOUNDS {
+        rises(&rt, *settings, lock_beside(), *up_to, *text);
+    }
 }
 
-// The bound or the builder is refused by this error.
-fn refuses(rt: &(impl Abort + AllocGlobal), builder: &Builder, up_to: usize, error: CheckError) {
-    let found = risen_of(rt, builder, LOCK_BESIDE, up_to);
-    assert_eq!(rt; found, Err(error));
-}
-
-#[test]
-fn settings_are_refused(rt: HostRuntime) {
-    let mut builder = Builder::new();
-    refuses(&rt, &builder, 256, CheckError::PreemptionBound(256));
-    builder.max_threads = 0;
-    refuses(&rt, &builder, 256, CheckError::MaxThreads(0));
-}
-
-// What a run of the script comes to, which follows the choices in this text.
-fn replay_of(
-    rt: &(impl Abort + AllocGlobal),
-    steps: &'static [Step],
-    text: &str,
-) -> Replay<Number> {
-    let body = script(rt, steps);
-    let choices = Choices::parse(rt.alloc(), text).expect(rt, "the text has other words");
-    let replay = Builder::new().replay(rt.alloc(), &body, choices.as_slice());
-    replay.expect(rt, "no run")
+// Puts on the page why the run of the script fails that follows the choices in this text.
+fn put_replay_of(alloc: Global, steps: &'static [Step], text: &str, page: &mut Page) {
+    if let Ok(body) = Script::new(alloc, steps) {
+        if let Ok(choices) = Choices::parse(alloc, text) {
+            put_replay(alloc, &Builder::new(), &body, choices.as_slice(), page);
+        }
+    }
 }
 
 #[test]
 fn a_failure_replays_by_its_text(rt: HostRuntime) {
-    let risen = risen_of(&rt, &WHOLE.builder(), ASKS_EARLY, 1).expect(&rt, "no report");
-    let text = text_of(&rt, &risen);
-    let (_, choices) = text
-        .as_str()
-        .split_once("replay: ")
-        .expect(&rt, "no choices");
-    match &replay_of(&rt, ASKS_EARLY, choices) {
-        Replay::Failed { failure, .. } => assert_eq!(rt; failure.kind, FailureKind::Assertion),
-        Replay::Ended { .. } => panic!(rt; "the run ended"),
-    }
+    let (_, choices) = FAILS.split_once("replay: ").unwrap_or(("", ""));
+    let mut page = Page::new(rt.alloc());
+    put_replay_of(rt.alloc(), asks_early(), choices, &mut page);
+    let failed =
+        "an assertion of the body failed: replay its choices to see how the run came there\n";
+    same(&rt, page.text.as_str(), failed);
 }
 
-// The text is written as this again.
+// The text is read as choices that are written so, or refused by this error.
 fn is_read(rt: &(impl Abort + AllocGlobal), text: &str, again: &str) {
-    let choices = Choices::parse(rt.alloc(), text).expect(rt, text);
-    let shown = format!(in rt.alloc(); "{choices}").expect(rt, text);
-    assert_eq!(rt; shown.as_str(), again);
+    let mut page = Page::new(rt.alloc());
+    match &Choices::parse(rt.alloc(), text) {
+        Ok(choices) => page.put("", choices),
+        Err(error) => page.put_debug(error),
+    }
+    same(rt, page.text.as_str(), again);
 }
 
-// The word of this number is none.
-fn is_refused(rt: &(impl Abort + AllocGlobal), text: &str, number: usize) {
-    match &Choices::parse(rt.alloc(), text) {
-        Ok(_) => panic!(rt; "the text was taken"),
-        Err(error) => assert_eq!(rt; *error, ChoicesError::NotAChoice(number)),
-    }
-}
+static TEXTS: [(&str, &str); 13] = [
+    ("", "\n"),
+    (" \t\n", "\n"),
+    ("t0", "t0\n"),
+    ("  t0 t-\n l1\ts0 s1\r\n", "t0 t- l1 s0 s1\n"),
+    ("t4 l6", "t4 l6\n"),
+    ("t", "NotAChoice(1)\n"),
+    ("t0t1", "NotAChoice(1)\n"),
+    ("t0 t12", "NotAChoice(2)\n"),
+    ("t0 s2", "NotAChoice(2)\n"),
+    ("t0 l- t1", "NotAChoice(2)\n"),
+    ("T0", "NotAChoice(1)\n"),
+    ("t0 t1 x", "NotAChoice(3)\n"),
+    ("t0,t1", "NotAChoice(1)\n"),
+];
 
 #[test]
 fn texts_are_read_as_choices(rt: HostRuntime) {
-    for (text, again) in [
-        ("", ""),
-        (" \t\n", ""),
-        ("t0", "t0"),
-        ("  t0 t-\n l1\ts0 s1\r\n", "t0 t- l1 s0 s1"),
-        ("t4 l6", "t4 l6"),
-    ] {
-        is_read(&rt, text, again);
-    }
-    for (text, number) in [
-        ("t", 1),
-        ("t0t1", 1),
-        ("t0 t12", 2),
-        ("t0 s2", 2),
-        ("t0 l- t1", 2),
-        ("T0", 1),
-        ("t0 t1 x", 3),
-        ("t0,t1", 1),
-    ] {
-        is_refused(&rt, text, number);
+    for (text, again) in &TEXTS {
+        is_read(&rt, *text, *again);
     }
 }

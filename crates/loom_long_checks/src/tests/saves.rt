@@ -1,72 +1,74 @@
 //! What a check saves, and how it goes on with that.
-use super::{NO_NODES, ONE_NODE, Shelf, TWO_NODES, given, gives, holding};
-use loom::MemoryStore;
-use loom::model::Builder;
-use loom_row_bodies::bodies::{LOCK_BESIDE, TWO_MUTEXES_DEADLOCK};
+use super::{
+    Case, DEFAULT_CASE, NO_NODES, ONE_NODE, Page, Shelf, TWO_NODES, WHOLE_CASE, cases_hold, check,
+    gives, lock_beside, same,
+};
+use loom_row_bodies::bodies::TWO_MUTEXES_DEADLOCK;
 use loom_row_bodies::rows::WHOLE;
-use loom_row_bodies::settings::Builds;
-use std::process::Abort;
+use loom_row_bodies::settings::{Builds, Settings};
 
-// A builder that saves before each run.
-fn saves_each(builder: Builder) -> Builder {
-    Builder {
-        checkpoint_interval: 1,
-        ..builder
-    }
-}
+static EACH: [Case; 1] = [Case {
+    interval: 1,
+    gives: " t0 t1 t1 t-\n t1 t1 t0 t-\n t1 t0 t1 t-\ncomplete 3\nsaves no nodes\nsaves one node\nsaves two nodes\n",
+    ..WHOLE_CASE
+}];
 
 #[test]
 fn each_run_is_saved(rt: HostRuntime) {
-    let builder = saves_each(WHOLE.builder());
-    let mut shelf = Shelf::new(rt.alloc(), 0);
-    let runs = " t0 t1 t1 t-\n t1 t1 t0 t-\n t1 t0 t1 t-\ncomplete 3";
-    gives(&rt, &builder, LOCK_BESIDE, &mut shelf, runs);
-    assert_eq!(rt; shelf.texts.len(), 3);
-    for (saved, text) in shelf.texts.iter().zip([NO_NODES, ONE_NODE, TWO_NODES]) {
-        assert_eq!(rt; saved.as_str(), text);
-    }
+    cases_hold(&rt, &EACH);
 }
+
+// How the body with two mutexes is checked, with each run saved, and what a check gives that begins with its last text.
+static LAST: Case = Case {
+    interval: 1,
+    gives: "failed 2 0 t1 t1 t2 t2 t-\nsaves another text\n",
+    ..DEFAULT_CASE
+};
 
 #[test]
 fn a_failing_run_is_saved_before(rt: HostRuntime) {
-    let builder = saves_each(Builder::new());
+    let builder = LAST.builder();
     let mut shelf = Shelf::new(rt.alloc(), 0);
+    let mut page = Page::new(rt.alloc());
     let steps = TWO_MUTEXES_DEADLOCK;
-    let found = given(&rt, &builder, steps, &mut shelf);
-    assert!(rt; found.as_str().ends_with("failed 2 3 t1 t1 t2 t2 t-"));
-    assert_eq!(rt; shelf.texts.len(), 4);
-    let last = shelf.texts.last().expect(&rt, "no text was saved");
-    let mut store = holding(&rt, last.as_str().as_bytes());
-    gives(
-        &rt,
-        &builder,
-        steps,
-        &mut store,
-        "failed 2 0 t1 t1 t2 t2 t-",
-    );
+    check(rt.alloc(), &builder, steps, &mut page, &mut shelf);
+    let saved =
+        "failed 2 3 t1 t1 t2 t2 t-\nsaves another text\nsaves another text\nsaves another text\nsaves another text\n";
+    same(&rt, page.text.as_str().ends_with(saved), true);
+    shelf.saved.text.clear();
+    gives(&rt, &builder, steps, &mut shelf, LAST.gives);
 }
 
-// The store holds this text.
-fn has(rt: &impl Abort, store: &MemoryStore, text: &str) {
-    let saved = store.text.as_ref().expect(rt, "no text was saved");
-    assert_eq!(rt; saved.as_slice(), text.as_bytes());
-}
+// How many runs each leg makes, what it gives, and what the store holds then.
+static LEGS: [(Option<usize>, &str, &str); 4] = [
+    (
+        Some(0),
+        "stopped 0\nby max_permutations\nat no nodes\nsaves no nodes\n",
+        NO_NODES,
+    ),
+    (
+        Some(1),
+        " t0 t1 t1 t-\nstopped 1\nby max_permutations\nat one node\nsaves one node\n",
+        ONE_NODE,
+    ),
+    (
+        Some(1),
+        " t1 t1 t0 t-\nstopped 1\nby max_permutations\nat two nodes\nsaves two nodes\n",
+        TWO_NODES,
+    ),
+    (None, " t1 t0 t1 t-\ncomplete 1\n", TWO_NODES),
+];
 
 #[test]
 fn a_check_goes_on_where_it_stopped(rt: HostRuntime) {
-    let mut store = MemoryStore::new(rt.alloc());
-    let legs = [
-        (Some(0), "stopped 0", NO_NODES),
-        (Some(1), " t0 t1 t1 t-\nstopped 1", ONE_NODE),
-        (Some(1), " t1 t1 t0 t-\nstopped 1", TWO_NODES),
-        (None, " t1 t0 t1 t-\ncomplete 1", TWO_NODES),
-    ];
-    for (max_permutations, line, text) in legs {
-        let builder = Builder {
-            max_permutations,
-            ..WHOLE.builder()
+    let mut shelf = Shelf::new(rt.alloc(), 0);
+    for (max_permutations, text, held) in &LEGS {
+        let settings = Settings {
+            max_permutations: *max_permutations,
+            ..WHOLE
         };
-        gives(&rt, &builder, LOCK_BESIDE, &mut store, line);
-        has(&rt, &store, text);
+        gives(&rt, &settings.builder(), lock_beside(), &mut shelf, *text);
+        same(&rt, shelf.held(), held.as_bytes());
+        shelf.saved.text.clear();
     }
 }
