@@ -20,7 +20,7 @@ pub use loom_check_parts::visitor;
 pub use loom_choices::choices::{Choices, ChoicesError, ShownChoices};
 pub use loom_objects::body::Body;
 pub use loom_objects::data::Data;
-pub use loom_objects::operation::{Exchange, Op, Reply, Turn};
+pub use loom_objects::operation::{Exchange, Labelled, Op, Reply, Request, Turn};
 pub use loom_ops::{
     alloc, cell, explore, fail, future, hint, lazy_static, skip_branch, stop_exploring, sync,
     thread, unexpected_reply,
@@ -29,6 +29,8 @@ pub use loom_parts::choice::{Choice, ParseChoiceError};
 pub use loom_parts::failure::Failure;
 pub use loom_parts::label::Label;
 pub use loom_parts::location::Location;
+pub use loom_parts::text::Text;
+pub use loom_parts::text_literal;
 pub use loom_stores::clock::{Clock, NoClock};
 pub use loom_stores::file::FileStore;
 pub use loom_stores::memory::MemoryStore;

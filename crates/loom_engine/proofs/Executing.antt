@@ -9,7 +9,7 @@ use Rattle.loom_parts.specs.declared.choice.Choice.{Choice}
 use Rattle.loom_parts.specs.declared.choice.Choice.TheVariants.{Thread, Load, Spurious}
 use Rattle.loom_objects.specs.declared.failure.Stop.{Stop}
 use Rattle.loom_objects.specs.declared.failure.Stop.TheVariants.{Failure, Memory}
-use Rattle.loom_objects.specs.declared.operation.Op.{Op}
+use Rattle.loom_objects.specs.declared.operation.Request.{Request}
 use Rattle.loom_objects.specs.declared.operation.Turn.{Turn}
 use Rattle.loom_objects.specs.declared.rt.run.Passed.{Passed}
 use Rattle.loom_objects.specs.declared.rt.run.Passed.TheVariants as passed
@@ -525,7 +525,7 @@ module _ {D : Type 0} where
   kept_over (Err stop) = refl
 
   -- what the code kept of an operation that was begun, and of what it made
-  pub started : (op : Op D ⊤) (entry : Entry D) (old : Progress D) (state : RunState D) (kept : Dependence) (parent threads objects : ℕ)
+  pub started : (op : Request D ⊤) (entry : Entry D) (old : Progress D) (state : RunState D) (kept : Dependence) (parent threads objects : ℕ)
       → ((w : World D) → Shows w old.state → world_comes (begins op w) (Ok entry) state) → parent ≡ old.state.scene.active
       → threads ≡ length state.scene.threads - length old.state.scene.threads → objects ≡ length state.scene.objects - length old.state.scene.objects
       → ((o : Order) → ShowsOrder o old.dependence → ShowsOrder (grown parent threads objects o) kept) → Starts op old (Ok entry) (record { state = state; dependence = kept })
@@ -542,7 +542,7 @@ module _ {D : Type 0} where
       )
 
   -- memory was refused for it
-  pub start_refused : (op : Op D ⊤) (entry : Entry D) (old : RunState D) (state : RunState D) (threads objects : ℕ)
+  pub start_refused : (op : Request D ⊤) (entry : Entry D) (old : RunState D) (state : RunState D) (threads objects : ℕ)
       → ((w : World D) → Shows w old → world_comes (begins op w) (Ok entry) state)
       → threads ≡ length state.scene.threads - length old.scene.threads → objects ≡ length state.scene.objects - length old.scene.objects
       → 0 < threads + objects → (w : World D) → Shows w old → needs_memory op ≡ true
@@ -553,7 +553,7 @@ module _ {D : Type 0} where
       made_needs_memory op w entry come.0 (came_so (counted op w) (entry, come.0) come.2) (omega (arith, more, et, eo, xs, ys))
 
   -- what a course comes to with what an operation made
-  pub started_course : (op : Op D ⊤) (entry : Entry D) (old mid : Progress D) (path : Route) → Starts op old (Ok entry) mid → (c : Course D) → ShowsCourse c old path
+  pub started_course : (op : Request D ⊤) (entry : Entry D) (old mid : Progress D) (path : Route) → Starts op old (Ok entry) mid → (c : Course D) → ShowsCourse c old path
       → (v : Course D) × ShowsCourse v mid path × (drives (submit op c) path ≡ drives (goes_on (entry, v)) path)
   started_course op entry old mid path starts c shown =
       let come = starts c shown.world shown.order in (
@@ -562,7 +562,7 @@ module _ {D : Type 0} where
         ap (λ (tree : Tree (Entry D × World D)). drives (carried c tree >>= (λ started. goes_on (started.0, grown_from c.world started.1))) path) come.1,
       )
 
-  module _ (op : Op D ⊤) (old mid : Progress D) (path : Route) where
+  module _ (op : Request D ⊤) (old mid : Progress D) (path : Route) where
     pub start_stops : (stop : Stop) → Starts op old (Err stop) mid → Along (submit op) old path (Err stop) mid path
     start_stops (Failure failure) starts c shown =
         ap (λ (tree : Tree (Entry D × World D)). drives (carried c tree >>= (λ started. goes_on (started.0, grown_from c.world started.1))) path)
@@ -585,6 +585,6 @@ module _ {D : Type 0} where
         same_way (submit op c) (next v.0) path path result new after (v.2 ∙ ap (λ (tree : Tree (Turn D × Course D)). drives tree path) (is v.0)) (onward v.0 v.1)
 
   -- a run that isn't over does it
-  pub submits_by : (old new : ExecutionState D) (op : Op D ⊤) (path after : Route) (answer : Result (Turn D) Stop) → old.over ≡ None → Along (submit op) old.run path answer new.run after
+  pub submits_by : (old new : ExecutionState D) (op : Request D ⊤) (path after : Route) (answer : Result (Turn D) Stop) → old.over ≡ None → Along (submit op) old.run path answer new.run after
       → new.over ≡ over_after answer → (answer ≡ Err Memory → MayBeRefused op old.run path) → Submits old op path answer new after
   submits_by old new op path after answer going along over growth = subst (λ (o : Option Stop). SubmitsAt o old op path answer new after) (sym going) (along, over, growth)

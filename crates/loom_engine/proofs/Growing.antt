@@ -8,7 +8,7 @@ use Rattle.loom_parts.specs.declared.choice.Choice.{Choice}
 use Rattle.loom_parts.specs.declared.choice.Choice.TheVariants.{Thread, Load, Spurious}
 use Rattle.loom_objects.specs.declared.failure.Stop.{Stop}
 use Rattle.loom_objects.specs.declared.failure.Stop.TheVariants.{Failure, Memory}
-use Rattle.loom_objects.specs.declared.operation.Op.{Op}
+use Rattle.loom_objects.specs.declared.operation.Request.{Request}
 use Rattle.loom_objects.specs.declared.operation.Turn.{Turn}
 use Rattle.loom_objects.specs.declared.rt.run.Entry.{Entry}
 use Rattle.loom_objects.specs.declared.rt.run.Loading.{Loading}
@@ -277,14 +277,14 @@ module _ {D : Type 0} where
       needed_on itself (is_asked n c) (schedule further_branches v.0) path via v.2
       (after_answer path path via (whether_spurious (is_on path.exploring)) (Spurious is_spurious) (unmarked_wait n old path) says) (needs v.0 v.1)
 
-  pub event_needs : (op : Op D ⊤) (entry : Entry D) (next : Course D → Tree (Turn D × Course D)) (old mid : Progress D) (path : Route) → ((v : Course D) → goes_on (entry, v) ≡ next v)
+  pub event_needs : (op : Request D ⊤) (entry : Entry D) (next : Course D → Tree (Turn D × Course D)) (old mid : Progress D) (path : Route) → ((v : Course D) → goes_on (entry, v) ≡ next v)
       → Starts op old (Ok entry) mid → AllNeedMemory itself next mid path → AllNeedMemory itself (submit op) old path
   event_needs op entry next old mid path is starts needs c shown =
       let v = started_course op entry old mid path starts c shown in
       needed_on itself (submit op c) (next v.0) path path (v.2 ∙ ap (λ (t : Tree (Turn D × Course D)). drives t path) (is v.0)) (omega arith) (needs v.0 v.1)
 
   -- memory is refused as the operation begins
-  pub begin_refused : (op : Op D ⊤) (old : Progress D) (path : Route) → ((w : World D) → Shows w old.state → needs_memory op ≡ true) → MayBeRefused op old path
+  pub begin_refused : (op : Request D ⊤) (old : Progress D) (path : Route) → ((w : World D) → Shows w old.state → needs_memory op ≡ true) → MayBeRefused op old path
   begin_refused op old path needs = by (needs_memory op) refl
     where
       by : (b : Bool) → needs_memory op ≡ b → MayBeRefused op old path

@@ -4,7 +4,7 @@ use Rattle.loom_view_parts.specs.declared.rt.failure.FailureKind.TheVariants.{Mi
 use Rattle.loom_view_parts.specs.declared.rt.failure.FailureKind.{FailureKind}
 use Rattle.loom_objects.specs.declared.failure.Stop.{Stop}
 use Rattle.loom_objects.specs.declared.failure.Stop.TheVariants.{Failure, Memory}
-use Rattle.loom_objects.specs.declared.operation.Op.{Op}
+use Rattle.loom_objects.specs.declared.operation.Request.{Request}
 use Rattle.loom_objects.specs.declared.operation.Reply.TheVariants.{ReadLocked}
 use Rattle.loom_objects.specs.declared.operation.Turn.{Turn}
 use Rattle.loom_objects.specs.declared.operation.Turn.TheVariants.{Reply, Start, Ended}
@@ -61,7 +61,7 @@ module _ {D : Type 0} where
   StartsAt c tree (Err (Failure failure)) new = tree ≡ Fails failure.kind
   StartsAt c tree (Err Memory) new = Unit {0}
 
-  abbrev pub Starts : Op D ⊤ → Progress D → Result (Entry D) Stop → Progress D → Type 0
+  abbrev pub Starts : Request D ⊤ → Progress D → Result (Entry D) Stop → Progress D → Type 0
   Starts op old result new = (c : Course D) → Shows c.world old.state → ShowsOrder c.order old.dependence → StartsAt c (begins op c.world) result new
 
   -- what the chosen thread has pending takes effect, once its node was passed
@@ -88,7 +88,7 @@ module _ {D : Type 0} where
   itself turn = turn
 
   -- memory may be refused at an operation: it makes an object or a thread or copies data as it begins, or it is needed on the way
-  abbrev pub MayBeRefused : Op D ⊤ → Progress D → Route → Type 0
+  abbrev pub MayBeRefused : Request D ⊤ → Progress D → Route → Type 0
   MayBeRefused op old path = (needs_memory op ≡ true) ⊎ AllNeedMemory itself (submit op) old path
 
   -- what every further operation is answered: after the end Misuse, after a stop the same stop
@@ -98,12 +98,12 @@ module _ {D : Type 0} where
   over_after (Ok (Ended value)) = Some (Failure (record { kind = Misuse; location = None }))
   over_after (Err stop) = Some stop
 
-  abbrev pub SubmitsAt : Option Stop → ExecutionState D → Op D ⊤ → Route → Result (Turn D) Stop → ExecutionState D → Route → Type 0
+  abbrev pub SubmitsAt : Option Stop → ExecutionState D → Request D ⊤ → Route → Result (Turn D) Stop → ExecutionState D → Route → Type 0
   SubmitsAt None old op path answer new after =
       Along (submit op) old.run path answer new.run after × (new.over ≡ over_after answer) × (answer ≡ Err Memory → MayBeRefused op old.run path)
   SubmitsAt (Some stop) old op path answer new after = (answer ≡ Err stop) × (new ≡ old) × (after ≡ path)
 
   -- One event of the machine along the path, from each course that the execution shows; memory is refused only where it
   -- is needed. Once the run is over it is the same answer again, and nothing changes.
-  abbrev pub Submits : ExecutionState D → Op D ⊤ → Route → Result (Turn D) Stop → ExecutionState D → Route → Type 0
+  abbrev pub Submits : ExecutionState D → Request D ⊤ → Route → Result (Turn D) Stop → ExecutionState D → Route → Type 0
   Submits old op path answer new after = SubmitsAt old.over old op path answer new after

@@ -6,10 +6,10 @@ use Rattle.std.specs.declared.sync.atomic.Ordering.TheVariants.{Acquire, Relaxed
 use Rattle.loom_view_parts.specs.declared.rt.num.Numbers.TheVariants as numbers
 use Rattle.loom_objects.specs.declared.operation.AtomicOp.TheVariants as atomic
 use Rattle.loom_objects.specs.declared.operation.CellOp.TheVariants as cells
-use Rattle.loom_objects.specs.declared.operation.Op.{Op}
-use Rattle.loom_objects.specs.declared.operation.Op.TheVariants.{Atomic as OnAtomic, Cell as OnCell, Thread as OnThread, Fail}
+use Rattle.loom_objects.specs.declared.operation.Request.TheVariants.{Atomic as OnAtomic, Cell as OnCell, Thread as OnThread, Fail}
 use Rattle.loom_objects.specs.declared.operation.Reply.{Reply}
 use Rattle.loom_objects.specs.declared.operation.ThreadOp.TheVariants.{Spawn}
+use Rattle.loom_objects.specs.Labels.{Op, bare}
 use Rattle.loom_ops.specs.Atomics.{atomic_handle, exchange, exchanged_in}
 use Rattle.loom_ops.specs.Cells.{unsafe_cell_handle, writer_taken}
 use Rattle.loom_ops.specs.Threads.{leave, yielding}
@@ -32,29 +32,29 @@ Turn = Option (Awaits × Op Number Spin)
 
 -- the cell was made: another thread begins beside main
 abbrev pub spawns : Spin → Awaits → Awaits × Op Number Spin
-spawns s awaits = (awaits, OnThread (Spawn (record s { awaits = awaits }) None) None)
+spawns s awaits = (awaits, bare (OnThread (Spawn (record s { awaits = awaits }) None)))
 
 -- where the flag was false the thread has the lock, and else it lets others go first
 abbrev pub tried : Atomic Bool → UnsafeCell → Result Bool Bool → Awaits × Op Number Spin
-tried flag cell (Ok old) = (TheNumber flag, OnCell (cells.Write cell.number) None)
+tried flag cell (Ok old) = (TheNumber flag, bare (OnCell (cells.Write cell.number)))
 tried flag cell (Err old) = (Trying flag cell, yielding)
 
 -- the next number takes the place of the one in the cell
 abbrev pub counts : Atomic Bool → MutPtr × Number → Awaits × Op Number Spin
-counts flag found = (Written flag, OnCell (cells.WriteEnd found.0.number (number ((found.1.0 + 1) % 2 ^ 64))) None)
+counts flag found = (Written flag, bare (OnCell (cells.WriteEnd found.0.number (number ((found.1.0 + 1) % 2 ^ 64)))))
 
 abbrev pub turn : Spin → Awaits → Reply Number → Turn
-turn s Main reply = Some (TheFlag, OnAtomic (atomic.New numbers.Bool 0) None)
-turn s TheFlag reply = option_map (λ flag. (TheCell flag, OnCell (cells.New (number 0)) None)) (atomic_handle reply)
+turn s Main reply = Some (TheFlag, bare (OnAtomic (atomic.New numbers.Bool 0)))
+turn s TheFlag reply = option_map (λ flag. (TheCell flag, bare (OnCell (cells.New (number 0))))) (atomic_handle reply)
 turn s (TheCell flag) reply = option_map (λ cell. spawns s (Trying flag cell)) (unsafe_cell_handle reply)
 turn s (Trying flag cell) reply = Some (TheLock flag cell, exchange flag.number 0 1 Acquire Relaxed)
 turn s (TheLock flag cell) reply = option_map (tried flag cell) (exchanged_in (λ n. not (n == 0)) reply)
 turn s (TheNumber flag) reply = option_map (counts flag) (writer_taken reply)
-turn s (Written flag) reply = Some (Leaving left.Finish, OnAtomic (atomic.Store flag.number 0 s.release) None)
+turn s (Written flag) reply = Some (Leaving left.Finish, bare (OnAtomic (atomic.Store flag.number 0 s.release)))
 turn s (Leaving leaving) reply = let next = leave (number 0) leaving in Some (Leaving next.0, next.1)
 
 abbrev pub resumed : Spin → Turn → Spin × Op Number Spin
-resumed s None = (s, Fail None)
+resumed s None = (s, bare Fail)
 resumed s (Some next) = (record s { awaits = next.0 }, next.1)
 
 -- a thread's meaning

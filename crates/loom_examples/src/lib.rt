@@ -5,10 +5,10 @@
 // The label of an operation that makes an object of this name.
 macro_rules! named {
     ($name:literal) => {
-        Some(loom::Label {
-            name: Some($name),
+        loom::Label {
+            name: Some(loom::text_literal!($name)),
             location: None,
-        })
+        }
     };
 }
 

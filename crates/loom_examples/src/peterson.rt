@@ -2,45 +2,45 @@
 //! flag is down or it is let go first itself. Both add one to the number in a cell.
 use crate::named;
 use loom::sync::atomic::Ordering::{AcqRel, Acquire, Relaxed, Release, SeqCst};
-use loom_objects::operation::{AtomicOp, CellOp, Op, ThreadOp};
-use loom_scripts::step::Step::{Do, JumpTo, Label, SpawnAt, UnlessTo};
+use loom_objects::operation::{AtomicOp, CellOp, Request, ThreadOp};
+use loom_scripts::step::Step::{Do, JumpTo, Label, Labelled, SpawnAt, UnlessTo};
 use loom_scripts::step::{END, EXIT, FAIL, Step, Value, YIELD};
 use loom_views::rt::num::Numbers;
 
 const NEW: AtomicOp = AtomicOp::New(Numbers::U64, 0);
 
-const READ: Step = Do(1, Op::Cell(CellOp::Write(3), None));
+const READ: Step = Do(1, Request::Cell(CellOp::Write(3)));
 
-const ADD_ONE: Step = Do(1, Op::Cell(CellOp::WriteEnd(3, Value::Next(1)), None));
+const ADD_ONE: Step = Do(1, Request::Cell(CellOp::WriteEnd(3, Value::Next(1))));
 
-const FINISH: Step = Do(0, Op::Thread(ThreadOp::Finish(Value::Plain(0)), None));
+const FINISH: Step = Do(0, Request::Thread(ThreadOp::Finish(Value::Plain(0))));
 
 // Slots 0 and 1 have the flags, of main and of the other thread, slot 2 whom the turn belongs to, and slot 3 the cell.
 macro_rules! peterson {
     ($fence:expr) => {
         &[
-            Do(0, Op::Atomic(NEW, named!("main's flag"))),
-            Do(1, Op::Atomic(NEW, named!("other flag"))),
-            Do(2, Op::Atomic(NEW, named!("turn"))),
-            Do(3, Op::Cell(CellOp::New(Value::Plain(0)), named!("count"))),
+            Labelled(0, Request::Atomic(NEW), named!(b"main's flag")),
+            Labelled(1, Request::Atomic(NEW), named!(b"other flag")),
+            Labelled(2, Request::Atomic(NEW), named!(b"turn")),
+            Labelled(3, Request::Cell(CellOp::New(Value::Plain(0))), named!(b"count")),
             SpawnAt(4, "other"),
-            Do(0, Op::Atomic(AtomicOp::Store(0, 1, Relaxed), None)),
-            Do(0, Op::Fence($fence, None)),
-            Do(0, Op::Atomic(AtomicOp::Store(2, 1, Relaxed), None)),
-            Do(0, Op::Fence($fence, None)),
+            Do(0, Request::Atomic(AtomicOp::Store(0, 1, Relaxed))),
+            Do(0, Request::Fence($fence)),
+            Do(0, Request::Atomic(AtomicOp::Store(2, 1, Relaxed))),
+            Do(0, Request::Fence($fence)),
             Label("main looks"),
-            Do(0, Op::Atomic(AtomicOp::Load(1, Acquire), None)),
+            Do(0, Request::Atomic(AtomicOp::Load(1, Acquire))),
             UnlessTo(0, 1, "main enters"),
-            Do(0, Op::Atomic(AtomicOp::Load(2, Acquire), None)),
+            Do(0, Request::Atomic(AtomicOp::Load(2, Acquire))),
             UnlessTo(0, 1, "main enters"),
             YIELD,
             JumpTo("main looks"),
             Label("main enters"),
             READ,
             ADD_ONE,
-            Do(0, Op::Atomic(AtomicOp::Store(0, 0, Release), None)),
-            Do(0, Op::Thread(ThreadOp::Join(4, 4), None)),
-            Do(1, Op::Cell(CellOp::Get(3), None)),
+            Do(0, Request::Atomic(AtomicOp::Store(0, 0, Release))),
+            Do(0, Request::Thread(ThreadOp::Join(4, 4))),
+            Do(1, Request::Cell(CellOp::Get(3))),
             UnlessTo(1, 2, "lost"),
             FINISH,
             EXIT,
@@ -48,21 +48,21 @@ macro_rules! peterson {
             Label("lost"),
             FAIL,
             Label("other"),
-            Do(0, Op::Atomic(AtomicOp::Store(1, 1, Relaxed), None)),
-            Do(0, Op::Fence($fence, None)),
-            Do(0, Op::Atomic(AtomicOp::Store(2, 0, Relaxed), None)),
-            Do(0, Op::Fence($fence, None)),
+            Do(0, Request::Atomic(AtomicOp::Store(1, 1, Relaxed))),
+            Do(0, Request::Fence($fence)),
+            Do(0, Request::Atomic(AtomicOp::Store(2, 0, Relaxed))),
+            Do(0, Request::Fence($fence)),
             Label("other looks"),
-            Do(0, Op::Atomic(AtomicOp::Load(0, Acquire), None)),
+            Do(0, Request::Atomic(AtomicOp::Load(0, Acquire))),
             UnlessTo(0, 1, "other enters"),
-            Do(0, Op::Atomic(AtomicOp::Load(2, Acquire), None)),
+            Do(0, Request::Atomic(AtomicOp::Load(2, Acquire))),
             UnlessTo(0, 0, "other enters"),
             YIELD,
             JumpTo("other looks"),
             Label("other enters"),
             READ,
             ADD_ONE,
-            Do(0, Op::Atomic(AtomicOp::Store(1, 0, Release), None)),
+            Do(0, Request::Atomic(AtomicOp::Store(1, 0, Release))),
             FINISH,
             EXIT,
             END,

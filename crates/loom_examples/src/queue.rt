@@ -1,28 +1,28 @@
 //! A queue with room for one item, by a mutex and a condition variable, as a script. The mutex holds how many items there are.
 //! One thread puts two items in, another one puts one, and main takes all three out.
 use crate::named;
-use loom_objects::operation::{CondvarOp, MutexOp, Op, ThreadOp};
-use loom_scripts::step::Step::{Do, IfTo, Label, SpawnAt, UnlessTo};
+use loom_objects::operation::{CondvarOp, MutexOp, Request, ThreadOp};
+use loom_scripts::step::Step::{Do, IfTo, Label, Labelled, SpawnAt, UnlessTo};
 use loom_scripts::step::{END, EXIT, Step, Value};
 
-const LOCK: Step = Do(0, Op::Mutex(MutexOp::Lock(0), None));
+const LOCK: Step = Do(0, Request::Mutex(MutexOp::Lock(0)));
 
-const FILL: Step = Do(0, Op::Mutex(MutexOp::Release(0, Value::Plain(1)), None));
+const FILL: Step = Do(0, Request::Mutex(MutexOp::Release(0, Value::Plain(1))));
 
-const EMPTY: Step = Do(0, Op::Mutex(MutexOp::Release(0, Value::Plain(0)), None));
+const EMPTY: Step = Do(0, Request::Mutex(MutexOp::Release(0, Value::Plain(0))));
 
-const SLEEP_FULL: Step = Do(0, Op::Condvar(CondvarOp::Wait(1, 0, Value::Plain(1)), None));
+const SLEEP_FULL: Step = Do(0, Request::Condvar(CondvarOp::Wait(1, 0, Value::Plain(1))));
 
-const SLEEP_EMPTY: Step = Do(0, Op::Condvar(CondvarOp::Wait(1, 0, Value::Plain(0)), None));
+const SLEEP_EMPTY: Step = Do(0, Request::Condvar(CondvarOp::Wait(1, 0, Value::Plain(0))));
 
-const FINISH: Step = Do(0, Op::Thread(ThreadOp::Finish(Value::Plain(0)), None));
+const FINISH: Step = Do(0, Request::Thread(ThreadOp::Finish(Value::Plain(0))));
 
 // The queue, where a thread notifies others so.
 macro_rules! queue {
     ($notify:expr) => {
         &[
-            Do(0, Op::Mutex(MutexOp::New(Value::Plain(0)), named!("items"))),
-            Do(1, Op::Condvar(CondvarOp::New, named!("changed"))),
+            Labelled(0, Request::Mutex(MutexOp::New(Value::Plain(0))), named!(b"items")),
+            Labelled(1, Request::Condvar(CondvarOp::New), named!(b"changed")),
             SpawnAt(2, "put two"),
             SpawnAt(3, "put one"),
             LOCK,
@@ -32,7 +32,7 @@ macro_rules! queue {
             IfTo(0, 0, "wait for first"),
             Label("take first"),
             EMPTY,
-            Do(0, Op::Condvar($notify, None)),
+            Do(0, Request::Condvar($notify)),
             LOCK,
             UnlessTo(0, 0, "take second"),
             Label("wait for second"),
@@ -40,7 +40,7 @@ macro_rules! queue {
             IfTo(0, 0, "wait for second"),
             Label("take second"),
             EMPTY,
-            Do(0, Op::Condvar($notify, None)),
+            Do(0, Request::Condvar($notify)),
             LOCK,
             UnlessTo(0, 0, "take third"),
             Label("wait for third"),
@@ -48,7 +48,7 @@ macro_rules! queue {
             IfTo(0, 0, "wait for third"),
             Label("take third"),
             EMPTY,
-            Do(0, Op::Condvar($notify, None)),
+            Do(0, Request::Condvar($notify)),
             FINISH,
             EXIT,
             END,
@@ -60,7 +60,7 @@ macro_rules! queue {
             IfTo(0, 1, "wait for room"),
             Label("fill"),
             FILL,
-            Do(0, Op::Condvar($notify, None)),
+            Do(0, Request::Condvar($notify)),
             Label("put one"),
             LOCK,
             UnlessTo(0, 1, "fill last"),
@@ -69,7 +69,7 @@ macro_rules! queue {
             IfTo(0, 1, "wait for last room"),
             Label("fill last"),
             FILL,
-            Do(0, Op::Condvar($notify, None)),
+            Do(0, Request::Condvar($notify)),
             FINISH,
             EXIT,
             END,

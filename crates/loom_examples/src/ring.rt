@@ -2,25 +2,25 @@
 //! that were taken out. A thread puts 11, 12 and 13 in. Main takes them out, and asserts which they are.
 use crate::named;
 use loom::sync::atomic::Ordering::{Acquire, Relaxed, Release};
-use loom_objects::operation::{AtomicOp, CellOp, Op, ThreadOp};
-use loom_scripts::step::Step::{Do, JumpTo, Label, SpawnAt, UnlessTo};
+use loom_objects::operation::{AtomicOp, CellOp, Request, ThreadOp};
+use loom_scripts::step::Step::{Do, JumpTo, Label, Labelled, SpawnAt, UnlessTo};
 use loom_scripts::step::{END, EXIT, FAIL, Step, Value, YIELD};
 use loom_views::rt::num::Numbers;
 
 const NEW: AtomicOp = AtomicOp::New(Numbers::U64, 0);
 
-const LOOK: Step = Do(0, Op::Atomic(AtomicOp::Load(1, Acquire), None));
+const LOOK: Step = Do(0, Request::Atomic(AtomicOp::Load(1, Acquire)));
 
-const FINISH: Step = Do(0, Op::Thread(ThreadOp::Finish(Value::Plain(0)), None));
+const FINISH: Step = Do(0, Request::Thread(ThreadOp::Finish(Value::Plain(0))));
 
 // Slot 0 has how many were taken out, slot 1 how many were put in, and slots 2 and 3 the cells.
 macro_rules! ring {
     ($publish:expr) => {
         &[
-            Do(0, Op::Atomic(NEW, named!("taken out"))),
-            Do(1, Op::Atomic(NEW, named!("put in"))),
-            Do(2, Op::Cell(CellOp::New(Value::Plain(0)), named!("cell 0"))),
-            Do(3, Op::Cell(CellOp::New(Value::Plain(0)), named!("cell 1"))),
+            Labelled(0, Request::Atomic(NEW), named!(b"taken out")),
+            Labelled(1, Request::Atomic(NEW), named!(b"put in")),
+            Labelled(2, Request::Cell(CellOp::New(Value::Plain(0))), named!(b"cell 0")),
+            Labelled(3, Request::Cell(CellOp::New(Value::Plain(0))), named!(b"cell 1")),
             SpawnAt(4, "producer"),
             Label("wait for 11"),
             LOOK,
@@ -28,25 +28,25 @@ macro_rules! ring {
             YIELD,
             JumpTo("wait for 11"),
             Label("take 11"),
-            Do(1, Op::Cell(CellOp::Get(2), None)),
+            Do(1, Request::Cell(CellOp::Get(2))),
             UnlessTo(1, 11, "wrong"),
-            Do(0, Op::Atomic(AtomicOp::Store(0, 1, Release), None)),
+            Do(0, Request::Atomic(AtomicOp::Store(0, 1, Release))),
             Label("wait for 12"),
             LOOK,
             UnlessTo(0, 1, "take 12"),
             YIELD,
             JumpTo("wait for 12"),
             Label("take 12"),
-            Do(1, Op::Cell(CellOp::Get(3), None)),
+            Do(1, Request::Cell(CellOp::Get(3))),
             UnlessTo(1, 12, "wrong"),
-            Do(0, Op::Atomic(AtomicOp::Store(0, 2, Release), None)),
+            Do(0, Request::Atomic(AtomicOp::Store(0, 2, Release))),
             Label("wait for 13"),
             LOOK,
             UnlessTo(0, 2, "take 13"),
             YIELD,
             JumpTo("wait for 13"),
             Label("take 13"),
-            Do(1, Op::Cell(CellOp::Get(2), None)),
+            Do(1, Request::Cell(CellOp::Get(2))),
             UnlessTo(1, 13, "wrong"),
             FINISH,
             EXIT,
@@ -54,18 +54,18 @@ macro_rules! ring {
             Label("wrong"),
             FAIL,
             Label("producer"),
-            Do(0, Op::Cell(CellOp::Replace(2, Value::Plain(11)), None)),
-            Do(0, Op::Atomic(AtomicOp::Store(1, 1, $publish), None)),
-            Do(0, Op::Cell(CellOp::Replace(3, Value::Plain(12)), None)),
-            Do(0, Op::Atomic(AtomicOp::Store(1, 2, $publish), None)),
+            Do(0, Request::Cell(CellOp::Replace(2, Value::Plain(11)))),
+            Do(0, Request::Atomic(AtomicOp::Store(1, 1, $publish))),
+            Do(0, Request::Cell(CellOp::Replace(3, Value::Plain(12)))),
+            Do(0, Request::Atomic(AtomicOp::Store(1, 2, $publish))),
             Label("wait for room"),
-            Do(0, Op::Atomic(AtomicOp::Load(0, Acquire), None)),
+            Do(0, Request::Atomic(AtomicOp::Load(0, Acquire))),
             UnlessTo(0, 0, "put 13"),
             YIELD,
             JumpTo("wait for room"),
             Label("put 13"),
-            Do(0, Op::Cell(CellOp::Replace(2, Value::Plain(13)), None)),
-            Do(0, Op::Atomic(AtomicOp::Store(1, 3, $publish), None)),
+            Do(0, Request::Cell(CellOp::Replace(2, Value::Plain(13)))),
+            Do(0, Request::Atomic(AtomicOp::Store(1, 3, $publish))),
             FINISH,
             EXIT,
             END,

@@ -6,7 +6,8 @@ use Rattle.loom_view_parts.specs.declared.rt.failure.FailureKind.{FailureKind}
 use Rattle.loom_view_parts.specs.declared.rt.failure.FailureKind.TheVariants.{Misuse}
 use Rattle.loom_objects.specs.declared.failure.Stop.{Stop}
 use Rattle.loom_objects.specs.declared.failure.Stop.TheVariants.{Failure as Because, Memory}
-use Rattle.loom_objects.specs.declared.operation.Op.{Op}
+use Rattle.loom_objects.specs.Labels.{Op}
+use Rattle.loom_objects.specs.declared.operation.Request.{Request}
 use Rattle.loom_objects.specs.declared.operation.Reply.{Reply}
 use Rattle.loom_objects.specs.declared.operation.Reply.TheVariants as reply
 use Rattle.loom_objects.specs.declared.operation.Turn.{Turn}
@@ -88,7 +89,7 @@ module _ {D S : Type 0} (next : Meaning D S) where
         ∙ z.rest
 
     -- the operation stops the run
-    pub stops : (events : List Event) (bodies : List S) (run run' : Progress D) (path path' : Route) (thread : ℕ) (answer : Reply D) (body after : S) (op : Op D S) (todo : Op D ⊤) (event : Event) (stop : Stop)
+    pub stops : (events : List Event) (bodies : List S) (run run' : Progress D) (path path' : Route) (thread : ℕ) (answer : Reply D) (body after : S) (op : Op D S) (todo : Request D ⊤) (event : Event) (stop : Stop)
         → IsHanded next bodies thread answer body after op → event ≡ event_of thread answer op path.position → todo ≡ plain op
         → ((c : Course D) → ShowsCourse c run path → Comes (submit todo c) path (Err stop) run' path')
         → IsUnderWay next whole events bodies run path thread answer
@@ -98,7 +99,7 @@ module _ {D S : Type 0} (next : Meaning D S) where
         sym (rest_is events bodies run path thread answer body after op event h is z)
         ∙ ap (λ (d : Outcome (Turn D × Course D)). behind (events ++ event ∷ [])
         (goes_on (story path.search next z.course.world.steps_left (with_child (slice_set bodies thread after) (started op))) d))
-        (ap (λ (o : Op D ⊤). drives (submit o z.course) path) (sym same_op) ∙ came z.course z.shown)
+        (ap (λ (o : Request D ⊤). drives (submit o z.course) path) (sym same_op) ∙ came z.course z.shown)
         ∙ told_all (events ++ event ∷ []) (Err failure.kind, trail path')
 
     -- what is left after the turn
@@ -118,7 +119,7 @@ module _ {D S : Type 0} (next : Meaning D S) where
     after_turn (turn.Ended value) events bodies run path c left shown size e = sym e ∙ told_all events (Ok value, trail path)
 
     -- the operation leads to a turn
-    pub turns : (events : List Event) (bodies : List S) (run run' : Progress D) (path path' : Route) (thread : ℕ) (answer : Reply D) (body after : S) (op : Op D S) (todo : Op D ⊤) (child : Option S) (event : Event) (turned : Turn D)
+    pub turns : (events : List Event) (bodies : List S) (run run' : Progress D) (path path' : Route) (thread : ℕ) (answer : Reply D) (body after : S) (op : Op D S) (todo : Request D ⊤) (child : Option S) (event : Event) (turned : Turn D)
         → IsHanded next bodies thread answer body after op → event ≡ event_of thread answer op path.position → todo ≡ plain op → child ≡ started op
         → ((c : Course D) → ShowsCourse c run path → Comes (submit todo c) path (Ok turned) run' path')
         → run.state.steps_left ≡ run'.state.steps_left + 1 → path'.search ≡ path.search
@@ -136,11 +137,11 @@ module _ {D S : Type 0} (next : Meaning D S) where
         (ap (λ (s : Settings). behind told (at_turn (story s next left bodies' come.0 (trail path')) (λ value. nothing_more (Ok value, trail path')) turned)) same
         ∙ ap (λ (b : List S). behind told (at_turn (story path.search next left b come.0 (trail path')) (λ value. nothing_more (Ok value, trail path')) turned)) grown
         ∙ ap (λ (d : Outcome (Turn D × Course D)). behind told (goes_on (story path.search next left (with_child (slice_set bodies thread after) (started op))) d))
-        (sym (ap (λ (o : Op D ⊤). drives (submit o z.course) path) (sym same_op) ∙ come.2))
+        (sym (ap (λ (o : Request D ⊤). drives (submit o z.course) path) (sym same_op) ∙ come.2))
         ∙ rest_is events bodies run path thread answer body after op event h is z)
 
     -- the operation leads to a turn or stops the run
-    pub comes : (events : List Event) (bodies : List S) (run run' : Progress D) (path path' : Route) (thread : ℕ) (answer : Reply D) (body after : S) (op : Op D S) (todo : Op D ⊤) (child : Option S) (event : Event) (result : Result (Turn D) Stop)
+    pub comes : (events : List Event) (bodies : List S) (run run' : Progress D) (path path' : Route) (thread : ℕ) (answer : Reply D) (body after : S) (op : Op D S) (todo : Request D ⊤) (child : Option S) (event : Event) (result : Result (Turn D) Stop)
         → IsHanded next bodies thread answer body after op → event ≡ event_of thread answer op path.position → todo ≡ plain op → child ≡ started op
         → ((c : Course D) → ShowsCourse c run path → Comes (submit todo c) path result run' path')
         → OnOk result (run.state.steps_left ≡ run'.state.steps_left + 1) → path'.search ≡ path.search

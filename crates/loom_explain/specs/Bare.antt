@@ -16,8 +16,9 @@ use Rattle.loom_objects.specs.declared.operation.LocalOp.{LocalOp}
 use Rattle.loom_objects.specs.declared.operation.LocalOp.TheVariants as local
 use Rattle.loom_objects.specs.declared.operation.MutexOp.{MutexOp}
 use Rattle.loom_objects.specs.declared.operation.MutexOp.TheVariants as mutex
-use Rattle.loom_objects.specs.declared.operation.Op.{Op}
-use Rattle.loom_objects.specs.declared.operation.Op.TheVariants as op
+use Rattle.loom_objects.specs.Labels.{Op}
+use Rattle.loom_objects.specs.declared.operation.Request.{Request}
+use Rattle.loom_objects.specs.declared.operation.Request.TheVariants as op
 use Rattle.loom_objects.specs.declared.operation.Reply.{Reply}
 use Rattle.loom_objects.specs.declared.operation.Reply.TheVariants as reply
 use Rattle.loom_objects.specs.declared.operation.RwLockOp.{RwLockOp}
@@ -117,26 +118,30 @@ module _ {D : Type 0} where
   bare_thread thread.Exit = thread.Exit
   bare_thread thread.End = thread.End
 
+  -- what is asked for, without the data
+  abbrev pub bare_request : {S : Type 0} → Request D S → Request ⊤ ⊤
+  bare_request (op.Atomic todo) = op.Atomic todo
+  bare_request (op.Fence order) = op.Fence order
+  bare_request (op.Cell todo) = op.Cell (bare_cell todo)
+  bare_request (op.Arc todo) = op.Arc (bare_arc todo)
+  bare_request (op.Track todo) = op.Track (bare_track todo)
+  bare_request (op.Mutex todo) = op.Mutex (bare_mutex todo)
+  bare_request (op.RwLock todo) = op.RwLock (bare_rwlock todo)
+  bare_request (op.Condvar todo) = op.Condvar (bare_condvar todo)
+  bare_request (op.Notify todo) = op.Notify todo
+  bare_request (op.Channel todo) = op.Channel (bare_channel todo)
+  bare_request (op.Waker todo) = op.Waker todo
+  bare_request (op.AtomicWaker todo) = op.AtomicWaker todo
+  bare_request (op.Local todo) = op.Local (bare_local todo)
+  bare_request (op.Lazy todo) = op.Lazy (bare_lazy todo)
+  bare_request (op.Explore todo) = op.Explore todo
+  bare_request (op.Thread todo) = op.Thread (bare_thread todo)
+  bare_request op.Fail = op.Fail
+  bare_request op.Unreachable = op.Unreachable
+
   -- the operation, without its data
   abbrev pub bare_op : {S : Type 0} → Op D S → Op ⊤ ⊤
-  bare_op (op.Atomic todo place) = op.Atomic todo place
-  bare_op (op.Fence order place) = op.Fence order place
-  bare_op (op.Cell todo place) = op.Cell (bare_cell todo) place
-  bare_op (op.Arc todo place) = op.Arc (bare_arc todo) place
-  bare_op (op.Track todo place) = op.Track (bare_track todo) place
-  bare_op (op.Mutex todo place) = op.Mutex (bare_mutex todo) place
-  bare_op (op.RwLock todo place) = op.RwLock (bare_rwlock todo) place
-  bare_op (op.Condvar todo place) = op.Condvar (bare_condvar todo) place
-  bare_op (op.Notify todo place) = op.Notify todo place
-  bare_op (op.Channel todo place) = op.Channel (bare_channel todo) place
-  bare_op (op.Waker todo place) = op.Waker todo place
-  bare_op (op.AtomicWaker todo place) = op.AtomicWaker todo place
-  bare_op (op.Local todo place) = op.Local (bare_local todo) place
-  bare_op (op.Lazy todo place) = op.Lazy (bare_lazy todo) place
-  bare_op (op.Explore todo place) = op.Explore todo place
-  bare_op (op.Thread todo place) = op.Thread (bare_thread todo) place
-  bare_op (op.Fail place) = op.Fail place
-  bare_op (op.Unreachable place) = op.Unreachable place
+  bare_op op = record { request = bare_request op.request; label = op.label }
 
   -- a message of a channel, without what it holds
   abbrev pub nothing : D → ⊤

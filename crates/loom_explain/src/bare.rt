@@ -1,10 +1,10 @@
 //! Operations and replies without their data, which stand as `()`.
 ghost use Rattle.std.specs.Prelude.{◌≡◌, IfOk, map};
-ghost use Rattle.loom_explain.specs.Bare.{bare_arc, bare_cell, bare_channel, bare_condvar, bare_lazy, bare_lazy_value, bare_local, bare_local_value, bare_mutex, bare_op, bare_reply, bare_rwlock, bare_thread, bare_track, nothing};
+ghost use Rattle.loom_explain.specs.Bare.{bare_arc, bare_cell, bare_channel, bare_condvar, bare_lazy, bare_lazy_value, bare_local, bare_local_value, bare_mutex, bare_op, bare_reply, bare_request, bare_rwlock, bare_thread, bare_track, nothing};
 
 use loom_objects::operation::{
-    ArcOp, CellOp, ChannelOp, CondvarOp, Keyed, Lazy, LazyOp, LocalOp, MutexOp, Op, Reply,
-    RwLockOp, ThreadOp, TrackOp,
+    ArcOp, CellOp, ChannelOp, CondvarOp, Keyed, Labelled, Lazy, LazyOp, LocalOp, MutexOp, Op,
+    Reply, Request, RwLockOp, ThreadOp, TrackOp,
 };
 use loom_views::sequence::Sequence;
 use std::alloc::{AllocError, Global};
@@ -14,25 +14,34 @@ use std::collections::LinkedList;
 pub fn bare_op<D, S>(op: &Op<D, S>) -> Op<(), ()>
     ensures { result ≡ bare_op op.now }
 {
-    match op {
-        Op::Atomic(op, place) => Op::Atomic(*op, *place),
-        Op::Fence(order, place) => Op::Fence(*order, *place),
-        Op::Cell(op, place) => Op::Cell(bare_cell(op), *place),
-        Op::Arc(op, place) => Op::Arc(bare_arc(op), *place),
-        Op::Track(op, place) => Op::Track(bare_track(op), *place),
-        Op::Mutex(op, place) => Op::Mutex(bare_mutex(op), *place),
-        Op::RwLock(op, place) => Op::RwLock(bare_rwlock(op), *place),
-        Op::Condvar(op, place) => Op::Condvar(bare_condvar(op), *place),
-        Op::Notify(op, place) => Op::Notify(*op, *place),
-        Op::Channel(op, place) => Op::Channel(bare_channel(op), *place),
-        Op::Waker(op, place) => Op::Waker(*op, *place),
-        Op::AtomicWaker(op, place) => Op::AtomicWaker(*op, *place),
-        Op::Local(op, place) => Op::Local(bare_local(op), *place),
-        Op::Lazy(op, place) => Op::Lazy(bare_lazy(op), *place),
-        Op::Explore(op, place) => Op::Explore(*op, *place),
-        Op::Thread(op, place) => Op::Thread(bare_thread(op), *place),
-        Op::Fail(place) => Op::Fail(*place),
-        Op::Unreachable(place) => Op::Unreachable(*place),
+    Labelled {
+        request: bare_request(&op.request),
+        label: op.label,
+    }
+}
+
+fn bare_request<D, S>(request: &Request<D, S>) -> Request<(), ()>
+    ensures { result ≡ bare_request request.now }
+{
+    match request {
+        Request::Atomic(op) => Request::Atomic(*op),
+        Request::Fence(order) => Request::Fence(*order),
+        Request::Cell(op) => Request::Cell(bare_cell(op)),
+        Request::Arc(op) => Request::Arc(bare_arc(op)),
+        Request::Track(op) => Request::Track(bare_track(op)),
+        Request::Mutex(op) => Request::Mutex(bare_mutex(op)),
+        Request::RwLock(op) => Request::RwLock(bare_rwlock(op)),
+        Request::Condvar(op) => Request::Condvar(bare_condvar(op)),
+        Request::Notify(op) => Request::Notify(*op),
+        Request::Channel(op) => Request::Channel(bare_channel(op)),
+        Request::Waker(op) => Request::Waker(*op),
+        Request::AtomicWaker(op) => Request::AtomicWaker(*op),
+        Request::Local(op) => Request::Local(bare_local(op)),
+        Request::Lazy(op) => Request::Lazy(bare_lazy(op)),
+        Request::Explore(op) => Request::Explore(*op),
+        Request::Thread(op) => Request::Thread(bare_thread(op)),
+        Request::Fail => Request::Fail,
+        Request::Unreachable => Request::Unreachable,
     }
 }
 

@@ -1,11 +1,12 @@
-ghost use Rattle.std.specs.Prelude.{◌≡◌, None};
+ghost use Rattle.std.specs.Prelude.{◌≡◌};
+ghost use Rattle.loom_objects.specs.Labels.{bare};
 
-use loom_objects::operation::{AtomicOp, Op};
+use loom_objects::operation::{AtomicOp, Op, Request};
 use loom_views::rt::num::Numeric;
 
 /// Ends the thread's mutation of the atomic of this number, which leaves this value (loom's `sync/atomic/int.rs`).
 pub fn with_mut_end<T: Numeric, D, S>(number: usize, value: T) -> Op<D, S>
-    ensures { result ≡ Op.Atomic (AtomicOp.WithMutEnd number (T.number value)) None }
+    ensures { result ≡ bare (Request.Atomic (AtomicOp.WithMutEnd number (T.number value))) }
 {
-    Op::Atomic(AtomicOp::WithMutEnd(number, value.into_u64()), None)
+    Op::new(Request::Atomic(AtomicOp::WithMutEnd(number, value.into_u64())))
 }

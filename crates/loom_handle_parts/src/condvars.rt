@@ -1,11 +1,12 @@
-ghost use Rattle.std.specs.Prelude.{◌≡◌, None};
+ghost use Rattle.std.specs.Prelude.{◌≡◌};
+ghost use Rattle.loom_objects.specs.Labels.{bare};
 
-use loom_objects::operation::{CondvarOp, Op};
+use loom_objects::operation::{CondvarOp, Op, Request};
 
 /// The thread releases the mutex of this number, which holds this data then, and waits on the condition variable (loom's
 /// `sync/condvar.rs`).
 pub fn wait<D, S>(condvar: usize, mutex: usize, value: D) -> Op<D, S>
-    ensures { result ≡ Op.Condvar (CondvarOp.Wait condvar mutex value) None }
+    ensures { result ≡ bare (Request.Condvar (CondvarOp.Wait condvar mutex value)) }
 {
-    Op::Condvar(CondvarOp::Wait(condvar, mutex, value), None)
+    Op::new(Request::Condvar(CondvarOp::Wait(condvar, mutex, value)))
 }

@@ -1,13 +1,14 @@
-ghost use Rattle.std.specs.Prelude.{◌≡◌, None};
+ghost use Rattle.std.specs.Prelude.{◌≡◌};
+ghost use Rattle.loom_objects.specs.Labels.{bare};
 ghost use Rattle.loom_handle_parts.specs.Holding.{held_in};
 
-use loom_objects::operation::{MutexOp, Op, Reply};
+use loom_objects::operation::{MutexOp, Op, Reply, Request};
 
 /// The thread holds the mutex of this number from its reply on (loom's `sync/mutex.rs`).
 pub fn lock<D, S>(number: usize) -> Op<D, S>
-    ensures { result ≡ Op.Mutex (MutexOp.Lock number) None }
+    ensures { result ≡ bare (Request.Mutex (MutexOp.Lock number)) }
 {
-    Op::Mutex(MutexOp::Lock(number), None)
+    Op::new(Request::Mutex(MutexOp::Lock(number)))
 }
 
 /// The mutex that the thread holds now, by its number, if that is what the reply says: of a lock, or of a wait with a time (own).

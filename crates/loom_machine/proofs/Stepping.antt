@@ -10,7 +10,7 @@ use Rattle.loom_parts.specs.declared.choice.Choice.{Choice}
 use Rattle.loom_parts.specs.declared.choice.Choice.TheVariants as choice
 use Rattle.loom_objects.specs.declared.failure.Stop.{Stop}
 use Rattle.loom_objects.specs.declared.failure.Stop.TheVariants.{Memory}
-use Rattle.loom_objects.specs.declared.operation.Op.{Op}
+use Rattle.loom_objects.specs.declared.operation.Request.{Request}
 use Rattle.loom_objects.specs.declared.operation.Reply.{Reply}
 use Rattle.loom_objects.specs.declared.operation.Reply.TheVariants as reply
 use Rattle.loom_objects.specs.declared.operation.Turn.TheVariants as turn
@@ -75,7 +75,7 @@ module _ {D : Type 0} where
       (comes_by w.points old.steps_left (effect (world_of w.points old.steps_left old.scene)) r new same (does w.points old.steps_left shown.views))
 
   -- an operation is counted, and begins
-  pub begins_by : (op : Op D ⊤) (old new : RunState D) (r : Result (Entry D) FailureKind) → nat_lt 0 old.steps_left ≡ true → new.steps_left ≡ old.steps_left - 1
+  pub begins_by : (op : Request D ⊤) (old new : RunState D) (r : Result (Entry D) FailureKind) → nat_lt 0 old.steps_left ≡ true → new.steps_left ≡ old.steps_left - 1
       → scene.Does (op_begins op) old.scene r new.scene → Does (begins op) old (failing r) new
   begins_by op old new r some fewer does = λ w shown.
       let q : World D = world_of w.points (old.steps_left - 1) old.scene in

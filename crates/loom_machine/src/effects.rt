@@ -11,7 +11,7 @@ use loom_cells::{cells, counts, tracks};
 use loom_channels::channels;
 use loom_locks::{condvars, locks, rwlocks};
 use loom_objects::data::Data;
-use loom_objects::operation::{Op, Reply, Turn};
+use loom_objects::operation::{Reply, Request, Turn};
 use loom_objects::rt::run::{Entry, Passed, Resumed};
 use loom_objects::rt::scene::Scene;
 use loom_objects::rt::thread::Task;
@@ -26,30 +26,30 @@ use std::alloc::AllocError;
 #[inline(always)]
 pub(crate) fn begin_op<D: Data>(
     scene: &mut Scene<D>,
-    op: Op<D, ()>,
+    op: Request<D, ()>,
 ) -> Result<Result<Entry<D>, FailureKind>, AllocError>
     ensures does { IfOk result (λ answer. Does (rules.op_begins op) scene.old answer scene.new) }
     ensures growth { OnErr result (rules.needs_memory op ≡ true) }
 {
     match op {
-        Op::Atomic(op, _) => atomics::atomic_begins(scene, op),
-        Op::Fence(order, _) => Ok(atomics::fence(scene, order)),
-        Op::Cell(op, _) => cells::cell_begins(scene, op),
-        Op::Arc(op, _) => counts::arc_begins(scene, op),
-        Op::Track(op, _) => tracks::track_begins(scene, op),
-        Op::Mutex(op, _) => locks::mutex_begins(scene, op),
-        Op::RwLock(op, _) => rwlocks::rwlock_begins(scene, op),
-        Op::Condvar(op, _) => condvars::condvar_begins(scene, op),
-        Op::Notify(op, _) => notifiers::notifier_begins(scene, op),
-        Op::Channel(op, _) => channels::channel_begins(scene, op),
-        Op::Waker(op, _) => wakers::waker_begins(scene, op),
-        Op::AtomicWaker(op, _) => places::place_begins(scene, op),
-        Op::Local(op, _) => values::local_begins(scene, op),
-        Op::Lazy(op, _) => values::lazy_begins(scene, op),
-        Op::Explore(op, _) => Ok(Ok(Entry::Explores(op))),
-        Op::Thread(op, _) => threads::thread_begins(scene, op),
-        Op::Fail(_) => Ok(Err(FailureKind::Assertion)),
-        Op::Unreachable(_) => Ok(Err(FailureKind::Unreachable)),
+        Request::Atomic(op) => atomics::atomic_begins(scene, op),
+        Request::Fence(order) => Ok(atomics::fence(scene, order)),
+        Request::Cell(op) => cells::cell_begins(scene, op),
+        Request::Arc(op) => counts::arc_begins(scene, op),
+        Request::Track(op) => tracks::track_begins(scene, op),
+        Request::Mutex(op) => locks::mutex_begins(scene, op),
+        Request::RwLock(op) => rwlocks::rwlock_begins(scene, op),
+        Request::Condvar(op) => condvars::condvar_begins(scene, op),
+        Request::Notify(op) => notifiers::notifier_begins(scene, op),
+        Request::Channel(op) => channels::channel_begins(scene, op),
+        Request::Waker(op) => wakers::waker_begins(scene, op),
+        Request::AtomicWaker(op) => places::place_begins(scene, op),
+        Request::Local(op) => values::local_begins(scene, op),
+        Request::Lazy(op) => values::lazy_begins(scene, op),
+        Request::Explore(op) => Ok(Ok(Entry::Explores(op))),
+        Request::Thread(op) => threads::thread_begins(scene, op),
+        Request::Fail => Ok(Err(FailureKind::Assertion)),
+        Request::Unreachable => Ok(Err(FailureKind::Unreachable)),
     }
 }
 

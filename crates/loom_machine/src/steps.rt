@@ -13,7 +13,7 @@ use crate::effects::{begin_op, go_on};
 use loom_atomics::atomics;
 use loom_objects::data::Data;
 use loom_objects::failure::{Stop, failed};
-use loom_objects::operation::{Op, Turn};
+use loom_objects::operation::{Request, Turn};
 use loom_objects::rt::run::{Entry, Loading, Resumed, RunState};
 use loom_parts::steps::take_step;
 use loom_threads::notifiers;
@@ -22,7 +22,7 @@ use loom_views::rt::failure::FailureKind;
 /// What the active thread's operation does up to its branch point, or all of it, where it has none. It is counted
 /// before anything else: `TooManySteps` where none is left.
 #[inline(always)]
-pub fn begin<D: Data>(run: &mut RunState<D>, op: Op<D, ()>) -> Result<Entry<D>, Stop>
+pub fn begin<D: Data>(run: &mut RunState<D>, op: Request<D, ()>) -> Result<Entry<D>, Stop>
     ensures does { Does (rules.begins op) run.old result run.new }
     ensures steps { OnOk result (run.old.steps_left ≡ run.new.steps_left + 1) }
     ensures growth { result ≡ Err Stop.Memory → effects.needs_memory op ≡ true }

@@ -43,5 +43,5 @@ pub fn stopped(stop: Stop, events: &[Event], active: u8) -> Result<End, AllocErr
 /// The place of the thread's last operation, if it is known.
 fn last_place(events: &[Event], thread: u8) -> Option<Location> {
     let last = events.iter().rev().find(|event| event.thread == thread)?;
-    location_in(last.op.label())
+    location_in(last.op.label)
 }

@@ -6,8 +6,8 @@ use Rattle.loom_objects.specs.declared.operation.Turn.TheVariants as turn
 use Rattle.loom_objects.specs.Atomics.{atomic_begins, fence, accesses, needs_memory as atomic_needs_memory}
 use Rattle.loom_objects.specs.Rule.{◌>>=◌, check}
 use Rattle.loom_view_parts.specs.declared.rt.failure.FailureKind.{FailureKind}
-use Rattle.loom_objects.specs.declared.operation.Op.{Op}
-use Rattle.loom_objects.specs.declared.operation.Op.TheVariants as op
+use Rattle.loom_objects.specs.declared.operation.Request.{Request}
+use Rattle.loom_objects.specs.declared.operation.Request.TheVariants as op
 use Rattle.loom_objects.specs.declared.rt.run.Entry.{Entry}
 use Rattle.loom_objects.specs.declared.rt.run.Entry.TheVariants.{Explores}
 use Rattle.loom_objects.specs.declared.rt.run.Passed.TheVariants as passed
@@ -32,49 +32,49 @@ use Rattle.loom_objects.specs.World.{World}
 
 module _ {D : Type 0} where
   -- what an operation does up to its branch point, or all of it, where it has none
-  abbrev pub op_begins : Op D ⊤ → World D → Result (Entry D × World D) FailureKind
-  op_begins (op.Atomic todo place) w = atomic_begins todo w
-  op_begins (op.Fence order place) w = fence order w
-  op_begins (op.Cell todo place) w = cell_begins todo w
-  op_begins (op.Arc todo place) w = arc_begins todo w
-  op_begins (op.Track todo place) w = track_begins todo w
-  op_begins (op.Mutex todo place) w = mutex_begins todo w
-  op_begins (op.RwLock todo place) w = rwlock_begins todo w
-  op_begins (op.Condvar todo place) w = condvar_begins todo w
-  op_begins (op.Notify todo place) w = notifier_begins todo w
-  op_begins (op.Channel todo place) w = channel_begins todo w
-  op_begins (op.Waker todo place) w = waker_begins todo w
-  op_begins (op.AtomicWaker todo place) w = place_begins todo w
-  op_begins (op.Local todo place) w = local_begins todo w
-  op_begins (op.Lazy todo place) w = lazy_begins todo w
-  op_begins (op.Explore todo place) w = Ok (Explores todo, w)
-  op_begins (op.Thread todo place) w = thread_begins todo w
-  op_begins (op.Fail place) w = Err Assertion
-  op_begins (op.Unreachable place) w = Err Unreachable
+  abbrev pub op_begins : Request D ⊤ → World D → Result (Entry D × World D) FailureKind
+  op_begins (op.Atomic todo) w = atomic_begins todo w
+  op_begins (op.Fence order) w = fence order w
+  op_begins (op.Cell todo) w = cell_begins todo w
+  op_begins (op.Arc todo) w = arc_begins todo w
+  op_begins (op.Track todo) w = track_begins todo w
+  op_begins (op.Mutex todo) w = mutex_begins todo w
+  op_begins (op.RwLock todo) w = rwlock_begins todo w
+  op_begins (op.Condvar todo) w = condvar_begins todo w
+  op_begins (op.Notify todo) w = notifier_begins todo w
+  op_begins (op.Channel todo) w = channel_begins todo w
+  op_begins (op.Waker todo) w = waker_begins todo w
+  op_begins (op.AtomicWaker todo) w = place_begins todo w
+  op_begins (op.Local todo) w = local_begins todo w
+  op_begins (op.Lazy todo) w = lazy_begins todo w
+  op_begins (op.Explore todo) w = Ok (Explores todo, w)
+  op_begins (op.Thread todo) w = thread_begins todo w
+  op_begins op.Fail w = Err Assertion
+  op_begins op.Unreachable w = Err Unreachable
 
   -- memory may be refused: an object or a thread is made, or data is copied
-  abbrev pub needs_memory : Op D ⊤ → Bool
-  needs_memory (op.Atomic todo place) = atomic_needs_memory todo
-  needs_memory (op.Cell todo place) = cell_needs_memory todo
-  needs_memory (op.Arc todo place) = arc_needs_memory todo
-  needs_memory (op.Track todo place) = track_needs_memory todo
-  needs_memory (op.Mutex todo place) = mutex_needs_memory todo
-  needs_memory (op.RwLock todo place) = rwlock_needs_memory todo
-  needs_memory (op.Condvar todo place) = condvar_needs_memory todo
-  needs_memory (op.Notify todo place) = notifier_needs_memory todo
-  needs_memory (op.Channel todo place) = channel_needs_memory todo
-  needs_memory (op.Waker todo place) = waker_needs_memory todo
-  needs_memory (op.AtomicWaker todo place) = place_needs_memory todo
-  needs_memory (op.Local todo place) = local_needs_memory todo
-  needs_memory (op.Lazy todo place) = lazy_needs_memory todo
-  needs_memory (op.Explore todo place) = false
-  needs_memory (op.Thread todo place) = thread_needs_memory todo
-  needs_memory (op.Fence order place) = false
-  needs_memory (op.Fail place) = false
-  needs_memory (op.Unreachable place) = false
+  abbrev pub needs_memory : Request D ⊤ → Bool
+  needs_memory (op.Atomic todo) = atomic_needs_memory todo
+  needs_memory (op.Cell todo) = cell_needs_memory todo
+  needs_memory (op.Arc todo) = arc_needs_memory todo
+  needs_memory (op.Track todo) = track_needs_memory todo
+  needs_memory (op.Mutex todo) = mutex_needs_memory todo
+  needs_memory (op.RwLock todo) = rwlock_needs_memory todo
+  needs_memory (op.Condvar todo) = condvar_needs_memory todo
+  needs_memory (op.Notify todo) = notifier_needs_memory todo
+  needs_memory (op.Channel todo) = channel_needs_memory todo
+  needs_memory (op.Waker todo) = waker_needs_memory todo
+  needs_memory (op.AtomicWaker todo) = place_needs_memory todo
+  needs_memory (op.Local todo) = local_needs_memory todo
+  needs_memory (op.Lazy todo) = lazy_needs_memory todo
+  needs_memory (op.Explore todo) = false
+  needs_memory (op.Thread todo) = thread_needs_memory todo
+  needs_memory (op.Fence order) = false
+  needs_memory op.Fail = false
+  needs_memory op.Unreachable = false
 
   -- an operation that is handed over is counted before anything else
-  abbrev pub counted : Op D ⊤ → World D → Result (Entry D × World D) FailureKind
+  abbrev pub counted : Request D ⊤ → World D → Result (Entry D × World D) FailureKind
   counted todo w = do
     _ ← check (nat_lt 0 w.steps_left) TooManySteps
     op_begins todo (record w { steps_left = w.steps_left - 1 })

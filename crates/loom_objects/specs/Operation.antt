@@ -1,7 +1,8 @@
 -- An operation apart from what it starts.
 use Rattle.std.specs.Prelude.{Option, Some, None, ⊤}
-use Rattle.loom_objects.specs.declared.operation.Op.{Op}
-use Rattle.loom_objects.specs.declared.operation.Op.TheVariants.{Atomic, Fence, Cell, Arc, Track, Mutex, RwLock, Condvar, Notify, Channel, Waker, AtomicWaker, Local, Lazy, Explore, Thread, Fail, Unreachable}
+use Rattle.loom_objects.specs.Labels.{Op}
+use Rattle.loom_objects.specs.declared.operation.Request.{Request}
+use Rattle.loom_objects.specs.declared.operation.Request.TheVariants.{Atomic, Fence, Cell, Arc, Track, Mutex, RwLock, Condvar, Notify, Channel, Waker, AtomicWaker, Local, Lazy, Explore, Thread, Fail, Unreachable}
 use Rattle.loom_objects.specs.declared.operation.ThreadOp.{ThreadOp}
 use Rattle.loom_objects.specs.declared.operation.ThreadOp.TheVariants.{Spawn, Join, Current, Park, Unpark, Yield, Finish, Exit, End}
 
@@ -17,26 +18,26 @@ module _ {D S : Type 0} where
   plain_thread Exit = Exit
   plain_thread End = End
 
-  -- the operation without what it starts
-  abbrev pub plain : Op D S → Op D ⊤
-  plain (Atomic op place) = Atomic op place
-  plain (Fence order place) = Fence order place
-  plain (Cell op place) = Cell op place
-  plain (Arc op place) = Arc op place
-  plain (Track op place) = Track op place
-  plain (Mutex op place) = Mutex op place
-  plain (RwLock op place) = RwLock op place
-  plain (Condvar op place) = Condvar op place
-  plain (Notify op place) = Notify op place
-  plain (Channel op place) = Channel op place
-  plain (Waker op place) = Waker op place
-  plain (AtomicWaker op place) = AtomicWaker op place
-  plain (Local op place) = Local op place
-  plain (Lazy op place) = Lazy op place
-  plain (Explore op place) = Explore op place
-  plain (Thread op place) = Thread (plain_thread op) place
-  plain (Fail place) = Fail place
-  plain (Unreachable place) = Unreachable place
+  -- what is asked for, without what it starts
+  abbrev pub plain_request : Request D S → Request D ⊤
+  plain_request (Atomic op) = Atomic op
+  plain_request (Fence order) = Fence order
+  plain_request (Cell op) = Cell op
+  plain_request (Arc op) = Arc op
+  plain_request (Track op) = Track op
+  plain_request (Mutex op) = Mutex op
+  plain_request (RwLock op) = RwLock op
+  plain_request (Condvar op) = Condvar op
+  plain_request (Notify op) = Notify op
+  plain_request (Channel op) = Channel op
+  plain_request (Waker op) = Waker op
+  plain_request (AtomicWaker op) = AtomicWaker op
+  plain_request (Local op) = Local op
+  plain_request (Lazy op) = Lazy op
+  plain_request (Explore op) = Explore op
+  plain_request (Thread op) = Thread (plain_thread op)
+  plain_request Fail = Fail
+  plain_request Unreachable = Unreachable
 
   abbrev pub started_thread : ThreadOp D S → Option S
   started_thread (Spawn body name) = Some body
@@ -50,22 +51,30 @@ module _ {D S : Type 0} where
   started_thread End = None
 
   -- what a spawn starts
+  abbrev pub started_request : Request D S → Option S
+  started_request (Atomic op) = None
+  started_request (Fence order) = None
+  started_request (Cell op) = None
+  started_request (Arc op) = None
+  started_request (Track op) = None
+  started_request (Mutex op) = None
+  started_request (RwLock op) = None
+  started_request (Condvar op) = None
+  started_request (Notify op) = None
+  started_request (Channel op) = None
+  started_request (Waker op) = None
+  started_request (AtomicWaker op) = None
+  started_request (Local op) = None
+  started_request (Lazy op) = None
+  started_request (Explore op) = None
+  started_request (Thread op) = started_thread op
+  started_request Fail = None
+  started_request Unreachable = None
+
+  -- what the machine is asked for: the operation without its label and what it starts
+  abbrev pub plain : Op D S → Request D ⊤
+  plain op = plain_request op.request
+
+  -- what the operation starts
   abbrev pub started : Op D S → Option S
-  started (Atomic op place) = None
-  started (Fence order place) = None
-  started (Cell op place) = None
-  started (Arc op place) = None
-  started (Track op place) = None
-  started (Mutex op place) = None
-  started (RwLock op place) = None
-  started (Condvar op place) = None
-  started (Notify op place) = None
-  started (Channel op place) = None
-  started (Waker op place) = None
-  started (AtomicWaker op place) = None
-  started (Local op place) = None
-  started (Lazy op place) = None
-  started (Explore op place) = None
-  started (Thread op place) = started_thread op
-  started (Fail place) = None
-  started (Unreachable place) = None
+  started op = started_request op.request

@@ -3,7 +3,7 @@ use Rattle.std.specs.Prelude.{ℕ, Bool, List, [], ◌∷◌, ⊤}
 use Rattle.loom_view_parts.specs.declared.rt.failure.FailureKind.TheVariants.{Misuse, NotDeterministic}
 use Rattle.loom_parts.specs.declared.choice.Choice.{Choice}
 use Rattle.loom_parts.specs.declared.choice.Choice.TheVariants as choice
-use Rattle.loom_objects.specs.declared.operation.Op.{Op}
+use Rattle.loom_objects.specs.declared.operation.Request.{Request}
 use Rattle.loom_objects.specs.declared.operation.Reply.{Reply}
 use Rattle.loom_objects.specs.declared.operation.Turn.{Turn}
 use Rattle.loom_objects.specs.declared.operation.Turn.TheVariants as turn
@@ -37,7 +37,7 @@ asks_store exploring readable = asks_slot exploring (slots readable)
 
 module _ {D : Type 0} where
   -- what an operation does up to its branch point, or all of it, where it has none
-  abbrev pub begins : Op D ⊤ → World D → Tree (Entry D × World D)
+  abbrev pub begins : Request D ⊤ → World D → Tree (Entry D × World D)
   begins todo w = came (counted todo w)
 
   -- once it is known whether the active thread wakes from notifier n without a notification

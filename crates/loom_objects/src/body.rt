@@ -1,5 +1,5 @@
 ghost use Rattle.std.specs.Prelude.{◌≡◌, IfOk};
-ghost use Rattle.loom_objects.specs.declared.operation.Op.{Op};
+ghost use Rattle.loom_objects.specs.Labels.{Op};
 ghost use Rattle.loom_objects.specs.declared.operation.Reply.{Reply};
 
 use crate::data::Data;

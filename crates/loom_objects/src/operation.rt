@@ -2,41 +2,56 @@ ghost use Rattle.std.specs.Prelude.{◌≡◌};
 ghost use Rattle.loom_objects.specs.Accessed.{accessed};
 ghost use Rattle.loom_objects.specs.Operation.{plain, plain_thread, started, started_thread};
 ghost use Rattle.loom_objects.specs.Labels as labels;
+ghost use Rattle.loom_objects.specs.Labels.{bare};
+ghost use Rattle.loom_parts.specs.Texts.{first_text};
 
 use crate::rt::thread::Name;
 use loom_parts::label::{Label, named, placed};
 use loom_parts::location::Location;
+use loom_parts::text::Text;
 use loom_views::rt::change::Change;
 use loom_views::rt::num::Numbers;
 use loom_views::sequence::Sequence;
 use std::collections::LinkedList;
 use std::sync::atomic::Ordering;
 
-/// One operation, and how its body's author calls it, if that was said. `D` is the data type, `S` what a
-/// spawn starts. Objects are named by their numbers, in order of creation.
+/// What is asked for, and how its author calls it.
 #[derive(Debug, Drop)]
-pub enum Op<D, S> {
-    Atomic(AtomicOp, Option<Label>),
+pub struct Labelled<R> {
+    /// What is asked for.
+    pub request: R,
+    /// How it is called, if that was said. Nothing else rests on it (own).
+    pub label: Option<Label>,
+}
+
+/// One operation: what a thread does next, and how its body's author calls that.
+pub type Op<D, S> = Labelled<Request<D, S>>;
+
+/// What a thread asks for of an object, of a thread or of the run. `D` is the data type, `S` what a spawn starts. Objects are named
+/// by their numbers, in order of creation.
+#[derive(Debug, Drop)]
+pub enum Request<D, S> {
+    Atomic(AtomicOp),
     /// A fence.
-    Fence(Ordering, Option<Label>),
-    Cell(CellOp<D>, Option<Label>),
-    Arc(ArcOp<D>, Option<Label>),
-    Track(TrackOp<D>, Option<Label>),
-    Mutex(MutexOp<D>, Option<Label>),
-    RwLock(RwLockOp<D>, Option<Label>),
-    Condvar(CondvarOp<D>, Option<Label>),
-    Notify(NotifyOp, Option<Label>),
-    Channel(ChannelOp<D>, Option<Label>),
-    Waker(WakerOp, Option<Label>),
-    AtomicWaker(AtomicWakerOp, Option<Label>),
-    Local(LocalOp<D>, Option<Label>),
-    Lazy(LazyOp<D>, Option<Label>),
-    Explore(ExploreOp, Option<Label>),
-    Thread(ThreadOp<D, S>, Option<Label>),
+    Fence(Ordering),
+    Cell(CellOp<D>),
+    Arc(ArcOp<D>),
+    Track(TrackOp<D>),
+    Mutex(MutexOp<D>),
+    RwLock(RwLockOp<D>),
+    Condvar(CondvarOp<D>),
+    Notify(NotifyOp),
+    Channel(ChannelOp<D>),
+    Waker(WakerOp),
+    AtomicWaker(AtomicWakerOp),
+    Local(LocalOp<D>),
+    Lazy(LazyOp<D>),
+    Explore(ExploreOp),
+    Thread(ThreadOp<D, S>),
     /// The body's own assertion failed.
-    Fail(Option<Label>),
+    Fail,
     /// Code was reached that is never to be.
-    Unreachable(Option<Label>),
+    Unreachable,
 }
 
 /// The operations of an atomic, whose values are the `u64` that stands for them. A value is cast to the type of what the
@@ -426,106 +441,70 @@ pub enum Turn<D> {
     Ended(D),
 }
 
-impl<D, S> Op<D, S> {
+impl<R> Labelled<R> {
+    /// An operation without a label (own).
+    pub fn new(request: R) -> Labelled<R>
+        ensures { result ≡ bare request }
+    {
+        Labelled {
+            request,
+            label: None,
+        }
+    }
+
     /// The operation, at a place in the source. A name that it was given stays.
-    pub fn at(self, location: Location) -> Op<D, S>
+    pub fn at(self, location: Location) -> Labelled<R>
         ensures { result ≡ labels.placed location self }
     {
-        let label = placed(self.label(), location);
-        self.with_label(label)
-    }
-
-    /// The operation, with a name for what it makes. A place that it was given stays (own).
-    pub fn named(self, name: &'static str) -> Op<D, S>
-        ensures { result ≡ labels.named name.entry self }
-    {
-        let label = named(self.label(), name);
-        self.with_label(label)
-    }
-
-    /// How its body's author calls it, if that was said (own).
-    pub fn label(&self) -> Option<Label>
-        ensures { result ≡ labels.label_in self.now }
-    {
-        match self {
-            Op::Atomic(_, label) => *label,
-            Op::Fence(_, label) => *label,
-            Op::Cell(_, label) => *label,
-            Op::Arc(_, label) => *label,
-            Op::Track(_, label) => *label,
-            Op::Mutex(_, label) => *label,
-            Op::RwLock(_, label) => *label,
-            Op::Condvar(_, label) => *label,
-            Op::Notify(_, label) => *label,
-            Op::Channel(_, label) => *label,
-            Op::Waker(_, label) => *label,
-            Op::AtomicWaker(_, label) => *label,
-            Op::Local(_, label) => *label,
-            Op::Lazy(_, label) => *label,
-            Op::Explore(_, label) => *label,
-            Op::Thread(_, label) => *label,
-            Op::Fail(label) => *label,
-            Op::Unreachable(label) => *label,
+        Labelled {
+            request: self.request,
+            label: placed(self.label, location),
         }
     }
 
-    /// The operation with this label, in place of its own (own).
-    pub fn with_label(self, label: Option<Label>) -> Op<D, S>
-        ensures { result ≡ labels.labelled label self }
+    /// The operation, with a name for what it makes, of which 31 bytes are kept. A place that it was given stays (own).
+    pub fn named(self, name: &str) -> Labelled<R>
+        ensures { result ≡ labels.named (first_text name.now) self }
     {
-        match self {
-            Op::Atomic(op, _) => Op::Atomic(op, label),
-            Op::Fence(order, _) => Op::Fence(order, label),
-            Op::Cell(op, _) => Op::Cell(op, label),
-            Op::Arc(op, _) => Op::Arc(op, label),
-            Op::Track(op, _) => Op::Track(op, label),
-            Op::Mutex(op, _) => Op::Mutex(op, label),
-            Op::RwLock(op, _) => Op::RwLock(op, label),
-            Op::Condvar(op, _) => Op::Condvar(op, label),
-            Op::Notify(op, _) => Op::Notify(op, label),
-            Op::Channel(op, _) => Op::Channel(op, label),
-            Op::Waker(op, _) => Op::Waker(op, label),
-            Op::AtomicWaker(op, _) => Op::AtomicWaker(op, label),
-            Op::Local(op, _) => Op::Local(op, label),
-            Op::Lazy(op, _) => Op::Lazy(op, label),
-            Op::Explore(op, _) => Op::Explore(op, label),
-            Op::Thread(op, _) => Op::Thread(op, label),
-            Op::Fail(_) => Op::Fail(label),
-            Op::Unreachable(_) => Op::Unreachable(label),
+        Labelled {
+            request: self.request,
+            label: named(self.label, Text::first(name)),
         }
     }
+}
 
-    /// The operation, and apart from it what a spawn starts.
+impl<D, S> Labelled<Request<D, S>> {
+    /// What the machine is asked for, without the label, and apart from it what a spawn starts.
     // Inlined, so that a case moves just what it holds.
     #[inline(always)]
-    pub fn split(self) -> (Op<D, ()>, Option<S>)
+    pub fn split(self) -> (Request<D, ()>, Option<S>)
         ensures plain { result.0 ≡ plain self }
         ensures started { result.1 ≡ started self }
     {
-        let op = match self {
-            Op::Atomic(op, label) => Op::Atomic(op, label),
-            Op::Fence(order, label) => Op::Fence(order, label),
-            Op::Cell(op, label) => Op::Cell(op, label),
-            Op::Arc(op, label) => Op::Arc(op, label),
-            Op::Track(op, label) => Op::Track(op, label),
-            Op::Mutex(op, label) => Op::Mutex(op, label),
-            Op::RwLock(op, label) => Op::RwLock(op, label),
-            Op::Condvar(op, label) => Op::Condvar(op, label),
-            Op::Notify(op, label) => Op::Notify(op, label),
-            Op::Channel(op, label) => Op::Channel(op, label),
-            Op::Waker(op, label) => Op::Waker(op, label),
-            Op::AtomicWaker(op, label) => Op::AtomicWaker(op, label),
-            Op::Local(op, label) => Op::Local(op, label),
-            Op::Lazy(op, label) => Op::Lazy(op, label),
-            Op::Explore(op, label) => Op::Explore(op, label),
-            Op::Fail(label) => Op::Fail(label),
-            Op::Unreachable(label) => Op::Unreachable(label),
-            Op::Thread(op, label) => {
+        let request = match self.request {
+            Request::Atomic(op) => Request::Atomic(op),
+            Request::Fence(order) => Request::Fence(order),
+            Request::Cell(op) => Request::Cell(op),
+            Request::Arc(op) => Request::Arc(op),
+            Request::Track(op) => Request::Track(op),
+            Request::Mutex(op) => Request::Mutex(op),
+            Request::RwLock(op) => Request::RwLock(op),
+            Request::Condvar(op) => Request::Condvar(op),
+            Request::Notify(op) => Request::Notify(op),
+            Request::Channel(op) => Request::Channel(op),
+            Request::Waker(op) => Request::Waker(op),
+            Request::AtomicWaker(op) => Request::AtomicWaker(op),
+            Request::Local(op) => Request::Local(op),
+            Request::Lazy(op) => Request::Lazy(op),
+            Request::Explore(op) => Request::Explore(op),
+            Request::Fail => Request::Fail,
+            Request::Unreachable => Request::Unreachable,
+            Request::Thread(op) => {
                 let (op, body) = op.split();
-                return (Op::Thread(op, label), body);
+                return (Request::Thread(op), body);
             }
         };
-        (op, None)
+        (request, None)
     }
 }
 

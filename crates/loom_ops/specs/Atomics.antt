@@ -2,10 +2,10 @@
 use Rattle.std.specs.Prelude.{ℕ, Option, Some, None, Result, Ok, Err}
 use Rattle.std.specs.declared.sync.atomic.Ordering.{Ordering}
 use Rattle.loom_objects.specs.declared.operation.AtomicOp.TheVariants.{CompareExchange}
-use Rattle.loom_objects.specs.declared.operation.Op.{Op}
-use Rattle.loom_objects.specs.declared.operation.Op.TheVariants.{Atomic as OnAtomic}
+use Rattle.loom_objects.specs.declared.operation.Request.TheVariants.{Atomic as OnAtomic}
 use Rattle.loom_objects.specs.declared.operation.Reply.{Reply}
 use Rattle.loom_objects.specs.declared.operation.Reply.TheVariants.{Atomic as AtomicMade, Exchanged, Value}
+use Rattle.loom_objects.specs.Labels.{Op, bare}
 use Rattle.loom_ops.specs.declared.sync.atomic.Atomic.{Atomic}
 use Rattle.loom_ops.specs.declared.sync.atomic.FetchUpdate.{FetchUpdate}
 use Rattle.loom_ops.specs.declared.sync.atomic.Fetched.{Fetched}
@@ -38,7 +38,7 @@ module _ {D : Type 0} where
 -- a compare-exchange of the atomic of this number
 abbrev pub exchange : {D S : Type 0} → ℕ → ℕ → ℕ → Ordering → Ordering → Op D S
 exchange number expected new success failure =
-    OnAtomic (CompareExchange number (record { expected = expected; new = new; success = success; failure = failure })) None
+    bare (OnAtomic (CompareExchange number (record { expected = expected; new = new; success = success; failure = failure })))
 
 -- an update with these orderings, before its first operation
 abbrev pub update : {T : Type 0} → Atomic T → Ordering → Ordering → FetchUpdate T

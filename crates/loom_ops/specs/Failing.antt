@@ -1,11 +1,9 @@
 -- An assertion that fails at a reply that a body doesn't know.
-use Rattle.std.specs.Prelude.{◌≡◌, Some, None, codes}
-use Rattle.std.specs.Option.{option_map}
-use Rattle.loom_parts.specs.declared.label.Label.{Label}
-use Rattle.loom_objects.specs.declared.operation.Op.{Op}
-use Rattle.loom_objects.specs.declared.operation.Op.TheVariants.{Fail}
+use Rattle.std.specs.Prelude.{Some, None, codes}
+use Rattle.loom_objects.specs.Labels.{Op}
+use Rattle.loom_objects.specs.declared.operation.Request.TheVariants.{Fail}
+use Rattle.loom_parts.specs.Texts.{first_text}
 
 -- its label says so
-abbrev pub IsUnexpected : {D S : Type 0} → Op D S → Type 0
-IsUnexpected op =
-    (label : Label) × (op ≡ Fail (Some label)) × (option_map (λ name. name.now) label.name ≡ Some (codes "unexpected reply")) × (label.location ≡ None)
+abbrev pub unexpected : {D S : Type 0} → Op D S
+unexpected = record { request = Fail; label = Some (record { name = Some (first_text (codes "unexpected reply")); location = None }) }

@@ -1,11 +1,11 @@
 -- The threads that replies hold.
 use Rattle.std.specs.Prelude.{ℕ, Option, Some, None}
-use Rattle.loom_objects.specs.declared.operation.Op.{Op}
-use Rattle.loom_objects.specs.declared.operation.Op.TheVariants.{Fail, Thread as OnThread}
+use Rattle.loom_objects.specs.declared.operation.Request.TheVariants.{Fail, Thread as OnThread}
 use Rattle.loom_objects.specs.declared.operation.Reply.{Reply}
 use Rattle.loom_objects.specs.declared.operation.Reply.TheVariants.{AccessError as GivenBack, Spawned, Thread as ThreadIs}
 use Rattle.loom_objects.specs.declared.operation.ThreadOp.TheVariants.{End, Exit, Finish, Yield}
 use Rattle.loom_objects.specs.declared.rt.thread.Name.{Name}
+use Rattle.loom_objects.specs.Labels.{Op, bare}
 use Rattle.loom_ops.specs.declared.thread.AccessError.{AccessError}
 use Rattle.loom_ops.specs.declared.thread.JoinHandle.{JoinHandle}
 use Rattle.loom_ops.specs.declared.thread.Leaving.{Leaving}
@@ -34,11 +34,11 @@ module _ {D : Type 0} where
 
 -- a thread lets others go first
 abbrev pub yielding : {D S : Type 0} → Op D S
-yielding = OnThread Yield None
+yielding = bare (OnThread Yield)
 
 -- at its end a thread finishes with this value, then exits, and then ends
 abbrev pub leave : {D S : Type 0} → D → Leaving → Leaving × Op D S
-leave value left.Finish = (left.Exit, OnThread (Finish value) None)
-leave value left.Exit = (left.End, OnThread Exit None)
-leave value left.End = (left.Gone, OnThread End None)
-leave value left.Gone = (left.Gone, Fail None)
+leave value left.Finish = (left.Exit, bare (OnThread (Finish value)))
+leave value left.Exit = (left.End, bare (OnThread Exit))
+leave value left.End = (left.Gone, bare (OnThread End))
+leave value left.Gone = (left.Gone, bare Fail)

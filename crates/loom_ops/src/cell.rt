@@ -1,8 +1,9 @@
 //! Cells: data that threads read and write, where accesses that meet fail the run.
 ghost use Rattle.std.specs.Prelude.{◌≡◌, None};
 ghost use Rattle.loom_ops.specs.Cells.{cell_handle, unsafe_cell_handle, reader_handle, reader_taken, writer_handle, writer_taken, written_in};
+ghost use Rattle.loom_objects.specs.Labels.{bare};
 
-use loom_objects::operation::{CellOp, Op, Reply};
+use loom_objects::operation::{CellOp, Op, Reply, Request};
 
 /// A cell of the run, whose accesses each begin and end by an operation (loom's `cell/unsafe_cell.rs`).
 #[derive(Clone, Copy, Debug)]
@@ -37,9 +38,9 @@ impl UnsafeCell {
     /// A new cell with this data, which nobody accesses (loom's `cell/unsafe_cell.rs`).
     #[allow(clippy::new_ret_no_self)]
     pub fn new<D, S>(value: D) -> Op<D, S>
-        ensures { result ≡ Op.Cell (CellOp.New value) None }
+        ensures { result ≡ bare (Request.Cell (CellOp.New value)) }
     {
-        Op::Cell(CellOp::New(value), None)
+        Op::new(Request::Cell(CellOp::New(value)))
     }
 
     /// The cell that was made, if that is what the reply says (own).
@@ -55,15 +56,15 @@ impl UnsafeCell {
     /// Begins to read, and replies a copy of the data; `ConstPtr::end` ends it. While a write is open that is the failure
     /// `OpenAccess`, and where the thread doesn't know of an earlier one, `Race` (loom's `cell/unsafe_cell.rs`).
     pub fn get<D, S>(self) -> Op<D, S>
-        ensures { result ≡ Op.Cell (CellOp.Read self.number) None }
+        ensures { result ≡ bare (Request.Cell (CellOp.Read self.number)) }
     {
-        Op::Cell(CellOp::Read(self.number), None)
+        Op::new(Request::Cell(CellOp::Read(self.number)))
     }
 
     /// The same as `get`: in loom a closure is given what is read, and here the body goes on until `ConstPtr::end` (loom's
     /// `cell/unsafe_cell.rs`).
     pub fn with<D, S>(self) -> Op<D, S>
-        ensures { result ≡ Op.Cell (CellOp.Read self.number) None }
+        ensures { result ≡ bare (Request.Cell (CellOp.Read self.number)) }
     {
         self.get()
     }
@@ -71,15 +72,15 @@ impl UnsafeCell {
     /// Begins to write, and replies the data; `MutPtr::end` hands it back. While a read or a write is open that is the failure
     /// `OpenAccess`, and where the thread doesn't know of an earlier one, `Race` (loom's `cell/unsafe_cell.rs`).
     pub fn get_mut<D, S>(self) -> Op<D, S>
-        ensures { result ≡ Op.Cell (CellOp.Write self.number) None }
+        ensures { result ≡ bare (Request.Cell (CellOp.Write self.number)) }
     {
-        Op::Cell(CellOp::Write(self.number), None)
+        Op::new(Request::Cell(CellOp::Write(self.number)))
     }
 
     /// The same as `get_mut`: in loom a closure is given what is written, and here the body goes on until `MutPtr::end`
     /// (loom's `cell/unsafe_cell.rs`).
     pub fn with_mut<D, S>(self) -> Op<D, S>
-        ensures { result ≡ Op.Cell (CellOp.Write self.number) None }
+        ensures { result ≡ bare (Request.Cell (CellOp.Write self.number)) }
     {
         self.get_mut()
     }
@@ -87,9 +88,9 @@ impl UnsafeCell {
     /// Replies the data, and the cell is no more: a later operation of it is a misuse. While an access is open that is the
     /// failure `OpenAccess` (loom's `cell/unsafe_cell.rs`).
     pub fn into_inner<D, S>(self) -> Op<D, S>
-        ensures { result ≡ Op.Cell (CellOp.IntoInner self.number) None }
+        ensures { result ≡ bare (Request.Cell (CellOp.IntoInner self.number)) }
     {
-        Op::Cell(CellOp::IntoInner(self.number), None)
+        Op::new(Request::Cell(CellOp::IntoInner(self.number)))
     }
 }
 
@@ -116,15 +117,15 @@ impl ConstPtr {
 
     /// Replies another copy of the data. A read that isn't open is a misuse (loom's `cell/unsafe_cell.rs`).
     pub fn deref<D, S>(self) -> Op<D, S>
-        ensures { result ≡ Op.Cell (CellOp.Deref self.number) None }
+        ensures { result ≡ bare (Request.Cell (CellOp.Deref self.number)) }
     {
-        Op::Cell(CellOp::Deref(self.number), None)
+        Op::new(Request::Cell(CellOp::Deref(self.number)))
     }
 
     /// The same as `deref`: what loom's closure does with the data, the body does with the reply (loom's
     /// `cell/unsafe_cell.rs`).
     pub fn with<D, S>(self) -> Op<D, S>
-        ensures { result ≡ Op.Cell (CellOp.Deref self.number) None }
+        ensures { result ≡ bare (Request.Cell (CellOp.Deref self.number)) }
     {
         self.deref()
     }
@@ -132,9 +133,9 @@ impl ConstPtr {
     /// Ends the read: in loom the pointer's drop, or the closure's end. A read that isn't open is a misuse, and a write that
     /// the thread doesn't know of is the failure `Race` (loom's `cell/unsafe_cell.rs`).
     pub fn end<D, S>(self) -> Op<D, S>
-        ensures { result ≡ Op.Cell (CellOp.ReadEnd self.number) None }
+        ensures { result ≡ bare (Request.Cell (CellOp.ReadEnd self.number)) }
     {
-        Op::Cell(CellOp::ReadEnd(self.number), None)
+        Op::new(Request::Cell(CellOp::ReadEnd(self.number)))
     }
 }
 
@@ -174,9 +175,9 @@ impl MutPtr {
     /// Ends the write, and the cell holds this data: in loom the pointer's drop, or the closure's end. A write that isn't open
     /// is a misuse, and an access that the thread doesn't know of is the failure `Race` (loom's `cell/unsafe_cell.rs`).
     pub fn end<D, S>(self, value: D) -> Op<D, S>
-        ensures { result ≡ Op.Cell (CellOp.WriteEnd self.number value) None }
+        ensures { result ≡ bare (Request.Cell (CellOp.WriteEnd self.number value)) }
     {
-        Op::Cell(CellOp::WriteEnd(self.number, value), None)
+        Op::new(Request::Cell(CellOp::WriteEnd(self.number, value)))
     }
 }
 
@@ -184,7 +185,7 @@ impl Cell {
     /// A new cell with this data (loom's `cell/cell.rs`).
     #[allow(clippy::new_ret_no_self)]
     pub fn new<D, S>(value: D) -> Op<D, S>
-        ensures { result ≡ Op.Cell (CellOp.New value) None }
+        ensures { result ≡ bare (Request.Cell (CellOp.New value)) }
     {
         UnsafeCell::new(value)
     }
@@ -202,7 +203,7 @@ impl Cell {
     /// Writes the data, and replies what was there before; in loom that is dropped. Where the thread doesn't know of an
     /// access, that is the failure `Race` (loom's `cell/cell.rs`).
     pub fn set<D, S>(self, value: D) -> Op<D, S>
-        ensures { result ≡ Op.Cell (CellOp.Replace self.number value) None }
+        ensures { result ≡ bare (Request.Cell (CellOp.Replace self.number value)) }
     {
         self.replace(value)
     }
@@ -210,37 +211,37 @@ impl Cell {
     /// Writes the data, and replies what was there before. Where the thread doesn't know of an access, that is the failure
     /// `Race` (loom's `cell/cell.rs`).
     pub fn replace<D, S>(self, value: D) -> Op<D, S>
-        ensures { result ≡ Op.Cell (CellOp.Replace self.number value) None }
+        ensures { result ≡ bare (Request.Cell (CellOp.Replace self.number value)) }
     {
-        Op::Cell(CellOp::Replace(self.number, value), None)
+        Op::new(Request::Cell(CellOp::Replace(self.number, value)))
     }
 
     /// Exchanges the data of the two cells, by a write of each. Where the thread doesn't know of an access to one of them, that
     /// is the failure `Race`. A cell and itself keep their data, and nothing is written (loom's `cell/cell.rs`).
     pub fn swap<D, S>(self, other: Cell) -> Op<D, S>
-        ensures { result ≡ Op.Cell (CellOp.Swap self.number other.number) None }
+        ensures { result ≡ bare (Request.Cell (CellOp.Swap self.number other.number)) }
     {
-        Op::Cell(CellOp::Swap(self.number, other.number), None)
+        Op::new(Request::Cell(CellOp::Swap(self.number, other.number)))
     }
 
     /// Replies a copy of the data. Where the thread doesn't know of a write, that is the failure `Race` (loom's
     /// `cell/cell.rs`).
     pub fn get<D, S>(self) -> Op<D, S>
-        ensures { result ≡ Op.Cell (CellOp.Get self.number) None }
+        ensures { result ≡ bare (Request.Cell (CellOp.Get self.number)) }
     {
-        Op::Cell(CellOp::Get(self.number), None)
+        Op::new(Request::Cell(CellOp::Get(self.number)))
     }
 
     /// The same as `replace`: what stays behind is given, where loom takes the type's default (loom's `cell/cell.rs`).
     pub fn take<D, S>(self, left: D) -> Op<D, S>
-        ensures { result ≡ Op.Cell (CellOp.Replace self.number left) None }
+        ensures { result ≡ bare (Request.Cell (CellOp.Replace self.number left)) }
     {
         self.replace(left)
     }
 
     /// Replies the data, and the cell is no more: a later operation of it is a misuse (loom's `cell/cell.rs`).
     pub fn into_inner<D, S>(self) -> Op<D, S>
-        ensures { result ≡ Op.Cell (CellOp.IntoInner self.number) None }
+        ensures { result ≡ bare (Request.Cell (CellOp.IntoInner self.number)) }
     {
         UnsafeCell {
             number: self.number,

@@ -1,11 +1,12 @@
 //! Futures: a thread waits until a waker of its future notifies it. The body polls, in place of a future.
 ghost use Rattle.std.specs.Prelude.{◌≡◌, None};
 ghost use Rattle.loom_ops.specs.Wakers.{block_on_handle, waker_handle};
+ghost use Rattle.loom_objects.specs.Labels.{bare};
 
 pub mod atomic_waker;
 
 pub use crate::future::atomic_waker::AtomicWaker;
-use loom_objects::operation::{Op, Reply, WakerOp};
+use loom_objects::operation::{Op, Reply, Request, WakerOp};
 
 /// What drives a future to its end: make it and poll; while the future is pending, wait and poll again; then finish (loom's
 /// `block_on` in `future/mod.rs`).
@@ -27,9 +28,9 @@ impl BlockOn {
     /// A notifier for a future, which isn't notified, with a count of one waker (loom's `future/mod.rs`).
     #[allow(clippy::new_ret_no_self)]
     pub fn new<D, S>() -> Op<D, S>
-        ensures { result ≡ Op.Waker WakerOp.New None }
+        ensures { result ≡ bare (Request.Waker WakerOp.New) }
     {
-        Op::Waker(WakerOp::New, None)
+        Op::new(Request::Waker(WakerOp::New))
     }
 
     /// What was made, if that is what the reply says (own).
@@ -54,16 +55,16 @@ impl BlockOn {
 
     /// Waits until a waker notifies. Once in a run, one wait may also end without that (loom's `future/mod.rs`).
     pub fn wait<D, S>(self) -> Op<D, S>
-        ensures { result ≡ Op.Waker (WakerOp.Wait self.number) None }
+        ensures { result ≡ bare (Request.Waker (WakerOp.Wait self.number)) }
     {
-        Op::Waker(WakerOp::Wait(self.number), None)
+        Op::new(Request::Waker(WakerOp::Wait(self.number)))
     }
 
     /// The future is ready: one waker fewer, which is the notifier's own (loom's `future/mod.rs`).
     pub fn finish<D, S>(self) -> Op<D, S>
-        ensures { result ≡ Op.Waker (WakerOp.Finish self.number) None }
+        ensures { result ≡ bare (Request.Waker (WakerOp.Finish self.number)) }
     {
-        Op::Waker(WakerOp::Finish(self.number), None)
+        Op::new(Request::Waker(WakerOp::Finish(self.number)))
     }
 }
 
@@ -83,29 +84,29 @@ impl Waker {
     /// One waker more, by the same handle (loom's `future/mod.rs`).
     #[allow(clippy::should_implement_trait)]
     pub fn clone<D, S>(self) -> Op<D, S>
-        ensures { result ≡ Op.Waker (WakerOp.Clone self.number) None }
+        ensures { result ≡ bare (Request.Waker (WakerOp.Clone self.number)) }
     {
-        Op::Waker(WakerOp::Clone(self.number), None)
+        Op::new(Request::Waker(WakerOp::Clone(self.number)))
     }
 
     /// Notifies the thread that waits, or else the next wait, and then there is one waker fewer (loom's `future/mod.rs`).
     pub fn wake<D, S>(self) -> Op<D, S>
-        ensures { result ≡ Op.Waker (WakerOp.Wake self.number) None }
+        ensures { result ≡ bare (Request.Waker (WakerOp.Wake self.number)) }
     {
-        Op::Waker(WakerOp::Wake(self.number), None)
+        Op::new(Request::Waker(WakerOp::Wake(self.number)))
     }
 
     /// Notifies the thread that waits, or else the next wait (loom's `future/mod.rs`).
     pub fn wake_by_ref<D, S>(self) -> Op<D, S>
-        ensures { result ≡ Op.Waker (WakerOp.WakeByRef self.number) None }
+        ensures { result ≡ bare (Request.Waker (WakerOp.WakeByRef self.number)) }
     {
-        Op::Waker(WakerOp::WakeByRef(self.number), None)
+        Op::new(Request::Waker(WakerOp::WakeByRef(self.number)))
     }
 
     /// One waker fewer: in loom the drop. Where none is left any operation of a waker is a misuse (loom's `future/mod.rs`).
     pub fn drop<D, S>(self) -> Op<D, S>
-        ensures { result ≡ Op.Waker (WakerOp.Drop self.number) None }
+        ensures { result ≡ bare (Request.Waker (WakerOp.Drop self.number)) }
     {
-        Op::Waker(WakerOp::Drop(self.number), None)
+        Op::new(Request::Waker(WakerOp::Drop(self.number)))
     }
 }

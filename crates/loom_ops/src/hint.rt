@@ -1,9 +1,10 @@
 //! Hints to the processor, of which a run makes operations.
 ghost use Rattle.std.specs.Prelude.{◌≡◌, None};
 ghost use Rattle.loom_ops.specs.Threads.{yielding};
+ghost use Rattle.loom_objects.specs.Labels.{bare};
 
 use crate::thread;
-use loom_objects::operation::Op;
+use loom_objects::operation::{Op, Request};
 
 /// The thread yields, as by `thread::yield_now` (loom's `hint.rs`).
 pub fn spin_loop<D, S>() -> Op<D, S>
@@ -14,7 +15,7 @@ pub fn spin_loop<D, S>() -> Op<D, S>
 
 /// Code was reached that is never to be, which ends the run as `Unreachable` (loom's `hint.rs`).
 pub fn unreachable_unchecked<D, S>() -> Op<D, S>
-    ensures { result ≡ Op.Unreachable None }
+    ensures { result ≡ bare Request.Unreachable }
 {
-    Op::Unreachable(None)
+    Op::new(Request::Unreachable)
 }

@@ -1,8 +1,9 @@
 //! Values that are made once a run.
 ghost use Rattle.std.specs.Prelude.{◌≡◌, Some, None, codes};
+ghost use Rattle.loom_objects.specs.Labels.{bare};
 
 pub use crate::thread::{AccessError, yield_now};
-use loom_objects::operation::{LazyOp, Op};
+use loom_objects::operation::{LazyOp, Op, Request};
 use std::fmt;
 
 /// A value that is made once a run, by the first thread that gives it (loom's `lazy_static.rs`). In loom it has a function that
@@ -32,16 +33,16 @@ impl Lazy {
     /// Replies a copy of the value, or `Absent`. Once main has finished that is the failure `LazyShutdown` (loom's
     /// `lazy_static.rs`).
     pub fn get<D, S>(self) -> Op<D, S>
-        ensures { result ≡ Op.Lazy (LazyOp.Get self.key) None }
+        ensures { result ≡ bare (Request.Lazy (LazyOp.Get self.key)) }
     {
-        Op::Lazy(LazyOp::Get(self.key), None)
+        Op::new(Request::Lazy(LazyOp::Get(self.key)))
     }
 
     /// Gives the value, and replies a copy of it. Where one was given before, that one stays, and it replies `Stood` with a copy
     /// and with what wasn't needed. Once main has finished that is the failure `LazyShutdown` (loom's `lazy_static.rs`).
     pub fn init<D, S>(self, value: D) -> Op<D, S>
-        ensures { result ≡ Op.Lazy (LazyOp.Init self.key value) None }
+        ensures { result ≡ bare (Request.Lazy (LazyOp.Init self.key value)) }
     {
-        Op::Lazy(LazyOp::Init(self.key, value), None)
+        Op::new(Request::Lazy(LazyOp::Init(self.key, value)))
     }
 }

@@ -5,7 +5,8 @@
 #![tactic(auto)]
 
 ghost use Rattle.std.specs.Prelude.{◌≡◌, None};
-ghost use Rattle.loom_ops.specs.Failing.{IsUnexpected};
+ghost use Rattle.loom_ops.specs.Failing.{unexpected};
+ghost use Rattle.loom_objects.specs.Labels.{bare};
 
 pub mod alloc;
 pub mod cell;
@@ -15,46 +16,41 @@ pub mod lazy_static;
 pub mod sync;
 pub mod thread;
 
-use loom_objects::operation::{ExploreOp, Op};
-use loom_parts::label::Label;
+use loom_objects::operation::{ExploreOp, Op, Request};
 
 /// The body's own assertion failed, which ends the run (own).
 pub fn fail<D, S>() -> Op<D, S>
-    ensures { result ≡ Op.Fail None }
+    ensures { result ≡ bare Request.Fail }
 {
-    Op::Fail(None)
+    Op::new(Request::Fail)
 }
 
-/// The body met a reply that it doesn't know, which ends the run as an assertion that failed. Its label says so. A body whose
-/// meaning is proved can't name that label in a definition, and makes `fail` instead (own).
+/// The body met a reply that it doesn't know, which ends the run as an assertion that failed. Its label says so (own).
 pub fn unexpected_reply<D, S>() -> Op<D, S>
-    ensures { IsUnexpected result }
+    ensures { result ≡ unexpected }
 {
-    Op::Fail(Some(Label {
-        name: Some("unexpected reply"),
-        location: None,
-    }))
+    fail().named("unexpected reply")
 }
 
 /// The search tries other choices than the first from now on. Where it does so already that is the failure `ExploreSwitch`;
 /// after `skip_branch` nothing changes (loom's `rt/mod.rs`).
 pub fn explore<D, S>() -> Op<D, S>
-    ensures { result ≡ Op.Explore ExploreOp.Explore None }
+    ensures { result ≡ bare (Request.Explore ExploreOp.Explore) }
 {
-    Op::Explore(ExploreOp::Explore, None)
+    Op::new(Request::Explore(ExploreOp::Explore))
 }
 
 /// The search makes the first choice alone from now on, up to `explore`. Where it does so already that is the failure
 /// `ExploreSwitch`; after `skip_branch` nothing changes (loom's `rt/mod.rs`).
 pub fn stop_exploring<D, S>() -> Op<D, S>
-    ensures { result ≡ Op.Explore ExploreOp.StopExploring None }
+    ensures { result ≡ bare (Request.Explore ExploreOp.StopExploring) }
 {
-    Op::Explore(ExploreOp::StopExploring, None)
+    Op::new(Request::Explore(ExploreOp::StopExploring))
 }
 
 /// The search makes the first choice alone up to the run's end (loom's `rt/mod.rs`).
 pub fn skip_branch<D, S>() -> Op<D, S>
-    ensures { result ≡ Op.Explore ExploreOp.SkipBranch None }
+    ensures { result ≡ bare (Request.Explore ExploreOp.SkipBranch) }
 {
-    Op::Explore(ExploreOp::SkipBranch, None)
+    Op::new(Request::Explore(ExploreOp::SkipBranch))
 }

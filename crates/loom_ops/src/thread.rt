@@ -2,11 +2,14 @@
 ghost use Rattle.std.specs.Prelude.{◌≡◌, Some, None, codes};
 ghost use Rattle.std.specs.Option.{option_map};
 ghost use Rattle.loom_ops.specs.Threads.{access_error, join_handle, leave, thread_handle, named};
+ghost use Rattle.loom_objects.specs.Labels.{bare};
+ghost use Rattle.loom_parts.specs.Texts.{first_text, shown};
 
 use crate::fail;
 use loom_handle_parts::threads;
-use loom_objects::operation::{LocalOp, Op, Reply, ThreadOp};
+use loom_objects::operation::{LocalOp, Op, Reply, Request, ThreadOp};
 use loom_objects::rt::thread::Name;
+use loom_parts::text::Text;
 use std::fmt;
 
 /// A thread that was spawned, and the notifier that it notifies when it finishes (loom's `thread.rs`).
@@ -108,9 +111,9 @@ impl JoinHandle {
 
     /// Waits for the thread to finish, and takes its result. A second join is a misuse (loom's `thread.rs`).
     pub fn join<D, S>(self) -> Op<D, S>
-        ensures { result ≡ Op.Thread (ThreadOp.Join self.thread self.notifier) None }
+        ensures { result ≡ bare (Request.Thread (ThreadOp.Join self.thread self.notifier)) }
     {
-        Op::Thread(ThreadOp::Join(self.thread, self.notifier), None)
+        Op::new(Request::Thread(ThreadOp::Join(self.thread, self.notifier)))
     }
 
     /// The thread itself. It is no operation (loom's `thread.rs`).
@@ -145,19 +148,19 @@ impl Thread {
         self.id
     }
 
-    /// Its name, if it was given one. It is no operation (loom's `thread.rs`).
-    pub fn name(self) -> Option<&'static str>
-        ensures { result ≡ option_map (λ name. name.text) self.name }
+    /// What is kept of its name, if it was given one. It is no operation (loom's `thread.rs`).
+    pub fn name(&self) -> Option<&str>
+        ensures { option_map (λ name. name.now) result ≡ option_map (λ name. shown name.text) self.now.name }
     {
-        threads::text_of(self.name)
+        threads::text_of(&self.name)
     }
 
     /// The thread goes on if it is parked, and else has a token, by which it isn't parked the next time; it has one at most
     /// (loom's `thread.rs`).
     pub fn unpark<D, S>(self) -> Op<D, S>
-        ensures { result ≡ Op.Thread (ThreadOp.Unpark self.id.0) None }
+        ensures { result ≡ bare (Request.Thread (ThreadOp.Unpark self.id.0)) }
     {
-        Op::Thread(ThreadOp::Unpark(self.id.0), None)
+        Op::new(Request::Thread(ThreadOp::Unpark(self.id.0)))
     }
 }
 
@@ -170,20 +173,22 @@ impl Builder {
         Builder { name: None }
     }
 
-    /// The same, with this name (loom's `thread.rs`).
-    pub fn name(self, name: &'static str) -> Builder
-        ensures { option_map (λ name. name.text) result.name ≡ Some name.entry }
+    /// The same, with this name, of which 31 bytes are kept (loom's `thread.rs`).
+    pub fn name(self, name: &str) -> Builder
+        ensures { result.name ≡ Some (record { text = first_text name.now }) }
     {
         Builder {
-            name: Some(Name { text: name }),
+            name: Some(Name {
+                text: Text::first(name),
+            }),
         }
     }
 
     /// A new thread, whose code is this body (loom's `thread.rs`).
     pub fn spawn<D, S>(self, body: S) -> Op<D, S>
-        ensures { result ≡ Op.Thread (ThreadOp.Spawn body self.name) None }
+        ensures { result ≡ bare (Request.Thread (ThreadOp.Spawn body self.name)) }
     {
-        Op::Thread(ThreadOp::Spawn(body, self.name), None)
+        Op::new(Request::Thread(ThreadOp::Spawn(body, self.name)))
     }
 }
 
@@ -198,31 +203,31 @@ impl LocalKey {
     /// Replies a copy of the thread's own value, or `Absent`. Once `exit` has given it back that is the failure `LocalGone`
     /// (loom's `thread.rs`).
     pub fn with<D, S>(self) -> Op<D, S>
-        ensures { result ≡ Op.Local (LocalOp.With self.key) None }
+        ensures { result ≡ bare (Request.Local (LocalOp.With self.key)) }
     {
-        Op::Local(LocalOp::With(self.key), None)
+        Op::new(Request::Local(LocalOp::With(self.key)))
     }
 
     /// The same, but once `exit` has given it back the reply is `AccessError` (loom's `thread.rs`).
     pub fn try_with<D, S>(self) -> Op<D, S>
-        ensures { result ≡ Op.Local (LocalOp.TryWith self.key) None }
+        ensures { result ≡ bare (Request.Local (LocalOp.TryWith self.key)) }
     {
-        Op::Local(LocalOp::TryWith(self.key), None)
+        Op::new(Request::Local(LocalOp::TryWith(self.key)))
     }
 
     /// Gives the thread its own value, and replies a copy of it. Where it has one, or had one, that is the failure `KeyTaken`
     /// (loom's `thread.rs`).
     pub fn init<D, S>(self, value: D) -> Op<D, S>
-        ensures { result ≡ Op.Local (LocalOp.Init self.key value) None }
+        ensures { result ≡ bare (Request.Local (LocalOp.Init self.key value)) }
     {
-        Op::Local(LocalOp::Init(self.key, value), None)
+        Op::new(Request::Local(LocalOp::Init(self.key, value)))
     }
 
     /// Another value takes the place of the thread's own, which is replied. Where it has none that is a misuse (own).
     pub fn put<D, S>(self, value: D) -> Op<D, S>
-        ensures { result ≡ Op.Local (LocalOp.Put self.key value) None }
+        ensures { result ≡ bare (Request.Local (LocalOp.Put self.key value)) }
     {
-        Op::Local(LocalOp::Put(self.key, value), None)
+        Op::new(Request::Local(LocalOp::Put(self.key, value)))
     }
 }
 
@@ -255,49 +260,49 @@ impl AccessError {
 
 /// A new thread without a name, whose code is this body (loom's `thread.rs`).
 pub fn spawn<D, S>(body: S) -> Op<D, S>
-    ensures { result ≡ Op.Thread (ThreadOp.Spawn body None) None }
+    ensures { result ≡ bare (Request.Thread (ThreadOp.Spawn body None)) }
 {
-    Op::Thread(ThreadOp::Spawn(body, None), None)
+    Op::new(Request::Thread(ThreadOp::Spawn(body, None)))
 }
 
 /// Replies which thread makes it, and its name (loom's `thread.rs`).
 pub fn current<D, S>() -> Op<D, S>
-    ensures { result ≡ Op.Thread ThreadOp.Current None }
+    ensures { result ≡ bare (Request.Thread ThreadOp.Current) }
 {
-    Op::Thread(ThreadOp::Current, None)
+    Op::new(Request::Thread(ThreadOp::Current))
 }
 
 /// Takes the thread's token; without one the thread waits until it is unparked (loom's `thread.rs`).
 pub fn park<D, S>() -> Op<D, S>
-    ensures { result ≡ Op.Thread ThreadOp.Park None }
+    ensures { result ≡ bare (Request.Thread ThreadOp.Park) }
 {
-    Op::Thread(ThreadOp::Park, None)
+    Op::new(Request::Thread(ThreadOp::Park))
 }
 
 /// Lets other threads that can go on do so first (loom's `thread.rs`).
 pub fn yield_now<D, S>() -> Op<D, S>
-    ensures { result ≡ Op.Thread ThreadOp.Yield None }
+    ensures { result ≡ bare (Request.Thread ThreadOp.Yield) }
 {
-    Op::Thread(ThreadOp::Yield, None)
+    Op::new(Request::Thread(ThreadOp::Yield))
 }
 
 /// The thread's work is over, with this result: the first of the three operations at a thread's end (own).
 pub fn finish<D, S>(value: D) -> Op<D, S>
-    ensures { result ≡ Op.Thread (ThreadOp.Finish value) None }
+    ensures { result ≡ bare (Request.Thread (ThreadOp.Finish value)) }
 {
-    Op::Thread(ThreadOp::Finish(value), None)
+    Op::new(Request::Thread(ThreadOp::Finish(value)))
 }
 
 /// The thread's locals are given back, after it finished (own).
 pub fn exit<D, S>() -> Op<D, S>
-    ensures { result ≡ Op.Thread ThreadOp.Exit None }
+    ensures { result ≡ bare (Request.Thread ThreadOp.Exit) }
 {
-    Op::Thread(ThreadOp::Exit, None)
+    Op::new(Request::Thread(ThreadOp::Exit))
 }
 
 /// The thread's last operation, after it exited (own).
 pub fn end<D, S>() -> Op<D, S>
-    ensures { result ≡ Op.Thread ThreadOp.End None }
+    ensures { result ≡ bare (Request.Thread ThreadOp.End) }
 {
-    Op::Thread(ThreadOp::End, None)
+    Op::new(Request::Thread(ThreadOp::End))
 }

@@ -1,1 +1,2 @@
 pub mod Leaking
+mod Cutting

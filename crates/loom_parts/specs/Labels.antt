@@ -1,14 +1,10 @@
 -- What an operation is called, and where it stands.
-use Rattle.std.specs.Prelude.{ℕ, List, Option, Some, None}
-use Rattle.std.specs.Borrow.{Bor}
+use Rattle.std.specs.Prelude.{Option, Some, None}
 use Rattle.loom_parts.specs.declared.label.Label.{Label}
 use Rattle.loom_parts.specs.declared.location.Location.{Location}
+use Rattle.loom_parts.specs.declared.text.Text.{Text}
 
--- a name, as the source has it
-abbrev pub Name : Type 0
-Name = Bor (List ℕ)
-
-abbrev pub name_in : Option Label → Option Name
+abbrev pub name_in : Option Label → Option Text
 name_in None = None
 name_in (Some label) = label.name
 
@@ -21,5 +17,5 @@ abbrev pub placed : Location → Option Label → Option Label
 placed location label = Some (record { name = name_in label; location = Some location })
 
 -- with this name, and the place that it had
-abbrev pub named : Name → Option Label → Option Label
+abbrev pub named : Text → Option Label → Option Label
 named name label = Some (record { name = Some name; location = location_in label })

@@ -1,4 +1,5 @@
 pub mod Defaults
+pub mod Texts
 pub mod Words
 pub mod Labels
 pub mod Leaks

@@ -3,12 +3,13 @@ ghost use Rattle.std.specs.Prelude.{◌≡◌};
 ghost use Rattle.loom_parts.specs.Labels as rules;
 
 use crate::location::Location;
+use crate::text::Text;
 
 /// How a body's author calls an operation: a name for what it makes, and its place in the source.
 #[derive(Clone, Copy, Debug, PartialEq, Eq)]
 pub struct Label {
     /// The name of what it makes, if it was given one.
-    pub name: Option<&'static str>,
+    pub name: Option<Text>,
     /// Its place, if it was given one.
     pub location: Option<Location>,
 }
@@ -24,8 +25,8 @@ pub fn placed(label: Option<Label>, location: Location) -> Option<Label>
 }
 
 /// The label with this name. A place that is there stays.
-pub fn named(label: Option<Label>, name: &'static str) -> Option<Label>
-    ensures { result ≡ rules.named name.entry label }
+pub fn named(label: Option<Label>, name: Text) -> Option<Label>
+    ensures { result ≡ rules.named name label }
 {
     Some(Label {
         name: Some(name),
@@ -34,7 +35,7 @@ pub fn named(label: Option<Label>, name: &'static str) -> Option<Label>
 }
 
 /// The name that the label has, if any.
-pub fn name_in(label: Option<Label>) -> Option<&'static str>
+pub fn name_in(label: Option<Label>) -> Option<Text>
     ensures { result ≡ rules.name_in label }
 {
     match label {

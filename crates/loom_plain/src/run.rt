@@ -6,7 +6,7 @@ use crate::memory::push;
 use crate::state::{Pending, Phase, State, Thread};
 use loom_objects::body::Body;
 use loom_objects::choice::Choice;
-use loom_objects::operation::{Op, Reply};
+use loom_objects::operation::{Reply, Request};
 use loom_scripts::number::Number;
 use loom_views::rt::failure::FailureKind;
 use std::alloc::{AllocError, Global};
@@ -104,11 +104,11 @@ fn step<B: Body<Data = Number>>(
         machine.grows(false);
         return None;
     };
-    let (op, child) = op.split();
+    let (request, child) = op.split();
     if let Some(child) = child {
         push(bodies, child, &mut machine.halt);
     }
-    machine.submit(op)
+    machine.submit(request)
 }
 
 impl Machine {
@@ -124,8 +124,8 @@ impl Machine {
 
     // The active thread hands the operation over. Gives what is told to the thread whose turn it is then, or nothing at the
     // run's end.
-    fn submit(&mut self, op: Op<Number, ()>) -> Told {
-        let told = match self.begins(op) {
+    fn submit(&mut self, request: Request<Number, ()>) -> Told {
+        let told = match self.begins(request) {
             Some(told) => Some(told),
             None => self.goes_to_told(),
         };
@@ -146,26 +146,26 @@ impl Machine {
     }
 
     // Nothing is told where the thread comes to a branch point.
-    fn begins(&mut self, op: Op<Number, ()>) -> Told {
-        match op {
-            Op::Atomic(op, _) => self.atomic_begins(op),
-            Op::Fence(order, _) => self.fence(order),
-            Op::Cell(op, _) => self.cell_begins(op),
-            Op::Arc(op, _) => self.arc_begins(op),
-            Op::Track(op, _) => self.track_begins(op),
-            Op::Mutex(op, _) => self.mutex_begins(op),
-            Op::RwLock(op, _) => self.rwlock_begins(op),
-            Op::Condvar(op, _) => self.condvar_begins(op),
-            Op::Notify(op, _) => self.notify_begins(op),
-            Op::Channel(op, _) => self.channel_begins(op),
-            Op::Waker(op, _) => self.waker_begins(op),
-            Op::AtomicWaker(op, _) => self.place_begins(op),
-            Op::Local(op, _) => self.local_begins(op),
-            Op::Lazy(op, _) => self.lazy_begins(op),
-            Op::Explore(op, _) => self.switches(op),
-            Op::Thread(op, _) => self.thread_begins(op),
-            Op::Fail(_) => self.gives_up(FailureKind::Assertion),
-            Op::Unreachable(_) => self.gives_up(FailureKind::Unreachable),
+    fn begins(&mut self, request: Request<Number, ()>) -> Told {
+        match request {
+            Request::Atomic(op) => self.atomic_begins(op),
+            Request::Fence(order) => self.fence(order),
+            Request::Cell(op) => self.cell_begins(op),
+            Request::Arc(op) => self.arc_begins(op),
+            Request::Track(op) => self.track_begins(op),
+            Request::Mutex(op) => self.mutex_begins(op),
+            Request::RwLock(op) => self.rwlock_begins(op),
+            Request::Condvar(op) => self.condvar_begins(op),
+            Request::Notify(op) => self.notify_begins(op),
+            Request::Channel(op) => self.channel_begins(op),
+            Request::Waker(op) => self.waker_begins(op),
+            Request::AtomicWaker(op) => self.place_begins(op),
+            Request::Local(op) => self.local_begins(op),
+            Request::Lazy(op) => self.lazy_begins(op),
+            Request::Explore(op) => self.switches(op),
+            Request::Thread(op) => self.thread_begins(op),
+            Request::Fail => self.gives_up(FailureKind::Assertion),
+            Request::Unreachable => self.gives_up(FailureKind::Unreachable),
         }
     }
 

@@ -4,7 +4,8 @@ use Rattle.std.specs.Prelude.{◌≢◌, ◌⊎◌, OnOk, Result, Ok, Err, Optio
 use Rattle.loom_view_parts.specs.declared.rt.failure.FailureKind.TheVariants.{Misuse}
 use Rattle.loom_objects.specs.declared.failure.Stop.{Stop}
 use Rattle.loom_objects.specs.declared.failure.Stop.TheVariants.{Failure as Because, Memory}
-use Rattle.loom_objects.specs.declared.operation.Op.{Op}
+use Rattle.loom_objects.specs.Labels.{Op}
+use Rattle.loom_objects.specs.declared.operation.Request.{Request}
 use Rattle.loom_objects.specs.declared.operation.Reply.{Reply}
 use Rattle.loom_objects.specs.declared.operation.Reply.TheVariants as reply
 use Rattle.loom_objects.specs.declared.operation.Turn.{Turn}
@@ -60,7 +61,7 @@ module _ {D S : Type 0} (next : Meaning D S) where
     pub step : (after, op) ≡ next body answer
 
   -- memory may be refused at the operation that the thread's body hands over
-  pub refused_by : (bodies : List S) (run : Progress D) (path : Route) (thread : ℕ) (answer : Reply D) (body after : S) (op : Op D S) (todo : Op D ⊤) (child : Option S)
+  pub refused_by : (bodies : List S) (run : Progress D) (path : Route) (thread : ℕ) (answer : Reply D) (body after : S) (op : Op D S) (todo : Request D ⊤) (child : Option S)
       → IsHanded bodies thread answer body after op → todo ≡ plain op → child ≡ started op → (MayBeRefused todo run path ⊎ (child ≢ None))
       → (own : S) → slice_get bodies thread ≡ Some own → MayBeRefusedBy (next own answer).1 run path
   refused_by bodies run path thread answer body after op todo child h same_op same_child refused own at =
@@ -68,7 +69,7 @@ module _ {D S : Type 0} (next : Meaning D S) where
       let same : body ≡ own = cc in
       subst (λ (b : S). MayBeRefusedBy (next b answer).1 run path) same
       (subst (λ (stepped : S × Op D S). MayBeRefusedBy stepped.1 run path) h.step
-      (subst (λ (o : Op D ⊤). MayBeRefused o run path ⊎ (started op ≢ None)) same_op
+      (subst (λ (o : Request D ⊤). MayBeRefused o run path ⊎ (started op ≢ None)) same_op
       (subst (λ (c : Option S). MayBeRefused todo run path ⊎ (c ≢ None)) same_child refused)))
 
   module _ (outcome : Outcome D) where
@@ -85,7 +86,7 @@ module _ {D S : Type 0} (next : Meaning D S) where
         ∙ z.left
 
     -- the operation stops the run
-    pub stops : (bodies : List S) (run run' : Progress D) (path path' : Route) (thread : ℕ) (answer : Reply D) (body after : S) (op : Op D S) (todo : Op D ⊤) (stop : Stop)
+    pub stops : (bodies : List S) (run run' : Progress D) (path path' : Route) (thread : ℕ) (answer : Reply D) (body after : S) (op : Op D S) (todo : Request D ⊤) (stop : Stop)
         → IsHanded bodies thread answer body after op → todo ≡ plain op
         → ((c : Course D) → ShowsCourse c run path → Comes (submit todo c) path (Err stop) run' path')
         → IsUnderWay next outcome bodies run path thread answer
@@ -94,7 +95,7 @@ module _ {D S : Type 0} (next : Meaning D S) where
     stops bodies run run' path path' thread answer body after op todo (Because failure) h same_op event z bodies' =
         sym (left_is bodies run path thread answer body after op h z)
         ∙ drive_fails path.search (marking path.search.bound) (submit (plain op) z.course) _ (trail path) (trail path') failure.kind
-        (ap (λ (o : Op D ⊤). drives (submit o z.course) path) (sym same_op) ∙ event z.course z.shown)
+        (ap (λ (o : Request D ⊤). drives (submit o z.course) path) (sym same_op) ∙ event z.course z.shown)
 
     -- what is left after the turn
     after_turn : (turned : Turn D) (bodies : List S) (run : Progress D) (path : Route) (c : Course D) (left : ℕ) → ShowsCourse c run path → left ≡ suc c.world.steps_left
@@ -113,7 +114,7 @@ module _ {D S : Type 0} (next : Meaning D S) where
     after_turn (turn.Ended value) bodies run path c left shown size e = sym e
 
     -- the operation leads to a turn
-    pub turns : (bodies : List S) (run run' : Progress D) (path path' : Route) (thread : ℕ) (answer : Reply D) (body after : S) (op : Op D S) (todo : Op D ⊤) (child : Option S) (turned : Turn D)
+    pub turns : (bodies : List S) (run run' : Progress D) (path path' : Route) (thread : ℕ) (answer : Reply D) (body after : S) (op : Op D S) (todo : Request D ⊤) (child : Option S) (turned : Turn D)
         → IsHanded bodies thread answer body after op → todo ≡ plain op → child ≡ started op
         → ((c : Course D) → ShowsCourse c run path → Comes (submit todo c) path (Ok turned) run' path')
         → run.state.steps_left ≡ run'.state.steps_left + 1 → path'.search ≡ path.search
@@ -128,11 +129,11 @@ module _ {D S : Type 0} (next : Meaning D S) where
         (ap (λ (s : Settings). drive s (marking s.bound) (at_turn (play next z.course.world.steps_left bodies' come.0) (λ value. Gives value) turned) (trail path')) same
         ∙ ap (λ (b : List S). drive path.search (marking path.search.bound) (at_turn (play next z.course.world.steps_left b come.0) (λ value. Gives value) turned) (trail path')) (more ∙ ap (with_child (slice_set bodies thread after)) same_child)
         ∙ sym (drive_then path.search (marking path.search.bound) (submit (plain op) z.course) _ (trail path) (trail path') (turned, come.0)
-        (ap (λ (o : Op D ⊤). drives (submit o z.course) path) (sym same_op) ∙ come.2))
+        (ap (λ (o : Request D ⊤). drives (submit o z.course) path) (sym same_op) ∙ come.2))
         ∙ left_is bodies run path thread answer body after op h z)
 
     -- the operation leads to a turn or stops the run
-    pub comes : (bodies : List S) (run run' : Progress D) (path path' : Route) (thread : ℕ) (answer : Reply D) (body after : S) (op : Op D S) (todo : Op D ⊤) (child : Option S) (result : Result (Turn D) Stop)
+    pub comes : (bodies : List S) (run run' : Progress D) (path path' : Route) (thread : ℕ) (answer : Reply D) (body after : S) (op : Op D S) (todo : Request D ⊤) (child : Option S) (result : Result (Turn D) Stop)
         → IsHanded bodies thread answer body after op → todo ≡ plain op → child ≡ started op
         → ((c : Course D) → ShowsCourse c run path → Comes (submit todo c) path result run' path')
         → OnOk result (run.state.steps_left ≡ run'.state.steps_left + 1) → path'.search ≡ path.search

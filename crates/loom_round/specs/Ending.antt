@@ -3,7 +3,7 @@ use Rattle.std.specs.Prelude.{◌≡◌, ◌≢◌, ◌⊎◌, ℕ, suc, Bool, f
 use Rattle.loom_view_parts.specs.declared.rt.failure.FailureKind.{FailureKind}
 use Rattle.loom_objects.specs.declared.failure.Stop.{Stop}
 use Rattle.loom_objects.specs.declared.failure.Stop.TheVariants.{Failure as Because, Memory}
-use Rattle.loom_objects.specs.declared.operation.Op.{Op}
+use Rattle.loom_objects.specs.Labels.{Op}
 use Rattle.loom_objects.specs.declared.operation.Reply.{Reply}
 use Rattle.loom_objects.specs.declared.operation.Reply.TheVariants as reply
 use Rattle.loom_objects.specs.declared.operation.Turn.{Turn}

@@ -1,9 +1,8 @@
 -- Where an operation was made, if its body said so.
 use Rattle.std.specs.Prelude.{Option}
-use Rattle.loom_objects.specs.declared.operation.Op.{Op}
-use Rattle.loom_objects.specs.Labels.{label_in}
+use Rattle.loom_objects.specs.Labels.{Op}
 use Rattle.loom_parts.specs.declared.location.Location.{Location}
 use Rattle.loom_parts.specs.Labels.{location_in}
 
 abbrev pub place_in : {D S : Type 0} → Op D S → Option Location
-place_in op = location_in (label_in op)
+place_in op = location_in op.label

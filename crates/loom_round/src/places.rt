@@ -1,8 +1,6 @@
 ghost use Rattle.std.specs.Prelude.{Bool, ◌≡◌, false, None};
-ghost use Rattle.loom_round.specs.Places.{place_in};
 
-use loom_objects::operation::Op;
-use loom_parts::label::location_in;
+use loom_parts::label::{Label, location_in};
 use loom_parts::location::Location;
 
 /// Keeps the places of the operations that threads have handed over last, or doesn't.
@@ -10,8 +8,8 @@ pub trait Places {
     /// Whether places are kept.
     ghost keeps: { Bool };
 
-    /// The thread hands over the operation.
-    fn hand_over<D>(&mut self, thread: usize, op: &Op<D, ()>);
+    /// The thread hands over an operation with this label.
+    fn hand_over(&mut self, thread: usize, label: Option<Label>);
 
     /// The place of the thread's last operation, if it is known.
     fn place(&self, thread: usize) -> Option<Location>
@@ -27,7 +25,7 @@ impl Places for NoPlaces {
 
     ghost keeps = { false };
 
-    fn hand_over<D>(&mut self, _thread: usize, _op: &Op<D, ()>) {}
+    fn hand_over(&mut self, _thread: usize, _label: Option<Label>) {}
 
     fn place(&self, _thread: usize) -> Option<Location> {
         None
@@ -52,9 +50,9 @@ impl Places for LastPlaces {
 
     ghost keeps = { true };
 
-    fn hand_over<D>(&mut self, thread: usize, op: &Op<D, ()>) {
+    fn hand_over(&mut self, thread: usize, label: Option<Label>) {
         if let Some(place) = self.places.get_mut(thread) {
-            *place = place_of(op);
+            *place = location_in(label);
         }
     }
 
@@ -64,11 +62,4 @@ impl Places for LastPlaces {
             None => None,
         }
     }
-}
-
-/// The place that the operation was given, if any.
-pub fn place_of<D>(op: &Op<D, ()>) -> Option<Location>
-    ensures { result ≡ place_in op.now }
-{
-    location_in(op.label())
 }

@@ -10,7 +10,7 @@ use crate::places::Places;
 use loom_engine::rt::execution::{Execution, Limits};
 use loom_objects::body::Body;
 use loom_objects::failure::{Failure, Stop, failed};
-use loom_objects::operation::{Op, Reply, Turn};
+use loom_objects::operation::{Reply, Request, Turn};
 use loom_path::rt::path::Path;
 use loom_views::rt::failure::FailureKind;
 use std::alloc::{AllocError, Global};
@@ -106,30 +106,31 @@ fn hand_over<B: Body, P: Places>(
         return Ok(Err(failed(FailureKind::Misuse)));
     }
     let body = &mut bodies[thread];
-    let (op, started) = body.resume(reply)?.split();
-    places.hand_over(thread, &op);
-    Ok(submit(execution, bodies, path, op, started))
+    let op = body.resume(reply)?;
+    places.hand_over(thread, op.label);
+    let (request, started) = op.split();
+    Ok(submit(execution, bodies, path, request, started))
 }
 
-/// The operation is submitted, and what it starts is a body more. `Memory` only where the event needs it, or a body is added.
+/// The request is submitted, and what it starts is a body more. `Memory` only where the event needs it, or a body is added.
 // Inlined, so that the operation isn't moved.
 #[inline(always)]
 fn submit<B: Body>(
     execution: &mut Execution<B::Data>,
     bodies: &mut Vec<B>,
     path: &mut Path,
-    op: Op<B::Data, ()>,
+    request: Request<B::Data, ()>,
     started: Option<B>,
 ) -> Result<Turn<B::Data>, Stop>
     requires { execution.old.over ≡ None }
-    ensures event { Along (machine.submit op) execution.old.run path.old result execution.new.run path.new }
+    ensures event { Along (machine.submit request) execution.old.run path.old result execution.new.run path.new }
     ensures child { OnOk result (bodies.new.items ≡ with_child bodies.old.items started) }
     ensures over { OnOk result (execution.new.over ≡ over_after result) }
     ensures steps { OnOk result (execution.old.run.state.steps_left ≡ execution.new.run.state.steps_left + 1) }
-    ensures growth { result ≡ Err Stop.Memory → (MayBeRefused op execution.old.run path.old) ⊎ (started ≢ None) }
+    ensures growth { result ≡ Err Stop.Memory → (MayBeRefused request execution.old.run path.old) ⊎ (started ≢ None) }
     ensures same { IsSameSearch path.old path.new }
 {
-    match execution.submit(path, op) {
+    match execution.submit(path, request) {
         Err(stop) => Err(stop),
         Ok(turn) => match add_child(bodies, started) {
             Ok(()) => Ok(turn),

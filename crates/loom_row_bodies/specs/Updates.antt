@@ -3,10 +3,10 @@ use Rattle.std.specs.Prelude.{ℕ, ◌==◌, Option, Some, None, cond}
 use Rattle.std.specs.declared.sync.atomic.Ordering.TheVariants.{SeqCst}
 use Rattle.loom_view_parts.specs.declared.rt.num.Numbers.TheVariants.{U64}
 use Rattle.loom_objects.specs.declared.operation.AtomicOp.TheVariants.{New, Load}
-use Rattle.loom_objects.specs.declared.operation.Op.{Op}
-use Rattle.loom_objects.specs.declared.operation.Op.TheVariants.{Atomic as OnAtomic, Thread as OnThread, Fail}
+use Rattle.loom_objects.specs.declared.operation.Request.TheVariants.{Atomic as OnAtomic, Thread as OnThread, Fail}
 use Rattle.loom_objects.specs.declared.operation.Reply.{Reply}
 use Rattle.loom_objects.specs.declared.operation.ThreadOp.TheVariants.{Finish, Exit, End}
+use Rattle.loom_objects.specs.Labels.{Op, bare}
 use Rattle.loom_ops.specs.Atomics.{atomic_handle, value_in, fetched_in, exchange, update}
 use Rattle.loom_ops.specs.declared.sync.atomic.Atomic.{Atomic}
 use Rattle.loom_ops.specs.declared.sync.atomic.FetchUpdate.{FetchUpdate}
@@ -27,11 +27,11 @@ abbrev pub after : ℕ → ℕ → ℕ → Option ℕ
 after one other n = cond (n == one) (Some other) None
 
 abbrev pub fails : Awaits × Op Number Updater
-fails = (Nothing, Fail None)
+fails = (Nothing, bare Fail)
 
 -- an update goes on with a load, or exchanges the number that was read
 abbrev pub loads : FetchUpdate ℕ → Op Number Updater
-loads u = OnAtomic (Load u.atomic.number u.fetch_order) None
+loads u = bare (OnAtomic (Load u.atomic.number u.fetch_order))
 
 abbrev pub exchanges : FetchUpdate ℕ → ℕ → ℕ → Op Number Updater
 exchanges u n new = exchange u.atomic.number n new u.set_order u.fetch_order
@@ -46,7 +46,7 @@ first_turn one other u None = fails
 abbrev pub second_turn : ℕ → ℕ → FetchUpdate ℕ → Option (Fetched ℕ) → Awaits × Op Number Updater
 second_turn one other u (Some (Read n)) =
     cond (n == one) (Second u, exchanges u n other)
-    (cond (n == other) (TheNumber, OnAtomic (Load u.atomic.number SeqCst) None) fails)
+    (cond (n == other) (TheNumber, bare (OnAtomic (Load u.atomic.number SeqCst))) fails)
 second_turn one other u _ = fails
 
 -- once the atomic is made
@@ -57,16 +57,16 @@ made_turn (Some atomic) = let u = update atomic SeqCst SeqCst in (First u, loads
 -- once the number is loaded
 abbrev pub loaded_turn : Option ℕ → Awaits × Op Number Updater
 loaded_turn None = fails
-loaded_turn (Some n) = (Finished, OnThread (Finish (number n)) None)
+loaded_turn (Some n) = (Finished, bare (OnThread (Finish (number n))))
 
 abbrev pub turn : ℕ → ℕ → Awaits → Reply Number → Awaits × Op Number Updater
-turn one other Main reply = (TheAtomic, OnAtomic (New U64 one) None)
+turn one other Main reply = (TheAtomic, bare (OnAtomic (New U64 one)))
 turn one other TheAtomic reply = made_turn (atomic_handle reply)
 turn one other (First u) reply = first_turn one other u (fetched_in (λ n. n) reply)
 turn one other (Second u) reply = second_turn one other u (fetched_in (λ n. n) reply)
 turn one other TheNumber reply = loaded_turn (value_in reply)
-turn one other Finished reply = (Exited, OnThread Exit None)
-turn one other Exited reply = (Nothing, OnThread End None)
+turn one other Finished reply = (Exited, bare (OnThread Exit))
+turn one other Exited reply = (Nothing, bare (OnThread End))
 turn one other Nothing reply = fails
 
 -- the thread's meaning

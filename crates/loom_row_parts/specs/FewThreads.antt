@@ -2,7 +2,7 @@
 use Rattle.std.specs.Prelude.{List, [], ◌∷◌, None, codes}
 use Rattle.loom_objects.specs.declared.operation.MutexOp.TheVariants as mutex
 use Rattle.loom_objects.specs.declared.operation.ThreadOp.TheVariants as threads
-use Rattle.loom_objects.specs.declared.operation.Op.TheVariants as op
+use Rattle.loom_objects.specs.declared.operation.Request.TheVariants as op
 use Rattle.loom_scripts.specs.declared.step.Step.{Step}
 use Rattle.loom_scripts.specs.declared.step.Step.TheVariants.{Do, Jump}
 use Rattle.loom_scripts.specs.declared.step.Value.TheVariants.{Plain}
@@ -13,26 +13,26 @@ use Rattle.loom_row_parts.specs.Steps.{exit, end}
 -- Main finishes, exits and ends.
 abbrev pub finish_only : List Step
 finish_only =
-    Do 0 (op.Thread (threads.Finish (Plain 7)) None) ∷ exit ∷ end ∷ []
+    Do 0 (op.Thread (threads.Finish (Plain 7))) ∷ exit ∷ end ∷ []
 
 -- Main spawns a thread, which does nothing but end.
 abbrev pub spawn_only : List Step
 spawn_only =
-    Do 0 (op.Thread (threads.Spawn 4 None) None) ∷ Do 0 (op.Thread (threads.Finish (Plain 7)) None) ∷ exit ∷
-    end ∷ Do 0 (op.Thread (threads.Finish (Plain 3)) None) ∷ exit ∷ end ∷ []
+    Do 0 (op.Thread (threads.Spawn 4 None)) ∷ Do 0 (op.Thread (threads.Finish (Plain 7))) ∷ exit ∷
+    end ∷ Do 0 (op.Thread (threads.Finish (Plain 3))) ∷ exit ∷ end ∷ []
 
 -- Main locks a mutex beside a thread that does nothing but end.
 abbrev pub lock_beside : List Step
 lock_beside =
-    Do 0 (op.Mutex (mutex.New (Plain 0)) None) ∷ Do 1 (op.Thread (threads.Spawn 7 None) None) ∷
-    Do 0 (op.Mutex (mutex.Lock 0) None) ∷ Do 0 (op.Mutex (mutex.Release 0 (Plain 0)) None) ∷
-    Do 0 (op.Thread (threads.Finish (Plain 7)) None) ∷ exit ∷ end ∷
-    Do 0 (op.Thread (threads.Finish (Plain 3)) None) ∷ exit ∷ end ∷ []
+    Do 0 (op.Mutex (mutex.New (Plain 0))) ∷ Do 1 (op.Thread (threads.Spawn 7 None)) ∷
+    Do 0 (op.Mutex (mutex.Lock 0)) ∷ Do 0 (op.Mutex (mutex.Release 0 (Plain 0))) ∷
+    Do 0 (op.Thread (threads.Finish (Plain 7))) ∷ exit ∷ end ∷
+    Do 0 (op.Thread (threads.Finish (Plain 3))) ∷ exit ∷ end ∷ []
 
 -- Main makes mutexes without end.
 abbrev pub mutex_forever : List Step
 mutex_forever =
-    Do 0 (op.Mutex (mutex.New (Plain 0)) None) ∷ Jump 0 ∷ []
+    Do 0 (op.Mutex (mutex.New (Plain 0))) ∷ Jump 0 ∷ []
 
 -- of one thread or two, and a mutex
 abbrev pub few_thread_rows : List Named

@@ -3,7 +3,7 @@ use Rattle.std.specs.Prelude.{ℕ, Bool, true, false, List, [], ◌∷◌, Optio
 use Rattle.std.specs.declared.sync.atomic.Ordering.TheVariants.{Relaxed}
 use Rattle.loom_view_parts.specs.declared.rt.num.Numbers.TheVariants as numbers
 use Rattle.loom_objects.specs.declared.operation.AtomicOp.TheVariants as atomic
-use Rattle.loom_objects.specs.declared.operation.Op.TheVariants as op
+use Rattle.loom_objects.specs.declared.operation.Request.TheVariants as op
 use Rattle.loom_objects.specs.declared.operation.ThreadOp.TheVariants as threads
 use Rattle.loom_scripts.specs.declared.step.Step.{Step}
 use Rattle.loom_scripts.specs.declared.step.Step.TheVariants.{Do, Jump}
@@ -33,25 +33,25 @@ measured name steps checks settings = record { name = name; steps = steps; setti
 
 -- the thread finishes with 0
 abbrev pub finish : Step
-finish = Do 0 (op.Thread (threads.Finish (Plain 0)) None)
+finish = Do 0 (op.Thread (threads.Finish (Plain 0)))
 
 -- stores to the atomics that three threads have for themselves
 abbrev pub store_main : Step
-store_main = Do 0 (op.Atomic (atomic.Store 0 1 Relaxed) None)
+store_main = Do 0 (op.Atomic (atomic.Store 0 1 Relaxed))
 
 abbrev pub store_first : Step
-store_first = Do 0 (op.Atomic (atomic.Store 1 1 Relaxed) None)
+store_first = Do 0 (op.Atomic (atomic.Store 1 1 Relaxed))
 
 abbrev pub store_second : Step
-store_second = Do 0 (op.Atomic (atomic.Store 2 1 Relaxed) None)
+store_second = Do 0 (op.Atomic (atomic.Store 2 1 Relaxed))
 
 -- Three threads store to an atomic each: main five times, and the others three times. Main joins them.
 abbrev pub stores_apart : List Step
 stores_apart =
-    Do 0 (op.Atomic (atomic.New numbers.U64 0) None) ∷ Do 1 (op.Atomic (atomic.New numbers.U64 0) None) ∷
-    Do 2 (op.Atomic (atomic.New numbers.U64 0) None) ∷ Do 3 (op.Thread (threads.Spawn 13 None) None) ∷
-    Do 4 (op.Thread (threads.Spawn 17 None) None) ∷ store_main ∷ store_main ∷ store_main ∷ store_main ∷ store_main ∷
-    Do 0 (op.Thread (threads.Join 3 3) None) ∷ Do 0 (op.Thread (threads.Join 4 4) None) ∷ Jump 20 ∷ store_first ∷
+    Do 0 (op.Atomic (atomic.New numbers.U64 0)) ∷ Do 1 (op.Atomic (atomic.New numbers.U64 0)) ∷
+    Do 2 (op.Atomic (atomic.New numbers.U64 0)) ∷ Do 3 (op.Thread (threads.Spawn 13 None)) ∷
+    Do 4 (op.Thread (threads.Spawn 17 None)) ∷ store_main ∷ store_main ∷ store_main ∷ store_main ∷ store_main ∷
+    Do 0 (op.Thread (threads.Join 3 3)) ∷ Do 0 (op.Thread (threads.Join 4 4)) ∷ Jump 20 ∷ store_first ∷
     store_first ∷ store_first ∷ Jump 20 ∷ store_second ∷ store_second ∷ store_second ∷ finish ∷ exit ∷ end ∷ []
 
 -- many runs

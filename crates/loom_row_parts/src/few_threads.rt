@@ -5,44 +5,44 @@ ghost use Rattle.loom_row_parts.specs.Meanings.{named};
 
 use crate::row;
 use crate::rows::{Row, TEN_STEPS, TWO_RUNS, WHOLE};
-use loom_objects::operation::{MutexOp, Op, ThreadOp};
+use loom_objects::operation::{MutexOp, Request, ThreadOp};
 use loom_scripts::step::{END, EXIT, Step, Value};
 
 /// Main finishes, exits and ends.
 pub const FINISH_ONLY: &[Step] = &[
-    Step::Do(0, Op::Thread(ThreadOp::Finish(Value::Plain(7)), None)),
+    Step::Do(0, Request::Thread(ThreadOp::Finish(Value::Plain(7)))),
     EXIT,
     END,
 ];
 
 /// Main spawns a thread, which does nothing but end.
 pub const SPAWN_ONLY: &[Step] = &[
-    Step::Do(0, Op::Thread(ThreadOp::Spawn(4, None), None)),
-    Step::Do(0, Op::Thread(ThreadOp::Finish(Value::Plain(7)), None)),
+    Step::Do(0, Request::Thread(ThreadOp::Spawn(4, None))),
+    Step::Do(0, Request::Thread(ThreadOp::Finish(Value::Plain(7)))),
     EXIT,
     END,
-    Step::Do(0, Op::Thread(ThreadOp::Finish(Value::Plain(3)), None)),
+    Step::Do(0, Request::Thread(ThreadOp::Finish(Value::Plain(3)))),
     EXIT,
     END,
 ];
 
 /// Main locks a mutex beside a thread that does nothing but end.
 pub const LOCK_BESIDE: &[Step] = &[
-    Step::Do(0, Op::Mutex(MutexOp::New(Value::Plain(0)), None)),
-    Step::Do(1, Op::Thread(ThreadOp::Spawn(7, None), None)),
-    Step::Do(0, Op::Mutex(MutexOp::Lock(0), None)),
-    Step::Do(0, Op::Mutex(MutexOp::Release(0, Value::Plain(0)), None)),
-    Step::Do(0, Op::Thread(ThreadOp::Finish(Value::Plain(7)), None)),
+    Step::Do(0, Request::Mutex(MutexOp::New(Value::Plain(0)))),
+    Step::Do(1, Request::Thread(ThreadOp::Spawn(7, None))),
+    Step::Do(0, Request::Mutex(MutexOp::Lock(0))),
+    Step::Do(0, Request::Mutex(MutexOp::Release(0, Value::Plain(0)))),
+    Step::Do(0, Request::Thread(ThreadOp::Finish(Value::Plain(7)))),
     EXIT,
     END,
-    Step::Do(0, Op::Thread(ThreadOp::Finish(Value::Plain(3)), None)),
+    Step::Do(0, Request::Thread(ThreadOp::Finish(Value::Plain(3)))),
     EXIT,
     END,
 ];
 
 /// Main makes mutexes without end.
 pub const MUTEX_FOREVER: &[Step] = &[
-    Step::Do(0, Op::Mutex(MutexOp::New(Value::Plain(0)), None)),
+    Step::Do(0, Request::Mutex(MutexOp::New(Value::Plain(0)))),
     Step::Jump(0),
 ];
 

@@ -5,7 +5,7 @@ ghost use Rattle.loom_row_parts.specs.Measured.{named};
 
 use crate::rows::{DEFAULTS, WHOLE};
 use crate::settings::Settings;
-use loom_objects::operation::{AtomicOp, Op, ThreadOp};
+use loom_objects::operation::{AtomicOp, Request, ThreadOp};
 use loom_scripts::step::{END, EXIT, Step, Value};
 use loom_views::rt::num::Numbers;
 use std::sync::atomic::Ordering;
@@ -24,38 +24,29 @@ pub struct Measured {
 }
 
 /// The thread finishes with 0.
-pub const FINISH: Step = Step::Do(0, Op::Thread(ThreadOp::Finish(Value::Plain(0)), None));
+pub const FINISH: Step = Step::Do(0, Request::Thread(ThreadOp::Finish(Value::Plain(0))));
 
 // A store to the atomic that a thread has for itself.
-const STORE_MAIN: Step = Step::Do(
-    0,
-    Op::Atomic(AtomicOp::Store(0, 1, Ordering::Relaxed), None),
-);
+const STORE_MAIN: Step = Step::Do(0, Request::Atomic(AtomicOp::Store(0, 1, Ordering::Relaxed)));
 
-const STORE_FIRST: Step = Step::Do(
-    0,
-    Op::Atomic(AtomicOp::Store(1, 1, Ordering::Relaxed), None),
-);
+const STORE_FIRST: Step = Step::Do(0, Request::Atomic(AtomicOp::Store(1, 1, Ordering::Relaxed)));
 
-const STORE_SECOND: Step = Step::Do(
-    0,
-    Op::Atomic(AtomicOp::Store(2, 1, Ordering::Relaxed), None),
-);
+const STORE_SECOND: Step = Step::Do(0, Request::Atomic(AtomicOp::Store(2, 1, Ordering::Relaxed)));
 
 /// Three threads store to an atomic each: main five times, and the others three times. Main joins them.
 const STORES_APART: &[Step] = &[
-    Step::Do(0, Op::Atomic(AtomicOp::New(Numbers::U64, 0), None)),
-    Step::Do(1, Op::Atomic(AtomicOp::New(Numbers::U64, 0), None)),
-    Step::Do(2, Op::Atomic(AtomicOp::New(Numbers::U64, 0), None)),
-    Step::Do(3, Op::Thread(ThreadOp::Spawn(13, None), None)),
-    Step::Do(4, Op::Thread(ThreadOp::Spawn(17, None), None)),
+    Step::Do(0, Request::Atomic(AtomicOp::New(Numbers::U64, 0))),
+    Step::Do(1, Request::Atomic(AtomicOp::New(Numbers::U64, 0))),
+    Step::Do(2, Request::Atomic(AtomicOp::New(Numbers::U64, 0))),
+    Step::Do(3, Request::Thread(ThreadOp::Spawn(13, None))),
+    Step::Do(4, Request::Thread(ThreadOp::Spawn(17, None))),
     STORE_MAIN,
     STORE_MAIN,
     STORE_MAIN,
     STORE_MAIN,
     STORE_MAIN,
-    Step::Do(0, Op::Thread(ThreadOp::Join(3, 3), None)),
-    Step::Do(0, Op::Thread(ThreadOp::Join(4, 4), None)),
+    Step::Do(0, Request::Thread(ThreadOp::Join(3, 3))),
+    Step::Do(0, Request::Thread(ThreadOp::Join(4, 4))),
     Step::Jump(20),
     STORE_FIRST,
     STORE_FIRST,

@@ -1,6 +1,5 @@
 -- The table of the program's rows: each name, what it means, and how this is checked.
 use Rattle.std.specs.Prelude.{◌≡◌, List, [], ◌∷◌, ◌++◌, codes}
-use Rattle.loom_objects.specs.declared.rt.thread.Name.{Name}
 use Rattle.loom_row_parts.specs.FewThreads.{few_thread_rows, lock_beside}
 use Rattle.loom_row_parts.specs.Meanings.{Named}
 use Rattle.loom_row_parts.specs.Names.{script, whole, short, long, few, explicit, updates}
@@ -149,19 +148,15 @@ waking_rows =
     script (codes "unpark_then_park") locks.unpark_then_park ∷ script (codes "park_alone") locks.park_alone ∷
     script (codes "unpark_wakes") locks.unpark_wakes ∷ []
 
--- of a yield, of a thread with a name, and of code that is never reached, with the name that the script gives a thread
-abbrev pub other_rows : Name → List Named
-other_rows name =
-    script (codes "yield_beside") locks.yield_beside ∷ script (codes "named_child") (locks.named_child name) ∷
+-- of a yield, of a thread with a name, and of code that is never reached
+abbrev pub other_rows : List Named
+other_rows =
+    script (codes "yield_beside") locks.yield_beside ∷ script (codes "named_child") locks.named_child ∷
     script (codes "unreachable") locks.unreachable ∷ []
 
--- those rows, where the named child is called foobar
-abbrev pub AreOtherRows : List Named → Type 0
-AreOtherRows rows = (name : Name) × (name.text.now ≡ codes "foobar") × (rows ≡ other_rows name)
-
--- about threads that wait for one another, with the name that one script gives a thread
-abbrev pub lock_rows : Name → List Named
-lock_rows name = mutex_rows ++ rwlock_rows ++ condvar_rows ++ waking_rows ++ other_rows name
+-- about threads that wait for one another
+abbrev pub lock_rows : List Named
+lock_rows = mutex_rows ++ rwlock_rows ++ condvar_rows ++ waking_rows ++ other_rows
 
 -- of messages that are sent
 abbrev pub message_rows : List Named
@@ -171,20 +166,16 @@ message_rows =
     script (codes "commutative_senders") channels.commutative_senders ∷
     script (codes "non_commutative_senders1") channels.non_commutative_senders1 ∷ []
 
--- of channels with nothing to receive or nobody who does, and of a name that is sent, with the name that the script gives a thread
-abbrev pub end_rows : Name → List Named
-end_rows name =
+-- of channels with nothing to receive or nobody who does, and of a name that is sent
+abbrev pub end_rows : List Named
+end_rows =
     script (codes "try_recv_empty") channels.try_recv_empty ∷ script (codes "drop_receiver") channels.drop_receiver ∷
     script (codes "message_left") channels.message_left ∷ script (codes "send_late") channels.send_late ∷
-    script (codes "name_sent") (channels.name_sent name) ∷ []
+    script (codes "name_sent") channels.name_sent ∷ []
 
--- those rows, where the named child is called foobar
-abbrev pub AreEndRows : List Named → Type 0
-AreEndRows rows = (name : Name) × (name.text.now ≡ codes "foobar") × (rows ≡ end_rows name)
-
--- about channels, with the name that one script gives a thread
-abbrev pub channel_rows : Name → List Named
-channel_rows name = message_rows ++ end_rows name
+-- about channels
+abbrev pub channel_rows : List Named
+channel_rows = message_rows ++ end_rows
 
 -- about wakers
 abbrev pub waker_rows : List Named
@@ -214,10 +205,7 @@ limit_rows =
     script (codes "finish_twice") limits.finish_twice ∷ script (codes "exit_first") limits.exit_first ∷
     script (codes "put_absent") limits.put_absent ∷ script (codes "guard_left") limits.guard_left ∷ []
 
--- all of them, in which both named children are called foobar (a name's value holds where its text stands, so it has no definition)
+-- all of them
 abbrev pub IsTable : List Named → Type 0
 IsTable rows =
-    (name : Name) × (other : Name)
-    × (name.text.now ≡ codes "foobar")
-    × (other.text.now ≡ codes "foobar")
-    × (rows ≡ first_rows ++ atomic_rows ++ cell_rows ++ lock_rows name ++ channel_rows other ++ waker_rows ++ value_rows ++ exploring_rows ++ limit_rows)
+    rows ≡ first_rows ++ atomic_rows ++ cell_rows ++ lock_rows ++ channel_rows ++ waker_rows ++ value_rows ++ exploring_rows ++ limit_rows

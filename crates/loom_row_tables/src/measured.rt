@@ -7,7 +7,7 @@ ghost use Rattle.loom_row_tables.specs.Measured.{body_of};
 use crate::bodies::TWO_MUTEXES_DEADLOCK;
 use crate::bodies::atomics::{ACQ_REL, THREE_ADDS};
 use crate::tables::joined;
-use loom_objects::operation::{AtomicOp, CondvarOp, MutexOp, Op, RwLockOp, ThreadOp};
+use loom_objects::operation::{AtomicOp, CondvarOp, MutexOp, Request, RwLockOp, ThreadOp};
 use loom_row_parts::measured::{self, FINISH, Measured};
 use loom_row_parts::rows::{DEFAULTS, LONG_RUNS, WHOLE};
 use loom_row_parts::settings::Settings;
@@ -18,66 +18,42 @@ use std::sync::atomic::Ordering;
 
 /// Two threads store to an atomic each, and load from the other's.
 const STORE_BUFFERING: &[Step] = &[
-    Step::Do(0, Op::Atomic(AtomicOp::New(Numbers::U64, 0), None)),
-    Step::Do(1, Op::Atomic(AtomicOp::New(Numbers::U64, 0), None)),
-    Step::Do(2, Op::Thread(ThreadOp::Spawn(8, None), None)),
-    Step::Do(
-        0,
-        Op::Atomic(AtomicOp::Store(1, 1, Ordering::Relaxed), None),
-    ),
-    Step::Do(1, Op::Atomic(AtomicOp::Load(0, Ordering::Relaxed), None)),
-    Step::Do(0, Op::Thread(ThreadOp::Join(2, 2), None)),
-    Step::Do(0, Op::Thread(ThreadOp::Finish(Value::Both(0, 1)), None)),
+    Step::Do(0, Request::Atomic(AtomicOp::New(Numbers::U64, 0))),
+    Step::Do(1, Request::Atomic(AtomicOp::New(Numbers::U64, 0))),
+    Step::Do(2, Request::Thread(ThreadOp::Spawn(8, None))),
+    Step::Do(0, Request::Atomic(AtomicOp::Store(1, 1, Ordering::Relaxed))),
+    Step::Do(1, Request::Atomic(AtomicOp::Load(0, Ordering::Relaxed))),
+    Step::Do(0, Request::Thread(ThreadOp::Join(2, 2))),
+    Step::Do(0, Request::Thread(ThreadOp::Finish(Value::Both(0, 1)))),
     Step::Jump(11),
-    Step::Do(
-        0,
-        Op::Atomic(AtomicOp::Store(0, 1, Ordering::Relaxed), None),
-    ),
-    Step::Do(0, Op::Atomic(AtomicOp::Load(1, Ordering::Relaxed), None)),
-    Step::Do(0, Op::Thread(ThreadOp::Finish(Value::Held(0)), None)),
+    Step::Do(0, Request::Atomic(AtomicOp::Store(0, 1, Ordering::Relaxed))),
+    Step::Do(0, Request::Atomic(AtomicOp::Load(1, Ordering::Relaxed))),
+    Step::Do(0, Request::Thread(ThreadOp::Finish(Value::Held(0)))),
     EXIT,
     END,
 ];
 
 /// Three threads, of which each loads twice from the next one's atomic, and then stores twice to its own.
 const THREE_THREADS: &[Step] = &[
-    Step::Do(0, Op::Atomic(AtomicOp::New(Numbers::U64, 0), None)),
-    Step::Do(1, Op::Atomic(AtomicOp::New(Numbers::U64, 0), None)),
-    Step::Do(2, Op::Atomic(AtomicOp::New(Numbers::U64, 0), None)),
-    Step::Do(3, Op::Thread(ThreadOp::Spawn(10, None), None)),
-    Step::Do(4, Op::Thread(ThreadOp::Spawn(15, None), None)),
-    Step::Do(0, Op::Atomic(AtomicOp::Load(1, Ordering::Relaxed), None)),
-    Step::Do(1, Op::Atomic(AtomicOp::Load(1, Ordering::Relaxed), None)),
-    Step::Do(
-        0,
-        Op::Atomic(AtomicOp::Store(0, 1, Ordering::Relaxed), None),
-    ),
-    Step::Do(
-        0,
-        Op::Atomic(AtomicOp::Store(0, 2, Ordering::Relaxed), None),
-    ),
+    Step::Do(0, Request::Atomic(AtomicOp::New(Numbers::U64, 0))),
+    Step::Do(1, Request::Atomic(AtomicOp::New(Numbers::U64, 0))),
+    Step::Do(2, Request::Atomic(AtomicOp::New(Numbers::U64, 0))),
+    Step::Do(3, Request::Thread(ThreadOp::Spawn(10, None))),
+    Step::Do(4, Request::Thread(ThreadOp::Spawn(15, None))),
+    Step::Do(0, Request::Atomic(AtomicOp::Load(1, Ordering::Relaxed))),
+    Step::Do(1, Request::Atomic(AtomicOp::Load(1, Ordering::Relaxed))),
+    Step::Do(0, Request::Atomic(AtomicOp::Store(0, 1, Ordering::Relaxed))),
+    Step::Do(0, Request::Atomic(AtomicOp::Store(0, 2, Ordering::Relaxed))),
     Step::Jump(19),
-    Step::Do(0, Op::Atomic(AtomicOp::Load(2, Ordering::Relaxed), None)),
-    Step::Do(1, Op::Atomic(AtomicOp::Load(2, Ordering::Relaxed), None)),
-    Step::Do(
-        0,
-        Op::Atomic(AtomicOp::Store(1, 1, Ordering::Relaxed), None),
-    ),
-    Step::Do(
-        0,
-        Op::Atomic(AtomicOp::Store(1, 2, Ordering::Relaxed), None),
-    ),
+    Step::Do(0, Request::Atomic(AtomicOp::Load(2, Ordering::Relaxed))),
+    Step::Do(1, Request::Atomic(AtomicOp::Load(2, Ordering::Relaxed))),
+    Step::Do(0, Request::Atomic(AtomicOp::Store(1, 1, Ordering::Relaxed))),
+    Step::Do(0, Request::Atomic(AtomicOp::Store(1, 2, Ordering::Relaxed))),
     Step::Jump(19),
-    Step::Do(0, Op::Atomic(AtomicOp::Load(0, Ordering::Relaxed), None)),
-    Step::Do(1, Op::Atomic(AtomicOp::Load(0, Ordering::Relaxed), None)),
-    Step::Do(
-        0,
-        Op::Atomic(AtomicOp::Store(2, 1, Ordering::Relaxed), None),
-    ),
-    Step::Do(
-        0,
-        Op::Atomic(AtomicOp::Store(2, 2, Ordering::Relaxed), None),
-    ),
+    Step::Do(0, Request::Atomic(AtomicOp::Load(0, Ordering::Relaxed))),
+    Step::Do(1, Request::Atomic(AtomicOp::Load(0, Ordering::Relaxed))),
+    Step::Do(0, Request::Atomic(AtomicOp::Store(2, 1, Ordering::Relaxed))),
+    Step::Do(0, Request::Atomic(AtomicOp::Store(2, 2, Ordering::Relaxed))),
     FINISH,
     EXIT,
     END,
@@ -85,19 +61,19 @@ const THREE_THREADS: &[Step] = &[
 
 /// Two threads lock two mutexes in the same order, beside a main that joins them.
 const LOCKS_IN_TURN: &[Step] = &[
-    Step::Do(0, Op::Mutex(MutexOp::New(Value::Plain(0)), None)),
-    Step::Do(1, Op::Mutex(MutexOp::New(Value::Plain(0)), None)),
-    Step::Do(2, Op::Thread(ThreadOp::Spawn(9, None), None)),
-    Step::Do(3, Op::Thread(ThreadOp::Spawn(9, None), None)),
-    Step::Do(0, Op::Thread(ThreadOp::Join(2, 2), None)),
-    Step::Do(0, Op::Thread(ThreadOp::Join(3, 3), None)),
+    Step::Do(0, Request::Mutex(MutexOp::New(Value::Plain(0)))),
+    Step::Do(1, Request::Mutex(MutexOp::New(Value::Plain(0)))),
+    Step::Do(2, Request::Thread(ThreadOp::Spawn(9, None))),
+    Step::Do(3, Request::Thread(ThreadOp::Spawn(9, None))),
+    Step::Do(0, Request::Thread(ThreadOp::Join(2, 2))),
+    Step::Do(0, Request::Thread(ThreadOp::Join(3, 3))),
     FINISH,
     EXIT,
     END,
-    Step::Do(0, Op::Mutex(MutexOp::Lock(0), None)),
-    Step::Do(0, Op::Mutex(MutexOp::Lock(1), None)),
-    Step::Do(0, Op::Mutex(MutexOp::Release(1, Value::Plain(0)), None)),
-    Step::Do(0, Op::Mutex(MutexOp::Release(0, Value::Plain(0)), None)),
+    Step::Do(0, Request::Mutex(MutexOp::Lock(0))),
+    Step::Do(0, Request::Mutex(MutexOp::Lock(1))),
+    Step::Do(0, Request::Mutex(MutexOp::Release(1, Value::Plain(0)))),
+    Step::Do(0, Request::Mutex(MutexOp::Release(0, Value::Plain(0)))),
     FINISH,
     EXIT,
     END,
@@ -105,20 +81,20 @@ const LOCKS_IN_TURN: &[Step] = &[
 
 /// Two threads add to what a lock holds, one after the other, beside a main that reads it. Main joins them.
 const WRITERS_BESIDE_A_READER: &[Step] = &[
-    Step::Do(0, Op::RwLock(RwLockOp::New(Value::Plain(0)), None)),
-    Step::Do(1, Op::Thread(ThreadOp::Spawn(10, None), None)),
-    Step::Do(2, Op::Thread(ThreadOp::Spawn(10, None), None)),
-    Step::Do(0, Op::RwLock(RwLockOp::Read(0), None)),
-    Step::Do(0, Op::RwLock(RwLockOp::ReadRelease(0), None)),
-    Step::Do(0, Op::Thread(ThreadOp::Join(1, 1), None)),
-    Step::Do(0, Op::Thread(ThreadOp::Join(2, 2), None)),
+    Step::Do(0, Request::RwLock(RwLockOp::New(Value::Plain(0)))),
+    Step::Do(1, Request::Thread(ThreadOp::Spawn(10, None))),
+    Step::Do(2, Request::Thread(ThreadOp::Spawn(10, None))),
+    Step::Do(0, Request::RwLock(RwLockOp::Read(0))),
+    Step::Do(0, Request::RwLock(RwLockOp::ReadRelease(0))),
+    Step::Do(0, Request::Thread(ThreadOp::Join(1, 1))),
+    Step::Do(0, Request::Thread(ThreadOp::Join(2, 2))),
     FINISH,
     EXIT,
     END,
-    Step::Do(0, Op::RwLock(RwLockOp::Write(0), None)),
+    Step::Do(0, Request::RwLock(RwLockOp::Write(0))),
     Step::Do(
         1,
-        Op::RwLock(RwLockOp::WriteRelease(0, Value::Next(0)), None),
+        Request::RwLock(RwLockOp::WriteRelease(0, Value::Next(0))),
     ),
     FINISH,
     EXIT,
@@ -127,20 +103,20 @@ const WRITERS_BESIDE_A_READER: &[Step] = &[
 
 /// A thread leaves 1 in a mutex and notifies. Main waits for that unless the 1 is there, and joins the thread.
 const WAIT_AND_NOTIFY: &[Step] = &[
-    Step::Do(0, Op::Mutex(MutexOp::New(Value::Plain(0)), None)),
-    Step::Do(1, Op::Condvar(CondvarOp::New, None)),
-    Step::Do(2, Op::Thread(ThreadOp::Spawn(11, None), None)),
-    Step::Do(0, Op::Mutex(MutexOp::Lock(0), None)),
+    Step::Do(0, Request::Mutex(MutexOp::New(Value::Plain(0)))),
+    Step::Do(1, Request::Condvar(CondvarOp::New)),
+    Step::Do(2, Request::Thread(ThreadOp::Spawn(11, None))),
+    Step::Do(0, Request::Mutex(MutexOp::Lock(0))),
     Step::Unless(0, 0, 6),
-    Step::Do(0, Op::Condvar(CondvarOp::Wait(1, 0, Value::Plain(0)), None)),
-    Step::Do(1, Op::Mutex(MutexOp::Release(0, Value::Held(0)), None)),
-    Step::Do(1, Op::Thread(ThreadOp::Join(2, 2), None)),
+    Step::Do(0, Request::Condvar(CondvarOp::Wait(1, 0, Value::Plain(0)))),
+    Step::Do(1, Request::Mutex(MutexOp::Release(0, Value::Held(0)))),
+    Step::Do(1, Request::Thread(ThreadOp::Join(2, 2))),
     FINISH,
     EXIT,
     END,
-    Step::Do(0, Op::Mutex(MutexOp::Lock(0), None)),
-    Step::Do(0, Op::Mutex(MutexOp::Release(0, Value::Plain(1)), None)),
-    Step::Do(0, Op::Condvar(CondvarOp::NotifyOne(1), None)),
+    Step::Do(0, Request::Mutex(MutexOp::Lock(0))),
+    Step::Do(0, Request::Mutex(MutexOp::Release(0, Value::Plain(1)))),
+    Step::Do(0, Request::Condvar(CondvarOp::NotifyOne(1))),
     FINISH,
     EXIT,
     END,
@@ -148,9 +124,9 @@ const WAIT_AND_NOTIFY: &[Step] = &[
 
 /// One thread stores 1 into an atomic and loads it, and so on up to 500.
 const LONG_LINE: &[Step] = &[
-    Step::Do(0, Op::Atomic(AtomicOp::New(Numbers::U64, 0), None)),
+    Step::Do(0, Request::Atomic(AtomicOp::New(Numbers::U64, 0))),
     Step::Store(0, Value::Next(0), Ordering::Relaxed),
-    Step::Do(0, Op::Atomic(AtomicOp::Load(0, Ordering::Relaxed), None)),
+    Step::Do(0, Request::Atomic(AtomicOp::Load(0, Ordering::Relaxed))),
     Step::Unless(0, 500, 1),
     FINISH,
     EXIT,
@@ -159,9 +135,9 @@ const LONG_LINE: &[Step] = &[
 
 /// The same, up to 5,000.
 const LONG_LINE_10000: &[Step] = &[
-    Step::Do(0, Op::Atomic(AtomicOp::New(Numbers::U64, 0), None)),
+    Step::Do(0, Request::Atomic(AtomicOp::New(Numbers::U64, 0))),
     Step::Store(0, Value::Next(0), Ordering::Relaxed),
-    Step::Do(0, Op::Atomic(AtomicOp::Load(0, Ordering::Relaxed), None)),
+    Step::Do(0, Request::Atomic(AtomicOp::Load(0, Ordering::Relaxed))),
     Step::Unless(0, 5000, 1),
     FINISH,
     EXIT,
@@ -170,19 +146,19 @@ const LONG_LINE_10000: &[Step] = &[
 
 /// Main locks a mutex 1,001 times, beside a thread that waits for it since the first time. It counts that in the mutex.
 const LONG_TURN: &[Step] = &[
-    Step::Do(0, Op::Mutex(MutexOp::New(Value::Plain(0)), None)),
-    Step::Do(0, Op::Mutex(MutexOp::Lock(0), None)),
-    Step::Do(1, Op::Thread(ThreadOp::Spawn(11, None), None)),
+    Step::Do(0, Request::Mutex(MutexOp::New(Value::Plain(0)))),
+    Step::Do(0, Request::Mutex(MutexOp::Lock(0))),
+    Step::Do(1, Request::Thread(ThreadOp::Spawn(11, None))),
     YIELD,
-    Step::Do(0, Op::Mutex(MutexOp::Release(0, Value::Next(0)), None)),
-    Step::Do(0, Op::Mutex(MutexOp::Lock(0), None)),
-    Step::Do(0, Op::Mutex(MutexOp::Release(0, Value::Next(0)), None)),
+    Step::Do(0, Request::Mutex(MutexOp::Release(0, Value::Next(0)))),
+    Step::Do(0, Request::Mutex(MutexOp::Lock(0))),
+    Step::Do(0, Request::Mutex(MutexOp::Release(0, Value::Next(0)))),
     Step::Unless(0, 1000, 5),
     FINISH,
     EXIT,
     END,
-    Step::Do(0, Op::Mutex(MutexOp::Lock(0), None)),
-    Step::Do(0, Op::Mutex(MutexOp::Release(0, Value::Held(0)), None)),
+    Step::Do(0, Request::Mutex(MutexOp::Lock(0))),
+    Step::Do(0, Request::Mutex(MutexOp::Release(0, Value::Held(0)))),
     Step::Jump(8),
 ];
 

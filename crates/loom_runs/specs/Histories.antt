@@ -6,8 +6,8 @@ use Rattle.loom_objects.specs.declared.operation.CondvarOp.{CondvarOp}
 use Rattle.loom_objects.specs.declared.operation.CondvarOp.TheVariants as condvar_op
 use Rattle.loom_objects.specs.declared.operation.MutexOp.{MutexOp}
 use Rattle.loom_objects.specs.declared.operation.MutexOp.TheVariants as mutex_op
-use Rattle.loom_objects.specs.declared.operation.Op.{Op}
-use Rattle.loom_objects.specs.declared.operation.Op.TheVariants as op
+use Rattle.loom_objects.specs.declared.operation.Request.{Request}
+use Rattle.loom_objects.specs.declared.operation.Request.TheVariants as op
 use Rattle.loom_objects.specs.declared.operation.Reply.{Reply}
 use Rattle.loom_objects.specs.declared.operation.Reply.TheVariants.{Locked, Waited}
 use Rattle.loom_objects.specs.declared.operation.Reply.TheVariants as reply
@@ -32,7 +32,7 @@ ComesTo (Asks question branches) a = (choice : Choice) × ComesTo (branches choi
 -- a state in which some history leaves the machine: the opening one, or one that an operation of the active thread leads to
 pub data IsReached {D : Type 0} (max_threads max_steps : ℕ) : Course D → Type 0 where
   at_first : (explores : Bool) → IsReached max_threads max_steps (opening explores max_threads max_steps)
-  later : (c : Course D) (op : Op D ⊤) (turn : Turn D) (v : Course D) → IsReached max_threads max_steps c → ComesTo (submit op c) (turn, v) → IsReached max_threads max_steps v
+  later : (c : Course D) (op : Request D ⊤) (turn : Turn D) (v : Course D) → IsReached max_threads max_steps c → ComesTo (submit op c) (turn, v) → IsReached max_threads max_steps v
 
 module _ {D : Type 0} where
   -- A mutex that a thread holds keeps no data that another could have; a read-write lock has a writer or readers, and with a
@@ -58,7 +58,7 @@ LocksLaw D = (max_threads max_steps : ℕ) (c : Course D) → IsReached max_thre
 
 -- an operation that the active thread hands over, and the turn that it comes to
 pub record Event (D : Type 0) : Type 0 where
-  pub op : Op D ⊤
+  pub op : Request D ⊤
   pub turn : Turn D
 
 -- these events may follow the turn: after main's result, with which the run is over, there is none
@@ -130,25 +130,25 @@ module _ {D : Type 0} where
   opened_by_mutex (mutex_op.Release n value) = None
   opened_by_mutex (mutex_op.Put n value) = None
 
-  abbrev pub opened_by : Op D ⊤ → Option ℕ
-  opened_by (op.Mutex todo place) = opened_by_mutex todo
-  opened_by (op.Atomic todo place) = None
-  opened_by (op.Fence order place) = None
-  opened_by (op.Cell todo place) = None
-  opened_by (op.Arc todo place) = None
-  opened_by (op.Track todo place) = None
-  opened_by (op.RwLock todo place) = None
-  opened_by (op.Condvar todo place) = None
-  opened_by (op.Notify todo place) = None
-  opened_by (op.Channel todo place) = None
-  opened_by (op.Waker todo place) = None
-  opened_by (op.AtomicWaker todo place) = None
-  opened_by (op.Local todo place) = None
-  opened_by (op.Lazy todo place) = None
-  opened_by (op.Explore todo place) = None
-  opened_by (op.Thread todo place) = None
-  opened_by (op.Fail place) = None
-  opened_by (op.Unreachable place) = None
+  abbrev pub opened_by : Request D ⊤ → Option ℕ
+  opened_by (op.Mutex todo) = opened_by_mutex todo
+  opened_by (op.Atomic todo) = None
+  opened_by (op.Fence order) = None
+  opened_by (op.Cell todo) = None
+  opened_by (op.Arc todo) = None
+  opened_by (op.Track todo) = None
+  opened_by (op.RwLock todo) = None
+  opened_by (op.Condvar todo) = None
+  opened_by (op.Notify todo) = None
+  opened_by (op.Channel todo) = None
+  opened_by (op.Waker todo) = None
+  opened_by (op.AtomicWaker todo) = None
+  opened_by (op.Local todo) = None
+  opened_by (op.Lazy todo) = None
+  opened_by (op.Explore todo) = None
+  opened_by (op.Thread todo) = None
+  opened_by op.Fail = None
+  opened_by op.Unreachable = None
 
   -- the mutex whose data a thread is given by this event
   abbrev pub given_out : Event D → Option ℕ
@@ -171,25 +171,25 @@ module _ {D : Type 0} where
   returned_by_condvar (condvar_op.NotifyOne n) = None
   returned_by_condvar (condvar_op.NotifyAll n) = None
 
-  abbrev pub returned_by : Op D ⊤ → Option ℕ
-  returned_by (op.Mutex todo place) = returned_by_mutex todo
-  returned_by (op.Condvar todo place) = returned_by_condvar todo
-  returned_by (op.Atomic todo place) = None
-  returned_by (op.Fence order place) = None
-  returned_by (op.Cell todo place) = None
-  returned_by (op.Arc todo place) = None
-  returned_by (op.Track todo place) = None
-  returned_by (op.RwLock todo place) = None
-  returned_by (op.Notify todo place) = None
-  returned_by (op.Channel todo place) = None
-  returned_by (op.Waker todo place) = None
-  returned_by (op.AtomicWaker todo place) = None
-  returned_by (op.Local todo place) = None
-  returned_by (op.Lazy todo place) = None
-  returned_by (op.Explore todo place) = None
-  returned_by (op.Thread todo place) = None
-  returned_by (op.Fail place) = None
-  returned_by (op.Unreachable place) = None
+  abbrev pub returned_by : Request D ⊤ → Option ℕ
+  returned_by (op.Mutex todo) = returned_by_mutex todo
+  returned_by (op.Condvar todo) = returned_by_condvar todo
+  returned_by (op.Atomic todo) = None
+  returned_by (op.Fence order) = None
+  returned_by (op.Cell todo) = None
+  returned_by (op.Arc todo) = None
+  returned_by (op.Track todo) = None
+  returned_by (op.RwLock todo) = None
+  returned_by (op.Notify todo) = None
+  returned_by (op.Channel todo) = None
+  returned_by (op.Waker todo) = None
+  returned_by (op.AtomicWaker todo) = None
+  returned_by (op.Local todo) = None
+  returned_by (op.Lazy todo) = None
+  returned_by (op.Explore todo) = None
+  returned_by (op.Thread todo) = None
+  returned_by op.Fail = None
+  returned_by op.Unreachable = None
 
   -- the event begins with an operation that gives the data of mutex n back
   abbrev pub gives_back : ℕ → Event D → Bool

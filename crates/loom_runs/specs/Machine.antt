@@ -4,7 +4,7 @@ use Rattle.loom_view_parts.specs.declared.rt.failure.FailureKind.TheVariants.{De
 use Rattle.loom_parts.specs.declared.choice.Choice.{Choice}
 use Rattle.loom_parts.specs.declared.choice.Choice.TheVariants.{Thread, Load, Spurious}
 use Rattle.loom_objects.specs.declared.operation.ExploreOp.{ExploreOp}
-use Rattle.loom_objects.specs.declared.operation.Op.{Op}
+use Rattle.loom_objects.specs.declared.operation.Request.{Request}
 use Rattle.loom_objects.specs.declared.operation.Reply.TheVariants as reply
 use Rattle.loom_objects.specs.declared.operation.Turn.{Turn}
 use Rattle.loom_objects.specs.declared.operation.Turn.TheVariants as turn
@@ -89,7 +89,7 @@ module _ {D : Type 0} where
   goes_on (Explores todo, c) = switches todo c
 
   -- the active thread hands over an operation; what it makes is there from then on
-  abbrev pub submit : Op D ⊤ → Course D → Tree (Turn D × Course D)
+  abbrev pub submit : Request D ⊤ → Course D → Tree (Turn D × Course D)
   submit op c = do
     (entry, after) ← carried c (begins op c.world)
     goes_on (entry, grown_from c.world after)

@@ -3,8 +3,8 @@ use Rattle.std.specs.Prelude.{ℕ, ◌≡◌, ◌==◌, ◌++◌, ◌⊎◌, Boo
 use Rattle.std.specs.List.{list_any}
 use Rattle.loom_objects.specs.declared.operation.ChannelOp.{ChannelOp}
 use Rattle.loom_objects.specs.declared.operation.ChannelOp.TheVariants.{New, Send, Recv, TryRecv, CloneSender, DropSender, DropReceiver}
-use Rattle.loom_objects.specs.declared.operation.Op.{Op}
-use Rattle.loom_objects.specs.declared.operation.Op.TheVariants as op
+use Rattle.loom_objects.specs.declared.operation.Request.{Request}
+use Rattle.loom_objects.specs.declared.operation.Request.TheVariants as op
 use Rattle.loom_objects.specs.declared.operation.Reply.TheVariants.{Data, Done}
 use Rattle.loom_objects.specs.declared.operation.Turn.{Turn}
 use Rattle.loom_objects.specs.declared.operation.Turn.TheVariants.{Reply, Start, Ended}
@@ -13,28 +13,28 @@ use Rattle.loom_runs.specs.Histories.{Event, IsHistory}
 
 module _ {D : Type 0} where
   -- what is done to a channel by the operation
-  abbrev pub of_channel : Op D ⊤ → Option (ChannelOp D)
-  of_channel (op.Channel todo place) = Some todo
-  of_channel (op.Atomic todo place) = None
-  of_channel (op.Fence order place) = None
-  of_channel (op.Cell todo place) = None
-  of_channel (op.Arc todo place) = None
-  of_channel (op.Track todo place) = None
-  of_channel (op.Mutex todo place) = None
-  of_channel (op.RwLock todo place) = None
-  of_channel (op.Condvar todo place) = None
-  of_channel (op.Notify todo place) = None
-  of_channel (op.Waker todo place) = None
-  of_channel (op.AtomicWaker todo place) = None
-  of_channel (op.Local todo place) = None
-  of_channel (op.Lazy todo place) = None
-  of_channel (op.Explore todo place) = None
-  of_channel (op.Thread todo place) = None
-  of_channel (op.Fail place) = None
-  of_channel (op.Unreachable place) = None
+  abbrev pub of_channel : Request D ⊤ → Option (ChannelOp D)
+  of_channel (op.Channel todo) = Some todo
+  of_channel (op.Atomic todo) = None
+  of_channel (op.Fence order) = None
+  of_channel (op.Cell todo) = None
+  of_channel (op.Arc todo) = None
+  of_channel (op.Track todo) = None
+  of_channel (op.Mutex todo) = None
+  of_channel (op.RwLock todo) = None
+  of_channel (op.Condvar todo) = None
+  of_channel (op.Notify todo) = None
+  of_channel (op.Waker todo) = None
+  of_channel (op.AtomicWaker todo) = None
+  of_channel (op.Local todo) = None
+  of_channel (op.Lazy todo) = None
+  of_channel (op.Explore todo) = None
+  of_channel (op.Thread todo) = None
+  of_channel op.Fail = None
+  of_channel op.Unreachable = None
 
   -- What each thread has handed over last, if that is for a channel. Now this thread hands over the operation.
-  abbrev pub handed_by : ℕ → Op D ⊤ → (ℕ → Option (ChannelOp D)) → ℕ → Option (ChannelOp D)
+  abbrev pub handed_by : ℕ → Request D ⊤ → (ℕ → Option (ChannelOp D)) → ℕ → Option (ChannelOp D)
   handed_by active todo handed t = cond (t == active) (of_channel todo) (handed t)
 
   -- the thread whose turn it is then

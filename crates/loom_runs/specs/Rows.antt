@@ -9,11 +9,12 @@ use Rattle.loom_view_parts.specs.declared.rt.num.Numbers.TheVariants.{U64}
 use Rattle.loom_objects.specs.declared.operation.ArcOp.TheVariants as arc
 use Rattle.loom_objects.specs.declared.operation.AtomicOp.TheVariants as atomic
 use Rattle.loom_objects.specs.declared.operation.MutexOp.TheVariants as mutex
-use Rattle.loom_objects.specs.declared.operation.Op.{Op}
-use Rattle.loom_objects.specs.declared.operation.Op.TheVariants as op
+use Rattle.loom_objects.specs.declared.operation.Request.{Request}
+use Rattle.loom_objects.specs.declared.operation.Request.TheVariants as op
 use Rattle.loom_objects.specs.declared.operation.Reply.{Reply}
 use Rattle.loom_objects.specs.declared.operation.Reply.TheVariants as reply
 use Rattle.loom_objects.specs.declared.operation.ThreadOp.TheVariants as thread
+use Rattle.loom_objects.specs.Labels.{bare}
 use Rattle.loom_runs.specs.Runs.{Meaning, runs}
 use Rattle.loom_walks.specs.Trees.Outcomes.{outcome}
 
@@ -45,35 +46,35 @@ held (reply.Value value) = value
 held (reply.Data value) = value
 held _ = 1000
 
-abbrev pub op_of : List Script → Step → Reply ℕ → Op ℕ Script
-op_of scripts Makes last = op.Mutex (mutex.New 0) None
-op_of scripts MakesAtomic last = op.Atomic (atomic.New U64 0) None
-op_of scripts MakesArc last = op.Arc (arc.New 0) None
-op_of scripts (Clones n) last = op.Arc (arc.Clone n) None
-op_of scripts (Drops n) last = op.Arc (arc.Drop n) None
-op_of scripts (Counts n) last = op.Arc (arc.StrongCount n) None
-op_of scripts (Loads n) last = op.Atomic (atomic.Load n Relaxed) None
-op_of scripts (Stores n value) last = op.Atomic (atomic.Store n value Relaxed) None
-op_of scripts (Spawns n) last = op.Thread (thread.Spawn (slice_index_or scripts n []) None) None
-op_of scripts (Joins t n) last = op.Thread (thread.Join t n) None
-op_of scripts Yields last = op.Thread thread.Yield None
-op_of scripts Parks last = op.Thread thread.Park None
-op_of scripts (Unparks t) last = op.Thread (thread.Unpark t) None
-op_of scripts (Locks n) last = op.Mutex (mutex.Lock n) None
-op_of scripts (Releases n) last = op.Mutex (mutex.Release n 0) None
-op_of scripts (Finishes value) last = op.Thread (thread.Finish value) None
-op_of scripts Answers last = op.Thread (thread.Finish (held last)) None
-op_of scripts Exits last = op.Thread thread.Exit None
-op_of scripts Ends last = op.Thread thread.End None
+abbrev pub op_of : List Script → Step → Reply ℕ → Request ℕ Script
+op_of scripts Makes last = op.Mutex (mutex.New 0)
+op_of scripts MakesAtomic last = op.Atomic (atomic.New U64 0)
+op_of scripts MakesArc last = op.Arc (arc.New 0)
+op_of scripts (Clones n) last = op.Arc (arc.Clone n)
+op_of scripts (Drops n) last = op.Arc (arc.Drop n)
+op_of scripts (Counts n) last = op.Arc (arc.StrongCount n)
+op_of scripts (Loads n) last = op.Atomic (atomic.Load n Relaxed)
+op_of scripts (Stores n value) last = op.Atomic (atomic.Store n value Relaxed)
+op_of scripts (Spawns n) last = op.Thread (thread.Spawn (slice_index_or scripts n []) None)
+op_of scripts (Joins t n) last = op.Thread (thread.Join t n)
+op_of scripts Yields last = op.Thread thread.Yield
+op_of scripts Parks last = op.Thread thread.Park
+op_of scripts (Unparks t) last = op.Thread (thread.Unpark t)
+op_of scripts (Locks n) last = op.Mutex (mutex.Lock n)
+op_of scripts (Releases n) last = op.Mutex (mutex.Release n 0)
+op_of scripts (Finishes value) last = op.Thread (thread.Finish value)
+op_of scripts Answers last = op.Thread (thread.Finish (held last))
+op_of scripts Exits last = op.Thread thread.Exit
+op_of scripts Ends last = op.Thread thread.End
 
 -- a thread makes one step after another, and fails past its last
 abbrev pub follows : List Script → Meaning ℕ Script
-follows scripts [] last = ([], op.Fail None)
-follows scripts (step ∷ steps) last = (steps, op_of scripts step last)
+follows scripts [] last = ([], bare op.Fail)
+follows scripts (step ∷ steps) last = (steps, bare (op_of scripts step last))
 
 -- main makes mutexes for ever
 abbrev pub endless : Meaning ℕ ⊤
-endless body last = (tt, op.Mutex (mutex.New 0) None)
+endless body last = (tt, bare (op.Mutex (mutex.New 0)))
 
 -- a thread finishes with this value, and ends
 abbrev pub closing : ℕ → Script

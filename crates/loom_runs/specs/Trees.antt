@@ -1,7 +1,7 @@
 -- What holds of each body's tree of runs.
 use Rattle.std.specs.Prelude.{ℕ, ◌≡◌, Bool, true, false}
-use Rattle.loom_objects.specs.declared.operation.Op.{Op}
-use Rattle.loom_objects.specs.declared.operation.Op.TheVariants.{Atomic, Fence, Cell, Arc, Track, Mutex, RwLock, Condvar, Notify, Channel, Waker, AtomicWaker, Local, Lazy, Explore, Thread, Fail, Unreachable}
+use Rattle.loom_objects.specs.declared.operation.Request.{Request}
+use Rattle.loom_objects.specs.declared.operation.Request.TheVariants.{Atomic, Fence, Cell, Arc, Track, Mutex, RwLock, Condvar, Notify, Channel, Waker, AtomicWaker, Local, Lazy, Explore, Thread, Fail, Unreachable}
 use Rattle.loom_objects.specs.declared.operation.Reply.{Reply}
 use Rattle.loom_objects.specs.Tree.{Tree}
 use Rattle.loom_walks.specs.Trees.Sound.{IsSoundTree, IsClosing, ExploresTree, IsFair, EndsUnchosen}
@@ -20,29 +20,29 @@ abbrev pub RunTreeLaw : Type 0 → Type 0 → Type 0
 RunTreeLaw D S = (next : Meaning D S) (explores : Bool) (max_threads max_steps : ℕ) (body : S) → IsRunTree (runs next explores max_threads max_steps body)
 
 -- it switches whether the search explores
-abbrev pub is_switch : {D S : Type 0} → Op D S → Bool
-is_switch (Explore todo place) = true
-is_switch (Atomic todo place) = false
-is_switch (Fence order place) = false
-is_switch (Cell todo place) = false
-is_switch (Arc todo place) = false
-is_switch (Track todo place) = false
-is_switch (Mutex todo place) = false
-is_switch (RwLock todo place) = false
-is_switch (Condvar todo place) = false
-is_switch (Notify todo place) = false
-is_switch (Channel todo place) = false
-is_switch (Waker todo place) = false
-is_switch (AtomicWaker todo place) = false
-is_switch (Local todo place) = false
-is_switch (Lazy todo place) = false
-is_switch (Thread todo place) = false
-is_switch (Fail place) = false
-is_switch (Unreachable place) = false
+abbrev pub is_switch : {D S : Type 0} → Request D S → Bool
+is_switch (Explore todo) = true
+is_switch (Atomic todo) = false
+is_switch (Fence order) = false
+is_switch (Cell todo) = false
+is_switch (Arc todo) = false
+is_switch (Track todo) = false
+is_switch (Mutex todo) = false
+is_switch (RwLock todo) = false
+is_switch (Condvar todo) = false
+is_switch (Notify todo) = false
+is_switch (Channel todo) = false
+is_switch (Waker todo) = false
+is_switch (AtomicWaker todo) = false
+is_switch (Local todo) = false
+is_switch (Lazy todo) = false
+is_switch (Thread todo) = false
+is_switch Fail = false
+is_switch Unreachable = false
 
 -- A body that never switches explores at each node, where its runs begin so.
 abbrev pub ExploresLaw : Type 0 → Type 0 → Type 0
-ExploresLaw D S = (next : Meaning D S) (max_threads max_steps : ℕ) (body : S) → ((state : S) (reply : Reply D) → is_switch (next state reply).1 ≡ false)
+ExploresLaw D S = (next : Meaning D S) (max_threads max_steps : ℕ) (body : S) → ((state : S) (reply : Reply D) → is_switch (next state reply).1.request ≡ false)
     → ExploresTree (runs next true max_threads max_steps body)
 
 -- After a schedule without a default thread each body's runs ask nothing: they are over, or have failed.

@@ -4,7 +4,7 @@ use Rattle.std.specs.Str.{bytes_eq}
 use Rattle.loom_scripts.specs.declared.state.Handle.TheVariants.{Empty}
 use Rattle.loom_scripts.specs.declared.state.State.{State}
 use Rattle.loom_scripts.specs.declared.step.Step.{Step}
-use Rattle.loom_scripts.specs.declared.step.Step.TheVariants.{Do, Store, Jump, Unless, Label, JumpTo, IfTo, UnlessTo, SpawnAt}
+use Rattle.loom_scripts.specs.declared.step.Step.TheVariants.{Do, Labelled, Store, Jump, Unless, Label, JumpTo, IfTo, UnlessTo, SpawnAt}
 use Rattle.loom_scripts.specs.Slots.{held}
 
 pub record Running : Type 0 where
@@ -34,6 +34,7 @@ spawned s at = record s { state = child s.state at }
 -- the step is the label of this name
 abbrev pub is_label : List ℕ → Step → Bool
 is_label name (Do keep made) = false
+is_label name (Labelled keep made called) = false
 is_label name (Store slot value order) = false
 is_label name (Jump target) = false
 is_label name (Unless register n target) = false
@@ -58,6 +59,7 @@ place_of steps name = or_end (label_at steps name) steps
 -- where it goes on from this step: a jump makes no operation
 abbrev pub goes_on_at : List Step → State → Step → ℕ
 goes_on_at steps s (Do keep made) = s.at
+goes_on_at steps s (Labelled keep made called) = s.at
 goes_on_at steps s (Store slot value order) = s.at
 goes_on_at steps s (Jump target) = target
 goes_on_at steps s (Unless register n target) = cond (held s register == n) (s.at + 1) target
@@ -70,6 +72,7 @@ goes_on_at steps s (SpawnAt slot name) = s.at
 abbrev pub behind_label : ℕ → Option Step → ℕ
 behind_label place None = place
 behind_label place (Some (Do keep made)) = place
+behind_label place (Some (Labelled keep made called)) = place
 behind_label place (Some (Store slot value order)) = place
 behind_label place (Some (Jump target)) = place
 behind_label place (Some (Unless register n target)) = place
@@ -94,6 +97,7 @@ landing steps s = landing_from steps s (slice_get steps s.at)
 -- the slot, or the register, in which the step keeps what it is told
 abbrev pub keep_of : Step → ℕ
 keep_of (Do keep made) = keep
+keep_of (Labelled keep made called) = keep
 keep_of (Store slot value order) = 0
 keep_of (Jump target) = 0
 keep_of (Unless register n target) = 0

@@ -6,6 +6,7 @@ use Rattle.loom_objects.specs.declared.operation.Lazy.{Lazy}
 use Rattle.loom_objects.specs.declared.operation.Reply.{Reply}
 use Rattle.loom_objects.specs.declared.operation.Reply.TheVariants as reply
 use Rattle.loom_objects.specs.declared.rt.thread.Name.{Name}
+use Rattle.loom_parts.specs.Texts.{shown}
 use Rattle.loom_scripts.specs.declared.number.Number.{Number}
 use Rattle.loom_scripts.specs.Number.{number}
 use Rattle.loom_scripts.specs.declared.state.Handle.{Handle}
@@ -34,7 +35,7 @@ lazy_digits lazies = fold (λ n lazy. with_digit (with_digit n lazy.key) lazy.va
 -- what stands for a thread's name: 0 for none, and else the bytes of a 1 and of the text
 abbrev pub name_number : Option Name → ℕ
 name_number None = 0
-name_number (Some name) = fold (λ n byte. (n * 256 + byte) % 2 ^ 64) 1 name.text.now
+name_number (Some name) = fold (λ n byte. (n * 256 + byte) % 2 ^ 64) 1 (shown name.text)
 
 -- What a step keeps of the reply: what was made or taken out, the number that an object holds or that a thread finished with,
 -- or the digits of what is given back. Or in the last register what a compare-exchange found or a channel has sent back; or 1

@@ -1,13 +1,14 @@
 //! Bodies that take one step of a list after another.
 ghost use Rattle.std.specs.Prelude.{◌≡◌, IfOk, option_copied};
 ghost use Rattle.loom_scripts.specs.Running.{spawned, started};
-ghost use Rattle.loom_scripts.specs.Script.{next_of, operation, spawn_at, step_operation, store};
+ghost use Rattle.loom_scripts.specs.Script.{label_of, next_of, request, spawn_at, step_operation, step_request, store};
 
 use crate::number::Number;
 use crate::state::{State, place_of};
 use crate::step::{Step, Value};
 use loom_objects::body::Body;
-use loom_objects::operation::{AtomicOp, Op, Reply, ThreadOp};
+use loom_objects::operation::{AtomicOp, Labelled, Op, Reply, Request, ThreadOp};
+use loom_parts::label::Label;
 use std::alloc::{AllocError, Global};
 use std::marker::Model;
 use std::sync::atomic::Ordering;
@@ -28,11 +29,11 @@ impl Model for Script {
     ghost view = { λ script. record { steps = script.steps.now; state = script.state.value } };
 }
 
-// Answers the operation that is made of this one, if its slots keep such handles.
+// Answers the request that is made of this one, if its slots keep such handles.
 macro_rules! answer_made {
-    ($made:expr, $kind:ident, $label:expr) => {
+    ($made:expr, $kind:ident) => {
         if let Some(op) = $made {
-            return Ok(Op::$kind(op, $label));
+            return Ok(Request::$kind(op));
         }
     };
 }
@@ -72,63 +73,62 @@ impl Script {
         self.beside(self.state.child(at))
     }
 
-    /// The operation of the step. Where a slot keeps no such handle the step fails.
-    fn operation(&self, op: &Op<Value, usize>) -> Result<Op<Number, Script>, AllocError>
-        ensures { IfOk result (λ made. made ≡ operation self.now op.now) }
+    /// What the step asks for. Where a slot keeps no such handle the step fails.
+    fn request(&self, asked: &Request<Value, usize>) -> Result<Request<Number, Script>, AllocError>
+        ensures { IfOk result (λ made. made ≡ request self.now asked.now) }
     {
         let state = self.state();
-        let label = op.label();
-        match op {
-            Op::Atomic(op, _) => answer_made!(state.atomic_op(*op), Atomic, label),
-            Op::Fence(order, _) => return Ok(Op::Fence(*order, label)),
-            Op::Cell(op, _) => answer_made!(state.cell_op(op), Cell, label),
-            Op::Arc(op, _) => answer_made!(state.arc_op(op), Arc, label),
-            Op::Track(op, _) => answer_made!(state.track_op(op), Track, label),
-            Op::Mutex(op, _) => answer_made!(state.mutex_op(op), Mutex, label),
-            Op::RwLock(op, _) => answer_made!(state.rwlock_op(op), RwLock, label),
-            Op::Condvar(op, _) => answer_made!(state.condvar_op(op), Condvar, label),
-            Op::Notify(op, _) => answer_made!(state.notify_op(*op), Notify, label),
-            Op::Channel(op, _) => answer_made!(state.channel_op(op), Channel, label),
-            Op::Waker(op, _) => answer_made!(state.waker_op(*op), Waker, label),
-            Op::AtomicWaker(op, _) => answer_made!(state.place_op(*op), AtomicWaker, label),
-            Op::Local(op, _) => return Ok(Op::Local(state.local_op(op), label)),
-            Op::Lazy(op, _) => return Ok(Op::Lazy(state.lazy_op(op), label)),
-            Op::Explore(op, _) => return Ok(Op::Explore(*op, label)),
-            Op::Thread(op, _) => answer_made!(self.thread_op(op)?, Thread, label),
-            Op::Fail(_) => return Ok(Op::Fail(label)),
-            Op::Unreachable(_) => return Ok(Op::Unreachable(label)),
+        match asked {
+            Request::Atomic(op) => answer_made!(state.atomic_op(*op), Atomic),
+            Request::Fence(order) => return Ok(Request::Fence(*order)),
+            Request::Cell(op) => answer_made!(state.cell_op(op), Cell),
+            Request::Arc(op) => answer_made!(state.arc_op(op), Arc),
+            Request::Track(op) => answer_made!(state.track_op(op), Track),
+            Request::Mutex(op) => answer_made!(state.mutex_op(op), Mutex),
+            Request::RwLock(op) => answer_made!(state.rwlock_op(op), RwLock),
+            Request::Condvar(op) => answer_made!(state.condvar_op(op), Condvar),
+            Request::Notify(op) => answer_made!(state.notify_op(*op), Notify),
+            Request::Channel(op) => answer_made!(state.channel_op(op), Channel),
+            Request::Waker(op) => answer_made!(state.waker_op(*op), Waker),
+            Request::AtomicWaker(op) => answer_made!(state.place_op(*op), AtomicWaker),
+            Request::Local(op) => return Ok(Request::Local(state.local_op(op))),
+            Request::Lazy(op) => return Ok(Request::Lazy(state.lazy_op(op))),
+            Request::Explore(op) => return Ok(Request::Explore(*op)),
+            Request::Thread(op) => answer_made!(self.thread_op(op)?, Thread),
+            Request::Fail => return Ok(Request::Fail),
+            Request::Unreachable => return Ok(Request::Unreachable),
         }
-        Ok(Op::Fail(None))
+        Ok(Request::Fail)
     }
 
     /// The store of the value into the atomic in the slot.
-    fn store(&self, slot: usize, value: Value, order: Ordering) -> Op<Number, Script>
+    fn store(&self, slot: usize, value: Value, order: Ordering) -> Request<Number, Script>
         ensures { result ≡ store self.now slot value order }
     {
         match self.state.object(slot) {
             Some(number) => {
                 let stored = self.state.number_of(value);
-                Op::Atomic(AtomicOp::Store(number, stored, order), None)
+                Request::Atomic(AtomicOp::Store(number, stored, order))
             }
-            None => Op::Fail(None),
+            None => Request::Fail,
         }
     }
 
     /// The start of a thread behind the label of this name.
-    fn spawn_at(&self, name: &str) -> Result<Op<Number, Script>, AllocError>
+    fn spawn_at(&self, name: &str) -> Result<Request<Number, Script>, AllocError>
         ensures { IfOk result (λ made. made ≡ spawn_at self.now name.now) }
     {
         let child = self.child(place_of(self.steps, name))?;
-        Ok(Op::Thread(ThreadOp::Spawn(child, None), None))
+        Ok(Request::Thread(ThreadOp::Spawn(child, None)))
     }
 
-    /// The operation of the step. Beyond the script's end, and where a jump leads to a jump or past a label to another one, it
+    /// What the step asks for. Beyond the script's end, and where a jump leads to a jump or past a label to another one, it
     /// fails.
-    fn step_operation(&self, step: Option<&Step>) -> Result<Op<Number, Script>, AllocError>
-        ensures { IfOk result (λ made. made ≡ step_operation self.now (option_copied step.entry)) }
+    fn step_request(&self, step: Option<&Step>) -> Result<Request<Number, Script>, AllocError>
+        ensures { IfOk result (λ made. made ≡ step_request self.now (option_copied step.entry)) }
     {
         match step {
-            Some(Step::Do(_, op)) => self.operation(op),
+            Some(Step::Do(_, asked) | Step::Labelled(_, asked, _)) => self.request(asked),
             Some(Step::Store(slot, value, order)) => Ok(self.store(*slot, *value, *order)),
             Some(Step::SpawnAt(_, name)) => self.spawn_at(name),
             Some(
@@ -139,8 +139,40 @@ impl Script {
                 | Step::IfTo(..)
                 | Step::UnlessTo(..),
             )
-            | None => Ok(Op::Fail(None)),
+            | None => Ok(Request::Fail),
         }
+    }
+
+    /// The operation of the step.
+    fn step_operation(&self, step: Option<&Step>) -> Result<Op<Number, Script>, AllocError>
+        ensures { IfOk result (λ made. made ≡ step_operation self.now (option_copied step.entry)) }
+    {
+        let request = self.step_request(step)?;
+        Ok(Labelled {
+            request,
+            label: label_of(step),
+        })
+    }
+}
+
+// How the script's author calls the step.
+fn label_of(step: Option<&Step>) -> Option<Label>
+    ensures { result ≡ label_of (option_copied step.entry) }
+{
+    match step {
+        Some(Step::Labelled(_, _, label)) => Some(*label),
+        Some(
+            Step::Do(..)
+            | Step::Store(..)
+            | Step::Jump(_)
+            | Step::Unless(..)
+            | Step::Label(_)
+            | Step::JumpTo(_)
+            | Step::IfTo(..)
+            | Step::UnlessTo(..)
+            | Step::SpawnAt(..),
+        )
+        | None => None,
     }
 }
 

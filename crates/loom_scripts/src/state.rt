@@ -214,7 +214,11 @@ impl State {
                     place_of(steps, name)
                 }
             }
-            Step::Do(..) | Step::Store(..) | Step::Label(_) | Step::SpawnAt(..) => self.at,
+            Step::Do(..)
+            | Step::Labelled(..)
+            | Step::Store(..)
+            | Step::Label(_)
+            | Step::SpawnAt(..) => self.at,
         }
     }
 
@@ -229,7 +233,9 @@ impl State {
         }
         let step = &steps[self.at];
         match step {
-            Step::Do(..) | Step::Store(..) | Step::SpawnAt(..) => self.pass(steps, self.at),
+            Step::Do(..) | Step::Labelled(..) | Step::Store(..) | Step::SpawnAt(..) => {
+                self.pass(steps, self.at)
+            }
             Step::Jump(_)
             | Step::Unless(..)
             | Step::Label(_)
@@ -275,6 +281,7 @@ fn is_label(step: &Step, name: &str) -> bool
     match step {
         Step::Label(label) => *label == name,
         Step::Do(..)
+        | Step::Labelled(..)
         | Step::Store(..)
         | Step::Jump(_)
         | Step::Unless(..)
@@ -312,6 +319,7 @@ fn past_label(steps: &[Step], place: usize) -> usize
     match &steps[place] {
         Step::Label(_) => place + 1,
         Step::Do(..)
+        | Step::Labelled(..)
         | Step::Store(..)
         | Step::Jump(_)
         | Step::Unless(..)
@@ -362,9 +370,14 @@ fn name_number(name: Option<Name>) -> u64
 {
     match name {
         None => 0,
-        Some(name) => name.text.as_bytes().iter().fold(1, |number: u64, byte| {
-            number.wrapping_mul(256).wrapping_add(u64::from(*byte))
-        }),
+        Some(name) => name
+            .text
+            .as_str()
+            .as_bytes()
+            .iter()
+            .fold(1, |number: u64, byte| {
+                number.wrapping_mul(256).wrapping_add(u64::from(*byte))
+            }),
     }
 }
 
@@ -415,7 +428,7 @@ fn keep_of(step: &Step) -> usize
     ensures { result ≡ keep_of step.now }
 {
     match step {
-        Step::Do(keep, _) | Step::SpawnAt(keep, _) => *keep,
+        Step::Do(keep, _) | Step::Labelled(keep, ..) | Step::SpawnAt(keep, _) => *keep,
         Step::Store(..)
         | Step::Jump(_)
         | Step::Unless(..)

@@ -1,5 +1,6 @@
 //! The steps of scripts.
-use loom_objects::operation::{Op, ThreadOp};
+use loom_objects::operation::{Request, ThreadOp};
+use loom_parts::label::Label;
 use std::sync::atomic::Ordering;
 
 /// A number that a step makes. What it names is a register, of four, in which its thread keeps numbers; any other is 0.
@@ -25,14 +26,16 @@ pub enum Step {
     /// register instead goes the number that a compare-exchange found and left there or that a channel didn't take, 1 where
     /// others share or have what was asked for or there is none yet, and 2 where there will be none. An exchange that fails
     /// clears its own register: it gets 0.
-    Do(usize, Op<Value, usize>),
+    Do(usize, Request<Value, usize>),
+    /// The same, and how the script's author calls it.
+    Labelled(usize, Request<Value, usize>, Label),
     /// Stores the value into the atomic in the slot. (An operation of an atomic holds its number, and no value.)
     Store(usize, Value, Ordering),
     /// Goes on at this step, which is no jump itself.
     Jump(usize),
     /// Goes on at this step if the register holds another number, and else at the next one. Neither is a jump itself.
     Unless(usize, u64, usize),
-    /// The name of the place behind it, where a step stands that is no jump and no label. It makes no operation.
+    /// The name of the place behind it, where a step stands that is no jump and no name of a place. It makes no operation.
     Label(&'static str),
     /// Goes on behind the first label of this name, and without one at the script's end.
     JumpTo(&'static str),
@@ -45,16 +48,16 @@ pub enum Step {
 }
 
 /// The thread gives its locals back.
-pub const EXIT: Step = Step::Do(0, Op::Thread(ThreadOp::Exit, None));
+pub const EXIT: Step = Step::Do(0, Request::Thread(ThreadOp::Exit));
 
 /// The thread's last operation.
-pub const END: Step = Step::Do(0, Op::Thread(ThreadOp::End, None));
+pub const END: Step = Step::Do(0, Request::Thread(ThreadOp::End));
 
 /// The thread waits for a token.
-pub const PARK: Step = Step::Do(0, Op::Thread(ThreadOp::Park, None));
+pub const PARK: Step = Step::Do(0, Request::Thread(ThreadOp::Park));
 
 /// The thread lets others go on first.
-pub const YIELD: Step = Step::Do(0, Op::Thread(ThreadOp::Yield, None));
+pub const YIELD: Step = Step::Do(0, Request::Thread(ThreadOp::Yield));
 
 /// The script's assertion fails.
-pub const FAIL: Step = Step::Do(0, Op::Fail(None));
+pub const FAIL: Step = Step::Do(0, Request::Fail);

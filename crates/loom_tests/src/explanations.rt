@@ -59,13 +59,14 @@ const LIMITS: Limits = Limits {
     steps: 1_000_000,
 };
 
-static RACES: [Row; 5] = [
+static RACES: [Row; 3] = [
     row!(race, SPIN, "t0 l0 t0 t1 t1 l2"),
     row!(race_beside, BESIDE, ""),
     row!(race_unreleased, UNRELEASED, "t0 t1 t1 l1"),
-    row!(race_mutated, MUTATED, ""),
-    row!(race_three, THREE, ""),
 ];
+
+// The names in one table of all would be too many for a static.
+static MORE_RACES: [Row; 2] = [row!(race_mutated, MUTATED, ""), row!(race_three, THREE, "")];
 
 static WAITS: [Row; 5] = [
     row!(deadlock, CROSSED, "t0 t1 t1"),
@@ -196,7 +197,8 @@ fn tells_each(rt: &HostRuntime, rows: &'static [Row]) -> Result<(), Fail> {
 
 #[test]
 fn races_have_their_texts(rt: HostRuntime) -> Result<(), Fail> {
-    tells_each(&rt, &RACES)
+    tells_each(&rt, &RACES)?;
+    tells_each(&rt, &MORE_RACES)
 }
 
 #[test]

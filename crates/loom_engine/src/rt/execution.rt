@@ -18,7 +18,7 @@ use loom_engine_parts::ending::{may_end, record_end};
 use loom_machine::steps::{begin, end_run, enter_wait, read, resume};
 use loom_objects::data::Data;
 use loom_objects::failure::{Stop, failed};
-use loom_objects::operation::{ExploreOp, Op, Reply, Turn};
+use loom_objects::operation::{ExploreOp, Reply, Request, Turn};
 use loom_objects::rt::run::{Entry, Passed, Resumed, RunState};
 use loom_path::rt::path::Path;
 use loom_views::rt::failure::FailureKind;
@@ -86,7 +86,7 @@ impl<D: Data> Execution<D> {
     /// changes.
     // Inlined, as what it calls, so that no operation is moved on its way.
     #[inline(always)]
-    pub fn submit(&mut self, path: &mut Path, op: Op<D, ()>) -> Result<Turn<D>, Stop>
+    pub fn submit(&mut self, path: &mut Path, op: Request<D, ()>) -> Result<Turn<D>, Stop>
         ensures event { Submits self.old op path.old result self.new path.new }
         ensures steps { OnOk result (self.old.run.state.steps_left ≡ self.new.run.state.steps_left + 1) }
         ensures same { IsSameSearch path.old path.new }
@@ -112,7 +112,7 @@ impl<D: Data> Execution<D> {
 fn hand_over<D: Data>(
     run: &mut Progress<D>,
     path: &mut Path,
-    op: Op<D, ()>,
+    op: Request<D, ()>,
 ) -> Result<Turn<D>, Stop>
     ensures along { Along (machine.submit op) run.old path.old result run.new path.new }
     ensures growth { result ≡ Err Stop.Memory → MayBeRefused op run.old path.old }
@@ -131,7 +131,7 @@ fn hand_over<D: Data>(
 /// What the operation does up to its branch point. There are no accesses yet to the objects that it makes, and a thread that it
 /// makes comes after what its parent comes after.
 #[inline(always)]
-fn start<D: Data>(run: &mut Progress<D>, op: Op<D, ()>) -> Result<Entry<D>, Stop>
+fn start<D: Data>(run: &mut Progress<D>, op: Request<D, ()>) -> Result<Entry<D>, Stop>
     ensures starts { Starts op run.old result run.new }
     ensures growth { result ≡ Err Stop.Memory → (w : World D) → Shows w run.old.state → needs_memory op ≡ true }
     ensures steps { OnOk result (run.old.state.steps_left ≡ run.new.state.steps_left + 1) }

@@ -3,7 +3,7 @@ use super::{Page, lock_beside, same};
 use loom::Choice;
 use loom::explain::Explanation;
 use loom::model::Builder;
-use loom_objects::operation::{Op, ThreadOp};
+use loom_objects::operation::{Request, ThreadOp};
 use loom_row_bodies::rows::DEFAULTS;
 use loom_row_bodies::settings::{Builds, Settings};
 use loom_scripts::script::Script;
@@ -12,8 +12,8 @@ use std::process::Abort;
 
 // Main waits for a thread, which fails.
 const CHILD_FAILS: &[Step] = &[
-    Step::Do(0, Op::Thread(ThreadOp::Spawn(2, None), None)),
-    Step::Do(0, Op::Thread(ThreadOp::Join(0, 0), None)),
+    Step::Do(0, Request::Thread(ThreadOp::Spawn(2, None))),
+    Step::Do(0, Request::Thread(ThreadOp::Join(0, 0))),
     FAIL,
 ];
 
@@ -44,7 +44,7 @@ fn tells(
 }
 
 const FAILS: &str =
-    "[Event { thread: 0, told: Start, op: Thread(Spawn((), None), None), choices_before: 0 }, Event { thread: 0, told: Spawned(1, None, 0), op: Thread(Join(1, 0), None), choices_before: 0 }, Event { thread: 1, told: Start, op: Fail(None), choices_before: 1 }]
+    "[Event { thread: 0, told: Start, op: Labelled { request: Thread(Spawn((), None)), label: None }, choices_before: 0 }, Event { thread: 0, told: Spawned(1, None, 0), op: Labelled { request: Thread(Join(1, 0)), label: None }, choices_before: 0 }, Event { thread: 1, told: Start, op: Labelled { request: Fail, label: None }, choices_before: 1 }]
 Failed(Failure { kind: Assertion, location: None })
 [Thread(Some(1))]
 [Threads([1])]
@@ -52,7 +52,7 @@ Failed(Failure { kind: Assertion, location: None })
 
 // Thread 1 ends before main locks.
 const ENDS: &str =
-    "[Event { thread: 0, told: Start, op: Mutex(New(()), None), choices_before: 0 }, Event { thread: 0, told: Mutex(0), op: Thread(Spawn((), None), None), choices_before: 0 }, Event { thread: 0, told: Spawned(1, None, 1), op: Mutex(Lock(0), None), choices_before: 0 }, Event { thread: 1, told: Start, op: Thread(Finish(()), None), choices_before: 1 }, Event { thread: 1, told: Done, op: Thread(Exit, None), choices_before: 2 }, Event { thread: 1, told: Locals([]), op: Thread(End, None), choices_before: 2 }, Event { thread: 0, told: Locked(0, ()), op: Mutex(Release(0, ()), None), choices_before: 3 }, Event { thread: 0, told: Done, op: Thread(Finish(()), None), choices_before: 3 }, Event { thread: 0, told: Lazies([]), op: Thread(Exit, None), choices_before: 3 }, Event { thread: 0, told: Locals([]), op: Thread(End, None), choices_before: 3 }]
+    "[Event { thread: 0, told: Start, op: Labelled { request: Mutex(New(())), label: None }, choices_before: 0 }, Event { thread: 0, told: Mutex(0), op: Labelled { request: Thread(Spawn((), None)), label: None }, choices_before: 0 }, Event { thread: 0, told: Spawned(1, None, 1), op: Labelled { request: Mutex(Lock(0)), label: None }, choices_before: 0 }, Event { thread: 1, told: Start, op: Labelled { request: Thread(Finish(())), label: None }, choices_before: 1 }, Event { thread: 1, told: Done, op: Labelled { request: Thread(Exit), label: None }, choices_before: 2 }, Event { thread: 1, told: Locals([]), op: Labelled { request: Thread(End), label: None }, choices_before: 2 }, Event { thread: 0, told: Locked(0, ()), op: Labelled { request: Mutex(Release(0, ())), label: None }, choices_before: 3 }, Event { thread: 0, told: Done, op: Labelled { request: Thread(Finish(())), label: None }, choices_before: 3 }, Event { thread: 0, told: Lazies([]), op: Labelled { request: Thread(Exit), label: None }, choices_before: 3 }, Event { thread: 0, told: Locals([]), op: Labelled { request: Thread(End), label: None }, choices_before: 3 }]
 Ended
 [Thread(Some(1)), Thread(Some(1)), Thread(Some(0)), Thread(None)]
 [Threads([0, 1]), Threads([0, 1]), Threads([0]), Threads([])]

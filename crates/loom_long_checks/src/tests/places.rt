@@ -1,55 +1,55 @@
 //! A failure has the place of its operation where it is asked for.
 use super::{Page, same};
 use loom::model::{Builder, Replay, Report};
-use loom::{Choice, Label, Location};
-use loom_objects::operation::{MutexOp, Op, ThreadOp};
+use loom::{Choice, Label, Location, text_literal};
+use loom_objects::operation::{MutexOp, Request, ThreadOp};
 use loom_scripts::script::Script;
 use loom_scripts::step::{Step, Value};
 use std::alloc::Global;
 use std::process::Abort;
 use std::rt::Files;
 
-const LINE_3: Option<Label> = Some(Label {
-    name: Some("list"),
+const LINE_3: Label = Label {
+    name: Some(text_literal!(b"list")),
     location: Some(Location {
-        file: "body.rs",
+        file: text_literal!(b"body.rs"),
         line: 3,
     }),
-});
+};
 
-const LINE_5: Option<Label> = Some(Label {
+const LINE_5: Label = Label {
     name: None,
     location: Some(Location {
-        file: "body.rs",
+        file: text_literal!(b"body.rs"),
         line: 5,
     }),
-});
+};
 
-const LINE_7: Option<Label> = Some(Label {
+const LINE_7: Label = Label {
     name: None,
     location: Some(Location {
-        file: "body.rs",
+        file: text_literal!(b"body.rs"),
         line: 7,
     }),
-});
+};
 
 // Main releases a mutex that nobody has locked.
 const RELEASE_UNLOCKED: &[Step] = &[
-    Step::Do(0, Op::Mutex(MutexOp::New(Value::Plain(0)), LINE_3)),
-    Step::Do(0, Op::Mutex(MutexOp::Release(0, Value::Plain(0)), LINE_7)),
+    Step::Labelled(0, Request::Mutex(MutexOp::New(Value::Plain(0))), LINE_3),
+    Step::Labelled(0, Request::Mutex(MutexOp::Release(0, Value::Plain(0))), LINE_7),
 ];
 
 // The same, but the release has no place.
 const RELEASE_NOWHERE: &[Step] = &[
-    Step::Do(0, Op::Mutex(MutexOp::New(Value::Plain(0)), LINE_3)),
-    Step::Do(0, Op::Mutex(MutexOp::Release(0, Value::Plain(0)), None)),
+    Step::Labelled(0, Request::Mutex(MutexOp::New(Value::Plain(0))), LINE_3),
+    Step::Do(0, Request::Mutex(MutexOp::Release(0, Value::Plain(0)))),
 ];
 
 // A thread fails, once main has waited for it.
 const CHILD_FAILS: &[Step] = &[
-    Step::Do(0, Op::Thread(ThreadOp::Spawn(2, None), LINE_3)),
-    Step::Do(0, Op::Thread(ThreadOp::Join(0, 0), LINE_3)),
-    Step::Do(0, Op::Fail(LINE_5)),
+    Step::Labelled(0, Request::Thread(ThreadOp::Spawn(2, None)), LINE_3),
+    Step::Labelled(0, Request::Thread(ThreadOp::Join(0, 0)), LINE_3),
+    Step::Labelled(0, Request::Fail, LINE_5),
 ];
 
 // Puts on the page why the run fails that follows these choices.

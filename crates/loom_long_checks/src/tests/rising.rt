@@ -6,7 +6,7 @@ use loom::error::CheckError;
 use loom::model::Builder;
 use loom::rising::Risen;
 use loom::sync::atomic::Ordering::Relaxed;
-use loom_objects::operation::{AtomicOp, ChannelOp, Op, ThreadOp};
+use loom_objects::operation::{AtomicOp, ChannelOp, Request, ThreadOp};
 use loom_row_bodies::rows::{DEFAULTS, TWO_RUNS, WHOLE};
 use loom_row_bodies::settings::{Builds, Settings};
 use loom_scripts::script::Script;
@@ -17,23 +17,23 @@ use std::process::Abort;
 
 // Main loads, and then waits for a thread that sends. Another one fails where it asks for the message before that.
 const ASKS_EARLY: &[Step] = &[
-    Step::Do(0, Op::Channel(ChannelOp::New, None)),
-    Step::Do(3, Op::Atomic(AtomicOp::New(Numbers::U64, 0), None)),
-    Step::Do(1, Op::Thread(ThreadOp::Spawn(9, None), None)),
-    Step::Do(2, Op::Thread(ThreadOp::Spawn(13, None), None)),
-    Step::Do(0, Op::Atomic(AtomicOp::Load(3, Relaxed), None)),
-    Step::Do(0, Op::Thread(ThreadOp::Join(1, 1), None)),
-    Step::Do(0, Op::Thread(ThreadOp::Finish(Value::Plain(7)), None)),
+    Step::Do(0, Request::Channel(ChannelOp::New)),
+    Step::Do(3, Request::Atomic(AtomicOp::New(Numbers::U64, 0))),
+    Step::Do(1, Request::Thread(ThreadOp::Spawn(9, None))),
+    Step::Do(2, Request::Thread(ThreadOp::Spawn(13, None))),
+    Step::Do(0, Request::Atomic(AtomicOp::Load(3, Relaxed))),
+    Step::Do(0, Request::Thread(ThreadOp::Join(1, 1))),
+    Step::Do(0, Request::Thread(ThreadOp::Finish(Value::Plain(7)))),
     EXIT,
     END,
-    Step::Do(0, Op::Channel(ChannelOp::Send(0, Value::Plain(5)), None)),
-    Step::Do(0, Op::Thread(ThreadOp::Finish(Value::Plain(0)), None)),
+    Step::Do(0, Request::Channel(ChannelOp::Send(0, Value::Plain(5)))),
+    Step::Do(0, Request::Thread(ThreadOp::Finish(Value::Plain(0)))),
     EXIT,
     END,
-    Step::Do(0, Op::Channel(ChannelOp::TryRecv(0), None)),
+    Step::Do(0, Request::Channel(ChannelOp::TryRecv(0))),
     Step::Unless(3, 1, 16),
     FAIL,
-    Step::Do(0, Op::Thread(ThreadOp::Finish(Value::Plain(0)), None)),
+    Step::Do(0, Request::Thread(ThreadOp::Finish(Value::Plain(0)))),
     EXIT,
     END,
 ];

@@ -1,5 +1,6 @@
 use crate::operation::{AtomicOp, Keyed, Message};
 pub use loom_parts::ability::Ability;
+use loom_parts::text::Text;
 use loom_views::rt::MAX_THREADS;
 use loom_views::sequence::Sequence;
 use std::collections::LinkedList;
@@ -20,9 +21,10 @@ pub enum State {
 }
 
 /// A thread's name.
-#[derive(Clone, Copy, Debug)]
+#[derive(Clone, Copy, Debug, PartialEq, Eq)]
 pub struct Name {
-    pub text: &'static str,
+    /// What is kept of it: all of it, or its first characters that fit.
+    pub text: Text,
 }
 
 /// How far a thread's end has come: `finish`, `exit` and `end` come once each, in this order.

@@ -1,9 +1,10 @@
 //! Places for wakers: one thread registers its waker, and another takes it out to wake it.
 ghost use Rattle.std.specs.Prelude.{◌≡◌, None};
 ghost use Rattle.loom_ops.specs.Wakers.{place_handle};
+ghost use Rattle.loom_objects.specs.Labels.{bare};
 
 use crate::future::Waker;
-use loom_objects::operation::{AtomicWakerOp, Op, Reply};
+use loom_objects::operation::{AtomicWakerOp, Op, Reply, Request};
 
 /// A place for a waker, with a lock (loom's `future/atomic_waker.rs`).
 #[derive(Clone, Copy, Debug)]
@@ -16,9 +17,9 @@ impl AtomicWaker {
     /// A new place, without a waker (loom's `future/atomic_waker.rs`).
     #[allow(clippy::new_ret_no_self)]
     pub fn new<D, S>() -> Op<D, S>
-        ensures { result ≡ Op.AtomicWaker AtomicWakerOp.New None }
+        ensures { result ≡ bare (Request.AtomicWaker AtomicWakerOp.New) }
     {
-        Op::AtomicWaker(AtomicWakerOp::New, None)
+        Op::new(Request::AtomicWaker(AtomicWakerOp::New))
     }
 
     /// The place that was made, if that is what the reply says (own).
@@ -34,40 +35,37 @@ impl AtomicWaker {
     /// The waker takes the place, and the one that was there is dropped. Where another thread holds the lock, the waker wakes
     /// and the thread yields (loom's `future/atomic_waker.rs`).
     pub fn register<D, S>(self, waker: Waker) -> Op<D, S>
-        ensures { result ≡ Op.AtomicWaker (AtomicWakerOp.Register self.number waker.number) None }
+        ensures { result ≡ bare (Request.AtomicWaker (AtomicWakerOp.Register self.number waker.number)) }
     {
-        Op::AtomicWaker(AtomicWakerOp::Register(self.number, waker.number), None)
+        Op::new(Request::AtomicWaker(AtomicWakerOp::Register(self.number, waker.number)))
     }
 
     /// The same of a clone of the waker, which is made first (loom's `future/atomic_waker.rs`).
     pub fn register_by_ref<D, S>(self, waker: &Waker) -> Op<D, S>
-        ensures { result ≡ Op.AtomicWaker (AtomicWakerOp.RegisterByRef self.number waker.now.number) None }
+        ensures { result ≡ bare (Request.AtomicWaker (AtomicWakerOp.RegisterByRef self.number waker.now.number)) }
     {
-        Op::AtomicWaker(
-            AtomicWakerOp::RegisterByRef(self.number, waker.number),
-            None,
-        )
+        Op::new(Request::AtomicWaker(AtomicWakerOp::RegisterByRef(self.number, waker.number)))
     }
 
     /// Takes the waker out, if there is one, and wakes by it (loom's `future/atomic_waker.rs`).
     pub fn wake<D, S>(self) -> Op<D, S>
-        ensures { result ≡ Op.AtomicWaker (AtomicWakerOp.Wake self.number) None }
+        ensures { result ≡ bare (Request.AtomicWaker (AtomicWakerOp.Wake self.number)) }
     {
-        Op::AtomicWaker(AtomicWakerOp::Wake(self.number), None)
+        Op::new(Request::AtomicWaker(AtomicWakerOp::Wake(self.number)))
     }
 
     /// Takes the waker out and replies it, and else `NoWaker` (loom's `future/atomic_waker.rs`).
     pub fn take_waker<D, S>(self) -> Op<D, S>
-        ensures { result ≡ Op.AtomicWaker (AtomicWakerOp.TakeWaker self.number) None }
+        ensures { result ≡ bare (Request.AtomicWaker (AtomicWakerOp.TakeWaker self.number)) }
     {
-        Op::AtomicWaker(AtomicWakerOp::TakeWaker(self.number), None)
+        Op::new(Request::AtomicWaker(AtomicWakerOp::TakeWaker(self.number)))
     }
 
     /// Replies the waker that is left, which isn't dropped by that, and else `NoWaker`: in loom the drop (loom's
     /// `future/atomic_waker.rs`).
     pub fn drop<D, S>(self) -> Op<D, S>
-        ensures { result ≡ Op.AtomicWaker (AtomicWakerOp.Drop self.number) None }
+        ensures { result ≡ bare (Request.AtomicWaker (AtomicWakerOp.Drop self.number)) }
     {
-        Op::AtomicWaker(AtomicWakerOp::Drop(self.number), None)
+        Op::new(Request::AtomicWaker(AtomicWakerOp::Drop(self.number)))
     }
 }

@@ -1,8 +1,9 @@
 //! Counted references.
 ghost use Rattle.std.specs.Prelude.{◌≡◌, ◌==◌, None};
 ghost use Rattle.loom_ops.specs.Counts.{arc_handle};
+ghost use Rattle.loom_objects.specs.Labels.{bare};
 
-use loom_objects::operation::{ArcOp, Op, Reply};
+use loom_objects::operation::{ArcOp, Op, Reply, Request};
 
 /// A counted reference of the run (loom's `sync/arc.rs`). The references that were made and not dropped are counted, not the
 /// handles: a handle that is copied or dropped does nothing. Where some are left at the run's end, it fails as `LeakArc`.
@@ -16,9 +17,9 @@ impl Arc {
     /// A new counted reference to this value, the only one (loom's `sync/arc.rs`).
     #[allow(clippy::new_ret_no_self)]
     pub fn new<D, S>(value: D) -> Op<D, S>
-        ensures { result ≡ Op.Arc (ArcOp.New value) None }
+        ensures { result ≡ bare (Request.Arc (ArcOp.New value)) }
     {
-        Op::Arc(ArcOp::New(value), None)
+        Op::new(Request::Arc(ArcOp::New(value)))
     }
 
     /// The counted reference that was made, if that is what the reply says (own).
@@ -34,54 +35,54 @@ impl Arc {
     /// One reference more, by the same handle (loom's `sync/arc.rs`).
     #[allow(clippy::should_implement_trait)]
     pub fn clone<D, S>(self) -> Op<D, S>
-        ensures { result ≡ Op.Arc (ArcOp.Clone self.number) None }
+        ensures { result ≡ bare (Request.Arc (ArcOp.Clone self.number)) }
     {
-        Op::Arc(ArcOp::Clone(self.number), None)
+        Op::new(Request::Arc(ArcOp::Clone(self.number)))
     }
 
     /// One reference fewer: in loom the drop. The last one replies the value, and a later operation of it is a misuse (loom's
     /// `sync/arc.rs`).
     pub fn drop<D, S>(self) -> Op<D, S>
-        ensures { result ≡ Op.Arc (ArcOp.Drop self.number) None }
+        ensures { result ≡ bare (Request.Arc (ArcOp.Drop self.number)) }
     {
-        Op::Arc(ArcOp::Drop(self.number), None)
+        Op::new(Request::Arc(ArcOp::Drop(self.number)))
     }
 
     /// Replies a copy of the value: in loom the `Deref` (loom's `sync/arc.rs`).
     pub fn get<D, S>(self) -> Op<D, S>
-        ensures { result ≡ Op.Arc (ArcOp.Get self.number) None }
+        ensures { result ≡ bare (Request.Arc (ArcOp.Get self.number)) }
     {
-        Op::Arc(ArcOp::Get(self.number), None)
+        Op::new(Request::Arc(ArcOp::Get(self.number)))
     }
 
     /// Replies the value if there is one reference alone, and else `Shared`. `put` hands it back, and any other operation of
     /// the reference before that is a misuse (loom's `sync/arc.rs`).
     pub fn get_mut<D, S>(self) -> Op<D, S>
-        ensures { result ≡ Op.Arc (ArcOp.GetMut self.number) None }
+        ensures { result ≡ bare (Request.Arc (ArcOp.GetMut self.number)) }
     {
-        Op::Arc(ArcOp::GetMut(self.number), None)
+        Op::new(Request::Arc(ArcOp::GetMut(self.number)))
     }
 
     /// Hands the value back, after `get_mut` by the same thread, else it is a misuse (own).
     pub fn put<D, S>(self, value: D) -> Op<D, S>
-        ensures { result ≡ Op.Arc (ArcOp.Put self.number value) None }
+        ensures { result ≡ bare (Request.Arc (ArcOp.Put self.number value)) }
     {
-        Op::Arc(ArcOp::Put(self.number, value), None)
+        Op::new(Request::Arc(ArcOp::Put(self.number, value)))
     }
 
     /// Drops the reference and replies the value if it is alone, and else replies `Shared` and drops nothing (loom's
     /// `sync/arc.rs`).
     pub fn try_unwrap<D, S>(self) -> Op<D, S>
-        ensures { result ≡ Op.Arc (ArcOp.TryUnwrap self.number) None }
+        ensures { result ≡ bare (Request.Arc (ArcOp.TryUnwrap self.number)) }
     {
-        Op::Arc(ArcOp::TryUnwrap(self.number), None)
+        Op::new(Request::Arc(ArcOp::TryUnwrap(self.number)))
     }
 
     /// Replies how many references there are (loom's `sync/arc.rs`).
     pub fn strong_count<D, S>(self) -> Op<D, S>
-        ensures { result ≡ Op.Arc (ArcOp.StrongCount self.number) None }
+        ensures { result ≡ bare (Request.Arc (ArcOp.StrongCount self.number)) }
     {
-        Op::Arc(ArcOp::StrongCount(self.number), None)
+        Op::new(Request::Arc(ArcOp::StrongCount(self.number)))
     }
 
     /// Both count the same references. It is no operation (loom's `sync/arc.rs`).

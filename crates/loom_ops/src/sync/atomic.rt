@@ -3,10 +3,11 @@ ghost use Rattle.std.specs.Prelude.{◌≡◌, None};
 ghost use Rattle.std.specs.Option.{option_map};
 ghost use Rattle.loom_ops.specs.Atomics.{atomic_handle, value_in, exchange, exchanged_in, update, fetched_in};
 ghost use Rattle.loom_ops.specs.Threads.{yielding};
+ghost use Rattle.loom_objects.specs.Labels.{bare};
 
 use crate::thread;
 use loom_handle_parts::atomics;
-use loom_objects::operation::{AtomicOp, Exchange, Op, Reply};
+use loom_objects::operation::{AtomicOp, Exchange, Op, Reply, Request};
 use loom_views::rt::change::Change;
 use loom_views::rt::num::Numeric;
 use std::marker::PhantomData;
@@ -80,9 +81,9 @@ impl Integer for isize {}
 /// A fence, by which a thread's accesses before and after it synchronize. `Relaxed` is the failure `RelaxedFence` (loom's
 /// `sync/atomic/mod.rs`).
 pub fn fence<D, S>(order: Ordering) -> Op<D, S>
-    ensures { result ≡ Op.Fence order None }
+    ensures { result ≡ bare (Request.Fence order) }
 {
-    Op::Fence(order, None)
+    Op::new(Request::Fence(order))
 }
 
 /// The thread yields, as by `thread::yield_now` (loom's `sync/atomic/mod.rs`).
@@ -96,9 +97,9 @@ impl<T: Numeric> Atomic<T> {
     /// A new atomic, which holds this value (loom's `sync/atomic/atomic.rs`).
     #[allow(clippy::new_ret_no_self)]
     pub fn new<D, S>(value: T) -> Op<D, S>
-        ensures { result ≡ Op.Atomic (AtomicOp.New T.kind (T.number value)) None }
+        ensures { result ≡ bare (Request.Atomic (AtomicOp.New T.kind (T.number value))) }
     {
-        Op::Atomic(AtomicOp::New(T::numbers(), value.into_u64()), None)
+        Op::new(Request::Atomic(AtomicOp::New(T::numbers(), value.into_u64())))
     }
 
     /// The atomic that was made, if that is what the reply says (own).
@@ -137,52 +138,49 @@ impl<T: Numeric> Atomic<T> {
 
     /// Reads one of the stores that the thread may read; which of them is a choice (loom's `sync/atomic/atomic.rs`).
     pub fn load<D, S>(self, order: Ordering) -> Op<D, S>
-        ensures { result ≡ Op.Atomic (AtomicOp.Load self.number order) None }
+        ensures { result ≡ bare (Request.Atomic (AtomicOp.Load self.number order)) }
     {
-        Op::Atomic(AtomicOp::Load(self.number, order), None)
+        Op::new(Request::Atomic(AtomicOp::Load(self.number, order)))
     }
 
     /// Reads the newest store, and synchronizes nothing. Where the thread doesn't know of a store or of a mutation, that is
     /// the failure `Race`, and while a mutation is open, `OpenAccess` (loom's `sync/atomic/atomic.rs`).
     pub fn unsync_load<D, S>(self) -> Op<D, S>
-        ensures { result ≡ Op.Atomic (AtomicOp.UnsyncLoad self.number) None }
+        ensures { result ≡ bare (Request.Atomic (AtomicOp.UnsyncLoad self.number)) }
     {
-        Op::Atomic(AtomicOp::UnsyncLoad(self.number), None)
+        Op::new(Request::Atomic(AtomicOp::UnsyncLoad(self.number)))
     }
 
     /// Reads as `unsync_load` does, and the atomic is no more: a later operation of it is a misuse (loom's
     /// `sync/atomic/int.rs` and `bool.rs`).
     pub fn into_inner<D, S>(self) -> Op<D, S>
-        ensures { result ≡ Op.Atomic (AtomicOp.IntoInner self.number) None }
+        ensures { result ≡ bare (Request.Atomic (AtomicOp.IntoInner self.number)) }
     {
-        Op::Atomic(AtomicOp::IntoInner(self.number), None)
+        Op::new(Request::Atomic(AtomicOp::IntoInner(self.number)))
     }
 
     /// Stores the value, for loads to read (loom's `sync/atomic/atomic.rs`).
     pub fn store<D, S>(self, value: T, order: Ordering) -> Op<D, S>
-        ensures { result ≡ Op.Atomic (AtomicOp.Store self.number (T.number value) order) None }
+        ensures { result ≡ bare (Request.Atomic (AtomicOp.Store self.number (T.number value) order)) }
     {
-        Op::Atomic(AtomicOp::Store(self.number, value.into_u64(), order), None)
+        Op::new(Request::Atomic(AtomicOp::Store(self.number, value.into_u64(), order)))
     }
 
     /// Stores the value, and replies the one that it replaces (loom's `sync/atomic/atomic.rs`).
     pub fn swap<D, S>(self, value: T, order: Ordering) -> Op<D, S>
-        ensures { result ≡ Op.Atomic (AtomicOp.Update self.number (Change.Swap (T.number value)) order) None }
+        ensures { result ≡ bare (Request.Atomic (AtomicOp.Update self.number (Change.Swap (T.number value)) order)) }
     {
         let change = Change::Swap(value.into_u64());
-        Op::Atomic(AtomicOp::Update(self.number, change, order), None)
+        Op::new(Request::Atomic(AtomicOp::Update(self.number, change, order)))
     }
 
     /// Stores the new value where the current one is read, and replies the value that it reads. Where that is another, its
     /// ordering is `Relaxed` in place of `Release`, and `Acquire` in place of `AcqRel` (loom's `sync/atomic/atomic.rs`).
     pub fn compare_and_swap<D, S>(self, current: T, new: T, order: Ordering) -> Op<D, S>
-        ensures { result ≡ Op.Atomic (AtomicOp.CompareAndSwap self.number (T.number current) (T.number new) order) None }
+        ensures { result ≡ bare (Request.Atomic (AtomicOp.CompareAndSwap self.number (T.number current) (T.number new) order)) }
     {
         let (current, new) = (current.into_u64(), new.into_u64());
-        Op::Atomic(
-            AtomicOp::CompareAndSwap(self.number, current, new, order),
-            None,
-        )
+        Op::new(Request::Atomic(AtomicOp::CompareAndSwap(self.number, current, new, order)))
     }
 
     /// Stores the new value where the current one is read, by the ordering `success`, and replies Ok of it. Else it is a load
@@ -202,7 +200,7 @@ impl<T: Numeric> Atomic<T> {
             success,
             failure,
         };
-        Op::Atomic(AtomicOp::CompareExchange(self.number, exchange), None)
+        Op::new(Request::Atomic(AtomicOp::CompareExchange(self.number, exchange)))
     }
 
     /// The same as `compare_exchange`: it fails only where another value is read (loom's `sync/atomic/int.rs` and `bool.rs`).
@@ -220,36 +218,36 @@ impl<T: Numeric> Atomic<T> {
 
     /// Keeps the bits that are in both, and replies the value before (loom's `sync/atomic/int.rs` and `bool.rs`).
     pub fn fetch_and<D, S>(self, value: T, order: Ordering) -> Op<D, S>
-        ensures { result ≡ Op.Atomic (AtomicOp.Update self.number (Change.And (T.number value)) order) None }
+        ensures { result ≡ bare (Request.Atomic (AtomicOp.Update self.number (Change.And (T.number value)) order)) }
     {
         let change = Change::And(value.into_u64());
-        Op::Atomic(AtomicOp::Update(self.number, change, order), None)
+        Op::new(Request::Atomic(AtomicOp::Update(self.number, change, order)))
     }
 
     /// Leaves the bits of the type that are not in both, and replies the value before (loom's `sync/atomic/int.rs` and
     /// `bool.rs`).
     pub fn fetch_nand<D, S>(self, value: T, order: Ordering) -> Op<D, S>
-        ensures { result ≡ Op.Atomic (AtomicOp.Update self.number (Change.Nand (T.number value)) order) None }
+        ensures { result ≡ bare (Request.Atomic (AtomicOp.Update self.number (Change.Nand (T.number value)) order)) }
     {
         let change = Change::Nand(value.into_u64());
-        Op::Atomic(AtomicOp::Update(self.number, change, order), None)
+        Op::new(Request::Atomic(AtomicOp::Update(self.number, change, order)))
     }
 
     /// Adds the bits of the other, and replies the value before (loom's `sync/atomic/int.rs` and `bool.rs`).
     pub fn fetch_or<D, S>(self, value: T, order: Ordering) -> Op<D, S>
-        ensures { result ≡ Op.Atomic (AtomicOp.Update self.number (Change.Or (T.number value)) order) None }
+        ensures { result ≡ bare (Request.Atomic (AtomicOp.Update self.number (Change.Or (T.number value)) order)) }
     {
         let change = Change::Or(value.into_u64());
-        Op::Atomic(AtomicOp::Update(self.number, change, order), None)
+        Op::new(Request::Atomic(AtomicOp::Update(self.number, change, order)))
     }
 
     /// Leaves the bits that are in one of the two alone, and replies the value before (loom's `sync/atomic/int.rs` and
     /// `bool.rs`).
     pub fn fetch_xor<D, S>(self, value: T, order: Ordering) -> Op<D, S>
-        ensures { result ≡ Op.Atomic (AtomicOp.Update self.number (Change.Xor (T.number value)) order) None }
+        ensures { result ≡ bare (Request.Atomic (AtomicOp.Update self.number (Change.Xor (T.number value)) order)) }
     {
         let change = Change::Xor(value.into_u64());
-        Op::Atomic(AtomicOp::Update(self.number, change, order), None)
+        Op::new(Request::Atomic(AtomicOp::Update(self.number, change, order)))
     }
 
     /// An update by a function of the body's own, with these orderings for its exchanges and for its loads. It is no
@@ -269,49 +267,49 @@ impl<T: Integer> Atomic<T> {
     /// Replies the newest value, and opens a mutation, which ends with `with_mut_end`. Where the thread doesn't know of some
     /// access, that is the failure `Race`; an access while it is open is `OpenAccess` (loom's `sync/atomic/int.rs`).
     pub fn with_mut<D, S>(self) -> Op<D, S>
-        ensures { result ≡ Op.Atomic (AtomicOp.WithMut self.number) None }
+        ensures { result ≡ bare (Request.Atomic (AtomicOp.WithMut self.number)) }
     {
-        Op::Atomic(AtomicOp::WithMut(self.number), None)
+        Op::new(Request::Atomic(AtomicOp::WithMut(self.number)))
     }
 
     /// Ends the thread's mutation, which leaves this value: in loom the end of the closure. Without one it is a misuse
     /// (loom's `sync/atomic/int.rs`).
     pub fn with_mut_end<D, S>(self, value: T) -> Op<D, S>
-        ensures { result ≡ Op.Atomic (AtomicOp.WithMutEnd self.number (T.number value)) None }
+        ensures { result ≡ bare (Request.Atomic (AtomicOp.WithMutEnd self.number (T.number value))) }
     {
         atomics::with_mut_end(self.number, value)
     }
 
     /// Adds, by the lowest bits of the type, and replies the value before (loom's `sync/atomic/int.rs`).
     pub fn fetch_add<D, S>(self, value: T, order: Ordering) -> Op<D, S>
-        ensures { result ≡ Op.Atomic (AtomicOp.Update self.number (Change.Add (T.number value)) order) None }
+        ensures { result ≡ bare (Request.Atomic (AtomicOp.Update self.number (Change.Add (T.number value)) order)) }
     {
         let change = Change::Add(value.into_u64());
-        Op::Atomic(AtomicOp::Update(self.number, change, order), None)
+        Op::new(Request::Atomic(AtomicOp::Update(self.number, change, order)))
     }
 
     /// Subtracts, by the lowest bits of the type, and replies the value before (loom's `sync/atomic/int.rs`).
     pub fn fetch_sub<D, S>(self, value: T, order: Ordering) -> Op<D, S>
-        ensures { result ≡ Op.Atomic (AtomicOp.Update self.number (Change.Sub (T.number value)) order) None }
+        ensures { result ≡ bare (Request.Atomic (AtomicOp.Update self.number (Change.Sub (T.number value)) order)) }
     {
         let change = Change::Sub(value.into_u64());
-        Op::Atomic(AtomicOp::Update(self.number, change, order), None)
+        Op::new(Request::Atomic(AtomicOp::Update(self.number, change, order)))
     }
 
     /// Leaves the larger of the two, and replies the value before (loom's `sync/atomic/int.rs`).
     pub fn fetch_max<D, S>(self, value: T, order: Ordering) -> Op<D, S>
-        ensures { result ≡ Op.Atomic (AtomicOp.Update self.number (Change.Max (T.number value)) order) None }
+        ensures { result ≡ bare (Request.Atomic (AtomicOp.Update self.number (Change.Max (T.number value)) order)) }
     {
         let change = Change::Max(value.into_u64());
-        Op::Atomic(AtomicOp::Update(self.number, change, order), None)
+        Op::new(Request::Atomic(AtomicOp::Update(self.number, change, order)))
     }
 
     /// Leaves the smaller of the two, and replies the value before (loom's `sync/atomic/int.rs`).
     pub fn fetch_min<D, S>(self, value: T, order: Ordering) -> Op<D, S>
-        ensures { result ≡ Op.Atomic (AtomicOp.Update self.number (Change.Min (T.number value)) order) None }
+        ensures { result ≡ bare (Request.Atomic (AtomicOp.Update self.number (Change.Min (T.number value)) order)) }
     {
         let change = Change::Min(value.into_u64());
-        Op::Atomic(AtomicOp::Update(self.number, change, order), None)
+        Op::new(Request::Atomic(AtomicOp::Update(self.number, change, order)))
     }
 }
 
@@ -340,7 +338,7 @@ pub enum Fetched<T> {
 impl<T: Numeric> FetchUpdate<T> {
     /// The first operation: a load (loom's `sync/atomic/atomic.rs`).
     pub fn begin<D, S>(self) -> Op<D, S>
-        ensures { result ≡ Op.Atomic (AtomicOp.Load self.atomic.number self.fetch_order) None }
+        ensures { result ≡ bare (Request.Atomic (AtomicOp.Load self.atomic.number self.fetch_order)) }
     {
         self.atomic.load(self.fetch_order)
     }

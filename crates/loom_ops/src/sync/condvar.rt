@@ -1,10 +1,11 @@
 //! Condition variables: threads sleep on them until others notify.
 ghost use Rattle.std.specs.Prelude.{◌≡◌, None};
 ghost use Rattle.loom_ops.specs.Condvars.{condvar_handle, timeout_in};
+ghost use Rattle.loom_objects.specs.Labels.{bare};
 
 use crate::sync::mutex::MutexGuard;
 use loom_handle_parts::condvars;
-use loom_objects::operation::{CondvarOp, Op, Reply};
+use loom_objects::operation::{CondvarOp, Op, Reply, Request};
 
 /// A condition variable of the run (loom's `sync/condvar.rs`).
 #[derive(Clone, Copy, Debug)]
@@ -21,9 +22,9 @@ impl Condvar {
     /// A new condition variable, on which no thread waits (loom's `sync/condvar.rs`).
     #[allow(clippy::new_ret_no_self)]
     pub fn new<D, S>() -> Op<D, S>
-        ensures { result ≡ Op.Condvar CondvarOp.New None }
+        ensures { result ≡ bare (Request.Condvar CondvarOp.New) }
     {
-        Op::Condvar(CondvarOp::New, None)
+        Op::new(Request::Condvar(CondvarOp::New))
     }
 
     /// The condition variable that was made, if that is what the reply says (own).
@@ -39,7 +40,7 @@ impl Condvar {
     /// The thread releases its mutex, which holds this data then, and sleeps until it is notified. It locks the mutex again
     /// before its reply, which is that of `lock`. Without the mutex that is a misuse (loom's `sync/condvar.rs`).
     pub fn wait<D, S>(self, guard: MutexGuard, value: D) -> Op<D, S>
-        ensures { result ≡ Op.Condvar (CondvarOp.Wait self.number guard.number value) None }
+        ensures { result ≡ bare (Request.Condvar (CondvarOp.Wait self.number guard.number value)) }
     {
         condvars::wait(self.number, guard.number, value)
     }
@@ -47,26 +48,23 @@ impl Condvar {
     /// The same, but the reply is `Waited`, which also says that the time didn't run out: it never does, as in loom, and so no
     /// time is given (loom's `sync/condvar.rs`).
     pub fn wait_timeout<D, S>(self, guard: MutexGuard, value: D) -> Op<D, S>
-        ensures { result ≡ Op.Condvar (CondvarOp.WaitTimeout self.number guard.number value) None }
+        ensures { result ≡ bare (Request.Condvar (CondvarOp.WaitTimeout self.number guard.number value)) }
     {
-        Op::Condvar(
-            CondvarOp::WaitTimeout(self.number, guard.number, value),
-            None,
-        )
+        Op::new(Request::Condvar(CondvarOp::WaitTimeout(self.number, guard.number, value)))
     }
 
     /// Wakes the thread that has waited longest, if there is one (loom's `sync/condvar.rs`).
     pub fn notify_one<D, S>(self) -> Op<D, S>
-        ensures { result ≡ Op.Condvar (CondvarOp.NotifyOne self.number) None }
+        ensures { result ≡ bare (Request.Condvar (CondvarOp.NotifyOne self.number)) }
     {
-        Op::Condvar(CondvarOp::NotifyOne(self.number), None)
+        Op::new(Request::Condvar(CondvarOp::NotifyOne(self.number)))
     }
 
     /// Wakes all threads that wait (loom's `sync/condvar.rs`).
     pub fn notify_all<D, S>(self) -> Op<D, S>
-        ensures { result ≡ Op.Condvar (CondvarOp.NotifyAll self.number) None }
+        ensures { result ≡ bare (Request.Condvar (CondvarOp.NotifyAll self.number)) }
     {
-        Op::Condvar(CondvarOp::NotifyAll(self.number), None)
+        Op::new(Request::Condvar(CondvarOp::NotifyAll(self.number)))
     }
 }
 

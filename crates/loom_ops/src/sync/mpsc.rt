@@ -1,8 +1,9 @@
 //! Channels: many threads send messages, and one receives them.
 ghost use Rattle.std.specs.Prelude.{◌≡◌, None};
 ghost use Rattle.loom_ops.specs.Channels.{receiver_handle, sender_handle};
+ghost use Rattle.loom_objects.specs.Labels.{bare};
 
-use loom_objects::operation::{ChannelOp, Op, Reply};
+use loom_objects::operation::{ChannelOp, Op, Reply, Request};
 
 /// A sender of a channel of the run (loom's `sync/mpsc.rs`). The senders that were made and not dropped are counted, not the
 /// handles: a handle that is copied or dropped does nothing.
@@ -22,9 +23,9 @@ pub struct Receiver {
 
 /// A new channel, with one sender and its receiver, which both come of its reply (loom's `sync/mpsc.rs`).
 pub fn channel<D, S>() -> Op<D, S>
-    ensures { result ≡ Op.Channel ChannelOp.New None }
+    ensures { result ≡ bare (Request.Channel ChannelOp.New) }
 {
-    Op::Channel(ChannelOp::New, None)
+    Op::new(Request::Channel(ChannelOp::New))
 }
 
 impl Sender {
@@ -41,24 +42,24 @@ impl Sender {
     /// Sends the message, which goes last. Once the receiver is dropped it replies `SendError` with the message (loom's
     /// `sync/mpsc.rs`).
     pub fn send<D, S>(self, message: D) -> Op<D, S>
-        ensures { result ≡ Op.Channel (ChannelOp.Send self.number message) None }
+        ensures { result ≡ bare (Request.Channel (ChannelOp.Send self.number message)) }
     {
-        Op::Channel(ChannelOp::Send(self.number, message), None)
+        Op::new(Request::Channel(ChannelOp::Send(self.number, message)))
     }
 
     /// One sender more, by the same handle (loom's `sync/mpsc.rs`).
     #[allow(clippy::should_implement_trait)]
     pub fn clone<D, S>(self) -> Op<D, S>
-        ensures { result ≡ Op.Channel (ChannelOp.CloneSender self.number) None }
+        ensures { result ≡ bare (Request.Channel (ChannelOp.CloneSender self.number)) }
     {
-        Op::Channel(ChannelOp::CloneSender(self.number), None)
+        Op::new(Request::Channel(ChannelOp::CloneSender(self.number)))
     }
 
     /// One sender fewer: in loom the drop. After the last one any operation of a sender is a misuse (loom's `sync/mpsc.rs`).
     pub fn drop<D, S>(self) -> Op<D, S>
-        ensures { result ≡ Op.Channel (ChannelOp.DropSender self.number) None }
+        ensures { result ≡ bare (Request.Channel (ChannelOp.DropSender self.number)) }
     {
-        Op::Channel(ChannelOp::DropSender(self.number), None)
+        Op::new(Request::Channel(ChannelOp::DropSender(self.number)))
     }
 }
 
@@ -76,24 +77,24 @@ impl Receiver {
     /// Replies the message that was sent first. It waits while there is none and a sender is left; without one it replies
     /// `RecvError` (loom's `sync/mpsc.rs`).
     pub fn recv<D, S>(self) -> Op<D, S>
-        ensures { result ≡ Op.Channel (ChannelOp.Recv self.number) None }
+        ensures { result ≡ bare (Request.Channel (ChannelOp.Recv self.number)) }
     {
-        Op::Channel(ChannelOp::Recv(self.number), None)
+        Op::new(Request::Channel(ChannelOp::Recv(self.number)))
     }
 
     /// The same, where there is a message. Where there is none it replies `Empty`, also without senders, and doesn't wait;
     /// where another thread has taken it since, and no sender is left, `Disconnected` (loom's `sync/mpsc.rs`).
     pub fn try_recv<D, S>(self) -> Op<D, S>
-        ensures { result ≡ Op.Channel (ChannelOp.TryRecv self.number) None }
+        ensures { result ≡ bare (Request.Channel (ChannelOp.TryRecv self.number)) }
     {
-        Op::Channel(ChannelOp::TryRecv(self.number), None)
+        Op::new(Request::Channel(ChannelOp::TryRecv(self.number)))
     }
 
     /// Receives the messages that are left, and replies them; then the receiver is no more, and a later operation of it is a
     /// misuse (loom's `sync/mpsc.rs`).
     pub fn drop<D, S>(self) -> Op<D, S>
-        ensures { result ≡ Op.Channel (ChannelOp.DropReceiver self.number) None }
+        ensures { result ≡ bare (Request.Channel (ChannelOp.DropReceiver self.number)) }
     {
-        Op::Channel(ChannelOp::DropReceiver(self.number), None)
+        Op::new(Request::Channel(ChannelOp::DropReceiver(self.number)))
     }
 }

@@ -1,9 +1,10 @@
 //! Mutexes.
 ghost use Rattle.std.specs.Prelude.{◌≡◌, None};
 ghost use Rattle.loom_ops.specs.Locks.{mutex_handle, guard_handle, guard_taken};
+ghost use Rattle.loom_objects.specs.Labels.{bare};
 
 use loom_handle_parts::locks;
-use loom_objects::operation::{MutexOp, Op, Reply};
+use loom_objects::operation::{MutexOp, Op, Reply, Request};
 
 /// A mutex of the run (loom's `sync/mutex.rs`).
 #[derive(Clone, Copy, Debug)]
@@ -23,9 +24,9 @@ impl Mutex {
     /// A new mutex with this data, which nobody holds (loom's `sync/mutex.rs`).
     #[allow(clippy::new_ret_no_self)]
     pub fn new<D, S>(value: D) -> Op<D, S>
-        ensures { result ≡ Op.Mutex (MutexOp.New value) None }
+        ensures { result ≡ bare (Request.Mutex (MutexOp.New value)) }
     {
-        Op::Mutex(MutexOp::New(value), None)
+        Op::new(Request::Mutex(MutexOp::New(value)))
     }
 
     /// The mutex that was made, if that is what the reply says (own).
@@ -41,7 +42,7 @@ impl Mutex {
     /// The thread holds the mutex from its reply on, which gives it the data. It waits while another holds it (loom's
     /// `sync/mutex.rs`).
     pub fn lock<D, S>(self) -> Op<D, S>
-        ensures { result ≡ Op.Mutex (MutexOp.Lock self.number) None }
+        ensures { result ≡ bare (Request.Mutex (MutexOp.Lock self.number)) }
     {
         locks::lock(self.number)
     }
@@ -49,32 +50,32 @@ impl Mutex {
     /// The same, where nobody holds the mutex. Where a thread does, this one as well, it replies `WouldBlock` and doesn't wait
     /// (loom's `sync/mutex.rs`).
     pub fn try_lock<D, S>(self) -> Op<D, S>
-        ensures { result ≡ Op.Mutex (MutexOp.TryLock self.number) None }
+        ensures { result ≡ bare (Request.Mutex (MutexOp.TryLock self.number)) }
     {
-        Op::Mutex(MutexOp::TryLock(self.number), None)
+        Op::new(Request::Mutex(MutexOp::TryLock(self.number)))
     }
 
     /// Replies the data, which `put` hands back. While a thread holds the mutex that is a misuse, and so is any other operation
     /// of it before the `put` (loom's `sync/mutex.rs`).
     pub fn get_mut<D, S>(self) -> Op<D, S>
-        ensures { result ≡ Op.Mutex (MutexOp.GetMut self.number) None }
+        ensures { result ≡ bare (Request.Mutex (MutexOp.GetMut self.number)) }
     {
-        Op::Mutex(MutexOp::GetMut(self.number), None)
+        Op::new(Request::Mutex(MutexOp::GetMut(self.number)))
     }
 
     /// Hands the data back, after `get_mut` by the same thread, else it is a misuse (own).
     pub fn put<D, S>(self, value: D) -> Op<D, S>
-        ensures { result ≡ Op.Mutex (MutexOp.Put self.number value) None }
+        ensures { result ≡ bare (Request.Mutex (MutexOp.Put self.number value)) }
     {
-        Op::Mutex(MutexOp::Put(self.number, value), None)
+        Op::new(Request::Mutex(MutexOp::Put(self.number, value)))
     }
 
     /// Replies the data, and the mutex is no more: a later operation of it is a misuse, and so is this one while a thread holds
     /// the mutex (loom's `sync/mutex.rs`).
     pub fn into_inner<D, S>(self) -> Op<D, S>
-        ensures { result ≡ Op.Mutex (MutexOp.IntoInner self.number) None }
+        ensures { result ≡ bare (Request.Mutex (MutexOp.IntoInner self.number)) }
     {
-        Op::Mutex(MutexOp::IntoInner(self.number), None)
+        Op::new(Request::Mutex(MutexOp::IntoInner(self.number)))
     }
 }
 
@@ -102,8 +103,8 @@ impl MutexGuard {
 
     /// The mutex is free, and holds this data: in loom the guard's drop (loom's `sync/mutex.rs`).
     pub fn release<D, S>(self, value: D) -> Op<D, S>
-        ensures { result ≡ Op.Mutex (MutexOp.Release self.number value) None }
+        ensures { result ≡ bare (Request.Mutex (MutexOp.Release self.number value)) }
     {
-        Op::Mutex(MutexOp::Release(self.number, value), None)
+        Op::new(Request::Mutex(MutexOp::Release(self.number, value)))
     }
 }

@@ -1,8 +1,9 @@
 //! Notifiers: one thread waits until others notify.
 ghost use Rattle.std.specs.Prelude.{◌≡◌, None};
 ghost use Rattle.loom_ops.specs.Notifiers.{notify_handle};
+ghost use Rattle.loom_objects.specs.Labels.{bare};
 
-use loom_objects::operation::{NotifyOp, Op, Reply};
+use loom_objects::operation::{NotifyOp, Op, Reply, Request};
 
 /// A notifier of the run (loom's `sync/notify.rs`).
 #[derive(Clone, Copy, Debug)]
@@ -15,9 +16,9 @@ impl Notify {
     /// A new notifier, which isn't notified (loom's `sync/notify.rs`).
     #[allow(clippy::new_ret_no_self)]
     pub fn new<D, S>() -> Op<D, S>
-        ensures { result ≡ Op.Notify NotifyOp.New None }
+        ensures { result ≡ bare (Request.Notify NotifyOp.New) }
     {
-        Op::Notify(NotifyOp::New, None)
+        Op::new(Request::Notify(NotifyOp::New))
     }
 
     /// The notifier that was made, if that is what the reply says (own).
@@ -32,16 +33,16 @@ impl Notify {
 
     /// Notifies the thread that waits, or else the next one that will (loom's `sync/notify.rs`).
     pub fn notify<D, S>(self) -> Op<D, S>
-        ensures { result ≡ Op.Notify (NotifyOp.Notify self.number) None }
+        ensures { result ≡ bare (Request.Notify (NotifyOp.Notify self.number)) }
     {
-        Op::Notify(NotifyOp::Notify(self.number), None)
+        Op::new(Request::Notify(NotifyOp::Notify(self.number)))
     }
 
     /// Waits until it is notified. Once in a run, one wait on it may also end without that. A second thread that waits is the
     /// failure `SecondWaiter` (loom's `sync/notify.rs`).
     pub fn wait<D, S>(self) -> Op<D, S>
-        ensures { result ≡ Op.Notify (NotifyOp.Wait self.number) None }
+        ensures { result ≡ bare (Request.Notify (NotifyOp.Wait self.number)) }
     {
-        Op::Notify(NotifyOp::Wait(self.number), None)
+        Op::new(Request::Notify(NotifyOp::Wait(self.number)))
     }
 }

@@ -1,8 +1,9 @@
 //! Read-write locks: many threads read, or one writes.
 ghost use Rattle.std.specs.Prelude.{◌≡◌, None};
 ghost use Rattle.loom_ops.specs.RwLocks.{rwlock_handle, read_guard_handle, read_guard_taken, write_guard_handle, write_guard_taken};
+ghost use Rattle.loom_objects.specs.Labels.{bare};
 
-use loom_objects::operation::{Op, Reply, RwLockOp};
+use loom_objects::operation::{Op, Reply, Request, RwLockOp};
 
 /// A read-write lock of the run (loom's `sync/rwlock.rs`).
 #[derive(Clone, Copy, Debug)]
@@ -30,9 +31,9 @@ impl RwLock {
     /// A new lock with this data, which nobody holds (loom's `sync/rwlock.rs`).
     #[allow(clippy::new_ret_no_self)]
     pub fn new<D, S>(value: D) -> Op<D, S>
-        ensures { result ≡ Op.RwLock (RwLockOp.New value) None }
+        ensures { result ≡ bare (Request.RwLock (RwLockOp.New value)) }
     {
-        Op::RwLock(RwLockOp::New(value), None)
+        Op::new(Request::RwLock(RwLockOp::New(value)))
     }
 
     /// The lock that was made, if that is what the reply says (own).
@@ -48,55 +49,55 @@ impl RwLock {
     /// The thread reads from its reply on, which gives it a copy of the data. It waits while a thread writes, and for no
     /// other that reads (loom's `sync/rwlock.rs`).
     pub fn read<D, S>(self) -> Op<D, S>
-        ensures { result ≡ Op.RwLock (RwLockOp.Read self.number) None }
+        ensures { result ≡ bare (Request.RwLock (RwLockOp.Read self.number)) }
     {
-        Op::RwLock(RwLockOp::Read(self.number), None)
+        Op::new(Request::RwLock(RwLockOp::Read(self.number)))
     }
 
     /// The same, where no thread writes. Where one does, it replies `WouldBlock` and doesn't wait (loom's `sync/rwlock.rs`).
     pub fn try_read<D, S>(self) -> Op<D, S>
-        ensures { result ≡ Op.RwLock (RwLockOp.TryRead self.number) None }
+        ensures { result ≡ bare (Request.RwLock (RwLockOp.TryRead self.number)) }
     {
-        Op::RwLock(RwLockOp::TryRead(self.number), None)
+        Op::new(Request::RwLock(RwLockOp::TryRead(self.number)))
     }
 
     /// The thread alone writes from its reply on, which gives it the data. It waits while a thread reads or writes (loom's
     /// `sync/rwlock.rs`).
     pub fn write<D, S>(self) -> Op<D, S>
-        ensures { result ≡ Op.RwLock (RwLockOp.Write self.number) None }
+        ensures { result ≡ bare (Request.RwLock (RwLockOp.Write self.number)) }
     {
-        Op::RwLock(RwLockOp::Write(self.number), None)
+        Op::new(Request::RwLock(RwLockOp::Write(self.number)))
     }
 
     /// The same, where no thread reads or writes. Where one does, this one as well, it replies `WouldBlock` and doesn't wait
     /// (loom's `sync/rwlock.rs`).
     pub fn try_write<D, S>(self) -> Op<D, S>
-        ensures { result ≡ Op.RwLock (RwLockOp.TryWrite self.number) None }
+        ensures { result ≡ bare (Request.RwLock (RwLockOp.TryWrite self.number)) }
     {
-        Op::RwLock(RwLockOp::TryWrite(self.number), None)
+        Op::new(Request::RwLock(RwLockOp::TryWrite(self.number)))
     }
 
     /// Replies the data, which `put` hands back. While a thread reads or writes that is a misuse, and so is any access before
     /// the `put` (loom's `sync/rwlock.rs`).
     pub fn get_mut<D, S>(self) -> Op<D, S>
-        ensures { result ≡ Op.RwLock (RwLockOp.GetMut self.number) None }
+        ensures { result ≡ bare (Request.RwLock (RwLockOp.GetMut self.number)) }
     {
-        Op::RwLock(RwLockOp::GetMut(self.number), None)
+        Op::new(Request::RwLock(RwLockOp::GetMut(self.number)))
     }
 
     /// Hands the data back, after `get_mut` by the same thread, else it is a misuse (own).
     pub fn put<D, S>(self, value: D) -> Op<D, S>
-        ensures { result ≡ Op.RwLock (RwLockOp.Put self.number value) None }
+        ensures { result ≡ bare (Request.RwLock (RwLockOp.Put self.number value)) }
     {
-        Op::RwLock(RwLockOp::Put(self.number, value), None)
+        Op::new(Request::RwLock(RwLockOp::Put(self.number, value)))
     }
 
     /// Replies the data, and the lock is no more: a later operation of it is a misuse, and so is this one while a thread reads
     /// or writes (loom's `sync/rwlock.rs`).
     pub fn into_inner<D, S>(self) -> Op<D, S>
-        ensures { result ≡ Op.RwLock (RwLockOp.IntoInner self.number) None }
+        ensures { result ≡ bare (Request.RwLock (RwLockOp.IntoInner self.number)) }
     {
-        Op::RwLock(RwLockOp::IntoInner(self.number), None)
+        Op::new(Request::RwLock(RwLockOp::IntoInner(self.number)))
     }
 }
 
@@ -124,9 +125,9 @@ impl RwLockReadGuard {
     /// One guard of the thread ends: in loom the guard's drop. A thread that has none of the lock makes a misuse (loom's
     /// `sync/rwlock.rs`).
     pub fn release<D, S>(self) -> Op<D, S>
-        ensures { result ≡ Op.RwLock (RwLockOp.ReadRelease self.number) None }
+        ensures { result ≡ bare (Request.RwLock (RwLockOp.ReadRelease self.number)) }
     {
-        Op::RwLock(RwLockOp::ReadRelease(self.number), None)
+        Op::new(Request::RwLock(RwLockOp::ReadRelease(self.number)))
     }
 }
 
@@ -154,8 +155,8 @@ impl RwLockWriteGuard {
     /// The lock is free, and holds this data: in loom the guard's drop. A thread that doesn't write makes a misuse (loom's
     /// `sync/rwlock.rs`).
     pub fn release<D, S>(self, value: D) -> Op<D, S>
-        ensures { result ≡ Op.RwLock (RwLockOp.WriteRelease self.number value) None }
+        ensures { result ≡ bare (Request.RwLock (RwLockOp.WriteRelease self.number value)) }
     {
-        Op::RwLock(RwLockOp::WriteRelease(self.number, value), None)
+        Op::new(Request::RwLock(RwLockOp::WriteRelease(self.number, value)))
     }
 }

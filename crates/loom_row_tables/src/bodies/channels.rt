@@ -1,35 +1,40 @@
 //! The scripts of the rows about channels.
 ghost use Rattle.std.specs.Prelude.{◌≡◌, map};
 ghost use Rattle.loom_row_parts.specs.Meanings.{named};
-ghost use Rattle.loom_row_tables.specs.Names.{AreEndRows, message_rows};
+ghost use Rattle.loom_row_tables.specs.Names.{end_rows, message_rows};
 
-use loom_objects::operation::{ChannelOp, Op, ThreadOp};
+use loom_objects::operation::{ChannelOp, Request, ThreadOp};
 use loom_objects::rt::thread::Name;
+use loom_parts::text_literal;
 use loom_row_parts::row;
 use loom_row_parts::rows::Row;
 use loom_scripts::step::{END, EXIT, FAIL, Step, Value};
 
-const FINISH: Step = Step::Do(0, Op::Thread(ThreadOp::Finish(Value::Plain(7)), None));
+const FINISH: Step = Step::Do(0, Request::Thread(ThreadOp::Finish(Value::Plain(7))));
+
+const FOOBAR: Option<Name> = Some(Name {
+    text: text_literal!(b"foobar"),
+});
 
 /// Main sends 5, receives it, drops both ends, and finishes with what it received.
 pub const SEND_THEN_RECV: &[Step] = &[
-    Step::Do(0, Op::Channel(ChannelOp::New, None)),
-    Step::Do(0, Op::Channel(ChannelOp::Send(0, Value::Plain(5)), None)),
-    Step::Do(0, Op::Channel(ChannelOp::Recv(0), None)),
-    Step::Do(1, Op::Channel(ChannelOp::DropSender(0), None)),
-    Step::Do(1, Op::Channel(ChannelOp::DropReceiver(0), None)),
-    Step::Do(0, Op::Thread(ThreadOp::Finish(Value::Held(0)), None)),
+    Step::Do(0, Request::Channel(ChannelOp::New)),
+    Step::Do(0, Request::Channel(ChannelOp::Send(0, Value::Plain(5)))),
+    Step::Do(0, Request::Channel(ChannelOp::Recv(0))),
+    Step::Do(1, Request::Channel(ChannelOp::DropSender(0))),
+    Step::Do(1, Request::Channel(ChannelOp::DropReceiver(0))),
+    Step::Do(0, Request::Thread(ThreadOp::Finish(Value::Held(0)))),
     EXIT,
     END,
 ];
 
 /// Main drops the only sender, and asserts that nothing can be received then.
 pub const RECV_AFTER_DROP: &[Step] = &[
-    Step::Do(0, Op::Channel(ChannelOp::New, None)),
-    Step::Do(0, Op::Channel(ChannelOp::DropSender(0), None)),
-    Step::Do(0, Op::Channel(ChannelOp::Recv(0), None)),
+    Step::Do(0, Request::Channel(ChannelOp::New)),
+    Step::Do(0, Request::Channel(ChannelOp::DropSender(0))),
+    Step::Do(0, Request::Channel(ChannelOp::Recv(0))),
     Step::Unless(3, 2, 8),
-    Step::Do(1, Op::Channel(ChannelOp::DropReceiver(0), None)),
+    Step::Do(1, Request::Channel(ChannelOp::DropReceiver(0))),
     FINISH,
     EXIT,
     END,
@@ -39,55 +44,55 @@ pub const RECV_AFTER_DROP: &[Step] = &[
 /// Two threads each send a number, 5 and 6. Main receives twice, and finishes with ten times the first number and the second
 /// (loom's `tests/mpsc.rs`).
 pub const COMMUTATIVE_SENDERS: &[Step] = &[
-    Step::Do(0, Op::Channel(ChannelOp::New, None)),
-    Step::Do(0, Op::Channel(ChannelOp::CloneSender(0), None)),
-    Step::Do(1, Op::Thread(ThreadOp::Spawn(10, None), None)),
-    Step::Do(2, Op::Thread(ThreadOp::Spawn(15, None), None)),
-    Step::Do(0, Op::Channel(ChannelOp::Recv(0), None)),
-    Step::Do(1, Op::Channel(ChannelOp::Recv(0), None)),
-    Step::Do(2, Op::Channel(ChannelOp::DropReceiver(0), None)),
-    Step::Do(0, Op::Thread(ThreadOp::Finish(Value::Both(0, 1)), None)),
+    Step::Do(0, Request::Channel(ChannelOp::New)),
+    Step::Do(0, Request::Channel(ChannelOp::CloneSender(0))),
+    Step::Do(1, Request::Thread(ThreadOp::Spawn(10, None))),
+    Step::Do(2, Request::Thread(ThreadOp::Spawn(15, None))),
+    Step::Do(0, Request::Channel(ChannelOp::Recv(0))),
+    Step::Do(1, Request::Channel(ChannelOp::Recv(0))),
+    Step::Do(2, Request::Channel(ChannelOp::DropReceiver(0))),
+    Step::Do(0, Request::Thread(ThreadOp::Finish(Value::Both(0, 1)))),
     EXIT,
     END,
-    Step::Do(0, Op::Channel(ChannelOp::Send(0, Value::Plain(5)), None)),
-    Step::Do(0, Op::Channel(ChannelOp::DropSender(0), None)),
+    Step::Do(0, Request::Channel(ChannelOp::Send(0, Value::Plain(5)))),
+    Step::Do(0, Request::Channel(ChannelOp::DropSender(0))),
     FINISH,
     EXIT,
     END,
-    Step::Do(0, Op::Channel(ChannelOp::Send(0, Value::Plain(6)), None)),
+    Step::Do(0, Request::Channel(ChannelOp::Send(0, Value::Plain(6)))),
     Step::Jump(11),
 ];
 
 /// The same, but main asserts that the first number is 5 (loom's `tests/mpsc.rs`).
 pub const NON_COMMUTATIVE_SENDERS1: &[Step] = &[
-    Step::Do(0, Op::Channel(ChannelOp::New, None)),
-    Step::Do(0, Op::Channel(ChannelOp::CloneSender(0), None)),
-    Step::Do(1, Op::Thread(ThreadOp::Spawn(12, None), None)),
-    Step::Do(2, Op::Thread(ThreadOp::Spawn(17, None), None)),
-    Step::Do(0, Op::Channel(ChannelOp::Recv(0), None)),
+    Step::Do(0, Request::Channel(ChannelOp::New)),
+    Step::Do(0, Request::Channel(ChannelOp::CloneSender(0))),
+    Step::Do(1, Request::Thread(ThreadOp::Spawn(12, None))),
+    Step::Do(2, Request::Thread(ThreadOp::Spawn(17, None))),
+    Step::Do(0, Request::Channel(ChannelOp::Recv(0))),
     Step::Unless(0, 5, 11),
-    Step::Do(1, Op::Channel(ChannelOp::Recv(0), None)),
-    Step::Do(2, Op::Channel(ChannelOp::DropReceiver(0), None)),
+    Step::Do(1, Request::Channel(ChannelOp::Recv(0))),
+    Step::Do(2, Request::Channel(ChannelOp::DropReceiver(0))),
     FINISH,
     EXIT,
     END,
     FAIL,
-    Step::Do(0, Op::Channel(ChannelOp::Send(0, Value::Plain(5)), None)),
-    Step::Do(0, Op::Channel(ChannelOp::DropSender(0), None)),
+    Step::Do(0, Request::Channel(ChannelOp::Send(0, Value::Plain(5)))),
+    Step::Do(0, Request::Channel(ChannelOp::DropSender(0))),
     FINISH,
     EXIT,
     END,
-    Step::Do(0, Op::Channel(ChannelOp::Send(0, Value::Plain(6)), None)),
+    Step::Do(0, Request::Channel(ChannelOp::Send(0, Value::Plain(6)))),
     Step::Jump(13),
 ];
 
 /// Main asserts that a new channel is empty, and drops both ends.
 pub const TRY_RECV_EMPTY: &[Step] = &[
-    Step::Do(0, Op::Channel(ChannelOp::New, None)),
-    Step::Do(0, Op::Channel(ChannelOp::TryRecv(0), None)),
+    Step::Do(0, Request::Channel(ChannelOp::New)),
+    Step::Do(0, Request::Channel(ChannelOp::TryRecv(0))),
     Step::Unless(3, 1, 8),
-    Step::Do(0, Op::Channel(ChannelOp::DropSender(0), None)),
-    Step::Do(0, Op::Channel(ChannelOp::DropReceiver(0), None)),
+    Step::Do(0, Request::Channel(ChannelOp::DropSender(0))),
+    Step::Do(0, Request::Channel(ChannelOp::DropReceiver(0))),
     FINISH,
     EXIT,
     END,
@@ -97,14 +102,14 @@ pub const TRY_RECV_EMPTY: &[Step] = &[
 /// Main sends 1 and 2, asserts that it receives the 1, and that the receiver has the 2 alone when it is dropped (loom's
 /// `tests/mpsc.rs`).
 pub const DROP_RECEIVER: &[Step] = &[
-    Step::Do(0, Op::Channel(ChannelOp::New, None)),
-    Step::Do(0, Op::Channel(ChannelOp::Send(0, Value::Plain(1)), None)),
-    Step::Do(0, Op::Channel(ChannelOp::Send(0, Value::Plain(2)), None)),
-    Step::Do(0, Op::Channel(ChannelOp::Recv(0), None)),
+    Step::Do(0, Request::Channel(ChannelOp::New)),
+    Step::Do(0, Request::Channel(ChannelOp::Send(0, Value::Plain(1)))),
+    Step::Do(0, Request::Channel(ChannelOp::Send(0, Value::Plain(2)))),
+    Step::Do(0, Request::Channel(ChannelOp::Recv(0))),
     Step::Unless(0, 1, 11),
-    Step::Do(1, Op::Channel(ChannelOp::DropReceiver(0), None)),
+    Step::Do(1, Request::Channel(ChannelOp::DropReceiver(0))),
     Step::Unless(1, 12, 11),
-    Step::Do(0, Op::Channel(ChannelOp::DropSender(0), None)),
+    Step::Do(0, Request::Channel(ChannelOp::DropSender(0))),
     FINISH,
     EXIT,
     END,
@@ -113,8 +118,8 @@ pub const DROP_RECEIVER: &[Step] = &[
 
 /// Main sends a number, and ends.
 pub const MESSAGE_LEFT: &[Step] = &[
-    Step::Do(0, Op::Channel(ChannelOp::New, None)),
-    Step::Do(0, Op::Channel(ChannelOp::Send(0, Value::Plain(5)), None)),
+    Step::Do(0, Request::Channel(ChannelOp::New)),
+    Step::Do(0, Request::Channel(ChannelOp::Send(0, Value::Plain(5)))),
     FINISH,
     EXIT,
     END,
@@ -122,11 +127,11 @@ pub const MESSAGE_LEFT: &[Step] = &[
 
 /// Main drops the receiver, and asserts that the 5 that it sends then comes back.
 pub const SEND_LATE: &[Step] = &[
-    Step::Do(0, Op::Channel(ChannelOp::New, None)),
-    Step::Do(0, Op::Channel(ChannelOp::DropReceiver(0), None)),
-    Step::Do(0, Op::Channel(ChannelOp::Send(0, Value::Plain(5)), None)),
+    Step::Do(0, Request::Channel(ChannelOp::New)),
+    Step::Do(0, Request::Channel(ChannelOp::DropReceiver(0))),
+    Step::Do(0, Request::Channel(ChannelOp::Send(0, Value::Plain(5)))),
     Step::Unless(3, 5, 8),
-    Step::Do(0, Op::Channel(ChannelOp::DropSender(0), None)),
+    Step::Do(0, Request::Channel(ChannelOp::DropSender(0))),
     FINISH,
     EXIT,
     END,
@@ -135,20 +140,17 @@ pub const SEND_LATE: &[Step] = &[
 
 /// Main spawns a thread with a name, which sends the name, and finishes with what it receives (loom's `tests/thread_api.rs`).
 pub const NAME_SENT: &[Step] = &[
-    Step::Do(0, Op::Channel(ChannelOp::New, None)),
-    Step::Do(
-        1,
-        Op::Thread(ThreadOp::Spawn(8, Some(Name { text: "foobar" })), None),
-    ),
-    Step::Do(0, Op::Channel(ChannelOp::Recv(0), None)),
-    Step::Do(1, Op::Thread(ThreadOp::Join(1, 1), None)),
-    Step::Do(1, Op::Channel(ChannelOp::DropReceiver(0), None)),
-    Step::Do(0, Op::Thread(ThreadOp::Finish(Value::Held(0)), None)),
+    Step::Do(0, Request::Channel(ChannelOp::New)),
+    Step::Do(1, Request::Thread(ThreadOp::Spawn(8, FOOBAR))),
+    Step::Do(0, Request::Channel(ChannelOp::Recv(0))),
+    Step::Do(1, Request::Thread(ThreadOp::Join(1, 1))),
+    Step::Do(1, Request::Channel(ChannelOp::DropReceiver(0))),
+    Step::Do(0, Request::Thread(ThreadOp::Finish(Value::Held(0)))),
     EXIT,
     END,
-    Step::Do(2, Op::Thread(ThreadOp::Current, None)),
-    Step::Do(0, Op::Channel(ChannelOp::Send(0, Value::Held(2)), None)),
-    Step::Do(0, Op::Channel(ChannelOp::DropSender(0), None)),
+    Step::Do(2, Request::Thread(ThreadOp::Current)),
+    Step::Do(0, Request::Channel(ChannelOp::Send(0, Value::Held(2)))),
+    Step::Do(0, Request::Channel(ChannelOp::DropSender(0))),
     FINISH,
     EXIT,
     END,
@@ -178,7 +180,7 @@ static ENDS: [Row; 5] = [
 
 /// The rows of channels with nothing to receive or nobody who does, and of a name that is sent.
 pub fn ends() -> &'static [Row]
-    ensures { AreEndRows (map named result.now) }
+    ensures { map named result.now ≡ end_rows }
 {
     &ENDS
 }

@@ -3,23 +3,23 @@ ghost use Rattle.std.specs.Prelude.{◌≡◌, map};
 ghost use Rattle.loom_row_parts.specs.Meanings.{named};
 ghost use Rattle.loom_row_tables.specs.Names.{exploring_rows};
 
-use loom_objects::operation::{ExploreOp, MutexOp, Op, ThreadOp};
+use loom_objects::operation::{ExploreOp, MutexOp, Request, ThreadOp};
 use loom_row_parts::few_threads::LOCK_BESIDE;
 use loom_row_parts::row;
 use loom_row_parts::rows::{EXPLICIT, Row, WHOLE};
 use loom_scripts::step::{END, EXIT, Step, Value};
 
-const FINISH: Step = Step::Do(0, Op::Thread(ThreadOp::Finish(Value::Plain(7)), None));
+const FINISH: Step = Step::Do(0, Request::Thread(ThreadOp::Finish(Value::Plain(7))));
 
-const CHILD_FINISH: Step = Step::Do(0, Op::Thread(ThreadOp::Finish(Value::Plain(3)), None));
+const CHILD_FINISH: Step = Step::Do(0, Request::Thread(ThreadOp::Finish(Value::Plain(3))));
 
 /// Main stops exploring, and then locks a mutex beside a thread that does nothing but end.
 pub const STOP_EXPLORING: &[Step] = &[
-    Step::Do(0, Op::Explore(ExploreOp::StopExploring, None)),
-    Step::Do(0, Op::Mutex(MutexOp::New(Value::Plain(0)), None)),
-    Step::Do(1, Op::Thread(ThreadOp::Spawn(8, None), None)),
-    Step::Do(0, Op::Mutex(MutexOp::Lock(0), None)),
-    Step::Do(0, Op::Mutex(MutexOp::Release(0, Value::Plain(0)), None)),
+    Step::Do(0, Request::Explore(ExploreOp::StopExploring)),
+    Step::Do(0, Request::Mutex(MutexOp::New(Value::Plain(0)))),
+    Step::Do(1, Request::Thread(ThreadOp::Spawn(8, None))),
+    Step::Do(0, Request::Mutex(MutexOp::Lock(0))),
+    Step::Do(0, Request::Mutex(MutexOp::Release(0, Value::Plain(0)))),
     FINISH,
     EXIT,
     END,
@@ -30,19 +30,19 @@ pub const STOP_EXPLORING: &[Step] = &[
 
 /// Main stops exploring twice.
 pub const STOP_EXPLORING_TWICE: &[Step] = &[
-    Step::Do(0, Op::Explore(ExploreOp::StopExploring, None)),
-    Step::Do(0, Op::Explore(ExploreOp::StopExploring, None)),
+    Step::Do(0, Request::Explore(ExploreOp::StopExploring)),
+    Step::Do(0, Request::Explore(ExploreOp::StopExploring)),
 ];
 
 /// The first one, but main ends exploring for the run, which neither `explore` nor `stop_exploring` changes.
 pub const SKIP_BRANCH: &[Step] = &[
-    Step::Do(0, Op::Explore(ExploreOp::SkipBranch, None)),
-    Step::Do(0, Op::Explore(ExploreOp::Explore, None)),
-    Step::Do(0, Op::Explore(ExploreOp::StopExploring, None)),
-    Step::Do(0, Op::Mutex(MutexOp::New(Value::Plain(0)), None)),
-    Step::Do(1, Op::Thread(ThreadOp::Spawn(10, None), None)),
-    Step::Do(0, Op::Mutex(MutexOp::Lock(0), None)),
-    Step::Do(0, Op::Mutex(MutexOp::Release(0, Value::Plain(0)), None)),
+    Step::Do(0, Request::Explore(ExploreOp::SkipBranch)),
+    Step::Do(0, Request::Explore(ExploreOp::Explore)),
+    Step::Do(0, Request::Explore(ExploreOp::StopExploring)),
+    Step::Do(0, Request::Mutex(MutexOp::New(Value::Plain(0)))),
+    Step::Do(1, Request::Thread(ThreadOp::Spawn(10, None))),
+    Step::Do(0, Request::Mutex(MutexOp::Lock(0))),
+    Step::Do(0, Request::Mutex(MutexOp::Release(0, Value::Plain(0)))),
     FINISH,
     EXIT,
     END,
@@ -53,11 +53,11 @@ pub const SKIP_BRANCH: &[Step] = &[
 
 /// The first one, but main begins to explore.
 pub const EXPLORE_FIRST: &[Step] = &[
-    Step::Do(0, Op::Explore(ExploreOp::Explore, None)),
-    Step::Do(0, Op::Mutex(MutexOp::New(Value::Plain(0)), None)),
-    Step::Do(1, Op::Thread(ThreadOp::Spawn(8, None), None)),
-    Step::Do(0, Op::Mutex(MutexOp::Lock(0), None)),
-    Step::Do(0, Op::Mutex(MutexOp::Release(0, Value::Plain(0)), None)),
+    Step::Do(0, Request::Explore(ExploreOp::Explore)),
+    Step::Do(0, Request::Mutex(MutexOp::New(Value::Plain(0)))),
+    Step::Do(1, Request::Thread(ThreadOp::Spawn(8, None))),
+    Step::Do(0, Request::Mutex(MutexOp::Lock(0))),
+    Step::Do(0, Request::Mutex(MutexOp::Release(0, Value::Plain(0)))),
     FINISH,
     EXIT,
     END,

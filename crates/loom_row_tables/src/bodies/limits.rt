@@ -3,24 +3,24 @@ ghost use Rattle.std.specs.Prelude.{◌≡◌, map};
 ghost use Rattle.loom_row_parts.specs.Meanings.{named};
 ghost use Rattle.loom_row_tables.specs.Names.{limit_rows};
 
-use loom_objects::operation::{AtomicOp, LocalOp, MutexOp, Op, ThreadOp};
+use loom_objects::operation::{AtomicOp, LocalOp, MutexOp, Request, ThreadOp};
 use loom_row_parts::row;
 use loom_row_parts::rows::{LONG_RUNS, Row, THREE_NODES};
 use loom_scripts::step::{END, EXIT, Step, Value, YIELD};
 use loom_views::rt::num::Numbers;
 use std::sync::atomic::Ordering::{Relaxed, Release};
 
-const FINISH: Step = Step::Do(0, Op::Thread(ThreadOp::Finish(Value::Plain(7)), None));
+const FINISH: Step = Step::Do(0, Request::Thread(ThreadOp::Finish(Value::Plain(7))));
 
 /// Main yields without end.
 pub const SPIN_ALONE: &[Step] = &[YIELD, Step::Jump(0)];
 
 /// Main makes 65,534 fences, which is as often as a thread may use objects. It counts that in a mutex that nobody locks.
 pub const FENCES: &[Step] = &[
-    Step::Do(0, Op::Mutex(MutexOp::New(Value::Plain(0)), None)),
-    Step::Do(0, Op::Fence(Release, None)),
-    Step::Do(0, Op::Mutex(MutexOp::GetMut(0), None)),
-    Step::Do(0, Op::Mutex(MutexOp::Put(0, Value::Next(0)), None)),
+    Step::Do(0, Request::Mutex(MutexOp::New(Value::Plain(0)))),
+    Step::Do(0, Request::Fence(Release)),
+    Step::Do(0, Request::Mutex(MutexOp::GetMut(0))),
+    Step::Do(0, Request::Mutex(MutexOp::Put(0, Value::Next(0)))),
     Step::Unless(0, 65_533, 1),
     FINISH,
     EXIT,
@@ -29,10 +29,10 @@ pub const FENCES: &[Step] = &[
 
 /// The same, once more.
 pub const TOO_MANY_FENCES: &[Step] = &[
-    Step::Do(0, Op::Mutex(MutexOp::New(Value::Plain(0)), None)),
-    Step::Do(0, Op::Fence(Release, None)),
-    Step::Do(0, Op::Mutex(MutexOp::GetMut(0), None)),
-    Step::Do(0, Op::Mutex(MutexOp::Put(0, Value::Next(0)), None)),
+    Step::Do(0, Request::Mutex(MutexOp::New(Value::Plain(0)))),
+    Step::Do(0, Request::Fence(Release)),
+    Step::Do(0, Request::Mutex(MutexOp::GetMut(0))),
+    Step::Do(0, Request::Mutex(MutexOp::Put(0, Value::Next(0)))),
     Step::Unless(0, 65_534, 1),
     FINISH,
     EXIT,
@@ -42,20 +42,20 @@ pub const TOO_MANY_FENCES: &[Step] = &[
 /// Main stores 40,000 times into an atomic beside a thread that does it 25,534 times, which with the first value is as often as
 /// an atomic may be stored into. Each counts that in a mutex of its own.
 pub const MANY_STORES: &[Step] = &[
-    Step::Do(0, Op::Atomic(AtomicOp::New(Numbers::U64, 0), None)),
-    Step::Do(1, Op::Mutex(MutexOp::New(Value::Plain(0)), None)),
-    Step::Do(2, Op::Thread(ThreadOp::Spawn(10, None), None)),
-    Step::Do(0, Op::Atomic(AtomicOp::Store(0, 1, Relaxed), None)),
-    Step::Do(0, Op::Mutex(MutexOp::GetMut(1), None)),
-    Step::Do(0, Op::Mutex(MutexOp::Put(1, Value::Next(0)), None)),
+    Step::Do(0, Request::Atomic(AtomicOp::New(Numbers::U64, 0))),
+    Step::Do(1, Request::Mutex(MutexOp::New(Value::Plain(0)))),
+    Step::Do(2, Request::Thread(ThreadOp::Spawn(10, None))),
+    Step::Do(0, Request::Atomic(AtomicOp::Store(0, 1, Relaxed))),
+    Step::Do(0, Request::Mutex(MutexOp::GetMut(1))),
+    Step::Do(0, Request::Mutex(MutexOp::Put(1, Value::Next(0)))),
     Step::Unless(0, 39_999, 3),
     FINISH,
     EXIT,
     END,
-    Step::Do(1, Op::Mutex(MutexOp::New(Value::Plain(0)), None)),
-    Step::Do(0, Op::Atomic(AtomicOp::Store(0, 2, Relaxed), None)),
-    Step::Do(0, Op::Mutex(MutexOp::GetMut(1), None)),
-    Step::Do(0, Op::Mutex(MutexOp::Put(1, Value::Next(0)), None)),
+    Step::Do(1, Request::Mutex(MutexOp::New(Value::Plain(0)))),
+    Step::Do(0, Request::Atomic(AtomicOp::Store(0, 2, Relaxed))),
+    Step::Do(0, Request::Mutex(MutexOp::GetMut(1))),
+    Step::Do(0, Request::Mutex(MutexOp::Put(1, Value::Next(0)))),
     Step::Unless(0, 25_533, 11),
     FINISH,
     EXIT,
@@ -64,20 +64,20 @@ pub const MANY_STORES: &[Step] = &[
 
 /// The same, once more.
 pub const TOO_MANY_STORES: &[Step] = &[
-    Step::Do(0, Op::Atomic(AtomicOp::New(Numbers::U64, 0), None)),
-    Step::Do(1, Op::Mutex(MutexOp::New(Value::Plain(0)), None)),
-    Step::Do(2, Op::Thread(ThreadOp::Spawn(10, None), None)),
-    Step::Do(0, Op::Atomic(AtomicOp::Store(0, 1, Relaxed), None)),
-    Step::Do(0, Op::Mutex(MutexOp::GetMut(1), None)),
-    Step::Do(0, Op::Mutex(MutexOp::Put(1, Value::Next(0)), None)),
+    Step::Do(0, Request::Atomic(AtomicOp::New(Numbers::U64, 0))),
+    Step::Do(1, Request::Mutex(MutexOp::New(Value::Plain(0)))),
+    Step::Do(2, Request::Thread(ThreadOp::Spawn(10, None))),
+    Step::Do(0, Request::Atomic(AtomicOp::Store(0, 1, Relaxed))),
+    Step::Do(0, Request::Mutex(MutexOp::GetMut(1))),
+    Step::Do(0, Request::Mutex(MutexOp::Put(1, Value::Next(0)))),
     Step::Unless(0, 39_999, 3),
     FINISH,
     EXIT,
     END,
-    Step::Do(1, Op::Mutex(MutexOp::New(Value::Plain(0)), None)),
-    Step::Do(0, Op::Atomic(AtomicOp::Store(0, 2, Relaxed), None)),
-    Step::Do(0, Op::Mutex(MutexOp::GetMut(1), None)),
-    Step::Do(0, Op::Mutex(MutexOp::Put(1, Value::Next(0)), None)),
+    Step::Do(1, Request::Mutex(MutexOp::New(Value::Plain(0)))),
+    Step::Do(0, Request::Atomic(AtomicOp::Store(0, 2, Relaxed))),
+    Step::Do(0, Request::Mutex(MutexOp::GetMut(1))),
+    Step::Do(0, Request::Mutex(MutexOp::Put(1, Value::Next(0)))),
     Step::Unless(0, 25_534, 11),
     FINISH,
     EXIT,
@@ -91,18 +91,18 @@ pub const FINISH_TWICE: &[Step] = &[FINISH, FINISH];
 pub const EXIT_FIRST: &[Step] = &[EXIT];
 
 /// Main changes a value of its own that it never made.
-pub const PUT_ABSENT: &[Step] = &[Step::Do(0, Op::Local(LocalOp::Put(1, Value::Plain(5)), None))];
+pub const PUT_ABSENT: &[Step] = &[Step::Do(0, Request::Local(LocalOp::Put(1, Value::Plain(5))))];
 
 /// Main locks a mutex, which a thread locks and releases, and ends without a release.
 pub const GUARD_LEFT: &[Step] = &[
-    Step::Do(0, Op::Mutex(MutexOp::New(Value::Plain(0)), None)),
-    Step::Do(1, Op::Thread(ThreadOp::Spawn(6, None), None)),
-    Step::Do(0, Op::Mutex(MutexOp::Lock(0), None)),
+    Step::Do(0, Request::Mutex(MutexOp::New(Value::Plain(0)))),
+    Step::Do(1, Request::Thread(ThreadOp::Spawn(6, None))),
+    Step::Do(0, Request::Mutex(MutexOp::Lock(0))),
     FINISH,
     EXIT,
     END,
-    Step::Do(0, Op::Mutex(MutexOp::Lock(0), None)),
-    Step::Do(0, Op::Mutex(MutexOp::Release(0, Value::Plain(0)), None)),
+    Step::Do(0, Request::Mutex(MutexOp::Lock(0))),
+    Step::Do(0, Request::Mutex(MutexOp::Release(0, Value::Plain(0)))),
     FINISH,
     EXIT,
     END,

@@ -1,47 +1,54 @@
 //! The scripts of the rows about locks, condition variables, notifiers and threads that wait for one another.
 ghost use Rattle.std.specs.Prelude.{◌≡◌, map};
 ghost use Rattle.loom_row_parts.specs.Meanings.{named};
-ghost use Rattle.loom_row_tables.specs.Names.{AreOtherRows, condvar_rows, mutex_rows, rwlock_rows, waking_rows};
+ghost use Rattle.loom_row_tables.specs.Names.{condvar_rows, mutex_rows, other_rows, rwlock_rows, waking_rows};
 
-use loom_objects::operation::{AtomicOp, CondvarOp, MutexOp, NotifyOp, Op, RwLockOp, ThreadOp};
+use loom_objects::operation::{
+    AtomicOp, CondvarOp, MutexOp, NotifyOp, Request, RwLockOp, ThreadOp,
+};
 use loom_objects::rt::thread::Name;
+use loom_parts::text_literal;
 use loom_row_parts::row;
 use loom_row_parts::rows::{LONG_RUNS, Row};
 use loom_scripts::step::{END, EXIT, FAIL, PARK, Step, Value, YIELD};
 use loom_views::rt::num::Numbers;
 use std::sync::atomic::Ordering::Relaxed;
 
-const FINISH: Step = Step::Do(0, Op::Thread(ThreadOp::Finish(Value::Plain(7)), None));
+const FINISH: Step = Step::Do(0, Request::Thread(ThreadOp::Finish(Value::Plain(7))));
+
+const FOOBAR: Option<Name> = Some(Name {
+    text: text_literal!(b"foobar"),
+});
 
 /// Main releases a mutex that it never locked.
 pub const RELEASE_UNLOCKED: &[Step] = &[
-    Step::Do(0, Op::Mutex(MutexOp::New(Value::Plain(0)), None)),
-    Step::Do(0, Op::Mutex(MutexOp::Release(0, Value::Plain(0)), None)),
+    Step::Do(0, Request::Mutex(MutexOp::New(Value::Plain(0)))),
+    Step::Do(0, Request::Mutex(MutexOp::Release(0, Value::Plain(0)))),
 ];
 
 /// Main takes the data of a mutex out, and then locks the mutex.
 pub const LOCK_WHILE_OUT: &[Step] = &[
-    Step::Do(0, Op::Mutex(MutexOp::New(Value::Plain(0)), None)),
-    Step::Do(0, Op::Mutex(MutexOp::GetMut(0), None)),
-    Step::Do(0, Op::Mutex(MutexOp::Lock(0), None)),
+    Step::Do(0, Request::Mutex(MutexOp::New(Value::Plain(0)))),
+    Step::Do(0, Request::Mutex(MutexOp::GetMut(0))),
+    Step::Do(0, Request::Mutex(MutexOp::Lock(0))),
 ];
 
 /// Two threads each add 1 to what a mutex holds. Main joins them, takes the mutex apart, and asserts that it held 2 (loom's
 /// `tests/mutex.rs`).
 pub const MUTEX_INTO_INNER: &[Step] = &[
-    Step::Do(0, Op::Mutex(MutexOp::New(Value::Plain(0)), None)),
-    Step::Do(1, Op::Thread(ThreadOp::Spawn(11, None), None)),
-    Step::Do(2, Op::Thread(ThreadOp::Spawn(11, None), None)),
-    Step::Do(1, Op::Thread(ThreadOp::Join(1, 1), None)),
-    Step::Do(1, Op::Thread(ThreadOp::Join(2, 2), None)),
-    Step::Do(0, Op::Mutex(MutexOp::IntoInner(0), None)),
+    Step::Do(0, Request::Mutex(MutexOp::New(Value::Plain(0)))),
+    Step::Do(1, Request::Thread(ThreadOp::Spawn(11, None))),
+    Step::Do(2, Request::Thread(ThreadOp::Spawn(11, None))),
+    Step::Do(1, Request::Thread(ThreadOp::Join(1, 1))),
+    Step::Do(1, Request::Thread(ThreadOp::Join(2, 2))),
+    Step::Do(0, Request::Mutex(MutexOp::IntoInner(0))),
     Step::Unless(0, 2, 10),
-    Step::Do(0, Op::Thread(ThreadOp::Finish(Value::Held(0)), None)),
+    Step::Do(0, Request::Thread(ThreadOp::Finish(Value::Held(0)))),
     EXIT,
     END,
     FAIL,
-    Step::Do(0, Op::Mutex(MutexOp::Lock(0), None)),
-    Step::Do(0, Op::Mutex(MutexOp::Release(0, Value::Next(0)), None)),
+    Step::Do(0, Request::Mutex(MutexOp::Lock(0))),
+    Step::Do(0, Request::Mutex(MutexOp::Release(0, Value::Next(0)))),
     FINISH,
     EXIT,
     END,
@@ -49,9 +56,9 @@ pub const MUTEX_INTO_INNER: &[Step] = &[
 
 /// Main locks and releases a mutex 65,534 times, which is as often as a thread may use objects. It counts that in the mutex.
 pub const MANY_LOCKS: &[Step] = &[
-    Step::Do(0, Op::Mutex(MutexOp::New(Value::Plain(0)), None)),
-    Step::Do(0, Op::Mutex(MutexOp::Lock(0), None)),
-    Step::Do(0, Op::Mutex(MutexOp::Release(0, Value::Next(0)), None)),
+    Step::Do(0, Request::Mutex(MutexOp::New(Value::Plain(0)))),
+    Step::Do(0, Request::Mutex(MutexOp::Lock(0))),
+    Step::Do(0, Request::Mutex(MutexOp::Release(0, Value::Next(0)))),
     Step::Unless(0, 65_533, 1),
     FINISH,
     EXIT,
@@ -60,9 +67,9 @@ pub const MANY_LOCKS: &[Step] = &[
 
 /// The same, once more.
 pub const TOO_MANY_LOCKS: &[Step] = &[
-    Step::Do(0, Op::Mutex(MutexOp::New(Value::Plain(0)), None)),
-    Step::Do(0, Op::Mutex(MutexOp::Lock(0), None)),
-    Step::Do(0, Op::Mutex(MutexOp::Release(0, Value::Next(0)), None)),
+    Step::Do(0, Request::Mutex(MutexOp::New(Value::Plain(0)))),
+    Step::Do(0, Request::Mutex(MutexOp::Lock(0))),
+    Step::Do(0, Request::Mutex(MutexOp::Release(0, Value::Next(0)))),
     Step::Unless(0, 65_534, 1),
     FINISH,
     EXIT,
@@ -71,11 +78,11 @@ pub const TOO_MANY_LOCKS: &[Step] = &[
 
 /// Main takes two guards for reading of a lock, and ends both.
 pub const RWLOCK_READ_TWICE: &[Step] = &[
-    Step::Do(0, Op::RwLock(RwLockOp::New(Value::Plain(1)), None)),
-    Step::Do(0, Op::RwLock(RwLockOp::Read(0), None)),
-    Step::Do(0, Op::RwLock(RwLockOp::Read(0), None)),
-    Step::Do(0, Op::RwLock(RwLockOp::ReadRelease(0), None)),
-    Step::Do(0, Op::RwLock(RwLockOp::ReadRelease(0), None)),
+    Step::Do(0, Request::RwLock(RwLockOp::New(Value::Plain(1)))),
+    Step::Do(0, Request::RwLock(RwLockOp::Read(0))),
+    Step::Do(0, Request::RwLock(RwLockOp::Read(0))),
+    Step::Do(0, Request::RwLock(RwLockOp::ReadRelease(0))),
+    Step::Do(0, Request::RwLock(RwLockOp::ReadRelease(0))),
     FINISH,
     EXIT,
     END,
@@ -83,13 +90,13 @@ pub const RWLOCK_READ_TWICE: &[Step] = &[
 
 /// Main writes a lock, and asserts that it can't be written a second time (loom's `tests/rwlock.rs`).
 pub const RWLOCK_WRITE_THEN_TRY_WRITE: &[Step] = &[
-    Step::Do(0, Op::RwLock(RwLockOp::New(Value::Plain(1)), None)),
-    Step::Do(0, Op::RwLock(RwLockOp::Write(0), None)),
-    Step::Do(0, Op::RwLock(RwLockOp::TryWrite(0), None)),
+    Step::Do(0, Request::RwLock(RwLockOp::New(Value::Plain(1)))),
+    Step::Do(0, Request::RwLock(RwLockOp::Write(0))),
+    Step::Do(0, Request::RwLock(RwLockOp::TryWrite(0))),
     Step::Unless(3, 1, 8),
     Step::Do(
         0,
-        Op::RwLock(RwLockOp::WriteRelease(0, Value::Held(0)), None),
+        Request::RwLock(RwLockOp::WriteRelease(0, Value::Held(0))),
     ),
     FINISH,
     EXIT,
@@ -99,39 +106,39 @@ pub const RWLOCK_WRITE_THEN_TRY_WRITE: &[Step] = &[
 
 /// A thread ends a guard for reading that main has.
 pub const READ_GUARD_OF_ANOTHER: &[Step] = &[
-    Step::Do(0, Op::RwLock(RwLockOp::New(Value::Plain(0)), None)),
-    Step::Do(0, Op::RwLock(RwLockOp::Read(0), None)),
-    Step::Do(1, Op::Thread(ThreadOp::Spawn(4, None), None)),
-    Step::Do(0, Op::Thread(ThreadOp::Join(1, 1), None)),
-    Step::Do(0, Op::RwLock(RwLockOp::ReadRelease(0), None)),
+    Step::Do(0, Request::RwLock(RwLockOp::New(Value::Plain(0)))),
+    Step::Do(0, Request::RwLock(RwLockOp::Read(0))),
+    Step::Do(1, Request::Thread(ThreadOp::Spawn(4, None))),
+    Step::Do(0, Request::Thread(ThreadOp::Join(1, 1))),
+    Step::Do(0, Request::RwLock(RwLockOp::ReadRelease(0))),
 ];
 
 /// Main writes a lock, and stores 1 into an atomic before it leaves 1 in the lock. Two threads read both under the lock, and assert
 /// that both are 0 or both 1.
 pub const RWLOCK_WRITER_AND_READERS: &[Step] = &[
-    Step::Do(0, Op::RwLock(RwLockOp::New(Value::Plain(0)), None)),
-    Step::Do(1, Op::Atomic(AtomicOp::New(Numbers::U64, 0), None)),
-    Step::Do(2, Op::Thread(ThreadOp::Spawn(11, None), None)),
-    Step::Do(3, Op::Thread(ThreadOp::Spawn(11, None), None)),
-    Step::Do(0, Op::RwLock(RwLockOp::Write(0), None)),
-    Step::Do(0, Op::Atomic(AtomicOp::Store(1, 1, Relaxed), None)),
+    Step::Do(0, Request::RwLock(RwLockOp::New(Value::Plain(0)))),
+    Step::Do(1, Request::Atomic(AtomicOp::New(Numbers::U64, 0))),
+    Step::Do(2, Request::Thread(ThreadOp::Spawn(11, None))),
+    Step::Do(3, Request::Thread(ThreadOp::Spawn(11, None))),
+    Step::Do(0, Request::RwLock(RwLockOp::Write(0))),
+    Step::Do(0, Request::Atomic(AtomicOp::Store(1, 1, Relaxed))),
     Step::Do(
         0,
-        Op::RwLock(RwLockOp::WriteRelease(0, Value::Plain(1)), None),
+        Request::RwLock(RwLockOp::WriteRelease(0, Value::Plain(1))),
     ),
     FINISH,
     EXIT,
     END,
     FAIL,
-    Step::Do(0, Op::RwLock(RwLockOp::Read(0), None)),
-    Step::Do(1, Op::Atomic(AtomicOp::Load(1, Relaxed), None)),
+    Step::Do(0, Request::RwLock(RwLockOp::Read(0))),
+    Step::Do(1, Request::Atomic(AtomicOp::Load(1, Relaxed))),
     Step::Unless(1, 1, 19),
-    Step::Do(2, Op::RwLock(RwLockOp::ReadRelease(0), None)),
+    Step::Do(2, Request::RwLock(RwLockOp::ReadRelease(0))),
     Step::Unless(0, 1, 10),
     FINISH,
     EXIT,
     END,
-    Step::Do(2, Op::RwLock(RwLockOp::ReadRelease(0), None)),
+    Step::Do(2, Request::RwLock(RwLockOp::ReadRelease(0))),
     Step::Unless(0, 0, 10),
     FINISH,
     EXIT,
@@ -140,40 +147,40 @@ pub const RWLOCK_WRITER_AND_READERS: &[Step] = &[
 
 /// Main waits on a condition variable that nobody notifies.
 pub const CONDVAR_ALONE: &[Step] = &[
-    Step::Do(0, Op::Mutex(MutexOp::New(Value::Plain(0)), None)),
-    Step::Do(1, Op::Condvar(CondvarOp::New, None)),
-    Step::Do(0, Op::Mutex(MutexOp::Lock(0), None)),
-    Step::Do(0, Op::Condvar(CondvarOp::Wait(1, 0, Value::Plain(0)), None)),
+    Step::Do(0, Request::Mutex(MutexOp::New(Value::Plain(0)))),
+    Step::Do(1, Request::Condvar(CondvarOp::New)),
+    Step::Do(0, Request::Mutex(MutexOp::Lock(0))),
+    Step::Do(0, Request::Condvar(CondvarOp::Wait(1, 0, Value::Plain(0)))),
 ];
 
 /// The same, where main has a token: that is for `park` alone.
 pub const CONDVAR_WITH_TOKEN: &[Step] = &[
-    Step::Do(0, Op::Thread(ThreadOp::Current, None)),
-    Step::Do(0, Op::Thread(ThreadOp::Unpark(0), None)),
-    Step::Do(1, Op::Mutex(MutexOp::New(Value::Plain(0)), None)),
-    Step::Do(2, Op::Condvar(CondvarOp::New, None)),
-    Step::Do(0, Op::Mutex(MutexOp::Lock(1), None)),
-    Step::Do(0, Op::Condvar(CondvarOp::Wait(2, 1, Value::Plain(0)), None)),
+    Step::Do(0, Request::Thread(ThreadOp::Current)),
+    Step::Do(0, Request::Thread(ThreadOp::Unpark(0))),
+    Step::Do(1, Request::Mutex(MutexOp::New(Value::Plain(0)))),
+    Step::Do(2, Request::Condvar(CondvarOp::New)),
+    Step::Do(0, Request::Mutex(MutexOp::Lock(1))),
+    Step::Do(0, Request::Condvar(CondvarOp::Wait(2, 1, Value::Plain(0)))),
 ];
 
 /// A thread leaves 7 in a mutex and notifies. Main waits for that unless the 7 is there, and asserts that it finds it.
 pub const CONDVAR_HANDS_OVER: &[Step] = &[
-    Step::Do(0, Op::Mutex(MutexOp::New(Value::Plain(0)), None)),
-    Step::Do(1, Op::Condvar(CondvarOp::New, None)),
-    Step::Do(2, Op::Thread(ThreadOp::Spawn(13, None), None)),
-    Step::Do(0, Op::Mutex(MutexOp::Lock(0), None)),
+    Step::Do(0, Request::Mutex(MutexOp::New(Value::Plain(0)))),
+    Step::Do(1, Request::Condvar(CondvarOp::New)),
+    Step::Do(2, Request::Thread(ThreadOp::Spawn(13, None))),
+    Step::Do(0, Request::Mutex(MutexOp::Lock(0))),
     Step::Unless(0, 0, 6),
-    Step::Do(0, Op::Condvar(CondvarOp::Wait(1, 0, Value::Plain(0)), None)),
-    Step::Do(1, Op::Mutex(MutexOp::Release(0, Value::Held(0)), None)),
-    Step::Do(1, Op::Thread(ThreadOp::Join(2, 2), None)),
+    Step::Do(0, Request::Condvar(CondvarOp::Wait(1, 0, Value::Plain(0)))),
+    Step::Do(1, Request::Mutex(MutexOp::Release(0, Value::Held(0)))),
+    Step::Do(1, Request::Thread(ThreadOp::Join(2, 2))),
     Step::Unless(0, 7, 12),
-    Step::Do(0, Op::Thread(ThreadOp::Finish(Value::Held(0)), None)),
+    Step::Do(0, Request::Thread(ThreadOp::Finish(Value::Held(0)))),
     EXIT,
     END,
     FAIL,
-    Step::Do(0, Op::Mutex(MutexOp::Lock(0), None)),
-    Step::Do(0, Op::Mutex(MutexOp::Release(0, Value::Plain(7)), None)),
-    Step::Do(0, Op::Condvar(CondvarOp::NotifyOne(1), None)),
+    Step::Do(0, Request::Mutex(MutexOp::Lock(0))),
+    Step::Do(0, Request::Mutex(MutexOp::Release(0, Value::Plain(7)))),
+    Step::Do(0, Request::Condvar(CondvarOp::NotifyOne(1))),
     FINISH,
     EXIT,
     END,
@@ -182,22 +189,22 @@ pub const CONDVAR_HANDS_OVER: &[Step] = &[
 /// Main and a thread wait on a condition variable, unless they find 7 in the mutex. Another thread leaves that there and
 /// notifies both. Each asserts that it finds the 7.
 pub const NOTIFY_ALL: &[Step] = &[
-    Step::Do(0, Op::Mutex(MutexOp::New(Value::Plain(0)), None)),
-    Step::Do(1, Op::Condvar(CondvarOp::New, None)),
-    Step::Do(2, Op::Thread(ThreadOp::Spawn(4, None), None)),
-    Step::Do(3, Op::Thread(ThreadOp::Spawn(13, None), None)),
-    Step::Do(0, Op::Mutex(MutexOp::Lock(0), None)),
+    Step::Do(0, Request::Mutex(MutexOp::New(Value::Plain(0)))),
+    Step::Do(1, Request::Condvar(CondvarOp::New)),
+    Step::Do(2, Request::Thread(ThreadOp::Spawn(4, None))),
+    Step::Do(3, Request::Thread(ThreadOp::Spawn(13, None))),
+    Step::Do(0, Request::Mutex(MutexOp::Lock(0))),
     Step::Unless(0, 0, 7),
-    Step::Do(0, Op::Condvar(CondvarOp::Wait(1, 0, Value::Plain(0)), None)),
-    Step::Do(1, Op::Mutex(MutexOp::Release(0, Value::Held(0)), None)),
+    Step::Do(0, Request::Condvar(CondvarOp::Wait(1, 0, Value::Plain(0)))),
+    Step::Do(1, Request::Mutex(MutexOp::Release(0, Value::Held(0)))),
     Step::Unless(0, 7, 12),
-    Step::Do(0, Op::Thread(ThreadOp::Finish(Value::Held(0)), None)),
+    Step::Do(0, Request::Thread(ThreadOp::Finish(Value::Held(0)))),
     EXIT,
     END,
     FAIL,
-    Step::Do(0, Op::Mutex(MutexOp::Lock(0), None)),
-    Step::Do(0, Op::Mutex(MutexOp::Release(0, Value::Plain(7)), None)),
-    Step::Do(0, Op::Condvar(CondvarOp::NotifyAll(1), None)),
+    Step::Do(0, Request::Mutex(MutexOp::Lock(0))),
+    Step::Do(0, Request::Mutex(MutexOp::Release(0, Value::Plain(7)))),
+    Step::Do(0, Request::Condvar(CondvarOp::NotifyAll(1))),
     FINISH,
     EXIT,
     END,
@@ -205,9 +212,9 @@ pub const NOTIFY_ALL: &[Step] = &[
 
 /// Main notifies its own notifier, and then waits on it.
 pub const NOTIFY_WAIT: &[Step] = &[
-    Step::Do(0, Op::Notify(NotifyOp::New, None)),
-    Step::Do(0, Op::Notify(NotifyOp::Notify(0), None)),
-    Step::Do(0, Op::Notify(NotifyOp::Wait(0), None)),
+    Step::Do(0, Request::Notify(NotifyOp::New)),
+    Step::Do(0, Request::Notify(NotifyOp::Notify(0))),
+    Step::Do(0, Request::Notify(NotifyOp::Wait(0))),
     FINISH,
     EXIT,
     END,
@@ -215,16 +222,16 @@ pub const NOTIFY_WAIT: &[Step] = &[
 
 /// Main and a thread wait on one notifier.
 pub const SECOND_WAITER: &[Step] = &[
-    Step::Do(0, Op::Notify(NotifyOp::New, None)),
-    Step::Do(1, Op::Thread(ThreadOp::Spawn(3, None), None)),
-    Step::Do(0, Op::Notify(NotifyOp::Wait(0), None)),
-    Step::Do(0, Op::Notify(NotifyOp::Wait(0), None)),
+    Step::Do(0, Request::Notify(NotifyOp::New)),
+    Step::Do(1, Request::Thread(ThreadOp::Spawn(3, None))),
+    Step::Do(0, Request::Notify(NotifyOp::Wait(0))),
+    Step::Do(0, Request::Notify(NotifyOp::Wait(0))),
 ];
 
 /// Main gives itself a token, and then parks.
 pub const UNPARK_THEN_PARK: &[Step] = &[
-    Step::Do(0, Op::Thread(ThreadOp::Current, None)),
-    Step::Do(0, Op::Thread(ThreadOp::Unpark(0), None)),
+    Step::Do(0, Request::Thread(ThreadOp::Current)),
+    Step::Do(0, Request::Thread(ThreadOp::Unpark(0))),
     PARK,
     FINISH,
     EXIT,
@@ -236,19 +243,19 @@ pub const PARK_ALONE: &[Step] = &[PARK];
 
 /// Main parks, before or after a thread unparks it, which stored 7 into an atomic first. Main asserts that it loads the 7 then.
 pub const UNPARK_WAKES: &[Step] = &[
-    Step::Do(0, Op::Atomic(AtomicOp::New(Numbers::U64, 0), None)),
-    Step::Do(1, Op::Thread(ThreadOp::Current, None)),
-    Step::Do(2, Op::Thread(ThreadOp::Spawn(11, None), None)),
-    Step::Do(1, Op::Atomic(AtomicOp::Load(0, Relaxed), None)),
+    Step::Do(0, Request::Atomic(AtomicOp::New(Numbers::U64, 0))),
+    Step::Do(1, Request::Thread(ThreadOp::Current)),
+    Step::Do(2, Request::Thread(ThreadOp::Spawn(11, None))),
+    Step::Do(1, Request::Atomic(AtomicOp::Load(0, Relaxed))),
     PARK,
-    Step::Do(0, Op::Atomic(AtomicOp::Load(0, Relaxed), None)),
+    Step::Do(0, Request::Atomic(AtomicOp::Load(0, Relaxed))),
     Step::Unless(0, 7, 10),
-    Step::Do(0, Op::Thread(ThreadOp::Finish(Value::Held(0)), None)),
+    Step::Do(0, Request::Thread(ThreadOp::Finish(Value::Held(0)))),
     EXIT,
     END,
     FAIL,
-    Step::Do(0, Op::Atomic(AtomicOp::Store(0, 7, Relaxed), None)),
-    Step::Do(0, Op::Thread(ThreadOp::Unpark(1), None)),
+    Step::Do(0, Request::Atomic(AtomicOp::Store(0, 7, Relaxed))),
+    Step::Do(0, Request::Thread(ThreadOp::Unpark(1))),
     FINISH,
     EXIT,
     END,
@@ -256,7 +263,7 @@ pub const UNPARK_WAKES: &[Step] = &[
 
 /// Main yields beside a thread that does nothing but end.
 pub const YIELD_BESIDE: &[Step] = &[
-    Step::Do(0, Op::Thread(ThreadOp::Spawn(5, None), None)),
+    Step::Do(0, Request::Thread(ThreadOp::Spawn(5, None))),
     YIELD,
     FINISH,
     EXIT,
@@ -268,21 +275,18 @@ pub const YIELD_BESIDE: &[Step] = &[
 
 /// Main spawns a thread with a name, which asks who it is.
 pub const NAMED_CHILD: &[Step] = &[
-    Step::Do(
-        0,
-        Op::Thread(ThreadOp::Spawn(4, Some(Name { text: "foobar" })), None),
-    ),
+    Step::Do(0, Request::Thread(ThreadOp::Spawn(4, FOOBAR))),
     FINISH,
     EXIT,
     END,
-    Step::Do(0, Op::Thread(ThreadOp::Current, None)),
+    Step::Do(0, Request::Thread(ThreadOp::Current)),
     FINISH,
     EXIT,
     END,
 ];
 
 /// Main comes to code that is never to be reached.
-pub const UNREACHABLE: &[Step] = &[Step::Do(0, Op::Unreachable(None))];
+pub const UNREACHABLE: &[Step] = &[Step::Do(0, Request::Unreachable)];
 
 static MUTEXES: [Row; 5] = [
     row!("release_unlocked", RELEASE_UNLOCKED),
@@ -350,7 +354,7 @@ static OTHERS: [Row; 3] = [
 
 /// The rows of a yield, of a thread with a name, and of code that is never reached.
 pub fn others() -> &'static [Row]
-    ensures { AreOtherRows (map named result.now) }
+    ensures { map named result.now ≡ other_rows }
 {
     &OTHERS
 }

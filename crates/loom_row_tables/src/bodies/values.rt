@@ -3,22 +3,22 @@ ghost use Rattle.std.specs.Prelude.{◌≡◌, map};
 ghost use Rattle.loom_row_parts.specs.Meanings.{named};
 ghost use Rattle.loom_row_tables.specs.Names.{value_rows};
 
-use loom_objects::operation::{LazyOp, LocalOp, Op, ThreadOp};
+use loom_objects::operation::{LazyOp, LocalOp, Request, ThreadOp};
 use loom_row_parts::row;
 use loom_row_parts::rows::Row;
 use loom_scripts::step::{END, EXIT, FAIL, Step, Value};
 
-const FINISH: Step = Step::Do(0, Op::Thread(ThreadOp::Finish(Value::Plain(7)), None));
+const FINISH: Step = Step::Do(0, Request::Thread(ThreadOp::Finish(Value::Plain(7))));
 
 /// Main asserts that a value isn't made yet, that it is 5 once it is made so, and that it is given back with its key.
 pub const LAZY_ONCE: &[Step] = &[
-    Step::Do(0, Op::Lazy(LazyOp::Get(1), None)),
+    Step::Do(0, Request::Lazy(LazyOp::Get(1))),
     Step::Unless(3, 1, 10),
-    Step::Do(0, Op::Lazy(LazyOp::Init(1, Value::Plain(5)), None)),
+    Step::Do(0, Request::Lazy(LazyOp::Init(1, Value::Plain(5)))),
     Step::Unless(0, 5, 10),
-    Step::Do(1, Op::Lazy(LazyOp::Get(1), None)),
+    Step::Do(1, Request::Lazy(LazyOp::Get(1))),
     Step::Unless(1, 5, 10),
-    Step::Do(2, Op::Thread(ThreadOp::Finish(Value::Held(1)), None)),
+    Step::Do(2, Request::Thread(ThreadOp::Finish(Value::Held(1)))),
     Step::Unless(2, 115, 10),
     EXIT,
     END,
@@ -27,11 +27,11 @@ pub const LAZY_ONCE: &[Step] = &[
 
 /// A thread that main doesn't join asks for a value that is made once (loom's `tests/atomic.rs`).
 pub const LAZY_LATE: &[Step] = &[
-    Step::Do(0, Op::Thread(ThreadOp::Spawn(4, None), None)),
+    Step::Do(0, Request::Thread(ThreadOp::Spawn(4, None))),
     FINISH,
     EXIT,
     END,
-    Step::Do(0, Op::Lazy(LazyOp::Get(1), None)),
+    Step::Do(0, Request::Lazy(LazyOp::Get(1))),
     FINISH,
     EXIT,
     END,
@@ -39,24 +39,24 @@ pub const LAZY_LATE: &[Step] = &[
 
 /// Main makes two values of one key.
 pub const LOCAL_TWICE: &[Step] = &[
-    Step::Do(0, Op::Local(LocalOp::Init(1, Value::Plain(5)), None)),
-    Step::Do(0, Op::Local(LocalOp::Init(1, Value::Plain(6)), None)),
+    Step::Do(0, Request::Local(LocalOp::Init(1, Value::Plain(5)))),
+    Step::Do(0, Request::Local(LocalOp::Init(1, Value::Plain(6)))),
 ];
 
 /// Main asks for a value that it gave back.
 pub const LOCAL_GONE: &[Step] = &[
-    Step::Do(0, Op::Local(LocalOp::Init(1, Value::Plain(5)), None)),
+    Step::Do(0, Request::Local(LocalOp::Init(1, Value::Plain(5)))),
     FINISH,
     EXIT,
-    Step::Do(0, Op::Local(LocalOp::With(1), None)),
+    Step::Do(0, Request::Local(LocalOp::With(1))),
 ];
 
 /// The same by the call that may fail, and main asserts that it does.
 pub const LOCAL_ACCESS_ERROR: &[Step] = &[
-    Step::Do(0, Op::Local(LocalOp::Init(1, Value::Plain(5)), None)),
+    Step::Do(0, Request::Local(LocalOp::Init(1, Value::Plain(5)))),
     FINISH,
     EXIT,
-    Step::Do(0, Op::Local(LocalOp::TryWith(1), None)),
+    Step::Do(0, Request::Local(LocalOp::TryWith(1))),
     Step::Unless(3, 2, 6),
     END,
     FAIL,
@@ -64,8 +64,8 @@ pub const LOCAL_ACCESS_ERROR: &[Step] = &[
 
 /// Main makes a value of key 2 and then one of key 1, and asserts that it has them back in this order.
 pub const LOCAL_ORDER: &[Step] = &[
-    Step::Do(0, Op::Local(LocalOp::Init(2, Value::Plain(5)), None)),
-    Step::Do(0, Op::Local(LocalOp::Init(1, Value::Plain(6)), None)),
+    Step::Do(0, Request::Local(LocalOp::Init(2, Value::Plain(5)))),
+    Step::Do(0, Request::Local(LocalOp::Init(1, Value::Plain(6)))),
     FINISH,
     EXIT,
     Step::Unless(0, 12_516, 6),

@@ -1,7 +1,7 @@
 //! Bodies that aren't rows, for what rows leave out: main is the one thread, and mostly spawns the other.
 use loom::sync::atomic::Ordering::{AcqRel, Acquire, Relaxed, Release, SeqCst};
 use loom_objects::operation::{
-    ArcOp, AtomicOp, CellOp, CondvarOp, Exchange, MutexOp, NotifyOp, Op, RwLockOp, ThreadOp,
+    ArcOp, AtomicOp, CellOp, CondvarOp, Exchange, MutexOp, NotifyOp, Request, RwLockOp, ThreadOp,
     TrackOp,
 };
 use loom_row_bodies::rows::{Checked, DEFAULTS, Row};
@@ -9,31 +9,31 @@ use loom_scripts::step::{END, EXIT, Step, Value, YIELD};
 use loom_views::rt::change::Change::Add;
 use loom_views::rt::num::Numbers;
 
-const FINISH: Step = Step::Do(0, Op::Thread(ThreadOp::Finish(Value::Held(0)), None));
+const FINISH: Step = Step::Do(0, Request::Thread(ThreadOp::Finish(Value::Held(0))));
 
-const NEW: Step = Step::Do(0, Op::Atomic(AtomicOp::New(Numbers::U64, 0), None));
+const NEW: Step = Step::Do(0, Request::Atomic(AtomicOp::New(Numbers::U64, 0)));
 
-const NEW_CELL: Step = Step::Do(1, Op::Cell(CellOp::New(Value::Plain(0)), None));
+const NEW_CELL: Step = Step::Do(1, Request::Cell(CellOp::New(Value::Plain(0))));
 
-const GET: Step = Step::Do(0, Op::Cell(CellOp::Get(1), None));
+const GET: Step = Step::Do(0, Request::Cell(CellOp::Get(1)));
 
-const REPLACE: Step = Step::Do(0, Op::Cell(CellOp::Replace(1, Value::Plain(3)), None));
+const REPLACE: Step = Step::Do(0, Request::Cell(CellOp::Replace(1, Value::Plain(3))));
 
 /// A thread writes a cell and hands it on by fences: main reads it where it loads the flag, behind a fence.
 const FENCES_HAND_ON: &[Step] = &[
     NEW,
     NEW_CELL,
-    Step::Do(2, Op::Thread(ThreadOp::Spawn(10, None), None)),
-    Step::Do(0, Op::Atomic(AtomicOp::Load(0, Relaxed), None)),
+    Step::Do(2, Request::Thread(ThreadOp::Spawn(10, None))),
+    Step::Do(0, Request::Atomic(AtomicOp::Load(0, Relaxed))),
     Step::Unless(0, 1, 7),
-    Step::Do(0, Op::Fence(Acquire, None)),
+    Step::Do(0, Request::Fence(Acquire)),
     GET,
     FINISH,
     EXIT,
     END,
     REPLACE,
-    Step::Do(0, Op::Fence(Release, None)),
-    Step::Do(0, Op::Atomic(AtomicOp::Store(0, 1, Relaxed), None)),
+    Step::Do(0, Request::Fence(Release)),
+    Step::Do(0, Request::Atomic(AtomicOp::Store(0, 1, Relaxed))),
     Step::Jump(7),
 ];
 
@@ -41,16 +41,16 @@ const FENCES_HAND_ON: &[Step] = &[
 const UPDATES_PASS_ON: &[Step] = &[
     NEW,
     NEW_CELL,
-    Step::Do(2, Op::Thread(ThreadOp::Spawn(10, None), None)),
-    Step::Do(1, Op::Atomic(AtomicOp::Update(0, Add(1), Relaxed), None)),
-    Step::Do(0, Op::Atomic(AtomicOp::Load(0, Acquire), None)),
+    Step::Do(2, Request::Thread(ThreadOp::Spawn(10, None))),
+    Step::Do(1, Request::Atomic(AtomicOp::Update(0, Add(1), Relaxed))),
+    Step::Do(0, Request::Atomic(AtomicOp::Load(0, Acquire))),
     Step::Unless(0, 2, 7),
     GET,
     FINISH,
     EXIT,
     END,
     REPLACE,
-    Step::Do(0, Op::Atomic(AtomicOp::Store(0, 1, Release), None)),
+    Step::Do(0, Request::Atomic(AtomicOp::Store(0, 1, Release))),
     Step::Jump(7),
 ];
 
@@ -58,15 +58,15 @@ const UPDATES_PASS_ON: &[Step] = &[
 const FAILING_ACQUIRES: &[Step] = &[
     NEW,
     NEW_CELL,
-    Step::Do(2, Op::Thread(ThreadOp::Spawn(9, None), None)),
-    Step::Do(0, Op::Atomic(AtomicOp::CompareExchange(0, FIVE), None)),
+    Step::Do(2, Request::Thread(ThreadOp::Spawn(9, None))),
+    Step::Do(0, Request::Atomic(AtomicOp::CompareExchange(0, FIVE))),
     Step::Unless(3, 1, 6),
     GET,
     FINISH,
     EXIT,
     END,
     REPLACE,
-    Step::Do(0, Op::Atomic(AtomicOp::Store(0, 1, Release), None)),
+    Step::Do(0, Request::Atomic(AtomicOp::Store(0, 1, Release))),
     Step::Jump(6),
 ];
 
@@ -80,209 +80,209 @@ const FIVE: Exchange = Exchange {
 /// Main yields between two loads, beside two stores.
 const YIELD_BETWEEN_LOADS: &[Step] = &[
     NEW,
-    Step::Do(1, Op::Thread(ThreadOp::Spawn(8, None), None)),
-    Step::Do(1, Op::Atomic(AtomicOp::Load(0, Relaxed), None)),
+    Step::Do(1, Request::Thread(ThreadOp::Spawn(8, None))),
+    Step::Do(1, Request::Atomic(AtomicOp::Load(0, Relaxed))),
     YIELD,
-    Step::Do(0, Op::Atomic(AtomicOp::Load(0, Relaxed), None)),
+    Step::Do(0, Request::Atomic(AtomicOp::Load(0, Relaxed))),
     FINISH,
     EXIT,
     END,
-    Step::Do(0, Op::Atomic(AtomicOp::Store(0, 1, Relaxed), None)),
-    Step::Do(0, Op::Atomic(AtomicOp::Store(0, 2, Relaxed), None)),
+    Step::Do(0, Request::Atomic(AtomicOp::Store(0, 1, Relaxed))),
+    Step::Do(0, Request::Atomic(AtomicOp::Store(0, 2, Relaxed))),
     Step::Jump(5),
 ];
 
 /// Two threads each store and load, all sequentially consistent.
 const SEQ_CST_BUFFERING: &[Step] = &[
     NEW,
-    Step::Do(1, Op::Atomic(AtomicOp::New(Numbers::U64, 0), None)),
-    Step::Do(2, Op::Thread(ThreadOp::Spawn(10, None), None)),
-    Step::Do(0, Op::Atomic(AtomicOp::Store(1, 1, SeqCst), None)),
-    Step::Do(1, Op::Atomic(AtomicOp::Load(0, SeqCst), None)),
-    Step::Do(0, Op::Thread(ThreadOp::Join(2, 2), None)),
-    Step::Do(0, Op::Thread(ThreadOp::Finish(Value::Both(0, 1)), None)),
+    Step::Do(1, Request::Atomic(AtomicOp::New(Numbers::U64, 0))),
+    Step::Do(2, Request::Thread(ThreadOp::Spawn(10, None))),
+    Step::Do(0, Request::Atomic(AtomicOp::Store(1, 1, SeqCst))),
+    Step::Do(1, Request::Atomic(AtomicOp::Load(0, SeqCst))),
+    Step::Do(0, Request::Thread(ThreadOp::Join(2, 2))),
+    Step::Do(0, Request::Thread(ThreadOp::Finish(Value::Both(0, 1)))),
     FINISH,
     EXIT,
     END,
-    Step::Do(0, Op::Atomic(AtomicOp::Store(0, 1, SeqCst), None)),
-    Step::Do(0, Op::Atomic(AtomicOp::Load(1, SeqCst), None)),
+    Step::Do(0, Request::Atomic(AtomicOp::Store(0, 1, SeqCst))),
+    Step::Do(0, Request::Atomic(AtomicOp::Load(1, SeqCst))),
     Step::Jump(7),
 ];
 
 /// Main loads twice beside a thread that stores eight times, so that slots are used again.
 const STORES_WRAP: &[Step] = &[
     NEW,
-    Step::Do(1, Op::Thread(ThreadOp::Spawn(6, None), None)),
-    Step::Do(0, Op::Atomic(AtomicOp::Load(0, Relaxed), None)),
+    Step::Do(1, Request::Thread(ThreadOp::Spawn(6, None))),
+    Step::Do(0, Request::Atomic(AtomicOp::Load(0, Relaxed))),
     FINISH,
     EXIT,
     END,
-    Step::Do(0, Op::Atomic(AtomicOp::Store(0, 1, Relaxed), None)),
-    Step::Do(0, Op::Atomic(AtomicOp::Store(0, 2, Relaxed), None)),
-    Step::Do(0, Op::Atomic(AtomicOp::Store(0, 3, Relaxed), None)),
-    Step::Do(0, Op::Atomic(AtomicOp::Store(0, 4, Relaxed), None)),
-    Step::Do(0, Op::Atomic(AtomicOp::Store(0, 5, Relaxed), None)),
-    Step::Do(0, Op::Atomic(AtomicOp::Store(0, 6, Relaxed), None)),
-    Step::Do(0, Op::Atomic(AtomicOp::Store(0, 7, Relaxed), None)),
-    Step::Do(0, Op::Atomic(AtomicOp::Store(0, 8, Relaxed), None)),
+    Step::Do(0, Request::Atomic(AtomicOp::Store(0, 1, Relaxed))),
+    Step::Do(0, Request::Atomic(AtomicOp::Store(0, 2, Relaxed))),
+    Step::Do(0, Request::Atomic(AtomicOp::Store(0, 3, Relaxed))),
+    Step::Do(0, Request::Atomic(AtomicOp::Store(0, 4, Relaxed))),
+    Step::Do(0, Request::Atomic(AtomicOp::Store(0, 5, Relaxed))),
+    Step::Do(0, Request::Atomic(AtomicOp::Store(0, 6, Relaxed))),
+    Step::Do(0, Request::Atomic(AtomicOp::Store(0, 7, Relaxed))),
+    Step::Do(0, Request::Atomic(AtomicOp::Store(0, 8, Relaxed))),
     Step::Jump(3),
 ];
 
 /// Two threads swap where they find 0. Main joins the other, opens a mutation and ends it, and takes the atomic apart.
 const SWAPS_THEN_MUTATION: &[Step] = &[
     NEW,
-    Step::Do(1, Op::Thread(ThreadOp::Spawn(10, None), None)),
+    Step::Do(1, Request::Thread(ThreadOp::Spawn(10, None))),
     Step::Do(
         1,
-        Op::Atomic(AtomicOp::CompareAndSwap(0, 0, 1, AcqRel), None),
+        Request::Atomic(AtomicOp::CompareAndSwap(0, 0, 1, AcqRel)),
     ),
-    Step::Do(1, Op::Thread(ThreadOp::Join(1, 1), None)),
-    Step::Do(1, Op::Atomic(AtomicOp::WithMut(0), None)),
-    Step::Do(0, Op::Atomic(AtomicOp::WithMutEnd(0, 9), None)),
-    Step::Do(0, Op::Atomic(AtomicOp::IntoInner(0), None)),
+    Step::Do(1, Request::Thread(ThreadOp::Join(1, 1))),
+    Step::Do(1, Request::Atomic(AtomicOp::WithMut(0))),
+    Step::Do(0, Request::Atomic(AtomicOp::WithMutEnd(0, 9))),
+    Step::Do(0, Request::Atomic(AtomicOp::IntoInner(0))),
     FINISH,
     EXIT,
     END,
     Step::Do(
         0,
-        Op::Atomic(AtomicOp::CompareAndSwap(0, 0, 2, Relaxed), None),
+        Request::Atomic(AtomicOp::CompareAndSwap(0, 0, 2, Relaxed)),
     ),
     Step::Jump(7),
 ];
 
 /// Main tries a mutex that the other thread locks, and takes it apart in the end.
 const TRIES_LOCK: &[Step] = &[
-    Step::Do(0, Op::Mutex(MutexOp::New(Value::Plain(0)), None)),
-    Step::Do(1, Op::Thread(ThreadOp::Spawn(11, None), None)),
-    Step::Do(0, Op::Mutex(MutexOp::TryLock(0), None)),
+    Step::Do(0, Request::Mutex(MutexOp::New(Value::Plain(0)))),
+    Step::Do(1, Request::Thread(ThreadOp::Spawn(11, None))),
+    Step::Do(0, Request::Mutex(MutexOp::TryLock(0))),
     Step::Unless(3, 0, 5),
-    Step::Do(0, Op::Mutex(MutexOp::Release(0, Value::Next(0)), None)),
-    Step::Do(1, Op::Thread(ThreadOp::Join(1, 1), None)),
-    Step::Do(0, Op::Mutex(MutexOp::GetMut(0), None)),
-    Step::Do(0, Op::Mutex(MutexOp::Put(0, Value::Held(0)), None)),
+    Step::Do(0, Request::Mutex(MutexOp::Release(0, Value::Next(0)))),
+    Step::Do(1, Request::Thread(ThreadOp::Join(1, 1))),
+    Step::Do(0, Request::Mutex(MutexOp::GetMut(0))),
+    Step::Do(0, Request::Mutex(MutexOp::Put(0, Value::Held(0)))),
     FINISH,
     EXIT,
     END,
-    Step::Do(0, Op::Mutex(MutexOp::Lock(0), None)),
-    Step::Do(0, Op::Mutex(MutexOp::Release(0, Value::Next(0)), None)),
+    Step::Do(0, Request::Mutex(MutexOp::Lock(0))),
+    Step::Do(0, Request::Mutex(MutexOp::Release(0, Value::Next(0)))),
     Step::Jump(8),
 ];
 
 /// Main reads a lock that the other thread tries to write, and takes the lock apart in the end.
 const TRIES_WRITE: &[Step] = &[
-    Step::Do(0, Op::RwLock(RwLockOp::New(Value::Plain(0)), None)),
-    Step::Do(1, Op::Thread(ThreadOp::Spawn(10, None), None)),
-    Step::Do(0, Op::RwLock(RwLockOp::Read(0), None)),
+    Step::Do(0, Request::RwLock(RwLockOp::New(Value::Plain(0)))),
+    Step::Do(1, Request::Thread(ThreadOp::Spawn(10, None))),
+    Step::Do(0, Request::RwLock(RwLockOp::Read(0))),
     YIELD,
-    Step::Do(0, Op::RwLock(RwLockOp::ReadRelease(0), None)),
-    Step::Do(1, Op::Thread(ThreadOp::Join(1, 1), None)),
-    Step::Do(0, Op::RwLock(RwLockOp::IntoInner(0), None)),
+    Step::Do(0, Request::RwLock(RwLockOp::ReadRelease(0))),
+    Step::Do(1, Request::Thread(ThreadOp::Join(1, 1))),
+    Step::Do(0, Request::RwLock(RwLockOp::IntoInner(0))),
     FINISH,
     EXIT,
     END,
-    Step::Do(0, Op::RwLock(RwLockOp::TryWrite(0), None)),
+    Step::Do(0, Request::RwLock(RwLockOp::TryWrite(0))),
     Step::Unless(3, 0, 7),
     Step::Do(
         0,
-        Op::RwLock(RwLockOp::WriteRelease(0, Value::Plain(4)), None),
+        Request::RwLock(RwLockOp::WriteRelease(0, Value::Plain(4))),
     ),
     Step::Jump(7),
 ];
 
 /// Main writes a lock that the other thread tries to read.
 const TRIES_READ: &[Step] = &[
-    Step::Do(0, Op::RwLock(RwLockOp::New(Value::Plain(0)), None)),
-    Step::Do(1, Op::Thread(ThreadOp::Spawn(8, None), None)),
-    Step::Do(0, Op::RwLock(RwLockOp::Write(0), None)),
+    Step::Do(0, Request::RwLock(RwLockOp::New(Value::Plain(0)))),
+    Step::Do(1, Request::Thread(ThreadOp::Spawn(8, None))),
+    Step::Do(0, Request::RwLock(RwLockOp::Write(0))),
     YIELD,
     Step::Do(
         0,
-        Op::RwLock(RwLockOp::WriteRelease(0, Value::Plain(5)), None),
+        Request::RwLock(RwLockOp::WriteRelease(0, Value::Plain(5))),
     ),
     FINISH,
     EXIT,
     END,
-    Step::Do(0, Op::RwLock(RwLockOp::TryRead(0), None)),
+    Step::Do(0, Request::RwLock(RwLockOp::TryRead(0))),
     Step::Unless(3, 0, 5),
-    Step::Do(0, Op::RwLock(RwLockOp::ReadRelease(0), None)),
+    Step::Do(0, Request::RwLock(RwLockOp::ReadRelease(0))),
     Step::Jump(5),
 ];
 
 /// Main waits for a notification with a time, by which a thread hands over a cell that it wrote under the mutex.
 const WAITS_WITH_TIME: &[Step] = &[
-    Step::Do(0, Op::Mutex(MutexOp::New(Value::Plain(0)), None)),
+    Step::Do(0, Request::Mutex(MutexOp::New(Value::Plain(0)))),
     NEW_CELL,
-    Step::Do(2, Op::Condvar(CondvarOp::New, None)),
-    Step::Do(0, Op::Mutex(MutexOp::Lock(0), None)),
-    Step::Do(3, Op::Thread(ThreadOp::Spawn(11, None), None)),
+    Step::Do(2, Request::Condvar(CondvarOp::New)),
+    Step::Do(0, Request::Mutex(MutexOp::Lock(0))),
+    Step::Do(3, Request::Thread(ThreadOp::Spawn(11, None))),
     Step::Do(
         0,
-        Op::Condvar(CondvarOp::WaitTimeout(2, 0, Value::Plain(1)), None),
+        Request::Condvar(CondvarOp::WaitTimeout(2, 0, Value::Plain(1))),
     ),
     GET,
-    Step::Do(1, Op::Mutex(MutexOp::Release(0, Value::Plain(0)), None)),
+    Step::Do(1, Request::Mutex(MutexOp::Release(0, Value::Plain(0)))),
     FINISH,
     EXIT,
     END,
-    Step::Do(0, Op::Mutex(MutexOp::Lock(0), None)),
+    Step::Do(0, Request::Mutex(MutexOp::Lock(0))),
     REPLACE,
-    Step::Do(0, Op::Mutex(MutexOp::Release(0, Value::Plain(0)), None)),
-    Step::Do(0, Op::Condvar(CondvarOp::NotifyAll(2), None)),
+    Step::Do(0, Request::Mutex(MutexOp::Release(0, Value::Plain(0)))),
+    Step::Do(0, Request::Condvar(CondvarOp::NotifyAll(2))),
     Step::Jump(8),
 ];
 
 /// Main waits on a notifier, by which a thread hands over a cell. Where it wakes without a notification it is a race.
 const NOTIFIER_HANDS_ON: &[Step] = &[
-    Step::Do(0, Op::Notify(NotifyOp::New, None)),
+    Step::Do(0, Request::Notify(NotifyOp::New)),
     NEW_CELL,
-    Step::Do(2, Op::Thread(ThreadOp::Spawn(8, None), None)),
-    Step::Do(0, Op::Notify(NotifyOp::Wait(0), None)),
+    Step::Do(2, Request::Thread(ThreadOp::Spawn(8, None))),
+    Step::Do(0, Request::Notify(NotifyOp::Wait(0))),
     GET,
     FINISH,
     EXIT,
     END,
     REPLACE,
-    Step::Do(0, Op::Notify(NotifyOp::Notify(0), None)),
+    Step::Do(0, Request::Notify(NotifyOp::Notify(0))),
     Step::Jump(5),
 ];
 
 /// Main waits on a notifier beside a thread that notifies it.
 const WAKES_EARLY: &[Step] = &[
-    Step::Do(0, Op::Notify(NotifyOp::New, None)),
-    Step::Do(1, Op::Thread(ThreadOp::Spawn(6, None), None)),
-    Step::Do(0, Op::Notify(NotifyOp::Wait(0), None)),
+    Step::Do(0, Request::Notify(NotifyOp::New)),
+    Step::Do(1, Request::Thread(ThreadOp::Spawn(6, None))),
+    Step::Do(0, Request::Notify(NotifyOp::Wait(0))),
     FINISH,
     EXIT,
     END,
-    Step::Do(0, Op::Notify(NotifyOp::Notify(0), None)),
+    Step::Do(0, Request::Notify(NotifyOp::Notify(0))),
     Step::Jump(3),
 ];
 
 /// Two threads share a counted reference. Main takes the value apart if it is alone, and else out for a moment, and drops it.
 const SHARED_COUNT: &[Step] = &[
-    Step::Do(0, Op::Arc(ArcOp::New(Value::Plain(8)), None)),
-    Step::Do(0, Op::Arc(ArcOp::Clone(0), None)),
-    Step::Do(1, Op::Thread(ThreadOp::Spawn(12, None), None)),
-    Step::Do(0, Op::Arc(ArcOp::TryUnwrap(0), None)),
+    Step::Do(0, Request::Arc(ArcOp::New(Value::Plain(8)))),
+    Step::Do(0, Request::Arc(ArcOp::Clone(0))),
+    Step::Do(1, Request::Thread(ThreadOp::Spawn(12, None))),
+    Step::Do(0, Request::Arc(ArcOp::TryUnwrap(0))),
     Step::Unless(3, 1, 9),
-    Step::Do(1, Op::Arc(ArcOp::GetMut(0), None)),
+    Step::Do(1, Request::Arc(ArcOp::GetMut(0))),
     Step::Unless(1, 8, 8),
-    Step::Do(0, Op::Arc(ArcOp::Put(0, Value::Plain(6)), None)),
-    Step::Do(0, Op::Arc(ArcOp::Drop(0), None)),
+    Step::Do(0, Request::Arc(ArcOp::Put(0, Value::Plain(6)))),
+    Step::Do(0, Request::Arc(ArcOp::Drop(0))),
     FINISH,
     EXIT,
     END,
-    Step::Do(0, Op::Arc(ArcOp::Drop(0), None)),
+    Step::Do(0, Request::Arc(ArcOp::Drop(0))),
     Step::Jump(9),
 ];
 
 /// Main looks at a tracked value and takes it out and back, before it gives the value back.
 const TRACKED: &[Step] = &[
-    Step::Do(0, Op::Track(TrackOp::New(Value::Plain(2)), None)),
-    Step::Do(0, Op::Track(TrackOp::GetRef(0), None)),
-    Step::Do(0, Op::Track(TrackOp::GetMut(0), None)),
-    Step::Do(0, Op::Track(TrackOp::Put(0, Value::Next(0)), None)),
-    Step::Do(0, Op::Track(TrackOp::IntoInner(0), None)),
+    Step::Do(0, Request::Track(TrackOp::New(Value::Plain(2)))),
+    Step::Do(0, Request::Track(TrackOp::GetRef(0))),
+    Step::Do(0, Request::Track(TrackOp::GetMut(0))),
+    Step::Do(0, Request::Track(TrackOp::Put(0, Value::Next(0)))),
+    Step::Do(0, Request::Track(TrackOp::IntoInner(0))),
     FINISH,
     EXIT,
     END,

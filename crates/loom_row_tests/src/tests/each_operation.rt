@@ -1,9 +1,10 @@
 //! Scripts that between them make every operation: with memory enough none fails for want of it.
 use super::finding::{Case, Shows, find};
 use loom::sync::atomic::Ordering::{AcqRel, Release, SeqCst};
+use loom::text_literal;
 use loom_objects::operation::{
     ArcOp, AtomicOp, AtomicWakerOp, CellOp, ChannelOp, CondvarOp, Exchange, ExploreOp, LazyOp,
-    LocalOp, MutexOp, NotifyOp, Op, RwLockOp, ThreadOp, TrackOp, WakerOp,
+    LocalOp, MutexOp, NotifyOp, Request, RwLockOp, ThreadOp, TrackOp, WakerOp,
 };
 use loom_objects::rt::thread::Name;
 use loom_row_bodies::rows::{Checked, DEFAULTS, Row};
@@ -11,7 +12,11 @@ use loom_scripts::step::{END, EXIT, PARK, Step, Value, YIELD};
 use loom_views::rt::change::Change::{Add, And, Max, Min, Nand, Or, Sub, Swap, Xor};
 use loom_views::rt::num::Numbers;
 
-const FINISH: Step = Step::Do(0, Op::Thread(ThreadOp::Finish(Value::Plain(7)), None));
+const FINISH: Step = Step::Do(0, Request::Thread(ThreadOp::Finish(Value::Plain(7))));
+
+const CHILD: Option<Name> = Some(Name {
+    text: text_literal!(b"child"),
+});
 
 const FIVE: Value = Value::Plain(5);
 
@@ -24,7 +29,7 @@ const SAME: Exchange = Exchange {
 
 macro_rules! atomic {
     ($op:expr) => {
-        Step::Do(0, Op::Atomic($op, None))
+        Step::Do(0, Request::Atomic($op))
     };
 }
 
@@ -35,14 +40,14 @@ macro_rules! update {
 }
 
 const ATOMICS: &[Step] = &[
-    Step::Do(0, Op::Atomic(AtomicOp::New(Numbers::U8, 1), None)),
-    Step::Do(0, Op::Fence(SeqCst, None)),
-    Step::Do(0, Op::Atomic(AtomicOp::Load(0, SeqCst), None)),
-    Step::Do(0, Op::Atomic(AtomicOp::Store(0, 1, Release), None)),
-    Step::Do(0, Op::Atomic(AtomicOp::CompareExchange(0, SAME), None)),
+    Step::Do(0, Request::Atomic(AtomicOp::New(Numbers::U8, 1))),
+    Step::Do(0, Request::Fence(SeqCst)),
+    Step::Do(0, Request::Atomic(AtomicOp::Load(0, SeqCst))),
+    Step::Do(0, Request::Atomic(AtomicOp::Store(0, 1, Release))),
+    Step::Do(0, Request::Atomic(AtomicOp::CompareExchange(0, SAME))),
     Step::Do(
         0,
-        Op::Atomic(AtomicOp::CompareAndSwap(0, 2, 1, AcqRel), None),
+        Request::Atomic(AtomicOp::CompareAndSwap(0, 2, 1, AcqRel)),
     ),
     update!(Swap(1)),
     update!(Add(1)),
@@ -63,152 +68,149 @@ const ATOMICS: &[Step] = &[
 ];
 
 const CELLS: &[Step] = &[
-    Step::Do(0, Op::Cell(CellOp::New(FIVE), None)),
-    Step::Do(1, Op::Cell(CellOp::New(FIVE), None)),
-    Step::Do(0, Op::Cell(CellOp::Read(0), None)),
-    Step::Do(0, Op::Cell(CellOp::Deref(0), None)),
-    Step::Do(0, Op::Cell(CellOp::ReadEnd(0), None)),
-    Step::Do(0, Op::Cell(CellOp::Write(0), None)),
-    Step::Do(0, Op::Cell(CellOp::WriteEnd(0, FIVE), None)),
-    Step::Do(0, Op::Cell(CellOp::Get(0), None)),
-    Step::Do(0, Op::Cell(CellOp::Replace(0, FIVE), None)),
-    Step::Do(0, Op::Cell(CellOp::Swap(0, 1), None)),
-    Step::Do(0, Op::Cell(CellOp::IntoInner(0), None)),
+    Step::Do(0, Request::Cell(CellOp::New(FIVE))),
+    Step::Do(1, Request::Cell(CellOp::New(FIVE))),
+    Step::Do(0, Request::Cell(CellOp::Read(0))),
+    Step::Do(0, Request::Cell(CellOp::Deref(0))),
+    Step::Do(0, Request::Cell(CellOp::ReadEnd(0))),
+    Step::Do(0, Request::Cell(CellOp::Write(0))),
+    Step::Do(0, Request::Cell(CellOp::WriteEnd(0, FIVE))),
+    Step::Do(0, Request::Cell(CellOp::Get(0))),
+    Step::Do(0, Request::Cell(CellOp::Replace(0, FIVE))),
+    Step::Do(0, Request::Cell(CellOp::Swap(0, 1))),
+    Step::Do(0, Request::Cell(CellOp::IntoInner(0))),
     FINISH,
     EXIT,
     END,
 ];
 
 const COUNTS: &[Step] = &[
-    Step::Do(0, Op::Arc(ArcOp::New(FIVE), None)),
-    Step::Do(0, Op::Arc(ArcOp::Clone(0), None)),
-    Step::Do(0, Op::Arc(ArcOp::StrongCount(0), None)),
-    Step::Do(0, Op::Arc(ArcOp::Drop(0), None)),
-    Step::Do(0, Op::Arc(ArcOp::Get(0), None)),
-    Step::Do(0, Op::Arc(ArcOp::GetMut(0), None)),
-    Step::Do(0, Op::Arc(ArcOp::Put(0, FIVE), None)),
-    Step::Do(0, Op::Arc(ArcOp::TryUnwrap(0), None)),
-    Step::Do(1, Op::Track(TrackOp::New(FIVE), None)),
-    Step::Do(0, Op::Track(TrackOp::GetRef(1), None)),
-    Step::Do(0, Op::Track(TrackOp::GetMut(1), None)),
-    Step::Do(0, Op::Track(TrackOp::Put(1, FIVE), None)),
-    Step::Do(0, Op::Track(TrackOp::IntoInner(1), None)),
-    Step::Do(1, Op::Track(TrackOp::New(FIVE), None)),
-    Step::Do(0, Op::Track(TrackOp::Drop(1), None)),
+    Step::Do(0, Request::Arc(ArcOp::New(FIVE))),
+    Step::Do(0, Request::Arc(ArcOp::Clone(0))),
+    Step::Do(0, Request::Arc(ArcOp::StrongCount(0))),
+    Step::Do(0, Request::Arc(ArcOp::Drop(0))),
+    Step::Do(0, Request::Arc(ArcOp::Get(0))),
+    Step::Do(0, Request::Arc(ArcOp::GetMut(0))),
+    Step::Do(0, Request::Arc(ArcOp::Put(0, FIVE))),
+    Step::Do(0, Request::Arc(ArcOp::TryUnwrap(0))),
+    Step::Do(1, Request::Track(TrackOp::New(FIVE))),
+    Step::Do(0, Request::Track(TrackOp::GetRef(1))),
+    Step::Do(0, Request::Track(TrackOp::GetMut(1))),
+    Step::Do(0, Request::Track(TrackOp::Put(1, FIVE))),
+    Step::Do(0, Request::Track(TrackOp::IntoInner(1))),
+    Step::Do(1, Request::Track(TrackOp::New(FIVE))),
+    Step::Do(0, Request::Track(TrackOp::Drop(1))),
     FINISH,
     EXIT,
     END,
 ];
 
 const LOCKS: &[Step] = &[
-    Step::Do(0, Op::Mutex(MutexOp::New(FIVE), None)),
-    Step::Do(0, Op::Mutex(MutexOp::Lock(0), None)),
-    Step::Do(0, Op::Mutex(MutexOp::TryLock(0), None)),
-    Step::Do(0, Op::Mutex(MutexOp::Release(0, FIVE), None)),
-    Step::Do(0, Op::Mutex(MutexOp::GetMut(0), None)),
-    Step::Do(0, Op::Mutex(MutexOp::Put(0, FIVE), None)),
-    Step::Do(0, Op::Mutex(MutexOp::IntoInner(0), None)),
-    Step::Do(1, Op::RwLock(RwLockOp::New(FIVE), None)),
-    Step::Do(0, Op::RwLock(RwLockOp::Read(1), None)),
-    Step::Do(0, Op::RwLock(RwLockOp::TryRead(1), None)),
-    Step::Do(0, Op::RwLock(RwLockOp::ReadRelease(1), None)),
-    Step::Do(0, Op::RwLock(RwLockOp::ReadRelease(1), None)),
-    Step::Do(0, Op::RwLock(RwLockOp::Write(1), None)),
-    Step::Do(0, Op::RwLock(RwLockOp::TryWrite(1), None)),
-    Step::Do(0, Op::RwLock(RwLockOp::WriteRelease(1, FIVE), None)),
-    Step::Do(0, Op::RwLock(RwLockOp::GetMut(1), None)),
-    Step::Do(0, Op::RwLock(RwLockOp::Put(1, FIVE), None)),
-    Step::Do(0, Op::RwLock(RwLockOp::IntoInner(1), None)),
+    Step::Do(0, Request::Mutex(MutexOp::New(FIVE))),
+    Step::Do(0, Request::Mutex(MutexOp::Lock(0))),
+    Step::Do(0, Request::Mutex(MutexOp::TryLock(0))),
+    Step::Do(0, Request::Mutex(MutexOp::Release(0, FIVE))),
+    Step::Do(0, Request::Mutex(MutexOp::GetMut(0))),
+    Step::Do(0, Request::Mutex(MutexOp::Put(0, FIVE))),
+    Step::Do(0, Request::Mutex(MutexOp::IntoInner(0))),
+    Step::Do(1, Request::RwLock(RwLockOp::New(FIVE))),
+    Step::Do(0, Request::RwLock(RwLockOp::Read(1))),
+    Step::Do(0, Request::RwLock(RwLockOp::TryRead(1))),
+    Step::Do(0, Request::RwLock(RwLockOp::ReadRelease(1))),
+    Step::Do(0, Request::RwLock(RwLockOp::ReadRelease(1))),
+    Step::Do(0, Request::RwLock(RwLockOp::Write(1))),
+    Step::Do(0, Request::RwLock(RwLockOp::TryWrite(1))),
+    Step::Do(0, Request::RwLock(RwLockOp::WriteRelease(1, FIVE))),
+    Step::Do(0, Request::RwLock(RwLockOp::GetMut(1))),
+    Step::Do(0, Request::RwLock(RwLockOp::Put(1, FIVE))),
+    Step::Do(0, Request::RwLock(RwLockOp::IntoInner(1))),
     FINISH,
     EXIT,
     END,
 ];
 
 const WAITS: &[Step] = &[
-    Step::Do(0, Op::Mutex(MutexOp::New(FIVE), None)),
-    Step::Do(1, Op::Condvar(CondvarOp::New, None)),
-    Step::Do(0, Op::Mutex(MutexOp::Lock(0), None)),
-    Step::Do(2, Op::Thread(ThreadOp::Spawn(14, None), None)),
-    Step::Do(0, Op::Condvar(CondvarOp::Wait(1, 0, FIVE), None)),
-    Step::Do(3, Op::Thread(ThreadOp::Spawn(18, None), None)),
-    Step::Do(0, Op::Condvar(CondvarOp::WaitTimeout(1, 0, FIVE), None)),
-    Step::Do(0, Op::Mutex(MutexOp::Release(0, FIVE), None)),
-    Step::Do(4, Op::Notify(NotifyOp::New, None)),
-    Step::Do(0, Op::Notify(NotifyOp::Notify(4), None)),
-    Step::Do(0, Op::Notify(NotifyOp::Wait(4), None)),
+    Step::Do(0, Request::Mutex(MutexOp::New(FIVE))),
+    Step::Do(1, Request::Condvar(CondvarOp::New)),
+    Step::Do(0, Request::Mutex(MutexOp::Lock(0))),
+    Step::Do(2, Request::Thread(ThreadOp::Spawn(14, None))),
+    Step::Do(0, Request::Condvar(CondvarOp::Wait(1, 0, FIVE))),
+    Step::Do(3, Request::Thread(ThreadOp::Spawn(18, None))),
+    Step::Do(0, Request::Condvar(CondvarOp::WaitTimeout(1, 0, FIVE))),
+    Step::Do(0, Request::Mutex(MutexOp::Release(0, FIVE))),
+    Step::Do(4, Request::Notify(NotifyOp::New)),
+    Step::Do(0, Request::Notify(NotifyOp::Notify(4))),
+    Step::Do(0, Request::Notify(NotifyOp::Wait(4))),
     FINISH,
     EXIT,
     END,
-    Step::Do(0, Op::Mutex(MutexOp::Lock(0), None)),
-    Step::Do(0, Op::Mutex(MutexOp::Release(0, FIVE), None)),
-    Step::Do(0, Op::Condvar(CondvarOp::NotifyOne(1), None)),
+    Step::Do(0, Request::Mutex(MutexOp::Lock(0))),
+    Step::Do(0, Request::Mutex(MutexOp::Release(0, FIVE))),
+    Step::Do(0, Request::Condvar(CondvarOp::NotifyOne(1))),
     Step::Jump(11),
-    Step::Do(0, Op::Mutex(MutexOp::Lock(0), None)),
-    Step::Do(0, Op::Mutex(MutexOp::Release(0, FIVE), None)),
-    Step::Do(0, Op::Condvar(CondvarOp::NotifyAll(1), None)),
+    Step::Do(0, Request::Mutex(MutexOp::Lock(0))),
+    Step::Do(0, Request::Mutex(MutexOp::Release(0, FIVE))),
+    Step::Do(0, Request::Condvar(CondvarOp::NotifyAll(1))),
     Step::Jump(11),
 ];
 
 const CHANNELS: &[Step] = &[
-    Step::Do(0, Op::Channel(ChannelOp::New, None)),
-    Step::Do(0, Op::Channel(ChannelOp::CloneSender(0), None)),
-    Step::Do(0, Op::Channel(ChannelOp::Send(0, FIVE), None)),
-    Step::Do(0, Op::Channel(ChannelOp::Send(0, FIVE), None)),
-    Step::Do(0, Op::Channel(ChannelOp::Recv(0), None)),
-    Step::Do(0, Op::Channel(ChannelOp::TryRecv(0), None)),
-    Step::Do(0, Op::Channel(ChannelOp::DropSender(0), None)),
-    Step::Do(0, Op::Channel(ChannelOp::DropSender(0), None)),
-    Step::Do(0, Op::Channel(ChannelOp::DropReceiver(0), None)),
+    Step::Do(0, Request::Channel(ChannelOp::New)),
+    Step::Do(0, Request::Channel(ChannelOp::CloneSender(0))),
+    Step::Do(0, Request::Channel(ChannelOp::Send(0, FIVE))),
+    Step::Do(0, Request::Channel(ChannelOp::Send(0, FIVE))),
+    Step::Do(0, Request::Channel(ChannelOp::Recv(0))),
+    Step::Do(0, Request::Channel(ChannelOp::TryRecv(0))),
+    Step::Do(0, Request::Channel(ChannelOp::DropSender(0))),
+    Step::Do(0, Request::Channel(ChannelOp::DropSender(0))),
+    Step::Do(0, Request::Channel(ChannelOp::DropReceiver(0))),
     FINISH,
     EXIT,
     END,
 ];
 
 const WAKERS: &[Step] = &[
-    Step::Do(0, Op::AtomicWaker(AtomicWakerOp::New, None)),
-    Step::Do(1, Op::Waker(WakerOp::New, None)),
-    Step::Do(0, Op::Waker(WakerOp::Clone(1), None)),
-    Step::Do(0, Op::AtomicWaker(AtomicWakerOp::Register(0, 1), None)),
-    Step::Do(0, Op::AtomicWaker(AtomicWakerOp::RegisterByRef(0, 1), None)),
-    Step::Do(2, Op::AtomicWaker(AtomicWakerOp::TakeWaker(0), None)),
-    Step::Do(0, Op::Waker(WakerOp::Drop(2), None)),
-    Step::Do(0, Op::AtomicWaker(AtomicWakerOp::RegisterByRef(0, 1), None)),
-    Step::Do(0, Op::AtomicWaker(AtomicWakerOp::Wake(0), None)),
-    Step::Do(0, Op::Waker(WakerOp::WakeByRef(1), None)),
-    Step::Do(0, Op::Waker(WakerOp::Clone(1), None)),
-    Step::Do(0, Op::Waker(WakerOp::Wake(1), None)),
-    Step::Do(0, Op::Waker(WakerOp::Wait(1), None)),
-    Step::Do(2, Op::AtomicWaker(AtomicWakerOp::Drop(0), None)),
-    Step::Do(0, Op::Waker(WakerOp::Finish(1), None)),
+    Step::Do(0, Request::AtomicWaker(AtomicWakerOp::New)),
+    Step::Do(1, Request::Waker(WakerOp::New)),
+    Step::Do(0, Request::Waker(WakerOp::Clone(1))),
+    Step::Do(0, Request::AtomicWaker(AtomicWakerOp::Register(0, 1))),
+    Step::Do(0, Request::AtomicWaker(AtomicWakerOp::RegisterByRef(0, 1))),
+    Step::Do(2, Request::AtomicWaker(AtomicWakerOp::TakeWaker(0))),
+    Step::Do(0, Request::Waker(WakerOp::Drop(2))),
+    Step::Do(0, Request::AtomicWaker(AtomicWakerOp::RegisterByRef(0, 1))),
+    Step::Do(0, Request::AtomicWaker(AtomicWakerOp::Wake(0))),
+    Step::Do(0, Request::Waker(WakerOp::WakeByRef(1))),
+    Step::Do(0, Request::Waker(WakerOp::Clone(1))),
+    Step::Do(0, Request::Waker(WakerOp::Wake(1))),
+    Step::Do(0, Request::Waker(WakerOp::Wait(1))),
+    Step::Do(2, Request::AtomicWaker(AtomicWakerOp::Drop(0))),
+    Step::Do(0, Request::Waker(WakerOp::Finish(1))),
     FINISH,
     EXIT,
     END,
 ];
 
 const VALUES: &[Step] = &[
-    Step::Do(0, Op::Local(LocalOp::Init(1, FIVE), None)),
-    Step::Do(0, Op::Local(LocalOp::With(1), None)),
-    Step::Do(0, Op::Local(LocalOp::TryWith(1), None)),
-    Step::Do(0, Op::Local(LocalOp::Put(1, FIVE), None)),
-    Step::Do(0, Op::Lazy(LazyOp::Get(1), None)),
-    Step::Do(0, Op::Lazy(LazyOp::Init(1, FIVE), None)),
-    Step::Do(0, Op::Explore(ExploreOp::StopExploring, None)),
-    Step::Do(0, Op::Explore(ExploreOp::Explore, None)),
-    Step::Do(0, Op::Explore(ExploreOp::SkipBranch, None)),
+    Step::Do(0, Request::Local(LocalOp::Init(1, FIVE))),
+    Step::Do(0, Request::Local(LocalOp::With(1))),
+    Step::Do(0, Request::Local(LocalOp::TryWith(1))),
+    Step::Do(0, Request::Local(LocalOp::Put(1, FIVE))),
+    Step::Do(0, Request::Lazy(LazyOp::Get(1))),
+    Step::Do(0, Request::Lazy(LazyOp::Init(1, FIVE))),
+    Step::Do(0, Request::Explore(ExploreOp::StopExploring)),
+    Step::Do(0, Request::Explore(ExploreOp::Explore)),
+    Step::Do(0, Request::Explore(ExploreOp::SkipBranch)),
     FINISH,
     EXIT,
     END,
 ];
 
 const THREADS: &[Step] = &[
-    Step::Do(0, Op::Thread(ThreadOp::Current, None)),
-    Step::Do(0, Op::Thread(ThreadOp::Unpark(0), None)),
+    Step::Do(0, Request::Thread(ThreadOp::Current)),
+    Step::Do(0, Request::Thread(ThreadOp::Unpark(0))),
     PARK,
-    Step::Do(
-        1,
-        Op::Thread(ThreadOp::Spawn(6, Some(Name { text: "child" })), None),
-    ),
-    Step::Do(0, Op::Thread(ThreadOp::Join(1, 1), None)),
+    Step::Do(1, Request::Thread(ThreadOp::Spawn(6, CHILD))),
+    Step::Do(0, Request::Thread(ThreadOp::Join(1, 1))),
     YIELD,
     FINISH,
     EXIT,

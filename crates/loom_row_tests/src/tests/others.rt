@@ -1,7 +1,7 @@
 //! Bodies of other tests that aren't rows: runs as large as they may be, and misuse.
 use loom::sync::atomic::Ordering::Relaxed;
 use loom_objects::operation::{
-    AtomicOp, CellOp, ChannelOp, MutexOp, NotifyOp, Op, RwLockOp, ThreadOp,
+    AtomicOp, CellOp, ChannelOp, MutexOp, NotifyOp, Request, RwLockOp, ThreadOp,
 };
 use loom_row_bodies::bodies::atomics::ACQ_REL;
 use loom_row_bodies::bodies::limits::MANY_STORES;
@@ -10,27 +10,27 @@ use loom_scripts::step::{END, EXIT, FAIL, Step, Value};
 use loom_views::rt::change::Change::Add;
 use loom_views::rt::num::Numbers;
 
-const FINISH: Step = Step::Do(0, Op::Thread(ThreadOp::Finish(Value::Plain(7)), None));
+const FINISH: Step = Step::Do(0, Request::Thread(ThreadOp::Finish(Value::Plain(7))));
 
 // Main and three threads each spawn the next thread. The first three of these join it, so the last thread runs beside the
 // ends of the others alone.
 const FIVE_THREADS: &[Step] = &[
-    Step::Do(0, Op::Thread(ThreadOp::Spawn(5, None), None)),
-    Step::Do(0, Op::Thread(ThreadOp::Join(0, 0), None)),
+    Step::Do(0, Request::Thread(ThreadOp::Spawn(5, None))),
+    Step::Do(0, Request::Thread(ThreadOp::Join(0, 0))),
     FINISH,
     EXIT,
     END,
-    Step::Do(0, Op::Thread(ThreadOp::Spawn(10, None), None)),
-    Step::Do(0, Op::Thread(ThreadOp::Join(0, 0), None)),
+    Step::Do(0, Request::Thread(ThreadOp::Spawn(10, None))),
+    Step::Do(0, Request::Thread(ThreadOp::Join(0, 0))),
     FINISH,
     EXIT,
     END,
-    Step::Do(0, Op::Thread(ThreadOp::Spawn(15, None), None)),
-    Step::Do(0, Op::Thread(ThreadOp::Join(0, 0), None)),
+    Step::Do(0, Request::Thread(ThreadOp::Spawn(15, None))),
+    Step::Do(0, Request::Thread(ThreadOp::Join(0, 0))),
     FINISH,
     EXIT,
     END,
-    Step::Do(0, Op::Thread(ThreadOp::Spawn(19, None), None)),
+    Step::Do(0, Request::Thread(ThreadOp::Spawn(19, None))),
     FINISH,
     EXIT,
     END,
@@ -41,14 +41,14 @@ const FIVE_THREADS: &[Step] = &[
 
 // Main takes three guards for reading of a lock, and ends them.
 const READ_THREE_TIMES: &[Step] = &[
-    Step::Do(0, Op::RwLock(RwLockOp::New(Value::Plain(1)), None)),
-    Step::Do(0, Op::RwLock(RwLockOp::Read(0), None)),
-    Step::Do(0, Op::RwLock(RwLockOp::Read(0), None)),
-    Step::Do(1, Op::RwLock(RwLockOp::Read(0), None)),
-    Step::Do(0, Op::RwLock(RwLockOp::ReadRelease(0), None)),
-    Step::Do(0, Op::RwLock(RwLockOp::ReadRelease(0), None)),
-    Step::Do(0, Op::RwLock(RwLockOp::ReadRelease(0), None)),
-    Step::Do(0, Op::Thread(ThreadOp::Finish(Value::Held(1)), None)),
+    Step::Do(0, Request::RwLock(RwLockOp::New(Value::Plain(1)))),
+    Step::Do(0, Request::RwLock(RwLockOp::Read(0))),
+    Step::Do(0, Request::RwLock(RwLockOp::Read(0))),
+    Step::Do(1, Request::RwLock(RwLockOp::Read(0))),
+    Step::Do(0, Request::RwLock(RwLockOp::ReadRelease(0))),
+    Step::Do(0, Request::RwLock(RwLockOp::ReadRelease(0))),
+    Step::Do(0, Request::RwLock(RwLockOp::ReadRelease(0))),
+    Step::Do(0, Request::Thread(ThreadOp::Finish(Value::Held(1)))),
     EXIT,
     END,
 ];
@@ -56,67 +56,67 @@ const READ_THREE_TIMES: &[Step] = &[
 // Main adds 1 to a number 498 times, which is 996 nodes. Then it notifies its own notifier and waits on it, which is three
 // nodes, and the last node is that it has ended.
 const THOUSAND_NODES: &[Step] = &[
-    Step::Do(0, Op::Atomic(AtomicOp::New(Numbers::U64, 0), None)),
-    Step::Do(1, Op::Notify(NotifyOp::New, None)),
-    Step::Do(0, Op::Atomic(AtomicOp::Update(0, Add(1), Relaxed), None)),
+    Step::Do(0, Request::Atomic(AtomicOp::New(Numbers::U64, 0))),
+    Step::Do(1, Request::Notify(NotifyOp::New)),
+    Step::Do(0, Request::Atomic(AtomicOp::Update(0, Add(1), Relaxed))),
     Step::Unless(0, 497, 2),
-    Step::Do(1, Op::Notify(NotifyOp::Notify(1), None)),
-    Step::Do(1, Op::Notify(NotifyOp::Wait(1), None)),
-    Step::Do(0, Op::Thread(ThreadOp::Finish(Value::Held(0)), None)),
+    Step::Do(1, Request::Notify(NotifyOp::Notify(1))),
+    Step::Do(1, Request::Notify(NotifyOp::Wait(1))),
+    Step::Do(0, Request::Thread(ThreadOp::Finish(Value::Held(0)))),
     EXIT,
     END,
 ];
 
 // Main spawns five threads, which is one too many.
 const FIVE_SPAWNS: &[Step] = &[
-    Step::Do(0, Op::Thread(ThreadOp::Spawn(5, None), None)),
-    Step::Do(0, Op::Thread(ThreadOp::Spawn(5, None), None)),
-    Step::Do(0, Op::Thread(ThreadOp::Spawn(5, None), None)),
-    Step::Do(0, Op::Thread(ThreadOp::Spawn(5, None), None)),
-    Step::Do(0, Op::Thread(ThreadOp::Spawn(5, None), None)),
+    Step::Do(0, Request::Thread(ThreadOp::Spawn(5, None))),
+    Step::Do(0, Request::Thread(ThreadOp::Spawn(5, None))),
+    Step::Do(0, Request::Thread(ThreadOp::Spawn(5, None))),
+    Step::Do(0, Request::Thread(ThreadOp::Spawn(5, None))),
+    Step::Do(0, Request::Thread(ThreadOp::Spawn(5, None))),
 ];
 
 // Main joins a thread twice.
 const JOIN_TWICE: &[Step] = &[
-    Step::Do(0, Op::Thread(ThreadOp::Spawn(6, None), None)),
-    Step::Do(0, Op::Thread(ThreadOp::Join(0, 0), None)),
-    Step::Do(0, Op::Thread(ThreadOp::Join(0, 0), None)),
-    Step::Do(0, Op::Thread(ThreadOp::Finish(Value::Plain(7)), None)),
+    Step::Do(0, Request::Thread(ThreadOp::Spawn(6, None))),
+    Step::Do(0, Request::Thread(ThreadOp::Join(0, 0))),
+    Step::Do(0, Request::Thread(ThreadOp::Join(0, 0))),
+    Step::Do(0, Request::Thread(ThreadOp::Finish(Value::Plain(7)))),
     EXIT,
     END,
-    Step::Do(0, Op::Thread(ThreadOp::Finish(Value::Plain(3)), None)),
+    Step::Do(0, Request::Thread(ThreadOp::Finish(Value::Plain(3)))),
     EXIT,
     END,
 ];
 
 // Main exchanges the data of two cells, the second of which a thread writes.
 const SWAP_BESIDE_A_WRITE: &[Step] = &[
-    Step::Do(0, Op::Cell(CellOp::New(Value::Plain(1)), None)),
-    Step::Do(1, Op::Cell(CellOp::New(Value::Plain(2)), None)),
-    Step::Do(2, Op::Thread(ThreadOp::Spawn(8, None), None)),
-    Step::Do(0, Op::Cell(CellOp::Swap(0, 1), None)),
-    Step::Do(0, Op::Thread(ThreadOp::Join(2, 2), None)),
-    Step::Do(0, Op::Thread(ThreadOp::Finish(Value::Plain(0)), None)),
+    Step::Do(0, Request::Cell(CellOp::New(Value::Plain(1)))),
+    Step::Do(1, Request::Cell(CellOp::New(Value::Plain(2)))),
+    Step::Do(2, Request::Thread(ThreadOp::Spawn(8, None))),
+    Step::Do(0, Request::Cell(CellOp::Swap(0, 1))),
+    Step::Do(0, Request::Thread(ThreadOp::Join(2, 2))),
+    Step::Do(0, Request::Thread(ThreadOp::Finish(Value::Plain(0)))),
     EXIT,
     END,
-    Step::Do(0, Op::Cell(CellOp::Replace(1, Value::Plain(5)), None)),
-    Step::Do(0, Op::Thread(ThreadOp::Finish(Value::Plain(0)), None)),
+    Step::Do(0, Request::Cell(CellOp::Replace(1, Value::Plain(5)))),
+    Step::Do(0, Request::Thread(ThreadOp::Finish(Value::Plain(0)))),
     EXIT,
     END,
 ];
 
 // Main exchanges the data of a cell and itself, which a thread writes, and finishes with what the cell holds then.
 const SWAP_WITH_ITSELF: &[Step] = &[
-    Step::Do(0, Op::Cell(CellOp::New(Value::Plain(7)), None)),
-    Step::Do(1, Op::Thread(ThreadOp::Spawn(8, None), None)),
-    Step::Do(0, Op::Cell(CellOp::Swap(0, 0), None)),
-    Step::Do(0, Op::Thread(ThreadOp::Join(1, 1), None)),
-    Step::Do(1, Op::Cell(CellOp::Get(0), None)),
-    Step::Do(0, Op::Thread(ThreadOp::Finish(Value::Held(1)), None)),
+    Step::Do(0, Request::Cell(CellOp::New(Value::Plain(7)))),
+    Step::Do(1, Request::Thread(ThreadOp::Spawn(8, None))),
+    Step::Do(0, Request::Cell(CellOp::Swap(0, 0))),
+    Step::Do(0, Request::Thread(ThreadOp::Join(1, 1))),
+    Step::Do(1, Request::Cell(CellOp::Get(0))),
+    Step::Do(0, Request::Thread(ThreadOp::Finish(Value::Held(1)))),
     EXIT,
     END,
-    Step::Do(0, Op::Cell(CellOp::Replace(0, Value::Plain(8)), None)),
-    Step::Do(0, Op::Thread(ThreadOp::Finish(Value::Plain(0)), None)),
+    Step::Do(0, Request::Cell(CellOp::Replace(0, Value::Plain(8)))),
+    Step::Do(0, Request::Thread(ThreadOp::Finish(Value::Plain(0)))),
     EXIT,
     END,
 ];
@@ -124,25 +124,25 @@ const SWAP_WITH_ITSELF: &[Step] = &[
 // Main and a thread each ask for the one message of a channel that has no sender any more. Main finishes with 1 where it has
 // none, and else with 3.
 const ONE_MESSAGE_FOR_TWO: &[Step] = &[
-    Step::Do(0, Op::Channel(ChannelOp::New, None)),
-    Step::Do(0, Op::Channel(ChannelOp::Send(0, Value::Plain(5)), None)),
-    Step::Do(1, Op::Channel(ChannelOp::DropSender(0), None)),
-    Step::Do(1, Op::Thread(ThreadOp::Spawn(9, None), None)),
-    Step::Do(0, Op::Channel(ChannelOp::TryRecv(0), None)),
+    Step::Do(0, Request::Channel(ChannelOp::New)),
+    Step::Do(0, Request::Channel(ChannelOp::Send(0, Value::Plain(5)))),
+    Step::Do(1, Request::Channel(ChannelOp::DropSender(0))),
+    Step::Do(1, Request::Thread(ThreadOp::Spawn(9, None))),
+    Step::Do(0, Request::Channel(ChannelOp::TryRecv(0))),
     Step::Unless(3, 2, 12),
-    Step::Do(0, Op::Thread(ThreadOp::Finish(Value::Plain(1)), None)),
+    Step::Do(0, Request::Thread(ThreadOp::Finish(Value::Plain(1)))),
     EXIT,
     END,
-    Step::Do(0, Op::Channel(ChannelOp::TryRecv(0), None)),
-    Step::Do(0, Op::Thread(ThreadOp::Finish(Value::Plain(0)), None)),
+    Step::Do(0, Request::Channel(ChannelOp::TryRecv(0))),
+    Step::Do(0, Request::Thread(ThreadOp::Finish(Value::Plain(0)))),
     Step::Jump(7),
-    Step::Do(0, Op::Thread(ThreadOp::Finish(Value::Plain(3)), None)),
+    Step::Do(0, Request::Thread(ThreadOp::Finish(Value::Plain(3)))),
     Step::Jump(7),
 ];
 
 const FAIL_AFTER_A_LOCK: &[Step] = &[
-    Step::Do(0, Op::Mutex(MutexOp::New(Value::Plain(0)), None)),
-    Step::Do(0, Op::Mutex(MutexOp::Lock(0), None)),
+    Step::Do(0, Request::Mutex(MutexOp::New(Value::Plain(0)))),
+    Step::Do(0, Request::Mutex(MutexOp::Lock(0))),
     FAIL,
 ];
 

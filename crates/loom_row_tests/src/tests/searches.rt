@@ -1,24 +1,24 @@
 //! Small bodies with the runs of their searches, each of which tells a search from one that is a little wrong.
 use super::finding::{Case, Shows, find};
 use loom::sync::atomic::Ordering::Relaxed;
-use loom_objects::operation::{ArcOp, AtomicOp, MutexOp, Op, ThreadOp};
+use loom_objects::operation::{ArcOp, AtomicOp, MutexOp, Request, ThreadOp};
 use loom_row_bodies::rows::{Checked, DEFAULTS, Row, WHOLE};
 use loom_row_bodies::settings::Settings;
 use loom_scripts::step::{END, EXIT, PARK, Step, Value, YIELD};
 use loom_views::rt::num::Numbers;
 
-const NEW: Step = Step::Do(0, Op::Atomic(AtomicOp::New(Numbers::U64, 0), None));
+const NEW: Step = Step::Do(0, Request::Atomic(AtomicOp::New(Numbers::U64, 0)));
 
-const STORE: Step = Step::Do(0, Op::Atomic(AtomicOp::Store(0, 1, Relaxed), None));
+const STORE: Step = Step::Do(0, Request::Atomic(AtomicOp::Store(0, 1, Relaxed)));
 
-const LOAD: Step = Step::Do(0, Op::Atomic(AtomicOp::Load(0, Relaxed), None));
+const LOAD: Step = Step::Do(0, Request::Atomic(AtomicOp::Load(0, Relaxed)));
 
-const FINISH: Step = Step::Do(0, Op::Thread(ThreadOp::Finish(Value::Plain(7)), None));
+const FINISH: Step = Step::Do(0, Request::Thread(ThreadOp::Finish(Value::Plain(7))));
 
 // Main stores beside a thread that stores.
 const STORES: &[Step] = &[
     NEW,
-    Step::Do(1, Op::Thread(ThreadOp::Spawn(6, None), None)),
+    Step::Do(1, Request::Thread(ThreadOp::Spawn(6, None))),
     STORE,
     FINISH,
     EXIT,
@@ -30,7 +30,7 @@ const STORES: &[Step] = &[
 /// Main loads beside a thread that loads.
 const LOADS: &[Step] = &[
     NEW,
-    Step::Do(1, Op::Thread(ThreadOp::Spawn(6, None), None)),
+    Step::Do(1, Request::Thread(ThreadOp::Spawn(6, None))),
     LOAD,
     FINISH,
     EXIT,
@@ -42,9 +42,9 @@ const LOADS: &[Step] = &[
 /// Main stores and then makes a thread that stores, beside one that does nothing but end.
 const STORE_THEN_SPAWN: &[Step] = &[
     NEW,
-    Step::Do(1, Op::Thread(ThreadOp::Spawn(4, None), None)),
+    Step::Do(1, Request::Thread(ThreadOp::Spawn(4, None))),
     STORE,
-    Step::Do(2, Op::Thread(ThreadOp::Spawn(7, None), None)),
+    Step::Do(2, Request::Thread(ThreadOp::Spawn(7, None))),
     FINISH,
     EXIT,
     END,
@@ -54,27 +54,27 @@ const STORE_THEN_SPAWN: &[Step] = &[
 
 /// Main locks and then unparks a thread that locks too, beside one that does nothing but end.
 const UNPARK_AFTER_LOCK: &[Step] = &[
-    Step::Do(0, Op::Mutex(MutexOp::New(Value::Plain(0)), None)),
-    Step::Do(1, Op::Thread(ThreadOp::Spawn(10, None), None)),
+    Step::Do(0, Request::Mutex(MutexOp::New(Value::Plain(0)))),
+    Step::Do(1, Request::Thread(ThreadOp::Spawn(10, None))),
     YIELD,
-    Step::Do(2, Op::Thread(ThreadOp::Spawn(7, None), None)),
-    Step::Do(0, Op::Mutex(MutexOp::Lock(0), None)),
-    Step::Do(0, Op::Mutex(MutexOp::Release(0, Value::Plain(0)), None)),
-    Step::Do(1, Op::Thread(ThreadOp::Unpark(1), None)),
+    Step::Do(2, Request::Thread(ThreadOp::Spawn(7, None))),
+    Step::Do(0, Request::Mutex(MutexOp::Lock(0))),
+    Step::Do(0, Request::Mutex(MutexOp::Release(0, Value::Plain(0)))),
+    Step::Do(1, Request::Thread(ThreadOp::Unpark(1))),
     FINISH,
     EXIT,
     END,
     PARK,
-    Step::Do(0, Op::Mutex(MutexOp::Lock(0), None)),
-    Step::Do(0, Op::Mutex(MutexOp::Release(0, Value::Plain(0)), None)),
+    Step::Do(0, Request::Mutex(MutexOp::Lock(0))),
+    Step::Do(0, Request::Mutex(MutexOp::Release(0, Value::Plain(0)))),
     Step::Jump(7),
 ];
 
 /// Main stores beside a thread that yields and then stores, and one that yields.
 const YIELD_THEN_STORE: &[Step] = &[
     NEW,
-    Step::Do(1, Op::Thread(ThreadOp::Spawn(7, None), None)),
-    Step::Do(2, Op::Thread(ThreadOp::Spawn(10, None), None)),
+    Step::Do(1, Request::Thread(ThreadOp::Spawn(7, None))),
+    Step::Do(2, Request::Thread(ThreadOp::Spawn(10, None))),
     STORE,
     FINISH,
     EXIT,
@@ -89,9 +89,9 @@ const YIELD_THEN_STORE: &[Step] = &[
 /// Main loads from one atomic and stores into another, beside a thread that stores into that one.
 const LOAD_THEN_STORE: &[Step] = &[
     NEW,
-    Step::Do(1, Op::Atomic(AtomicOp::New(Numbers::U64, 0), None)),
-    Step::Do(2, Op::Thread(ThreadOp::Spawn(8, None), None)),
-    Step::Do(1, Op::Atomic(AtomicOp::Load(1, Relaxed), None)),
+    Step::Do(1, Request::Atomic(AtomicOp::New(Numbers::U64, 0))),
+    Step::Do(2, Request::Thread(ThreadOp::Spawn(8, None))),
+    Step::Do(1, Request::Atomic(AtomicOp::Load(1, Relaxed))),
     STORE,
     FINISH,
     EXIT,
@@ -100,18 +100,18 @@ const LOAD_THEN_STORE: &[Step] = &[
     Step::Jump(5),
 ];
 
-const MAKE: Step = Step::Do(0, Op::Arc(ArcOp::New(Value::Plain(0)), None));
+const MAKE: Step = Step::Do(0, Request::Arc(ArcOp::New(Value::Plain(0))));
 
-const CLONE: Step = Step::Do(0, Op::Arc(ArcOp::Clone(0), None));
+const CLONE: Step = Step::Do(0, Request::Arc(ArcOp::Clone(0)));
 
-const DROP: Step = Step::Do(0, Op::Arc(ArcOp::Drop(0), None));
+const DROP: Step = Step::Do(0, Request::Arc(ArcOp::Drop(0)));
 
 /// Main drops two of three counted references, beside a thread that makes one more and drops two.
 const CLONES_AND_DROPS: &[Step] = &[
     MAKE,
     CLONE,
     CLONE,
-    Step::Do(1, Op::Thread(ThreadOp::Spawn(9, None), None)),
+    Step::Do(1, Request::Thread(ThreadOp::Spawn(9, None))),
     DROP,
     DROP,
     FINISH,
@@ -127,8 +127,8 @@ const CLONES_AND_DROPS: &[Step] = &[
 const COUNT_AND_DROPS: &[Step] = &[
     MAKE,
     CLONE,
-    Step::Do(1, Op::Thread(ThreadOp::Spawn(8, None), None)),
-    Step::Do(0, Op::Arc(ArcOp::StrongCount(0), None)),
+    Step::Do(1, Request::Thread(ThreadOp::Spawn(8, None))),
+    Step::Do(0, Request::Arc(ArcOp::StrongCount(0))),
     DROP,
     FINISH,
     EXIT,
@@ -142,8 +142,8 @@ const COUNT_AND_DROPS: &[Step] = &[
 /// Main and two threads each store.
 const THREE_STORES: &[Step] = &[
     NEW,
-    Step::Do(1, Op::Thread(ThreadOp::Spawn(7, None), None)),
-    Step::Do(2, Op::Thread(ThreadOp::Spawn(7, None), None)),
+    Step::Do(1, Request::Thread(ThreadOp::Spawn(7, None))),
+    Step::Do(2, Request::Thread(ThreadOp::Spawn(7, None))),
     STORE,
     FINISH,
     EXIT,
@@ -155,9 +155,9 @@ const THREE_STORES: &[Step] = &[
 /// Main joins a thread that stores, and then stores, beside a thread that does nothing but end.
 const JOINED: &[Step] = &[
     NEW,
-    Step::Do(1, Op::Thread(ThreadOp::Spawn(8, None), None)),
-    Step::Do(2, Op::Thread(ThreadOp::Spawn(5, None), None)),
-    Step::Do(0, Op::Thread(ThreadOp::Join(1, 1), None)),
+    Step::Do(1, Request::Thread(ThreadOp::Spawn(8, None))),
+    Step::Do(2, Request::Thread(ThreadOp::Spawn(5, None))),
+    Step::Do(0, Request::Thread(ThreadOp::Join(1, 1))),
     STORE,
     FINISH,
     EXIT,

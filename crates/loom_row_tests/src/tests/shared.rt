@@ -2,79 +2,79 @@
 //! explore in parts.
 use loom::sync::atomic::Ordering::Relaxed;
 use loom_objects::operation::{
-    AtomicOp, AtomicWakerOp, CellOp, ChannelOp, ExploreOp, LazyOp, LocalOp, MutexOp, NotifyOp, Op,
-    ThreadOp, WakerOp,
+    AtomicOp, AtomicWakerOp, CellOp, ChannelOp, ExploreOp, LazyOp, LocalOp, MutexOp, NotifyOp,
+    Request, ThreadOp, WakerOp,
 };
 use loom_row_bodies::rows::{Checked, DEFAULTS, Row};
 use loom_scripts::step::{END, EXIT, Step, Value, YIELD};
 use loom_views::rt::num::Numbers;
 
-const CHANNEL: Step = Step::Do(0, Op::Channel(ChannelOp::New, None));
+const CHANNEL: Step = Step::Do(0, Request::Channel(ChannelOp::New));
 
-const SEND: Step = Step::Do(0, Op::Channel(ChannelOp::Send(0, Value::Plain(1)), None));
+const SEND: Step = Step::Do(0, Request::Channel(ChannelOp::Send(0, Value::Plain(1))));
 
-const SEND_2: Step = Step::Do(0, Op::Channel(ChannelOp::Send(0, Value::Plain(2)), None));
+const SEND_2: Step = Step::Do(0, Request::Channel(ChannelOp::Send(0, Value::Plain(2))));
 
-const RECV: Step = Step::Do(0, Op::Channel(ChannelOp::Recv(0), None));
+const RECV: Step = Step::Do(0, Request::Channel(ChannelOp::Recv(0)));
 
-const TRY_RECV: Step = Step::Do(0, Op::Channel(ChannelOp::TryRecv(0), None));
+const TRY_RECV: Step = Step::Do(0, Request::Channel(ChannelOp::TryRecv(0)));
 
-const DROP_SENDER: Step = Step::Do(0, Op::Channel(ChannelOp::DropSender(0), None));
+const DROP_SENDER: Step = Step::Do(0, Request::Channel(ChannelOp::DropSender(0)));
 
-const DROP_RECEIVER: Step = Step::Do(0, Op::Channel(ChannelOp::DropReceiver(0), None));
+const DROP_RECEIVER: Step = Step::Do(0, Request::Channel(ChannelOp::DropReceiver(0)));
 
-const PLACE: Step = Step::Do(0, Op::AtomicWaker(AtomicWakerOp::New, None));
+const PLACE: Step = Step::Do(0, Request::AtomicWaker(AtomicWakerOp::New));
 
-const BLOCK_ON: Step = Step::Do(1, Op::Waker(WakerOp::New, None));
+const BLOCK_ON: Step = Step::Do(1, Request::Waker(WakerOp::New));
 
-const CLONE: Step = Step::Do(0, Op::Waker(WakerOp::Clone(1), None));
+const CLONE: Step = Step::Do(0, Request::Waker(WakerOp::Clone(1)));
 
-const REGISTER: Step = Step::Do(0, Op::AtomicWaker(AtomicWakerOp::Register(0, 1), None));
+const REGISTER: Step = Step::Do(0, Request::AtomicWaker(AtomicWakerOp::Register(0, 1)));
 
-const DROP_LEFT: Step = Step::Do(3, Op::AtomicWaker(AtomicWakerOp::Drop(0), None));
+const DROP_LEFT: Step = Step::Do(3, Request::AtomicWaker(AtomicWakerOp::Drop(0)));
 
-const WAKER_DROP: Step = Step::Do(0, Op::Waker(WakerOp::Drop(1), None));
+const WAKER_DROP: Step = Step::Do(0, Request::Waker(WakerOp::Drop(1)));
 
-const LAST_DROP: Step = Step::Do(0, Op::Waker(WakerOp::Drop(3), None));
+const LAST_DROP: Step = Step::Do(0, Request::Waker(WakerOp::Drop(3)));
 
-const CELL: Step = Step::Do(4, Op::Cell(CellOp::New(Value::Plain(0)), None));
+const CELL: Step = Step::Do(4, Request::Cell(CellOp::New(Value::Plain(0))));
 
-const GET: Step = Step::Do(0, Op::Cell(CellOp::Get(4), None));
+const GET: Step = Step::Do(0, Request::Cell(CellOp::Get(4)));
 
-const REPLACE: Step = Step::Do(0, Op::Cell(CellOp::Replace(4, Value::Plain(3)), None));
+const REPLACE: Step = Step::Do(0, Request::Cell(CellOp::Replace(4, Value::Plain(3))));
 
-const JOIN: Step = Step::Do(1, Op::Thread(ThreadOp::Join(2, 2), None));
+const JOIN: Step = Step::Do(1, Request::Thread(ThreadOp::Join(2, 2)));
 
 // The first number that the thread was told, and the second one.
-const FINISH: Step = Step::Do(0, Op::Thread(ThreadOp::Finish(Value::Both(0, 1)), None));
+const FINISH: Step = Step::Do(0, Request::Thread(ThreadOp::Finish(Value::Both(0, 1))));
 
 // What the thread didn't get.
-const FINISH_INSTEAD: Step = Step::Do(0, Op::Thread(ThreadOp::Finish(Value::Held(3)), None));
+const FINISH_INSTEAD: Step = Step::Do(0, Request::Thread(ThreadOp::Finish(Value::Held(3))));
 
-const FINISH_PLAIN: Step = Step::Do(0, Op::Thread(ThreadOp::Finish(Value::Plain(7)), None));
+const FINISH_PLAIN: Step = Step::Do(0, Request::Thread(ThreadOp::Finish(Value::Plain(7))));
 
-const MUTEX: Step = Step::Do(0, Op::Mutex(MutexOp::New(Value::Plain(0)), None));
+const MUTEX: Step = Step::Do(0, Request::Mutex(MutexOp::New(Value::Plain(0))));
 
-const LOCK: Step = Step::Do(0, Op::Mutex(MutexOp::Lock(0), None));
+const LOCK: Step = Step::Do(0, Request::Mutex(MutexOp::Lock(0)));
 
-const RELEASE: Step = Step::Do(0, Op::Mutex(MutexOp::Release(0, Value::Plain(0)), None));
+const RELEASE: Step = Step::Do(0, Request::Mutex(MutexOp::Release(0, Value::Plain(0))));
 
-const ATOMIC: Step = Step::Do(0, Op::Atomic(AtomicOp::New(Numbers::U64, 0), None));
+const ATOMIC: Step = Step::Do(0, Request::Atomic(AtomicOp::New(Numbers::U64, 0)));
 
-const STORE: Step = Step::Do(0, Op::Atomic(AtomicOp::Store(0, 1, Relaxed), None));
+const STORE: Step = Step::Do(0, Request::Atomic(AtomicOp::Store(0, 1, Relaxed)));
 
-const LOAD: Step = Step::Do(0, Op::Atomic(AtomicOp::Load(0, Relaxed), None));
+const LOAD: Step = Step::Do(0, Request::Atomic(AtomicOp::Load(0, Relaxed)));
 
-const EXPLORE: Step = Step::Do(0, Op::Explore(ExploreOp::Explore, None));
+const EXPLORE: Step = Step::Do(0, Request::Explore(ExploreOp::Explore));
 
-const STOP: Step = Step::Do(0, Op::Explore(ExploreOp::StopExploring, None));
+const STOP: Step = Step::Do(0, Request::Explore(ExploreOp::StopExploring));
 
-const SKIP: Step = Step::Do(0, Op::Explore(ExploreOp::SkipBranch, None));
+const SKIP: Step = Step::Do(0, Request::Explore(ExploreOp::SkipBranch));
 
 // Main drops the receiver beside a thread that sends twice.
 const DROP_BESIDE_SENDS: &[Step] = &[
     CHANNEL,
-    Step::Do(2, Op::Thread(ThreadOp::Spawn(8, None), None)),
+    Step::Do(2, Request::Thread(ThreadOp::Spawn(8, None))),
     YIELD,
     DROP_RECEIVER,
     JOIN,
@@ -93,7 +93,7 @@ const DROP_BESIDE_SENDS: &[Step] = &[
 const TRY_BESIDE_RECV: &[Step] = &[
     CHANNEL,
     SEND,
-    Step::Do(2, Op::Thread(ThreadOp::Spawn(9, None), None)),
+    Step::Do(2, Request::Thread(ThreadOp::Spawn(9, None))),
     TRY_RECV,
     DROP_SENDER,
     JOIN,
@@ -112,7 +112,7 @@ const DRAIN_BESIDE_RECV: &[Step] = &[
     SEND,
     SEND_2,
     DROP_SENDER,
-    Step::Do(2, Op::Thread(ThreadOp::Spawn(10, None), None)),
+    Step::Do(2, Request::Thread(ThreadOp::Spawn(10, None))),
     YIELD,
     DROP_RECEIVER,
     FINISH,
@@ -128,7 +128,7 @@ const DRAIN_BESIDE_RECV: &[Step] = &[
 const READ_BEHIND_RECV: &[Step] = &[
     CHANNEL,
     CELL,
-    Step::Do(2, Op::Thread(ThreadOp::Spawn(8, None), None)),
+    Step::Do(2, Request::Thread(ThreadOp::Spawn(8, None))),
     RECV,
     GET,
     FINISH,
@@ -146,7 +146,7 @@ const READ_BEHIND_RECV: &[Step] = &[
 const READ_TOO_EARLY: &[Step] = &[
     CHANNEL,
     CELL,
-    Step::Do(2, Op::Thread(ThreadOp::Spawn(9, None), None)),
+    Step::Do(2, Request::Thread(ThreadOp::Spawn(9, None))),
     RECV,
     GET,
     RECV,
@@ -164,13 +164,13 @@ const READ_TOO_EARLY: &[Step] = &[
 // Main waits for a message beside a thread that drops the last of two senders.
 const RECV_BESIDE_DROPS: &[Step] = &[
     CHANNEL,
-    Step::Do(2, Op::Thread(ThreadOp::Spawn(7, None), None)),
+    Step::Do(2, Request::Thread(ThreadOp::Spawn(7, None))),
     RECV,
     JOIN,
     FINISH_INSTEAD,
     EXIT,
     END,
-    Step::Do(0, Op::Channel(ChannelOp::CloneSender(0), None)),
+    Step::Do(0, Request::Channel(ChannelOp::CloneSender(0))),
     DROP_SENDER,
     YIELD,
     DROP_SENDER,
@@ -186,8 +186,8 @@ const REGISTER_TWICE: &[Step] = &[
     CLONE,
     CLONE,
     REGISTER,
-    Step::Do(2, Op::Thread(ThreadOp::Spawn(13, None), None)),
-    Step::Do(0, Op::AtomicWaker(AtomicWakerOp::RegisterByRef(0, 1), None)),
+    Step::Do(2, Request::Thread(ThreadOp::Spawn(13, None))),
+    Step::Do(0, Request::AtomicWaker(AtomicWakerOp::RegisterByRef(0, 1))),
     JOIN,
     DROP_LEFT,
     LAST_DROP,
@@ -206,16 +206,16 @@ const WAKE_BESIDE_REGISTER: &[Step] = &[
     PLACE,
     BLOCK_ON,
     CLONE,
-    Step::Do(2, Op::Thread(ThreadOp::Spawn(12, None), None)),
+    Step::Do(2, Request::Thread(ThreadOp::Spawn(12, None))),
     REGISTER,
     JOIN,
-    Step::Do(3, Op::AtomicWaker(AtomicWakerOp::TakeWaker(0), None)),
+    Step::Do(3, Request::AtomicWaker(AtomicWakerOp::TakeWaker(0))),
     Step::Unless(3, 0, 9),
     LAST_DROP,
     WAKER_DROP,
     FINISH_INSTEAD,
     Step::Jump(14),
-    Step::Do(0, Op::AtomicWaker(AtomicWakerOp::Wake(0), None)),
+    Step::Do(0, Request::AtomicWaker(AtomicWakerOp::Wake(0))),
     FINISH,
     EXIT,
     END,
@@ -226,12 +226,12 @@ const WAIT_BESIDE_WAKE: &[Step] = &[
     PLACE,
     BLOCK_ON,
     CLONE,
-    Step::Do(2, Op::Thread(ThreadOp::Spawn(8, None), None)),
-    Step::Do(0, Op::Waker(WakerOp::Wait(1), None)),
-    Step::Do(0, Op::Waker(WakerOp::Finish(1), None)),
+    Step::Do(2, Request::Thread(ThreadOp::Spawn(8, None))),
+    Step::Do(0, Request::Waker(WakerOp::Wait(1))),
+    Step::Do(0, Request::Waker(WakerOp::Finish(1))),
     FINISH,
     Step::Jump(11),
-    Step::Do(0, Op::Waker(WakerOp::WakeByRef(1), None)),
+    Step::Do(0, Request::Waker(WakerOp::WakeByRef(1))),
     WAKER_DROP,
     FINISH,
     EXIT,
@@ -243,7 +243,7 @@ const READ_BEHIND_DROPS: &[Step] = &[
     BLOCK_ON,
     CLONE,
     CELL,
-    Step::Do(2, Op::Thread(ThreadOp::Spawn(10, None), None)),
+    Step::Do(2, Request::Thread(ThreadOp::Spawn(10, None))),
     YIELD,
     WAKER_DROP,
     GET,
@@ -261,10 +261,10 @@ const READ_BEHIND_DROPS: &[Step] = &[
 const LAZY_BESIDE: &[Step] = &[
     MUTEX,
     CELL,
-    Step::Do(2, Op::Thread(ThreadOp::Spawn(12, None), None)),
+    Step::Do(2, Request::Thread(ThreadOp::Spawn(12, None))),
     LOCK,
     RELEASE,
-    Step::Do(0, Op::Lazy(LazyOp::Init(1, Value::Plain(5)), None)),
+    Step::Do(0, Request::Lazy(LazyOp::Init(1, Value::Plain(5)))),
     Step::Unless(0, 65, 8),
     GET,
     JOIN,
@@ -274,8 +274,8 @@ const LAZY_BESIDE: &[Step] = &[
     LOCK,
     RELEASE,
     REPLACE,
-    Step::Do(0, Op::Lazy(LazyOp::Get(1), None)),
-    Step::Do(0, Op::Lazy(LazyOp::Init(1, Value::Plain(6)), None)),
+    Step::Do(0, Request::Lazy(LazyOp::Get(1))),
+    Step::Do(0, Request::Lazy(LazyOp::Init(1, Value::Plain(6)))),
     FINISH,
     EXIT,
     END,
@@ -283,27 +283,27 @@ const LAZY_BESIDE: &[Step] = &[
 
 // Two threads have values of their own, by the same key.
 const LOCALS_BESIDE: &[Step] = &[
-    Step::Do(0, Op::Local(LocalOp::Init(1, Value::Plain(4)), None)),
-    Step::Do(2, Op::Thread(ThreadOp::Spawn(7, None), None)),
+    Step::Do(0, Request::Local(LocalOp::Init(1, Value::Plain(4)))),
+    Step::Do(2, Request::Thread(ThreadOp::Spawn(7, None))),
     JOIN,
-    Step::Do(0, Op::Local(LocalOp::With(1), None)),
+    Step::Do(0, Request::Local(LocalOp::With(1))),
     FINISH,
-    Step::Do(1, Op::Thread(ThreadOp::Exit, None)),
+    Step::Do(1, Request::Thread(ThreadOp::Exit)),
     END,
-    Step::Do(0, Op::Local(LocalOp::TryWith(1), None)),
-    Step::Do(0, Op::Local(LocalOp::Init(1, Value::Plain(6)), None)),
-    Step::Do(1, Op::Local(LocalOp::Put(1, Value::Plain(8)), None)),
+    Step::Do(0, Request::Local(LocalOp::TryWith(1))),
+    Step::Do(0, Request::Local(LocalOp::Init(1, Value::Plain(6)))),
+    Step::Do(1, Request::Local(LocalOp::Put(1, Value::Plain(8)))),
     FINISH,
     EXIT,
-    Step::Do(0, Op::Local(LocalOp::Init(2, Value::Plain(9)), None)),
-    Step::Do(0, Op::Local(LocalOp::TryWith(1), None)),
+    Step::Do(0, Request::Local(LocalOp::Init(2, Value::Plain(9)))),
+    Step::Do(0, Request::Local(LocalOp::TryWith(1))),
     END,
 ];
 
 // Main locks three times beside a thread that locks, and doesn't explore at the second time.
 const STOP_BETWEEN: &[Step] = &[
     MUTEX,
-    Step::Do(2, Op::Thread(ThreadOp::Spawn(13, None), None)),
+    Step::Do(2, Request::Thread(ThreadOp::Spawn(13, None))),
     LOCK,
     RELEASE,
     STOP,
@@ -323,7 +323,7 @@ const STOP_BETWEEN: &[Step] = &[
 // Main loads beside a thread that stores and then skips the branch, after which no switch changes anything.
 const SKIP_BESIDE: &[Step] = &[
     ATOMIC,
-    Step::Do(2, Op::Thread(ThreadOp::Spawn(7, None), None)),
+    Step::Do(2, Request::Thread(ThreadOp::Spawn(7, None))),
     LOAD,
     LOAD,
     FINISH,
@@ -338,8 +338,8 @@ const SKIP_BESIDE: &[Step] = &[
 
 // Main waits for a notification without exploring, beside a thread that notifies, and then waits again.
 const WAIT_WITHOUT: &[Step] = &[
-    Step::Do(0, Op::Notify(NotifyOp::New, None)),
-    Step::Do(2, Op::Thread(ThreadOp::Spawn(10, None), None)),
+    Step::Do(0, Request::Notify(NotifyOp::New)),
+    Step::Do(2, Request::Thread(ThreadOp::Spawn(10, None))),
     STOP,
     WAIT,
     EXPLORE,
@@ -352,9 +352,9 @@ const WAIT_WITHOUT: &[Step] = &[
     Step::Jump(7),
 ];
 
-const WAIT: Step = Step::Do(0, Op::Notify(NotifyOp::Wait(0), None));
+const WAIT: Step = Step::Do(0, Request::Notify(NotifyOp::Wait(0)));
 
-const NOTIFY: Step = Step::Do(0, Op::Notify(NotifyOp::Notify(0), None));
+const NOTIFY: Step = Step::Do(0, Request::Notify(NotifyOp::Notify(0)));
 
 static ROWS: [Row; 15] = [
     row!("drop beside sends", DROP_BESIDE_SENDS),

@@ -4,7 +4,7 @@ use Rattle.std.specs.Prelude.{slice_get, Result, Ok, Err, ⊤}
 use Rattle.loom_view_parts.specs.declared.rt.failure.FailureKind.{FailureKind}
 use Rattle.loom_parts.specs.declared.choice.Choice.{Choice}
 use Rattle.loom_parts.specs.declared.choice.Choice.TheVariants as choice
-use Rattle.loom_objects.specs.declared.operation.Op.{Op}
+use Rattle.loom_objects.specs.declared.operation.Request.{Request}
 use Rattle.loom_objects.specs.declared.operation.Reply.{Reply}
 use Rattle.loom_objects.specs.declared.operation.Turn.{Turn}
 use Rattle.loom_objects.specs.declared.rt.run.Entry.{Entry}
@@ -123,7 +123,7 @@ module _ {D : Type 0} (out : Aim) where
   goes_on_kept (Explores todo, c) k = then_keeps {Q = Anything} (came (switched todo c.exploring)) _ (came_anything (switched todo c.exploring)) (λ exploring q. gives _ (k, λ n e. absurd (cc e)))
 
   -- an operation that doesn't give back the mutex that is out
-  pub submit_kept : (todo : Op D ⊤) (c : Course D) → ((m : ℕ) → out ≡ Out m → returned_by todo ≡ Some m → ⊥) → Ready out c.world → Keeps (InWorld (TurnTo out)) (submit todo c)
+  pub submit_kept : (todo : Request D ⊤) (c : Course D) → ((m : ℕ) → out ≡ Out m → returned_by todo ≡ Some m → ⊥) → Ready out c.world → Keeps (InWorld (TurnTo out)) (submit todo c)
   submit_kept todo c other k =
       then_keeps {Q = InWorld (Entered out)} (carried c (begins todo c.world)) _
       (carried_keeps c (begins todo c.world) (came_keeps (Entering (returned_by todo) c.world) (counted todo c.world) (counted_entering todo c.world) (λ answered q. q out other k)))
@@ -136,7 +136,7 @@ module _ {D : Type 0} (out : Aim) where
   opens_kept n (AtSpurious m, c) k = absurd k
   opens_kept n (Explores todo, c) k = absurd k
 
-  pub submit_opens : (todo : Op D ⊤) (n : ℕ) (c : Course D) → opened_by todo ≡ Some n → Ready out c.world → Keeps (λ turned. Taken out n turned.1.world) (submit todo c)
+  pub submit_opens : (todo : Request D ⊤) (n : ℕ) (c : Course D) → opened_by todo ≡ Some n → Ready out c.world → Keeps (λ turned. Taken out n turned.1.world) (submit todo c)
   submit_opens todo n c e k =
       then_keeps {Q = InWorld (Opened out n)} (carried c (begins todo c.world)) _
       (carried_keeps c (begins todo c.world) (came_keeps (Opening n c.world) (counted todo c.world) (counted_opening todo n c.world e) (λ answered q. q out k)))

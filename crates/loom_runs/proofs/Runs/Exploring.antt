@@ -10,8 +10,8 @@ use Rattle.loom_objects.specs.declared.operation.CondvarOp.{CondvarOp}
 use Rattle.loom_objects.specs.declared.operation.CondvarOp.TheVariants as condvar_op
 use Rattle.loom_objects.specs.declared.operation.MutexOp.{MutexOp}
 use Rattle.loom_objects.specs.declared.operation.MutexOp.TheVariants as mutex_op
-use Rattle.loom_objects.specs.declared.operation.Op.{Op}
-use Rattle.loom_objects.specs.declared.operation.Op.TheVariants as op
+use Rattle.loom_objects.specs.declared.operation.Request.{Request}
+use Rattle.loom_objects.specs.declared.operation.Request.TheVariants as op
 use Rattle.loom_objects.specs.declared.operation.Reply.{Reply}
 use Rattle.loom_objects.specs.declared.operation.Turn.{Turn}
 use Rattle.loom_objects.specs.declared.operation.Turn.TheVariants as turn
@@ -33,7 +33,7 @@ use Rattle.loom_objects.specs.Exploring.{is_on}
 use Rattle.loom_objects.specs.Locks.{free_value, frees, mutex_begins}
 use Rattle.loom_objects.specs.Moves.{a_condvar, a_mutex, is_number}
 use Rattle.loom_objects.specs.Notifiers.{enters_wait as entered}
-use Rattle.loom_objects.specs.Operation.{plain}
+use Rattle.loom_objects.specs.Operation.{plain, plain_request}
 use Rattle.loom_objects.specs.Question.{Question, made_of, slots}
 use Rattle.loom_objects.specs.Rule.{◌>>=◌ as ◌=>>◌, check as checks, found as finds}
 use Rattle.loom_objects.specs.Steps.{asked, asks_slot, begins, ends, enters_wait, read_slot, resumes, slot_of, told, turned}
@@ -118,48 +118,48 @@ module _ {D : Type 0} where
   condvar_unswitched (condvar_op.NotifyOne n) w = next (a_condvar n w) _ (λ condvar. tt)
   condvar_unswitched (condvar_op.NotifyAll n) w = next (a_condvar n w) _ (λ condvar. tt)
 
-  begins_unswitched : (todo : Op D ⊤) (w : World D) → is_switch todo ≡ false → Answers Unswitched (op_begins todo w)
-  begins_unswitched (op.Atomic todo place) w h = quiet_unswitched _ (atomic_quiet todo w)
-  begins_unswitched (op.Fence order place) w h = quiet_unswitched _ (fence_quiet order w)
-  begins_unswitched (op.Cell todo place) w h = quiet_unswitched _ (cell_quiet todo w)
-  begins_unswitched (op.Arc todo place) w h = quiet_unswitched _ (arc_quiet todo w)
-  begins_unswitched (op.Track todo place) w h = quiet_unswitched _ (track_quiet todo w)
-  begins_unswitched (op.Mutex todo place) w h = mutex_unswitched todo w
-  begins_unswitched (op.RwLock todo place) w h = quiet_unswitched _ (rwlock_quiet todo w)
-  begins_unswitched (op.Condvar todo place) w h = condvar_unswitched todo w
-  begins_unswitched (op.Notify todo place) w h = quiet_unswitched _ (notifier_quiet todo w)
-  begins_unswitched (op.Channel todo place) w h = quiet_unswitched _ (channel_quiet todo w)
-  begins_unswitched (op.Waker todo place) w h = quiet_unswitched _ (waker_quiet todo w)
-  begins_unswitched (op.AtomicWaker todo place) w h = quiet_unswitched _ (place_quiet todo w)
-  begins_unswitched (op.Local todo place) w h = quiet_unswitched _ (local_quiet todo w)
-  begins_unswitched (op.Lazy todo place) w h = quiet_unswitched _ (lazy_quiet todo w)
-  begins_unswitched (op.Explore todo place) w h = absurd (cc h)
-  begins_unswitched (op.Thread todo place) w h = quiet_unswitched _ (thread_quiet todo w)
-  begins_unswitched (op.Fail place) w h = tt
-  begins_unswitched (op.Unreachable place) w h = tt
+  begins_unswitched : (todo : Request D ⊤) (w : World D) → is_switch todo ≡ false → Answers Unswitched (op_begins todo w)
+  begins_unswitched (op.Atomic todo) w h = quiet_unswitched _ (atomic_quiet todo w)
+  begins_unswitched (op.Fence order) w h = quiet_unswitched _ (fence_quiet order w)
+  begins_unswitched (op.Cell todo) w h = quiet_unswitched _ (cell_quiet todo w)
+  begins_unswitched (op.Arc todo) w h = quiet_unswitched _ (arc_quiet todo w)
+  begins_unswitched (op.Track todo) w h = quiet_unswitched _ (track_quiet todo w)
+  begins_unswitched (op.Mutex todo) w h = mutex_unswitched todo w
+  begins_unswitched (op.RwLock todo) w h = quiet_unswitched _ (rwlock_quiet todo w)
+  begins_unswitched (op.Condvar todo) w h = condvar_unswitched todo w
+  begins_unswitched (op.Notify todo) w h = quiet_unswitched _ (notifier_quiet todo w)
+  begins_unswitched (op.Channel todo) w h = quiet_unswitched _ (channel_quiet todo w)
+  begins_unswitched (op.Waker todo) w h = quiet_unswitched _ (waker_quiet todo w)
+  begins_unswitched (op.AtomicWaker todo) w h = quiet_unswitched _ (place_quiet todo w)
+  begins_unswitched (op.Local todo) w h = quiet_unswitched _ (local_quiet todo w)
+  begins_unswitched (op.Lazy todo) w h = quiet_unswitched _ (lazy_quiet todo w)
+  begins_unswitched (op.Explore todo) w h = absurd (cc h)
+  begins_unswitched (op.Thread todo) w h = quiet_unswitched _ (thread_quiet todo w)
+  begins_unswitched op.Fail w h = tt
+  begins_unswitched op.Unreachable w h = tt
 
-  counted_unswitched : (todo : Op D ⊤) (w : World D) → is_switch todo ≡ false → Answers Unswitched (counted todo w)
+  counted_unswitched : (todo : Request D ⊤) (w : World D) → is_switch todo ≡ false → Answers Unswitched (counted todo w)
   counted_unswitched todo w h = next (checks _ TooManySteps) _ (λ u. begins_unswitched todo _ h)
 
-plain_unswitched : {D S : Type 0} (todo : Op D S) → is_switch todo ≡ false → is_switch (plain todo) ≡ false
-plain_unswitched (op.Atomic todo place) h = refl
-plain_unswitched (op.Fence order place) h = refl
-plain_unswitched (op.Cell todo place) h = refl
-plain_unswitched (op.Arc todo place) h = refl
-plain_unswitched (op.Track todo place) h = refl
-plain_unswitched (op.Mutex todo place) h = refl
-plain_unswitched (op.RwLock todo place) h = refl
-plain_unswitched (op.Condvar todo place) h = refl
-plain_unswitched (op.Notify todo place) h = refl
-plain_unswitched (op.Channel todo place) h = refl
-plain_unswitched (op.Waker todo place) h = refl
-plain_unswitched (op.AtomicWaker todo place) h = refl
-plain_unswitched (op.Local todo place) h = refl
-plain_unswitched (op.Lazy todo place) h = refl
-plain_unswitched (op.Explore todo place) h = h
-plain_unswitched (op.Thread todo place) h = refl
-plain_unswitched (op.Fail place) h = refl
-plain_unswitched (op.Unreachable place) h = refl
+plain_unswitched : {D S : Type 0} (todo : Request D S) → is_switch todo ≡ false → is_switch (plain_request todo) ≡ false
+plain_unswitched (op.Atomic todo) h = refl
+plain_unswitched (op.Fence order) h = refl
+plain_unswitched (op.Cell todo) h = refl
+plain_unswitched (op.Arc todo) h = refl
+plain_unswitched (op.Track todo) h = refl
+plain_unswitched (op.Mutex todo) h = refl
+plain_unswitched (op.RwLock todo) h = refl
+plain_unswitched (op.Condvar todo) h = refl
+plain_unswitched (op.Notify todo) h = refl
+plain_unswitched (op.Channel todo) h = refl
+plain_unswitched (op.Waker todo) h = refl
+plain_unswitched (op.AtomicWaker todo) h = refl
+plain_unswitched (op.Local todo) h = refl
+plain_unswitched (op.Lazy todo) h = refl
+plain_unswitched (op.Explore todo) h = h
+plain_unswitched (op.Thread todo) h = refl
+plain_unswitched op.Fail h = refl
+plain_unswitched op.Unreachable h = refl
 
 -- ---- steps
 
@@ -249,7 +249,7 @@ module _ {D : Type 0} where
   goes_on_explores (entry.Spurious n, c) k = asks _ _ (ap is_on k.1) (λ o. waits_explores n c o k.1)
   goes_on_explores (entry.Explores todo, c) k = absurd k.0
 
-  submit_explores : (todo : Op D ⊤) (c : Course D) → is_switch todo ≡ false → c.exploring ≡ On → Explores (StaysOn Anything) (submit todo c)
+  submit_explores : (todo : Request D ⊤) (c : Course D) → is_switch todo ≡ false → c.exploring ≡ On → Explores (StaysOn Anything) (submit todo c)
   submit_explores todo c stays h =
       then_explores {Q = StaysOn IsNoSwitch} (carried c (begins todo c.world)) _
       (carried_explores IsNoSwitch c (begins todo c.world) h (came_explores (counted todo c.world) (counted_unswitched todo c.world stays)))
@@ -266,13 +266,13 @@ turn_explores (turn.Reply t answer) go stop h i = h t answer
 turn_explores (turn.Start t) go stop h i = h t _
 turn_explores (turn.Ended value) go stop h i = i value
 
-module _ {D S : Type 0} (next : Meaning D S) (never : (state : S) (reply : Reply D) → is_switch (next state reply).1 ≡ false) where
+module _ {D S : Type 0} (next : Meaning D S) (never : (state : S) (reply : Reply D) → is_switch (next state reply).1.request ≡ false) where
   play_explores : (left : ℕ) (bodies : List S) (c : Course D) (thread : ℕ) (answer : Reply D) → c.exploring ≡ On → ExploresTree (play next left bodies c thread answer)
   unfolding play
   play_explores zero bodies c thread answer on = tt
   play_explores (suc left) bodies c thread answer on =
       found_explores (slice_get bodies thread) Misuse _ (λ body.
-      explores_then {Q = StaysOn Anything} (submit (plain (next body answer).1) c) _ (submit_explores (plain (next body answer).1) c (plain_unswitched (next body answer).1 (never body answer)) on)
+      explores_then {Q = StaysOn Anything} (submit (plain (next body answer).1) c) _ (submit_explores (plain (next body answer).1) c (plain_unswitched (next body answer).1.request (never body answer)) on)
       (λ (turned, v) q. turn_explores turned _ _ (λ t r. play_explores left _ v t r q.1) (λ value. tt)))
 
 pub explores_law : {D S : Type 0} → ExploresLaw D S

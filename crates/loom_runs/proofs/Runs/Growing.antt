@@ -28,8 +28,8 @@ use Rattle.loom_objects.specs.declared.operation.MutexOp.{MutexOp}
 use Rattle.loom_objects.specs.declared.operation.MutexOp.TheVariants as mutex_op
 use Rattle.loom_objects.specs.declared.operation.NotifyOp.{NotifyOp}
 use Rattle.loom_objects.specs.declared.operation.NotifyOp.TheVariants as notify_op
-use Rattle.loom_objects.specs.declared.operation.Op.{Op}
-use Rattle.loom_objects.specs.declared.operation.Op.TheVariants as op
+use Rattle.loom_objects.specs.declared.operation.Request.{Request}
+use Rattle.loom_objects.specs.declared.operation.Request.TheVariants as op
 use Rattle.loom_objects.specs.declared.operation.RwLockOp.{RwLockOp}
 use Rattle.loom_objects.specs.declared.operation.RwLockOp.TheVariants as lock_op
 use Rattle.loom_objects.specs.declared.operation.ThreadOp.{ThreadOp}
@@ -378,35 +378,35 @@ module _ {D : Type 0} (w : World D) where
 
   -- ---- each operation
 
-  op_stays : (todo : Op D ⊤) → needs_memory todo ≡ false → Answers Stays (op_begins todo w)
-  op_stays (op.Atomic todo place) h = atomic_stays todo h
-  op_stays (op.Fence order place) h = fence_stays order
-  op_stays (op.Cell todo place) h = cell_stays todo h
-  op_stays (op.Arc todo place) h = arc_stays todo h
-  op_stays (op.Track todo place) h = track_stays todo h
-  op_stays (op.Mutex todo place) h = mutex_stays todo h
-  op_stays (op.RwLock todo place) h = rwlock_stays todo h
-  op_stays (op.Condvar todo place) h = condvar_stays todo h
-  op_stays (op.Notify todo place) h = notifier_stays todo h
-  op_stays (op.Channel todo place) h = channel_stays todo h
-  op_stays (op.Waker todo place) h = waker_stays todo h
-  op_stays (op.AtomicWaker todo place) h = place_stays todo h
-  op_stays (op.Local todo place) h = local_stays todo h
-  op_stays (op.Lazy todo place) h = lazy_stays todo h
-  op_stays (op.Explore todo place) h = stayed
-  op_stays (op.Thread todo place) h = thread_stays todo h
-  op_stays (op.Fail place) h = tt
-  op_stays (op.Unreachable place) h = tt
+  op_stays : (todo : Request D ⊤) → needs_memory todo ≡ false → Answers Stays (op_begins todo w)
+  op_stays (op.Atomic todo) h = atomic_stays todo h
+  op_stays (op.Fence order) h = fence_stays order
+  op_stays (op.Cell todo) h = cell_stays todo h
+  op_stays (op.Arc todo) h = arc_stays todo h
+  op_stays (op.Track todo) h = track_stays todo h
+  op_stays (op.Mutex todo) h = mutex_stays todo h
+  op_stays (op.RwLock todo) h = rwlock_stays todo h
+  op_stays (op.Condvar todo) h = condvar_stays todo h
+  op_stays (op.Notify todo) h = notifier_stays todo h
+  op_stays (op.Channel todo) h = channel_stays todo h
+  op_stays (op.Waker todo) h = waker_stays todo h
+  op_stays (op.AtomicWaker todo) h = place_stays todo h
+  op_stays (op.Local todo) h = local_stays todo h
+  op_stays (op.Lazy todo) h = lazy_stays todo h
+  op_stays (op.Explore todo) h = stayed
+  op_stays (op.Thread todo) h = thread_stays todo h
+  op_stays op.Fail h = tt
+  op_stays op.Unreachable h = tt
 
 module _ {D : Type 0} where
-  counted_stays : (todo : Op D ⊤) (w : World D) → needs_memory todo ≡ false → Answers (Stays w) (counted todo w)
+  counted_stays : (todo : Request D ⊤) (w : World D) → needs_memory todo ≡ false → Answers (Stays w) (counted todo w)
   counted_stays todo w h = onward w (check (nat_lt 0 w.steps_left) TooManySteps) _ (λ u. op_stays (record w { steps_left = w.steps_left - 1 }) todo h)
 
   pub growth_law : GrowthLaw D
   growth_law todo w entry v h e = subst (Answers (Stays w)) e (counted_stays todo w h)
 
   -- what makes a thread or an object needs memory
-  pub made_needs_memory : (todo : Op D ⊤) (w : World D) (entry : Entry D) (v : World D) → counted todo w ≡ Ok (entry, v)
+  pub made_needs_memory : (todo : Request D ⊤) (w : World D) (entry : Entry D) (v : World D) → counted todo w ≡ Ok (entry, v)
       → 0 < length v.threads - length w.threads + (length v.objects - length w.objects) → needs_memory todo ≡ true
   made_needs_memory todo w entry v e more = by_need (needs_memory todo) refl
     where

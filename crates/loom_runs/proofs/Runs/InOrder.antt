@@ -6,7 +6,7 @@ use Rattle.std.specs.Prelude.{◌==◌, ◌⊎◌, cond, slice_get, ⊤}
 use Rattle.std.specs.List.{list_any}
 use Rattle.loom_objects.specs.declared.operation.ChannelOp.{ChannelOp}
 use Rattle.loom_objects.specs.declared.operation.ChannelOp.TheVariants as channel_op
-use Rattle.loom_objects.specs.declared.operation.Op.{Op}
+use Rattle.loom_objects.specs.declared.operation.Request.{Request}
 use Rattle.loom_objects.specs.declared.operation.Turn.{Turn}
 use Rattle.loom_objects.specs.declared.operation.Turn.TheVariants as turn
 use Rattle.loom_objects.specs.World.{World}
@@ -20,7 +20,7 @@ use Rattle.loom_runs.proofs.Runs.Receiving.{Bound, IsAfter, Goes, except, event_
 
 module _ {D : Type 0} (n : ℕ) where
   -- what the other threads have handed over stays
-  rebound : (q : List D) (handed : ℕ → Option (ChannelOp D)) (a : ℕ) (todo : Op D ⊤) (w : World D) → Bound n q handed a w → Bound n q (handed_by a todo handed) a w
+  rebound : (q : List D) (handed : ℕ → Option (ChannelOp D)) (a : ℕ) (todo : Request D ⊤) (w : World D) → Bound n q handed a w → Bound n q (handed_by a todo handed) a w
   rebound q handed a todo w k = record {
     queue = k.queue;
     pending = λ u. by_number u (decided u a);
@@ -44,7 +44,7 @@ module _ {D : Type 0} (n : ℕ) where
       let g : drops {D = D} n (Some (channel_op.DropReceiver n)) ≡ false = subst (λ p. drops n p ≡ false) f e in
       let own : (n == n) ≡ true = eq-eqb n n refl in cc (g, own)
 
-  never_by : (handed : ℕ → Option (ChannelOp D)) (a : ℕ) (todo : Op D ⊤) → ((t : ℕ) → handed t ≡ Some (channel_op.DropReceiver n) → ⊥) → drops n (of_channel todo) ≡ false
+  never_by : (handed : ℕ → Option (ChannelOp D)) (a : ℕ) (todo : Request D ⊤) → ((t : ℕ) → handed t ≡ Some (channel_op.DropReceiver n) → ⊥) → drops n (of_channel todo) ≡ false
       → (t : ℕ) → handed_by a todo handed t ≡ Some (channel_op.DropReceiver n) → ⊥
   never_by handed a todo never e t f = by_number (decided t a)
     where

@@ -4,7 +4,7 @@ use Rattle.std.specs.Prelude.{Result, Ok, Err, ⊤}
 use Rattle.loom_view_parts.specs.declared.rt.failure.FailureKind.{FailureKind}
 use Rattle.loom_parts.specs.declared.choice.Choice.{Choice}
 use Rattle.loom_parts.specs.declared.choice.Choice.TheVariants as choice
-use Rattle.loom_objects.specs.declared.operation.Op.{Op}
+use Rattle.loom_objects.specs.declared.operation.Request.{Request}
 use Rattle.loom_objects.specs.declared.operation.Reply.{Reply}
 use Rattle.loom_objects.specs.declared.operation.Reply.TheVariants as reply
 use Rattle.loom_objects.specs.declared.operation.Turn.{Turn}
@@ -131,7 +131,7 @@ module _ {D : Type 0} (Kept : World D → Type 0) (TurnTo : Turn D × World D �
     goes_on_kept (Explores todo, c) k = then_keeps {Q = Anything} (came (switched todo c.exploring)) _ (came_anything (switched todo c.exploring)) (λ exploring q. gives _ k)
 
     -- an operation that begins so comes to such a turn
-    pub event_kept : (todo : Op D ⊤) (c : Course D) → Answers EnteredTo (counted todo c.world) → Keeps (InWorld TurnTo) (submit todo c)
+    pub event_kept : (todo : Request D ⊤) (c : Course D) → Answers EnteredTo (counted todo c.world) → Keeps (InWorld TurnTo) (submit todo c)
     event_kept todo c h =
         then_keeps {Q = InWorld EnteredTo} (carried c (begins todo c.world)) _ (carried_keeps c (begins todo c.world) (answers_keeps (counted todo c.world) h))
         (λ (entry, v) q. goes_on_kept (entry, grown_from c.world v) q)

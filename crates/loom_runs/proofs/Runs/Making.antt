@@ -12,13 +12,12 @@ use Rattle.loom_objects.specs.declared.operation.Lazy.{Lazy}
 use Rattle.loom_objects.specs.declared.operation.LazyOp.{LazyOp}
 use Rattle.loom_objects.specs.declared.operation.LazyOp.TheVariants as lazy_op
 use Rattle.loom_objects.specs.declared.operation.Message.{Message}
-use Rattle.loom_objects.specs.declared.operation.Op.{Op}
-use Rattle.loom_objects.specs.declared.operation.Op.TheVariants as op
+use Rattle.loom_objects.specs.declared.operation.Request.{Request}
+use Rattle.loom_objects.specs.declared.operation.Request.TheVariants as op
 use Rattle.loom_objects.specs.declared.operation.Reply.{Reply}
 use Rattle.loom_objects.specs.declared.operation.Reply.TheVariants as reply
 use Rattle.loom_objects.specs.declared.operation.Turn.{Turn}
 use Rattle.loom_objects.specs.declared.operation.Turn.TheVariants as turn
-use Rattle.loom_parts.specs.declared.label.Label.{Label}
 use Rattle.loom_objects.specs.declared.rt.run.Entry.{Entry}
 use Rattle.loom_objects.specs.declared.rt.run.Entry.TheVariants as entry
 use Rattle.loom_objects.specs.declared.rt.run.Passed.TheVariants as passed
@@ -298,10 +297,10 @@ module _ {D : Type 0} where
 
     -- ---- events
 
-    counted_made : (todo : Op D ⊤) (w : World D) → Made key w → Answers (Within (Made key)) (counted todo w)
+    counted_made : (todo : Request D ⊤) (w : World D) → Made key w → Answers (Within (Made key)) (counted todo w)
     counted_made todo w k =
         let fewer = record w { steps_left = w.steps_left - 1 } in
-        onward (check (nat_lt 0 w.steps_left) TooManySteps) _ (λ u. begins_moves (Made key) made_by_moves todo fewer (λ value. finish_made value fewer k) (λ asked place e. channel_made asked fewer k) (λ asked. lazy_made asked fewer k) k)
+        onward (check (nat_lt 0 w.steps_left) TooManySteps) _ (λ u. begins_moves (Made key) made_by_moves todo fewer (λ value. finish_made value fewer k) (λ asked e. channel_made asked fewer k) (λ asked. lazy_made asked fewer k) k)
 
     map_get : (change : Thread D → Thread D) (threads : List (Thread D)) (t : ℕ) (thread : Thread D) → slice_get threads t ≡ Some thread → slice_get (map change threads) t ≡ Some (change thread)
     map_get change [] t thread e = absurd (cc e)
@@ -350,7 +349,7 @@ module _ {D : Type 0} where
     by_resumed (Ok (resumed.Load load, v)) h = λ slot. by_reply (reads load.access v slot) (reads_moves (Made key) made_by_moves load.access v slot h)
     by_resumed (Err kind) h = tt
 
-    event_made : (todo : Op D ⊤) (c : Course D) → Made key c.world → Keeps (InWorld (Within (Made key))) (submit todo c)
+    event_made : (todo : Request D ⊤) (c : Course D) → Made key c.world → Keeps (InWorld (Within (Made key))) (submit todo c)
     event_made todo c k =
         event_kept (Made key) (Within (Made key)) (λ t w h. by_resumed (chosen t w) (chosen_made t w h)) (λ w h. end_made w h) todo c
         (by_entry (counted todo c.world) (counted_made todo c.world k))
@@ -364,11 +363,11 @@ module _ {D : Type 0} where
   abbrev pub Nowhere : World D → Type 0
   Nowhere w = ⊥
 
-  init_event : (P : World D → Type 0) (key : ℕ) (value : D) (label : Option Label) (c : Course D)
+  init_event : (P : World D → Type 0) (key : ℕ) (value : D) (c : Course D)
       → ((w : World D) → w.threads ≡ c.world.threads → w.lazies ≡ c.world.lazies → are_open w ≡ true → Answers (EnteredTo Nowhere (Saying P)) (makes_lazy key value (lazy_at key w) w))
-      → Keeps (InWorld (Saying P)) (submit (op.Lazy (lazy_op.Init key value) label) c)
-  init_event P key value label c h =
-      event_kept Nowhere (Saying P) (λ t w k. absurd k) (λ w k. absurd k) (op.Lazy (lazy_op.Init key value) label) c (by_steps (nat_lt 0 c.world.steps_left))
+      → Keeps (InWorld (Saying P)) (submit (op.Lazy (lazy_op.Init key value)) c)
+  init_event P key value c h =
+      event_kept Nowhere (Saying P) (λ t w k. absurd k) (λ w k. absurd k) (op.Lazy (lazy_op.Init key value)) c (by_steps (nat_lt 0 c.world.steps_left))
     where
       fewer : World D
       fewer = record c.world { steps_left = c.world.steps_left - 1 }
@@ -395,8 +394,8 @@ module _ {D : Type 0} where
 
   -- from there on it stands
   first_made : (key : ℕ) (event : Event D) (c v : Course D) → Made None c.world → ComesTo (submit event.op c) (event.turn, v) → Makes key event → Made (Some key) v.world
-  first_made key event c v k comes (value, (place, (t, (is_op, is_turn)))) =
-      kept_value (submit (op.Lazy (lazy_op.Init key value) place) c) (event.turn, v) (init_event (Made (Some key)) key value place c made_so)
+  first_made key event c v k comes (value, (t, (is_op, is_turn))) =
+      kept_value (submit (op.Lazy (lazy_op.Init key value)) c) (event.turn, v) (init_event (Made (Some key)) key value c made_so)
       (subst (λ todo. ComesTo (submit todo c) (event.turn, v)) is_op comes) t value is_turn
     where
       made_so : (w : World D) → w.threads ≡ c.world.threads → w.lazies ≡ c.world.lazies → are_open w ≡ true → Answers (EnteredTo Nowhere (Saying (Made (Some key)))) (makes_lazy key value (lazy_at key w) w)
@@ -415,8 +414,8 @@ module _ {D : Type 0} where
 
   -- so no other event makes it
   not_again : (key : ℕ) (event : Event D) (c v : Course D) → Made (Some key) c.world → ComesTo (submit event.op c) (event.turn, v) → Makes key event → ⊥
-  not_again key event c v k comes (value, (place, (t, (is_op, is_turn)))) =
-      kept_value (submit (op.Lazy (lazy_op.Init key value) place) c) (event.turn, v) (init_event Nowhere key value place c stood)
+  not_again key event c v k comes (value, (t, (is_op, is_turn))) =
+      kept_value (submit (op.Lazy (lazy_op.Init key value)) c) (event.turn, v) (init_event Nowhere key value c stood)
       (subst (λ todo. ComesTo (submit todo c) (event.turn, v)) is_op comes) t value is_turn
     where
       stood : (w : World D) → w.threads ≡ c.world.threads → w.lazies ≡ c.world.lazies → are_open w ≡ true → Answers (EnteredTo Nowhere (Saying Nowhere)) (makes_lazy key value (lazy_at key w) w)

@@ -32,8 +32,8 @@ use Rattle.loom_objects.specs.declared.operation.MutexOp.{MutexOp}
 use Rattle.loom_objects.specs.declared.operation.MutexOp.TheVariants as mutex_op
 use Rattle.loom_objects.specs.declared.operation.NotifyOp.{NotifyOp}
 use Rattle.loom_objects.specs.declared.operation.NotifyOp.TheVariants as notify_op
-use Rattle.loom_objects.specs.declared.operation.Op.{Op}
-use Rattle.loom_objects.specs.declared.operation.Op.TheVariants as op
+use Rattle.loom_objects.specs.declared.operation.Request.{Request}
+use Rattle.loom_objects.specs.declared.operation.Request.TheVariants as op
 use Rattle.loom_objects.specs.declared.operation.Reply.{Reply}
 use Rattle.loom_objects.specs.declared.operation.RwLockOp.{RwLockOp}
 use Rattle.loom_objects.specs.declared.operation.RwLockOp.TheVariants as lock_op
@@ -43,7 +43,6 @@ use Rattle.loom_objects.specs.declared.operation.TrackOp.{TrackOp}
 use Rattle.loom_objects.specs.declared.operation.TrackOp.TheVariants as track_op
 use Rattle.loom_objects.specs.declared.operation.WakerOp.{WakerOp}
 use Rattle.loom_objects.specs.declared.operation.WakerOp.TheVariants as waker_op
-use Rattle.loom_parts.specs.declared.label.Label.{Label}
 use Rattle.loom_objects.specs.declared.rt.object.Object.{Object}
 use Rattle.loom_objects.specs.declared.rt.object.Object.TheVariants as object
 use Rattle.loom_objects.specs.declared.rt.run.Entry.{Entry}
@@ -663,26 +662,26 @@ module _ {D : Type 0} (R : World D → Type 0) (k : KeptByMoves R) where
 
   -- ---- each operation, and each effect, but for those that the property says itself
 
-  pub begins_moves : (todo : Op D ⊤) (w : World D) → ((value : D) → Answers (Within R) (finish value w))
-      → ((asked : ChannelOp D) (label : Option Label) → todo ≡ op.Channel asked label → Answers (Within R) (channel_begins asked w)) → ((todo : LazyOp D) → Answers (Within R) (lazy_begins todo w)) → R w → Answers (Within R) (op_begins todo w)
-  begins_moves (op.Atomic todo place) w f c l s = atomic_moves todo w s
-  begins_moves (op.Fence order place) w f c l s = fence_moves order w s
-  begins_moves (op.Cell todo place) w f c l s = cell_moves todo w s
-  begins_moves (op.Arc todo place) w f c l s = arc_moves todo w s
-  begins_moves (op.Track todo place) w f c l s = track_moves todo w s
-  begins_moves (op.Mutex todo place) w f c l s = mutex_moves todo w s
-  begins_moves (op.RwLock todo place) w f c l s = rwlock_moves todo w s
-  begins_moves (op.Condvar todo place) w f c l s = condvar_moves todo w s
-  begins_moves (op.Notify todo place) w f c l s = notifier_moves todo w s
-  begins_moves (op.Channel todo place) w f c l s = c todo place refl
-  begins_moves (op.Waker todo place) w f c l s = waker_moves todo w s
-  begins_moves (op.AtomicWaker todo place) w f c l s = place_moves todo w s
-  begins_moves (op.Local todo place) w f c l s = local_moves todo w s
-  begins_moves (op.Lazy todo place) w f c l s = l todo
-  begins_moves (op.Explore todo place) w f c l s = s
-  begins_moves (op.Thread todo place) w f c l s = thread_moves todo w f s
-  begins_moves (op.Fail place) w f c l s = tt
-  begins_moves (op.Unreachable place) w f c l s = tt
+  pub begins_moves : (todo : Request D ⊤) (w : World D) → ((value : D) → Answers (Within R) (finish value w))
+      → ((asked : ChannelOp D) → todo ≡ op.Channel asked → Answers (Within R) (channel_begins asked w)) → ((todo : LazyOp D) → Answers (Within R) (lazy_begins todo w)) → R w → Answers (Within R) (op_begins todo w)
+  begins_moves (op.Atomic todo) w f c l s = atomic_moves todo w s
+  begins_moves (op.Fence order) w f c l s = fence_moves order w s
+  begins_moves (op.Cell todo) w f c l s = cell_moves todo w s
+  begins_moves (op.Arc todo) w f c l s = arc_moves todo w s
+  begins_moves (op.Track todo) w f c l s = track_moves todo w s
+  begins_moves (op.Mutex todo) w f c l s = mutex_moves todo w s
+  begins_moves (op.RwLock todo) w f c l s = rwlock_moves todo w s
+  begins_moves (op.Condvar todo) w f c l s = condvar_moves todo w s
+  begins_moves (op.Notify todo) w f c l s = notifier_moves todo w s
+  begins_moves (op.Channel todo) w f c l s = c todo refl
+  begins_moves (op.Waker todo) w f c l s = waker_moves todo w s
+  begins_moves (op.AtomicWaker todo) w f c l s = place_moves todo w s
+  begins_moves (op.Local todo) w f c l s = local_moves todo w s
+  begins_moves (op.Lazy todo) w f c l s = l todo
+  begins_moves (op.Explore todo) w f c l s = s
+  begins_moves (op.Thread todo) w f c l s = thread_moves todo w f s
+  begins_moves op.Fail w f c l s = tt
+  begins_moves op.Unreachable w f c l s = tt
 
   told : (r : Result (Reply D × World D) FailureKind) → Answers (Within R) r → Answers (Within R) (r >>= replied)
   told (Ok answered) s = s

@@ -11,8 +11,8 @@ use Rattle.loom_objects.specs.declared.operation.Lazy.{Lazy}
 use Rattle.loom_objects.specs.declared.operation.LazyOp.{LazyOp}
 use Rattle.loom_objects.specs.declared.operation.LazyOp.TheVariants as lazy_op
 use Rattle.loom_objects.specs.declared.operation.Message.{Message}
-use Rattle.loom_objects.specs.declared.operation.Op.{Op}
-use Rattle.loom_objects.specs.declared.operation.Op.TheVariants as op
+use Rattle.loom_objects.specs.declared.operation.Request.{Request}
+use Rattle.loom_objects.specs.declared.operation.Request.TheVariants as op
 use Rattle.loom_objects.specs.declared.operation.Reply.{Reply}
 use Rattle.loom_objects.specs.declared.operation.Reply.TheVariants as reply
 use Rattle.loom_objects.specs.declared.operation.Turn.{Turn}
@@ -505,34 +505,34 @@ module _ {D : Type 0} (n : ℕ) where
           by_lazy (Some lazy) = k
 
       -- any other one
-      ordinary_after : (todo : Op D ⊤) (a : ℕ) (w : World D) → of_channel todo ≡ None → handed a ≡ of_channel todo → Bound q handed a w → Answers (EnteredTo (Asked q handed) (After q handed)) (op_begins todo w)
+      ordinary_after : (todo : Request D ⊤) (a : ℕ) (w : World D) → of_channel todo ≡ None → handed a ≡ of_channel todo → Bound q handed a w → Answers (EnteredTo (Asked q handed) (After q handed)) (op_begins todo w)
       ordinary_after todo a w none mine k =
           let nothing_for : doing_for (handed a) ≡ None = subst (λ o. doing_for o ≡ None) (sym mine) (ap doing_for none) in
           entered_idle a (op_begins todo w) nothing_for (begins_moves (Bound q handed a) (held_by_moves n q (except a handed) a) todo w (λ value. finish_bound value a w k)
-          (λ asked place e. let busy : of_channel todo ≡ Some asked = ap of_channel e in absurd (cc (busy, none))) (λ asked. lazy_bound asked a w k) k)
+          (λ asked e. let busy : of_channel todo ≡ Some asked = ap of_channel e in absurd (cc (busy, none))) (λ asked. lazy_bound asked a w k) k)
 
-      begins_after : (todo : Op D ⊤) (a : ℕ) (w : World D) → handed a ≡ of_channel todo → Bound q handed a w → Answers (EnteredTo (Asked q handed) (After q handed)) (op_begins todo w)
-      begins_after (op.Channel todo place) a w mine k = channel_after todo a w mine k
-      begins_after (op.Atomic todo place) a w mine k = ordinary_after (op.Atomic todo place) a w refl mine k
-      begins_after (op.Fence order place) a w mine k = ordinary_after (op.Fence order place) a w refl mine k
-      begins_after (op.Cell todo place) a w mine k = ordinary_after (op.Cell todo place) a w refl mine k
-      begins_after (op.Arc todo place) a w mine k = ordinary_after (op.Arc todo place) a w refl mine k
-      begins_after (op.Track todo place) a w mine k = ordinary_after (op.Track todo place) a w refl mine k
-      begins_after (op.Mutex todo place) a w mine k = ordinary_after (op.Mutex todo place) a w refl mine k
-      begins_after (op.RwLock todo place) a w mine k = ordinary_after (op.RwLock todo place) a w refl mine k
-      begins_after (op.Condvar todo place) a w mine k = ordinary_after (op.Condvar todo place) a w refl mine k
-      begins_after (op.Notify todo place) a w mine k = ordinary_after (op.Notify todo place) a w refl mine k
-      begins_after (op.Waker todo place) a w mine k = ordinary_after (op.Waker todo place) a w refl mine k
-      begins_after (op.AtomicWaker todo place) a w mine k = ordinary_after (op.AtomicWaker todo place) a w refl mine k
-      begins_after (op.Local todo place) a w mine k = ordinary_after (op.Local todo place) a w refl mine k
-      begins_after (op.Lazy todo place) a w mine k = ordinary_after (op.Lazy todo place) a w refl mine k
-      begins_after (op.Explore todo place) a w mine k = ordinary_after (op.Explore todo place) a w refl mine k
-      begins_after (op.Thread todo place) a w mine k = ordinary_after (op.Thread todo place) a w refl mine k
-      begins_after (op.Fail place) a w mine k = tt
-      begins_after (op.Unreachable place) a w mine k = tt
+      begins_after : (todo : Request D ⊤) (a : ℕ) (w : World D) → handed a ≡ of_channel todo → Bound q handed a w → Answers (EnteredTo (Asked q handed) (After q handed)) (op_begins todo w)
+      begins_after (op.Channel todo) a w mine k = channel_after todo a w mine k
+      begins_after (op.Atomic todo) a w mine k = ordinary_after (op.Atomic todo) a w refl mine k
+      begins_after (op.Fence order) a w mine k = ordinary_after (op.Fence order) a w refl mine k
+      begins_after (op.Cell todo) a w mine k = ordinary_after (op.Cell todo) a w refl mine k
+      begins_after (op.Arc todo) a w mine k = ordinary_after (op.Arc todo) a w refl mine k
+      begins_after (op.Track todo) a w mine k = ordinary_after (op.Track todo) a w refl mine k
+      begins_after (op.Mutex todo) a w mine k = ordinary_after (op.Mutex todo) a w refl mine k
+      begins_after (op.RwLock todo) a w mine k = ordinary_after (op.RwLock todo) a w refl mine k
+      begins_after (op.Condvar todo) a w mine k = ordinary_after (op.Condvar todo) a w refl mine k
+      begins_after (op.Notify todo) a w mine k = ordinary_after (op.Notify todo) a w refl mine k
+      begins_after (op.Waker todo) a w mine k = ordinary_after (op.Waker todo) a w refl mine k
+      begins_after (op.AtomicWaker todo) a w mine k = ordinary_after (op.AtomicWaker todo) a w refl mine k
+      begins_after (op.Local todo) a w mine k = ordinary_after (op.Local todo) a w refl mine k
+      begins_after (op.Lazy todo) a w mine k = ordinary_after (op.Lazy todo) a w refl mine k
+      begins_after (op.Explore todo) a w mine k = ordinary_after (op.Explore todo) a w refl mine k
+      begins_after (op.Thread todo) a w mine k = ordinary_after (op.Thread todo) a w refl mine k
+      begins_after op.Fail a w mine k = tt
+      begins_after op.Unreachable a w mine k = tt
 
       -- the active thread has handed over its operation
-      pub event_after : (todo : Op D ⊤) (a : ℕ) (c : Course D) → handed a ≡ of_channel todo → Bound q handed a c.world → Keeps (InWorld (After q handed)) (submit todo c)
+      pub event_after : (todo : Request D ⊤) (a : ℕ) (c : Course D) → handed a ≡ of_channel todo → Bound q handed a c.world → Keeps (InWorld (After q handed)) (submit todo c)
       event_after todo a c mine k =
           event_kept (Asked q handed) (After q handed) (λ t w h. chosen_after t w h) (λ w h. end_after w) todo c
           (answers_then (EnteredTo (Asked q handed) (After q handed)) (check (nat_lt 0 c.world.steps_left) TooManySteps) _ (λ u. begins_after todo a (record c.world { steps_left = c.world.steps_left - 1 }) mine k))

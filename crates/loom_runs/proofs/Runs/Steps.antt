@@ -7,7 +7,7 @@ use Rattle.loom_parts.specs.declared.choice.Choice.{Choice}
 use Rattle.loom_parts.specs.declared.choice.Choice.TheVariants as choice
 use Rattle.loom_objects.specs.declared.operation.ExploreOp.{ExploreOp}
 use Rattle.loom_objects.specs.declared.operation.ExploreOp.TheVariants as explore_op
-use Rattle.loom_objects.specs.declared.operation.Op.{Op}
+use Rattle.loom_objects.specs.declared.operation.Request.{Request}
 use Rattle.loom_objects.specs.declared.operation.Reply.{Reply}
 use Rattle.loom_objects.specs.declared.operation.Turn.{Turn}
 use Rattle.loom_objects.specs.declared.rt.exploring.Exploring.{Exploring}
@@ -168,7 +168,7 @@ module _ {D : Type 0} where
   goes_on_event (AtSpurious n, c) = asks _ _ tt (λ o h. waits_event n c o (options_are_flags (is_on c.exploring) o h)) (waits_open n c) (λ e. absurd (cc e))
   goes_on_event (Explores todo, c) = switches_event todo c
 
-  pub submit_event : (todo : Op D ⊤) (c : Course D) → IsEvent (submit todo c)
+  pub submit_event : (todo : Request D ⊤) (c : Course D) → IsEvent (submit todo c)
   submit_event todo c = then_event (carried c (begins todo c.world)) _
       (carried_settles c (begins todo c.world) (came_settles (Entering (returned_by todo) c.world) (counted todo c.world) (counted_entering todo c.world) (anything (counted todo c.world))))
       (λ entered q. goes_on_event (entered.0, grown_from c.world entered.1))

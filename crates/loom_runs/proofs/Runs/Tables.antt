@@ -6,8 +6,8 @@ use Rattle.loom_view_parts.specs.declared.rt.failure.FailureKind.TheVariants.{Le
 use Rattle.loom_view_parts.specs.declared.rt.reader.Reader.TheVariants as reader
 use Rattle.loom_objects.specs.declared.operation.AtomicOp.{AtomicOp}
 use Rattle.loom_objects.specs.declared.operation.AtomicOp.TheVariants as atomic_op
-use Rattle.loom_objects.specs.declared.operation.Op.{Op}
-use Rattle.loom_objects.specs.declared.operation.Op.TheVariants as op
+use Rattle.loom_objects.specs.declared.operation.Request.{Request}
+use Rattle.loom_objects.specs.declared.operation.Request.TheVariants as op
 use Rattle.loom_objects.specs.declared.operation.Reply.{Reply}
 use Rattle.loom_objects.specs.declared.operation.Turn.{Turn}
 use Rattle.loom_objects.specs.declared.rt.run.Passed.{Passed}
@@ -67,65 +67,65 @@ check_leak_fair None h = tt
 check_leak_fair (Some kind) h = h
 
 module _ {D : Type 0} where
-  op_begins_entering : (todo : Op D ⊤) (w : World D) → Fairly (Entering (returned_by todo) w) (op_begins todo w)
-  op_begins_entering (op.Atomic todo place) w = enters w None _ (atomic_begins_keeping todo w) (atomic_quiet todo w)
-  op_begins_entering (op.Fence order place) w = enters w None _ (fence_keeping order w) (fence_quiet order w)
-  op_begins_entering (op.Cell todo place) w = enters w None _ (cell_begins_keeping todo w) (cell_quiet todo w)
-  op_begins_entering (op.Arc todo place) w = enters w None _ (arc_begins_keeping todo w) (arc_quiet todo w)
-  op_begins_entering (op.Track todo place) w = enters w None _ (track_begins_keeping todo w) (track_quiet todo w)
-  op_begins_entering (op.Mutex todo place) w = mutex_begins_entering todo w
-  op_begins_entering (op.RwLock todo place) w = enters w None _ (rwlock_begins_keeping todo w) (rwlock_quiet todo w)
-  op_begins_entering (op.Condvar todo place) w = condvar_begins_entering todo w
-  op_begins_entering (op.Notify todo place) w = enters w None _ (notifier_begins_keeping todo w) (notifier_quiet todo w)
-  op_begins_entering (op.Channel todo place) w = enters w None _ (channel_begins_keeping todo w) (channel_quiet todo w)
-  op_begins_entering (op.Waker todo place) w = enters w None _ (waker_begins_keeping todo w) (waker_quiet todo w)
-  op_begins_entering (op.AtomicWaker todo place) w = enters w None _ (place_begins_keeping todo w) (place_quiet todo w)
-  op_begins_entering (op.Local todo place) w = enters w None _ (local_begins_keeping todo w) (local_quiet todo w)
-  op_begins_entering (op.Lazy todo place) w = enters w None _ (lazy_begins_keeping todo w) (lazy_quiet todo w)
-  op_begins_entering (op.Explore todo place) w = λ out other k. k
-  op_begins_entering (op.Thread todo place) w = enters w None _ (thread_begins_keeping todo w) (thread_quiet todo w)
-  op_begins_entering (op.Fail place) w = λ e. cc
-  op_begins_entering (op.Unreachable place) w = λ e. cc
+  op_begins_entering : (todo : Request D ⊤) (w : World D) → Fairly (Entering (returned_by todo) w) (op_begins todo w)
+  op_begins_entering (op.Atomic todo) w = enters w None _ (atomic_begins_keeping todo w) (atomic_quiet todo w)
+  op_begins_entering (op.Fence order) w = enters w None _ (fence_keeping order w) (fence_quiet order w)
+  op_begins_entering (op.Cell todo) w = enters w None _ (cell_begins_keeping todo w) (cell_quiet todo w)
+  op_begins_entering (op.Arc todo) w = enters w None _ (arc_begins_keeping todo w) (arc_quiet todo w)
+  op_begins_entering (op.Track todo) w = enters w None _ (track_begins_keeping todo w) (track_quiet todo w)
+  op_begins_entering (op.Mutex todo) w = mutex_begins_entering todo w
+  op_begins_entering (op.RwLock todo) w = enters w None _ (rwlock_begins_keeping todo w) (rwlock_quiet todo w)
+  op_begins_entering (op.Condvar todo) w = condvar_begins_entering todo w
+  op_begins_entering (op.Notify todo) w = enters w None _ (notifier_begins_keeping todo w) (notifier_quiet todo w)
+  op_begins_entering (op.Channel todo) w = enters w None _ (channel_begins_keeping todo w) (channel_quiet todo w)
+  op_begins_entering (op.Waker todo) w = enters w None _ (waker_begins_keeping todo w) (waker_quiet todo w)
+  op_begins_entering (op.AtomicWaker todo) w = enters w None _ (place_begins_keeping todo w) (place_quiet todo w)
+  op_begins_entering (op.Local todo) w = enters w None _ (local_begins_keeping todo w) (local_quiet todo w)
+  op_begins_entering (op.Lazy todo) w = enters w None _ (lazy_begins_keeping todo w) (lazy_quiet todo w)
+  op_begins_entering (op.Explore todo) w = λ out other k. k
+  op_begins_entering (op.Thread todo) w = enters w None _ (thread_begins_keeping todo w) (thread_quiet todo w)
+  op_begins_entering op.Fail w = λ e. cc
+  op_begins_entering op.Unreachable w = λ e. cc
 
   -- a state that differs just in how many operations are left
   abbrev pub one_fewer : World D → World D
   one_fewer w = record w { steps_left = w.steps_left - 1 }
 
-  pub counted_entering : (todo : Op D ⊤) (w : World D) → Fairly (Entering (returned_by todo) w) (counted todo w)
+  pub counted_entering : (todo : Request D ⊤) (w : World D) → Fairly (Entering (returned_by todo) w) (counted todo w)
   counted_entering todo w = check_fairly (Entering (returned_by todo) w) (nat_lt 0 w.steps_left) TooManySteps _ (λ e. cc) (λ e. op_begins_entering todo (one_fewer w))
 
   -- the data of a mutex is taken out at once
-  pub counted_opening : (todo : Op D ⊤) (n : ℕ) (w : World D) → opened_by todo ≡ Some n → Fairly (Opening n w) (counted todo w)
-  counted_opening (op.Mutex (mutex_op.GetMut m) place) n w e = check_fairly (Opening n w) (nat_lt 0 w.steps_left) TooManySteps _ (λ f. cc) (λ f. get_mut_of m n (cc e))
+  pub counted_opening : (todo : Request D ⊤) (n : ℕ) (w : World D) → opened_by todo ≡ Some n → Fairly (Opening n w) (counted todo w)
+  counted_opening (op.Mutex (mutex_op.GetMut m)) n w e = check_fairly (Opening n w) (nat_lt 0 w.steps_left) TooManySteps _ (λ f. cc) (λ f. get_mut_of m n (cc e))
     where
       get_mut_of : (m n : ℕ) → m ≡ n → Fairly (Opening n w) (mutex_get_mut m (one_fewer w))
       get_mut_of m n same = subst (λ i. Fairly (Opening i w) (mutex_get_mut m (one_fewer w))) same (get_mut_opening m (one_fewer w))
-  counted_opening (op.Mutex (mutex_op.IntoInner m) place) n w e = check_fairly (Opening n w) (nat_lt 0 w.steps_left) TooManySteps _ (λ f. cc) (λ f. into_inner_of m n (cc e))
+  counted_opening (op.Mutex (mutex_op.IntoInner m)) n w e = check_fairly (Opening n w) (nat_lt 0 w.steps_left) TooManySteps _ (λ f. cc) (λ f. into_inner_of m n (cc e))
     where
       into_inner_of : (m n : ℕ) → m ≡ n → Fairly (Opening n w) (mutex_into_inner m (one_fewer w))
       into_inner_of m n same = subst (λ i. Fairly (Opening i w) (mutex_into_inner m (one_fewer w))) same (into_inner_opening m (one_fewer w))
-  counted_opening (op.Mutex (mutex_op.New value) place) n w e = absurd (cc e)
-  counted_opening (op.Mutex (mutex_op.Lock m) place) n w e = absurd (cc e)
-  counted_opening (op.Mutex (mutex_op.TryLock m) place) n w e = absurd (cc e)
-  counted_opening (op.Mutex (mutex_op.Release m value) place) n w e = absurd (cc e)
-  counted_opening (op.Mutex (mutex_op.Put m value) place) n w e = absurd (cc e)
-  counted_opening (op.Atomic todo place) n w e = absurd (cc e)
-  counted_opening (op.Fence order place) n w e = absurd (cc e)
-  counted_opening (op.Cell todo place) n w e = absurd (cc e)
-  counted_opening (op.Arc todo place) n w e = absurd (cc e)
-  counted_opening (op.Track todo place) n w e = absurd (cc e)
-  counted_opening (op.RwLock todo place) n w e = absurd (cc e)
-  counted_opening (op.Condvar todo place) n w e = absurd (cc e)
-  counted_opening (op.Notify todo place) n w e = absurd (cc e)
-  counted_opening (op.Channel todo place) n w e = absurd (cc e)
-  counted_opening (op.Waker todo place) n w e = absurd (cc e)
-  counted_opening (op.AtomicWaker todo place) n w e = absurd (cc e)
-  counted_opening (op.Local todo place) n w e = absurd (cc e)
-  counted_opening (op.Lazy todo place) n w e = absurd (cc e)
-  counted_opening (op.Explore todo place) n w e = absurd (cc e)
-  counted_opening (op.Thread todo place) n w e = absurd (cc e)
-  counted_opening (op.Fail place) n w e = absurd (cc e)
-  counted_opening (op.Unreachable place) n w e = absurd (cc e)
+  counted_opening (op.Mutex (mutex_op.New value)) n w e = absurd (cc e)
+  counted_opening (op.Mutex (mutex_op.Lock m)) n w e = absurd (cc e)
+  counted_opening (op.Mutex (mutex_op.TryLock m)) n w e = absurd (cc e)
+  counted_opening (op.Mutex (mutex_op.Release m value)) n w e = absurd (cc e)
+  counted_opening (op.Mutex (mutex_op.Put m value)) n w e = absurd (cc e)
+  counted_opening (op.Atomic todo) n w e = absurd (cc e)
+  counted_opening (op.Fence order) n w e = absurd (cc e)
+  counted_opening (op.Cell todo) n w e = absurd (cc e)
+  counted_opening (op.Arc todo) n w e = absurd (cc e)
+  counted_opening (op.Track todo) n w e = absurd (cc e)
+  counted_opening (op.RwLock todo) n w e = absurd (cc e)
+  counted_opening (op.Condvar todo) n w e = absurd (cc e)
+  counted_opening (op.Notify todo) n w e = absurd (cc e)
+  counted_opening (op.Channel todo) n w e = absurd (cc e)
+  counted_opening (op.Waker todo) n w e = absurd (cc e)
+  counted_opening (op.AtomicWaker todo) n w e = absurd (cc e)
+  counted_opening (op.Local todo) n w e = absurd (cc e)
+  counted_opening (op.Lazy todo) n w e = absurd (cc e)
+  counted_opening (op.Explore todo) n w e = absurd (cc e)
+  counted_opening (op.Thread todo) n w e = absurd (cc e)
+  counted_opening op.Fail n w e = absurd (cc e)
+  counted_opening op.Unreachable n w e = absurd (cc e)
 
   -- ---- once the thread is chosen
 

@@ -6,9 +6,10 @@ use crate::text::page::Page;
 use crate::text::world::World;
 use loom_objects::operation::{
     ArcOp, AtomicOp, AtomicWakerOp, CellOp, ChannelOp, CondvarOp, ExploreOp, LazyOp, LocalOp,
-    MutexOp, NotifyOp, Op, RwLockOp, ThreadOp, TrackOp, WakerOp,
+    MutexOp, NotifyOp, Op, Request, RwLockOp, ThreadOp, TrackOp, WakerOp,
 };
 use loom_objects::rt::thread::Name;
+use loom_parts::text::Text;
 use loom_views::rt::change::Change;
 use loom_views::rt::num::Numbers;
 use std::sync::atomic::Ordering;
@@ -48,7 +49,7 @@ pub(crate) struct Call {
     pub(crate) subject: Subject,
     words: &'static str,
     arguments: Arguments,
-    name: Option<&'static str>,
+    name: Option<Text>,
     /// Of which kind its object is to be.
     pub(crate) kind: Option<Kind>,
     pub(crate) deed: Deed,
@@ -159,67 +160,67 @@ impl Call {
 
 /// The operation as written in code, with what it does, waits for and asks.
 pub(crate) fn call_of(op: &Op<(), ()>, world: &World) -> Call {
-    let call = call_in(op, world);
-    match kind_of(op) {
+    let call = call_in(&op.request, world);
+    match kind_of(&op.request) {
         Some((kind, asks)) => call.of_kind(kind, asks),
         None => call,
     }
 }
 
 /// Of which kind the operation's object is to be, and what is asked where nothing else is.
-fn kind_of(op: &Op<(), ()>) -> Option<(Kind, &'static str)> {
-    let kind = match op {
-        Op::Atomic(..) => (Kind::Atomic(Numbers::U64), "the atomic is to be there"),
-        Op::Cell(..) => (Kind::Cell, "the cell is to be there, with its data"),
-        Op::Arc(..) => (
+fn kind_of(request: &Request<(), ()>) -> Option<(Kind, &'static str)> {
+    let kind = match request {
+        Request::Atomic(..) => (Kind::Atomic(Numbers::U64), "the atomic is to be there"),
+        Request::Cell(..) => (Kind::Cell, "the cell is to be there, with its data"),
+        Request::Arc(..) => (
             Kind::Arc,
             "a reference is to be left, and the value is to be in",
         ),
-        Op::Track(..) => (Kind::Track, "the value is to be in"),
-        Op::Mutex(..) => (Kind::Mutex, DATA_IN),
-        Op::RwLock(..) => (Kind::RwLock, DATA_IN),
-        Op::Condvar(..) => (Kind::Condvar, "it is to be there"),
-        Op::Notify(..) => (Kind::Notifier, "it is to be the body's own"),
-        Op::Channel(..) => (Kind::Channel, "a sender is to be left"),
-        Op::Waker(..) => (Kind::Wakers, A_WAKER),
-        Op::AtomicWaker(..) => (Kind::Place, A_WAKER),
-        Op::Fence(..)
-        | Op::Local(..)
-        | Op::Lazy(..)
-        | Op::Explore(..)
-        | Op::Thread(..)
-        | Op::Fail(_)
-        | Op::Unreachable(_) => return None,
+        Request::Track(..) => (Kind::Track, "the value is to be in"),
+        Request::Mutex(..) => (Kind::Mutex, DATA_IN),
+        Request::RwLock(..) => (Kind::RwLock, DATA_IN),
+        Request::Condvar(..) => (Kind::Condvar, "it is to be there"),
+        Request::Notify(..) => (Kind::Notifier, "it is to be the body's own"),
+        Request::Channel(..) => (Kind::Channel, "a sender is to be left"),
+        Request::Waker(..) => (Kind::Wakers, A_WAKER),
+        Request::AtomicWaker(..) => (Kind::Place, A_WAKER),
+        Request::Fence(..)
+        | Request::Local(..)
+        | Request::Lazy(..)
+        | Request::Explore(..)
+        | Request::Thread(..)
+        | Request::Fail
+        | Request::Unreachable => return None,
     };
     Some(kind)
 }
 
 /// The operation as written in code, whatever its object is to be.
-fn call_in(op: &Op<(), ()>, world: &World) -> Call {
-    match op {
-        Op::Atomic(op, _) => atomic_call(*op, world),
-        Op::Fence(order, _) => Call::plain("fence").with(Arguments(
+fn call_in(request: &Request<(), ()>, world: &World) -> Call {
+    match request {
+        Request::Atomic(op) => atomic_call(*op, world),
+        Request::Fence(order) => Call::plain("fence").with(Arguments(
             Argument::Order(*order),
             Argument::Nothing,
         )),
-        Op::Cell(op, _) => cell_call(op),
-        Op::Arc(op, _) => arc_call(op),
-        Op::Track(op, _) => track_call(op),
-        Op::Mutex(op, _) => mutex_call(op),
-        Op::RwLock(op, _) => rwlock_call(op),
-        Op::Condvar(op, _) => condvar_call(op),
-        Op::Notify(op, _) => notify_call(*op),
-        Op::Channel(op, _) => channel_call(op),
-        Op::Waker(op, _) => waker_call(*op),
-        Op::AtomicWaker(op, _) => place_call(*op),
-        Op::Local(op, _) => local_call(op),
-        Op::Lazy(op, _) => lazy_call(op),
-        Op::Explore(ExploreOp::Explore, _) => Call::plain("explore()"),
-        Op::Explore(ExploreOp::StopExploring, _) => Call::plain("stop_exploring()"),
-        Op::Explore(ExploreOp::SkipBranch, _) => Call::plain("skip_branch()"),
-        Op::Thread(op, _) => thread_call(op, world),
-        Op::Fail(_) => Call::plain("fail()"),
-        Op::Unreachable(_) => Call::plain("unreachable_unchecked()"),
+        Request::Cell(op) => cell_call(op),
+        Request::Arc(op) => arc_call(op),
+        Request::Track(op) => track_call(op),
+        Request::Mutex(op) => mutex_call(op),
+        Request::RwLock(op) => rwlock_call(op),
+        Request::Condvar(op) => condvar_call(op),
+        Request::Notify(op) => notify_call(*op),
+        Request::Channel(op) => channel_call(op),
+        Request::Waker(op) => waker_call(*op),
+        Request::AtomicWaker(op) => place_call(*op),
+        Request::Local(op) => local_call(op),
+        Request::Lazy(op) => lazy_call(op),
+        Request::Explore(ExploreOp::Explore) => Call::plain("explore()"),
+        Request::Explore(ExploreOp::StopExploring) => Call::plain("stop_exploring()"),
+        Request::Explore(ExploreOp::SkipBranch) => Call::plain("skip_branch()"),
+        Request::Thread(op) => thread_call(op, world),
+        Request::Fail => Call::plain("fail()"),
+        Request::Unreachable => Call::plain("unreachable_unchecked()"),
     }
 }
 

@@ -6,7 +6,7 @@ use crate::text::objects::{At, Kind, Store, made_by};
 use crate::text::page::Page;
 use crate::text::world::World;
 use loom_objects::choice::Choice;
-use loom_objects::operation::Op;
+use loom_objects::operation::{Op, Request};
 use std::alloc::Global;
 
 /// A line of one thread: an operation, or what came of one.
@@ -260,7 +260,7 @@ fn put_made(text: &mut Page, op: &Op<(), ()>, world: &World) {
 }
 
 fn put_label(line: &mut Line, op: &Op<(), ()>) {
-    let Some(label) = op.label() else {
+    let Some(label) = op.label else {
         return;
     };
     line.text.quoted(label.name);
@@ -383,7 +383,7 @@ fn tell_stage(
 
 /// What a stage of the operation comes to.
 fn stage_words(op: &Op<(), ()>, passes: &'static str, stage: u8) -> &'static str {
-    if !matches!(op, Op::Condvar(..)) {
+    if !matches!(op.request, Request::Condvar(..)) {
         passes
     } else if stage == 0 {
         "sleeps, and gives the mutex free"

@@ -4,6 +4,7 @@ use crate::text::page::Page;
 use loom_objects::rt::thread::Name;
 use loom_parts::label::Label;
 use loom_parts::location::Location;
+use loom_parts::text::Text;
 use loom_views::rt::num::Numbers;
 use std::sync::atomic::Ordering;
 
@@ -57,15 +58,15 @@ impl Page {
     /// A place in the source: `spin.rs:87`.
     pub(crate) fn place(&mut self, words: &str, place: Location) {
         self.words(words);
-        self.words(place.file);
+        self.words(place.file.as_str());
         self.bits(":", u64::from(place.line));
     }
 
     /// A name after a space, if there is one: ` "flag"`.
-    pub(crate) fn quoted(&mut self, name: Option<&'static str>) {
+    pub(crate) fn quoted(&mut self, name: Option<Text>) {
         if let Some(name) = name {
             self.words(" \"");
-            self.words(name);
+            self.words(name.as_str());
             self.words("\"");
         }
     }
@@ -78,7 +79,7 @@ impl Page {
         let mut words = " (";
         if let Some(name) = label.name {
             self.words(" (\"");
-            self.words(name);
+            self.words(name.as_str());
             self.words("\"");
             words = ", ";
         }
@@ -111,7 +112,7 @@ impl Page {
         match name {
             Some(name) => {
                 self.words(" (\"");
-                self.words(name.text);
+                self.words(name.text.as_str());
                 self.words("\")");
             }
             None if thread == 0 => self.words(" (main)"),

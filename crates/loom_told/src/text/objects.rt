@@ -1,7 +1,7 @@
 //! What is known of an object, a store, an access and a thread, as far as a run's events tell.
 use loom_objects::operation::{
-    ArcOp, AtomicOp, AtomicWakerOp, CellOp, ChannelOp, CondvarOp, MutexOp, NotifyOp, Op, RwLockOp,
-    ThreadOp, TrackOp, WakerOp,
+    ArcOp, AtomicOp, AtomicWakerOp, CellOp, ChannelOp, CondvarOp, MutexOp, NotifyOp, Op, Request,
+    RwLockOp, ThreadOp, TrackOp, WakerOp,
 };
 use loom_objects::rt::thread::Name;
 use loom_parts::label::Label;
@@ -199,36 +199,36 @@ impl Manner {
 
 /// What the operation makes, if it makes an object. Of the two of a future it is the count of its wakers.
 pub(crate) fn made_by(op: &Op<(), ()>) -> Option<Kind> {
-    match op {
-        Op::Atomic(AtomicOp::New(numbers, _), _) => Some(Kind::Atomic(*numbers)),
-        Op::Cell(CellOp::New(_), _) => Some(Kind::Cell),
-        Op::Arc(ArcOp::New(_), _) => Some(Kind::Arc),
-        Op::Track(TrackOp::New(_), _) => Some(Kind::Track),
-        Op::Mutex(MutexOp::New(_), _) => Some(Kind::Mutex),
-        Op::RwLock(RwLockOp::New(_), _) => Some(Kind::RwLock),
-        Op::Condvar(CondvarOp::New, _) => Some(Kind::Condvar),
-        Op::Notify(NotifyOp::New, _) => Some(Kind::Notifier),
-        Op::Channel(ChannelOp::New, _) => Some(Kind::Channel),
-        Op::Waker(WakerOp::New, _) => Some(Kind::Wakers),
-        Op::AtomicWaker(AtomicWakerOp::New, _) => Some(Kind::Place),
-        Op::Thread(ThreadOp::Spawn(..), _) => Some(Kind::Joining),
-        Op::Atomic(..)
-        | Op::Fence(..)
-        | Op::Cell(..)
-        | Op::Arc(..)
-        | Op::Track(..)
-        | Op::Mutex(..)
-        | Op::RwLock(..)
-        | Op::Condvar(..)
-        | Op::Notify(..)
-        | Op::Channel(..)
-        | Op::Waker(..)
-        | Op::AtomicWaker(..)
-        | Op::Local(..)
-        | Op::Lazy(..)
-        | Op::Explore(..)
-        | Op::Thread(..)
-        | Op::Fail(_)
-        | Op::Unreachable(_) => None,
+    match &op.request {
+        Request::Atomic(AtomicOp::New(numbers, _)) => Some(Kind::Atomic(*numbers)),
+        Request::Cell(CellOp::New(_)) => Some(Kind::Cell),
+        Request::Arc(ArcOp::New(_)) => Some(Kind::Arc),
+        Request::Track(TrackOp::New(_)) => Some(Kind::Track),
+        Request::Mutex(MutexOp::New(_)) => Some(Kind::Mutex),
+        Request::RwLock(RwLockOp::New(_)) => Some(Kind::RwLock),
+        Request::Condvar(CondvarOp::New) => Some(Kind::Condvar),
+        Request::Notify(NotifyOp::New) => Some(Kind::Notifier),
+        Request::Channel(ChannelOp::New) => Some(Kind::Channel),
+        Request::Waker(WakerOp::New) => Some(Kind::Wakers),
+        Request::AtomicWaker(AtomicWakerOp::New) => Some(Kind::Place),
+        Request::Thread(ThreadOp::Spawn(..)) => Some(Kind::Joining),
+        Request::Atomic(..)
+        | Request::Fence(..)
+        | Request::Cell(..)
+        | Request::Arc(..)
+        | Request::Track(..)
+        | Request::Mutex(..)
+        | Request::RwLock(..)
+        | Request::Condvar(..)
+        | Request::Notify(..)
+        | Request::Channel(..)
+        | Request::Waker(..)
+        | Request::AtomicWaker(..)
+        | Request::Local(..)
+        | Request::Lazy(..)
+        | Request::Explore(..)
+        | Request::Thread(..)
+        | Request::Fail
+        | Request::Unreachable => None,
     }
 }

@@ -12,7 +12,7 @@ use crate::text::objects::{Access, At};
 use crate::text::page::Page;
 use crate::text::world::World;
 use loom_objects::choice::Choice;
-use loom_objects::operation::{LocalOp, Op, ThreadOp};
+use loom_objects::operation::{Labelled, LocalOp, Op, Request, ThreadOp};
 use loom_parts::location::Location;
 use loom_views::rt::failure::FailureKind;
 
@@ -74,6 +74,14 @@ impl<'a> Scene<'a> {
         }
     }
 
+    /// What it asked for.
+    pub(crate) fn request(&self) -> Option<&'a Request<(), ()>> {
+        match self.op() {
+            Some(op) => Some(&op.request),
+            None => None,
+        }
+    }
+
     /// Whether the run failed by the operation of this event.
     pub(crate) fn is_failing(&self, event: Option<usize>) -> bool {
         match self.kind {
@@ -100,7 +108,10 @@ impl<'a> Scene<'a> {
         match self.event(number) {
             Some(
                 Event {
-                    op: Op::Thread(ThreadOp::End, _),
+                    op: Labelled {
+                        request: Request::Thread(ThreadOp::End),
+                        ..
+                    },
                     ..
                 },
             )
@@ -134,12 +145,12 @@ impl<'a> Scene<'a> {
 
 impl Sought {
     fn is_met_by(self, event: &Event) -> bool {
-        match (self, &event.op) {
+        match (self, &event.op.request) {
             (Sought::Any(thread), _) => event.thread == thread,
-            (Sought::Explore, Op::Explore(..)) => true,
-            (Sought::Finish, Op::Thread(ThreadOp::Finish(_), _)) => event.thread == 0,
-            (Sought::Exit(thread), Op::Thread(ThreadOp::Exit, _)) => event.thread == thread,
-            (Sought::Init(thread, key), Op::Local(LocalOp::Init(other, _), _)) => {
+            (Sought::Explore, Request::Explore(..)) => true,
+            (Sought::Finish, Request::Thread(ThreadOp::Finish(_))) => event.thread == 0,
+            (Sought::Exit(thread), Request::Thread(ThreadOp::Exit)) => event.thread == thread,
+            (Sought::Init(thread, key), Request::Local(LocalOp::Init(other, _))) => {
                 event.thread == thread && *other == key
             }
             _ => false,
@@ -285,7 +296,7 @@ fn put_place(out: &mut Page, scene: Scene<'_>) {
 }
 
 fn place_of(scene: Scene<'_>) -> Option<Location> {
-    scene.op()?.label()?.location
+    scene.op()?.label?.location
 }
 
 /// Why, a line each.

@@ -8,7 +8,7 @@ use crate::text::names::{Thing, Value};
 use crate::text::objects::{
     Access, At, Hold, Kind, Manner, Member, Object, Reading, Store, made_by,
 };
-use loom_objects::operation::{AtomicOp, CellOp, CondvarOp, Op, Reply, ThreadOp};
+use loom_objects::operation::{AtomicOp, CellOp, CondvarOp, Op, Reply, Request, ThreadOp};
 use loom_objects::rt::thread::Name;
 use loom_parts::label::Label;
 use loom_views::rt::MAX_ATOMIC_HISTORY;
@@ -132,14 +132,14 @@ impl World {
         if matches!(kind, Kind::Wakers) {
             self.make_object(at, Kind::Waking, None);
         }
-        if let Op::Thread(ThreadOp::Spawn(_, name), _) = op {
+        if let Request::Thread(ThreadOp::Spawn(_, name)) = &op.request {
             self.make_thread(*name);
         }
-        if let Op::Atomic(AtomicOp::New(..), _) = op {
+        if let Request::Atomic(AtomicOp::New(..)) = &op.request {
             let atomic = self.objects.len();
             self.make_store(at, atomic, 0, None);
         }
-        self.make_object(at, kind, op.label());
+        self.make_object(at, kind, op.label);
     }
 
     fn make_thread(&mut self, name: Option<Name>) {
@@ -196,10 +196,9 @@ impl World {
             stage = member.stage;
             member.stage = stage.saturating_add(1);
         }
-        if let Op::Condvar(
+        if let Request::Condvar(
             CondvarOp::Wait(_, mutex, _) | CondvarOp::WaitTimeout(_, mutex, _),
-            _,
-        ) = op
+        ) = &op.request
         {
             if stage == 0 {
                 self.give(thread, *mutex);
@@ -222,10 +221,10 @@ impl World {
         if let Some(member) = self.threads.get_mut(usize::from(at.thread)) {
             member.pending = None;
         }
-        if let Op::Atomic(op, _) = op {
+        if let Request::Atomic(op) = &op.request {
             return self.settle_atomic(at, *op, told, slot);
         }
-        if let Op::Cell(op, _) = op {
+        if let Request::Cell(op) = &op.request {
             self.settle_cell(at, op);
         }
         answer_of(told)

@@ -9,9 +9,9 @@ returns c =
     let exploring = behind named _ _ _ _ c.rows-4.ensures limits in
     let values = behind named _ _ _ _ c.rows-3.ensures exploring in
     let wakers = behind named _ _ _ _ c.rows-2.ensures values in
-    let ends = behind named _ _ _ _ c.ends.ensures.2 wakers in
+    let ends = behind named _ _ _ _ c.ends.ensures wakers in
     let messages = behind named _ _ _ _ c.messages.ensures ends in
-    let others = behind named _ _ _ _ c.others.ensures.2 messages in
+    let others = behind named _ _ _ _ c.others.ensures messages in
     let wakings = behind named _ _ _ _ c.wakings.ensures others in
     let condvars = behind named _ _ _ _ c.condvars.ensures wakings in
     let rwlocks = behind named _ _ _ _ c.rwlocks.ensures condvars in
@@ -32,4 +32,4 @@ returns c =
     let loads = behind named _ _ _ _ c.loads.ensures buffering in
     let failing = behind named _ _ _ _ c.failing.ensures loads in
     let few_threads = behind named _ _ _ _ c.rows.ensures failing in
-    are_table c.joined.result (λ all. all.items) _ c.joined.ensures (c.others.ensures.0, c.ends.ensures.0, c.others.ensures.1, c.ends.ensures.1, few_threads)
+    are_table c.joined.result (λ all. all.items) _ c.joined.ensures few_threads

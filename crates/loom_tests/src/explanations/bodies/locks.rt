@@ -1,64 +1,87 @@
 //! Bodies that come to a deadlock, or leave something.
 use loom::sync::atomic::Ordering::{Acquire, Relaxed, Release};
 use loom_objects::operation::{
-    ArcOp, AtomicOp, ChannelOp, CondvarOp, Exchange, MutexOp, NotifyOp, Op, RwLockOp, ThreadOp,
-    TrackOp, WakerOp,
+    ArcOp, AtomicOp, ChannelOp, CondvarOp, Exchange, MutexOp, NotifyOp, Request, RwLockOp,
+    ThreadOp, TrackOp, WakerOp,
 };
 use loom_objects::rt::thread::Name;
 use loom_parts::label::Label;
+use loom_parts::text_literal;
 use loom_scripts::step::{END, EXIT, Step, Value, YIELD};
 use loom_views::rt::num::Numbers;
 
 macro_rules! named {
     ($name:literal) => {
-        Some(Label {
-            name: Some($name),
+        Label {
+            name: Some(text_literal!($name)),
             location: None,
-        })
+        }
     };
 }
 
-const FINISH: Step = Step::Do(0, Op::Thread(ThreadOp::Finish(Value::Plain(0)), None));
+const FINISH: Step = Step::Do(0, Request::Thread(ThreadOp::Finish(Value::Plain(0))));
 
 /// Two threads take two mutexes in opposite orders.
 pub const CROSSED: &[Step] = &[
-    Step::Do(0, Op::Mutex(MutexOp::New(Value::Plain(0)), named!("left"))),
-    Step::Do(1, Op::Mutex(MutexOp::New(Value::Plain(0)), named!("right"))),
-    Step::Do(2, Op::Thread(ThreadOp::Spawn(6, None), None)),
-    Step::Do(0, Op::Mutex(MutexOp::Lock(0), None)),
-    Step::Do(0, Op::Mutex(MutexOp::Lock(1), None)),
-    Step::Do(0, Op::Thread(ThreadOp::Join(2, 2), None)),
-    Step::Do(0, Op::Mutex(MutexOp::Lock(1), None)),
-    Step::Do(0, Op::Mutex(MutexOp::Lock(0), None)),
+    Step::Labelled(
+        0,
+        Request::Mutex(MutexOp::New(Value::Plain(0))),
+        named!(b"left"),
+    ),
+    Step::Labelled(
+        1,
+        Request::Mutex(MutexOp::New(Value::Plain(0))),
+        named!(b"right"),
+    ),
+    Step::Do(2, Request::Thread(ThreadOp::Spawn(6, None))),
+    Step::Do(0, Request::Mutex(MutexOp::Lock(0))),
+    Step::Do(0, Request::Mutex(MutexOp::Lock(1))),
+    Step::Do(0, Request::Thread(ThreadOp::Join(2, 2))),
+    Step::Do(0, Request::Mutex(MutexOp::Lock(1))),
+    Step::Do(0, Request::Mutex(MutexOp::Lock(0))),
 ];
 
 /// A thread locks a mutex that it holds.
 pub const TWICE: &[Step] = &[
-    Step::Do(0, Op::Mutex(MutexOp::New(Value::Plain(0)), None)),
-    Step::Do(0, Op::Mutex(MutexOp::Lock(0), None)),
-    Step::Do(0, Op::Mutex(MutexOp::Lock(0), None)),
+    Step::Do(0, Request::Mutex(MutexOp::New(Value::Plain(0)))),
+    Step::Do(0, Request::Mutex(MutexOp::Lock(0))),
+    Step::Do(0, Request::Mutex(MutexOp::Lock(0))),
 ];
 
 /// Three threads wait on one condition variable; one is notified, and ends.
 pub const ASLEEP: &[Step] = &[
-    Step::Do(0, Op::Mutex(MutexOp::New(Value::Plain(0)), named!("queue"))),
-    Step::Do(1, Op::Condvar(CondvarOp::New, named!("not empty"))),
+    Step::Labelled(
+        0,
+        Request::Mutex(MutexOp::New(Value::Plain(0))),
+        named!(b"queue"),
+    ),
+    Step::Labelled(1, Request::Condvar(CondvarOp::New), named!(b"not empty")),
     Step::Do(
         2,
-        Op::Thread(ThreadOp::Spawn(9, Some(Name { text: "first" })), None),
+        Request::Thread(ThreadOp::Spawn(
+            9,
+            Some(Name {
+                text: text_literal!(b"first"),
+            }),
+        )),
     ),
     Step::Do(
         3,
-        Op::Thread(ThreadOp::Spawn(9, Some(Name { text: "second" })), None),
+        Request::Thread(ThreadOp::Spawn(
+            9,
+            Some(Name {
+                text: text_literal!(b"second"),
+            }),
+        )),
     ),
-    Step::Do(0, Op::Condvar(CondvarOp::NotifyOne(1), None)),
-    Step::Do(0, Op::Thread(ThreadOp::Join(2, 2), None)),
+    Step::Do(0, Request::Condvar(CondvarOp::NotifyOne(1))),
+    Step::Do(0, Request::Thread(ThreadOp::Join(2, 2))),
     FINISH,
     EXIT,
     END,
-    Step::Do(0, Op::Mutex(MutexOp::Lock(0), None)),
-    Step::Do(0, Op::Condvar(CondvarOp::Wait(1, 0, Value::Held(0)), None)),
-    Step::Do(0, Op::Mutex(MutexOp::Release(0, Value::Held(0)), None)),
+    Step::Do(0, Request::Mutex(MutexOp::Lock(0))),
+    Step::Do(0, Request::Condvar(CondvarOp::Wait(1, 0, Value::Held(0)))),
+    Step::Do(0, Request::Mutex(MutexOp::Release(0, Value::Held(0)))),
     FINISH,
     EXIT,
     END,
@@ -66,24 +89,25 @@ pub const ASLEEP: &[Step] = &[
 
 /// Of each thing that is waited for one: a lock to read, a lock to write, a message, a token and a notification.
 pub const ALL_WAIT: &[Step] = &[
-    Step::Do(
+    Step::Labelled(
         0,
-        Op::RwLock(RwLockOp::New(Value::Plain(0)), named!("table")),
+        Request::RwLock(RwLockOp::New(Value::Plain(0))),
+        named!(b"table"),
     ),
-    Step::Do(1, Op::Channel(ChannelOp::New, None)),
-    Step::Do(2, Op::Notify(NotifyOp::New, None)),
-    Step::Do(3, Op::RwLock(RwLockOp::New(Value::Plain(0)), None)),
-    Step::Do(0, Op::RwLock(RwLockOp::Read(0), None)),
-    Step::Do(0, Op::RwLock(RwLockOp::Write(3), None)),
-    Step::Do(4, Op::Thread(ThreadOp::Spawn(11, None), None)),
-    Step::Do(4, Op::Thread(ThreadOp::Spawn(12, None), None)),
-    Step::Do(4, Op::Thread(ThreadOp::Spawn(13, None), None)),
-    Step::Do(4, Op::Thread(ThreadOp::Spawn(14, None), None)),
-    Step::Do(0, Op::Channel(ChannelOp::Recv(1), None)),
-    Step::Do(0, Op::RwLock(RwLockOp::Write(0), None)),
-    Step::Do(0, Op::RwLock(RwLockOp::Read(3), None)),
-    Step::Do(0, Op::Thread(ThreadOp::Park, None)),
-    Step::Do(0, Op::Notify(NotifyOp::Wait(2), None)),
+    Step::Do(1, Request::Channel(ChannelOp::New)),
+    Step::Do(2, Request::Notify(NotifyOp::New)),
+    Step::Do(3, Request::RwLock(RwLockOp::New(Value::Plain(0)))),
+    Step::Do(0, Request::RwLock(RwLockOp::Read(0))),
+    Step::Do(0, Request::RwLock(RwLockOp::Write(3))),
+    Step::Do(4, Request::Thread(ThreadOp::Spawn(11, None))),
+    Step::Do(4, Request::Thread(ThreadOp::Spawn(12, None))),
+    Step::Do(4, Request::Thread(ThreadOp::Spawn(13, None))),
+    Step::Do(4, Request::Thread(ThreadOp::Spawn(14, None))),
+    Step::Do(0, Request::Channel(ChannelOp::Recv(1))),
+    Step::Do(0, Request::RwLock(RwLockOp::Write(0))),
+    Step::Do(0, Request::RwLock(RwLockOp::Read(3))),
+    Step::Do(0, Request::Thread(ThreadOp::Park)),
+    Step::Do(0, Request::Notify(NotifyOp::Wait(2))),
 ];
 
 const TO_ONE: Exchange = Exchange {
@@ -95,55 +119,62 @@ const TO_ONE: Exchange = Exchange {
 
 /// Main and the child each read a number and store one more, and main asserts that it is 2 then.
 pub const LOST_UPDATE: &[Step] = &[
-    Step::Do(
+    Step::Labelled(
         0,
-        Op::Atomic(AtomicOp::New(Numbers::U64, 0), named!("count")),
+        Request::Atomic(AtomicOp::New(Numbers::U64, 0)),
+        named!(b"count"),
     ),
-    Step::Do(1, Op::Thread(ThreadOp::Spawn(8, None), None)),
-    Step::Do(0, Op::Atomic(AtomicOp::Load(0, Acquire), None)),
+    Step::Do(1, Request::Thread(ThreadOp::Spawn(8, None))),
+    Step::Do(0, Request::Atomic(AtomicOp::Load(0, Acquire))),
     Step::Store(0, Value::Next(0), Release),
-    Step::Do(0, Op::Thread(ThreadOp::Join(1, 1), None)),
-    Step::Do(0, Op::Atomic(AtomicOp::Load(0, Acquire), None)),
+    Step::Do(0, Request::Thread(ThreadOp::Join(1, 1))),
+    Step::Do(0, Request::Atomic(AtomicOp::Load(0, Acquire))),
     Step::Unless(0, 2, 13),
     FINISH,
-    Step::Do(0, Op::Atomic(AtomicOp::Load(0, Acquire), None)),
+    Step::Do(0, Request::Atomic(AtomicOp::Load(0, Acquire))),
     Step::Store(0, Value::Next(0), Release),
     FINISH,
     EXIT,
     END,
-    Step::Do(0, Op::Fail(named!("the count is 2"))),
+    Step::Labelled(0, Request::Fail, named!(b"the count is 2")),
 ];
 
 /// The child spins, without a yield, on a lock that main keeps.
 pub const SPINS: &[Step] = &[
-    Step::Do(
+    Step::Labelled(
         0,
-        Op::Atomic(AtomicOp::New(Numbers::Bool, 1), named!("locked")),
+        Request::Atomic(AtomicOp::New(Numbers::Bool, 1)),
+        named!(b"locked"),
     ),
-    Step::Do(1, Op::Thread(ThreadOp::Spawn(3, None), None)),
-    Step::Do(0, Op::Thread(ThreadOp::Join(1, 1), None)),
-    Step::Do(0, Op::Atomic(AtomicOp::CompareExchange(0, TO_ONE), None)),
+    Step::Do(1, Request::Thread(ThreadOp::Spawn(3, None))),
+    Step::Do(0, Request::Thread(ThreadOp::Join(1, 1))),
+    Step::Do(0, Request::Atomic(AtomicOp::CompareExchange(0, TO_ONE))),
     Step::Jump(3),
 ];
 
 /// The same, with a yield in each turn.
 pub const SPINS_AND_YIELDS: &[Step] = &[
-    Step::Do(
+    Step::Labelled(
         0,
-        Op::Atomic(AtomicOp::New(Numbers::Bool, 1), named!("locked")),
+        Request::Atomic(AtomicOp::New(Numbers::Bool, 1)),
+        named!(b"locked"),
     ),
-    Step::Do(1, Op::Thread(ThreadOp::Spawn(3, None), None)),
-    Step::Do(0, Op::Thread(ThreadOp::Join(1, 1), None)),
-    Step::Do(0, Op::Atomic(AtomicOp::CompareExchange(0, TO_ONE), None)),
+    Step::Do(1, Request::Thread(ThreadOp::Spawn(3, None))),
+    Step::Do(0, Request::Thread(ThreadOp::Join(1, 1))),
+    Step::Do(0, Request::Atomic(AtomicOp::CompareExchange(0, TO_ONE))),
     YIELD,
     Step::Jump(3),
 ];
 
 /// A clone of a counted reference isn't dropped.
 pub const ARC_LEFT: &[Step] = &[
-    Step::Do(0, Op::Arc(ArcOp::New(Value::Plain(5)), named!("shared"))),
-    Step::Do(0, Op::Arc(ArcOp::Clone(0), None)),
-    Step::Do(0, Op::Arc(ArcOp::Drop(0), None)),
+    Step::Labelled(
+        0,
+        Request::Arc(ArcOp::New(Value::Plain(5))),
+        named!(b"shared"),
+    ),
+    Step::Do(0, Request::Arc(ArcOp::Clone(0))),
+    Step::Do(0, Request::Arc(ArcOp::Drop(0))),
     FINISH,
     EXIT,
     END,
@@ -151,9 +182,9 @@ pub const ARC_LEFT: &[Step] = &[
 
 /// A clone of a waker isn't dropped.
 pub const WAKER_LEFT: &[Step] = &[
-    Step::Do(0, Op::Waker(WakerOp::New, None)),
-    Step::Do(0, Op::Waker(WakerOp::Clone(0), None)),
-    Step::Do(0, Op::Waker(WakerOp::Finish(0), None)),
+    Step::Do(0, Request::Waker(WakerOp::New)),
+    Step::Do(0, Request::Waker(WakerOp::Clone(0))),
+    Step::Do(0, Request::Waker(WakerOp::Finish(0))),
     FINISH,
     EXIT,
     END,
@@ -161,11 +192,12 @@ pub const WAKER_LEFT: &[Step] = &[
 
 /// A tracked value isn't given back.
 pub const TRACK_LEFT: &[Step] = &[
-    Step::Do(
+    Step::Labelled(
         0,
-        Op::Track(TrackOp::New(Value::Plain(5)), named!("buffer")),
+        Request::Track(TrackOp::New(Value::Plain(5))),
+        named!(b"buffer"),
     ),
-    Step::Do(0, Op::Track(TrackOp::GetRef(0), None)),
+    Step::Do(0, Request::Track(TrackOp::GetRef(0))),
     FINISH,
     EXIT,
     END,
@@ -173,10 +205,10 @@ pub const TRACK_LEFT: &[Step] = &[
 
 /// Of two messages one is received.
 pub const MESSAGE_LEFT: &[Step] = &[
-    Step::Do(0, Op::Channel(ChannelOp::New, None)),
-    Step::Do(0, Op::Channel(ChannelOp::Send(0, Value::Plain(5)), None)),
-    Step::Do(0, Op::Channel(ChannelOp::Send(0, Value::Plain(6)), None)),
-    Step::Do(0, Op::Channel(ChannelOp::Recv(0), None)),
+    Step::Do(0, Request::Channel(ChannelOp::New)),
+    Step::Do(0, Request::Channel(ChannelOp::Send(0, Value::Plain(5)))),
+    Step::Do(0, Request::Channel(ChannelOp::Send(0, Value::Plain(6)))),
+    Step::Do(0, Request::Channel(ChannelOp::Recv(0))),
     FINISH,
     EXIT,
     END,

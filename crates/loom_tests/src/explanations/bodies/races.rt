@@ -1,33 +1,34 @@
 //! Bodies that race, and whose cells are open.
 use loom::sync::atomic::Ordering::{self, Relaxed, Release};
-use loom_objects::operation::{AtomicOp, CellOp, Exchange, Op, ThreadOp};
+use loom_objects::operation::{AtomicOp, CellOp, Exchange, Request, ThreadOp};
 use loom_parts::label::Label;
 use loom_parts::location::Location;
+use loom_parts::text_literal;
 use loom_scripts::step::{END, EXIT, Step, Value, YIELD};
 use loom_views::rt::change::Change;
 use loom_views::rt::num::Numbers;
 
-const FLAG: Option<Label> = Some(Label {
-    name: Some("flag"),
+const FLAG: Label = Label {
+    name: Some(text_literal!(b"flag")),
     location: None,
-});
+};
 
-const COUNT: Option<Label> = Some(Label {
-    name: Some("count"),
+const COUNT: Label = Label {
+    name: Some(text_literal!(b"count")),
     location: None,
-});
+};
 
-const AT_WRITE: Option<Label> = Some(Label {
+const AT_WRITE: Label = Label {
     name: None,
     location: Some(Location {
-        file: "spin.rs",
+        file: text_literal!(b"spin.rs"),
         line: 87,
     }),
-});
+};
 
-const FINISH: Step = Step::Do(0, Op::Thread(ThreadOp::Finish(Value::Plain(0)), None));
+const FINISH: Step = Step::Do(0, Request::Thread(ThreadOp::Finish(Value::Plain(0))));
 
-const NEW_CELL: Step = Step::Do(1, Op::Cell(CellOp::New(Value::Plain(0)), COUNT));
+const NEW_CELL: Step = Step::Labelled(1, Request::Cell(CellOp::New(Value::Plain(0))), COUNT);
 
 const TO_TRUE: Exchange = Exchange {
     expected: 0,
@@ -36,24 +37,24 @@ const TO_TRUE: Exchange = Exchange {
     failure: Relaxed,
 };
 
-const TAKE: Step = Step::Do(0, Op::Atomic(AtomicOp::CompareExchange(0, TO_TRUE), None));
+const TAKE: Step = Step::Do(0, Request::Atomic(AtomicOp::CompareExchange(0, TO_TRUE)));
 
-const WRITE: Step = Step::Do(0, Op::Cell(CellOp::Write(1), AT_WRITE));
+const WRITE: Step = Step::Labelled(0, Request::Cell(CellOp::Write(1)), AT_WRITE);
 
-const WRITE_END: Step = Step::Do(0, Op::Cell(CellOp::WriteEnd(1, Value::Next(0)), None));
+const WRITE_END: Step = Step::Do(0, Request::Cell(CellOp::WriteEnd(1, Value::Next(0))));
 
-const FREE: Step = Step::Do(0, Op::Atomic(AtomicOp::Store(0, 0, Relaxed), None));
+const FREE: Step = Step::Do(0, Request::Atomic(AtomicOp::Store(0, 0, Relaxed)));
 
 /// Two threads take a spin lock whose orderings are all relaxed, and write a cell.
 pub const SPIN: &[Step] = &[
-    Step::Do(0, Op::Atomic(AtomicOp::New(Numbers::Bool, 0), FLAG)),
+    Step::Labelled(0, Request::Atomic(AtomicOp::New(Numbers::Bool, 0)), FLAG),
     NEW_CELL,
-    Step::Do(2, Op::Thread(ThreadOp::Spawn(8, None), None)),
+    Step::Do(2, Request::Thread(ThreadOp::Spawn(8, None))),
     TAKE,
     WRITE,
     WRITE_END,
     FREE,
-    Step::Do(0, Op::Thread(ThreadOp::Join(2, 2), None)),
+    Step::Do(0, Request::Thread(ThreadOp::Join(2, 2))),
     TAKE,
     WRITE,
     WRITE_END,
@@ -66,54 +67,52 @@ pub const SPIN: &[Step] = &[
 /// A thread that is spawned writes a cell beside main, and nothing orders the two.
 pub const BESIDE: &[Step] = &[
     NEW_CELL,
-    Step::Do(0, Op::Thread(ThreadOp::Spawn(4, None), None)),
+    Step::Do(0, Request::Thread(ThreadOp::Spawn(4, None))),
     WRITE,
     WRITE_END,
-    Step::Do(0, Op::Cell(CellOp::Read(1), None)),
-    Step::Do(0, Op::Cell(CellOp::ReadEnd(1), None)),
+    Step::Do(0, Request::Cell(CellOp::Read(1))),
+    Step::Do(0, Request::Cell(CellOp::ReadEnd(1))),
     FINISH,
     EXIT,
     END,
 ];
 
-const ADD: Op<Value, usize> = Op::Atomic(
-    AtomicOp::Update(0, Change::Add(1), Ordering::Acquire),
-    None,
-);
+const ADD: Request<Value, usize> = Request::Atomic(AtomicOp::Update(
+    0,
+    Change::Add(1),
+    Ordering::Acquire,
+));
 
 /// The store that the child reads was made without a release.
 pub const UNRELEASED: &[Step] = &[
-    Step::Do(0, Op::Atomic(AtomicOp::New(Numbers::I32, 0), FLAG)),
+    Step::Labelled(0, Request::Atomic(AtomicOp::New(Numbers::I32, 0)), FLAG),
     NEW_CELL,
-    Step::Do(2, Op::Thread(ThreadOp::Spawn(7, None), None)),
+    Step::Do(2, Request::Thread(ThreadOp::Spawn(7, None))),
     WRITE,
     WRITE_END,
-    Step::Do(
-        0,
-        Op::Atomic(AtomicOp::Store(0, 0xffff_ffff, Relaxed), None),
-    ),
+    Step::Do(0, Request::Atomic(AtomicOp::Store(0, 0xffff_ffff, Relaxed))),
     YIELD,
     Step::Do(0, ADD),
-    Step::Do(0, Op::Cell(CellOp::Get(1), None)),
+    Step::Do(0, Request::Cell(CellOp::Get(1))),
 ];
 
 /// The child reads a cell that main has open.
 pub const OPEN: &[Step] = &[
     NEW_CELL,
-    Step::Do(2, Op::Thread(ThreadOp::Spawn(4, None), None)),
+    Step::Do(2, Request::Thread(ThreadOp::Spawn(4, None))),
     WRITE,
     YIELD,
-    Step::Do(0, Op::Cell(CellOp::Read(1), None)),
+    Step::Do(0, Request::Cell(CellOp::Read(1))),
 ];
 
 /// An atomic is mutated beside a store to it.
 pub const MUTATED: &[Step] = &[
-    Step::Do(0, Op::Atomic(AtomicOp::New(Numbers::U8, 7), FLAG)),
-    Step::Do(2, Op::Thread(ThreadOp::Spawn(5, None), None)),
-    Step::Do(0, Op::Atomic(AtomicOp::WithMut(0), None)),
-    Step::Do(0, Op::Atomic(AtomicOp::WithMutEnd(0, 9), None)),
+    Step::Labelled(0, Request::Atomic(AtomicOp::New(Numbers::U8, 7)), FLAG),
+    Step::Do(2, Request::Thread(ThreadOp::Spawn(5, None))),
+    Step::Do(0, Request::Atomic(AtomicOp::WithMut(0))),
+    Step::Do(0, Request::Atomic(AtomicOp::WithMutEnd(0, 9))),
     YIELD,
-    Step::Do(0, Op::Atomic(AtomicOp::Store(0, 300, Release), None)),
+    Step::Do(0, Request::Atomic(AtomicOp::Store(0, 300, Release))),
 ];
 
 /// Two threads read and write a cell that main wrote before it spawned them. Both know of main's write, and neither of the other.
@@ -121,10 +120,10 @@ pub const THREE: &[Step] = &[
     NEW_CELL,
     WRITE,
     WRITE_END,
-    Step::Do(2, Op::Thread(ThreadOp::Spawn(6, None), None)),
-    Step::Do(3, Op::Thread(ThreadOp::Spawn(8, None), None)),
+    Step::Do(2, Request::Thread(ThreadOp::Spawn(6, None))),
+    Step::Do(3, Request::Thread(ThreadOp::Spawn(8, None))),
     YIELD,
-    Step::Do(0, Op::Cell(CellOp::Get(1), None)),
+    Step::Do(0, Request::Cell(CellOp::Get(1))),
     YIELD,
     WRITE,
 ];

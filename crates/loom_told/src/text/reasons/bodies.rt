@@ -20,7 +20,7 @@ pub(crate) fn put_unreachable(out: &mut Page, scene: Scene<'_>) {
 }
 
 fn label_of(scene: Scene<'_>) -> Option<Label> {
-    scene.op()?.label()
+    scene.op()?.label
 }
 
 /// The last operation of the thread before, by whose reply it came here.

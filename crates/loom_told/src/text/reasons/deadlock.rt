@@ -3,7 +3,7 @@ use crate::text::calls::{Call, Subject, call_of};
 use crate::text::objects::Member;
 use crate::text::page::Page;
 use crate::text::reasons::Scene;
-use loom_objects::operation::{Op, ThreadOp};
+use loom_objects::operation::{Op, Request, ThreadOp};
 
 /// Each thread with what it waits for.
 pub(crate) fn put_deadlock(out: &mut Page, scene: Scene<'_>) {
@@ -19,7 +19,7 @@ fn put_thread(out: &mut Page, scene: Scene<'_>, thread: u8, member: Member) {
     match scene.event(number) {
         None => out.words(": has not begun\n"),
         Some(event) => {
-            if let Op::Thread(ThreadOp::End, _) = event.op {
+            if let Request::Thread(ThreadOp::End) = event.op.request {
                 out.words(": has ended\n");
             } else {
                 put_wait(out, scene, (thread, member.stage), &event.op, number);

@@ -1,7 +1,7 @@
 //! Limits: which one, its value, and what usually helps.
 use crate::text::page::Page;
 use crate::text::reasons::Scene;
-use loom_objects::operation::Op;
+use loom_objects::operation::Request;
 use loom_views::rt::failure::FailureKind;
 
 /// The limit that the run passed, and what helps.
@@ -41,7 +41,7 @@ pub(crate) fn put_limit(out: &mut Page, scene: Scene<'_>, kind: FailureKind) {
 
 /// The atomic that the operation is one of.
 fn put_target(out: &mut Page, scene: Scene<'_>) {
-    if let Some(Op::Atomic(op, _)) = scene.op() {
+    if let Some(Request::Atomic(op)) = scene.request() {
         if let Some(number) = op.atomic() {
             out.thread("  ", scene.at.thread);
             out.thing(" is at ", scene.world.thing(number));

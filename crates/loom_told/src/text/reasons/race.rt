@@ -5,16 +5,17 @@ use crate::text::names::{Thing, article_of, order_name};
 use crate::text::objects::{Access, Hold, Manner, Reading};
 use crate::text::page::Page;
 use crate::text::reasons::Scene;
-use loom_objects::operation::{AtomicOp, CellOp, Op, Reply};
+use loom_objects::operation::{AtomicOp, CellOp, Reply, Request};
+use loom_parts::text::Text;
 use loom_views::rt::MAX_THREADS;
 use loom_views::rt::failure::FailureKind;
 use std::sync::atomic::Ordering;
 
 /// Which objects an operation accesses, and how: one, and for a swap of two cells another one.
 fn targets(scene: Scene<'_>) -> Option<(usize, usize, Manner)> {
-    match scene.op() {
-        Some(Op::Atomic(op, _)) => atomic_targets(scene, *op),
-        Some(Op::Cell(op, _)) => cell_targets(op),
+    match scene.request() {
+        Some(Request::Atomic(op)) => atomic_targets(scene, *op),
+        Some(Request::Cell(op)) => cell_targets(op),
         _ => None,
     }
 }
@@ -81,11 +82,11 @@ pub(crate) fn other_access(scene: Scene<'_>) -> Option<Access> {
 }
 
 /// The verb for what accesses an atomic or a cell.
-fn verb_of(op: Option<&Op<(), ()>>) -> &'static str {
-    if let Some(Op::Atomic(op, _)) = op {
+fn verb_of(request: Option<&Request<(), ()>>) -> &'static str {
+    if let Some(Request::Atomic(op)) = request {
         return atomic_verb(*op);
     }
-    if let Some(Op::Cell(op, _)) = op {
+    if let Some(Request::Cell(op)) = request {
         return cell_verb(op);
     }
     "accesses"
@@ -123,7 +124,7 @@ fn cell_verb(op: &CellOp<()>) -> &'static str {
 fn put_verb(out: &mut Page, scene: Scene<'_>) {
     out.thread("  ", scene.at.thread);
     out.words(" ");
-    out.words(verb_of(scene.op()));
+    out.words(verb_of(scene.request()));
 }
 
 /// The object that the operation accesses.
@@ -222,7 +223,7 @@ fn put_reading(out: &mut Page, scene: Scene<'_>, reading: Reading) {
     out.words(" (");
     if let Some(name) = name_of(scene, store.atomic) {
         out.words("\"");
-        out.words(name);
+        out.words(name.as_str());
         out.words("\", ");
     }
     out.thread("", store.at.thread);
@@ -242,7 +243,7 @@ fn put_reading(out: &mut Page, scene: Scene<'_>, reading: Reading) {
     });
 }
 
-fn name_of(scene: Scene<'_>, number: usize) -> Option<&'static str> {
+fn name_of(scene: Scene<'_>, number: usize) -> Option<Text> {
     scene.world.object(number)?.label?.name
 }
 

@@ -1,12 +1,12 @@
 //! A thread's own values, values that are made once a run, and second waiters.
 use crate::text::page::Page;
 use crate::text::reasons::{Scene, Sought};
-use loom_objects::operation::{LazyOp, LocalOp, NotifyOp, Op, WakerOp};
+use loom_objects::operation::{LazyOp, LocalOp, NotifyOp, Request, WakerOp};
 
 /// A value that is made once was used after main had finished.
 pub(crate) fn put_shutdown(out: &mut Page, scene: Scene<'_>) {
-    let key = match scene.op() {
-        Some(Op::Lazy(LazyOp::Get(key) | LazyOp::Init(key, _), _)) => *key,
+    let key = match scene.request() {
+        Some(Request::Lazy(LazyOp::Get(key) | LazyOp::Init(key, _))) => *key,
         _ => 0,
     };
     out.thread("  ", scene.at.thread);
@@ -24,15 +24,14 @@ fn put_earlier(out: &mut Page, scene: Scene<'_>, words: &str, sought: Sought) {
     out.words("\n");
 }
 
-fn local_key(op: Option<&Op<(), ()>>) -> usize {
-    match op {
+fn local_key(request: Option<&Request<(), ()>>) -> usize {
+    match request {
         Some(
-            Op::Local(
+            Request::Local(
                 LocalOp::With(key)
                 | LocalOp::TryWith(key)
                 | LocalOp::Init(key, _)
                 | LocalOp::Put(key, _),
-                _,
             ),
         ) => *key,
         _ => 0,
@@ -43,7 +42,7 @@ fn local_key(op: Option<&Op<(), ()>>) -> usize {
 pub(crate) fn put_gone(out: &mut Page, scene: Scene<'_>) {
     let thread = scene.at.thread;
     out.thread("  ", thread);
-    out.number(" uses its local ", local_key(scene.op()));
+    out.number(" uses its local ", local_key(scene.request()));
     out.words(", and has given its own values back");
     put_earlier(out, scene, ", by `exit` at ", Sought::Exit(thread));
     out.words("  `try_with` tells whether the value is still there\n");
@@ -52,7 +51,7 @@ pub(crate) fn put_gone(out: &mut Page, scene: Scene<'_>) {
 /// A key has a value already.
 pub(crate) fn put_taken(out: &mut Page, scene: Scene<'_>) {
     let thread = scene.at.thread;
-    let key = local_key(scene.op());
+    let key = local_key(scene.request());
     out.thread("  ", thread);
     out.number(" makes its local ", key);
     out.words(" a second time");
@@ -61,18 +60,17 @@ pub(crate) fn put_taken(out: &mut Page, scene: Scene<'_>) {
 }
 
 /// Which notifier the operation waits on.
-fn waited_on(op: Option<&Op<(), ()>>) -> Option<usize> {
-    match op {
-        Some(Op::Notify(NotifyOp::Wait(number), _)) | Some(Op::Waker(WakerOp::Wait(number), _)) => {
-            Some(*number)
-        }
+fn waited_on(request: Option<&Request<(), ()>>) -> Option<usize> {
+    match request {
+        Some(Request::Notify(NotifyOp::Wait(number)))
+        | Some(Request::Waker(WakerOp::Wait(number))) => { Some(*number) }
         _ => None,
     }
 }
 
 /// A second thread waits on a notifier.
 pub(crate) fn put_second_waiter(out: &mut Page, scene: Scene<'_>) {
-    let number = waited_on(scene.op()).unwrap_or(0);
+    let number = waited_on(scene.request()).unwrap_or(0);
     out.thread("  ", scene.at.thread);
     out.thing(" is to wait on ", scene.world.thing(number));
     out.words(", and one thread may at a time\n");
@@ -91,7 +89,7 @@ fn first_waiter(scene: Scene<'_>, number: usize) -> Option<(u8, usize)> {
             continue;
         }
         if let Some(event) = scene.event(pending) {
-            if waited_on(Some(&event.op)) == Some(number) {
+            if waited_on(Some(&event.op.request)) == Some(number) {
                 return Some((event.thread, pending));
             }
         }
