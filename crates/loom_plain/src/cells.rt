@@ -42,30 +42,40 @@ fn are_inside(graph: &Graph, points: &Vec<usize>, present: usize) -> bool {
 impl Machine {
     /// An operation of a cell.
     pub fn cell_begins(&mut self, op: CellOp<Number>) -> Told {
-        match op {
+        let reply = match op {
             CellOp::New(value) => self.cell_new(value),
-            CellOp::Read(number) => Some(Reply::Reading(number, self.cell_read(number))),
-            CellOp::ReadEnd(number) => self.cell_read_end(number),
+            CellOp::Read(number) => Reply::Reading(number, self.cell_read(number)),
+            CellOp::ReadEnd(number) => {
+                self.cell_read_end(number);
+                Reply::Done
+            }
             CellOp::Deref(number) => self.cell_deref(number),
-            CellOp::Write(number) => Some(Reply::Writing(number, self.cell_write(number))),
-            CellOp::WriteEnd(number, value) => self.cell_write_end(number, value),
+            CellOp::Write(number) => Reply::Writing(number, self.cell_write(number)),
+            CellOp::WriteEnd(number, value) => {
+                self.cell_write_end(number, value);
+                Reply::Done
+            }
             CellOp::IntoInner(number) => self.cell_into_inner(number),
             CellOp::Get(number) => {
                 let value = self.cell_read(number);
                 self.cell_read_end(number);
-                Some(Reply::Data(value))
+                Reply::Data(value)
             }
             CellOp::Replace(number, value) => {
                 let old = self.cell_write(number);
                 self.cell_write_end(number, value);
-                Some(Reply::Data(old))
+                Reply::Data(old)
             }
-            CellOp::Swap(one, other) => self.cell_swap(one, other),
-        }
+            CellOp::Swap(one, other) => {
+                self.cell_swap(one, other);
+                Reply::Done
+            }
+        };
+        Some(reply)
     }
 
     // That the cell was made counts as a read and a write.
-    fn cell_new(&mut self, value: Number) -> Told {
+    fn cell_new(&mut self, value: Number) -> Reply<Number> {
         let mut cell = Cell::none(self.alloc);
         cell.value = Some(value);
         cell.is_whole = true;
@@ -73,25 +83,25 @@ impl Machine {
         let number = objects.cells.add(cell, &mut objects.count, &mut self.halt);
         self.keeps_read(number);
         self.keeps_write(number);
-        Some(Reply::Cell(number))
+        Reply::Cell(number)
     }
 
     // The cell is taken apart, unless a thread has it open.
-    fn cell_into_inner(&mut self, number: usize) -> Told {
+    fn cell_into_inner(&mut self, number: usize) -> Reply<Number> {
         let cell = self.cell(number);
         let (is_open, value) = (cell.is_open(), cell.value);
         cell.is_whole = false;
         self.check(!is_open, FailureKind::OpenAccess);
-        Some(Reply::Data(self.required(value)))
+        Reply::Data(self.required(value))
     }
 
     // Another copy of the data, in a read that the active thread has open.
-    fn cell_deref(&mut self, number: usize) -> Told {
+    fn cell_deref(&mut self, number: usize) -> Reply<Number> {
         let active = self.active;
         let cell = self.cell(number);
         let (is_reading, value) = (cell.readers.has(active), cell.value);
         self.require(is_reading);
-        Some(Reply::Data(self.required(value)))
+        Reply::Data(self.required(value))
     }
 
     // A read begins, and has a copy of the data.
@@ -105,14 +115,13 @@ impl Machine {
     }
 
     // A read of the active thread ends.
-    fn cell_read_end(&mut self, number: usize) -> Told {
+    fn cell_read_end(&mut self, number: usize) {
         let active = self.active;
         let readers = &mut self.cell(number).readers;
         let is_reading = readers.has(active);
         readers.close(active);
         self.require(is_reading);
         self.meets_read(number);
-        Some(Reply::Done)
     }
 
     // A write begins, and has the data.
@@ -128,7 +137,7 @@ impl Machine {
     }
 
     // The write of the active thread ends, and leaves this data.
-    fn cell_write_end(&mut self, number: usize, value: Number) -> Told {
+    fn cell_write_end(&mut self, number: usize, value: Number) {
         let active = self.active;
         let cell = self.cell(number);
         let is_writing = cell.writer == Some(active);
@@ -136,11 +145,10 @@ impl Machine {
         cell.value = Some(value);
         self.require(is_writing);
         self.meets_write(number);
-        Some(Reply::Done)
     }
 
     // The data of two cells are exchanged.
-    fn cell_swap(&mut self, one: usize, other: usize) -> Told {
+    fn cell_swap(&mut self, one: usize, other: usize) {
         self.cell(one);
         self.cell(other);
         if one != other {
@@ -149,7 +157,6 @@ impl Machine {
             self.cell_write_end(other, value);
             self.cell_write_end(one, other_value);
         }
-        Some(Reply::Done)
     }
 
     // The active thread meets the cell to read: nobody writes, and no write is outside of its view.

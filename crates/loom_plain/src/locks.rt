@@ -31,7 +31,10 @@ impl Machine {
                 self.mutex(number);
                 self.pends(Pending::TryLock(number), false)
             }
-            MutexOp::Release(number, value) => self.unlock(number, value),
+            MutexOp::Release(number, value) => {
+                self.unlock(number, value);
+                Some(Reply::Done)
+            }
             MutexOp::GetMut(number) => self.mutex_out(number, true),
             MutexOp::Put(number, value) => self.mutex_put(number, value),
             MutexOp::IntoInner(number) => self.mutex_out(number, false),
@@ -72,7 +75,7 @@ impl Machine {
     }
 
     /// The active thread, which holds the mutex, releases it.
-    pub fn unlock(&mut self, number: usize, value: Number) -> Told {
+    pub fn unlock(&mut self, number: usize, value: Number) {
         let Mutex { holder, point, .. } = *self.mutex(number);
         self.require(holder == Some(self.active));
         let point = self.released_to(point);
@@ -81,7 +84,6 @@ impl Machine {
         mutex.holder = None;
         mutex.point = point;
         self.set_pending(number, State::Runnable);
-        Some(Reply::Done)
     }
 
     /// The active thread takes the mutex, or finds it held.

@@ -91,8 +91,14 @@ impl Machine {
         self.acquire(point);
     }
 
+    /// The active thread notifies the notifier, and is told so.
+    pub fn tells_notified(&mut self, number: usize) -> Told {
+        self.notifies(number);
+        Some(Reply::Done)
+    }
+
     /// The active thread notifies the notifier.
-    pub fn notifies(&mut self, number: usize) -> Told {
+    pub fn notifies(&mut self, number: usize) {
         let before = self.notify(number).point;
         let point = self.released_to(before);
         let notify = self.notify(number);
@@ -104,7 +110,6 @@ impl Machine {
                 self.unblock(thread);
             }
         }
-        Some(Reply::Done)
     }
 
     // A thread that is blocked goes on.

@@ -199,7 +199,7 @@ impl Machine {
             Pending::Relock(mutex, is_timed) => self.relocks(mutex, is_timed),
             Pending::NotifyOne(number) => self.wakes_one(number),
             Pending::NotifyAll(number) => self.wakes_all(number),
-            Pending::Notify(number) => self.notifies(number),
+            Pending::Notify(number) => self.tells_notified(number),
             Pending::Await(number) => self.awaits(number),
             Pending::Rouse(number) => self.rouses(number),
             Pending::Join(thread, number) => self.join(thread, number),

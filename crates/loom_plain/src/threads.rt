@@ -155,6 +155,6 @@ impl Machine {
     /// The active thread, which isn't main, finishes.
     pub fn finish(&mut self, notifier: usize, value: Number) -> Told {
         self.me().value = Some(value);
-        self.notifies(notifier)
+        self.tells_notified(notifier)
     }
 }

@@ -99,7 +99,7 @@ impl Machine {
         match after {
             AfterDrop::Nothing => Some(Reply::Done),
             AfterDrop::Yield => self.yields(Pending::Continue),
-            AfterDrop::Free(place) => self.frees_place(place),
+            AfterDrop::Free(place) => self.tells_free(place),
         }
     }
 
@@ -155,15 +155,20 @@ impl Machine {
         old.waker
     }
 
+    // The active thread holds the place no more, and is told so.
+    fn tells_free(&mut self, number: usize) -> Told {
+        self.frees_place(number);
+        Some(Reply::Done)
+    }
+
     // The active thread holds the place no more.
-    fn frees_place(&mut self, number: usize) -> Told {
+    fn frees_place(&mut self, number: usize) {
         let before = self.place(number).point;
         let point = self.released_to(before);
         let place = self.place(number);
         place.holder = None;
         place.point = point;
         self.set_pending(number, State::Runnable);
-        Some(Reply::Done)
     }
 
     /// The waker takes the place, and an old one is dropped while the place is held; where another thread holds it, the waker
@@ -175,7 +180,7 @@ impl Machine {
         }
         match self.holds_place(number, Some(waker)) {
             Some(old) => self.pends(Pending::DropWaker(old, AfterDrop::Free(number)), false),
-            None => self.frees_place(number),
+            None => self.tells_free(number),
         }
     }
 
