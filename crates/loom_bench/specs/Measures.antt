@@ -3,7 +3,7 @@ use Rattle.std.specs.Prelude.{ℕ, ◌≡◌, List, ◌++◌, Option, Some, code
 use Rattle.std.specs.Io.KnownBytes.{Appends}
 use Rattle.std.specs.List.{find}
 use Rattle.std.specs.Str.{bytes_eq}
-use Rattle.loom.specs.declared.model.Report.{Report}
+use Rattle.loom_model.specs.declared.model.Report.{Report}
 use Rattle.loom_row_bodies.specs.Builders.{builder_of}
 use Rattle.loom_row_bodies.specs.Line.{report_text, status_of}
 use Rattle.loom_row_bodies.specs.Rows.{ReportsScript}

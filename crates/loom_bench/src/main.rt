@@ -1,5 +1,6 @@
 //! Measures checks: prints what each finds, and on standard error how long it took. `loom_row_tables` lists what is measured, by
-//! name, with its settings; a word of the command line picks one. It checks these bodies by `loom`.
+//! name, with its settings; a word of the command line picks one. It checks these bodies by `loom`, and those of `closures` by
+//! `loom_runner`.
 //! docs/BENCHMARKS.md has what it found. Nothing stands on it.
 #![tactic(auto)]
 
@@ -9,6 +10,9 @@ ghost use Rattle.loom_row_bodies.specs.Builders.{builder_of};
 ghost use Rattle.loom_row_bodies.specs.Rows.{ReportsScript};
 ghost use Rattle.loom_bench.specs.Measures.{PrintedBody, PrintedLine, PrintedNamed};
 
+mod closures;
+
+use crate::closures::{Closures, closures_of};
 use loom::model::Report;
 use loom_row_bodies::line::{self, ShownReport};
 use loom_row_bodies::settings::Builds;
@@ -18,10 +22,13 @@ use loom_scripts::script::Script;
 use std::env;
 use std::io::{self, Write};
 use std::process::ExitCode;
+use std::rt::Clock;
+use std::sync::Wait;
+use std::thread::Threads;
 use std::time::{Duration, Instant};
 
 /// What is checked where no word names a body: what takes seconds.
-static QUICK: [&str; 26] = [
+static QUICK: [&str; 27] = [
     "store_buffering",
     "store_buffering bound 1",
     "store_buffering bound 2",
@@ -48,32 +55,69 @@ static QUICK: [&str; 26] = [
     "three_adds reduced bound 2",
     "three_threads reduced",
     "stores_apart",
+    "store_buffering closures",
 ];
 
 fn main(rt: HostRuntime) -> ExitCode {
-    ExitCode::from(run(&rt).unwrap_or(2))
-}
-
-fn run(rt: &HostRuntime) -> io::Result<u8> {
-    let words = env::args(rt)?.skip(1).collect::<Vec<_>>(rt.alloc())?;
-    let words = words
-        .iter()
-        .map(|word| word.as_str())
-        .collect::<Vec<_>>(rt.alloc())?;
-    if words.is_empty() {
-        measure_each(rt, &QUICK)
-    } else {
-        measure_each(rt, words.as_slice())
-    }
-}
-
-/// Checks each body of these names, and answers the highest of their exit statuses.
-fn measure_each(rt: &HostRuntime, names: &[&str]) -> io::Result<u8> {
+    let Ok(names) = names_of(&rt) else {
+        return ExitCode::from(2);
+    };
     let mut status = 0;
-    for name in names {
-        status = status.max(measure_named(rt, name, &mut rt.stdout(), &mut rt.stderr())?);
+    for name in &names {
+        let (mut out, mut err) = (rt.stdout(), rt.stderr());
+        let measured = match closures_of(name) {
+            Some(closures) => measure_closures(&rt, closures, &mut out, &mut err),
+            None => measure_named(&rt, name, &mut out, &mut err),
+        };
+        status = status.max(measured.unwrap_or(2));
     }
+    ExitCode::from(status)
+}
+
+/// The words of the command line, or what is checked where there are none.
+fn names_of(rt: &HostRuntime) -> io::Result<Vec<String>> {
+    let mut names = env::args(rt)?.skip(1).collect::<Vec<_>>(rt.alloc())?;
+    if names.is_empty() {
+        for name in QUICK {
+            names.push(String::from_str(rt.alloc(), name)?)?;
+        }
+    }
+    Ok(names)
+}
+
+/// Checks the closures as often as they say, and prints what `measure` does and how many threads a run starts. Answers the exit
+/// status: 2 where there is no report, and 1 where a run fails.
+fn measure_closures<
+    R: AllocGlobal + Clock + Threads + Wait + Clone + Send + 'static,
+    O: Write,
+    E: Write,
+>(rt: &R, closures: &Closures, out: &mut O, err: &mut E) -> io::Result<u8> {
+    let name = closures.name;
+    let start = Instant::now(rt)?;
+    let report = check_closures(rt, closures);
+    let taken = start.elapsed(rt)?;
+    let Some(report) = report else {
+        writeln!(err, "{name}: no report")?;
+        return Ok(2);
+    };
+    let status = print_line(out, name, &report)?;
+    print_speed(err, name, closures.checks, &report, taken)?;
+    let threads = closures.threads;
+    writeln!(err, "{name}: {threads} threads started in a run")?;
     Ok(status)
+}
+
+/// The report of the last check, once all checks were made.
+fn check_closures<R: AllocGlobal + Threads + Wait + Clone + Send + 'static>(
+    rt: &R,
+    closures: &Closures,
+) -> Option<Report> {
+    let builder = closures.settings.builder();
+    let mut found = None;
+    for _ in 0..closures.checks {
+        found = Some(closures.row.check_by(rt, rt.alloc(), &builder).ok()?);
+    }
+    found
 }
 
 /// Checks the body that the name means by the program's table, prints what `measure` does, and answers its exit status. It is 2
@@ -115,7 +159,7 @@ fn measure<O: Write, E: Write>(
         return Ok(2);
     };
     let status = print_line(out, name, &report)?;
-    print_speed(err, body, &report, taken)?;
+    print_speed(err, body.name, body.checks, &report, taken)?;
     Ok(status)
 }
 
@@ -145,7 +189,8 @@ fn print_line<W: Write>(out: &mut W, name: &str, report: &Report) -> io::Result<
 /// Prints how many checks were made, how long they took, and how many runs a second that is.
 fn print_speed<W: Write>(
     err: &mut W,
-    body: &Measured,
+    name: &str,
+    checks: u64,
     report: &Report,
     taken: Duration,
 ) -> io::Result<()> {
@@ -153,8 +198,6 @@ fn print_speed<W: Write>(
         Report::Complete { runs } | Report::Stopped { runs, .. } | Report::Failed { runs, .. } =>
             *runs,
     };
-    let name = body.name;
-    let checks = body.checks;
     let speed = per_second(u128::from(runs) * u128::from(checks), taken);
     let millis = taken.as_millis();
     writeln!(

@@ -8,3 +8,27 @@ pub trait Data: Drop {
     fn try_clone(&self) -> Result<Self, AllocError>
         ensures { IfOk result (λ copy. copy ≡ self.now) };
 }
+
+impl Data for () {
+    fn try_clone(&self) -> Result<(), AllocError> {
+        Ok(())
+    }
+}
+
+impl Data for bool {
+    fn try_clone(&self) -> Result<bool, AllocError> {
+        Ok(*self)
+    }
+}
+
+impl Data for u64 {
+    fn try_clone(&self) -> Result<u64, AllocError> {
+        Ok(*self)
+    }
+}
+
+impl Data for usize {
+    fn try_clone(&self) -> Result<usize, AllocError> {
+        Ok(*self)
+    }
+}

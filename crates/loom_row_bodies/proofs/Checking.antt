@@ -1,9 +1,9 @@
 -- What is printed where a row is checked and nothing is explained.
 use Rattle.std.proofs.Common.{ℕ, ◌≡◌, List, false, refl, sym, subst, ◌⊎◌, ⊎_elim, inl, inr}
 use Rattle.std.specs.Prelude.{IfOk, Option, Result, Ok, Err}
-use Rattle.loom.specs.Check.{ReportsAlone}
-use Rattle.loom.specs.declared.builder.Builder.{Builder}
-use Rattle.loom.specs.declared.model.Report.{Report}
+use Rattle.loom_model.specs.Check.{ReportsAlone}
+use Rattle.loom_model.specs.declared.builder.Builder.{Builder}
+use Rattle.loom_model.specs.declared.model.Report.{Report}
 use Rattle.loom_row_parts.specs.declared.rows.Checked.{Checked}
 use Rattle.loom_row_parts.specs.declared.rows.Checked.TheVariants.{Script, Updater}
 use Rattle.loom_row_parts.specs.declared.settings.Settings.{Settings}

@@ -4,8 +4,8 @@ use Rattle.std.specs.Option.{option_map}
 use Rattle.std.specs.Prelude.{IfOk, Option, Some, Result, Ok, Err}
 use Rattle.std.specs.List.{find}
 use Rattle.std.specs.Str.{bytes_eq}
-use Rattle.loom.specs.declared.builder.Builder.{Builder}
-use Rattle.loom.specs.declared.model.Report.{Report}
+use Rattle.loom_model.specs.declared.builder.Builder.{Builder}
+use Rattle.loom_model.specs.declared.model.Report.{Report}
 use Rattle.loom_row_parts.specs.declared.rows.Checked.{Checked}
 use Rattle.loom_row_parts.specs.declared.rows.Checked.TheVariants.{Script, Updater}
 use Rattle.loom_row_parts.specs.declared.rows.Row.{Row}

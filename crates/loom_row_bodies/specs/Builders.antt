@@ -1,8 +1,8 @@
 -- The builders that rows are checked by.
 use Rattle.std.specs.Prelude.{ℕ, ◌≡◌, List, Option, Some, None, String, string_bytes}
 use Rattle.std.specs.declared.alloc.Global.{Global}
-use Rattle.loom.specs.Settings.{defaults}
-use Rattle.loom.specs.declared.builder.Builder.{Builder}
+use Rattle.loom_model.specs.Settings.{defaults}
+use Rattle.loom_model.specs.declared.builder.Builder.{Builder}
 use Rattle.loom_row_parts.specs.declared.settings.Settings.{Settings}
 
 -- a builder as it begins with, but for these settings

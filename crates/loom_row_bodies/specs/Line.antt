@@ -5,8 +5,8 @@ use Rattle.std.specs.List.{flat_map}
 use Rattle.loom_view_parts.specs.Failures.{number_of}
 use Rattle.loom_parts.specs.declared.choice.Choice.{Choice}
 use Rattle.loom_parts.specs.declared.choice.Choice.TheVariants.{Thread, Load, Spurious}
-use Rattle.loom.specs.declared.model.Report.{Report}
-use Rattle.loom.specs.declared.model.Report.TheVariants.{Complete, Stopped, Failed}
+use Rattle.loom_model.specs.declared.model.Report.{Report}
+use Rattle.loom_model.specs.declared.model.Report.TheVariants.{Complete, Stopped, Failed}
 
 abbrev pub choice_text : Choice → List ℕ
 choice_text (Thread None) = codes "t-"

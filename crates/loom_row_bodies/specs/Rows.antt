@@ -2,10 +2,10 @@
 use Rattle.std.specs.Prelude.{ℕ, ◌≡◌, List, [], ◌∷◌, Option, Some, None}
 use Rattle.std.specs.List.{find}
 use Rattle.std.specs.Str.{bytes_eq}
-use Rattle.loom.specs.Check.{ReportsAlone}
-use Rattle.loom.specs.Settings.{explores}
-use Rattle.loom.specs.declared.builder.Builder.{Builder}
-use Rattle.loom.specs.declared.model.Report.{Report}
+use Rattle.loom_model.specs.Check.{ReportsAlone}
+use Rattle.loom_model.specs.Settings.{explores}
+use Rattle.loom_model.specs.declared.builder.Builder.{Builder}
+use Rattle.loom_model.specs.declared.model.Report.{Report}
 use Rattle.loom_runs.specs.Runs.{runs as runs_of}
 use Rattle.loom_scripts.specs.Running.{started}
 use Rattle.loom_scripts.specs.Script as script

@@ -3,15 +3,15 @@ use Rattle.std.specs.Prelude.{ℕ, ◌≡◌, ◌++◌, Bool, false, List, Optio
 use Rattle.std.specs.Io.KnownBytes.{Appends}
 use Rattle.loom_view_parts.specs.Failures.{number_of}
 use Rattle.loom_objects.specs.Tree.{Tree}
-use Rattle.loom.specs.Beginning.{Replays}
-use Rattle.loom.specs.Check.{ReportsAlone}
-use Rattle.loom.specs.Rising.{RisesTo}
-use Rattle.loom.specs.Settings.{explores}
-use Rattle.loom.specs.declared.builder.Builder.{Builder}
-use Rattle.loom.specs.declared.model.Replay.{Replay}
-use Rattle.loom.specs.declared.model.Replay.TheVariants as replay
-use Rattle.loom.specs.declared.model.Report.{Report}
-use Rattle.loom.specs.declared.rising.Risen.{Risen}
+use Rattle.loom_model.specs.Beginning.{Replays}
+use Rattle.loom_model.specs.Check.{ReportsAlone}
+use Rattle.loom_model.specs.Rising.{RisesTo}
+use Rattle.loom_model.specs.Settings.{explores}
+use Rattle.loom_model.specs.declared.builder.Builder.{Builder}
+use Rattle.loom_model.specs.declared.model.Replay.{Replay}
+use Rattle.loom_model.specs.declared.model.Replay.TheVariants as replay
+use Rattle.loom_model.specs.declared.model.Report.{Report}
+use Rattle.loom_model.specs.declared.rising.Risen.{Risen}
 use Rattle.loom_runs.specs.Runs.{runs as runs_of}
 use Rattle.loom_scripts.specs.Running.{started}
 use Rattle.loom_scripts.specs.Script as script

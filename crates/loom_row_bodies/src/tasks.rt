@@ -2,7 +2,7 @@
 //! a failure.
 ghost use Rattle.std.specs.Prelude.{◌≡◌, ◌⊎◌, Some, IfOk, OnOk, false, option_copied};
 ghost use Rattle.loom_runs.specs.Runs.{runs as runs_of};
-ghost use Rattle.loom.specs.Settings.{explores};
+ghost use Rattle.loom_model.specs.Settings.{explores};
 ghost use Rattle.loom_row_bodies.specs.Tasks.{PrintedBy, PrintedReplay, PrintedRisen, PrintedTask, replay_status, replay_text, risen_text, tree_of};
 
 use crate::line::{self, ShownChoices, ShownReport};

@@ -1,20 +1,31 @@
 //! The program: it prints what a check of a named row finds, a check with rising bounds, or a run by given choices, and may keep a
 //! checkpoint in a file. The row's name is its first word but for options, and the file the next one, if there is one. The rows,
-//! the words and the printed lines stand in `loom_row_bodies`, and their tests in `loom_row_tests`. By `--tour` it takes a first
-//! look at a row and at the bodies of `loom_examples`.
+//! the words and the printed lines stand in `loom_row_bodies`, and the rows that are closures, which have no file and no options,
+//! in `loom_closures`. Tests stand in `loom_row_tests` and `loom_runner_tests`. By `--tour` the program takes a first look at a row
+//! and at the bodies of `loom_examples`.
 #![tactic(auto)]
 
 mod tour;
 
+use loom_closures::rows::{Row, run_row};
 use loom_row_bodies::words;
+use std::env;
+use std::io::{self, Write};
 use std::process::ExitCode;
-use std::{env, io};
+use std::rt::{Env, Files};
+use std::sync::Wait;
+use std::thread::Threads;
 
 fn main(rt: HostRuntime) -> ExitCode {
-    ExitCode::from(run(&rt).unwrap_or(2))
+    let status = run(&rt, &mut rt.stdout(), &mut rt.stderr());
+    ExitCode::from(status.unwrap_or(2))
 }
 
-fn run(rt: &HostRuntime) -> io::Result<u8> {
+fn run<R: AllocGlobal + Env + Files + Threads + Wait + Clone + Send + 'static, O: Write, E: Write>(
+    rt: &R,
+    out: &mut O,
+    err: &mut E,
+) -> io::Result<u8> {
     let words = env::args(rt)?.skip(1).collect::<Vec<_>>(rt.alloc())?;
     let words = words
         .iter()
@@ -22,9 +33,11 @@ fn run(rt: &HostRuntime) -> io::Result<u8> {
         .collect::<Vec<_>>(rt.alloc())?;
     let words = words.as_slice();
     if is_tour(words) {
-        take_tour(rt)
-    } else {
-        Ok(run_words(rt, words))
+        return take_tour(rt, out, err);
+    }
+    match Row::meant_by(words) {
+        Some(row) => run_row(rt, row, out, err),
+        None => Ok(words::run_words(rt, words, out, err)),
     }
 }
 
@@ -36,18 +49,17 @@ fn is_tour(words: &[&str]) -> bool {
     }
 }
 
-/// Does what the words ask for, and answers the exit status.
-fn run_words(rt: &HostRuntime, words: &[&str]) -> u8 {
-    words::run_words(rt, words, &mut rt.stdout(), &mut rt.stderr())
-}
-
 /// Prints the line of a first row, and then what the tour finds.
-fn take_tour(rt: &HostRuntime) -> io::Result<u8> {
-    let status = run_words(rt, &["lock_beside"]);
-    match tour::tour(rt) {
+fn take_tour<R: AllocGlobal + Files, O: Write, E: Write>(
+    rt: &R,
+    out: &mut O,
+    err: &mut E,
+) -> io::Result<u8> {
+    let status = words::run_words(rt, &["lock_beside"], out, err);
+    match tour::tour(rt, out) {
         Ok(()) => Ok(status),
         Err(error) => {
-            eprintln!(rt; "{error}")?;
+            writeln!(err, "{error}")?;
             Ok(2)
         }
     }

@@ -7,45 +7,68 @@ use loom_examples::spin::Spin;
 use loom_examples::{peterson, queue, ring};
 use loom_scripts::script::Script;
 use loom_scripts::step::Step;
+use std::io::Write;
+use std::rt::Files;
 
 /// Checks the bodies, and prints what each check finds.
-pub fn tour(rt: &HostRuntime) -> anyhow::Result<()> {
-    check(rt, "spin lock, right", &Spin::main(Release))?;
-    check(rt, "spin lock, wrong", &Spin::main(Relaxed))?;
-    check_script(rt, "Peterson's lock, right", peterson::RIGHT)?;
-    check_script(rt, "Peterson's lock, wrong", peterson::WRONG)?;
-    rise(rt, "ring, right", ring::RIGHT, 2)?;
-    rise(rt, "ring, wrong", ring::WRONG, 2)?;
-    rise(rt, "queue, right", queue::RIGHT, 1)?;
-    rise(rt, "queue, wrong", queue::WRONG, 1)
+pub fn tour<R: AllocGlobal + Files, O: Write>(rt: &R, out: &mut O) -> anyhow::Result<()> {
+    check(rt, out, "spin lock, right", &Spin::main(Release))?;
+    check(rt, out, "spin lock, wrong", &Spin::main(Relaxed))?;
+    check_script(rt, out, "Peterson's lock, right", peterson::RIGHT)?;
+    check_script(rt, out, "Peterson's lock, wrong", peterson::WRONG)?;
+    rise(rt, out, "ring, right", ring::RIGHT, 2)?;
+    rise(rt, out, "ring, wrong", ring::WRONG, 2)?;
+    rise(rt, out, "queue, right", queue::RIGHT, 1)?;
+    rise(rt, out, "queue, wrong", queue::WRONG, 1)
 }
 
 /// Checks the body by the defaults, and prints what was found.
-fn check<B: Body>(rt: &HostRuntime, name: &str, body: &B) -> anyhow::Result<()> {
+fn check<R: AllocGlobal + Files, O: Write, B: Body>(
+    rt: &R,
+    out: &mut O,
+    name: &str,
+    body: &B,
+) -> anyhow::Result<()> {
     let report = Builder::new().check(rt, rt.alloc(), body)?;
-    println!(rt; "{name}: {report}")?;
-    tell(rt, body, &report)
+    writeln!(out, "{name}: {report}")?;
+    tell(rt, out, body, &report)
 }
 
-fn check_script(rt: &HostRuntime, name: &str, steps: &'static [Step]) -> anyhow::Result<()> {
-    check(rt, name, &Script::new(rt.alloc(), steps)?)
+fn check_script<R: AllocGlobal + Files, O: Write>(
+    rt: &R,
+    out: &mut O,
+    name: &str,
+    steps: &'static [Step],
+) -> anyhow::Result<()> {
+    check(rt, out, name, &Script::new(rt.alloc(), steps)?)
 }
 
 /// Checks the script with no preemptions, with one, and so on up to this bound, and prints what was found.
-fn rise(rt: &HostRuntime, name: &str, steps: &'static [Step], up_to: usize) -> anyhow::Result<()> {
+fn rise<R: AllocGlobal, O: Write>(
+    rt: &R,
+    out: &mut O,
+    name: &str,
+    steps: &'static [Step],
+    up_to: usize,
+) -> anyhow::Result<()> {
     let body = Script::new(rt.alloc(), steps)?;
     let risen = Builder::new().check_rising(rt.alloc(), &body, up_to)?;
     let bound = risen.bound;
     let report = &risen.report;
-    println!(rt; "{name}, with at most {bound} preemptions: {report}")?;
-    tell(rt, &body, report)
+    writeln!(out, "{name}, with at most {bound} preemptions: {report}")?;
+    tell(rt, out, &body, report)
 }
 
 /// Prints the story of the run that failed, if one did.
-fn tell<B: Body>(rt: &HostRuntime, body: &B, report: &Report) -> anyhow::Result<()> {
+fn tell<R: AllocGlobal, O: Write, B: Body>(
+    rt: &R,
+    out: &mut O,
+    body: &B,
+    report: &Report,
+) -> anyhow::Result<()> {
     if let Report::Failed { choices, .. } = report {
         let story = Builder::new().explain(rt.alloc(), body, choices.as_slice())?;
-        println!(rt; "{story}")?;
+        writeln!(out, "{story}")?;
     }
     Ok(())
 }

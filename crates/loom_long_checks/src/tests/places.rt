@@ -36,7 +36,11 @@ const LINE_7: Label = Label {
 // Main releases a mutex that nobody has locked.
 const RELEASE_UNLOCKED: &[Step] = &[
     Step::Labelled(0, Request::Mutex(MutexOp::New(Value::Plain(0))), LINE_3),
-    Step::Labelled(0, Request::Mutex(MutexOp::Release(0, Value::Plain(0))), LINE_7),
+    Step::Labelled(
+        0,
+        Request::Mutex(MutexOp::Release(0, Value::Plain(0))),
+        LINE_7,
+    ),
 ];
 
 // The same, but the release has no place.

@@ -123,7 +123,10 @@ fn wrong_in<T: Numeric + Debug + Drop>(
 ) -> Option<&'static str> {
     for (number, name, text) in rows {
         page.clear();
-        put_answer::<T>(page, execution.submit(path, kind.call::<T>(*number).request));
+        put_answer::<T>(
+            page,
+            execution.submit(path, kind.call::<T>(*number).request),
+        );
         if !page.has(*text) {
             return Some(*name);
         }

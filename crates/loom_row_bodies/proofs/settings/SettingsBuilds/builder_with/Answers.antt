@@ -1,5 +1,5 @@
 use Rattle.std.proofs.Common.{Some, ap, ◌∙◌}
-use Rattle.loom.specs.declared.builder.Builder.{Builder}
+use Rattle.loom_model.specs.declared.builder.Builder.{Builder}
 use Rattle.loom_row_bodies.proofs.settings.SettingsBuilds.builder_with.Goals as goal
 use Rattle.loom_row_bodies.proofs.settings.SettingsBuilds.builder_with.Goals.{in-Some+in_ok-checkpoint_file, in_default}
 

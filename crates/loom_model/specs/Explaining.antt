@@ -1,0 +1,34 @@
+-- What an explanation of a run promises.
+use Rattle.std.specs.Prelude.{◌≡◌, List, length, Ok, Err}
+use Rattle.loom_told.specs.declared.explanation.End.{End}
+use Rattle.loom_told.specs.declared.explanation.End.TheVariants.{Ended, Failed}
+use Rattle.loom_told.specs.declared.explanation.Explanation.{Explanation}
+use Rattle.loom_explain.specs.Story.{Story, story_of}
+use Rattle.loom_parts.specs.declared.choice.Choice.{Choice}
+use Rattle.loom_runs.specs.Runs.{Meaning, runs}
+use Rattle.loom_walks.specs.Trees.Check.{following}
+use Rattle.loom_walks.specs.Trees.Meeting.{whole_search}
+use Rattle.loom_model.specs.declared.builder.Builder.{Builder}
+use Rattle.loom_model.specs.Beginning.{IsReplay}
+use Rattle.loom_model.specs.Settings.{explores}
+
+module _ {D S : Type 0} (b : Builder) (next : Meaning D S) (body : S) (given : List Choice) where
+  -- the story of the run that follows the given choices and then takes defaults
+  abbrev pub told_run : Story D
+  told_run = story_of (whole_search b.max_branches) next (explores b) b.max_threads b.max_steps body (following given)
+
+  -- a replay of the given choices makes these choices and ends so
+  abbrev pub IsReplayTo : List Choice → End → Type 0
+  IsReplayTo made Ended = (value : D) × IsReplay b.max_branches (runs next (explores b) b.max_threads b.max_steps body) given made (Ok value)
+  IsReplayTo made (Failed failure) = IsReplay b.max_branches (runs next (explores b) b.max_threads b.max_steps body) given made (Err failure.kind)
+
+  -- what is told of a run
+  pub record Explains (e : Explanation) : Type 0 where
+    -- its events, each of them, in order: who was told what, and handed over what
+    pub events : e.events.items ≡ told_run.events
+    -- its choices and its end
+    pub ends : IsReplayTo e.choices.items e.end
+    -- something to choose of at each choice
+    pub options : length e.options.items ≡ length e.choices.items
+    -- the limits that it ran with
+    pub limits : (e.max_threads ≡ b.max_threads) × (e.max_branches ≡ b.max_branches) × (e.max_steps ≡ b.max_steps)

@@ -1,0 +1,177 @@
+//! The loop of a check.
+ghost use Rattle.std.specs.Prelude.{◌≡◌, ◌≤◌, ◌<◌, ◌^◌, ◌-◌, None, Err, IfOk, IfErr, IfSome};
+ghost use Rattle.loom_path.specs.Routes.{IsAtStart, IsSameSearch};
+ghost use Rattle.loom_round.specs.Ending.{IsLocated, RunsAlong};
+ghost use Rattle.loom_runs.specs.Runs.{runs as runs_of};
+ghost use Rattle.loom_saves.specs.Beginning.{IsBegun};
+ghost use Rattle.loom_model.specs.Check.{Reports};
+ghost use Rattle.loom_model.specs.Loop.{Comes, HasReached};
+ghost use Rattle.loom_model.specs.Refusals.{CountsFaults, IsNoBeginning, IsNoReport};
+ghost use Rattle.loom_model.specs.Settings.{explores, search_of, tested};
+
+use crate::builder::Builder;
+use crate::error::CheckError;
+use crate::model::{Limit, Report};
+use crate::progress::log_switches;
+use log::Log;
+use loom_check_parts::limits::{are_made, complete};
+use loom_check_parts::paths::path_search;
+use loom_check_parts::receiver::Receiver;
+use loom_check_parts::rounds::Round;
+use loom_check_parts::runs::Runs;
+use loom_engine::rt::execution::Limits;
+use loom_objects::body::Body;
+use loom_parts::failure::Failure;
+use loom_path::rt::path::Path;
+use loom_round::places::{LastPlaces, NoPlaces};
+use loom_round::round::{Ending, run};
+use loom_saves::beginning::begin;
+use loom_saves::saving::{Pace, save, save_and_run};
+use loom_stores::clock::Clock;
+use loom_stores::store::CheckpointStore;
+use std::alloc::{AllocError, Global};
+
+impl Builder {
+    /// The runs of a check, which a receiver is given.
+    pub(crate) fn search<B, Choices, R, C, S, L>(
+        &self,
+        alloc: Global,
+        body: &B,
+        receiver: &mut R,
+        clock: &mut C,
+        store: &mut S,
+        log: &L,
+    ) -> Result<Report, CheckError>
+    where
+        B: Body,
+        R: Receiver<B::Data, Choices>,
+        C: Clock,
+        S: CheckpointStore,
+        L: Log,
+        ensures reports { IfOk result (Reports R.receives receiver.old receiver.new self.now (runs_of B.next (explores self.now) self.now.max_threads self.now.max_steps body.now) (S.gives store.old) (S.holds store.new) (C.answered clock.new)) }
+        ensures refused { IfErr (tested self.now) (λ e. (result ≡ Err e) × (receiver.new ≡ receiver.old)) }
+        ensures errors { IfErr result (IsNoReport self.now (S.gives store.old) (receiver.new ≡ receiver.old)) }
+        ensures faults { CountsFaults result (S.fault_count store.old) (S.fault_count store.new) }
+    {
+        self.test()?;
+        let mut path = self.begin(alloc, store)?;
+        let mut pace = Pace {
+            interval: self.checkpoint_interval,
+            runs: 0,
+            until_save: self.checkpoint_interval - 1,
+        };
+        loop {
+            if let Some(limit) = self.reached(pace.runs, clock) {
+                let checkpoint = save(alloc, &path, store)?;
+                return Ok(Report::Stopped {
+                    runs: pace.runs,
+                    limit,
+                    checkpoint,
+                });
+            }
+            let runs = BodyRuns {
+                builder: self,
+                body,
+                log,
+            };
+            match save_and_run(alloc, &runs, receiver, &mut path, store, log, &mut pace)? {
+                Round::Next => pace.runs += 1,
+                Round::Last => {
+                    return Ok(Report::Complete {
+                        runs: complete(log, pace.runs),
+                    });
+                }
+                Round::Failed(failure, choices) => {
+                    return Ok(Report::Failed {
+                        runs: pace.runs,
+                        failure,
+                        choices,
+                    });
+                }
+            }
+        }
+    }
+
+    /// The path with which a check begins: that of the text in the store, or one without nodes.
+    fn begin<S: CheckpointStore>(&self, alloc: Global, store: &mut S) -> Result<Path, CheckError>
+        requires branches { self.now.max_branches ≤ 1000000 }
+        requires bound { IfSome self.now.preemption_bound (λ bound. bound ≤ 255) }
+        ensures begun { IfOk result (IsBegun (search_of self.now) (explores self.now) (S.gives store.old) (S.holds store.new)) }
+        ensures errors { IfErr result (IsNoBeginning self.now (S.gives store.old)) }
+        ensures faults { CountsFaults result (S.fault_count store.old) (S.fault_count store.new) }
+    {
+        let search = path_search(
+            self.reduce,
+            self.preemption_bound,
+            self.max_branches,
+            self.expect_explicit_explore,
+        );
+        Ok(begin(alloc, search, store)?)
+    }
+
+    /// The limit that a check has reached after so many runs, if any. The clock is asked where a duration is set.
+    fn reached<C: Clock>(&self, runs: u64, clock: &mut C) -> Option<Limit>
+        ensures reached { HasReached (C.answered clock.new) self.now runs result }
+        ensures fits { result ≡ None → runs < 2 ^ 64 - 1 }
+    {
+        if are_made(self.max_permutations, runs) {
+            return Some(Limit::Permutations);
+        }
+        match self.max_duration {
+            Some(longest) if clock.elapsed() >= longest => Some(Limit::Duration),
+            _ => None,
+        }
+    }
+
+    /// One run along the path, from its start.
+    pub(crate) fn run<B: Body>(
+        &self,
+        alloc: Global,
+        body: &B,
+        path: &mut Path,
+    ) -> Result<Ending<B::Data>, AllocError>
+        requires some { 1 ≤ self.now.max_threads }
+        requires few { self.now.max_threads ≤ 5 }
+        requires starts { IsAtStart (explores self.now) path.old }
+        ensures along { IfOk result (λ ending. RunsAlong (runs_of B.next (explores self.now) self.now.max_threads self.now.max_steps body.now) path.old ending path.new) }
+        ensures located { IfOk result (IsLocated self.now.location) }
+        ensures same { IsSameSearch path.old path.new }
+    {
+        let limits = Limits {
+            max_threads: self.max_threads,
+            max_steps: self.max_steps,
+        };
+        if self.location {
+            run(alloc, limits, body, path, &mut LastPlaces::new())
+        } else {
+            run(alloc, limits, body, path, &mut NoPlaces)
+        }
+    }
+}
+
+/// Makes the runs of a body, as a builder asks for them. The log is told which thread goes on.
+#[derive(Drop)]
+struct BodyRuns<'a, B, L> {
+    builder: &'a Builder,
+    body: &'a B,
+    log: &'a L,
+}
+
+impl<'a, B: Body, L: Log> Runs<Result<B::Data, Failure>> for BodyRuns<'a, B, L> {
+    ghost may_run = { λ runs. (1 ≤ runs.builder.now.max_threads) × (runs.builder.now.max_threads ≤ 5) };
+
+    ghost begins_exploring = { λ runs. explores runs.builder.now };
+
+    ghost comes = { λ runs. Comes (runs_of B.next (explores runs.builder.now) runs.builder.now.max_threads runs.builder.now.max_steps runs.body.now) runs.builder.now.location };
+
+    fn run(&self, alloc: Global, path: &mut Path) -> Result<Result<B::Data, Failure>, AllocError> {
+        let answer = self.builder.run(alloc, self.body, path);
+        if self.builder.log {
+            log_switches(self.log, path);
+        }
+        match answer? {
+            Ending::Ended(value) => Ok(Ok(value)),
+            Ending::Failed(failure) => Ok(Err(failure)),
+        }
+    }
+}

@@ -1,0 +1,3 @@
+pub mod Remembering
+pub mod Making
+pub mod Reporting

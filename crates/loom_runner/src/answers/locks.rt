@@ -1,0 +1,48 @@
+//! What the replies to operations of read-write locks and condition variables hold.
+ghost use Rattle.std.specs.Prelude.{◌≡◌};
+ghost use Rattle.loom_ops.specs.Condvars.{condvar_handle};
+ghost use Rattle.loom_ops.specs.RwLocks.{rwlock_handle, read_guard_taken, write_guard_taken};
+
+use crate::ask::Answer;
+use loom_objects::operation::Reply;
+use loom_ops::sync::{Condvar, RwLock, RwLockReadGuard, RwLockWriteGuard};
+
+impl<D: Drop> Answer<D> for RwLock {
+    ghost held = { rwlock_handle };
+
+    fn from_reply(reply: Reply<D>) -> Option<RwLock>
+        ensures { result ≡ rwlock_handle reply }
+    {
+        RwLock::from_reply(&reply)
+    }
+}
+
+impl<D: Drop> Answer<D> for (RwLockReadGuard, D) {
+    ghost held = { read_guard_taken };
+
+    fn from_reply(reply: Reply<D>) -> Option<(RwLockReadGuard, D)>
+        ensures { result ≡ read_guard_taken reply }
+    {
+        RwLockReadGuard::take(reply)
+    }
+}
+
+impl<D: Drop> Answer<D> for (RwLockWriteGuard, D) {
+    ghost held = { write_guard_taken };
+
+    fn from_reply(reply: Reply<D>) -> Option<(RwLockWriteGuard, D)>
+        ensures { result ≡ write_guard_taken reply }
+    {
+        RwLockWriteGuard::take(reply)
+    }
+}
+
+impl<D: Drop> Answer<D> for Condvar {
+    ghost held = { condvar_handle };
+
+    fn from_reply(reply: Reply<D>) -> Option<Condvar>
+        ensures { result ≡ condvar_handle reply }
+    {
+        Condvar::from_reply(&reply)
+    }
+}

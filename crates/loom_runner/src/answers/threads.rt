@@ -1,0 +1,29 @@
+//! What the replies to operations of notifiers and of threads hold.
+ghost use Rattle.std.specs.Prelude.{◌≡◌};
+ghost use Rattle.loom_ops.specs.Notifiers.{notify_handle};
+ghost use Rattle.loom_ops.specs.Threads.{thread_handle};
+
+use crate::ask::Answer;
+use loom_objects::operation::Reply;
+use loom_ops::sync::Notify;
+use loom_ops::thread::Thread;
+
+impl<D: Drop> Answer<D> for Notify {
+    ghost held = { notify_handle };
+
+    fn from_reply(reply: Reply<D>) -> Option<Notify>
+        ensures { result ≡ notify_handle reply }
+    {
+        Notify::from_reply(&reply)
+    }
+}
+
+impl<D: Drop> Answer<D> for Thread {
+    ghost held = { thread_handle };
+
+    fn from_reply(reply: Reply<D>) -> Option<Thread>
+        ensures { result ≡ thread_handle reply }
+    {
+        Thread::from_reply(&reply)
+    }
+}

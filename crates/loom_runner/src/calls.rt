@@ -1,0 +1,19 @@
+// Calls of closures. What they are given is a type of its own here, since the borrow checker doesn't cover a call of a closure that is
+// given a type with references in it.
+ghost use Rattle.std.specs.Fn.{CalledAtMut};
+
+/// Calls main's closure.
+pub(crate) fn ask_closure<H, T, F: FnMut(&mut H) -> T>(closure: &mut F, handle: &mut H) -> T
+    requires { F.IsAlwaysCallable closure.old }
+    ensures called { CalledAtMut F.FnMut closure.old handle.old result closure.new handle.new }
+    ensures again { F.IsAlwaysCallable closure.new }
+{
+    closure(handle)
+}
+
+/// Calls a spawned thread's closure.
+pub(crate) fn ask_once<H, T, F: FnOnce(&mut H) -> T>(closure: F, handle: &mut H) -> T
+    requires { F.IsAlwaysCallable closure }
+{
+    closure(handle)
+}

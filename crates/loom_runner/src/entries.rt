@@ -1,0 +1,104 @@
+// What a thread keeps of its operations, and of what it was told.
+ghost use Rattle.std.specs.Prelude.{◌≡◌, ◌++◌, ◌∷◌, ◌<◌, [], IfOk, IfErr, IfSome, OnSome, None, Some, true, vec_len, vec_capacity};
+ghost use Rattle.loom_objects.specs.declared.operation.Reply.TheVariants as reply;
+ghost use Rattle.loom_turns.specs.Histories.{entry};
+ghost use Rattle.loom_runner.specs.Tellings.{spawning};
+
+use crate::shared::{Child, Children};
+use loom_copies::exact::Exact;
+use loom_copies::operations::copy_request;
+use loom_copies::replies::copy_reply;
+use loom_objects::operation::{Reply, Request, ThreadOp};
+use loom_ops::thread::JoinHandle;
+use loom_turns::event::Entry;
+use loom_turns::stop::Stop;
+use std::alloc::Global;
+
+/// Makes room for one more. False where a growth was refused.
+pub(crate) fn has_room<T>(list: &mut Vec<T>) -> bool
+    ensures room { result ≡ true → vec_len list.new < vec_capacity list.new }
+    ensures same { list.new.items ≡ list.old.items }
+{
+    list.reserve(1).is_ok()
+}
+
+/// Makes room for one more, and copies the operation for it. None where a growth was refused.
+pub(crate) fn prepare<D: Exact>(
+    told: &mut Vec<Entry<D>>,
+    op: &Request<D, ()>,
+) -> Option<Request<D, ()>>
+    ensures kept { IfSome result (λ kept. kept ≡ op.now) }
+    ensures room { OnSome result (vec_len told.new < vec_capacity told.new) }
+    ensures same { told.new.items ≡ told.old.items }
+{
+    if !has_room(told) {
+        return None;
+    }
+    match copy_request(op) {
+        Ok(kept) => Some(kept),
+        Err(_) => None,
+    }
+}
+
+/// Adds the operation with its reply, or with none where it was answered by a stop. A reply that can't be copied is such a stop.
+pub(crate) fn note<D: Exact>(
+    alloc: Global,
+    told: &mut Vec<Entry<D>>,
+    op: Request<D, ()>,
+    answer: Result<Reply<D>, Stop>,
+) -> Result<Reply<D>, Stop>
+    requires { vec_len told.old < vec_capacity told.old }
+    ensures answered { IfOk result (λ reply. told.new.items ≡ told.old.items ++ entry op (Some reply) ∷ []) }
+    ensures stopped { IfErr result (λ stop. told.new.items ≡ told.old.items ++ entry op None ∷ []) }
+{
+    let (reply, answer) = kept_of(alloc, answer);
+    told.push_reserved(Entry { op, reply });
+    answer
+}
+
+/// What is kept of an answer: a copy of the reply.
+fn kept_of<D: Exact>(
+    alloc: Global,
+    answer: Result<Reply<D>, Stop>,
+) -> (Option<Reply<D>>, Result<Reply<D>, Stop>)
+    ensures answered { IfOk result.1 (λ reply. result.0 ≡ Some reply) }
+    ensures stopped { IfErr result.1 (λ stop. result.0 ≡ None) }
+{
+    match answer {
+        Ok(reply) => match copy_reply(alloc, &reply) {
+            Ok(again) => (Some(again), Ok(reply)),
+            Err(_) => (None, Err(Stop::Memory)),
+        },
+        Err(stop) => (None, Err(stop)),
+    }
+}
+
+/// Adds a spawn, and the thread that it has started.
+pub(crate) fn note_spawn<D: Drop>(
+    told: &mut Vec<Entry<D>>,
+    children: &mut Children<D>,
+    started: Result<(JoinHandle, Child<D>), Stop>,
+) -> Result<JoinHandle, Stop>
+    requires room { vec_len told.old < vec_capacity told.old }
+    requires beside { vec_len children.old < vec_capacity children.old }
+    ensures answered { IfOk result (λ child. told.new.items ≡ told.old.items ++ entry spawning (Some (reply.Spawned child.thread child.name child.notifier)) ∷ []) }
+    ensures stopped { IfErr result (λ stop. told.new.items ≡ told.old.items ++ entry spawning None ∷ []) }
+{
+    match started {
+        Ok((handle, child)) => {
+            told.push_reserved(Entry {
+                op: Request::Thread(ThreadOp::Spawn((), None)),
+                reply: Some(Reply::Spawned(handle.thread, handle.name, handle.notifier)),
+            });
+            children.push_reserved(child);
+            Ok(handle)
+        }
+        Err(stop) => {
+            told.push_reserved(Entry {
+                op: Request::Thread(ThreadOp::Spawn((), None)),
+                reply: None,
+            });
+            Err(stop)
+        }
+    }
+}

@@ -1,0 +1,260 @@
+//! By what a thread hands over operations.
+ghost use Rattle.std.specs.Prelude.{◌≡◌, ◌++◌, ◌∷◌, [], IfOk, IfErr, OnOk, MatchOption, Some, Ok, Err, true, false, slice_get};
+ghost use Rattle.loom_objects.specs.declared.operation.Reply.TheVariants as reply;
+ghost use Rattle.loom_turns.specs.Histories.{entry};
+ghost use Rattle.loom_runner.specs.Tellings.{newcomer, with_open, failing, handed, is_reserved, spawning, ByStop, Closes, all_answered, is_memory, Leading};
+
+use crate::entries::{has_room, note, note_spawn, prepare};
+use crate::error::RunnerError;
+use crate::job::Job;
+use crate::shared::{self, Children, Shared};
+use loom_copies::exact::Exact;
+use loom_objects::operation::{Reply, Request, ThreadOp};
+use loom_ops::thread::JoinHandle;
+use loom_turns::event::Entry;
+use loom_turns::stop::Stop;
+use loom_turns::told::Told;
+use std::alloc::{AllocError, Global};
+use std::marker::Model;
+use std::sync::{Arc, Wait};
+use std::thread::Threads;
+
+/// By what a thread of a run hands over its operations, and waits for their replies (own). Once a call was answered by a stop,
+/// each later one is.
+#[derive(Drop)]
+pub struct Handle<D, R> {
+    rt: R,
+    alloc: Global,
+    shared: Arc<Shared<D>, Global>,
+    thread: u8,
+    told: Vec<Entry<D>>,
+    stop: Option<Stop>,
+    children: Children<D>,
+}
+
+impl<D, R> Model for Handle<D, R> {
+    ghost use Rattle.loom_runner.specs.Tellings.{Teller, Remembers, is_memory};
+
+    ghost Value = { Teller D };
+
+    ghost view = { λ h. record { thread = h.thread; told = h.told.items; starved = is_memory h.stop } };
+
+    ghost invariant = { λ h. Remembers h.told.items h.stop };
+}
+
+/// Whether the operation is one that no closure hands over by `call`: a spawn, and each of a thread's end.
+fn is_reserved<D>(op: &Request<D, ()>) -> bool
+    ensures { result ≡ is_reserved op.now }
+{
+    matches!(
+        op,
+        Request::Thread(ThreadOp::Spawn(..) | ThreadOp::Finish(_) | ThreadOp::Exit | ThreadOp::End)
+    )
+}
+
+impl<D: Exact + 'static, R: Wait> Handle<D, R> {
+    /// Hands over an operation, and waits for its reply. A spawn, and an operation of a thread's end, fails the run as an
+    /// assertion: for these there are `spawn` and the closure's own end. After a stop each call answers it again (own).
+    pub fn call(&mut self, request: Request<D, ()>) -> Result<Reply<D>, Stop>
+        ensures live { OnOk result (all_answered self.old.told ≡ true) }
+        ensures thread { self.new.thread ≡ self.old.thread }
+        ensures answered { IfOk result (λ reply. self.new.told ≡ self.old.told ++ entry request (Some reply) ∷ []) }
+        ensures stopped { IfErr result (λ stop. ByStop stop (self.new.told ≡ with_open self.old.told (handed request)) (self.new.starved ≡ true)) }
+    {
+        if is_reserved(&request) {
+            Err(self.fail())
+        } else {
+            self.hand_over(request)
+        }
+    }
+
+    /// Hands over `fail`, and answers the stop (own).
+    pub fn fail(&mut self) -> Stop
+        ensures thread { self.new.thread ≡ self.old.thread }
+        ensures stopped { ByStop result (self.new.told ≡ with_open self.old.told failing) (self.new.starved ≡ true) }
+    {
+        if let Some(stop) = self.stop {
+            return stop;
+        }
+        if !has_room(&mut self.told) {
+            return self.give_up(Stop::Memory);
+        }
+        let stop = shared::fail(&self.rt, &self.shared, self.thread);
+        self.told.push_reserved(Entry {
+            op: Request::Fail,
+            reply: None,
+        });
+        self.stop = Some(stop);
+        stop
+    }
+
+    fn hand_over(&mut self, op: Request<D, ()>) -> Result<Reply<D>, Stop>
+        ensures live { OnOk result (all_answered self.old.told ≡ true) }
+        ensures thread { self.new.thread ≡ self.old.thread }
+        ensures answered { IfOk result (λ reply. self.new.told ≡ self.old.told ++ entry op (Some reply) ∷ []) }
+        ensures stopped { IfErr result (λ stop. ByStop stop (self.new.told ≡ with_open self.old.told op) (self.new.starved ≡ true)) }
+    {
+        if let Some(stop) = self.stop {
+            return Err(stop);
+        }
+        let Some(kept) = prepare(&mut self.told, &op) else {
+            return Err(self.give_up(Stop::Memory));
+        };
+        let answer = shared::hand_over(&self.rt, &self.shared, self.thread, op);
+        match note(self.alloc, &mut self.told, kept, answer) {
+            Ok(reply) => Ok(reply),
+            Err(stop) => {
+                self.stop = Some(stop);
+                shared::heed(&self.rt, &self.shared, stop);
+                Err(stop)
+            }
+        }
+    }
+
+    /// Ends the run for want of memory.
+    pub(crate) fn give_up(&mut self, stop: Stop) -> Stop
+        requires { stop ≡ Stop.Memory }
+        ensures thread { self.new.thread ≡ self.old.thread }
+        ensures starved { self.new.starved ≡ true }
+        ensures stop { result ≡ Stop.Memory }
+    {
+        self.stop = Some(stop);
+        shared::give_up(&self.rt, &self.shared, stop);
+        stop
+    }
+}
+
+impl<D: Exact + 'static, R: Threads + Wait + Clone + Send + 'static> Handle<D, R> {
+    /// The handle of a thread that was told nothing yet.
+    pub(crate) fn new(
+        rt: R,
+        alloc: Global,
+        shared: Arc<Shared<D>, Global>,
+        thread: u8,
+    ) -> Handle<D, R>
+        ensures { result ≡ newcomer thread }
+    {
+        Handle {
+            rt,
+            alloc,
+            shared,
+            thread,
+            told: Vec::new(alloc),
+            stop: None,
+            children: Vec::new(alloc),
+        }
+    }
+
+    /// Starts a thread that runs the job, once its turn comes (loom's `thread.rs`). Where the host refuses the thread, the job is
+    /// dropped and the run stops.
+    pub fn spawn_job<J: Job<D, R> + 'static>(&mut self, job: J) -> Result<JoinHandle, Stop>
+        requires { J.ready job }
+        ensures live { OnOk result (all_answered self.old.told ≡ true) }
+        ensures thread { self.new.thread ≡ self.old.thread }
+        ensures answered { IfOk result (λ child. self.new.told ≡ self.old.told ++ entry spawning (Some (reply.Spawned child.thread child.name child.notifier)) ∷ []) }
+        ensures stopped { IfErr result (λ stop. ByStop stop (self.new.told ≡ with_open self.old.told spawning) (self.new.starved ≡ true)) }
+    {
+        if let Some(stop) = self.stop {
+            return Err(stop);
+        }
+        if !has_room(&mut self.told) {
+            return Err(self.give_up(Stop::Memory));
+        }
+        if !has_room(&mut self.children) {
+            return Err(self.give_up(Stop::Memory));
+        }
+        let started = shared::start(&self.rt, self.alloc, &self.shared, self.thread, job);
+        match note_spawn(&mut self.told, &mut self.children, started) {
+            Ok(handle) => Ok(handle),
+            Err(stop) => {
+                self.stop = Some(stop);
+                shared::heed(&self.rt, &self.shared, stop);
+                Err(stop)
+            }
+        }
+    }
+
+    /// Ends the thread by its closure's answer: hands over its result, `exit` and `end`, or for a stop `fail`, unless a call was
+    /// answered by a stop already. Then joins the threads that it started. Answers what they all were told, its own list first
+    /// (own). `Memory` where a call was refused memory, `Refused` where a thread was refused.
+    pub fn close(mut self, answer: Result<D, Stop>) -> Result<Vec<Told<D>>, RunnerError>
+        ensures told { IfOk result (λ all. Leading self.thread all.items (Closes self.told answer)) }
+    {
+        match answer {
+            Ok(value) => self.finish(value),
+            Err(_) => {
+                self.fail();
+            }
+        }
+        self.leave()
+    }
+
+    /// Hands over `finish`, `exit` and `end`, up to the first that is answered by a stop.
+    fn finish(&mut self, value: D)
+        ensures thread { self.new.thread ≡ self.old.thread }
+        ensures told { self.new.starved ≡ false → Closes self.old.told (Ok value) self.new.told }
+    {
+        let Ok(_) = self.hand_over(Request::Thread(ThreadOp::Finish(value))) else {
+            return;
+        };
+        let Ok(_) = self.hand_over(Request::Thread(ThreadOp::Exit)) else {
+            return;
+        };
+        shared::end(&self.rt, &self.shared);
+    }
+
+    /// Joins the threads that it started.
+    pub(crate) fn leave(self) -> Result<Vec<Told<D>>, RunnerError>
+        ensures told { IfOk result (λ all. Leading self.thread all.items (λ es. es ≡ self.told)) }
+        ensures fed { OnOk result (self.starved ≡ false) }
+        ensures starved { self.starved ≡ true → result ≡ Err RunnerError.Memory }
+    {
+        let Handle {
+            rt,
+            alloc,
+            shared: _,
+            thread,
+            told,
+            stop,
+            children,
+        } = self;
+        let others = shared::join_all(&rt, alloc, children);
+        let first = Told {
+            thread,
+            entries: told,
+        };
+        match refusal(stop) {
+            Some(error) => Err(error),
+            None => gather(alloc, first, others?),
+        }
+    }
+}
+
+/// The error of a thread that stopped so, unless its run went on or failed.
+fn refusal(stop: Option<Stop>) -> Option<RunnerError>
+    ensures { MatchOption result (is_memory stop ≡ false) (λ error. is_memory stop ≡ true → error ≡ RunnerError.Memory) }
+{
+    match stop {
+        Some(Stop::Memory) => Some(RunnerError::Memory),
+        Some(Stop::Refused) => Some(RunnerError::Refused),
+        Some(Stop::Failure(_)) | None => None,
+    }
+}
+
+/// The lists of the threads, this one first.
+fn gather<D: Drop>(
+    alloc: Global,
+    first: Told<D>,
+    mut others: Vec<Told<D>>,
+) -> Result<Vec<Told<D>>, RunnerError>
+    ensures { IfOk result (λ all. slice_get all.items 0 ≡ Some first) }
+{
+    let mut all = Vec::new(alloc);
+    if all.push(first).is_err() {
+        return Err(RunnerError::Memory);
+    }
+    if all.append(&mut others).is_err() {
+        return Err(RunnerError::Memory);
+    }
+    Ok(all)
+}
