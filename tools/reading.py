@@ -19,8 +19,8 @@ from pathlib import Path
 
 CRATES = Path(__file__).resolve().parent.parent / "crates"
 # where to begin, and how many lines there may be to read
-BEGINNING = ["loom/specs/Beginning.antt", "loom_runs/specs/Runs.antt"], 1500
-WITH_A_PATH = ["loom/specs/Check.antt"], 2000
+BEGINNING = ["loom_model/specs/Beginning.antt", "loom_runs/specs/Runs.antt"], 1500
+WITH_A_PATH = ["loom_model/specs/Check.antt"], 2000
 # what each operation does to the state of the machine, and that state
 RULES = {
     f"loom_objects/specs/{name}.antt"

@@ -4,11 +4,12 @@
 usage: tools/refused_memory.py [PROGRAM]
 
 PROGRAM is crates/loom_rows/out/loom_rows, which `rt run` makes there. A C compiler, `cc`, is needed for a library that is loaded
-before the C library and refuses one request. Of five rows the program is run once for each request that it makes, up to a run in
-which none was refused. It must print the row's line, or nothing: then its status is 2, with `error 14` on standard error where
-the check was refused memory, and with nothing there where the program itself was. After each of these runs it is run once more,
-with all the memory that it wants and the file that is there, and must answer as the row does. Prints a line for each row, and
-ends with status 1 at the first answer that is another.
+before the C library and refuses one request. Of six rows the program is run once for each request that it makes, up to a run in
+which none was refused. It must print the row's line, or nothing: then its status is 2, with an error on standard error where
+the check was refused memory, and with nothing there where the program itself was. The error is `error 14`, or of a row of closures
+`error 3`, and `error 1` where the start of a thread was refused, which counts as a request. After each of these runs the program is
+run once more, with all the memory that it wants and the file that is there, and must answer as the row does. Prints a line for each
+row, and ends with status 1 at the first answer that is another.
 """
 import os
 import subprocess
@@ -18,7 +19,9 @@ import tempfile
 REFUSE = r"""
 #define _GNU_SOURCE
 #include <dlfcn.h>
+#include <errno.h>
 #include <fcntl.h>
+#include <pthread.h>
 #include <stdlib.h>
 #include <unistd.h>
 
@@ -33,8 +36,8 @@ __attribute__((constructor)) static void begin(void) {
 
 // Whether this call is the one to be refused, which is then marked by a file.
 static int is_refused(void) {
-    calls += 1;
-    if (mark == 0 || calls != refused)
+    unsigned long call = __atomic_add_fetch(&calls, 1, __ATOMIC_SEQ_CST);
+    if (mark == 0 || call != refused)
         return 0;
     close(open(mark, O_CREAT | O_WRONLY, 0600));
     return 1;
@@ -53,15 +56,27 @@ void *realloc(void *block, size_t size) {
         next = (void *(*)(void *, size_t))dlsym(RTLD_NEXT, "realloc");
     return is_refused() ? 0 : next(block, size);
 }
+
+int pthread_create(pthread_t *thread, const pthread_attr_t *attributes, void *(*run)(void *), void *given) {
+    static int (*next)(pthread_t *, const pthread_attr_t *, void *(*)(void *), void *);
+    if (next == 0)
+        next = (int (*)(pthread_t *, const pthread_attr_t *, void *(*)(void *), void *))dlsym(RTLD_NEXT, "pthread_create");
+    return is_refused() ? EAGAIN : next(thread, attributes, run, given);
+}
 """
 
-# The row, its line, its status, and for a row with a file the line of the call that goes on.
+# The errors of a check that was refused memory, and of one of closures.
+BODY = ("error 14",)
+CLOSURES = ("error 3", "error 1")
+
+# The row, its line, its status, for a row with a file the line of the call that goes on, and its errors.
 ROWS = [
-    ("lock_beside", b"complete 3\n", 0, None),
-    ("lock_beside_two", b"stopped 2\n", 0, b"complete 1\n"),
-    ("two_mutexes_deadlock", b"failed 2 3 t1 t1 t2 t2 t-\n", 1, None),
-    ("store_buffering", b"complete 30\n", 0, None),
-    ("send_then_recv", b"complete 1\n", 0, None),
+    ("lock_beside", b"complete 3\n", 0, None, BODY),
+    ("lock_beside_two", b"stopped 2\n", 0, b"complete 1\n", BODY),
+    ("two_mutexes_deadlock", b"failed 2 3 t1 t1 t2 t2 t-\n", 1, None, BODY),
+    ("store_buffering", b"complete 30\n", 0, None, BODY),
+    ("send_then_recv", b"complete 1\n", 0, None, BODY),
+    ("two_mutexes_deadlock_closures", b"failed 2 3 t1 t1 t2 t2 t-\n", 1, None, CLOSURES),
 ]
 
 
@@ -80,11 +95,11 @@ def answer(program, words, more):
     return made.stdout, made.stderr, made.returncode
 
 
-def try_row(program, library, folder, name, line, status, goes_on):
+def try_row(program, library, folder, name, line, status, goes_on, errors):
     file = f"{folder}/file"
     mark = f"{folder}/mark"
     words = [name] if goes_on is None else [name, file]
-    counts = {"error 14": 0, "status 2": 0, "the row's line": 0}
+    counts = {**dict.fromkeys(errors, 0), "status 2": 0, "the row's line": 0}
     call = 0
     while True:
         call += 1
@@ -93,8 +108,9 @@ def try_row(program, library, folder, name, line, status, goes_on):
                 os.remove(path)
         found = answer(program, words, {"LD_PRELOAD": library, "REFUSED_CALL": str(call), "REFUSED_MARK": mark})
         was_refused = os.path.exists(mark)
-        if found == (b"", b"error 14\n", 2) and was_refused:
-            kind = "error 14"
+        error = found[1].decode().rstrip("\n")
+        if found == (b"", found[1], 2) and error in errors and was_refused:
+            kind = error
         elif found == (b"", b"", 2) and was_refused:
             kind = "status 2"
         elif found == (line, b"", status):
