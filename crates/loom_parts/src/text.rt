@@ -4,29 +4,29 @@ ghost use Rattle.std.specs.Prelude.{◌≡◌, ◌≤◌, length};
 use std::{fmt, str};
 
 /// How many bytes a text has at most.
-pub const LONGEST: usize = 31;
+pub const LONGEST: usize = 32;
 
-/// A text of at most 31 bytes. It holds no reference, so what holds texts can be lent to a closure, and two texts are the same
+/// A text of at most 32 bytes. It holds no reference, so what holds texts can be lent to a closure, and two texts are the same
 /// value exactly where they are equal (own).
 #[derive(Clone, Copy, PartialEq, Eq)]
 pub struct Text {
+    /// How many bytes it has. It is a word, so that a text has no gap, which each move would clear.
+    pub len: usize,
     /// Its bytes of UTF-8, and zeros behind them.
     pub bytes: [u8; LONGEST],
-    /// How many bytes it has.
-    pub len: u8,
 }
 
 impl Text {
     ghost use Rattle.loom_parts.specs.Texts.{text_of, first_text, last_text, shown};
 
-    /// The text; where it has more than 31 bytes, its first characters that fit (own).
+    /// The text; where it has more than 32 bytes, its first characters that fit (own).
     pub fn first(text: &str) -> Text
         ensures { result ≡ first_text text.now }
     {
         Text::of(&text[..text.floor_char_boundary(LONGEST)])
     }
 
-    /// The text; where it has more than 31 bytes, its last characters that fit (own).
+    /// The text; where it has more than 32 bytes, its last characters that fit (own).
     pub fn last(text: &str) -> Text
         ensures { result ≡ last_text text.now }
     {
@@ -35,14 +35,14 @@ impl Text {
 
     // The text, which fits.
     fn of(text: &str) -> Text
-        requires { length text.now ≤ 31 }
+        requires { length text.now ≤ 32 }
         ensures { result ≡ text_of text.now }
     {
         let mut bytes = [0; LONGEST];
         bytes[..text.len()].copy_from_slice(text.as_bytes());
         Text {
+            len: text.len(),
             bytes,
-            len: text.len() as u8,
         }
     }
 
@@ -50,11 +50,10 @@ impl Text {
     pub fn as_str(&self) -> &str
         ensures { result.now ≡ shown self.now }
     {
-        let len = self.len as usize;
-        if len > LONGEST {
+        if self.len > LONGEST {
             return "";
         }
-        match str::from_utf8(&self.bytes[..len]) {
+        match str::from_utf8(&self.bytes[..self.len]) {
             Ok(text) => text,
             Err(_) => "",
         }
@@ -79,11 +78,12 @@ impl fmt::Display for Text {
 }
 
 /// The text of these bytes, as in `text_literal!(b"flag")`, for constants, which can call no function. Where there are more than
-/// 31 bytes it isn't compiled (own).
+/// 32 bytes it isn't compiled (own).
 #[macro_export]
 macro_rules! text_literal {
     ($bytes:literal) => {
         $crate::text::Text {
+            len: 32 - (32 - $bytes.len()),
             bytes: [
                 if 0 < $bytes.len() { $bytes[0] } else { 0 },
                 if 1 < $bytes.len() { $bytes[1] } else { 0 },
@@ -116,8 +116,8 @@ macro_rules! text_literal {
                 if 28 < $bytes.len() { $bytes[28] } else { 0 },
                 if 29 < $bytes.len() { $bytes[29] } else { 0 },
                 if 30 < $bytes.len() { $bytes[30] } else { 0 },
+                if 31 < $bytes.len() { $bytes[31] } else { 0 },
             ],
-            len: 31 - (31 - $bytes.len() as u8),
         }
     };
 }
