@@ -27,14 +27,14 @@ pub fn told(alloc: Global, explanation: &Explanation) -> Result<String, AllocErr
     let mut page = Page::new(alloc);
     page.is_refused = world.is_refused || lines.is_refused;
     let scene = Scene::new(explanation, &world);
-    put_head(alloc, &mut page, scene);
+    put_head(alloc, &mut page, &scene);
     put_replay(alloc, &mut page, explanation);
-    layout::put_rows(alloc, &mut page, scene, lines.list.as_slice());
+    layout::put_rows(alloc, &mut page, &scene, lines.list.as_slice());
     page.finish()
 }
 
 /// How the run ended, and why, a line each.
-fn put_head(alloc: Global, page: &mut Page, scene: Scene<'_>) {
+fn put_head(alloc: Global, page: &mut Page, scene: &Scene<'_>) {
     let mut head = Page::new(alloc);
     reasons::put_reasons(&mut head, scene);
     page.wrapped(&head, 4);

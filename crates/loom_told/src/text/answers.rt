@@ -170,6 +170,16 @@ fn loads(atomic: usize, order: Ordering, noun: &'static str) -> Touch {
     }
 }
 
+fn stores(atomic: usize, order: Ordering) -> Touch {
+    Touch {
+        atomic,
+        read: None,
+        write: Some(order),
+        manner: Manner::Store,
+        noun: "store",
+    }
+}
+
 fn updates(atomic: usize, order: Ordering, noun: &'static str) -> Touch {
     Touch {
         atomic,
@@ -192,33 +202,40 @@ fn touches(atomic: usize, manner: Manner, noun: &'static str) -> Touch {
 
 /// What the operation did to its atomic, by its reply; nothing is done by what makes one.
 pub(crate) fn touch_of(op: AtomicOp, told: &Reply<()>, numbers: Numbers) -> Option<Touch> {
-    match op {
-        AtomicOp::New(..) => None,
-        AtomicOp::Load(atomic, order) => Some(loads(atomic, order, "load")),
-        AtomicOp::Store(atomic, _, order) => Some(Touch {
-            atomic,
-            read: None,
-            write: Some(order),
-            manner: Manner::Store,
-            noun: "store",
-        }),
-        AtomicOp::Update(atomic, _, order) => Some(updates(atomic, order, "read-modify-write")),
-        AtomicOp::CompareExchange(atomic, exchange) => Some(match told {
-            Reply::Exchanged(Err(_)) => loads(atomic, exchange.failure, "exchange that failed"),
-            _ => updates(atomic, exchange.success, "exchange"),
-        }),
-        AtomicOp::CompareAndSwap(atomic, expected, _, order) => Some(match told {
-            Reply::Value(bits) if *bits != numbers.fit(expected) => {
-                loads(atomic, order, "exchange that failed")
+    let touch = match op {
+        AtomicOp::New(..) => return None,
+        AtomicOp::Load(atomic, order) => loads(atomic, order, "load"),
+        AtomicOp::Store(atomic, _, order) => stores(atomic, order),
+        AtomicOp::Update(atomic, _, order) => updates(atomic, order, "read-modify-write"),
+        AtomicOp::CompareExchange(atomic, exchange) => {
+            if let Reply::Exchanged(Err(_)) = told {
+                loads(atomic, exchange.failure, "exchange that failed")
+            } else {
+                updates(atomic, exchange.success, "exchange")
             }
-            _ => updates(atomic, order, "exchange"),
-        }),
+        }
+        AtomicOp::CompareAndSwap(atomic, expected, _, order) => {
+            if is_another(told, numbers.fit(expected)) {
+                loads(atomic, order, "exchange that failed")
+            } else {
+                updates(atomic, order, "exchange")
+            }
+        }
         AtomicOp::UnsyncLoad(atomic) | AtomicOp::IntoInner(atomic) => {
-            Some(touches(atomic, Manner::UnsyncLoad, "unsynchronized load"))
+            touches(atomic, Manner::UnsyncLoad, "unsynchronized load")
         }
         AtomicOp::WithMut(atomic) | AtomicOp::WithMutEnd(atomic, _) => {
-            Some(touches(atomic, Manner::Mutation, "mutation"))
+            touches(atomic, Manner::Mutation, "mutation")
         }
+    };
+    Some(touch)
+}
+
+/// Whether the reply is another number than the one that was expected.
+fn is_another(told: &Reply<()>, expected: u64) -> bool {
+    match told {
+        Reply::Value(bits) => *bits != expected,
+        _ => false,
     }
 }
 

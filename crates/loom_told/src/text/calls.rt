@@ -20,9 +20,6 @@ const DATA_IN: &str = "its data isn't to be out, by `get_mut`";
 /// What is asked of who uses a waker.
 const A_WAKER: &str = "a waker is to be left";
 
-/// The number of an object, how a call on it is written, and its form.
-type Words = (usize, &'static str, &'static Form);
-
 /// An argument of a call.
 #[derive(Clone, Copy)]
 enum Argument {
@@ -304,19 +301,18 @@ fn new_atomic_call(numbers: Numbers, bits: u64) -> Call {
 }
 
 fn cell_call(op: &CellOp<()>) -> Call {
-    let (cell, words, form): Words = match op {
-        CellOp::New(_) => return Call::plain("UnsafeCell::new"),
-        CellOp::Swap(cell, other) => return on_two(*cell, ".swap", *other, &forms::PLAIN),
-        CellOp::Read(cell) => (*cell, ".get()", &forms::PLAIN),
-        CellOp::ReadEnd(cell) => (*cell, " ends", &forms::ENDS_READ),
-        CellOp::WriteEnd(cell, _) => (*cell, " ends", &forms::ENDS_WRITE),
-        CellOp::Deref(cell) => (*cell, ".deref()", &forms::READS_ON),
-        CellOp::Write(cell) => (*cell, ".get_mut()", &forms::PLAIN),
-        CellOp::IntoInner(cell) => (*cell, ".into_inner()", &forms::TAKES_APART),
-        CellOp::Get(cell) => (*cell, ".get()", &forms::PLAIN),
-        CellOp::Replace(cell, _) => (*cell, ".replace()", &forms::PLAIN),
-    };
-    Call::on(cell, words, form)
+    match op {
+        CellOp::New(_) => Call::plain("UnsafeCell::new"),
+        CellOp::Swap(cell, other) => on_two(*cell, ".swap", *other, &forms::PLAIN),
+        CellOp::Read(cell) => Call::on(*cell, ".get()", &forms::PLAIN),
+        CellOp::ReadEnd(cell) => Call::on(*cell, " ends", &forms::ENDS_READ),
+        CellOp::WriteEnd(cell, _) => Call::on(*cell, " ends", &forms::ENDS_WRITE),
+        CellOp::Deref(cell) => Call::on(*cell, ".deref()", &forms::READS_ON),
+        CellOp::Write(cell) => Call::on(*cell, ".get_mut()", &forms::PLAIN),
+        CellOp::IntoInner(cell) => Call::on(*cell, ".into_inner()", &forms::TAKES_APART),
+        CellOp::Get(cell) => Call::on(*cell, ".get()", &forms::PLAIN),
+        CellOp::Replace(cell, _) => Call::on(*cell, ".replace()", &forms::PLAIN),
+    }
 }
 
 /// A call on an object that has another object in its parentheses.
@@ -325,58 +321,54 @@ fn on_two(number: usize, words: &'static str, other: usize, form: &Form) -> Call
 }
 
 fn arc_call(op: &ArcOp<()>) -> Call {
-    let (arc, words, form): Words = match op {
-        ArcOp::New(_) => return Call::plain("Arc::new"),
-        ArcOp::Clone(arc) => (*arc, ".clone()", &forms::CLONES),
-        ArcOp::Drop(arc) => (*arc, ".drop()", &forms::DROPS),
-        ArcOp::Get(arc) => (*arc, ".get()", &forms::PLAIN),
-        ArcOp::GetMut(arc) => (*arc, ".get_mut()", &forms::TAKES),
-        ArcOp::Put(arc, _) => (*arc, ".put()", &forms::GIVES_BACK),
-        ArcOp::TryUnwrap(arc) => (*arc, ".try_unwrap()", &forms::UNWRAPS),
-        ArcOp::StrongCount(arc) => (*arc, ".strong_count()", &forms::PLAIN),
-    };
-    Call::on(arc, words, form)
+    match op {
+        ArcOp::New(_) => Call::plain("Arc::new"),
+        ArcOp::Clone(arc) => Call::on(*arc, ".clone()", &forms::CLONES),
+        ArcOp::Drop(arc) => Call::on(*arc, ".drop()", &forms::DROPS),
+        ArcOp::Get(arc) => Call::on(*arc, ".get()", &forms::PLAIN),
+        ArcOp::GetMut(arc) => Call::on(*arc, ".get_mut()", &forms::TAKES),
+        ArcOp::Put(arc, _) => Call::on(*arc, ".put()", &forms::GIVES_BACK),
+        ArcOp::TryUnwrap(arc) => Call::on(*arc, ".try_unwrap()", &forms::UNWRAPS),
+        ArcOp::StrongCount(arc) => Call::on(*arc, ".strong_count()", &forms::PLAIN),
+    }
 }
 
 fn track_call(op: &TrackOp<()>) -> Call {
-    let (track, words, form): Words = match op {
-        TrackOp::New(_) => return Call::plain("Track::new"),
-        TrackOp::GetRef(track) => (*track, ".get_ref()", &forms::PLAIN),
-        TrackOp::GetMut(track) => (*track, ".get_mut()", &forms::TAKES),
-        TrackOp::Put(track, _) => (*track, ".put()", &forms::GIVES_BACK),
-        TrackOp::IntoInner(track) => (*track, ".into_inner()", &forms::TAKES_APART),
-        TrackOp::Drop(track) => (*track, ".drop()", &forms::TAKES_APART),
-    };
-    Call::on(track, words, form)
+    match op {
+        TrackOp::New(_) => Call::plain("Track::new"),
+        TrackOp::GetRef(track) => Call::on(*track, ".get_ref()", &forms::PLAIN),
+        TrackOp::GetMut(track) => Call::on(*track, ".get_mut()", &forms::TAKES),
+        TrackOp::Put(track, _) => Call::on(*track, ".put()", &forms::GIVES_BACK),
+        TrackOp::IntoInner(track) => Call::on(*track, ".into_inner()", &forms::TAKES_APART),
+        TrackOp::Drop(track) => Call::on(*track, ".drop()", &forms::TAKES_APART),
+    }
 }
 
 fn mutex_call(op: &MutexOp<()>) -> Call {
-    let (mutex, words, form): Words = match op {
-        MutexOp::New(_) => return Call::plain("Mutex::new"),
-        MutexOp::Lock(mutex) => (*mutex, ".lock()", &forms::WAITS),
-        MutexOp::TryLock(mutex) => (*mutex, ".try_lock()", &forms::WAITS),
-        MutexOp::Release(mutex, _) => (*mutex, ".release()", &forms::RELEASES),
-        MutexOp::GetMut(mutex) => (*mutex, ".get_mut()", &forms::TAKES_FREE),
-        MutexOp::Put(mutex, _) => (*mutex, ".put()", &forms::GIVES_BACK),
-        MutexOp::IntoInner(mutex) => (*mutex, ".into_inner()", &forms::TAKES_FREE_APART),
-    };
-    Call::on(mutex, words, form)
+    match op {
+        MutexOp::New(_) => Call::plain("Mutex::new"),
+        MutexOp::Lock(mutex) => Call::on(*mutex, ".lock()", &forms::WAITS),
+        MutexOp::TryLock(mutex) => Call::on(*mutex, ".try_lock()", &forms::WAITS),
+        MutexOp::Release(mutex, _) => Call::on(*mutex, ".release()", &forms::RELEASES),
+        MutexOp::GetMut(mutex) => Call::on(*mutex, ".get_mut()", &forms::TAKES_FREE),
+        MutexOp::Put(mutex, _) => Call::on(*mutex, ".put()", &forms::GIVES_BACK),
+        MutexOp::IntoInner(mutex) => Call::on(*mutex, ".into_inner()", &forms::TAKES_FREE_APART),
+    }
 }
 
 fn rwlock_call(op: &RwLockOp<()>) -> Call {
-    let (lock, words, form): Words = match op {
-        RwLockOp::New(_) => return Call::plain("RwLock::new"),
-        RwLockOp::Read(lock) => (*lock, ".read()", &forms::WAITS_TO_READ),
-        RwLockOp::TryRead(lock) => (*lock, ".try_read()", &forms::WAITS_TO_READ),
-        RwLockOp::ReadRelease(lock) => (*lock, ".release()", &forms::RELEASES_SO),
-        RwLockOp::Write(lock) => (*lock, ".write()", &forms::WAITS_TO_WRITE),
-        RwLockOp::TryWrite(lock) => (*lock, ".try_write()", &forms::WAITS_TO_WRITE),
-        RwLockOp::WriteRelease(lock, _) => (*lock, ".release()", &forms::RELEASES_SO),
-        RwLockOp::GetMut(lock) => (*lock, ".get_mut()", &forms::TAKES_FREE),
-        RwLockOp::Put(lock, _) => (*lock, ".put()", &forms::GIVES_BACK),
-        RwLockOp::IntoInner(lock) => (*lock, ".into_inner()", &forms::TAKES_FREE_APART),
-    };
-    Call::on(lock, words, form)
+    match op {
+        RwLockOp::New(_) => Call::plain("RwLock::new"),
+        RwLockOp::Read(lock) => Call::on(*lock, ".read()", &forms::WAITS_TO_READ),
+        RwLockOp::TryRead(lock) => Call::on(*lock, ".try_read()", &forms::WAITS_TO_READ),
+        RwLockOp::ReadRelease(lock) => Call::on(*lock, ".release()", &forms::RELEASES_SO),
+        RwLockOp::Write(lock) => Call::on(*lock, ".write()", &forms::WAITS_TO_WRITE),
+        RwLockOp::TryWrite(lock) => Call::on(*lock, ".try_write()", &forms::WAITS_TO_WRITE),
+        RwLockOp::WriteRelease(lock, _) => Call::on(*lock, ".release()", &forms::RELEASES_SO),
+        RwLockOp::GetMut(lock) => Call::on(*lock, ".get_mut()", &forms::TAKES_FREE),
+        RwLockOp::Put(lock, _) => Call::on(*lock, ".put()", &forms::GIVES_BACK),
+        RwLockOp::IntoInner(lock) => Call::on(*lock, ".into_inner()", &forms::TAKES_FREE_APART),
+    }
 }
 
 fn condvar_call(op: &CondvarOp<()>) -> Call {
@@ -403,47 +395,44 @@ fn notify_call(op: NotifyOp) -> Call {
 }
 
 fn channel_call(op: &ChannelOp<()>) -> Call {
-    let (channel, words, form): Words = match op {
-        ChannelOp::New => return Call::plain("channel"),
-        ChannelOp::Send(channel, _) => (*channel, ".send()", &forms::SENDS),
-        ChannelOp::Recv(channel) => (*channel, ".recv()", &forms::RECEIVES),
-        ChannelOp::TryRecv(channel) => (*channel, ".try_recv()", &forms::TRIES_TO_RECEIVE),
-        ChannelOp::CloneSender(channel) => (*channel, ".sender.clone()", &forms::PLAIN),
-        ChannelOp::DropSender(channel) => (*channel, ".sender.drop()", &forms::PLAIN),
-        ChannelOp::DropReceiver(channel) => (*channel, ".receiver.drop()", &forms::EMPTIES),
-    };
-    Call::on(channel, words, form)
+    match op {
+        ChannelOp::New => Call::plain("channel"),
+        ChannelOp::Send(channel, _) => Call::on(*channel, ".send()", &forms::SENDS),
+        ChannelOp::Recv(channel) => Call::on(*channel, ".recv()", &forms::RECEIVES),
+        ChannelOp::TryRecv(channel) => Call::on(*channel, ".try_recv()", &forms::TRIES_TO_RECEIVE),
+        ChannelOp::CloneSender(channel) => Call::on(*channel, ".sender.clone()", &forms::PLAIN),
+        ChannelOp::DropSender(channel) => Call::on(*channel, ".sender.drop()", &forms::PLAIN),
+        ChannelOp::DropReceiver(channel) => Call::on(*channel, ".receiver.drop()", &forms::EMPTIES),
+    }
 }
 
 fn waker_call(op: WakerOp) -> Call {
-    let (wakers, words, form): Words = match op {
-        WakerOp::New => return Call::plain("BlockOn::new"),
-        WakerOp::Wait(wakers) => (wakers, ".wait()", &forms::WAITS_FOR_NOTIFICATION),
-        WakerOp::Finish(wakers) => (wakers, ".finish()", &forms::DROPS),
-        WakerOp::Clone(wakers) => (wakers, ".waker.clone()", &forms::CLONES),
-        WakerOp::Wake(wakers) => (wakers, ".waker.wake()", &forms::DROPS),
-        WakerOp::WakeByRef(wakers) => (wakers, ".waker.wake_by_ref()", &forms::PLAIN),
-        WakerOp::Drop(wakers) => (wakers, ".waker.drop()", &forms::DROPS),
-    };
-    Call::on(wakers, words, form)
+    match op {
+        WakerOp::New => Call::plain("BlockOn::new"),
+        WakerOp::Wait(wakers) => Call::on(wakers, ".wait()", &forms::WAITS_FOR_NOTIFICATION),
+        WakerOp::Finish(wakers) => Call::on(wakers, ".finish()", &forms::DROPS),
+        WakerOp::Clone(wakers) => Call::on(wakers, ".waker.clone()", &forms::CLONES),
+        WakerOp::Wake(wakers) => Call::on(wakers, ".waker.wake()", &forms::DROPS),
+        WakerOp::WakeByRef(wakers) => Call::on(wakers, ".waker.wake_by_ref()", &forms::PLAIN),
+        WakerOp::Drop(wakers) => Call::on(wakers, ".waker.drop()", &forms::DROPS),
+    }
 }
 
 fn place_call(op: AtomicWakerOp) -> Call {
-    let (place, words, form): Words = match op {
-        AtomicWakerOp::New => return Call::plain("AtomicWaker::new"),
+    match op {
+        AtomicWakerOp::New => Call::plain("AtomicWaker::new"),
         AtomicWakerOp::Register(place, wakers) => {
-            return on_two(place, ".register", wakers, &forms::PLAIN);
+            on_two(place, ".register", wakers, &forms::PLAIN)
         }
         AtomicWakerOp::RegisterByRef(place, wakers) => {
             let mut call = on_two(place, ".register_by_ref", wakers, &forms::PLAIN);
             call.deed = Deed::ClonesWaker(wakers);
-            return call;
+            call
         }
-        AtomicWakerOp::Wake(place) => (place, ".wake()", &forms::WAITS),
-        AtomicWakerOp::TakeWaker(place) => (place, ".take_waker()", &forms::WAITS),
-        AtomicWakerOp::Drop(place) => (place, ".drop()", &forms::PLAIN),
-    };
-    Call::on(place, words, form)
+        AtomicWakerOp::Wake(place) => Call::on(place, ".wake()", &forms::WAITS),
+        AtomicWakerOp::TakeWaker(place) => Call::on(place, ".take_waker()", &forms::WAITS),
+        AtomicWakerOp::Drop(place) => Call::on(place, ".drop()", &forms::PLAIN),
+    }
 }
 
 fn local_call(op: &LocalOp<()>) -> Call {
@@ -465,18 +454,25 @@ fn lazy_call(op: &LazyOp<()>) -> Call {
 }
 
 fn thread_call(op: &ThreadOp<(), ()>, world: &World) -> Call {
-    let (subject, words, form): (Subject, &'static str, &'static Form) = match op {
-        ThreadOp::Spawn(_, name) => return spawn_call(*name, world),
-        ThreadOp::Join(thread, _) => (Subject::Thread(*thread), "join thread", &forms::JOINS),
-        ThreadOp::Current => (Subject::Nothing, "current()", &forms::PLAIN),
-        ThreadOp::Park => (Subject::Nothing, "park()", &forms::PARKS),
-        ThreadOp::Unpark(thread) => (Subject::Thread(*thread), "unpark thread", &forms::UNPARKS),
-        ThreadOp::Yield => (Subject::Nothing, "yield_now()", &forms::PLAIN),
-        ThreadOp::Finish(_) => (Subject::Nothing, "finish()", &forms::IN_ORDER),
-        ThreadOp::Exit => (Subject::Nothing, "exit()", &forms::IN_ORDER),
-        ThreadOp::End => (Subject::Nothing, "end()", &forms::IN_ORDER),
-    };
-    Call::of(subject, words, form)
+    match op {
+        ThreadOp::Spawn(_, name) => spawn_call(*name, world),
+        ThreadOp::Join(thread, _) => Call::of(
+            Subject::Thread(*thread),
+            "join thread",
+            &forms::JOINS,
+        ),
+        ThreadOp::Current => Call::of(Subject::Nothing, "current()", &forms::PLAIN),
+        ThreadOp::Park => Call::of(Subject::Nothing, "park()", &forms::PARKS),
+        ThreadOp::Unpark(thread) => Call::of(
+            Subject::Thread(*thread),
+            "unpark thread",
+            &forms::UNPARKS,
+        ),
+        ThreadOp::Yield => Call::of(Subject::Nothing, "yield_now()", &forms::PLAIN),
+        ThreadOp::Finish(_) => Call::of(Subject::Nothing, "finish()", &forms::IN_ORDER),
+        ThreadOp::Exit => Call::of(Subject::Nothing, "exit()", &forms::IN_ORDER),
+        ThreadOp::End => Call::of(Subject::Nothing, "end()", &forms::IN_ORDER),
+    }
 }
 
 fn spawn_call(name: Option<Name>, world: &World) -> Call {

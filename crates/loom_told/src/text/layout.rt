@@ -53,7 +53,7 @@ impl Frame {
 }
 
 /// The table of the lines, in which turns that are repeated are told once.
-pub(crate) fn put_rows(alloc: Global, out: &mut Page, scene: Scene<'_>, lines: &[Line]) {
+pub(crate) fn put_rows(alloc: Global, out: &mut Page, scene: &Scene<'_>, lines: &[Line]) {
     let events = scene.explanation.events.len();
     let frame = Frame::new(events, scene.world.threads.len());
     let mut row = Page::new(alloc);
@@ -67,7 +67,7 @@ pub(crate) fn put_rows(alloc: Global, out: &mut Page, scene: Scene<'_>, lines: &
 }
 
 /// The titles of the columns.
-fn put_titles(row: &mut Page, frame: Frame, scene: Scene<'_>) {
+fn put_titles(row: &mut Page, frame: Frame, scene: &Scene<'_>) {
     if frame.has_columns {
         row.pad(frame.start(0));
         row.titled("", 0, scene.world.name(0));
@@ -83,7 +83,7 @@ fn put_titles(row: &mut Page, frame: Frame, scene: Scene<'_>) {
     row.words("choice\n");
 }
 
-fn put_turns(out: &mut Page, row: &mut Page, frame: Frame, scene: Scene<'_>, lines: &[Line]) {
+fn put_turns(out: &mut Page, row: &mut Page, frame: Frame, scene: &Scene<'_>, lines: &[Line]) {
     let mut next = 0usize;
     for place in 0..lines.len() {
         if place >= next {
@@ -101,7 +101,7 @@ fn put_turns(out: &mut Page, row: &mut Page, frame: Frame, scene: Scene<'_>, lin
     }
 }
 
-fn put_turn(out: &mut Page, row: &mut Page, frame: Frame, scene: Scene<'_>, turn: &[Line]) {
+fn put_turn(out: &mut Page, row: &mut Page, frame: Frame, scene: &Scene<'_>, turn: &[Line]) {
     for line in turn {
         put_line(out, row, frame, scene, line);
     }
@@ -109,7 +109,7 @@ fn put_turn(out: &mut Page, row: &mut Page, frame: Frame, scene: Scene<'_>, turn
 
 /// How many lines from this place on make a turn that is repeated, and how many times more it comes: at least twice, or else
 /// it is a line that comes no more.
-fn turn_at(scene: Scene<'_>, lines: &[Line], place: usize) -> (usize, usize) {
+fn turn_at(scene: &Scene<'_>, lines: &[Line], place: usize) -> (usize, usize) {
     for turn in 1..=LONGEST_TURN {
         let times = same_from(scene, lines, place, turn) / turn;
         if times > 1 {
@@ -120,19 +120,27 @@ fn turn_at(scene: Scene<'_>, lines: &[Line], place: usize) -> (usize, usize) {
 }
 
 /// How many lines from this place on are like the one that stands so many lines after it.
-fn same_from(scene: Scene<'_>, lines: &[Line], place: usize, turn: usize) -> usize {
-    let (Some(ones), Some(others)) = (lines.get(place..), lines.get(place.saturating_add(turn)..))
-    else {
-        return 0;
-    };
+fn same_from(scene: &Scene<'_>, lines: &[Line], place: usize, turn: usize) -> usize {
     let mut count = 0usize;
-    for (one, other) in ones.iter().zip(others) {
-        if scene.is_marked(other.event) || !one.is_like(other) {
-            return count;
+    for here in place..lines.len() {
+        match (lines.get(here), lines.get(here.saturating_add(turn))) {
+            (Some(one), Some(other)) if !scene.is_marked(other.event) && one.is_like(other) => {}
+            _ => return count,
         }
         count = count.saturating_add(1);
     }
     count
+}
+
+/// How many events hand an operation over in these lines.
+fn events_in(turn: &[Line]) -> usize {
+    let mut events = 0usize;
+    for line in turn {
+        if line.event.is_some() {
+            events = events.saturating_add(1);
+        }
+    }
+    events
 }
 
 /// The row of a turn that is repeated.
@@ -140,7 +148,7 @@ fn put_same(row: &mut Page, frame: Frame, turn: &[Line], times: usize) {
     let Some(first) = turn.first() else {
         return;
     };
-    let events = turn.iter().filter(|line| line.event.is_some()).count();
+    let events = events_in(turn);
     row.pad(frame.start(first.thread));
     if events > 1 {
         row.number("(these ", events);
@@ -153,7 +161,7 @@ fn put_same(row: &mut Page, frame: Frame, turn: &[Line], times: usize) {
 
 /// The row of a line: its number, its mark, its text in its thread's column, and its choice, which has a row of its own where
 /// the text leaves no room.
-fn put_line(out: &mut Page, row: &mut Page, frame: Frame, scene: Scene<'_>, line: &Line) {
+fn put_line(out: &mut Page, row: &mut Page, frame: Frame, scene: &Scene<'_>, line: &Line) {
     start_row(row, frame, scene, line);
     row.page(&line.text);
     let has_choice = !line.choice.is_empty();
@@ -198,7 +206,7 @@ fn digits_of(event: usize) -> usize {
 }
 
 /// What stands in front of a line's text.
-fn start_row(row: &mut Page, frame: Frame, scene: Scene<'_>, line: &Line) {
+fn start_row(row: &mut Page, frame: Frame, scene: &Scene<'_>, line: &Line) {
     let mark = frame.mark(line.thread);
     if let Some(event) = line.event {
         row.pad(frame.margin.saturating_sub(digits_of(event)));

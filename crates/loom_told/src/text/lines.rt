@@ -145,10 +145,12 @@ fn put_each(page: &mut Page, letter: &str, numbers: &[u8]) {
 
 /// The slot of the choice just before the event, if it is of a slot.
 fn slot_before(explanation: &Explanation, event: &Event) -> Option<u8> {
-    match explanation
-        .choices
-        .get(event.choices_before.checked_sub(1)?)?
-    {
+    slot_at(explanation, event.choices_before.checked_sub(1)?)
+}
+
+/// The slot of the choice of this place, if it is of a slot.
+fn slot_at(explanation: &Explanation, place: usize) -> Option<u8> {
+    match explanation.choices.get(place)? {
         Choice::Load(slot) => Some(*slot),
         Choice::Thread(_) | Choice::Spurious(_) => None,
     }
@@ -302,26 +304,25 @@ fn tell_choice(
     world: &mut World,
     lines: &mut Lines,
 ) {
-    let earlier = explanation.choices.get(place.saturating_sub(1)).copied();
-    let slot = match explanation.choices.get(place) {
-        Some(Choice::Load(slot)) => Some(*slot),
-        _ => None,
-    };
-    let is_last = explanation.choices.len() == place.saturating_add(1)
-        && explanation.events.len() == at.event;
-    match (earlier, slot) {
-        (_, Some(_)) if !is_last => {}
-        (Some(Choice::Thread(Some(thread))), Some(slot)) => {
-            tell_open_read(explanation, place, (thread, slot), world, lines);
-        }
-        (Some(Choice::Thread(Some(thread))), None) => {
-            tell_stage(explanation, place, thread, world, lines);
-        }
-        (Some(Choice::Spurious(true)), _) => {
+    let slot = slot_at(explanation, place);
+    if slot.is_some() && !is_last(explanation, at, place) {
+        return;
+    }
+    match explanation.choices.get(place.saturating_sub(1)) {
+        Some(Choice::Thread(Some(thread))) => match slot {
+            Some(slot) => tell_open_read(explanation, place, (*thread, slot), world, lines),
+            None => tell_stage(explanation, place, *thread, world, lines),
+        },
+        Some(Choice::Spurious(true)) => {
             tell_alone(explanation, place, at, "  wakes by itself", lines);
         }
         _ => tell_alone(explanation, place, at, "", lines),
     }
+}
+
+/// Whether the choice of this place is the run's last one, at its last event.
+fn is_last(explanation: &Explanation, at: At, place: usize) -> bool {
+    explanation.choices.len() == place.saturating_add(1) && explanation.events.len() == at.event
 }
 
 /// A choice beside these words.

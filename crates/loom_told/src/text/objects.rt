@@ -199,19 +199,19 @@ impl Manner {
 
 /// What the operation makes, if it makes an object. Of the two of a future it is the count of its wakers.
 pub(crate) fn made_by(op: &Op<(), ()>) -> Option<Kind> {
-    match &op.request {
-        Request::Atomic(AtomicOp::New(numbers, _)) => Some(Kind::Atomic(*numbers)),
-        Request::Cell(CellOp::New(_)) => Some(Kind::Cell),
-        Request::Arc(ArcOp::New(_)) => Some(Kind::Arc),
-        Request::Track(TrackOp::New(_)) => Some(Kind::Track),
-        Request::Mutex(MutexOp::New(_)) => Some(Kind::Mutex),
-        Request::RwLock(RwLockOp::New(_)) => Some(Kind::RwLock),
-        Request::Condvar(CondvarOp::New) => Some(Kind::Condvar),
-        Request::Notify(NotifyOp::New) => Some(Kind::Notifier),
-        Request::Channel(ChannelOp::New) => Some(Kind::Channel),
-        Request::Waker(WakerOp::New) => Some(Kind::Wakers),
-        Request::AtomicWaker(AtomicWakerOp::New) => Some(Kind::Place),
-        Request::Thread(ThreadOp::Spawn(..)) => Some(Kind::Joining),
+    let kind = match &op.request {
+        Request::Atomic(AtomicOp::New(numbers, _)) => Kind::Atomic(*numbers),
+        Request::Cell(CellOp::New(_)) => Kind::Cell,
+        Request::Arc(ArcOp::New(_)) => Kind::Arc,
+        Request::Track(TrackOp::New(_)) => Kind::Track,
+        Request::Mutex(MutexOp::New(_)) => Kind::Mutex,
+        Request::RwLock(RwLockOp::New(_)) => Kind::RwLock,
+        Request::Condvar(CondvarOp::New) => Kind::Condvar,
+        Request::Notify(NotifyOp::New) => Kind::Notifier,
+        Request::Channel(ChannelOp::New) => Kind::Channel,
+        Request::Waker(WakerOp::New) => Kind::Wakers,
+        Request::AtomicWaker(AtomicWakerOp::New) => Kind::Place,
+        Request::Thread(ThreadOp::Spawn(..)) => Kind::Joining,
         Request::Atomic(..)
         | Request::Fence(..)
         | Request::Cell(..)
@@ -229,6 +229,7 @@ pub(crate) fn made_by(op: &Op<(), ()>) -> Option<Kind> {
         | Request::Explore(..)
         | Request::Thread(..)
         | Request::Fail
-        | Request::Unreachable => None,
-    }
+        | Request::Unreachable => return None,
+    };
+    Some(kind)
 }

@@ -57,7 +57,7 @@ impl<'a> Scene<'a> {
             at: failing_at(explanation, world, kind),
             other: None,
         };
-        scene.other = race::other_access(scene);
+        scene.other = race::other_access(&scene);
         scene
     }
 
@@ -127,8 +127,13 @@ impl<'a> Scene<'a> {
     pub(crate) fn earlier(&self, sought: Sought) -> Option<usize> {
         let before = self.at.event.saturating_sub(1);
         let events = self.explanation.events.get(..before).unwrap_or(&[]);
-        let place = events.iter().rposition(|event| sought.is_met_by(event))?;
-        Some(place.saturating_add(1))
+        let mut last = None;
+        for (place, event) in events.iter().enumerate() {
+            if sought.is_met_by(event) {
+                last = Some(place.saturating_add(1));
+            }
+        }
+        last
     }
 
     /// What stands after the operation by which the run failed.
@@ -265,7 +270,7 @@ fn title_of(kind: FailureKind) -> &'static str {
 }
 
 /// How the run ended, a line, and why, a line each.
-pub(crate) fn put_reasons(out: &mut Page, scene: Scene<'_>) {
+pub(crate) fn put_reasons(out: &mut Page, scene: &Scene<'_>) {
     match scene.kind {
         None => {
             out.event("ended, after ", scene.at.event);
@@ -285,7 +290,7 @@ pub(crate) fn put_reasons(out: &mut Page, scene: Scene<'_>) {
 }
 
 /// The place of the operation by which the run failed, if it has one, and the line's end.
-fn put_place(out: &mut Page, scene: Scene<'_>) {
+fn put_place(out: &mut Page, scene: &Scene<'_>) {
     match place_of(scene) {
         Some(place) => {
             out.place(" (", place);
@@ -295,12 +300,12 @@ fn put_place(out: &mut Page, scene: Scene<'_>) {
     }
 }
 
-fn place_of(scene: Scene<'_>) -> Option<Location> {
+fn place_of(scene: &Scene<'_>) -> Option<Location> {
     scene.op()?.label?.location
 }
 
 /// Why, a line each.
-fn put_reason(out: &mut Page, scene: Scene<'_>, kind: FailureKind) {
+fn put_reason(out: &mut Page, scene: &Scene<'_>, kind: FailureKind) {
     match kind {
         FailureKind::Assertion => bodies::put_assertion(out, scene),
         FailureKind::Unreachable => bodies::put_unreachable(out, scene),

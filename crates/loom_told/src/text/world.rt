@@ -77,11 +77,13 @@ impl World {
 
     /// Who has the object since when, of several the last one.
     pub(crate) fn holder(&self, object: usize) -> Option<Hold> {
-        self.holds
-            .iter()
-            .rev()
-            .find(|hold| hold.object == object)
-            .copied()
+        let mut last = None;
+        for hold in &self.holds {
+            if hold.object == object {
+                last = Some(*hold);
+            }
+        }
+        last
     }
 
     /// The type of what the atomic holds.
@@ -107,13 +109,12 @@ impl World {
 
     /// The store in a slot: of the last seven of the atomic, the one whose number is the slot's modulo seven.
     pub(crate) fn store_in(&self, atomic: usize, slot: u8) -> Option<Store> {
-        self.stores
-            .iter()
-            .rev()
-            .find(|store| {
-                store.atomic == atomic && store.number % MAX_ATOMIC_HISTORY == usize::from(slot)
-            })
-            .copied()
+        for store in self.stores.iter().rev() {
+            if store.atomic == atomic && store.number % MAX_ATOMIC_HISTORY == usize::from(slot) {
+                return Some(*store);
+            }
+        }
+        None
     }
 
     /// The thread has this operation pending from now on, on a line; what it makes is made.
@@ -299,14 +300,14 @@ impl World {
     }
 
     fn give(&mut self, thread: u8, object: usize) {
-        let place = self
-            .holds
-            .iter()
-            .rposition(|hold| hold.object == object && hold.at.thread == thread);
-        if let Some(place) = place {
-            if place < self.holds.len() {
-                self.holds.remove(place);
+        let mut last = self.holds.len();
+        for (place, hold) in self.holds.iter().enumerate() {
+            if hold.object == object && hold.at.thread == thread {
+                last = place;
             }
+        }
+        if last < self.holds.len() {
+            self.holds.remove(last);
         }
     }
 

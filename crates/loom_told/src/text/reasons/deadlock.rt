@@ -6,7 +6,7 @@ use crate::text::reasons::Scene;
 use loom_objects::operation::{Op, Request, ThreadOp};
 
 /// Each thread with what it waits for.
-pub(crate) fn put_deadlock(out: &mut Page, scene: Scene<'_>) {
+pub(crate) fn put_deadlock(out: &mut Page, scene: &Scene<'_>) {
     for (thread, member) in scene.world.threads.iter().enumerate() {
         let thread = u8::try_from(thread).unwrap_or(u8::MAX);
         out.titled("  ", thread, member.name);
@@ -14,7 +14,7 @@ pub(crate) fn put_deadlock(out: &mut Page, scene: Scene<'_>) {
     }
 }
 
-fn put_thread(out: &mut Page, scene: Scene<'_>, thread: u8, member: Member) {
+fn put_thread(out: &mut Page, scene: &Scene<'_>, thread: u8, member: Member) {
     let number = member.pending.unwrap_or(0);
     match scene.event(number) {
         None => out.words(": has not begun\n"),
@@ -29,7 +29,7 @@ fn put_thread(out: &mut Page, scene: Scene<'_>, thread: u8, member: Member) {
 }
 
 /// What the thread waits for by this operation of this event. In a second stage it's a mutex.
-fn put_wait(out: &mut Page, scene: Scene<'_>, waiter: (u8, u8), op: &Op<(), ()>, number: usize) {
+fn put_wait(out: &mut Page, scene: &Scene<'_>, waiter: (u8, u8), op: &Op<(), ()>, number: usize) {
     let call = call_of(op, scene.world);
     let (thread, stage) = waiter;
     out.words(": ");
@@ -51,7 +51,7 @@ fn put_wait(out: &mut Page, scene: Scene<'_>, waiter: (u8, u8), op: &Op<(), ()>,
 }
 
 /// What a thread does that waits at the call, and for which object or thread.
-fn put_waited_for(out: &mut Page, scene: Scene<'_>, call: &Call) {
+fn put_waited_for(out: &mut Page, scene: &Scene<'_>, call: &Call) {
     out.words(call.waits.unwrap_or("waits"));
     match call.subject {
         Subject::Object(object) => out.thing(" ", scene.world.thing(object)),
@@ -61,7 +61,7 @@ fn put_waited_for(out: &mut Page, scene: Scene<'_>, call: &Call) {
 }
 
 /// Who has the object, if a thread has it.
-fn put_holder(out: &mut Page, scene: Scene<'_>, thread: u8, object: usize) {
+fn put_holder(out: &mut Page, scene: &Scene<'_>, thread: u8, object: usize) {
     let Some(hold) = scene.world.holder(object) else {
         return;
     };

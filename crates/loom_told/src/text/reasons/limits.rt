@@ -5,7 +5,7 @@ use loom_objects::operation::Request;
 use loom_views::rt::failure::FailureKind;
 
 /// The limit that the run passed, and what helps.
-pub(crate) fn put_limit(out: &mut Page, scene: Scene<'_>, kind: FailureKind) {
+pub(crate) fn put_limit(out: &mut Page, scene: &Scene<'_>, kind: FailureKind) {
     let explanation = scene.explanation;
     let (before, limit, after) = match kind {
         FailureKind::TooManyThreads => (
@@ -40,7 +40,7 @@ pub(crate) fn put_limit(out: &mut Page, scene: Scene<'_>, kind: FailureKind) {
 }
 
 /// The atomic that the operation is one of.
-fn put_target(out: &mut Page, scene: Scene<'_>) {
+fn put_target(out: &mut Page, scene: &Scene<'_>) {
     if let Some(Request::Atomic(op)) = scene.request() {
         if let Some(number) = op.atomic() {
             out.thread("  ", scene.at.thread);

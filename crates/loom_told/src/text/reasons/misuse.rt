@@ -6,7 +6,7 @@ use crate::text::page::Page;
 use crate::text::reasons::Scene;
 
 /// Which object, who has it, and what is asked.
-pub(crate) fn put_misuse(out: &mut Page, scene: Scene<'_>) {
+pub(crate) fn put_misuse(out: &mut Page, scene: &Scene<'_>) {
     let Some(op) = scene.op() else {
         out.words("  the run is over\n");
         return;
@@ -29,7 +29,7 @@ fn put_asked(out: &mut Page, asks: &str) {
 }
 
 /// The use of an object that is to be of this kind.
-fn put_use(out: &mut Page, scene: Scene<'_>, call: &Call, thing: Thing, kind: Kind) {
+fn put_use(out: &mut Page, scene: &Scene<'_>, call: &Call, thing: Thing, kind: Kind) {
     match thing.object {
         Some(object) if object.kind.is_like(kind) => {
             put_state(

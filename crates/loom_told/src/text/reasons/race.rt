@@ -12,7 +12,7 @@ use loom_views::rt::failure::FailureKind;
 use std::sync::atomic::Ordering;
 
 /// Which objects an operation accesses, and how: one, and for a swap of two cells another one.
-fn targets(scene: Scene<'_>) -> Option<(usize, usize, Manner)> {
+fn targets(scene: &Scene<'_>) -> Option<(usize, usize, Manner)> {
     match scene.request() {
         Some(Request::Atomic(op)) => atomic_targets(scene, *op),
         Some(Request::Cell(op)) => cell_targets(op),
@@ -20,7 +20,7 @@ fn targets(scene: Scene<'_>) -> Option<(usize, usize, Manner)> {
     }
 }
 
-fn atomic_targets(scene: Scene<'_>, op: AtomicOp) -> Option<(usize, usize, Manner)> {
+fn atomic_targets(scene: &Scene<'_>, op: AtomicOp) -> Option<(usize, usize, Manner)> {
     let numbers = scene.world.numbers(op.atomic()?);
     let touch = touch_of(op, &Reply::Start, numbers)?;
     Some((touch.atomic, touch.atomic, touch.manner))
@@ -46,27 +46,26 @@ fn cell_targets(op: &CellOp<()>) -> Option<(usize, usize, Manner)> {
 }
 
 /// The last access of this thread that conflicts with the one that failed.
-fn last_of(scene: Scene<'_>, thread: u8) -> Option<Access> {
+fn last_of(scene: &Scene<'_>, thread: u8) -> Option<Access> {
     let (one, other, manner) = targets(scene)?;
     if thread == scene.at.thread {
         return None;
     }
-    scene
-        .world
-        .accesses
-        .iter()
-        .rev()
-        .find(|access| {
-            (access.object == one || access.object == other)
-                && access.at.thread == thread
-                && manner.conflicts_with(access.manner)
-        })
-        .copied()
+    let mut last = None;
+    for access in &scene.world.accesses {
+        if (access.object == one || access.object == other)
+            && access.at.thread == thread
+            && manner.conflicts_with(access.manner)
+        {
+            last = Some(*access);
+        }
+    }
+    last
 }
 
 /// The access that a race is with, where one other thread alone has made accesses that conflict: its last one. No views are
 /// kept here, so of several threads it isn't known whose access is meant.
-pub(crate) fn other_access(scene: Scene<'_>) -> Option<Access> {
+pub(crate) fn other_access(scene: &Scene<'_>) -> Option<Access> {
     if !matches!(scene.kind, Some(FailureKind::Race)) {
         return None;
     }
@@ -121,14 +120,14 @@ fn cell_verb(op: &CellOp<()>) -> &'static str {
 }
 
 /// The thread by whose operation the run failed, and what it does.
-fn put_verb(out: &mut Page, scene: Scene<'_>) {
+fn put_verb(out: &mut Page, scene: &Scene<'_>) {
     out.thread("  ", scene.at.thread);
     out.words(" ");
     out.words(verb_of(scene.request()));
 }
 
 /// The object that the operation accesses.
-fn target(scene: Scene<'_>) -> Thing {
+fn target(scene: &Scene<'_>) -> Thing {
     let number = match targets(scene) {
         Some((object, ..)) => object,
         None => 0,
@@ -137,7 +136,7 @@ fn target(scene: Scene<'_>) -> Thing {
 }
 
 /// Both accesses, and what is missing between them.
-pub(crate) fn put_race(out: &mut Page, scene: Scene<'_>) {
+pub(crate) fn put_race(out: &mut Page, scene: &Scene<'_>) {
     put_verb(out, scene);
     match scene.other {
         Some(access) => {
@@ -158,7 +157,7 @@ pub(crate) fn put_race(out: &mut Page, scene: Scene<'_>) {
 }
 
 /// What is missing between the access that failed and this one.
-fn put_missing(out: &mut Page, scene: Scene<'_>, access: Access) {
+fn put_missing(out: &mut Page, scene: &Scene<'_>, access: Access) {
     match last_reading(scene, access) {
         Some(reading) => put_reading(out, scene, reading),
         None => {
@@ -170,7 +169,7 @@ fn put_missing(out: &mut Page, scene: Scene<'_>, access: Access) {
 }
 
 /// The last access of each other thread that conflicts: one of them at least isn't known.
-fn put_others(out: &mut Page, scene: Scene<'_>) {
+fn put_others(out: &mut Page, scene: &Scene<'_>) {
     for other in 0..MAX_THREADS as u8 {
         if let Some(access) = last_of(scene, other) {
             out.thread("    ", other);
@@ -198,24 +197,22 @@ fn releases(order: Option<Ordering>) -> bool {
 }
 
 /// The last read by which the thread could have learned of the access, had it acquired what the store released.
-fn last_reading(scene: Scene<'_>, access: Access) -> Option<Reading> {
-    let thread = scene.at.thread;
-    scene
-        .world
-        .readings
-        .iter()
-        .rev()
-        .find(|reading| {
-            reading.at.thread == thread
-                && reading.store.at.thread == access.at.thread
-                && reading.store.at.event > access.at.event
-                && !(acquires(reading.order) && releases(reading.store.order))
-        })
-        .copied()
+fn last_reading(scene: &Scene<'_>, access: Access) -> Option<Reading> {
+    let mut last = None;
+    for reading in &scene.world.readings {
+        if reading.at.thread == scene.at.thread
+            && reading.store.at.thread == access.at.thread
+            && reading.store.at.event > access.at.event
+            && !(acquires(reading.order) && releases(reading.store.order))
+        {
+            last = Some(*reading);
+        }
+    }
+    last
 }
 
 /// What was read, how, and what it lacks.
-fn put_reading(out: &mut Page, scene: Scene<'_>, reading: Reading) {
+fn put_reading(out: &mut Page, scene: &Scene<'_>, reading: Reading) {
     let store = reading.store;
     out.thread("  ", reading.at.thread);
     out.number(" read store ", store.number);
@@ -243,24 +240,24 @@ fn put_reading(out: &mut Page, scene: Scene<'_>, reading: Reading) {
     });
 }
 
-fn name_of(scene: Scene<'_>, number: usize) -> Option<Text> {
+fn name_of(scene: &Scene<'_>, number: usize) -> Option<Text> {
     scene.world.object(number)?.label?.name
 }
 
 /// Who has the object open.
-fn open_by(scene: Scene<'_>) -> Option<Hold> {
+fn open_by(scene: &Scene<'_>) -> Option<Hold> {
     let (one, other, _) = targets(scene)?;
-    scene
-        .world
-        .holds
-        .iter()
-        .rev()
-        .find(|hold| hold.object == one || hold.object == other)
-        .copied()
+    let mut last = None;
+    for hold in &scene.world.holds {
+        if hold.object == one || hold.object == other {
+            last = Some(*hold);
+        }
+    }
+    last
 }
 
 /// What is open, by whom and since when.
-pub(crate) fn put_open_access(out: &mut Page, scene: Scene<'_>) {
+pub(crate) fn put_open_access(out: &mut Page, scene: &Scene<'_>) {
     put_verb(out, scene);
     let Some(hold) = open_by(scene) else {
         out.words(" what is open\n");
@@ -276,7 +273,7 @@ pub(crate) fn put_open_access(out: &mut Page, scene: Scene<'_>) {
 }
 
 /// Two stores whose order isn't known.
-pub(crate) fn put_equal_orders(out: &mut Page, scene: Scene<'_>) {
+pub(crate) fn put_equal_orders(out: &mut Page, scene: &Scene<'_>) {
     out.thread("  ", scene.at.thread);
     out.thing(" is about to read ", target(scene));
     out.words(

@@ -4,7 +4,7 @@ use crate::text::reasons::{Scene, Sought};
 use loom_objects::operation::{LazyOp, LocalOp, NotifyOp, Request, WakerOp};
 
 /// A value that is made once was used after main had finished.
-pub(crate) fn put_shutdown(out: &mut Page, scene: Scene<'_>) {
+pub(crate) fn put_shutdown(out: &mut Page, scene: &Scene<'_>) {
     let key = match scene.request() {
         Some(Request::Lazy(LazyOp::Get(key) | LazyOp::Init(key, _))) => *key,
         _ => 0,
@@ -17,7 +17,7 @@ pub(crate) fn put_shutdown(out: &mut Page, scene: Scene<'_>) {
 }
 
 /// The event that is sought, after words, and the line's end.
-fn put_earlier(out: &mut Page, scene: Scene<'_>, words: &str, sought: Sought) {
+fn put_earlier(out: &mut Page, scene: &Scene<'_>, words: &str, sought: Sought) {
     if let Some(number) = scene.earlier(sought) {
         out.event(words, number);
     }
@@ -39,7 +39,7 @@ fn local_key(request: Option<&Request<(), ()>>) -> usize {
 }
 
 /// A thread's own value was used after the thread had given it back.
-pub(crate) fn put_gone(out: &mut Page, scene: Scene<'_>) {
+pub(crate) fn put_gone(out: &mut Page, scene: &Scene<'_>) {
     let thread = scene.at.thread;
     out.thread("  ", thread);
     out.number(" uses its local ", local_key(scene.request()));
@@ -49,7 +49,7 @@ pub(crate) fn put_gone(out: &mut Page, scene: Scene<'_>) {
 }
 
 /// A key has a value already.
-pub(crate) fn put_taken(out: &mut Page, scene: Scene<'_>) {
+pub(crate) fn put_taken(out: &mut Page, scene: &Scene<'_>) {
     let thread = scene.at.thread;
     let key = local_key(scene.request());
     out.thread("  ", thread);
@@ -69,7 +69,7 @@ fn waited_on(request: Option<&Request<(), ()>>) -> Option<usize> {
 }
 
 /// A second thread waits on a notifier.
-pub(crate) fn put_second_waiter(out: &mut Page, scene: Scene<'_>) {
+pub(crate) fn put_second_waiter(out: &mut Page, scene: &Scene<'_>) {
     let number = waited_on(scene.request()).unwrap_or(0);
     out.thread("  ", scene.at.thread);
     out.thing(" is to wait on ", scene.world.thing(number));
@@ -82,7 +82,7 @@ pub(crate) fn put_second_waiter(out: &mut Page, scene: Scene<'_>) {
 }
 
 /// The other thread that waits on the notifier, and since when.
-fn first_waiter(scene: Scene<'_>, number: usize) -> Option<(u8, usize)> {
+fn first_waiter(scene: &Scene<'_>, number: usize) -> Option<(u8, usize)> {
     for member in scene.world.threads.iter() {
         let pending = member.pending.unwrap_or(0);
         if pending == scene.at.event {
