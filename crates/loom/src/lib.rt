@@ -1,7 +1,7 @@
 //! Loom explores the interleavings of concurrent code: a test is run once for each choice of the scheduled thread that the search
-//! tries, and what a complete check has made is a stated set of runs. This crate is the face, which programs and tests use:
-//! everything stands under loom's paths, handed on from the crates below. A test is a body, which `model` checks, or closures on
-//! real threads, which `runner` checks.
+//! tries, and what a complete check has made is a stated set of runs. This crate is the face, which programs use, and tests of
+//! closures: everything stands under loom's paths, handed on from the crates below. A test is a body, which `model` checks, or
+//! closures on real threads, which `runner` checks.
 #![tactic(auto)]
 
 pub use loom_model::{

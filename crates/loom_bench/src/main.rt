@@ -13,7 +13,7 @@ ghost use Rattle.loom_bench.specs.Measures.{PrintedBody, PrintedLine, PrintedNam
 mod closures;
 
 use crate::closures::{Closures, closures_of};
-use loom::model::Report;
+use loom_model::model::Report;
 use loom_row_bodies::line::{self, ShownReport};
 use loom_row_bodies::settings::Builds;
 use loom_row_parts::measured::Measured;

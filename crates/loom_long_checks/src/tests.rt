@@ -13,10 +13,10 @@ mod texts;
 ghost use Rattle.std.specs.Prelude.{◌≡◌};
 ghost use Rattle.loom_stores.specs.Stores.{Counts};
 
-use loom::error::CheckError;
-use loom::model::{Builder, Report};
-use loom::visitor::Visitor;
-use loom::{CheckpointStore, Choice, Clock, MemoryStore, StoreError};
+use loom_model::error::CheckError;
+use loom_model::model::{Builder, Report};
+use loom_model::visitor::Visitor;
+use loom_model::{CheckpointStore, Choice, Clock, MemoryStore, StoreError};
 use loom_row_bodies::bodies::LOCK_BESIDE;
 use loom_row_bodies::line::{ShownChoices, ShownReport};
 use loom_row_bodies::rows::{DEFAULTS, WHOLE};

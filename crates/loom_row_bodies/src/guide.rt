@@ -2,9 +2,9 @@
 ghost use Rattle.std.specs.Prelude.{◌≡◌, IfOk};
 ghost use Rattle.loom_row_bodies.specs.Guide.{next_of, turn, counts, begun};
 
-use loom::sync::{Mutex, MutexGuard};
-use loom::thread::{self, Leaving};
-use loom::{Body, Op, Reply, fail};
+use loom_model::sync::{Mutex, MutexGuard};
+use loom_model::thread::{self, Leaving};
+use loom_model::{Body, Op, Reply, fail};
 use loom_scripts::number::Number;
 use std::alloc::AllocError;
 

@@ -2,8 +2,8 @@
 ghost use Rattle.std.specs.Prelude.{◌≡◌, Some};
 ghost use Rattle.loom_row_bodies.specs.Line.{choice_text, choices_text, report_text, status_of};
 
-use loom::Choice;
-use loom::model::Report;
+use loom_model::Choice;
+use loom_model::model::Report;
 use std::fmt;
 
 /// A choice as the program prints it: `t0` to `t4` or `t-`, `l0` to `l6`, `s0` or `s1`.

@@ -5,8 +5,8 @@ ghost use Rattle.loom_row_bodies.specs.Rows.{PrintedChecked, PrintedNamed, Print
 
 use crate::line::{self, ShownReport};
 use crate::tasks::{Task, do_task};
-use loom::error::CheckError;
-use loom::model::Report;
+use loom_model::error::CheckError;
+use loom_model::model::Report;
 use loom_row_parts::rows::meant;
 pub use loom_row_parts::rows::{
     Checked, DEFAULTS, EXPLICIT, LONG_RUNS, Row, TEN_STEPS, THREE_NODES, TWO_RUNS, WHOLE, row_of,

@@ -2,7 +2,7 @@
 ghost use Rattle.std.specs.Prelude.{◌≡◌, IfOk, option_copied};
 ghost use Rattle.loom_row_bodies.specs.Builders.{IsBuilder, builder_of};
 
-use loom::model::Builder;
+use loom_model::model::Builder;
 pub use loom_row_parts::settings::Settings;
 use std::alloc::{AllocError, Global};
 

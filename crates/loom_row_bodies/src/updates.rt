@@ -2,8 +2,8 @@
 ghost use Rattle.std.specs.Prelude.{◌≡◌, IfOk};
 ghost use Rattle.loom_row_bodies.specs.Updates.{next_of, turn, after, first_turn, second_turn, begun};
 
-use loom::sync::atomic::{AtomicU64, FetchUpdate, Fetched, Ordering};
-use loom::{Body, Op, Reply, fail, thread};
+use loom_model::sync::atomic::{AtomicU64, FetchUpdate, Fetched, Ordering};
+use loom_model::{Body, Op, Reply, fail, thread};
 use loom_scripts::number::Number;
 use std::alloc::AllocError;
 

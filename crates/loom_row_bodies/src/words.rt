@@ -5,7 +5,7 @@ ghost use Rattle.loom_row_bodies.specs.Words.{has_option, is_option};
 
 use crate::rows::{self, refuse, row_of};
 use crate::tasks::{Task, do_task};
-use loom::Choices;
+use loom_model::Choices;
 use std::io::{self, Write};
 use std::rt::Files;
 

@@ -12,8 +12,8 @@ use crate::explanations::bodies::misuses::{
 };
 use crate::explanations::bodies::races::{BESIDE, MUTATED, OPEN, SPIN, THREE, UNRELEASED};
 use crate::explanations::bodies::values::{AFTER_EXIT, AFTER_MAIN, MADE_TWICE};
-use loom::model::Builder;
 use loom_choices::choices::Choices;
+use loom_model::model::Builder;
 use loom_scripts::script::Script;
 use loom_scripts::step::Step;
 use std::alloc::Global;

@@ -1,7 +1,7 @@
 //! What an environment says of a check, and which settings are refused.
 use super::{Case, DEFAULT_CASE, Page, cases_hold, same};
-use loom::env::Env;
-use loom::model::Builder;
+use loom_model::env::Env;
+use loom_model::model::Builder;
 use loom_row_bodies::rows::DEFAULTS;
 use loom_row_bodies::settings::Settings;
 use std::alloc::Global;

@@ -1,8 +1,8 @@
 //! What is told of runs that follow given choices.
 use super::{Page, lock_beside, same};
-use loom::Choice;
-use loom::explain::Explanation;
-use loom::model::Builder;
+use loom_model::Choice;
+use loom_model::explain::Explanation;
+use loom_model::model::Builder;
 use loom_objects::operation::{Request, ThreadOp};
 use loom_row_bodies::rows::DEFAULTS;
 use loom_row_bodies::settings::{Builds, Settings};

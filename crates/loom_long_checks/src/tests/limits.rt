@@ -1,6 +1,6 @@
 //! Limits of runs and of time.
 use super::{Case, Page, WHOLE_CASE, cases_hold, lock_beside, same};
-use loom::model::Builder;
+use loom_model::model::Builder;
 use loom_row_bodies::rows::{TWO_RUNS, WHOLE};
 use loom_row_bodies::settings::Builds;
 use loom_scripts::script::Script;

@@ -2,10 +2,10 @@
 use super::limits::check_alone;
 use super::texts::ZERO;
 use super::{HEAD, Page, Shelf, WHOLE_END, check, lock_beside, same};
-use loom::error::CheckError;
-use loom::model::Report;
-use loom::visitor::Visitor;
-use loom::{Choice, FailureKind, NoClock};
+use loom_model::error::CheckError;
+use loom_model::model::Report;
+use loom_model::visitor::Visitor;
+use loom_model::{Choice, FailureKind, NoClock};
 use loom_row_bodies::bodies::LOAD_BESIDE;
 use loom_row_bodies::bodies::locks::NOTIFY_WAIT;
 use loom_row_bodies::rows::WHOLE;

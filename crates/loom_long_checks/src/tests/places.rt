@@ -1,7 +1,7 @@
 //! A failure has the place of its operation where it is asked for.
 use super::{Page, same};
-use loom::model::{Builder, Replay, Report};
-use loom::{Choice, Label, Location, text_literal};
+use loom_model::model::{Builder, Replay, Report};
+use loom_model::{Choice, Label, Location, text_literal};
 use loom_objects::operation::{MutexOp, Request, ThreadOp};
 use loom_scripts::script::Script;
 use loom_scripts::step::{Step, Value};

@@ -2,8 +2,8 @@
 use super::{Page, lock_beside, same};
 use log::sink::Memory;
 use log::{Level, Logged};
-use loom::model::Builder;
-use loom::{MemoryStore, NoClock};
+use loom_model::model::Builder;
+use loom_model::{MemoryStore, NoClock};
 use loom_row_bodies::rows::WHOLE;
 use loom_row_bodies::settings::Builds;
 use loom_scripts::script::Script;

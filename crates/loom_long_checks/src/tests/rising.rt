@@ -1,11 +1,11 @@
 //! Checks with rising bounds on preemptions, and reports as texts.
 use super::places::put_replay;
 use super::{Page, lock_beside, same};
-use loom::Choices;
-use loom::error::CheckError;
-use loom::model::Builder;
-use loom::rising::Risen;
-use loom::sync::atomic::Ordering::Relaxed;
+use loom_model::Choices;
+use loom_model::error::CheckError;
+use loom_model::model::Builder;
+use loom_model::rising::Risen;
+use loom_model::sync::atomic::Ordering::Relaxed;
 use loom_objects::operation::{AtomicOp, ChannelOp, Request, ThreadOp};
 use loom_row_bodies::rows::{DEFAULTS, TWO_RUNS, WHOLE};
 use loom_row_bodies::settings::{Builds, Settings};

@@ -1,5 +1,5 @@
 //! Bodies that aren't rows, for what rows leave out: main is the one thread, and mostly spawns the other.
-use loom::sync::atomic::Ordering::{AcqRel, Acquire, Relaxed, Release, SeqCst};
+use loom_model::sync::atomic::Ordering::{AcqRel, Acquire, Relaxed, Release, SeqCst};
 use loom_objects::operation::{
     ArcOp, AtomicOp, CellOp, CondvarOp, Exchange, MutexOp, NotifyOp, Request, RwLockOp, ThreadOp,
     TrackOp,

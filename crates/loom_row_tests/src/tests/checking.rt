@@ -1,8 +1,8 @@
 //! What a check finds, as a list of runs.
-use loom::error::CheckError;
-use loom::model::Report;
-use loom::visitor::Visitor;
-use loom::{Body, Choice, MemoryStore, NoClock};
+use loom_model::error::CheckError;
+use loom_model::model::Report;
+use loom_model::visitor::Visitor;
+use loom_model::{Body, Choice, MemoryStore, NoClock};
 use loom_plain::run::Ending;
 use loom_plain::search::Found;
 use loom_row_bodies::settings::{Builds, Settings};

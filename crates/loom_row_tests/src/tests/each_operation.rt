@@ -1,7 +1,7 @@
 //! Scripts that between them make every operation: with memory enough none fails for want of it.
 use super::finding::{Case, Shows, find};
-use loom::sync::atomic::Ordering::{AcqRel, Release, SeqCst};
-use loom::text_literal;
+use loom_model::sync::atomic::Ordering::{AcqRel, Release, SeqCst};
+use loom_model::text_literal;
 use loom_objects::operation::{
     ArcOp, AtomicOp, AtomicWakerOp, CellOp, ChannelOp, CondvarOp, Exchange, ExploreOp, LazyOp,
     LocalOp, MutexOp, NotifyOp, Request, RwLockOp, ThreadOp, TrackOp, WakerOp,

@@ -2,8 +2,8 @@
 use super::checking::{found_by, is_run, script};
 use super::rows::rows_of;
 use super::texts::{put, put_text, put_value, same};
-use loom::model::{Builder, Replay};
-use loom::{Body, Choice, FailureKind};
+use loom_model::model::{Builder, Replay};
+use loom_model::{Body, Choice, FailureKind};
 use loom_plain::run::Ending;
 use loom_plain::search::Found;
 use loom_row_bodies::line::ShownChoices;

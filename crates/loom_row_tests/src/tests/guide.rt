@@ -1,6 +1,6 @@
 //! The first body of docs/GUIDE.md.
-use loom::model::{Builder, Replay, Report};
-use loom::{Choice, FailureKind};
+use loom_model::model::{Builder, Replay, Report};
+use loom_model::{Choice, FailureKind};
 use loom_row_bodies::guide::Counter;
 use loom_row_bodies::rows::WHOLE;
 use loom_row_bodies::settings::Builds;

@@ -1,5 +1,5 @@
 //! Bodies of other tests that aren't rows: runs as large as they may be, and misuse.
-use loom::sync::atomic::Ordering::Relaxed;
+use loom_model::sync::atomic::Ordering::Relaxed;
 use loom_objects::operation::{
     AtomicOp, CellOp, ChannelOp, MutexOp, NotifyOp, Request, RwLockOp, ThreadOp,
 };

@@ -1,7 +1,7 @@
 //! What a check finds is what the plain program finds.
 use super::checking::{found_by, is_run, script};
 use super::{bodies, others, searches, shared};
-use loom::Body;
+use loom_model::Body;
 use loom_plain::halt::Halt;
 use loom_plain::run::{Ending, Settings as PlainSettings};
 use loom_plain::search::{Found, least_set, runs_in_order};

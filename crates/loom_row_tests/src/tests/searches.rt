@@ -1,6 +1,6 @@
 //! Small bodies with the runs of their searches, each of which tells a search from one that is a little wrong.
 use super::finding::{Case, Shows, find};
-use loom::sync::atomic::Ordering::Relaxed;
+use loom_model::sync::atomic::Ordering::Relaxed;
 use loom_objects::operation::{ArcOp, AtomicOp, MutexOp, Request, ThreadOp};
 use loom_row_bodies::rows::{Checked, DEFAULTS, Row, WHOLE};
 use loom_row_bodies::settings::Settings;

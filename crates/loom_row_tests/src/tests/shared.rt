@@ -1,6 +1,6 @@
 //! Bodies that aren't rows, in which threads meet at channels, at wakers and their places, and at values, and bodies that
 //! explore in parts.
-use loom::sync::atomic::Ordering::Relaxed;
+use loom_model::sync::atomic::Ordering::Relaxed;
 use loom_objects::operation::{
     AtomicOp, AtomicWakerOp, CellOp, ChannelOp, ExploreOp, LazyOp, LocalOp, MutexOp, NotifyOp,
     Request, ThreadOp, WakerOp,

@@ -2,7 +2,7 @@
 use super::printed::long_line;
 use super::rows::rows_of;
 use super::texts::{Printed, is_printed};
-use loom::Choice;
+use loom_model::Choice;
 use loom_row_bodies::rows::{DEFAULTS, LONG_RUNS, Row, row_of};
 use loom_row_bodies::settings::Settings;
 use loom_row_bodies::tasks::{Task, do_task};

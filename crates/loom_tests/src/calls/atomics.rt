@@ -1,8 +1,8 @@
 //! Atomics and fences.
 use crate::calls::run::{Calls, Kind, Row};
-use loom::Op;
-use loom::sync::atomic::Ordering::{Acquire, Release, SeqCst};
-use loom::sync::atomic::{Atomic, AtomicBool, AtomicI8, AtomicU8, AtomicU64, fence};
+use loom_model::Op;
+use loom_model::sync::atomic::Ordering::{Acquire, Release, SeqCst};
+use loom_model::sync::atomic::{Atomic, AtomicBool, AtomicI8, AtomicU8, AtomicU64, fence};
 use loom_scripts::number::Number;
 use std::marker::PhantomData;
 

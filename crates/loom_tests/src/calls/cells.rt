@@ -1,7 +1,7 @@
 //! Cells.
 use crate::calls::run::{Calls, Kind, Row};
-use loom::Op;
-use loom::cell::{Cell, ConstPtr, MutPtr, UnsafeCell};
+use loom_model::Op;
+use loom_model::cell::{Cell, ConstPtr, MutPtr, UnsafeCell};
 use loom_scripts::number::Number;
 
 /// The calls of these tables, by their numbers there.

@@ -1,7 +1,7 @@
 //! Channels.
 use crate::calls::run::{Calls, Kind, Row};
-use loom::Op;
-use loom::sync::mpsc::{Receiver, Sender, channel};
+use loom_model::Op;
+use loom_model::sync::mpsc::{Receiver, Sender, channel};
 use loom_scripts::number::Number;
 
 const SENDER: Sender = Sender { number: 0 };

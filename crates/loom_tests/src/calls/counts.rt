@@ -1,8 +1,8 @@
 //! Counted references and tracked values.
 use crate::calls::run::{Calls, Kind, Row};
-use loom::Op;
-use loom::alloc::Track;
-use loom::sync::Arc;
+use loom_model::Op;
+use loom_model::alloc::Track;
+use loom_model::sync::Arc;
 use loom_scripts::number::Number;
 
 /// The calls of these tables, by their numbers there.

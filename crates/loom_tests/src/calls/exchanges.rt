@@ -1,9 +1,9 @@
 //! Exchanges and updates of atomics, of each type of integers.
 use crate::calls::atomics::first_atomic;
 use crate::calls::run::{Calls, Kind, Row};
-use loom::sync::atomic::Ordering::SeqCst;
-use loom::sync::atomic::{Atomic, Integer};
-use loom::{Numeric, Op};
+use loom_model::sync::atomic::Ordering::SeqCst;
+use loom_model::sync::atomic::{Atomic, Integer};
+use loom_model::{Numeric, Op};
 use loom_scripts::number::Number;
 use std::fmt::Debug;
 

@@ -1,7 +1,9 @@
 //! Locks, condition variables and notifiers.
 use crate::calls::run::{Calls, Kind, Row};
-use loom::sync::{Condvar, Mutex, MutexGuard, Notify, RwLock, RwLockReadGuard, RwLockWriteGuard};
-use loom::{Op, thread};
+use loom_model::sync::{
+    Condvar, Mutex, MutexGuard, Notify, RwLock, RwLockReadGuard, RwLockWriteGuard,
+};
+use loom_model::{Op, thread};
 use loom_scripts::number::Number;
 
 /// The calls of these tables, by their numbers there.

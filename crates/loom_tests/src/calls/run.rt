@@ -2,9 +2,9 @@
 use crate::calls::answer::put_answer;
 use crate::calls::{atomics, cells, channels, counts, exchanges, locks, threads, values, wakers};
 use crate::page::Page;
-use loom::rt::execution::{Execution, Limits};
-use loom::rt::path::{Path, Search};
-use loom::{Numeric, Op};
+use loom_model::rt::execution::{Execution, Limits};
+use loom_model::rt::path::{Path, Search};
+use loom_model::{Numeric, Op};
 use loom_scripts::number::Number;
 use std::alloc::{AllocError, Global};
 use std::fmt::Debug;

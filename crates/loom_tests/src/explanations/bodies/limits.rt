@@ -1,5 +1,5 @@
 //! Bodies that pass a limit.
-use loom::sync::atomic::Ordering::{Relaxed, Release};
+use loom_model::sync::atomic::Ordering::{Relaxed, Release};
 use loom_objects::operation::{AtomicOp, Exchange, MutexOp, Request, ThreadOp};
 use loom_parts::label::Label;
 use loom_parts::text_literal;

@@ -1,5 +1,5 @@
 //! Bodies that come to a deadlock, or leave something.
-use loom::sync::atomic::Ordering::{Acquire, Relaxed, Release};
+use loom_model::sync::atomic::Ordering::{Acquire, Relaxed, Release};
 use loom_objects::operation::{
     ArcOp, AtomicOp, ChannelOp, CondvarOp, Exchange, MutexOp, NotifyOp, Request, RwLockOp,
     ThreadOp, TrackOp, WakerOp,

@@ -1,5 +1,5 @@
 //! Bodies that use an operation wrongly.
-use loom::sync::atomic::Ordering::Relaxed;
+use loom_model::sync::atomic::Ordering::Relaxed;
 use loom_objects::operation::{ExploreOp, MutexOp, NotifyOp, Request, ThreadOp};
 use loom_parts::label::Label;
 use loom_parts::location::Location;
