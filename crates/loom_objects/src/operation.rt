@@ -462,7 +462,7 @@ impl<R> Labelled<R> {
         }
     }
 
-    /// The operation, with a name for what it makes, of which 32 bytes are kept. A place that it was given stays (own).
+    /// The operation, with a name for what it makes, of which 24 bytes are kept. A place that it was given stays (own).
     pub fn named(self, name: &str) -> Labelled<R>
         ensures { result ≡ labels.named (first_text name.now) self }
     {

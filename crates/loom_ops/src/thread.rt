@@ -173,7 +173,7 @@ impl Builder {
         Builder { name: None }
     }
 
-    /// The same, with this name, of which 32 bytes are kept (loom's `thread.rs`).
+    /// The same, with this name, of which 24 bytes are kept (loom's `thread.rs`).
     pub fn name(self, name: &str) -> Builder
         ensures { result.name ≡ Some (record { text = first_text name.now }) }
     {

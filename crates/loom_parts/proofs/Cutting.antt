@@ -40,17 +40,17 @@ cut_is bytes (suc limit) place within h b none =
       ]
     ]
 
-pub first_is : (bytes : List ℕ) (place : ℕ) → place ≤ 32 → IsCharBoundary bytes place → ((i : ℕ) → place < i → i ≤ 32 → ¬ (IsCharBoundary bytes i))
+pub first_is : (bytes : List ℕ) (place : ℕ) → place ≤ 24 → IsCharBoundary bytes place → ((i : ℕ) → place < i → i ≤ 24 → ¬ (IsCharBoundary bytes i))
     → take place bytes ≡ first_part bytes
 first_is bytes place h b none =
-    elim (cases_lt 32 (length bytes)) [
-      | inl long ↦ ap (λ n. take n bytes) (sym (cut_is bytes 32 place long h b none)) ∙ sym (cond-false _ _ _ (lt-leb (length bytes) 32 long))
+    elim (cases_lt 24 (length bytes)) [
+      | inl long ↦ ap (λ n. take n bytes) (sym (cut_is bytes 24 place long h b none)) ∙ sym (cond-false _ _ _ (lt-leb (length bytes) 24 long))
       | inr short ↦
           let whole : length bytes ≤ place = elim (cases_lt place (length bytes)) [
             | inl l ↦ absurd (none (length bytes) l short (IsCharBoundary-end bytes))
             | inr l ↦ l
           ] in
-          take_all place bytes whole ∙ sym (cond-true _ _ _ (le-leb (length bytes) 32 short))
+          take_all place bytes whole ∙ sym (cond-true _ _ _ (le-leb (length bytes) 24 short))
     ]
 
 -- what is left behind so many bytes with which none begins
@@ -63,12 +63,12 @@ from_is (byte ∷ bytes) (suc count) h none one =
     cond-false _ _ _ (none 0 (omega arith))
     ∙ from_is bytes count (omega (arith, h)) (λ i l. none (suc i) (omega (arith, l))) (λ l. one (omega (arith, l)))
 
-pub last_is : (bytes : List ℕ) (place : ℕ) → IsUtf8 bytes → length bytes - 32 ≤ place → IsCharBoundary bytes place
-    → ((i : ℕ) → length bytes - 32 ≤ i → i < place → ¬ (IsCharBoundary bytes i)) → drop place bytes ≡ last_part bytes
+pub last_is : (bytes : List ℕ) (place : ℕ) → IsUtf8 bytes → length bytes - 24 ≤ place → IsCharBoundary bytes place
+    → ((i : ℕ) → length bytes - 24 ≤ i → i < place → ¬ (IsCharBoundary bytes i)) → drop place bytes ≡ last_part bytes
 last_is bytes place text h b none =
-    elim (cases_lt 32 (length bytes)) [
+    elim (cases_lt 24 (length bytes)) [
       | inl long ↦
-          let start = length bytes - 32 in
+          let start = length bytes - 24 in
           let rest = drop start bytes in
           let count = place - start in
           let behind : start + count ≡ place = omega (arith, h) in
@@ -79,20 +79,20 @@ last_is bytes place text h b none =
           (begins_boundary bytes (start + i) (omega (arith, l, behind, b.0)) (ap begins_char (sym (place_of i)) ∙ t))))
           (λ l. ap begins_char (place_of count ∙ ap (λ n. get_or bytes n 0) behind)
           ∙ boundary_begins bytes place (omega (arith, l, size, behind)) b) in
-          sym (cond-false _ _ _ (lt-leb (length bytes) 32 long) ∙ left ∙ drop-drop count start bytes ∙ ap (λ n. drop n bytes) behind)
+          sym (cond-false _ _ _ (lt-leb (length bytes) 24 long) ∙ left ∙ drop-drop count start bytes ∙ ap (λ n. drop n bytes) behind)
       | inr short ↦
           let first : place ≡ 0 = elim (cases_lt 0 place) [
             | inl l ↦ absurd (none 0 (omega (arith, short)) l (IsCharBoundary-start bytes text))
             | inr l ↦ omega (arith, l)
           ] in
-          ap (λ n. drop n bytes) first ∙ sym (cond-true _ _ _ (le-leb (length bytes) 32 short))
+          ap (λ n. drop n bytes) first ∙ sym (cond-true _ _ _ (le-leb (length bytes) 24 short))
     ]
 
-pub shown_whole : (t : Text) → t.len ≤ 32 → IsUtf8 (take t.len t.bytes) → shown t ≡ take t.len t.bytes
-shown_whole t h text = cond-true _ _ _ (and_from _ _ (le-leb t.len 32 h) (is_utf8-from_IsUtf8 _ text))
+pub shown_whole : (t : Text) → t.len ≤ 24 → IsUtf8 (take t.len t.bytes) → shown t ≡ take t.len t.bytes
+shown_whole t h text = cond-true _ _ _ (and_from _ _ (le-leb t.len 24 h) (is_utf8-from_IsUtf8 _ text))
 
 pub shown_broken : (t : Text) → (IsUtf8 (take t.len t.bytes) → ⊥) → shown t ≡ []
 shown_broken t broken = cond-false _ _ _ (and_right _ _ (false_from_ne_true _ (λ e. broken (IsUtf8-from_is_utf8 _ e))))
 
-pub shown_long : (t : Text) → 32 < t.len → shown t ≡ []
-shown_long t long = cond-false _ _ _ (and_left _ _ (lt-leb t.len 32 long))
+pub shown_long : (t : Text) → 24 < t.len → shown t ≡ []
+shown_long t long = cond-false _ _ _ (and_left _ _ (lt-leb t.len 24 long))

@@ -3,13 +3,13 @@ use Rattle.std.specs.Prelude.{ℕ, suc, zero, ◌-◌, Bool, ◌&&◌, ◌||◌,
 use Rattle.std.specs.Str.{is_utf8}
 use Rattle.loom_parts.specs.declared.text.Text.{Text}
 
--- the text of these bytes, of which there are at most 32
+-- the text of these bytes, of which there are at most 24
 abbrev pub text_of : List ℕ → Text
-text_of bytes = record { bytes = bytes ++ replicate (32 - length bytes) 0; len = length bytes }
+text_of bytes = record { bytes = bytes ++ replicate (24 - length bytes) 0; len = length bytes }
 
 -- the bytes of the text, if they are UTF-8
 abbrev pub shown : Text → List ℕ
-shown text = cond (nat_le text.len 32 && is_utf8 (take text.len text.bytes)) (take text.len text.bytes) []
+shown text = cond (nat_le text.len 24 && is_utf8 (take text.len text.bytes)) (take text.len text.bytes) []
 
 -- a byte with which a character begins, or the 0 that is read behind the last one
 abbrev pub begins_char : ℕ → Bool
@@ -25,13 +25,13 @@ abbrev pub from_char : List ℕ → List ℕ
 from_char [] = []
 from_char (byte ∷ bytes) = cond (begins_char byte) (byte ∷ bytes) (from_char bytes)
 
--- the bytes, if there are at most 32, and else the first characters that fit
+-- the bytes, if there are at most 24, and else the first characters that fit
 abbrev pub first_part : List ℕ → List ℕ
-first_part bytes = cond (nat_le (length bytes) 32) bytes (take (cut_up_to bytes 32) bytes)
+first_part bytes = cond (nat_le (length bytes) 24) bytes (take (cut_up_to bytes 24) bytes)
 
 -- the same with the last characters that fit
 abbrev pub last_part : List ℕ → List ℕ
-last_part bytes = cond (nat_le (length bytes) 32) bytes (from_char (drop (length bytes - 32) bytes))
+last_part bytes = cond (nat_le (length bytes) 24) bytes (from_char (drop (length bytes - 24) bytes))
 
 -- what is kept of a name
 abbrev pub first_text : List ℕ → Text

@@ -4,13 +4,13 @@ ghost use Rattle.std.specs.Prelude.{◌≡◌, ◌≤◌, length};
 use std::{fmt, str};
 
 /// How many bytes a text has at most.
-pub const LONGEST: usize = 32;
+pub const LONGEST: usize = 24;
 
-/// A text of at most 32 bytes. It holds no reference, so what holds texts can be lent to a closure, and two texts are the same
+/// A text of at most 24 bytes. It holds no reference, so what holds texts can be lent to a closure, and two texts are the same
 /// value exactly where they are equal (own).
 #[derive(Clone, Copy, PartialEq, Eq)]
 pub struct Text {
-    /// How many bytes it has. It is a word, so that a text has no gap, which each move would clear.
+    /// How many bytes it has. It is a word, so that a text is four words, and no move clears a gap.
     pub len: usize,
     /// Its bytes of UTF-8, and zeros behind them.
     pub bytes: [u8; LONGEST],
@@ -19,14 +19,14 @@ pub struct Text {
 impl Text {
     ghost use Rattle.loom_parts.specs.Texts.{text_of, first_text, last_text, shown};
 
-    /// The text; where it has more than 32 bytes, its first characters that fit (own).
+    /// The text; where it has more than 24 bytes, its first characters that fit (own).
     pub fn first(text: &str) -> Text
         ensures { result ≡ first_text text.now }
     {
         Text::of(&text[..text.floor_char_boundary(LONGEST)])
     }
 
-    /// The text; where it has more than 32 bytes, its last characters that fit (own).
+    /// The text; where it has more than 24 bytes, its last characters that fit (own).
     pub fn last(text: &str) -> Text
         ensures { result ≡ last_text text.now }
     {
@@ -35,7 +35,7 @@ impl Text {
 
     // The text, which fits.
     fn of(text: &str) -> Text
-        requires { length text.now ≤ 32 }
+        requires { length text.now ≤ 24 }
         ensures { result ≡ text_of text.now }
     {
         let mut bytes = [0; LONGEST];
@@ -78,12 +78,12 @@ impl fmt::Display for Text {
 }
 
 /// The text of these bytes, as in `text_literal!(b"flag")`, for constants, which can call no function. Where there are more than
-/// 32 bytes it isn't compiled (own).
+/// 24 bytes it isn't compiled (own).
 #[macro_export]
 macro_rules! text_literal {
     ($bytes:literal) => {
         $crate::text::Text {
-            len: 32 - (32 - $bytes.len()),
+            len: 24 - (24 - $bytes.len()),
             bytes: [
                 if 0 < $bytes.len() { $bytes[0] } else { 0 },
                 if 1 < $bytes.len() { $bytes[1] } else { 0 },
@@ -109,14 +109,6 @@ macro_rules! text_literal {
                 if 21 < $bytes.len() { $bytes[21] } else { 0 },
                 if 22 < $bytes.len() { $bytes[22] } else { 0 },
                 if 23 < $bytes.len() { $bytes[23] } else { 0 },
-                if 24 < $bytes.len() { $bytes[24] } else { 0 },
-                if 25 < $bytes.len() { $bytes[25] } else { 0 },
-                if 26 < $bytes.len() { $bytes[26] } else { 0 },
-                if 27 < $bytes.len() { $bytes[27] } else { 0 },
-                if 28 < $bytes.len() { $bytes[28] } else { 0 },
-                if 29 < $bytes.len() { $bytes[29] } else { 0 },
-                if 30 < $bytes.len() { $bytes[30] } else { 0 },
-                if 31 < $bytes.len() { $bytes[31] } else { 0 },
             ],
         }
     };

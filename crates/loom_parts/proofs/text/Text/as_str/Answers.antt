@@ -6,7 +6,7 @@ pub returns-in-Ok : goal.returns-in-Ok
 returns-in-Ok c =
     let t = c.args.self.now in
     let read = c.in-Ok.ensures.cases in
-    let fits : t.len ≤ 32 = omega arith in
+    let fits : t.len ≤ 24 = omega arith in
     read.0 ∙ sym (shown_whole t fits read.1)
 
 pub returns-in-Err : goal.returns-in-Err
