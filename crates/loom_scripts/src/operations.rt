@@ -1,6 +1,8 @@
 //! Operations over slots, as a thread hands them over: by the numbers that its slots keep, and by what values stand for.
 ghost use Rattle.std.specs.Prelude.{◌≡◌, IfOk};
-ghost use Rattle.loom_scripts.specs.Operations.{atomic_op, cell_op, arc_op, track_op, mutex_op, rwlock_op, condvar_op, notify_op, channel_op, waker_op, place_op, local_op, lazy_op, thread_op};
+ghost use Rattle.loom_scripts.specs.Operations.{atomic_op, cell_op, arc_op, track_op, mutex_op, rwlock_op, condvar_op, notify_op, channel_op, waker_op, place_op, local_op, lazy_op};
+ghost use Rattle.loom_objects.specs.declared.operation.Request.TheVariants.{Thread};
+ghost use Rattle.loom_scripts.specs.Script.{request};
 
 use crate::number::Number;
 use crate::script::Script;
@@ -8,7 +10,7 @@ use crate::state::State;
 use crate::step::Value;
 use loom_objects::operation::{
     ArcOp, AtomicOp, AtomicWakerOp, CellOp, ChannelOp, CondvarOp, LazyOp, LocalOp, MutexOp,
-    NotifyOp, RwLockOp, ThreadOp, TrackOp, WakerOp,
+    NotifyOp, Request, RwLockOp, ThreadOp, TrackOp, WakerOp,
 };
 use std::alloc::AllocError;
 
@@ -277,30 +279,31 @@ impl State {
 }
 
 impl Script {
-    /// The operation of threads. It fails only where a thread more finds no memory.
-    pub(crate) fn thread_op(
+    /// The operation of threads, or a failure where a slot keeps no such handle. It is refused only where a thread more finds no
+    /// memory.
+    pub(crate) fn thread_request(
         &self,
         op: &ThreadOp<Value, usize>,
-    ) -> Result<Option<ThreadOp<Number, Script>>, AllocError>
-        ensures { IfOk result (λ made. made ≡ thread_op self.now op.now) }
+    ) -> Result<Request<Number, Script>, AllocError>
+        ensures { IfOk result (λ made. made ≡ request self.now (Thread op.now)) }
     {
         let state = self.state();
-        Ok(match op {
-            ThreadOp::Spawn(at, name) => Some(ThreadOp::Spawn(self.child(*at)?, *name)),
+        Ok(Request::Thread(match op {
+            ThreadOp::Spawn(at, name) => ThreadOp::Spawn(self.child(*at)?, *name),
             ThreadOp::Join(slot, again) => match (state.thread(*slot), state.notifier(*again)) {
-                (Some(thread), Some(notifier)) => Some(ThreadOp::Join(thread, notifier)),
-                _ => None,
+                (Some(thread), Some(notifier)) => ThreadOp::Join(thread, notifier),
+                _ => return Ok(Request::Fail),
             },
-            ThreadOp::Current => Some(ThreadOp::Current),
-            ThreadOp::Park => Some(ThreadOp::Park),
+            ThreadOp::Current => ThreadOp::Current,
+            ThreadOp::Park => ThreadOp::Park,
             ThreadOp::Unpark(slot) => match state.thread(*slot) {
-                Some(thread) => Some(ThreadOp::Unpark(thread)),
-                None => None,
+                Some(thread) => ThreadOp::Unpark(thread),
+                None => return Ok(Request::Fail),
             },
-            ThreadOp::Yield => Some(ThreadOp::Yield),
-            ThreadOp::Finish(value) => Some(ThreadOp::Finish(state.data_of(*value))),
-            ThreadOp::Exit => Some(ThreadOp::Exit),
-            ThreadOp::End => Some(ThreadOp::End),
-        })
+            ThreadOp::Yield => ThreadOp::Yield,
+            ThreadOp::Finish(value) => ThreadOp::Finish(state.data_of(*value)),
+            ThreadOp::Exit => ThreadOp::Exit,
+            ThreadOp::End => ThreadOp::End,
+        }))
     }
 }

@@ -1,7 +1,8 @@
 //! Bodies that take one step of a list after another.
-ghost use Rattle.std.specs.Prelude.{◌≡◌, IfOk, option_copied};
+ghost use Rattle.std.specs.Prelude.{◌≡◌, IfOk, Ok, Some, option_copied};
+ghost use Rattle.loom_objects.specs.Labels.{bare};
 ghost use Rattle.loom_scripts.specs.Running.{spawned, started};
-ghost use Rattle.loom_scripts.specs.Script.{label_of, next_of, request, spawn_at, step_operation, step_request, store};
+ghost use Rattle.loom_scripts.specs.Script.{label_of, next_of, request, spawn_at, step_request, store};
 
 use crate::number::Number;
 use crate::state::{State, place_of};
@@ -94,7 +95,7 @@ impl Script {
             Request::Local(op) => return Ok(Request::Local(state.local_op(op))),
             Request::Lazy(op) => return Ok(Request::Lazy(state.lazy_op(op))),
             Request::Explore(op) => return Ok(Request::Explore(*op)),
-            Request::Thread(op) => answer_made!(self.thread_op(op)?, Thread),
+            Request::Thread(op) => return self.thread_request(op),
             Request::Fail => return Ok(Request::Fail),
             Request::Unreachable => return Ok(Request::Unreachable),
         }
@@ -142,25 +143,14 @@ impl Script {
             | None => Ok(Request::Fail),
         }
     }
-
-    /// The operation of the step.
-    fn step_operation(&self, step: Option<&Step>) -> Result<Op<Number, Script>, AllocError>
-        ensures { IfOk result (λ made. made ≡ step_operation self.now (option_copied step.entry)) }
-    {
-        let request = self.step_request(step)?;
-        Ok(Labelled {
-            request,
-            label: label_of(step),
-        })
-    }
 }
 
 // How the script's author calls the step.
-fn label_of(step: Option<&Step>) -> Option<Label>
-    ensures { result ≡ label_of (option_copied step.entry) }
+fn label_of(step: Option<&Step>) -> Option<&Label>
+    ensures { option_copied result ≡ label_of (option_copied step.entry) }
 {
     match step {
-        Some(Step::Labelled(_, _, label)) => Some(*label),
+        Some(Step::Labelled(_, _, label)) => Some(label),
         Some(
             Step::Do(..)
             | Step::Store(..)
@@ -174,6 +164,27 @@ fn label_of(step: Option<&Step>) -> Option<Label>
         )
         | None => None,
     }
+}
+
+// The operation of a step whose author doesn't call it anything. It is a function of its own, so that the label that isn't
+// there is cleared where the answer is written, and never moved.
+fn bare(request: Request<Number, Script>) -> Result<Op<Number, Script>, AllocError>
+    ensures { result ≡ Ok (bare request) }
+{
+    Ok(Labelled {
+        request,
+        label: None,
+    })
+}
+
+// The operation of a step that its author calls by this label.
+fn called(request: Request<Number, Script>, label: &Label) -> Result<Op<Number, Script>, AllocError>
+    ensures { result ≡ Ok (record { request = request; label = Some label.now }) }
+{
+    Ok(Labelled {
+        request,
+        label: Some(*label),
+    })
 }
 
 impl Body for Script {
@@ -190,7 +201,12 @@ impl Body for Script {
             self.state.keep(&reply);
         }
         let step = self.state.fetch(self.steps);
-        self.step_operation(step)
+        let request = self.step_request(step)?;
+        // Each answer goes out by itself: where both meet, each would be moved once more.
+        if let Some(label) = label_of(step) {
+            return called(request, label);
+        }
+        bare(request)
     }
 
     fn try_clone(&self) -> Result<Script, AllocError>

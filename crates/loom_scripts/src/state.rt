@@ -233,9 +233,12 @@ impl State {
         }
         let step = &steps[self.at];
         match step {
-            Step::Do(..) | Step::Labelled(..) | Step::Store(..) | Step::SpawnAt(..) => {
-                self.pass(steps, self.at)
+            Step::Do(keep, _) | Step::Labelled(keep, ..) | Step::SpawnAt(keep, _) => {
+                self.at += 1;
+                self.keep = *keep;
+                Some(step)
             }
+            Step::Store(..) => self.pass(steps, self.at),
             Step::Jump(_)
             | Step::Unless(..)
             | Step::Label(_)
