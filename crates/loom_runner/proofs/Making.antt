@@ -5,7 +5,7 @@ use Rattle.std.proofs.lemmas.List.Edits.{length-swap}
 use Rattle.loom_parts.specs.declared.choice.Choice.{Choice}
 use Rattle.loom_engine.specs.declared.rt.execution.Limits.{Limits}
 use Rattle.loom_path.specs.Routes.{Route}
-use Rattle.loom_turns.specs.declared.stop.Stop.{Stop}
+use Rattle.loom_turn_parts.specs.declared.stop.Stop.{Stop}
 use Rattle.loom_runner.specs.declared.rounds.Round.{Round}
 use Rattle.loom_runner.specs.declared.rounds.Round.TheVariants.{Broke, Last, Next}
 use Rattle.loom_turns.specs.Histories.{Log, Share, IsHistory, Settles}

@@ -2,9 +2,9 @@ use Rattle.std.proofs.Common.{◌≡◌, ℕ, Bool, true, false, cond, List, [],
 use Rattle.std.specs.Prelude.{⊤}
 use Rattle.loom_objects.specs.declared.operation.Request.{Request}
 use Rattle.loom_objects.specs.declared.operation.Reply.{Reply}
-use Rattle.loom_turns.specs.declared.stop.Stop.{Stop}
-use Rattle.loom_turns.specs.declared.stop.Stop.TheVariants.{Failure, Memory, Refused}
-use Rattle.loom_turns.specs.declared.event.Entry.{Entry}
+use Rattle.loom_turn_parts.specs.declared.stop.Stop.{Stop}
+use Rattle.loom_turn_parts.specs.declared.stop.Stop.TheVariants.{Failure, Memory, Refused}
+use Rattle.loom_turn_parts.specs.declared.event.Entry.{Entry}
 use Rattle.loom_turns.specs.Histories.{entry, Share}
 use Rattle.loom_runner.specs.Tellings.{Teller, all_answered, with_open, failing, finishing, exiting, is_memory, ByStop, Remembers, Ends, Closes, Leading}
 

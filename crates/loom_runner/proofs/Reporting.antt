@@ -14,7 +14,7 @@ use Rattle.loom_model.specs.declared.model.Limit.{Limit}
 use Rattle.loom_model.specs.declared.model.Limit.TheVariants.{Permutations}
 use Rattle.loom_model.specs.declared.model.Report.TheVariants as report
 use Rattle.loom_model.specs.Settings.{explores, most_runs, search_of}
-use Rattle.loom_turns.specs.declared.stop.Stop.{Stop}
+use Rattle.loom_turn_parts.specs.declared.stop.Stop.{Stop}
 use Rattle.loom_turns.specs.Histories.{last_event, failed_by}
 use Rattle.loom_turn_laws.specs.Chains.{Follow}
 use Rattle.loom_turn_laws.specs.Chains as chains

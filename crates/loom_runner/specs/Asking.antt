@@ -4,7 +4,7 @@ use Rattle.loom_objects.specs.declared.operation.Request.{Request}
 use Rattle.loom_objects.specs.declared.operation.Reply.{Reply}
 use Rattle.loom_objects.specs.declared.operation.Reply.TheVariants.{Done, Locked, WouldBlock, Value, Exchanged, Data}
 use Rattle.loom_ops.specs.declared.sync.mutex.MutexGuard.{MutexGuard}
-use Rattle.loom_turns.specs.declared.event.Entry.{Entry}
+use Rattle.loom_turn_parts.specs.declared.event.Entry.{Entry}
 use Rattle.loom_runner.specs.declared.ask.Joined.{Joined}
 use Rattle.loom_runner.specs.declared.ask.Loaded.{Loaded}
 use Rattle.loom_runner.specs.declared.ask.Tried.{Tried}

@@ -16,7 +16,7 @@ use Rattle.loom_model.specs.declared.model.Limit.TheVariants.{Permutations}
 use Rattle.loom_model.specs.declared.model.Report.{Report}
 use Rattle.loom_model.specs.declared.model.Report.TheVariants as report
 use Rattle.loom_model.specs.Settings.{explores, most_runs, search_of}
-use Rattle.loom_turns.specs.declared.stop.Stop.{Stop}
+use Rattle.loom_turn_parts.specs.declared.stop.Stop.{Stop}
 use Rattle.loom_turns.specs.Histories.{Log, Share, IsHistory, Settles, last_event, ended_by, failed_by}
 use Rattle.loom_turn_laws.specs.Chains.{Run, GoesTo, IsAmong, choices_of, machine}
 use Rattle.loom_turn_laws.specs.Laws.{FailsSo}

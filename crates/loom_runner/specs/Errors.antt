@@ -2,8 +2,8 @@
 use Rattle.std.specs.Prelude.{ℕ}
 use Rattle.loom_runner.specs.declared.error.RunnerError.{RunnerError}
 use Rattle.loom_runner.specs.declared.error.RunnerError.TheVariants as error
-use Rattle.loom_turns.specs.declared.stop.Stop.{Stop}
-use Rattle.loom_turns.specs.declared.stop.Stop.TheVariants as stop
+use Rattle.loom_turn_parts.specs.declared.stop.Stop.{Stop}
+use Rattle.loom_turn_parts.specs.declared.stop.Stop.TheVariants as stop
 
 -- the number by which the program names an error
 abbrev pub number_of : RunnerError → ℕ

@@ -4,7 +4,7 @@ use Rattle.loom_parts.specs.declared.choice.Choice.{Choice}
 use Rattle.loom_parts.specs.declared.failure.Failure.{Failure}
 use Rattle.loom_engine.specs.declared.rt.execution.Limits.{Limits}
 use Rattle.loom_path.specs.Routes.{Route, chosen}
-use Rattle.loom_turns.specs.declared.stop.Stop.{Stop}
+use Rattle.loom_turn_parts.specs.declared.stop.Stop.{Stop}
 use Rattle.loom_runner.specs.declared.rounds.Round.{Round}
 use Rattle.loom_runner.specs.declared.rounds.Round.TheVariants.{Broke, Last, Next}
 use Rattle.loom_turns.specs.Histories.{Log, Share, IsHistory, Settles, last_event, ended_by, failed_by}

@@ -6,9 +6,9 @@ use Rattle.loom_objects.specs.declared.operation.Reply.{Reply}
 use Rattle.loom_objects.specs.declared.operation.Reply.TheVariants.{Spawned}
 use Rattle.loom_objects.specs.declared.operation.ThreadOp.{ThreadOp}
 use Rattle.loom_objects.specs.declared.operation.ThreadOp.TheVariants.{Spawn, Join, Current, Park, Unpark, Yield, Finish, Exit, End}
-use Rattle.loom_turns.specs.declared.stop.Stop.{Stop}
-use Rattle.loom_turns.specs.declared.stop.Stop.TheVariants.{Failure, Memory, Refused}
-use Rattle.loom_turns.specs.declared.event.Entry.{Entry}
+use Rattle.loom_turn_parts.specs.declared.stop.Stop.{Stop}
+use Rattle.loom_turn_parts.specs.declared.stop.Stop.TheVariants.{Failure, Memory, Refused}
+use Rattle.loom_turn_parts.specs.declared.event.Entry.{Entry}
 use Rattle.loom_turns.specs.Histories.{entry, Share, share}
 
 module _ {D : Type 0} where

@@ -22,9 +22,9 @@ use Rattle.loom_runs.proofs.Runs.Steps.{submit_event}
 use Rattle.loom_path.specs.Routes.{Route, IsSameSearch, trail}
 use Rattle.loom_engine.specs.declared.rt.execution.Limits.{Limits}
 use Rattle.loom_engine.specs.Execution.{ShowsCourse}
-use Rattle.loom_turns.specs.declared.event.Event.{Event}
-use Rattle.loom_turns.specs.declared.event.Outcome.{Outcome}
-use Rattle.loom_turns.specs.declared.event.Outcome.TheVariants.{Went, Failed}
+use Rattle.loom_turn_parts.specs.declared.event.Event.{Event}
+use Rattle.loom_turn_parts.specs.declared.event.Outcome.{Outcome}
+use Rattle.loom_turn_parts.specs.declared.event.Outcome.TheVariants.{Went, Failed}
 use Rattle.loom_turns.specs.Histories.{Moment, Happens, Leads, IsHistory, last_event, ended, failing, ended_by, failed_by, first}
 use Rattle.loom_turn_laws.specs.Chains.{handing}
 

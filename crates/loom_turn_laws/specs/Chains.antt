@@ -14,7 +14,7 @@ use Rattle.loom_runs.specs.Machine.{submit}
 use Rattle.loom_runs.specs.Runs.{at_turn}
 use Rattle.loom_path.specs.Routes.{Route, at_rest, chosen, Steps}
 use Rattle.loom_engine.specs.declared.rt.execution.Limits.{Limits}
-use Rattle.loom_turns.specs.declared.event.Event.{Event}
+use Rattle.loom_turn_parts.specs.declared.event.Event.{Event}
 use Rattle.loom_turns.specs.Histories.{Moment, IsHistory, last_event, ended_by, failed_by}
 
 -- from this path the search goes on to that one, or nothing is left that it tries

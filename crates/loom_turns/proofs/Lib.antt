@@ -1,3 +1,1 @@
-pub mod Parts
 pub mod Leading
-pub mod Settling

@@ -1,9 +1,9 @@
 //! The state of a run that threads share, with its history, and what each of them was told of it. No thread is started here, and
-//! nothing waits: `loom_runner` puts a `Turns` under its lock.
+//! nothing waits: `loom_runner` puts a `Turns` under its lock. What needs no execution stands in `loom_turn_parts`, which hands
+//! its types on here.
 #![tactic(auto)]
 
-pub mod event;
-mod same;
-pub mod stop;
-pub mod told;
+mod place;
 pub mod turns;
+
+pub use loom_turn_parts::{event, stop, told};

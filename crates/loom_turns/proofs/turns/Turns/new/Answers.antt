@@ -1,5 +1,3 @@
-use Rattle.std.proofs.Common.{◌≡◌, [], ◌∷◌}
-use Rattle.std.proofs.lemmas.Slice.{pushed}
 use Rattle.loom_turns.proofs.Leading.{kept_opening}
 use Rattle.loom_turns.proofs.turns.Turns.new.Goals as goal
 
@@ -8,7 +6,7 @@ invariant_of-result g c =
     let a = c.in_ok-execution.ensures in
     let b = c.in_ok-began.ensures in
     let d = c.in_ok-path.ensures in
-    kept_opening _ _ _ _ _ _ c.new-2.ensures.items (pushed {now = c.push.new.self.items} (0 ∷ []) c.new-counts.ensures.items c.in_ok-push.was c.push.ensures.items) (cc) a.over (rw b (a.opens c.args.path.now.explores c.args.path.now c.requires.starts))
+    kept_opening _ _ _ _ _ c.in_ok-history.ensures (cc) a.over (rw b (a.opens c.args.path.now.explores c.args.path.now c.requires.starts))
 
 pub returns-clause-began : goal.returns-clause-began
 returns-clause-began g c = c.in_ok-began.ensures

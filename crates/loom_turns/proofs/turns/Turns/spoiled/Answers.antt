@@ -1,4 +1,4 @@
-use Rattle.std.proofs.Common.{◌≡◌, Option, None, subst}
+use Rattle.std.proofs.Common.{◌≡◌, None, subst}
 use Rattle.loom_turns.specs.Histories.{Log, IsHistory}
 use Rattle.loom_turns.proofs.turns.Turns.spoiled.Goals as goal
 
