@@ -6,13 +6,14 @@ use Rattle.loom_parts.specs.declared.choice.Choice.{Choice}
 use Rattle.loom_engine.specs.declared.rt.execution.Limits.{Limits}
 use Rattle.loom_path.specs.Routes.{Route}
 use Rattle.loom_turn_parts.specs.declared.stop.Stop.{Stop}
-use Rattle.loom_runner.specs.declared.rounds.Round.{Round}
-use Rattle.loom_runner.specs.declared.rounds.Round.TheVariants.{Broke, Last, Next}
+use Rattle.loom_runner_parts.specs.declared.rounds.Round.{Round}
+use Rattle.loom_runner_parts.specs.declared.rounds.Round.TheVariants.{Broke, Last, Next}
+use Rattle.loom_runner_parts.specs.Rounds.{StepsBy}
 use Rattle.loom_turns.specs.Histories.{Log, Share, IsHistory, Settles}
 use Rattle.loom_runner.specs.Tellings.{Teller, Leading, Closes, newcomer}
 use Rattle.loom_turn_laws.specs.Chains.{GoesTo}
 use Rattle.loom_runner.specs.Checks.{Made, MadeBy, Given, Rounds}
-use Rattle.loom_runner.specs.Rounds.{Checked, Gave, Judged, StepsBy, WasMade}
+use Rattle.loom_runner.specs.Rounds.{Checked, Gave, Judged, WasMade}
 
 -- places behind the first one are swapped
 pub first_stays : {X : Type 0} (xs ys : List X) (i j : ℕ) → ys ≡ swap xs i j → SwappedAt xs ys i j → 0 < i → 0 < j → slice_get ys 0 ≡ slice_get xs 0

@@ -6,6 +6,7 @@ use Rattle.loom_turn_parts.specs.declared.stop.Stop.{Stop}
 use Rattle.loom_turn_parts.specs.declared.stop.Stop.TheVariants.{Failure, Memory, Refused}
 use Rattle.loom_turn_parts.specs.declared.event.Entry.{Entry}
 use Rattle.loom_turns.specs.Histories.{entry, Share}
+use Rattle.loom_runner_parts.specs.Calls.{last_of}
 use Rattle.loom_runner.specs.Tellings.{Teller, all_answered, with_open, failing, finishing, exiting, is_memory, ByStop, Remembers, Ends, Closes, Leading}
 
 and_true : (b : Bool) → (b && true) ≡ b
@@ -38,6 +39,22 @@ by_each Memory p x = tt
 pub remembers_stop : {D : Type 0} (es es' : List (Entry D)) (op : Request D ⊤) (s : Stop) → es' ≡ es ++ entry op None ∷ [] → Remembers es' (Some s)
 remembers_stop es es' op s is = record { goes_on = λ n. cc n; stopped = by_each s _ (ap all_answered is ∙ answered_open es op) }
 
+-- the closure's last operation was answered by a stop
+pub closes_first : {D : Type 0} (told told1 : List (Entry D)) (op : Request D ⊤) (d : D) (s : Stop) (starved : Bool) → op ≡ finishing d → ByStop s (told1 ≡ with_open told op) (starved ≡ true)
+    → starved ≡ false → Closes told (Ok d) told1
+closes_first {D} told told1 op d s starved is =
+    let P : Request D ⊤ → Type 0 = λ x. ByStop s (told1 ≡ with_open told x) (starved ≡ true) → starved ≡ false → Closes told (Ok d) told1 in
+    subst P (sym is) (go s)
+  where
+    cased : (b : Bool) → told1 ≡ cond b (told ++ entry (finishing d) None ∷ []) told → MatchBool b (Ends told (Ok d) told1) (told1 ≡ told)
+    cased true e = inl e
+    cased false e = e
+
+    go : (t : Stop) → ByStop t (told1 ≡ with_open told (finishing d)) (starved ≡ true) → starved ≡ false → Closes told (Ok d) told1
+    go (Failure f) e fed = cased (all_answered told) e
+    go Refused e fed = cased (all_answered told) e
+    go Memory e fed = cc (e, fed)
+
 second : {D : Type 0} (told told1 told2 : List (Entry D)) (d : D) (r : Reply D) → all_answered told ≡ true → told1 ≡ told ++ entry (finishing d) (Some r) ∷ [] → told2 ≡ with_open told1 exiting
     → Closes told (Ok d) told2
 second told told1 told2 d r live one two =
@@ -47,7 +64,7 @@ second told told1 told2 d r live one two =
     let P : Bool → Type 0 = λ t. MatchBool t (Ends told (Ok d) told2) (told2 ≡ told) in
     subst P (sym live) (inr (r, None, e))
 
--- `finish` had its reply, and `exit` was answered by a stop
+-- it had its reply, and `exit` was answered by a stop
 pub closes_second : {D : Type 0} (told told1 told2 : List (Entry D)) (d : D) (r : Reply D) (s : Stop) (starved : Bool) → all_answered told ≡ true
     → told1 ≡ told ++ entry (finishing d) (Some r) ∷ [] → ByStop s (told2 ≡ with_open told1 exiting) (starved ≡ true) → starved ≡ false → Closes told (Ok d) told2
 closes_second told told1 told2 d r (Failure f) starved live one by fed = second told told1 told2 d r live one by
@@ -93,21 +110,24 @@ on_ok (Err e) P p = tt
 pub same_thread : {D : Type 0} (h0 h h1 : Teller D) → h ≡ h1 → h1.thread ≡ h0.thread → h.thread ≡ h0.thread
 same_thread {D} h0 h h1 is same = ap (λ (t : Teller D). t.thread) is ∙ same
 
+some_same : {A : Type 0} (x y : A) → Some x ≡ Some y → x ≡ y
+some_same x y is = cc is
+
 -- by the closure's result
-pub closes_value : {D : Type 0} (told : List (Entry D)) (answer : Result D Stop) (d : D) (h h1 : Teller D) → answer ≡ Ok d → h ≡ h1 → (h1.starved ≡ false → Closes told (Ok d) h1.told)
-    → h.starved ≡ false → Closes told answer h.told
-closes_value {D} told answer d h h1 given is closes =
-    let P : Teller D → Type 0 = λ t. t.starved ≡ false → Closes told answer t.told in
-    let Q : Result D Stop → Type 0 = λ a. h1.starved ≡ false → Closes told a h1.told in
-    subst P (sym is) (subst Q (sym given) closes)
+pub closes_value : {D : Type 0} (told : List (Entry D)) (answer : Result D Stop) (op : Request D ⊤) (h h1 : Teller D) → last_of answer ≡ Some op → h ≡ h1
+    → ((d : D) → op ≡ finishing d → h1.starved ≡ false → Closes told (Ok d) h1.told) → h.starved ≡ false → Closes told answer h.told
+closes_value {D} told (Ok d) op h h1 last is closes =
+    let P : Teller D → Type 0 = λ t. t.starved ≡ false → Closes told (Ok d) t.told in
+    subst P (sym is) (closes d (sym (some_same (finishing d) op last)))
+closes_value {D} told (Err stop) op h h1 last is closes = cc last
 
 -- by `fail`, for a stop
-pub closes_stop : {D : Type 0} (told : List (Entry D)) (answer : Result D Stop) (stop s : Stop) (h h1 : Teller D) → answer ≡ Err stop → h ≡ h1
+pub closes_stop : {D : Type 0} (told : List (Entry D)) (answer : Result D Stop) (s : Stop) (h h1 : Teller D) → last_of answer ≡ None → h ≡ h1
     → ByStop s (h1.told ≡ with_open told failing) (h1.starved ≡ true) → h.starved ≡ false → Closes told answer h.told
-closes_stop {D} told answer stop s h h1 given is by =
-    let P : Teller D → Type 0 = λ t. t.starved ≡ false → Closes told answer t.told in
-    let Q : Result D Stop → Type 0 = λ a. h1.starved ≡ false → Closes told a h1.told in
-    subst P (sym is) (subst Q (sym given) (go s by))
+closes_stop {D} told (Ok d) s h h1 last is by = cc last
+closes_stop {D} told (Err stop) s h h1 last is by =
+    let P : Teller D → Type 0 = λ t. t.starved ≡ false → Closes told (Err stop) t.told in
+    subst P (sym is) (go s by)
   where
     cased : (b : Bool) (x : List (Entry D)) → h1.told ≡ cond b x told → MatchBool b (h1.told ≡ x) (h1.told ≡ told)
     cased true x e = e

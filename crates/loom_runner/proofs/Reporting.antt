@@ -21,8 +21,10 @@ use Rattle.loom_turn_laws.specs.Chains as chains
 use Rattle.loom_turn_laws.proofs.Once.{once_law}
 use Rattle.loom_turn_laws.proofs.Alternatives.{alternatives_law}
 use Rattle.loom_turn_laws.proofs.Failing.{failure_law}
-use Rattle.loom_runner.specs.declared.rounds.Round.{Round}
-use Rattle.loom_runner.specs.declared.rounds.Round.TheVariants.{Broke, Last, Next}
+use Rattle.loom_runner_parts.specs.declared.rounds.After.TheVariants as comes
+use Rattle.loom_runner_parts.specs.declared.rounds.Round.{Round}
+use Rattle.loom_runner_parts.specs.declared.rounds.Round.TheVariants.{Broke, Last, Next}
+use Rattle.loom_runner_parts.specs.Rounds.{comes_after}
 use Rattle.loom_runner.specs.Tellings.{Teller}
 use Rattle.loom_runner.specs.Checks.{Made, MadeBy, Given, Rounds, Makes, HasAlternatives, HasFailed, Reports, run_of, runs_of, lists_of, limits_of, fresh_path}
 use Rattle.loom_runner.specs.Rounds.{WasMade}
@@ -39,24 +41,30 @@ some_more n = omega arith
 one_longer : {A : Type 0} (x : A) (l : List A) (n : ℕ) → length l ≡ n → length (x ∷ l) ≡ n + 1
 one_longer x l n counted = omega (arith, counted)
 
--- a round is of one kind, and has its own parts
-broke_last : {X : Type 0} (failure : Failure) (choices : Vec Choice Global) → Broke failure choices ≡ Last → X
-broke_last failure choices is = cc is
+-- what comes after a round is of one kind, and has its own parts
+failed_complete : {X : Type 0} (m n : ℕ) (failure : Failure) (choices : Vec Choice Global) → comes.Failed m failure choices ≡ comes.Complete n → X
+failed_complete m n failure choices is = cc is
 
-broke_next : {X : Type 0} (failure : Failure) (choices : Vec Choice Global) (path : Route) → Broke failure choices ≡ Next path → X
-broke_next failure choices path is = cc is
+failed_next : {X : Type 0} (m : ℕ) (failure : Failure) (choices : Vec Choice Global) (path : Route) → comes.Failed m failure choices ≡ comes.Next path → X
+failed_next m failure choices path is = cc is
 
-last_next : {X : Type 0} (path : Route) → Last ≡ Next path → X
-last_next path is = cc is
+complete_next : {X : Type 0} (n : ℕ) (path : Route) → comes.Complete n ≡ comes.Next path → X
+complete_next n path is = cc is
 
-same_next : (path other : Route) → Next path ≡ Next other → path ≡ other
+same_count : (m n : ℕ) → comes.Complete m ≡ comes.Complete n → m ≡ n
+same_count m n is = cc is
+
+same_next : (path other : Route) → comes.Next path ≡ comes.Next other → path ≡ other
 same_next path other is = cc is
 
-same_failure : (f g : Failure) (c d : Vec Choice Global) → Broke f c ≡ Broke g d → f ≡ g
-same_failure f g c d is = cc is
+same_runs : (m n : ℕ) (f g : Failure) (c d : Vec Choice Global) → comes.Failed m f c ≡ comes.Failed n g d → m ≡ n
+same_runs m n f g c d is = cc is
 
-same_choices : (f g : Failure) (c d : Vec Choice Global) → Broke f c ≡ Broke g d → c ≡ d
-same_choices f g c d is = cc is
+same_failure : (m n : ℕ) (f g : Failure) (c d : Vec Choice Global) → comes.Failed m f c ≡ comes.Failed n g d → f ≡ g
+same_failure m n f g c d is = cc is
+
+same_choices : (m n : ℕ) (f g : Failure) (c d : Vec Choice Global) → comes.Failed m f c ≡ comes.Failed n g d → c ≡ d
+same_choices m n f g c d is = cc is
 
 module _ {D F V : Type 0} (called : F → Teller D → Result D Stop → F → Teller D → Type 0) (takes : V → List Choice → D → V → Type 0) where
   -- The runs that were given so far, so many. The next one begins with this path.
@@ -114,23 +122,25 @@ module _ {D F V : Type 0} (called : F → Teller D → Result D Stop → F → T
     one_counted m = one_longer m so.runs count so.counted
 
     -- it was the last one
-    pub reports_last : (f' : F) (v' : V) (round : Round) → WasMade called takes (limits_of b) f v path round f' v' → round ≡ Last → Reports called takes b f0 v0 v' (report.Complete (count + 1))
-    reports_last f' v' (Broke x c) made is = broke_last x c is
-    reports_last f' v' (Next p) made is = last_next p (sym is)
-    reports_last f' v' Last (m, began, one, goes) is =
+    pub reports_last : (f' : F) (v' : V) (n : ℕ) (round : Round) → WasMade called takes (limits_of b) f v path round f' v' → comes_after count round ≡ comes.Complete n
+        → Reports called takes b f0 v0 v' (report.Complete n)
+    reports_last f' v' n (Broke x c) made is = failed_complete count n x c is
+    reports_last f' v' n (Next p) made is = complete_next n p (sym is)
+    reports_last f' v' n Last (m, began, one, goes) is =
         let rounds = one_more m f' v' None began one goes in
+        let counted : count + 1 ≡ n = same_count (count + 1) n is in
         record {
           after = f';
           runs = m ∷ so.runs;
-          counted = one_counted m;
+          counted = one_counted m ∙ counted;
           once = once b f0 v0 (m ∷ so.runs) f' v' None rounds;
-          says = record { given = rounds; some = some_more count; alternatives = alternatives b f0 v0 (m ∷ so.runs) f' v' rounds };
+          says = record { given = rounds; some = subst (λ (k : ℕ). 0 < k) counted (some_more count); alternatives = alternatives b f0 v0 (m ∷ so.runs) f' v' rounds };
         }
 
     -- the next one begins with this path
-    pub goes_next : (f' : F) (v' : V) (p : Route) (round : Round) → WasMade called takes (limits_of b) f v path round f' v' → round ≡ Next p → SoFar b f0 v0 f' v' p (count + 1)
-    goes_next f' v' p (Broke x c) made is = broke_next x c p is
-    goes_next f' v' p Last made is = last_next p is
+    pub goes_next : (f' : F) (v' : V) (p : Route) (round : Round) → WasMade called takes (limits_of b) f v path round f' v' → comes_after count round ≡ comes.Next p → SoFar b f0 v0 f' v' p (count + 1)
+    goes_next f' v' p (Broke x c) made is = failed_next count x c p is
+    goes_next f' v' p Last made is = complete_next (count + 1) p is
     goes_next f' v' p (Next q) (m, began, one, goes) is =
         let same = same_next q p is in
         record {
@@ -141,19 +151,19 @@ module _ {D F V : Type 0} (called : F → Teller D → Result D Stop → F → T
         }
 
     -- it has failed
-    pub reports_failed : (f' : F) (v' : V) (failure : Failure) (choices : Vec Choice Global) (round : Round) → WasMade called takes (limits_of b) f v path round f' v' → round ≡ Broke failure choices
-        → Reports called takes b f0 v0 v' (report.Failed count failure choices)
-    reports_failed f' v' failure choices Last made is = broke_last failure choices (sym is)
-    reports_failed f' v' failure choices (Next p) made is = broke_next failure choices p (sym is)
-    reports_failed f' v' failure choices (Broke x c) (m, began, one, broken, same) is =
-        let failed = broken.0 ∙ ap Some (same_failure x failure c choices is) in
-        let listed = ap (λ (l : Vec Choice Global). l.items) (sym (same_choices x failure c choices is)) ∙ broken.1 in
+    pub reports_failed : (f' : F) (v' : V) (n : ℕ) (failure : Failure) (choices : Vec Choice Global) (round : Round) → WasMade called takes (limits_of b) f v path round f' v'
+        → comes_after count round ≡ comes.Failed n failure choices → Reports called takes b f0 v0 v' (report.Failed n failure choices)
+    reports_failed f' v' n failure choices Last made is = failed_complete n (count + 1) failure choices (sym is)
+    reports_failed f' v' n failure choices (Next p) made is = failed_next n failure choices p (sym is)
+    reports_failed f' v' n failure choices (Broke x c) (m, began, one, broken, same) is =
+        let failed = broken.0 ∙ ap Some (same_failure count n x failure c choices is) in
+        let listed = ap (λ (l : Vec Choice Global). l.items) (sym (same_choices count n x failure c choices is)) ∙ broken.1 in
         let before : Makes called takes b f0 v0 so.runs f v (Some m.began) = subst (λ (r : Route). Makes called takes b f0 v0 so.runs f v (Some r)) (sym began) so.given in
         let says = fails b f0 v0 so.runs f v m f' failure choices.items before one failed listed in
         record {
           after = f';
           runs = so.runs;
-          counted = so.counted;
+          counted = so.counted ∙ same_runs count n x failure c choices is;
           once = once b f0 v0 so.runs f v (Some path) so.given;
           says = subst (λ (w : V). HasFailed called takes b f0 v0 so.runs f' w failure choices.items) (sym same) says;
         }

@@ -5,8 +5,8 @@ use Rattle.loom_parts.specs.declared.failure.Failure.{Failure}
 use Rattle.loom_engine.specs.declared.rt.execution.Limits.{Limits}
 use Rattle.loom_path.specs.Routes.{Route, chosen}
 use Rattle.loom_turn_parts.specs.declared.stop.Stop.{Stop}
-use Rattle.loom_runner.specs.declared.rounds.Round.{Round}
-use Rattle.loom_runner.specs.declared.rounds.Round.TheVariants.{Broke, Last, Next}
+use Rattle.loom_runner_parts.specs.declared.rounds.Round.{Round}
+use Rattle.loom_runner_parts.specs.declared.rounds.Round.TheVariants.{Broke, Last, Next}
 use Rattle.loom_turns.specs.Histories.{Log, Share, IsHistory, Settles, last_event, ended_by, failed_by}
 use Rattle.loom_runner.specs.Tellings.{Teller}
 use Rattle.loom_turn_laws.specs.Chains.{GoesTo}
@@ -22,12 +22,6 @@ pub record Gave {D V : Type 0} (takes : V → List Choice → D → V → Type 0
   pub value : D
   pub ended : ended_by (last_event log.history) ≡ Some value
   pub taken : takes v (chosen log.now.route) value v'
-
--- where the search goes from this path
-abbrev pub StepsBy : Route → Round → Type 0
-StepsBy path (Broke failure choices) = ⊥
-StepsBy path Last = GoesTo path None
-StepsBy path (Next next) = GoesTo path (Some next)
 
 -- the run failed so, under these choices
 abbrev pub HasBroken : {D : Type 0} → Log D → Failure → List Choice → Type 0

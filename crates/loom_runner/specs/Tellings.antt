@@ -1,15 +1,15 @@
 -- What the calls of a handle add to what its thread was told.
 use Rattle.std.specs.Prelude.{ℕ, ◌≡◌, ◌⊎◌, ◌&&◌, ⊤, Bool, true, false, cond, MatchBool, List, [], ◌∷◌, ◌++◌, Option, Some, None, is_some, IfSome, Result, Ok, Err, slice_get}
 use Rattle.loom_objects.specs.declared.operation.Request.{Request}
-use Rattle.loom_objects.specs.declared.operation.Request.TheVariants.{Thread, Fail}
+use Rattle.loom_objects.specs.declared.operation.Request.TheVariants.{Thread}
 use Rattle.loom_objects.specs.declared.operation.Reply.{Reply}
 use Rattle.loom_objects.specs.declared.operation.Reply.TheVariants.{Spawned}
-use Rattle.loom_objects.specs.declared.operation.ThreadOp.{ThreadOp}
-use Rattle.loom_objects.specs.declared.operation.ThreadOp.TheVariants.{Spawn, Join, Current, Park, Unpark, Yield, Finish, Exit, End}
+use Rattle.loom_objects.specs.declared.operation.ThreadOp.TheVariants.{Spawn, Exit}
 use Rattle.loom_turn_parts.specs.declared.stop.Stop.{Stop}
 use Rattle.loom_turn_parts.specs.declared.stop.Stop.TheVariants.{Failure, Memory, Refused}
 use Rattle.loom_turn_parts.specs.declared.event.Entry.{Entry}
 use Rattle.loom_turns.specs.Histories.{entry, Share, share}
+pub use Rattle.loom_runner_parts.specs.Calls.{failing, finishing, is_reserved, handed}
 
 module _ {D : Type 0} where
   -- each operation of the list has its reply
@@ -21,41 +21,13 @@ module _ {D : Type 0} where
   abbrev pub with_open : List (Entry D) → Request D ⊤ → List (Entry D)
   with_open es op = cond (all_answered es) (es ++ entry op None ∷ []) es
 
-  -- the body's own assertion failed
-  abbrev pub failing : Request D ⊤
-  failing = Fail
-
   -- a thread begins
   abbrev pub spawning : Request D ⊤
   spawning = Thread (Spawn tt None)
 
-  -- its work is over, with this result
-  abbrev pub finishing : D → Request D ⊤
-  finishing value = Thread (Finish value)
-
   -- it gives its own values back
   abbrev pub exiting : Request D ⊤
   exiting = Thread Exit
-
-  abbrev pub is_reserved_of_thread : ThreadOp D ⊤ → Bool
-  is_reserved_of_thread (Spawn started name) = true
-  is_reserved_of_thread (Join thread notifier) = false
-  is_reserved_of_thread Current = false
-  is_reserved_of_thread Park = false
-  is_reserved_of_thread (Unpark thread) = false
-  is_reserved_of_thread Yield = false
-  is_reserved_of_thread (Finish value) = true
-  is_reserved_of_thread Exit = true
-  is_reserved_of_thread End = true
-
-  -- spawns and the ends of threads are handed over by the handle's own calls
-  abbrev pub is_reserved : Request D ⊤ → Bool
-  is_reserved (Thread op) = is_reserved_of_thread op
-  is_reserved _ = false
-
-  -- a closure that hands such a one to `call` counts as having handed over `fail`
-  abbrev pub handed : Request D ⊤ → Request D ⊤
-  handed op = cond (is_reserved op) failing op
 
 -- one fact for each stop but memory, and another for memory
 abbrev pub ByStop : Stop → Type 0 → Type 0 → Type 0

@@ -7,9 +7,9 @@ ghost use Rattle.loom_runner.specs.Tellings.{spawning};
 use crate::shared::{Child, Children};
 use loom_copies::exact::Exact;
 use loom_copies::operations::copy_request;
-use loom_copies::replies::copy_reply;
 use loom_objects::operation::{Reply, Request, ThreadOp};
 use loom_ops::thread::JoinHandle;
+use loom_runner_parts::calls::keep;
 use loom_turns::event::Entry;
 use loom_turns::stop::Stop;
 use std::alloc::Global;
@@ -51,26 +51,9 @@ pub(crate) fn note<D: Exact>(
     ensures answered { IfOk result (λ reply. told.new.items ≡ told.old.items ++ entry op (Some reply) ∷ []) }
     ensures stopped { IfErr result (λ stop. told.new.items ≡ told.old.items ++ entry op None ∷ []) }
 {
-    let (reply, answer) = kept_of(alloc, answer);
+    let (reply, answer) = keep(alloc, answer);
     told.push_reserved(Entry { op, reply });
     answer
-}
-
-/// What is kept of an answer: a copy of the reply.
-fn kept_of<D: Exact>(
-    alloc: Global,
-    answer: Result<Reply<D>, Stop>,
-) -> (Option<Reply<D>>, Result<Reply<D>, Stop>)
-    ensures answered { IfOk result.1 (λ reply. result.0 ≡ Some reply) }
-    ensures stopped { IfErr result.1 (λ stop. result.0 ≡ None) }
-{
-    match answer {
-        Ok(reply) => match copy_reply(alloc, &reply) {
-            Ok(again) => (Some(again), Ok(reply)),
-            Err(_) => (None, Err(Stop::Memory)),
-        },
-        Err(stop) => (None, Err(stop)),
-    }
 }
 
 /// Adds a spawn, and the thread that it has started.

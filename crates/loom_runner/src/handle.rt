@@ -2,7 +2,7 @@
 ghost use Rattle.std.specs.Prelude.{◌≡◌, ◌++◌, ◌∷◌, [], IfOk, IfErr, OnOk, MatchOption, Some, Ok, Err, true, false, slice_get};
 ghost use Rattle.loom_objects.specs.declared.operation.Reply.TheVariants as reply;
 ghost use Rattle.loom_turns.specs.Histories.{entry};
-ghost use Rattle.loom_runner.specs.Tellings.{newcomer, with_open, failing, handed, is_reserved, spawning, ByStop, Closes, all_answered, is_memory, Leading};
+ghost use Rattle.loom_runner.specs.Tellings.{newcomer, with_open, failing, finishing, handed, spawning, ByStop, Closes, all_answered, is_memory, Leading};
 
 use crate::entries::{has_room, note, note_spawn, prepare};
 use crate::error::RunnerError;
@@ -11,6 +11,7 @@ use crate::shared::{self, Children, Shared};
 use loom_copies::exact::Exact;
 use loom_objects::operation::{Reply, Request, ThreadOp};
 use loom_ops::thread::JoinHandle;
+use loom_runner_parts::calls::{allowed, last_of};
 use loom_turns::event::Entry;
 use loom_turns::stop::Stop;
 use loom_turns::told::Told;
@@ -42,16 +43,6 @@ impl<D, R> Model for Handle<D, R> {
     ghost invariant = { λ h. Remembers h.told.items h.stop };
 }
 
-/// Whether the operation is one that no closure hands over by `call`: a spawn, and each of a thread's end.
-fn is_reserved<D>(op: &Request<D, ()>) -> bool
-    ensures { result ≡ is_reserved op.now }
-{
-    matches!(
-        op,
-        Request::Thread(ThreadOp::Spawn(..) | ThreadOp::Finish(_) | ThreadOp::Exit | ThreadOp::End)
-    )
-}
-
 impl<D: Exact + 'static, R: Wait> Handle<D, R> {
     /// Hands over an operation, and waits for its reply. A spawn, and an operation of a thread's end, fails the run as an
     /// assertion: for these there are `spawn` and the closure's own end. After a stop each call answers it again (own).
@@ -61,10 +52,9 @@ impl<D: Exact + 'static, R: Wait> Handle<D, R> {
         ensures answered { IfOk result (λ reply. self.new.told ≡ self.old.told ++ entry request (Some reply) ∷ []) }
         ensures stopped { IfErr result (λ stop. ByStop stop (self.new.told ≡ with_open self.old.told (handed request)) (self.new.starved ≡ true)) }
     {
-        if is_reserved(&request) {
-            Err(self.fail())
-        } else {
-            self.hand_over(request)
+        match allowed(request) {
+            Some(op) => self.hand_over(op),
+            None => Err(self.fail()),
         }
     }
 
@@ -180,21 +170,21 @@ impl<D: Exact + 'static, R: Threads + Wait + Clone + Send + 'static> Handle<D, R
     pub fn close(mut self, answer: Result<D, Stop>) -> Result<Vec<Told<D>>, RunnerError>
         ensures told { IfOk result (λ all. Leading self.thread all.items (Closes self.told answer)) }
     {
-        match answer {
-            Ok(value) => self.finish(value),
-            Err(_) => {
+        match last_of(answer) {
+            Some(last) => self.finish(last),
+            None => {
                 self.fail();
             }
         }
         self.leave()
     }
 
-    /// Hands over `finish`, `exit` and `end`, up to the first that is answered by a stop.
-    fn finish(&mut self, value: D)
+    /// Hands over this `finish`, `exit` and `end`, up to the first that is answered by a stop.
+    fn finish(&mut self, last: Request<D, ()>)
         ensures thread { self.new.thread ≡ self.old.thread }
-        ensures told { self.new.starved ≡ false → Closes self.old.told (Ok value) self.new.told }
+        ensures told { (value : D) → last ≡ finishing value → self.new.starved ≡ false → Closes self.old.told (Ok value) self.new.told }
     {
-        let Ok(_) = self.hand_over(Request::Thread(ThreadOp::Finish(value))) else {
+        let Ok(_) = self.hand_over(last) else {
             return;
         };
         let Ok(_) = self.hand_over(Request::Thread(ThreadOp::Exit)) else {

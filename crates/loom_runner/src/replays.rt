@@ -7,7 +7,7 @@ ghost use Rattle.loom_runner.specs.Replays.{HasKept, Replays};
 
 use crate::error::RunnerError;
 use crate::handle::Handle;
-use crate::rounds::{Round, make_round};
+use crate::rounds::make_round;
 use loom_copies::exact::Exact;
 use loom_engine::rt::execution::Limits;
 use loom_model::builder::Builder;
@@ -15,6 +15,7 @@ use loom_model::model::Replay;
 use loom_model::visitor::Visitor;
 use loom_parts::choice::Choice;
 use loom_path::rt::path::Path;
+use loom_runner_parts::rounds::Round;
 use loom_turns::stop::Stop;
 use std::alloc::{AllocError, Global};
 use std::sync::Wait;

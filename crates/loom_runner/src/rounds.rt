@@ -5,7 +5,7 @@ ghost use Rattle.loom_model.specs.Settings.{most_runs, tested};
 ghost use Rattle.loom_path.specs.Routes.{IsAtStart};
 ghost use Rattle.loom_runner.specs.declared.error.RunnerError.TheVariants.{Settings};
 ghost use Rattle.loom_runner.specs.Checks.{Reports, fresh_path};
-ghost use Rattle.loom_runner.specs.Rounds.{Judged, StepsBy, WasMade};
+ghost use Rattle.loom_runner.specs.Rounds.{Judged, WasMade};
 
 use crate::calls::ask_closure;
 use crate::error::{RunnerError, error_by};
@@ -17,26 +17,14 @@ use loom_engine::rt::execution::Limits;
 use loom_model::builder::Builder;
 use loom_model::model::{Limit, Report};
 use loom_model::visitor::Visitor;
-use loom_parts::choice::Choice;
-use loom_parts::failure::Failure;
 use loom_path::rt::path::Path;
+use loom_runner_parts::rounds::{After, Round, comes_after, step};
 use loom_turns::stop::Stop;
 use loom_turns::told::Told;
 use loom_turns::turns::Turns;
 use std::alloc::Global;
 use std::sync::{Arc, Condvar, Mutex, Wait};
 use std::thread::Threads;
-
-/// What a run came to.
-#[derive(Drop)]
-pub(crate) enum Round {
-    /// It failed, under these choices.
-    Broke(Failure, Vec<Choice>),
-    /// It ended, and was the last one.
-    Last,
-    /// It ended, and the next one begins with this path.
-    Next(Path),
-}
 
 /// Makes one run of the closure after another, until nothing is left that the search tries, a run fails or `max_permutations`
 /// runs were made, and gives each that ended without a failure to the visitor (own; loom's `Builder::check` takes closures). The
@@ -69,16 +57,21 @@ pub fn check<
     let mut path = fresh_path(alloc, builder);
     let most = most_runs(builder);
     for runs in 0..most {
-        match make_round(rt, alloc, limits, &path, &mut closure, visitor)? {
-            Round::Broke(failure, choices) => {
+        let round = make_round(rt, alloc, limits, &path, &mut closure, visitor)?;
+        match comes_after(runs, round) {
+            After::Failed {
+                runs,
+                failure,
+                choices,
+            } => {
                 return Ok(Report::Failed {
                     runs,
                     failure,
                     choices,
                 });
             }
-            Round::Last => return Ok(Report::Complete { runs: runs + 1 }),
-            Round::Next(next) => path = next,
+            After::Complete { runs } => return Ok(Report::Complete { runs }),
+            After::Next(next) => path = next,
         }
     }
     Ok(Report::Stopped {
@@ -218,15 +211,4 @@ fn judge<D: Exact, V: Visitor<D>>(
         return Err(RunnerError::Memory);
     }
     Ok(step(next))
-}
-
-/// What comes after a run along this path.
-fn step(mut path: Path) -> Round
-    ensures { StepsBy path result }
-{
-    if path.step() {
-        Round::Next(path)
-    } else {
-        Round::Last
-    }
 }

@@ -1,4 +1,4 @@
-use Rattle.std.proofs.Common.{◌≡◌, refl, arith, rules}
+use Rattle.std.proofs.Common.{◌≡◌, ◌∙◌, refl, sym, arith, rules}
 use Rattle.std.specs.Fn.{CalledAtMut}
 use Rattle.loom_model.specs.declared.model.Limit.TheVariants.{Permutations}
 use Rattle.loom_model.specs.Settings.{tested}
@@ -16,23 +16,23 @@ pub loop-runs-preserved : goal.loop-runs-preserved
 loop-runs-preserved g c = record {
   callable = c.make_round.ensures.again;
   so =
-      goes_next (CalledAtMut g.F.FnMut) g.V.Visitor.takes c.loop-runs.invariant.so c.make_round.new.closure c.make_round.new.visitor c.in-Next.next c.in_ok-failure.field-0
-      c.in_ok-failure.ensures.made c.in-Next.is;
+      goes_next (CalledAtMut g.F.FnMut) g.V.Visitor.takes c.loop-runs.invariant.so c.make_round.new.closure c.make_round.new.visitor c.in-Next.next c.in_ok-round.round
+      c.in_ok-round.ensures.made (sym c.comes_after.ensures ∙ c.in-Next.is);
 }
 
-pub returns-in-Broke : goal.returns-in-Broke
-returns-in-Broke g c = record {
+pub returns-in-Failed : goal.returns-in-Failed
+returns-in-Failed g c = record {
   reports =
-      reports_failed (CalledAtMut g.F.FnMut) g.V.Visitor.takes c.loop-runs.invariant.so c.make_round.new.closure c.make_round.new.visitor c.in-Broke.failure c.in-Broke.choices
-      c.in_ok-failure.field-0 c.in_ok-failure.ensures.made c.in-Broke.is;
+      reports_failed (CalledAtMut g.F.FnMut) g.V.Visitor.takes c.loop-runs.invariant.so c.make_round.new.closure c.make_round.new.visitor c.in-Failed.runs c.in-Failed.failure c.in-Failed.choices
+      c.in_ok-round.round c.in_ok-round.ensures.made (sym c.comes_after.ensures ∙ c.in-Failed.is);
   refused = not_refused (tested c.args.builder.now) tt _ c.in_ok-test.ensures.tested;
 }
 
-pub returns-in-Last : goal.returns-in-Last
-returns-in-Last g c = record {
+pub returns-in-Complete : goal.returns-in-Complete
+returns-in-Complete g c = record {
   reports =
-      reports_last (CalledAtMut g.F.FnMut) g.V.Visitor.takes c.loop-runs.invariant.so c.make_round.new.closure c.make_round.new.visitor c.in_ok-failure.field-0
-      c.in_ok-failure.ensures.made c.in-Last.is;
+      reports_last (CalledAtMut g.F.FnMut) g.V.Visitor.takes c.loop-runs.invariant.so c.make_round.new.closure c.make_round.new.visitor c.in-Complete.runs c.in_ok-round.round
+      c.in_ok-round.ensures.made (sym c.comes_after.ensures ∙ c.in-Complete.is);
   refused = not_refused (tested c.args.builder.now) tt _ c.in_ok-test.ensures.tested;
 }
 

@@ -1,7 +1,8 @@
 use Rattle.std.proofs.Common.{◌∙◌, sym, subst, List, rules}
 use Rattle.loom_parts.specs.declared.choice.Choice.{Choice}
 use Rattle.loom_path.specs.Routes.{Route}
-use Rattle.loom_runner.specs.Rounds.{Checked, StepsBy}
+use Rattle.loom_runner_parts.specs.Rounds.{StepsBy}
+use Rattle.loom_runner.specs.Rounds.{Checked}
 use Rattle.loom_runner.proofs.Making.{checked, ok_gives, judged_step}
 use Rattle.loom_runner.proofs.rounds.judge.Goals as goal
 
