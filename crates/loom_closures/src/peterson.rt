@@ -8,7 +8,7 @@ use std::sync::Wait;
 use std::thread::Threads;
 
 /// The lock, as one of the two threads knows it.
-#[derive(Clone, Copy, Debug)]
+#[derive(Clone, Copy)]
 struct Side {
     /// Its own flag.
     mine: AtomicBool,
@@ -20,6 +20,8 @@ struct Side {
     turn: AtomicU64,
     /// What the lock guards.
     count: UnsafeCell,
+    /// The ordering of the fences.
+    fence: Ordering,
 }
 
 /// Main, with fences of this ordering: `SeqCst` is right, and `AcqRel` wrong, since both threads may find the other's flag down then.
@@ -27,46 +29,64 @@ pub fn petersons_lock<R: Threads + Wait + Clone + Send + 'static>(
     handle: &mut Handle<u64, R>,
     fence: Ordering,
 ) -> Result<u64, Stop> {
+    let side = new_lock(handle, fence)?;
+    add_beside(handle, &side)?;
+    let total = handle.with(&side.count, |count| *count)?;
+    handle.assert(total == 2)?;
+    Ok(0)
+}
+
+/// The lock, as main knows it.
+fn new_lock<R: Wait>(handle: &mut Handle<u64, R>, fence: Ordering) -> Result<Side, Stop> {
     let mine = handle.atomic(false)?;
     let theirs = handle.atomic(false)?;
     let turn = handle.atomic(0u64)?;
     let count = handle.unsafe_cell(0)?;
-    let side = Side {
+    Ok(Side {
         mine,
         theirs,
         other: 1,
         turn,
         count,
-    };
+        fence,
+    })
+}
+
+/// Main and another thread add one each, and main joins the other one.
+fn add_beside<R: Threads + Wait + Clone + Send + 'static>(
+    handle: &mut Handle<u64, R>,
+    side: &Side,
+) -> Result<u64, Stop> {
     let opposite = Side {
-        mine: theirs,
-        theirs: mine,
+        mine: side.theirs,
+        theirs: side.mine,
         other: 0,
-        ..side
+        ..*side
     };
-    let child = handle.spawn(move |handle| add_one(handle, &opposite, fence))?;
-    add_one(handle, &side, fence)?;
-    handle.join(&child)?;
-    let total = handle.with(&count, |count| *count)?;
-    handle.assert(total == 2)?;
-    Ok(0)
+    let child = handle.spawn(move |handle| add_one(handle, &opposite))?;
+    add_one(handle, side)?;
+    handle.join(&child)
 }
 
 /// Takes the lock, adds one, and frees the lock.
-fn add_one<R: Wait>(
-    handle: &mut Handle<u64, R>,
-    side: &Side,
-    fence: Ordering,
-) -> Result<u64, Stop> {
-    handle.store(&side.mine, true, Relaxed)?;
-    handle.fence(fence)?;
-    handle.store(&side.turn, side.other, Relaxed)?;
-    handle.fence(fence)?;
-    handle.until(|handle| {
-        let is_raised = handle.load(&side.theirs, Acquire)?;
-        Ok(!is_raised || handle.load(&side.turn, Acquire)? != side.other)
-    })?;
+fn add_one<R: Wait>(handle: &mut Handle<u64, R>, side: &Side) -> Result<u64, Stop> {
+    ask_for_lock(handle, side)?;
+    handle.until(|handle| may_enter(handle, side))?;
     handle.with_mut(&side.count, |count| *count = count.wrapping_add(1))?;
     handle.store(&side.mine, false, Release)?;
     Ok(0)
+}
+
+/// Raises the flag, and lets the other thread go first.
+fn ask_for_lock<R: Wait>(handle: &mut Handle<u64, R>, side: &Side) -> Result<(), Stop> {
+    handle.store(&side.mine, true, Relaxed)?;
+    handle.fence(side.fence)?;
+    handle.store(&side.turn, side.other, Relaxed)?;
+    handle.fence(side.fence)
+}
+
+/// Whether the other's flag is down, or the other one has let this thread go first.
+fn may_enter<R: Wait>(handle: &mut Handle<u64, R>, side: &Side) -> Result<bool, Stop> {
+    let is_raised = handle.load(&side.theirs, Acquire)?;
+    Ok(!is_raised || handle.load(&side.turn, Acquire)? != side.other)
 }

@@ -1,7 +1,7 @@
 //! A queue with room for one item, by a mutex and a condition variable. The mutex holds how many items there are. One thread puts two
 //! items in, another one puts one, and main takes all three out.
 use loom::runner::{Handle, Stop};
-use loom::sync::{Condvar, Mutex};
+use loom::sync::{Condvar, Mutex, MutexGuard};
 use std::sync::Wait;
 use std::thread::Threads;
 
@@ -15,7 +15,7 @@ pub enum Notifies {
 }
 
 /// The queue, as each thread knows it.
-#[derive(Clone, Copy, Debug)]
+#[derive(Clone, Copy)]
 struct Queue {
     items: Mutex,
     changed: Condvar,
@@ -27,39 +27,78 @@ pub fn through_queue<R: Threads + Wait + Clone + Send + 'static>(
     handle: &mut Handle<u64, R>,
     notifies: Notifies,
 ) -> Result<u64, Stop> {
+    let items = handle.mutex(0)?;
+    let changed = handle.condvar()?;
     let queue = Queue {
-        items: handle.mutex(0)?,
-        changed: handle.condvar()?,
+        items,
+        changed,
         notifies,
     };
-    handle.spawn(move |handle| {
-        put(handle, &queue)?;
-        put(handle, &queue)
-    })?;
-    handle.spawn(move |handle| put(handle, &queue))?;
-    take(handle, &queue)?;
-    take(handle, &queue)?;
-    take(handle, &queue)
+    start_putting(handle, queue, true)?;
+    start_putting(handle, queue, false)?;
+    take_three(handle, &queue)
+}
+
+/// Starts a thread that puts an item in, or two.
+fn start_putting<R: Threads + Wait + Clone + Send + 'static>(
+    handle: &mut Handle<u64, R>,
+    queue: Queue,
+    is_double: bool,
+) -> Result<(), Stop> {
+    handle.spawn(move |handle| put_in(handle, &queue, is_double))?;
+    Ok(())
+}
+
+/// Puts an item in, or two.
+fn put_in<R: Wait>(
+    handle: &mut Handle<u64, R>,
+    queue: &Queue,
+    is_double: bool,
+) -> Result<u64, Stop> {
+    if is_double {
+        put(handle, queue)?;
+    }
+    put(handle, queue)
+}
+
+/// Takes the three items out.
+fn take_three<R: Wait>(handle: &mut Handle<u64, R>, queue: &Queue) -> Result<u64, Stop> {
+    take(handle, queue)?;
+    take(handle, queue)?;
+    take(handle, queue)
 }
 
 /// Puts an item in, once there is room.
 fn put<R: Wait>(handle: &mut Handle<u64, R>, queue: &Queue) -> Result<u64, Stop> {
-    let (guard, items) = handle.lock(&queue.items)?;
-    let (guard, _) = handle.wait_while(&queue.changed, guard, items, |items| *items == 1)?;
-    handle.release(guard, 1)?;
-    notify(handle, queue)
+    let guard = enter(handle, queue, 1)?;
+    leave(handle, queue, guard, 1)
 }
 
 /// Takes an item out, once there is one.
 fn take<R: Wait>(handle: &mut Handle<u64, R>, queue: &Queue) -> Result<u64, Stop> {
-    let (guard, items) = handle.lock(&queue.items)?;
-    let (guard, _) = handle.wait_while(&queue.changed, guard, items, |items| *items == 0)?;
-    handle.release(guard, 0)?;
-    notify(handle, queue)
+    let guard = enter(handle, queue, 0)?;
+    leave(handle, queue, guard, 0)
 }
 
-/// Says that the queue has changed.
-fn notify<R: Wait>(handle: &mut Handle<u64, R>, queue: &Queue) -> Result<u64, Stop> {
+/// Waits until the queue holds something other than this.
+fn enter<R: Wait>(
+    handle: &mut Handle<u64, R>,
+    queue: &Queue,
+    old: u64,
+) -> Result<MutexGuard, Stop> {
+    let (guard, items) = handle.lock(&queue.items)?;
+    let (guard, _) = handle.wait_while(&queue.changed, guard, items, |items| *items == old)?;
+    Ok(guard)
+}
+
+/// The queue holds this now, and its change is told.
+fn leave<R: Wait>(
+    handle: &mut Handle<u64, R>,
+    queue: &Queue,
+    guard: MutexGuard,
+    items: u64,
+) -> Result<u64, Stop> {
+    handle.release(guard, items)?;
     match queue.notifies {
         Notifies::All => handle.notify_all(&queue.changed)?,
         Notifies::One => handle.notify_one(&queue.changed)?,

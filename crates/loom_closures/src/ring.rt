@@ -8,7 +8,7 @@ use std::sync::Wait;
 use std::thread::Threads;
 
 /// The ring, as both threads know it.
-#[derive(Clone, Copy, Debug)]
+#[derive(Clone, Copy)]
 struct Ring {
     /// How many items were taken out.
     taken: AtomicU64,
@@ -26,19 +26,23 @@ pub fn through_ring<R: Threads + Wait + Clone + Send + 'static>(
     handle: &mut Handle<u64, R>,
     publish: Ordering,
 ) -> Result<u64, Stop> {
-    let ring = Ring {
-        taken: handle.atomic(0u64)?,
-        put: handle.atomic(0u64)?,
-        even: handle.cell(0)?,
-        odd: handle.cell(0)?,
-    };
+    let ring = new_ring(handle)?;
     handle.spawn(move |handle| produce(handle, &ring, publish))?;
-    take(handle, &ring, 0, &ring.even, 11)?;
-    handle.store(&ring.taken, 1, Release)?;
-    take(handle, &ring, 1, &ring.odd, 12)?;
-    handle.store(&ring.taken, 2, Release)?;
-    take(handle, &ring, 2, &ring.even, 13)?;
-    Ok(0)
+    consume(handle, &ring)
+}
+
+/// A ring without an item.
+fn new_ring<R: Wait>(handle: &mut Handle<u64, R>) -> Result<Ring, Stop> {
+    let taken = handle.atomic(0u64)?;
+    let put = handle.atomic(0u64)?;
+    let even = handle.cell(0)?;
+    let odd = handle.cell(0)?;
+    Ok(Ring {
+        taken,
+        put,
+        even,
+        odd,
+    })
 }
 
 /// Puts three items in. The third one waits for room.
@@ -47,13 +51,33 @@ fn produce<R: Wait>(
     ring: &Ring,
     publish: Ordering,
 ) -> Result<u64, Stop> {
-    handle.set(&ring.even, 11)?;
-    handle.store(&ring.put, 1, publish)?;
-    handle.set(&ring.odd, 12)?;
-    handle.store(&ring.put, 2, publish)?;
-    handle.until(|handle| Ok(handle.load(&ring.taken, Acquire)? != 0))?;
-    handle.set(&ring.even, 13)?;
-    handle.store(&ring.put, 3, publish)?;
+    put(handle, ring, 1, 11, publish)?;
+    put(handle, ring, 2, 12, publish)?;
+    change_of(handle, &ring.taken, 0)?;
+    put(handle, ring, 3, 13, publish)?;
+    Ok(0)
+}
+
+/// Puts this item in, which makes so many.
+fn put<R: Wait>(
+    handle: &mut Handle<u64, R>,
+    ring: &Ring,
+    count: u64,
+    item: u64,
+    publish: Ordering,
+) -> Result<(), Stop> {
+    let cell = if count == 2 { &ring.odd } else { &ring.even };
+    handle.set(cell, item)?;
+    handle.store(&ring.put, count, publish)
+}
+
+/// Takes the three items out.
+fn consume<R: Wait>(handle: &mut Handle<u64, R>, ring: &Ring) -> Result<u64, Stop> {
+    take(handle, ring, 0, &ring.even, 11)?;
+    handle.store(&ring.taken, 1, Release)?;
+    take(handle, ring, 1, &ring.odd, 12)?;
+    handle.store(&ring.taken, 2, Release)?;
+    take(handle, ring, 2, &ring.even, 13)?;
     Ok(0)
 }
 
@@ -65,7 +89,16 @@ fn take<R: Wait>(
     cell: &Cell,
     wanted: u64,
 ) -> Result<(), Stop> {
-    handle.until(|handle| Ok(handle.load(&ring.put, Acquire)? != taken))?;
+    change_of(handle, &ring.put, taken)?;
     let item = handle.copied(cell)?;
     handle.assert(item == wanted)
+}
+
+/// Waits until the atomic holds something other than this.
+fn change_of<R: Wait>(
+    handle: &mut Handle<u64, R>,
+    atomic: &AtomicU64,
+    old: u64,
+) -> Result<(), Stop> {
+    handle.until(|handle| Ok(handle.load(atomic, Acquire)? != old))
 }

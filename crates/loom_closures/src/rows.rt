@@ -14,7 +14,7 @@ use std::sync::Wait;
 use std::thread::Threads;
 
 /// A row of closures.
-#[derive(Clone, Copy, Debug, PartialEq, Eq)]
+#[derive(Clone, Copy)]
 pub enum Row {
     /// Two threads lock two mutexes in opposite order.
     TwoMutexesDeadlock,
@@ -68,29 +68,25 @@ impl Row {
     /// The row that the words mean: one word, which is its name. A row of closures has no checkpoint file.
     pub fn meant_by(words: &[&str]) -> Option<Row> {
         match words {
-            [name] => ROWS.iter().find(|row| row.name() == *name).copied(),
+            [name] => named(*name),
             _ => None,
         }
     }
 
     /// The settings of the row's check.
     fn builder(self) -> Builder {
+        let mut builder = Builder::new();
         match self {
             Row::TwoMutexesDeadlock
             | Row::FetchAddAtomic
             | Row::GuardLeft
             | Row::Deaf
             | Row::Stops
-            | Row::StoreBuffering => Builder::new(),
-            Row::LockBeside | Row::Changes => Builder {
-                reduce: false,
-                ..Builder::new()
-            },
-            Row::PingPong => Builder {
-                max_branches: 200,
-                ..Builder::new()
-            },
+            | Row::StoreBuffering => {}
+            Row::LockBeside | Row::Changes => builder.reduce = false,
+            Row::PingPong => builder.max_branches = 200,
         }
+        builder
     }
 
     /// What a check of the row finds, by its own settings.
@@ -136,6 +132,16 @@ impl Row {
             Row::StoreBuffering => scenes::store_buffering(handle),
         }
     }
+}
+
+/// The row of this name.
+fn named(name: &str) -> Option<Row> {
+    for row in ROWS {
+        if row.name() == name {
+            return Some(row);
+        }
+    }
+    None
 }
 
 /// Checks the row, prints the line of the report, and answers its status. Where there is no report, it prints which error came, and

@@ -1,8 +1,9 @@
 // What the rows check: main's closure of each, and what its threads do.
 use loom::runner::{Handle, Stop};
 use loom::sync::Mutex;
-use loom::sync::atomic::AtomicUsize;
 use loom::sync::atomic::Ordering::{Acquire, Relaxed, Release};
+use loom::sync::atomic::{AtomicU64, AtomicUsize};
+use loom::thread::JoinHandle;
 use std::sync::Wait;
 use std::thread::Threads;
 
@@ -12,10 +13,28 @@ pub(crate) fn two_mutexes<R: Threads + Wait + Clone + Send + 'static>(
 ) -> Result<u64, Stop> {
     let one = handle.mutex(0)?;
     let other = handle.mutex(0)?;
-    let first = handle.spawn(move |handle| lock_both(handle, &one, &other))?;
-    let second = handle.spawn(move |handle| lock_both(handle, &other, &one))?;
+    lock_crosswise(handle, one, other)
+}
+
+/// Starts a thread for each order, and joins both.
+fn lock_crosswise<R: Threads + Wait + Clone + Send + 'static>(
+    handle: &mut Handle<u64, R>,
+    one: Mutex,
+    other: Mutex,
+) -> Result<u64, Stop> {
+    let first = start_locking(handle, one, other)?;
+    let second = start_locking(handle, other, one)?;
     handle.join(&first)?;
     handle.join(&second)
+}
+
+/// Starts a thread that locks both.
+fn start_locking<R: Threads + Wait + Clone + Send + 'static>(
+    handle: &mut Handle<u64, R>,
+    outer: Mutex,
+    inner: Mutex,
+) -> Result<JoinHandle, Stop> {
+    handle.spawn(move |handle| lock_both(handle, &outer, &inner))
 }
 
 /// Holds the one while it locks the other.
@@ -49,9 +68,15 @@ pub(crate) fn lock_beside<R: Threads + Wait + Clone + Send + 'static>(
 ) -> Result<u64, Stop> {
     let mutex = handle.mutex(0)?;
     handle.spawn(|_| Ok(3))?;
-    let (guard, value) = handle.lock(&mutex)?;
-    handle.release(guard, value)?;
+    pass_through(handle, &mutex)?;
     Ok(7)
+}
+
+/// Locks the mutex, and releases it.
+fn pass_through<R: Wait>(handle: &mut Handle<u64, R>, mutex: &Mutex) -> Result<u64, Stop> {
+    let (guard, value) = handle.lock(mutex)?;
+    handle.release(guard, value)?;
+    Ok(3)
 }
 
 /// Main stores 1 and 3, and another thread 2 in between: each waits for what the other stores.
@@ -60,16 +85,24 @@ pub(crate) fn ping_pong<R: Threads + Wait + Clone + Send + 'static>(
 ) -> Result<u64, Stop> {
     handle.stop_exploring()?;
     let ball = handle.atomic(0usize)?;
-    let child = handle.spawn(move |handle| {
-        wait_for(handle, &ball, 1)?;
-        handle.store(&ball, 2, Release)?;
-        wait_for(handle, &ball, 3)?;
-        Ok(0)
-    })?;
-    handle.store(&ball, 1, Release)?;
-    wait_for(handle, &ball, 2)?;
-    handle.store(&ball, 3, Release)?;
+    let child = handle.spawn(move |handle| pong(handle, &ball))?;
+    ping(handle, &ball)?;
     handle.join(&child)
+}
+
+/// Stores 1, waits for 2, and stores 3.
+fn ping<R: Wait>(handle: &mut Handle<u64, R>, ball: &AtomicUsize) -> Result<(), Stop> {
+    handle.store(ball, 1, Release)?;
+    wait_for(handle, ball, 2)?;
+    handle.store(ball, 3, Release)
+}
+
+/// Waits for 1, stores 2, and waits for 3.
+fn pong<R: Wait>(handle: &mut Handle<u64, R>, ball: &AtomicUsize) -> Result<u64, Stop> {
+    wait_for(handle, ball, 1)?;
+    handle.store(ball, 2, Release)?;
+    wait_for(handle, ball, 3)?;
+    Ok(0)
 }
 
 /// Loads until it reads this, and yields in between.
@@ -86,11 +119,7 @@ pub(crate) fn guard_left<R: Threads + Wait + Clone + Send + 'static>(
     handle: &mut Handle<u64, R>,
 ) -> Result<u64, Stop> {
     let mutex = handle.mutex(0)?;
-    handle.spawn(move |handle| {
-        let (guard, value) = handle.lock(&mutex)?;
-        handle.release(guard, value)?;
-        Ok(3)
-    })?;
+    handle.spawn(move |handle| pass_through(handle, &mutex))?;
     handle.lock(&mutex)?;
     Ok(7)
 }
@@ -118,12 +147,18 @@ pub(crate) fn store_buffering<R: Threads + Wait + Clone + Send + 'static>(
 ) -> Result<u64, Stop> {
     let x = handle.atomic(0u64)?;
     let y = handle.atomic(0u64)?;
-    let child = handle.spawn(move |handle| {
-        handle.store(&x, 1, Relaxed)?;
-        handle.load(&y, Relaxed)
-    })?;
-    handle.store(&y, 1, Relaxed)?;
-    let mine = handle.load(&x, Relaxed)?;
+    let child = handle.spawn(move |handle| store_and_load(handle, &x, &y))?;
+    let mine = store_and_load(handle, &y, &x)?;
     let theirs = handle.join(&child)?;
     Ok(theirs.wrapping_mul(10).wrapping_add(mine))
+}
+
+/// Stores 1 to the one, and loads from the other.
+fn store_and_load<R: Wait>(
+    handle: &mut Handle<u64, R>,
+    mine: &AtomicU64,
+    theirs: &AtomicU64,
+) -> Result<u64, Stop> {
+    handle.store(mine, 1, Relaxed)?;
+    handle.load(theirs, Relaxed)
 }

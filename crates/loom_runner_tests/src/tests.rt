@@ -2,21 +2,17 @@ ghost use Rattle.std.specs.Prelude.{◌≡◌};
 
 mod bodies;
 mod ends;
+mod finding;
 mod forms;
 mod guide;
 mod rows;
 mod turns;
 
-use loom::model::Report;
-use loom::runner::{Handle, Job, RunnerError, Stop};
-use loom::visitor::Visitor;
-use loom::{Choice, FailureKind};
+use loom::Choice;
 use loom_copies::exact::Exact;
 use loom_objects::data::Data;
-use std::alloc::{AllocError, Global};
-use std::sync::atomic::{AtomicU64, Ordering};
-use std::sync::{Arc, Wait};
-use std::test::Fail;
+use std::alloc::AllocError;
+use std::process::Abort;
 
 const NONE: Choice = Choice::Thread(None);
 
@@ -42,73 +38,8 @@ impl Exact for Count {
     ghost same = { λ x y e. Prim.search rules };
 }
 
-/// A run that the visitor was given.
-#[derive(Drop)]
-struct Run {
-    choices: Vec<Choice>,
-    value: u64,
-}
-
-/// Keeps each run that it is given.
-#[derive(Drop)]
-struct Keeper {
-    alloc: Global,
-    runs: Vec<Run>,
-}
-
-impl Keeper {
-    fn new(alloc: Global) -> Keeper {
-        Keeper {
-            alloc,
-            runs: Vec::new(alloc),
-        }
-    }
-}
-
-impl Visitor<Count> for Keeper {
-    ghost takes = { λ old choices value new. Unit {0} };
-
-    fn run(&mut self, choices: &[Choice], value: Count) -> Result<(), AllocError> {
-        let choices = choices.to_vec(self.alloc)?;
-        self.runs.push(Run {
-            choices,
-            value: value.0,
-        })?;
-        Ok(())
-    }
-}
-
-/// Whether the check found this failure after so many runs, under these choices.
-fn fails(
-    report: &Result<Report, RunnerError>,
-    kind: FailureKind,
-    count: u64,
-    list: &[Choice],
-) -> bool {
-    match report {
-        Ok(
-            Report::Failed {
-                runs,
-                failure,
-                choices,
-            },
-        ) => failure.kind == kind && *runs == count && choices.as_slice() == list,
-        _ => false,
-    }
-}
-
-/// Whether the check made so many runs, and is complete.
-fn completes(report: &Result<Report, RunnerError>, count: u64) -> bool {
-    matches!(report, Ok(Report::Complete { runs }) if *runs == count)
-}
-
-/// Counts that it has started.
-#[derive(Drop)]
-struct Starter(Arc<AtomicU64, Global>);
-
-impl<R: Wait> Job<Count, R> for Starter {
-    fn run(self, _handle: &mut Handle<Count, R>) -> Result<Count, Stop> {
-        self.0.fetch_add(1, Ordering::SeqCst);
-        Ok(Count(3))
-    }
+/// Ends the test where this doesn't hold. (An assertion costs the proof seconds wherever it stands, and a call of this next to
+/// nothing.)
+fn holds(rt: &impl Abort, fact: bool) {
+    assert!(rt; fact);
 }

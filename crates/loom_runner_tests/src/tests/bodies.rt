@@ -3,7 +3,7 @@
 use loom::FailureKind;
 use loom::builder::Builder;
 use loom::model::Report;
-use loom::runner::{Handle, Nobody, check};
+use loom::runner::{Handle, Nobody, RunnerError, Stop, check};
 use loom_closures::peterson::petersons_lock;
 use loom_closures::queue::{Notifies, through_queue};
 use loom_closures::ring::through_ring;
@@ -11,94 +11,143 @@ use loom_closures::spin::spin_lock;
 use loom_examples::spin::Spin;
 use loom_examples::{peterson, queue, ring};
 use loom_scripts::script::Script;
+use loom_scripts::step::Step;
 use std::process::Abort;
+use std::rt::Files;
+use std::sync::Wait;
+use std::sync::atomic::Ordering;
 use std::sync::atomic::Ordering::{AcqRel, Relaxed, Release, SeqCst};
 use std::test::Fail;
+use std::thread::Threads;
 
-/// A search with at most so many preemptions.
-fn bounded(preemptions: usize) -> Builder {
-    Builder {
-        preemption_bound: Some(preemptions),
-        ..Builder::new()
+/// The closures, each with what its forms differ in.
+#[derive(Clone, Copy)]
+enum Closures {
+    Spin(Ordering),
+    Petersons(Ordering),
+    Ring(Ordering),
+    Queue(Notifies),
+}
+
+impl Closures {
+    /// What main does.
+    fn run<R: Threads + Wait + Clone + Send + 'static>(
+        self,
+        handle: &mut Handle<u64, R>,
+    ) -> Result<u64, Stop> {
+        match self {
+            Closures::Spin(release) => spin_lock(handle, release),
+            Closures::Petersons(fence) => petersons_lock(handle, fence),
+            Closures::Ring(publish) => through_ring(handle, publish),
+            Closures::Queue(notifies) => through_queue(handle, notifies),
+        }
+    }
+
+    /// What a check finds.
+    fn check<R: AllocGlobal + Threads + Wait + Clone + Send + 'static>(
+        self,
+        rt: &R,
+        builder: &Builder,
+    ) -> Result<Report, RunnerError> {
+        let main = |handle: &mut Handle<u64, R>| self.run(handle);
+        check(rt, rt.alloc(), builder, main, &mut Nobody)
     }
 }
 
-/// The closures' check is complete, and so is the bodies', after as many runs.
-fn both_complete(rt: &impl Abort, closures: &Report, bodies: &Report) -> Result<(), Fail> {
-    assert!(rt; closures.is_complete(), "{closures}");
-    assert!(rt; closures == bodies, "{closures}, but {bodies}");
+/// Whether the check is complete, or a run failed by this kind.
+fn ends_by(report: &Report, kind: Option<FailureKind>) -> bool {
+    match report {
+        Report::Complete { .. } => kind.is_none(),
+        Report::Failed { failure, .. } => kind == Some(failure.kind),
+        Report::Stopped { .. } => false,
+    }
+}
+
+/// The closures' check is complete, or a run of them failed by this kind; and the bodies' check found the same, after as many runs.
+fn both_find<R: Abort + AllocGlobal + Threads + Wait + Clone + Send + 'static>(
+    rt: &R,
+    builder: &Builder,
+    closures: Closures,
+    bodies: &Report,
+    kind: Option<FailureKind>,
+) -> Result<(), Fail> {
+    let closures = closures.check(rt, builder)?;
+    let is_same = &closures == bodies;
+    assert!(rt;
+        ends_by(&closures, kind) && is_same,
+        "{closures}, and {bodies}"
+    );
     Ok(())
 }
 
-/// A run of the closures failed by this kind, and the same run of the bodies did.
-fn both_fail(
-    rt: &impl Abort,
-    closures: &Report,
-    bodies: &Report,
-    kind: FailureKind,
+/// The same, where the body is a script.
+fn finds_as_script<R: Abort + AllocGlobal + Files + Threads + Wait + Clone + Send + 'static>(
+    rt: &R,
+    builder: &Builder,
+    closures: Closures,
+    steps: &'static [Step],
+    kind: Option<FailureKind>,
 ) -> Result<(), Fail> {
-    assert!(rt;
-        matches!(closures, Report::Failed { failure, .. } if failure.kind == kind),
-        "{closures}"
-    );
-    assert!(rt; closures == bodies, "{closures}, but {bodies}");
-    Ok(())
+    let script = Script::new(rt.alloc(), steps)?;
+    let bodies = builder.check(rt, rt.alloc(), &script)?;
+    both_find(rt, builder, closures, &bodies, kind)
+}
+
+/// The same, where the body is a spin lock.
+fn finds_as_spin<R: Abort + AllocGlobal + Files + Threads + Wait + Clone + Send + 'static>(
+    rt: &R,
+    release: Ordering,
+    kind: Option<FailureKind>,
+) -> Result<(), Fail> {
+    let builder = Builder::new();
+    let bodies = builder.check(rt, rt.alloc(), &Spin::main(release))?;
+    both_find(rt, &builder, Closures::Spin(release), &bodies, kind)
 }
 
 #[test]
 fn a_spin_lock(rt: HostRuntime) -> Result<(), Fail> {
-    let builder = Builder::new();
-    let right = |handle: &mut Handle<u64, HostRuntime>| spin_lock(handle, Release);
-    let closures = check(&rt, rt.alloc(), &builder, right, &mut Nobody)?;
-    let bodies = builder.check(&rt, rt.alloc(), &Spin::main(Release))?;
-    both_complete(&rt, &closures, &bodies)?;
-    let wrong = |handle: &mut Handle<u64, HostRuntime>| spin_lock(handle, Relaxed);
-    let closures = check(&rt, rt.alloc(), &builder, wrong, &mut Nobody)?;
-    let bodies = builder.check(&rt, rt.alloc(), &Spin::main(Relaxed))?;
-    both_fail(&rt, &closures, &bodies, FailureKind::Race)
+    finds_as_spin(&rt, Release, None)?;
+    finds_as_spin(&rt, Relaxed, Some(FailureKind::Race))
 }
 
 #[test]
 fn petersons(rt: HostRuntime) -> Result<(), Fail> {
     let builder = Builder::new();
-    let right = |handle: &mut Handle<u64, HostRuntime>| petersons_lock(handle, SeqCst);
-    let closures = check(&rt, rt.alloc(), &builder, right, &mut Nobody)?;
-    let script = Script::new(rt.alloc(), peterson::RIGHT)?;
-    let bodies = builder.check(&rt, rt.alloc(), &script)?;
-    both_complete(&rt, &closures, &bodies)?;
-    let wrong = |handle: &mut Handle<u64, HostRuntime>| petersons_lock(handle, AcqRel);
-    let closures = check(&rt, rt.alloc(), &builder, wrong, &mut Nobody)?;
-    let script = Script::new(rt.alloc(), peterson::WRONG)?;
-    let bodies = builder.check(&rt, rt.alloc(), &script)?;
-    both_fail(&rt, &closures, &bodies, FailureKind::Race)
+    let (right, wrong) = (Closures::Petersons(SeqCst), Closures::Petersons(AcqRel));
+    finds_as_script(&rt, &builder, right, peterson::RIGHT, None)?;
+    finds_as_script(
+        &rt,
+        &builder,
+        wrong,
+        peterson::WRONG,
+        Some(FailureKind::Race),
+    )
 }
 
 #[test]
 fn a_ring(rt: HostRuntime) -> Result<(), Fail> {
-    let builder = bounded(2);
-    let right = |handle: &mut Handle<u64, HostRuntime>| through_ring(handle, Release);
-    let closures = check(&rt, rt.alloc(), &builder, right, &mut Nobody)?;
-    let script = Script::new(rt.alloc(), ring::RIGHT)?;
-    let bodies = builder.check(&rt, rt.alloc(), &script)?;
-    both_complete(&rt, &closures, &bodies)?;
-    let wrong = |handle: &mut Handle<u64, HostRuntime>| through_ring(handle, Relaxed);
-    let closures = check(&rt, rt.alloc(), &Builder::new(), wrong, &mut Nobody)?;
-    let script = Script::new(rt.alloc(), ring::WRONG)?;
-    let bodies = Builder::new().check(&rt, rt.alloc(), &script)?;
-    both_fail(&rt, &closures, &bodies, FailureKind::Race)
+    let mut builder = Builder::new();
+    let wrong = Closures::Ring(Relaxed);
+    finds_as_script(&rt, &builder, wrong, ring::WRONG, Some(FailureKind::Race))?;
+    // With few preemptions, as in the other tests of a ring.
+    builder.preemption_bound = Some(2);
+    finds_as_script(&rt, &builder, Closures::Ring(Release), ring::RIGHT, None)
 }
 
 #[test]
 fn a_queue(rt: HostRuntime) -> Result<(), Fail> {
-    let builder = bounded(1);
-    let right = |handle: &mut Handle<u64, HostRuntime>| through_queue(handle, Notifies::All);
-    let closures = check(&rt, rt.alloc(), &builder, right, &mut Nobody)?;
-    let script = Script::new(rt.alloc(), queue::RIGHT)?;
-    let bodies = builder.check(&rt, rt.alloc(), &script)?;
-    both_complete(&rt, &closures, &bodies)?;
-    let wrong = |handle: &mut Handle<u64, HostRuntime>| through_queue(handle, Notifies::One);
-    let closures = check(&rt, rt.alloc(), &builder, wrong, &mut Nobody)?;
-    let script = Script::new(rt.alloc(), queue::WRONG)?;
-    let bodies = builder.check(&rt, rt.alloc(), &script)?;
-    both_fail(&rt, &closures, &bodies, FailureKind::Deadlock)
+    let mut builder = Builder::new();
+    builder.preemption_bound = Some(1);
+    let (right, wrong) = (
+        Closures::Queue(Notifies::All),
+        Closures::Queue(Notifies::One),
+    );
+    finds_as_script(&rt, &builder, right, queue::RIGHT, None)?;
+    finds_as_script(
+        &rt,
+        &builder,
+        wrong,
+        queue::WRONG,
+        Some(FailureKind::Deadlock),
+    )
 }

@@ -1,13 +1,19 @@
 //! Closures that end otherwise than by their result, or not as in the run before.
-use crate::tests::{Count, Keeper, NONE, ONE, Starter, ZERO, fails};
-use loom::FailureKind;
+use crate::tests::finding::Wanted::{Fails, NoSettings};
+use crate::tests::finding::{Counter, Main, comes_to};
+use crate::tests::turns::lock_beside;
+use crate::tests::{Count, NONE, ONE, ZERO};
 use loom::builder::Builder;
-use loom::runner::{Handle, Job, RunnerError, Stop, check};
+use loom::runner::{Handle, Job, Stop};
 use loom::sync::Mutex;
-use std::alloc::Global;
+use loom::{Choice, FailureKind};
+use std::sync::Wait;
 use std::sync::atomic::Ordering;
-use std::sync::{Arc, Wait};
-use std::test::*;
+use std::test::Fail;
+use std::thread::Threads;
+
+/// The choices of a run without a branch point.
+static NO_CHOICES: [Choice; 0] = [];
 
 /// Locks the mutex, and releases it.
 #[derive(Drop)]
@@ -23,117 +29,74 @@ impl<R: Wait> Job<Count, R> for Waiter {
     }
 }
 
+/// Main locks a mutex, for which another thread waits, and ends without a release.
+pub(super) fn leave_guard<R: Threads + Wait + Clone + Send + 'static>(
+    handle: &mut Handle<Count, R>,
+) -> Result<Count, Stop> {
+    let mutex = handle.mutex(Count(0))?;
+    handle.spawn_job(Waiter { mutex })?;
+    handle.lock(&mutex)?;
+    Ok(Count(7))
+}
+
 #[test]
 fn guard_left_closures(rt: HostRuntime) -> Result<(), Fail> {
-    let alloc: Global = rt.alloc();
-    let report = check(
-        &rt,
-        alloc,
-        &Builder::new(),
-        |handle: &mut Handle<Count, HostRuntime>| {
-            let mutex = handle.mutex(Count(0))?;
-            handle.spawn_job(Waiter { mutex })?;
-            handle.lock(&mutex)?;
-            Ok(Count(7))
-        },
-        &mut Keeper::new(alloc),
-    );
-    assert!(rt;
-        fails(
-            &report,
-            FailureKind::Deadlock,
-            0,
-            [ZERO, ONE, NONE].as_slice()
-        )
-    );
-    Ok(())
+    let choices = [ZERO, ONE, NONE];
+    let wanted = Fails(FailureKind::Deadlock, 0, choices.as_slice());
+    comes_to(&rt, &Builder::new(), Main::GuardLeft, wanted, 1, 0)
+}
+
+/// Main is given a stop, calls twice more, and counts where it was given a stop each time.
+pub(super) fn pass_over_stops<R: Wait>(
+    handle: &mut Handle<Count, R>,
+    stops: &Counter,
+) -> Result<Count, Stop> {
+    handle.fail();
+    if handle.yield_now().is_err() && handle.mutex(Count(0)).is_err() {
+        stops.fetch_add(1, Ordering::SeqCst);
+    }
+    Ok(Count(0))
 }
 
 /// A closure that is given a stop, and calls once more, is given a stop again.
 #[test]
 fn closure_deaf(rt: HostRuntime) -> Result<(), Fail> {
-    let alloc: Global = rt.alloc();
-    let mut stops = 0u64;
-    let report = check(
-        &rt,
-        alloc,
-        &Builder::new(),
-        |handle: &mut Handle<Count, HostRuntime>| {
-            handle.fail();
-            if handle.yield_now().is_err() && handle.mutex(Count(0)).is_err() {
-                stops = stops.wrapping_add(1);
-            }
-            Ok(Count(0))
-        },
-        &mut Keeper::new(alloc),
-    );
-    assert!(rt; fails(&report, FailureKind::Assertion, 0, [].as_slice()));
-    assert_eq!(rt; stops, 1);
-    Ok(())
+    let wanted = Fails(FailureKind::Assertion, 0, NO_CHOICES.as_slice());
+    comes_to(&rt, &Builder::new(), Main::Deaf, wanted, 1, 1)
 }
 
 /// A closure that answers a stop without having been given one has failed.
 #[test]
 fn closure_stops(rt: HostRuntime) -> Result<(), Fail> {
-    let alloc: Global = rt.alloc();
-    let report = check(
-        &rt,
-        alloc,
-        &Builder::new(),
-        |_handle: &mut Handle<Count, HostRuntime>| Err(Stop::Memory),
-        &mut Keeper::new(alloc),
-    );
-    assert!(rt; fails(&report, FailureKind::Assertion, 0, [].as_slice()));
-    Ok(())
+    let wanted = Fails(FailureKind::Assertion, 0, NO_CHOICES.as_slice());
+    comes_to(&rt, &Builder::new(), Main::Stops, wanted, 1, 0)
+}
+
+/// Main does nothing from its second run on.
+pub(super) fn lock_or_finish<R: Threads + Wait + Clone + Send + 'static>(
+    handle: &mut Handle<Count, R>,
+    starts: &Counter,
+    is_first: bool,
+) -> Result<Count, Stop> {
+    if is_first {
+        lock_beside(handle, starts)
+    } else {
+        Ok(Count(7))
+    }
 }
 
 /// A closure that does something else from its second run on: it starts twice, and the other closure once.
 #[test]
 fn closure_changes(rt: HostRuntime) -> Result<(), Fail> {
-    let alloc: Global = rt.alloc();
-    let starts = Arc::new(alloc, std::sync::atomic::AtomicU64::new(0))?;
-    let builder = Builder {
-        reduce: false,
-        ..Builder::new()
-    };
-    let mut calls = 0u64;
-    let report = check(
-        &rt,
-        alloc,
-        &builder,
-        |handle: &mut Handle<Count, HostRuntime>| {
-            calls = calls.wrapping_add(1);
-            if calls == 1 {
-                let theirs = handle.allocated(Arc::try_clone(&starts))?;
-                let mutex = handle.mutex(Count(0))?;
-                handle.spawn_job(Starter(theirs))?;
-                let (guard, value) = handle.lock(&mutex)?;
-                handle.release(guard, value)?;
-            }
-            Ok(Count(7))
-        },
-        &mut Keeper::new(alloc),
-    );
-    assert!(rt; fails(&report, FailureKind::NotDeterministic, 1, [].as_slice()));
-    assert_eq!(rt; calls, 2);
-    assert_eq!(rt; starts.load(Ordering::SeqCst), 1);
-    Ok(())
+    let mut builder = Builder::new();
+    builder.reduce = false;
+    let wanted = Fails(FailureKind::NotDeterministic, 1, NO_CHOICES.as_slice());
+    comes_to(&rt, &builder, Main::Changes, wanted, 2, 1)
 }
 
 #[test]
 fn settings_are_refused(rt: HostRuntime) -> Result<(), Fail> {
-    let alloc: Global = rt.alloc();
-    let builder = Builder {
-        max_threads: 6,
-        ..Builder::new()
-    };
-    let report = check(
-        &rt,
-        alloc,
-        &builder,
-        |_handle: &mut Handle<Count, HostRuntime>| Ok(Count(0)),
-        &mut Keeper::new(alloc),
-    );
-    assert!(rt; matches!(report, Err(RunnerError::Settings(_))));
-    Ok(())
+    let mut builder = Builder::new();
+    builder.max_threads = 6;
+    comes_to(&rt, &builder, Main::Nothing, NoSettings, 0, 0)
 }

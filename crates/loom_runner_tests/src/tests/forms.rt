@@ -1,128 +1,201 @@
-//! Each short form once, by one thread or two: what it answers.
-use crate::tests::{Count, Keeper, completes};
-use loom::builder::Builder;
+//! Each short form once, by one thread or two: what it answers. (A function's cost grows with the square of the calls that it hands
+//! an error on from, so few stand in one.)
+use crate::tests::Count;
+use crate::tests::finding::{Main, passes};
+use loom::cell::{Cell, UnsafeCell};
 use loom::runner::ask::Loaded;
-use loom::runner::{Handle, Stop, TryRecvError, check};
+use loom::runner::{Handle, Stop, TryRecvError};
+use loom::sync::atomic::AtomicU64;
 use loom::sync::atomic::Ordering::{AcqRel, Acquire, Relaxed, SeqCst};
-use std::alloc::Global;
+use loom::sync::mpsc::{Receiver, Sender};
+use loom::sync::{Arc, Condvar, Mutex, Notify, RwLock};
+use loom::thread::Thread;
 use std::mem;
-use std::process::Abort;
 use std::sync::Wait;
-use std::test::*;
+use std::test::Fail;
 use std::thread::Threads;
 
-/// Checks the closure, all of whose runs end without a failure.
-fn passes<
-    R: Abort + Threads + Wait + Clone + Send + 'static,
-    F: FnMut(&mut Handle<Count, R>) -> Result<Count, Stop>,
->(rt: &R, alloc: Global, closure: F) -> Result<(), Fail>
-    requires { F.IsAlwaysCallable closure }
-{
-    let mut keeper = Keeper::new(alloc);
-    let report = check(rt, alloc, &Builder::new(), closure, &mut keeper);
-    let runs = keeper.runs.len() as u64;
-    assert!(rt; runs > 0);
-    assert!(rt; completes(&report, runs));
-    Ok(())
-}
-
 /// The read-modify-writes of one number after another.
-fn changes<R: Wait>(handle: &mut Handle<Count, R>) -> Result<Count, Stop> {
+pub(super) fn updates<R: Wait>(handle: &mut Handle<Count, R>) -> Result<Count, Stop> {
     let number = handle.atomic(6u64)?;
     let before = [
         handle.swap(&number, 12, AcqRel)?,
         handle.fetch_add(&number, 3, AcqRel)?,
         handle.fetch_sub(&number, 1, AcqRel)?,
-        handle.fetch_and(&number, 11, AcqRel)?,
-        handle.fetch_or(&number, 4, AcqRel)?,
     ];
-    handle.assert(before == [6, 12, 15, 14, 10])?;
+    handle.assert(before == [6, 12, 15])?;
+    more_updates(handle, &number)?;
+    exchanges(handle, &number)
+}
+
+/// Those that set bits, and one without a short form.
+fn more_updates<R: Wait>(handle: &mut Handle<Count, R>, number: &AtomicU64) -> Result<(), Stop> {
+    let before = [
+        handle.fetch_and(number, 11, AcqRel)?,
+        handle.fetch_or(number, 4, AcqRel)?,
+    ];
+    handle.assert(before == [14, 10])?;
     let Loaded(before) = handle.ask::<Loaded<u64>>(number.fetch_max(20, AcqRel).request)?;
-    handle.assert(before == 14)?;
-    let read = handle.compare_exchange(&number, 0, 1, SeqCst, Relaxed)?;
+    handle.assert(before == 14)
+}
+
+/// The compare-exchanges, a fence, and a load.
+fn exchanges<R: Wait>(handle: &mut Handle<Count, R>, number: &AtomicU64) -> Result<Count, Stop> {
+    let read = handle.compare_exchange(number, 0, 1, SeqCst, Relaxed)?;
     handle.assert(read == Err(20))?;
-    let read = handle.compare_exchange_weak(&number, 20, 1, SeqCst, Relaxed)?;
+    let read = handle.compare_exchange_weak(number, 20, 1, SeqCst, Relaxed)?;
     handle.assert(read == Ok(20))?;
     handle.fence(SeqCst)?;
-    let last = handle.load(&number, Acquire)?;
+    let last = handle.load(number, Acquire)?;
     Ok(Count(last))
 }
 
 /// Mutexes and read-write locks, tried while they are held and while they aren't.
-fn locks<R: Wait>(handle: &mut Handle<Count, R>) -> Result<Count, Stop> {
+pub(super) fn locks<R: Wait>(handle: &mut Handle<Count, R>) -> Result<Count, Stop> {
     let mutex = handle.mutex(Count(1))?;
-    let (guard, value) = handle.lock(&mutex)?;
-    let tried = handle.try_lock(&mutex)?;
+    try_held(handle, &mutex)?;
+    try_free(handle, &mutex)?;
+    let lock = handle.rw_lock(Count(3))?;
+    write(handle, &lock)?;
+    read_twice(handle, &lock)?;
+    replace(handle, &mutex)
+}
+
+/// A mutex is tried while it is held.
+fn try_held<R: Wait>(handle: &mut Handle<Count, R>, mutex: &Mutex) -> Result<(), Stop> {
+    let (guard, value) = handle.lock(mutex)?;
+    let tried = handle.try_lock(mutex)?;
     handle.assert(value == Count(1) && tried.is_none())?;
-    handle.release(guard, Count(2))?;
-    let Some((guard, value)) = handle.try_lock(&mutex)? else {
+    handle.release(guard, Count(2))
+}
+
+/// A mutex is tried while it isn't held.
+fn try_free<R: Wait>(handle: &mut Handle<Count, R>, mutex: &Mutex) -> Result<(), Stop> {
+    let Some((guard, value)) = handle.try_lock(mutex)? else {
         return Err(handle.fail());
     };
     handle.assert(value == Count(2))?;
-    handle.release(guard, value)?;
-    let lock = handle.rw_lock(Count(3))?;
-    let (guard, value) = handle.write(&lock)?;
+    handle.release(guard, value)
+}
+
+/// A read-write lock is written.
+fn write<R: Wait>(handle: &mut Handle<Count, R>, lock: &RwLock) -> Result<(), Stop> {
+    let (guard, value) = handle.write(lock)?;
     handle.assert(value == Count(3))?;
-    handle.release_write(guard, Count(4))?;
-    let (first, value) = handle.read(&lock)?;
-    let (second, again) = handle.read(&lock)?;
+    handle.release_write(guard, Count(4))
+}
+
+/// A read-write lock is read twice at a time.
+fn read_twice<R: Wait>(handle: &mut Handle<Count, R>, lock: &RwLock) -> Result<(), Stop> {
+    let (first, value) = handle.read(lock)?;
+    let (second, again) = handle.read(lock)?;
     handle.assert(value == Count(4) && again == Count(4))?;
     handle.release_read(first)?;
-    handle.release_read(second)?;
-    let before = handle.with_lock(&mutex, |data| mem::replace(data, Count(5)))?;
-    let now = handle.with_lock(&mutex, |data| *data)?;
+    handle.release_read(second)
+}
+
+/// A mutex is locked for a change, and for a look.
+fn replace<R: Wait>(handle: &mut Handle<Count, R>, mutex: &Mutex) -> Result<Count, Stop> {
+    let before = handle.with_lock(mutex, |data| mem::replace(data, Count(5)))?;
+    let now = handle.with_lock(mutex, |data| *data)?;
     handle.assert(before == Count(2) && now == Count(5))?;
     Ok(now)
 }
 
 /// Both kinds of cells, and counted references.
-fn data<R: Wait>(handle: &mut Handle<Count, R>) -> Result<Count, Stop> {
+pub(super) fn data<R: Wait>(handle: &mut Handle<Count, R>) -> Result<Count, Stop> {
     let open = handle.unsafe_cell(Count(1))?;
-    handle.with_mut(&open, |count| count.0 = 2)?;
-    let seen = handle.with(&open, |count| count.0)?;
-    let (pointer, value) = handle.get(&open)?;
-    handle.end(pointer)?;
-    let (pointer, again) = handle.get_mut(&open)?;
-    handle.end_mut(pointer, again)?;
-    handle.assert(seen == 2 && value == Count(2) && again == Count(2))?;
+    look(handle, &open)?;
+    open_and_end(handle, &open)?;
     let cell = handle.cell(Count(3))?;
-    handle.set(&cell, Count(4))?;
-    let now = handle.copied(&cell)?;
-    handle.assert(now == Count(4))?;
+    set(handle, &cell)?;
+    counted(handle)
+}
+
+/// A cell is changed and read by closures.
+fn look<R: Wait>(handle: &mut Handle<Count, R>, cell: &UnsafeCell) -> Result<(), Stop> {
+    handle.with_mut(cell, |count| count.0 = 2)?;
+    let seen = handle.with(cell, |count| count.0)?;
+    handle.assert(seen == 2)
+}
+
+/// A cell is read and written by accesses that are ended.
+fn open_and_end<R: Wait>(handle: &mut Handle<Count, R>, cell: &UnsafeCell) -> Result<(), Stop> {
+    let (pointer, value) = handle.get(cell)?;
+    handle.end(pointer)?;
+    let (pointer, again) = handle.get_mut(cell)?;
+    handle.end_mut(pointer, again)?;
+    handle.assert(value == Count(2) && again == Count(2))
+}
+
+/// A cell is written and read by accesses that end at once.
+fn set<R: Wait>(handle: &mut Handle<Count, R>, cell: &Cell) -> Result<(), Stop> {
+    handle.set(cell, Count(4))?;
+    let now = handle.copied(cell)?;
+    handle.assert(now == Count(4))
+}
+
+/// A counted reference, and one more of it.
+fn counted<R: Wait>(handle: &mut Handle<Count, R>) -> Result<Count, Stop> {
     let arc = handle.arc(Count(6))?;
     let other = handle.clone_arc(&arc)?;
     let value = handle.deref(&other)?;
     let count = handle.strong_count(&arc)?;
     handle.assert(value == Count(6) && count == 2)?;
-    let left = handle.drop_arc(other)?;
-    handle.assert(left.is_none())?;
-    let left = handle.drop_arc(arc)?;
-    handle.assert(left == Some(Count(6)))?;
+    drop_both(handle, arc, other)?;
     Ok(value)
 }
 
+/// The last one gives the value.
+fn drop_both<R: Wait>(handle: &mut Handle<Count, R>, arc: Arc, other: Arc) -> Result<(), Stop> {
+    let left = handle.drop_arc(other)?;
+    handle.assert(left.is_none())?;
+    let left = handle.drop_arc(arc)?;
+    handle.assert(left == Some(Count(6)))
+}
+
 /// A channel with two senders, whose ends are dropped.
-fn messages<R: Wait>(handle: &mut Handle<Count, R>) -> Result<Count, Stop> {
+pub(super) fn messages<R: Wait>(handle: &mut Handle<Count, R>) -> Result<Count, Stop> {
     let (sender, receiver) = handle.channel()?;
     let none = handle.try_recv(&receiver)?;
     handle.assert(none == Err(TryRecvError::Empty))?;
-    let second = handle.clone_sender(&sender)?;
-    let first = handle.send(&sender, Count(1))?;
-    let other = handle.send(&second, Count(2))?;
-    handle.assert(first.is_ok() && other.is_ok())?;
-    handle.drop_sender(second)?;
-    let one = handle.recv(&receiver)?;
-    let two = handle.try_recv(&receiver)?;
-    handle.assert(one == Some(Count(1)) && two == Ok(Count(2)))?;
-    let left = handle.drop_receiver(receiver)?;
-    let late = handle.send(&sender, Count(3))?;
-    handle.assert(left.is_empty() && late == Err(Count(3)))?;
-    handle.drop_sender(sender)?;
+    send_two(handle, &sender)?;
+    receive_two(handle, &receiver)?;
+    send_late(handle, sender, receiver)?;
     Ok(Count(0))
 }
 
+/// Each of two senders sends, and one of them is dropped.
+fn send_two<R: Wait>(handle: &mut Handle<Count, R>, sender: &Sender) -> Result<(), Stop> {
+    let second = handle.clone_sender(sender)?;
+    let first = handle.send(sender, Count(1))?;
+    let other = handle.send(&second, Count(2))?;
+    handle.assert(first.is_ok() && other.is_ok())?;
+    handle.drop_sender(second)
+}
+
+/// Both messages are received.
+fn receive_two<R: Wait>(handle: &mut Handle<Count, R>, receiver: &Receiver) -> Result<(), Stop> {
+    let one = handle.recv(receiver)?;
+    let two = handle.try_recv(receiver)?;
+    handle.assert(one == Some(Count(1)) && two == Ok(Count(2)))
+}
+
+/// The receiver is dropped, and then a message is sent in vain.
+fn send_late<R: Wait>(
+    handle: &mut Handle<Count, R>,
+    sender: Sender,
+    receiver: Receiver,
+) -> Result<(), Stop> {
+    let left = handle.drop_receiver(receiver)?;
+    handle.assert(left.is_empty())?;
+    let late = handle.send(&sender, Count(3))?;
+    handle.assert(late == Err(Count(3)))?;
+    handle.drop_sender(sender)
+}
+
 /// The receiver of a channel without a sender is told so.
-fn no_messages<R: Wait>(handle: &mut Handle<Count, R>) -> Result<Count, Stop> {
+pub(super) fn no_messages<R: Wait>(handle: &mut Handle<Count, R>) -> Result<Count, Stop> {
     let (sender, receiver) = handle.channel()?;
     handle.drop_sender(sender)?;
     let none = handle.recv(&receiver)?;
@@ -130,66 +203,82 @@ fn no_messages<R: Wait>(handle: &mut Handle<Count, R>) -> Result<Count, Stop> {
     Ok(Count(0))
 }
 
-/// A thread waits for another by a notifier, then by a token, and then by a condition variable.
-fn waits<R: Threads + Wait + Clone + Send + 'static>(
+/// By what a thread waits for another: a notifier, then a token, and then a condition variable.
+#[derive(Clone, Copy)]
+struct Signals {
+    notifier: Notify,
+    waiter: Thread,
+    mutex: Mutex,
+    condvar: Condvar,
+}
+
+/// A thread waits for another by each signal.
+pub(super) fn waits<R: Threads + Wait + Clone + Send + 'static>(
     handle: &mut Handle<Count, R>,
 ) -> Result<Count, Stop> {
+    let signals = new_signals(handle)?;
+    let child = handle.spawn(move |handle| give_signals(handle, &signals))?;
+    await_signals(handle, &signals)?;
+    handle.join(&child)
+}
+
+/// The signals, of which this thread waits for each.
+fn new_signals<R: Wait>(handle: &mut Handle<Count, R>) -> Result<Signals, Stop> {
     let notifier = handle.notifier()?;
     let mutex = handle.mutex(Count(0))?;
     let condvar = handle.condvar()?;
-    let main = handle.current()?;
-    let child = handle.spawn(move |handle| {
-        handle.notify(&notifier)?;
-        handle.unpark(&main)?;
-        let (guard, _) = handle.lock(&mutex)?;
-        handle.release(guard, Count(1))?;
-        handle.notify_one(&condvar)?;
-        handle.notify_all(&condvar)?;
-        Ok(Count(9))
-    })?;
-    handle.wait_for(&notifier)?;
+    let waiter = handle.current()?;
+    Ok(Signals {
+        notifier,
+        waiter,
+        mutex,
+        condvar,
+    })
+}
+
+/// Gives each signal once, and the last one twice.
+fn give_signals<R: Wait>(handle: &mut Handle<Count, R>, signals: &Signals) -> Result<Count, Stop> {
+    handle.notify(&signals.notifier)?;
+    handle.unpark(&signals.waiter)?;
+    let (guard, _) = handle.lock(&signals.mutex)?;
+    handle.release(guard, Count(1))?;
+    handle.notify_one(&signals.condvar)?;
+    handle.notify_all(&signals.condvar)?;
+    Ok(Count(9))
+}
+
+/// Waits for each signal.
+fn await_signals<R: Wait>(handle: &mut Handle<Count, R>, signals: &Signals) -> Result<(), Stop> {
+    handle.wait_for(&signals.notifier)?;
     handle.park()?;
-    let (guard, value) = handle.lock(&mutex)?;
-    let (guard, value) = handle.wait_while(&condvar, guard, value, |value| value.0 == 0)?;
+    let (guard, value) = handle.lock(&signals.mutex)?;
+    let (guard, value) = handle.wait_while(&signals.condvar, guard, value, |value| value.0 == 0)?;
     handle.release(guard, value)?;
-    handle.assert(value == Count(1))?;
-    handle.join(&child)
+    handle.assert(value == Count(1))
 }
 
 #[test]
 fn changes_of_atomics(rt: HostRuntime) -> Result<(), Fail> {
-    passes(&rt, rt.alloc(), |handle: &mut Handle<Count, HostRuntime>| {
-        changes(handle)
-    })
+    passes(&rt, Main::Updates, 0)
 }
 
 #[test]
 fn locks_that_are_tried(rt: HostRuntime) -> Result<(), Fail> {
-    passes(&rt, rt.alloc(), |handle: &mut Handle<Count, HostRuntime>| {
-        locks(handle)
-    })
+    passes(&rt, Main::Locks, 0)
 }
 
 #[test]
 fn cells_and_references(rt: HostRuntime) -> Result<(), Fail> {
-    passes(&rt, rt.alloc(), |handle: &mut Handle<Count, HostRuntime>| {
-        data(handle)
-    })
+    passes(&rt, Main::Data, 0)
 }
 
 #[test]
 fn channels(rt: HostRuntime) -> Result<(), Fail> {
-    passes(&rt, rt.alloc(), |handle: &mut Handle<Count, HostRuntime>| {
-        messages(handle)
-    })?;
-    passes(&rt, rt.alloc(), |handle: &mut Handle<Count, HostRuntime>| {
-        no_messages(handle)
-    })
+    passes(&rt, Main::Messages, 0)?;
+    passes(&rt, Main::NoMessages, 0)
 }
 
 #[test]
 fn threads_that_wait(rt: HostRuntime) -> Result<(), Fail> {
-    passes(&rt, rt.alloc(), |handle: &mut Handle<Count, HostRuntime>| {
-        waits(handle)
-    })
+    passes(&rt, Main::Waits, 0)
 }

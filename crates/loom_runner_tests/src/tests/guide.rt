@@ -1,11 +1,12 @@
 //! Tests that stand in loom's own documents and tests, as closures.
-use loom::FailureKind;
+use crate::tests::holds;
 use loom::builder::Builder;
 use loom::model::{Replay, Report};
-use loom::runner::{Handle, Stop, model, replay};
+use loom::runner::{Handle, RunnerError, Stop, model, replay};
 use loom::sync::Mutex;
 use loom::sync::atomic::AtomicU64;
 use loom::sync::atomic::Ordering::{AcqRel, Acquire, Relaxed, Release};
+use loom::{Choice, Failure, FailureKind};
 use std::sync::Wait;
 use std::test::Fail;
 use std::thread::Threads;
@@ -90,50 +91,62 @@ fn lock_both<R: Wait>(
     handle.release(outer, ())
 }
 
+/// One run of that by these choices, and then by defaults.
+fn follow<R: AllocGlobal + Threads + Wait + Clone + Send + 'static>(
+    rt: &R,
+    choices: &[Choice],
+) -> Result<Replay<()>, RunnerError> {
+    let main = |handle: &mut Handle<(), R>| opposite_order(handle);
+    replay(rt, rt.alloc(), &Builder::new(), choices, main)
+}
+
+/// Whether the run failed by this kind.
+fn fails_by(run: &Replay<()>, kind: FailureKind) -> bool {
+    matches!(run, Replay::Failed { failure, .. } if failure.kind == kind)
+}
+
+/// Whether the run failed so, under these choices.
+fn is_again(run: &Replay<()>, wanted: &Failure, list: &[Choice]) -> bool {
+    match run {
+        Replay::Failed { failure, choices } => failure == wanted && choices.as_slice() == list,
+        Replay::Ended { .. } => false,
+    }
+}
+
+/// Whether the check has found a failure of this kind, and its choices make it again.
+fn comes_again<R: AllocGlobal + Threads + Wait + Clone + Send + 'static>(
+    rt: &R,
+    report: &Report,
+    kind: FailureKind,
+) -> Result<bool, RunnerError> {
+    match report {
+        Report::Failed {
+            failure,
+            choices,
+            ..
+        } => {
+            let again = follow(rt, choices.as_slice())?;
+            Ok(failure.kind == kind && is_again(&again, failure, choices.as_slice()))
+        }
+        Report::Complete { .. } | Report::Stopped { .. } => Ok(false),
+    }
+}
+
 /// The choices of a failure make it again.
 #[test]
 fn a_failure_comes_again(rt: HostRuntime) -> Result<(), Fail> {
     let main = |handle: &mut Handle<(), HostRuntime>| opposite_order(handle);
-    let Report::Failed {
-        failure,
-        choices,
-        ..
-    } = model(&rt, rt.alloc(), main)?
-    else {
-        panic!(rt; "a check that is complete");
-    };
-    assert_eq!(rt; failure.kind, FailureKind::Deadlock);
-    let main = |handle: &mut Handle<(), HostRuntime>| opposite_order(handle);
-    let again = replay(&rt, rt.alloc(), &Builder::new(), choices.as_slice(), main)?;
-    let Replay::Failed {
-        failure: same,
-        choices: taken,
-    } = again
-    else {
-        panic!(rt; "a run that ended");
-    };
-    assert_eq!(rt; same, failure);
-    assert_eq!(rt; taken.as_slice(), choices.as_slice());
+    let report = model(&rt, rt.alloc(), main)?;
+    holds(&rt, comes_again(&rt, &report, FailureKind::Deadlock)?);
     Ok(())
 }
 
 /// Without choices the first run is made, which ends here; a choice that is no option ends it otherwise.
 #[test]
 fn choices_that_are_none(rt: HostRuntime) -> Result<(), Fail> {
-    let builder = Builder::new();
-    let main = |handle: &mut Handle<(), HostRuntime>| opposite_order(handle);
-    let first = replay(&rt, rt.alloc(), &builder, &[], main)?;
-    assert!(rt; matches!(first, Replay::Ended { .. }));
-    let main = |handle: &mut Handle<(), HostRuntime>| opposite_order(handle);
-    let wrong = replay(
-        &rt,
-        rt.alloc(),
-        &builder,
-        &[loom::Choice::Thread(Some(4))],
-        main,
-    )?;
-    assert!(rt;
-        matches!(wrong, Replay::Failed { failure, .. } if failure.kind == FailureKind::NotDeterministic)
-    );
+    let first = follow(&rt, &[])?;
+    let wrong = follow(&rt, &[Choice::Thread(Some(4))])?;
+    holds(&rt, matches!(first, Replay::Ended { .. }));
+    holds(&rt, fails_by(&wrong, FailureKind::NotDeterministic));
     Ok(())
 }

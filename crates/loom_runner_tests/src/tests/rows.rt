@@ -1,4 +1,5 @@
 //! What the program prints of the rows that are closures.
+use crate::tests::holds;
 use loom_closures::rows::{ROWS, Row, run_row};
 use std::process::Abort;
 use std::sync::Wait;
@@ -6,7 +7,7 @@ use std::test::Fail;
 use std::thread::Threads;
 
 /// Each row's line and status.
-const LINES: [(&str, &str, u8); 9] = [
+static LINES: [(&str, &str, u8); 9] = [
     (
         "two_mutexes_deadlock_closures",
         "failed 2 3 t1 t1 t2 t2 t-\n",
@@ -22,7 +23,7 @@ const LINES: [(&str, &str, u8); 9] = [
     ("store_buffering_closures", "complete 30\n", 0),
 ];
 
-/// The row of this name prints this line, and has this status.
+/// The row of this name prints this line and nothing besides, and has this status.
 fn prints<R: Abort + AllocGlobal + Threads + Wait + Clone + Send + 'static>(
     rt: &R,
     name: &str,
@@ -35,20 +36,27 @@ fn prints<R: Abort + AllocGlobal + Threads + Wait + Clone + Send + 'static>(
     let mut out = Vec::new(rt.alloc());
     let mut err = Vec::new(rt.alloc());
     let answer = run_row(rt, row, &mut out, &mut err)?;
-    assert_eq!(rt; answer, status);
-    assert_eq!(rt; out.as_slice(), line.as_bytes());
-    assert!(rt; err.is_empty());
+    let is_line = out.as_slice() == line.as_bytes() && err.is_empty();
+    assert!(rt; is_line && answer == status, "{name}: {answer}");
+    Ok(())
+}
+
+/// Each row once.
+fn print_all<R: Abort + AllocGlobal + Threads + Wait + Clone + Send + 'static>(
+    rt: &R,
+) -> Result<(), Fail> {
+    for (name, line, status) in &LINES {
+        prints(rt, *name, *line, *status)?;
+    }
     Ok(())
 }
 
 /// Each row a hundred times: threads of the host take turns in one order, however the host lets them go on.
 #[test]
 fn rows_print_the_same_a_hundred_times(rt: HostRuntime) -> Result<(), Fail> {
-    assert_eq!(rt; ROWS.len(), LINES.len());
+    holds(&rt, ROWS.len() == LINES.len());
     for _ in 0..100 {
-        for (name, line, status) in LINES {
-            prints(&rt, name, line, status)?;
-        }
+        print_all(&rt)?;
     }
     Ok(())
 }
@@ -56,7 +64,10 @@ fn rows_print_the_same_a_hundred_times(rt: HostRuntime) -> Result<(), Fail> {
 /// A row of closures has no checkpoint file, so two words mean none.
 #[test]
 fn words_that_mean_no_row(rt: HostRuntime) {
-    assert!(rt; Row::meant_by(&["lock_beside_closures", "file"]).is_none());
-    assert!(rt; Row::meant_by(&["lock_beside"]).is_none());
-    assert!(rt; Row::meant_by(&[]).is_none());
+    holds(
+        &rt,
+        Row::meant_by(&["lock_beside_closures", "file"]).is_none(),
+    );
+    holds(&rt, Row::meant_by(&["lock_beside"]).is_none());
+    holds(&rt, Row::meant_by(&[]).is_none());
 }

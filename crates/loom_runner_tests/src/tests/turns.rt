@@ -1,37 +1,30 @@
 //! Closures take turns.
-use crate::tests::{Count, Keeper, NONE, ONE, Starter, TWO, ZERO, completes, fails};
-use loom::FailureKind;
+use crate::tests::finding::Wanted::{Complete, Fails};
+use crate::tests::finding::{Counter, Main, Run, Starter, comes_to, find, passes};
+use crate::tests::{Count, NONE, ONE, TWO, ZERO, holds};
 use loom::builder::Builder;
-use loom::runner::{Handle, Job, Stop, check};
+use loom::runner::{Handle, Job, Stop};
 use loom::sync::Mutex;
 use loom::sync::atomic::Ordering::{AcqRel, Acquire, Release};
 use loom::sync::atomic::{AtomicU64, AtomicUsize};
-use std::alloc::Global;
+use loom::thread::JoinHandle;
+use loom::{Choice, FailureKind};
 use std::sync::atomic::Ordering;
 use std::sync::{Arc, Wait};
-use std::test::*;
+use std::test::Fail;
+use std::thread::Threads;
 
-/// Locks one mutex and then the other, and says how often a call after a stop was answered by a stop.
+/// Locks one mutex and then the other, and counts where a call after a stop was answered by a stop.
 #[derive(Drop)]
 struct Locker {
     first: Mutex,
     second: Mutex,
-    stops: Arc<std::sync::atomic::AtomicU64, Global>,
-}
-
-impl Locker {
-    fn lock_both<R: Wait>(&self, handle: &mut Handle<Count, R>) -> Result<Count, Stop> {
-        let (outer, x) = handle.lock(&self.first)?;
-        let (inner, y) = handle.lock(&self.second)?;
-        handle.release(inner, y)?;
-        handle.release(outer, x)?;
-        Ok(Count(1))
-    }
+    stops: Counter,
 }
 
 impl<R: Wait> Job<Count, R> for Locker {
     fn run(self, handle: &mut Handle<Count, R>) -> Result<Count, Stop> {
-        let answer = self.lock_both(handle);
+        let answer = lock_both(handle, &self.first, &self.second);
         if answer.is_err() && handle.yield_now().is_err() {
             self.stops.fetch_add(1, Ordering::SeqCst);
         }
@@ -39,46 +32,68 @@ impl<R: Wait> Job<Count, R> for Locker {
     }
 }
 
+/// Holds the one while it locks the other.
+fn lock_both<R: Wait>(
+    handle: &mut Handle<Count, R>,
+    outer: &Mutex,
+    inner: &Mutex,
+) -> Result<Count, Stop> {
+    let (outer, x) = handle.lock(outer)?;
+    let (inner, y) = handle.lock(inner)?;
+    handle.release(inner, y)?;
+    handle.release(outer, x)?;
+    Ok(Count(1))
+}
+
+/// Two threads lock two mutexes in opposite order. They count the stops that they were given once more.
+pub(super) fn two_mutexes<R: Threads + Wait + Clone + Send + 'static>(
+    handle: &mut Handle<Count, R>,
+    stops: &Counter,
+) -> Result<Count, Stop> {
+    let a = handle.mutex(Count(0))?;
+    let b = handle.mutex(Count(0))?;
+    let first = start_locker(handle, a, b, stops)?;
+    let second = start_locker(handle, b, a, stops)?;
+    join_both(handle, &first, &second)
+}
+
+/// Joins one thread and then the other.
+fn join_both<R: Wait>(
+    handle: &mut Handle<Count, R>,
+    first: &JoinHandle,
+    second: &JoinHandle,
+) -> Result<Count, Stop> {
+    handle.join(first)?;
+    handle.join(second)
+}
+
+/// Starts a thread that locks both.
+fn start_locker<R: Threads + Wait + Clone + Send + 'static>(
+    handle: &mut Handle<Count, R>,
+    first: Mutex,
+    second: Mutex,
+    stops: &Counter,
+) -> Result<JoinHandle, Stop> {
+    let stops = handle.allocated(Arc::try_clone(stops))?;
+    handle.spawn_job(Locker {
+        first,
+        second,
+        stops,
+    })
+}
+
 #[test]
 fn two_mutexes_deadlock_closures(rt: HostRuntime) -> Result<(), Fail> {
-    let alloc: Global = rt.alloc();
-    let stops = Arc::new(alloc, std::sync::atomic::AtomicU64::new(0))?;
-    let mut keeper = Keeper::new(alloc);
-    let report = check(
-        &rt,
-        alloc,
-        &Builder::new(),
-        |handle: &mut Handle<Count, HostRuntime>| {
-            let one = handle.allocated(Arc::try_clone(&stops))?;
-            let two = handle.allocated(Arc::try_clone(&stops))?;
-            let a = handle.mutex(Count(0))?;
-            let b = handle.mutex(Count(0))?;
-            let first = handle.spawn_job(Locker {
-                first: a,
-                second: b,
-                stops: one,
-            })?;
-            let second = handle.spawn_job(Locker {
-                first: b,
-                second: a,
-                stops: two,
-            })?;
-            handle.join(&first)?;
-            handle.join(&second)
-        },
-        &mut keeper,
-    );
     let choices = [ONE, ONE, TWO, TWO, NONE];
-    assert!(rt; fails(&report, FailureKind::Deadlock, 3, choices.as_slice()));
-    assert_eq!(rt; stops.load(Ordering::SeqCst), 2);
-    Ok(())
+    let wanted = Fails(FailureKind::Deadlock, 3, choices.as_slice());
+    comes_to(&rt, &Builder::new(), Main::TwoMutexes, wanted, 4, 2)
 }
 
 /// Adds 1, and answers what was there before.
 #[derive(Drop)]
 struct Adder {
     atomic: AtomicU64,
-    starts: Arc<std::sync::atomic::AtomicU64, Global>,
+    starts: Counter,
 }
 
 impl<R: Wait> Job<Count, R> for Adder {
@@ -89,73 +104,82 @@ impl<R: Wait> Job<Count, R> for Adder {
     }
 }
 
+/// Two threads add 1 to the same number, and what they read before differs. They count their starts.
+pub(super) fn two_adds<R: Threads + Wait + Clone + Send + 'static>(
+    handle: &mut Handle<Count, R>,
+    starts: &Counter,
+) -> Result<Count, Stop> {
+    starts.fetch_add(1, Ordering::SeqCst);
+    let atomic = handle.atomic(0u64)?;
+    let child = start_adder(handle, atomic, starts)?;
+    let before = handle.fetch_add(&atomic, 1, AcqRel)?;
+    let Count(other) = handle.join(&child)?;
+    handle.assert(before != other)?;
+    Ok(Count(before))
+}
+
+/// Starts a thread that adds 1.
+fn start_adder<R: Threads + Wait + Clone + Send + 'static>(
+    handle: &mut Handle<Count, R>,
+    atomic: AtomicU64,
+    starts: &Counter,
+) -> Result<JoinHandle, Stop> {
+    let starts = handle.allocated(Arc::try_clone(starts))?;
+    handle.spawn_job(Adder { atomic, starts })
+}
+
 #[test]
 fn fetch_add_atomic_closures(rt: HostRuntime) -> Result<(), Fail> {
-    let alloc: Global = rt.alloc();
-    let starts = Arc::new(alloc, std::sync::atomic::AtomicU64::new(0))?;
-    let mut keeper = Keeper::new(alloc);
-    let report = check(
-        &rt,
-        alloc,
-        &Builder::new(),
-        |handle: &mut Handle<Count, HostRuntime>| {
-            let theirs = handle.allocated(Arc::try_clone(&starts))?;
-            starts.fetch_add(1, Ordering::SeqCst);
-            let atomic = handle.atomic(0u64)?;
-            let child = handle.spawn_job(Adder {
-                atomic,
-                starts: theirs,
-            })?;
-            let before = handle.fetch_add(&atomic, 1, AcqRel)?;
-            let Count(other) = handle.join(&child)?;
-            if before == other {
-                return Err(handle.fail());
-            }
-            Ok(Count(before))
-        },
-        &mut keeper,
-    );
-    let runs = keeper.runs.len() as u64;
-    assert!(rt; completes(&report, runs));
-    assert_eq!(rt; starts.load(Ordering::SeqCst), runs.saturating_mul(2));
-    Ok(())
+    passes(&rt, Main::TwoAdds, 2)
+}
+
+/// Main locks a mutex beside a thread that does nothing. Both count their starts.
+pub(super) fn counted_lock_beside<R: Threads + Wait + Clone + Send + 'static>(
+    handle: &mut Handle<Count, R>,
+    starts: &Counter,
+) -> Result<Count, Stop> {
+    starts.fetch_add(1, Ordering::SeqCst);
+    lock_beside(handle, starts)
+}
+
+/// The same, where the thread alone counts its start.
+pub(super) fn lock_beside<R: Threads + Wait + Clone + Send + 'static>(
+    handle: &mut Handle<Count, R>,
+    starts: &Counter,
+) -> Result<Count, Stop> {
+    let mutex = handle.mutex(Count(0))?;
+    let theirs = handle.allocated(Arc::try_clone(starts))?;
+    handle.spawn_job(Starter(theirs))?;
+    let (guard, value) = handle.lock(&mutex)?;
+    handle.release(guard, value)?;
+    Ok(Count(7))
+}
+
+/// The choices of its runs.
+static BESIDE: [[Choice; 4]; 3] = [
+    [ZERO, ONE, ONE, NONE],
+    [ONE, ONE, ZERO, NONE],
+    [ONE, ZERO, ONE, NONE],
+];
+
+/// Whether these are runs by its choices, in their order, that came to 7.
+fn are_beside(runs: &[Run]) -> bool {
+    for k in 0..3 {
+        match runs.get(k) {
+            Some(run) if run.is(7, BESIDE[k].as_slice()) => {}
+            _ => return false,
+        }
+    }
+    true
 }
 
 #[test]
 fn lock_beside_closures(rt: HostRuntime) -> Result<(), Fail> {
-    let alloc: Global = rt.alloc();
-    let starts = Arc::new(alloc, std::sync::atomic::AtomicU64::new(0))?;
-    let mut keeper = Keeper::new(alloc);
-    let builder = Builder {
-        reduce: false,
-        ..Builder::new()
-    };
-    let report = check(
-        &rt,
-        alloc,
-        &builder,
-        |handle: &mut Handle<Count, HostRuntime>| {
-            let theirs = handle.allocated(Arc::try_clone(&starts))?;
-            starts.fetch_add(1, Ordering::SeqCst);
-            let mutex = handle.mutex(Count(0))?;
-            handle.spawn_job(Starter(theirs))?;
-            let (guard, value) = handle.lock(&mutex)?;
-            handle.release(guard, value)?;
-            Ok(Count(7))
-        },
-        &mut keeper,
-    );
-    assert!(rt; completes(&report, 3));
-    assert_eq!(rt; starts.load(Ordering::SeqCst), 6);
-    let lists = [
-        [ZERO, ONE, ONE, NONE],
-        [ONE, ONE, ZERO, NONE],
-        [ONE, ZERO, ONE, NONE],
-    ];
-    for (run, list) in keeper.runs.iter().zip(lists) {
-        assert!(rt; run.value == 7);
-        assert_eq!(rt; run.choices.as_slice(), list.as_slice());
-    }
+    let mut builder = Builder::new();
+    builder.reduce = false;
+    let found = find(&rt, &builder, Main::LockBeside)?;
+    holds(&rt, found.comes_to(Complete(3)) && found.counts(3, 6));
+    holds(&rt, are_beside(found.runs.as_slice()));
     Ok(())
 }
 
@@ -189,31 +213,30 @@ impl<R: Wait> Job<Count, R> for Ponger {
     }
 }
 
+/// Main stores 1 and 3, and another thread 2 in between: each waits for what the other stores.
+pub(super) fn ping_pong<R: Threads + Wait + Clone + Send + 'static>(
+    handle: &mut Handle<Count, R>,
+) -> Result<Count, Stop> {
+    handle.stop_exploring()?;
+    let atomic = handle.atomic(0usize)?;
+    let child = handle.spawn_job(Ponger { atomic })?;
+    ping(handle, &atomic)?;
+    handle.join(&child)
+}
+
+/// Stores 1, waits for 2, and stores 3.
+fn ping<R: Wait>(handle: &mut Handle<Count, R>, atomic: &AtomicUsize) -> Result<(), Stop> {
+    handle.store(atomic, 1, Release)?;
+    await_value(handle, atomic, 2)?;
+    handle.store(atomic, 3, Release)
+}
+
 #[test]
 fn runner_ping_pong(rt: HostRuntime) -> Result<(), Fail> {
-    let alloc: Global = rt.alloc();
-    let builder = Builder {
-        max_branches: 200,
-        ..Builder::new()
-    };
+    let mut builder = Builder::new();
+    builder.max_branches = 200;
     for _ in 0..100 {
-        let mut keeper = Keeper::new(alloc);
-        let report = check(
-            &rt,
-            alloc,
-            &builder,
-            |handle: &mut Handle<Count, HostRuntime>| {
-                handle.stop_exploring()?;
-                let atomic = handle.atomic(0usize)?;
-                let child = handle.spawn_job(Ponger { atomic })?;
-                handle.store(&atomic, 1, Release)?;
-                await_value(handle, &atomic, 2)?;
-                handle.store(&atomic, 3, Release)?;
-                handle.join(&child)
-            },
-            &mut keeper,
-        );
-        assert!(rt; completes(&report, 1));
+        comes_to(&rt, &builder, Main::PingPong, Complete(1), 1, 0)?;
     }
     Ok(())
 }
