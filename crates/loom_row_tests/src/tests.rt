@@ -45,6 +45,7 @@ mod limits;
 mod lists;
 mod litmus;
 mod locks;
+mod long_checks;
 mod others;
 mod plain;
 mod printed;

@@ -7,87 +7,81 @@ use loom_plain::run::Ending;
 use loom_plain::search::Found;
 use loom_row_bodies::settings::{Builds, Settings};
 use loom_scripts::number::Number;
-use loom_scripts::script::Script;
-use loom_scripts::step::Step;
 use std::alloc::{AllocError, Global};
-use std::process::Abort;
 
-// Keeps each run that it is given.
+/// Keeps each run that it is given.
 #[derive(Drop)]
-struct Keeper {
+pub struct Keeper {
     alloc: Global,
-    found: Vec<Found>,
+    /// The runs that end, in the order in which they come, and the one that fails.
+    pub found: Vec<Found>,
+    /// Whether so many runs ended as the report says, and no limit was reached.
+    pub is_counted: bool,
 }
 
 impl Visitor<Number> for Keeper {
     ghost takes = { λ old choices value new. Unit {0} };
 
     fn run(&mut self, choices: &[Choice], value: Number) -> Result<(), AllocError> {
-        keep(self, choices, Ending::Ended(value))
+        self.keep(choices, Ending::Ended(value))
     }
 }
 
-fn keep(keeper: &mut Keeper, choices: &[Choice], ending: Ending) -> Result<(), AllocError> {
-    let choices = choices.to_vec(keeper.alloc)?;
-    keeper.found.push(Found { choices, ending })?;
-    Ok(())
-}
-
-// So many runs ended, as the report says. Keeps the run that failed, if one did.
-fn close(keeper: &mut Keeper, report: &Report) -> Result<bool, AllocError> {
-    let ended = keeper.found.len() as u64;
-    match report {
-        Report::Complete { runs } => Ok(*runs == ended),
-        Report::Failed {
-            runs,
-            failure,
-            choices,
-        } => {
-            keep(keeper, choices.as_slice(), Ending::Failed(failure.kind))?;
-            Ok(*runs == ended)
+impl Keeper {
+    /// One that was given none yet.
+    pub fn new(alloc: Global) -> Keeper {
+        Keeper {
+            alloc,
+            found: Vec::new(alloc),
+            is_counted: false,
         }
-        Report::Stopped { .. } => Ok(false),
+    }
+
+    fn keep(&mut self, choices: &[Choice], ending: Ending) -> Result<(), AllocError> {
+        let choices = choices.to_vec(self.alloc)?;
+        self.found.push(Found { choices, ending })?;
+        Ok(())
+    }
+
+    // Keeps the run that failed, if one did. Whether so many runs ended as the report says.
+    fn close(&mut self, report: &Report) -> bool {
+        let ended = self.found.len() as u64;
+        match report {
+            Report::Complete { runs } => *runs == ended,
+            Report::Failed {
+                runs,
+                failure,
+                choices,
+            } => {
+                let kept = self.keep(choices.as_slice(), Ending::Failed(failure.kind));
+                kept.is_ok() && *runs == ended
+            }
+            Report::Stopped { .. } => false,
+        }
     }
 }
 
-fn report_of<B: Body<Data = Number>>(
+/// What a check of the body finds that begins with what the store holds.
+pub fn report_of<B: Body<Data = Number>>(
     alloc: Global,
     settings: Settings,
     body: &B,
     keeper: &mut Keeper,
+    store: &mut Option<MemoryStore>,
 ) -> Result<Report, CheckError> {
-    let builder = settings.builder();
-    let mut store = None::<MemoryStore>;
     let log = None::<HostRuntime>;
-    builder.check_with(alloc, body, keeper, &mut NoClock, &mut store, &log)
+    settings
+        .builder()
+        .check_with(alloc, body, keeper, &mut NoClock, store, &log)
 }
 
-// The runs that a check makes. Whether their number is the report's, and no limit was reached.
-fn fill<B: Body<Data = Number>>(
-    alloc: Global,
-    settings: Settings,
-    body: &B,
-    keeper: &mut Keeper,
-) -> Result<bool, CheckError> {
-    let report = report_of(alloc, settings, body, keeper)?;
-    Ok(close(keeper, &report)?)
-}
-
-/// The runs that a check makes: those that end, in the order in which they come, and the one that fails.
-pub fn found_by<R: Abort + AllocGlobal, B: Body<Data = Number>>(
-    rt: &R,
-    settings: Settings,
-    body: &B,
-    name: &str,
-) -> Vec<Found> {
-    let alloc = rt.alloc();
-    let mut keeper = Keeper {
-        alloc,
-        found: Vec::new(alloc),
-    };
-    let is_counted = fill(alloc, settings, body, &mut keeper).expect(rt, name);
-    assert!(rt; is_counted, "{name}");
-    keeper.found
+/// The runs that a check makes.
+pub fn found_by<B: Body<Data = Number>>(alloc: Global, settings: Settings, body: &B) -> Keeper {
+    let mut keeper = Keeper::new(alloc);
+    if let Ok(report) = &report_of(alloc, settings, body, &mut keeper, &mut None) {
+        keeper.is_counted = keeper.close(report);
+    }
+    keeper
 }
 
 /// Whether the run made these choices and ended so.
@@ -101,9 +95,4 @@ fn is_ending(one: Ending, other: Ending) -> bool {
         (Ending::Failed(one), Ending::Failed(other)) => one == other,
         (Ending::Ended(_), Ending::Failed(_)) | (Ending::Failed(_), Ending::Ended(_)) => false,
     }
-}
-
-/// The script with these steps.
-pub fn script(rt: &(impl Abort + AllocGlobal), steps: &'static [Step]) -> Script {
-    Script::new(rt.alloc(), steps).expect(rt, "no memory for the script")
 }

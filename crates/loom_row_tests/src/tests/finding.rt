@@ -1,7 +1,7 @@
 //! What a check finds, as a text.
-use super::checking::{found_by, is_run, script};
+use super::checking::{Keeper, found_by, is_run};
 use super::rows::rows_of;
-use super::texts::{put, put_text, put_value, same};
+use super::texts::{Page, same};
 use loom_model::model::{Builder, Replay};
 use loom_model::{Body, Choice, FailureKind};
 use loom_plain::run::Ending;
@@ -11,6 +11,8 @@ use loom_row_bodies::rows::{Checked, Row, row_of};
 use loom_row_bodies::settings::{Builds, Settings};
 use loom_row_bodies::updates::Updater;
 use loom_scripts::number::Number;
+use loom_scripts::script::Script;
+use std::alloc::Global;
 use std::process::Abort;
 
 /// What is shown of what a check finds.
@@ -39,123 +41,124 @@ pub fn find(rt: &(impl Abort + AllocGlobal), cases: &'static [Case]) {
 }
 
 fn find_case(rt: &(impl Abort + AllocGlobal), rows: &[Row], case: &'static Case) {
-    let row = row_of(rows, case.name).expect(rt, case.name);
-    find_row(rt, row.checked, case);
+    let mut page = Page::new(rt.alloc());
+    if let Some(row) = row_of(rows, case.name) {
+        put_checked(rt.alloc(), row.checked, case, &mut page);
+    }
+    same(rt, page.text.as_str(), case.text, case.name);
 }
 
-fn find_row(rt: &(impl Abort + AllocGlobal), checked: Checked, case: &'static Case) {
+fn put_checked(alloc: Global, checked: Checked, case: &Case, page: &mut Page) {
     match checked {
         Checked::Script(steps) => {
-            finds(
-                rt,
-                case.settings,
-                &script(rt, steps),
-                case.shows,
-                case.name,
-                case.text,
-            );
+            if let Ok(script) = &Script::new(alloc, steps) {
+                put_found(alloc, case.settings, script, case.shows, page);
+            }
         }
         Checked::Updater(one, other) => {
             let updater = Updater::main(one, other);
-            finds(
-                rt,
-                case.settings,
-                &updater,
-                case.shows,
-                case.name,
-                case.text,
-            );
+            put_found(alloc, case.settings, &updater, case.shows, page);
         }
     }
 }
 
-/// The same of one body.
-pub fn finds<R: Abort + AllocGlobal, B: Body<Data = Number>>(
-    rt: &R,
+/// Puts on the page what a check of the body finds, and whether a run isn't made again by its choices.
+pub fn put_found<B: Body<Data = Number>>(
+    alloc: Global,
     settings: Settings,
     body: &B,
     shows: Shows,
-    name: &str,
-    text: &str,
+    page: &mut Page,
 ) {
-    let found = found_by(rt, settings, body, name);
-    says(rt, found.as_slice(), shows, name, text);
-    if let Shows::First(_) = shows {
-        replay_each(rt, settings, body, found.as_slice(), name);
+    let keeper = found_by(alloc, settings, body);
+    put_runs(alloc, &keeper, shows, page);
+    if let Shows::First(_) = shows
+        && !replays_each(alloc, settings, body, keeper.found.as_slice())
+    {
+        page.add("; no run again");
     }
 }
 
-// The text of these runs is this one.
-fn says(rt: &(impl Abort + AllocGlobal), found: &[Found], shows: Shows, name: &str, wanted: &str) {
-    let mut text = String::new(rt.alloc());
+// What no test wants stands there where the report says another number of runs.
+fn put_runs(alloc: Global, keeper: &Keeper, shows: Shows, page: &mut Page) {
+    let found = keeper.found.as_slice();
+    if !keeper.is_counted {
+        page.add("another number of runs: ");
+    }
     match shows {
         Shows::First(most) => {
-            put_end(rt, &mut text, found, true);
-            put_runs(rt, &mut text, found, most);
+            put_end(page, found, true);
+            put_first(page, found, most);
         }
         Shows::Values => {
-            put_end(rt, &mut text, found, false);
-            put_values(rt, &mut text, found);
+            put_end(page, found, false);
+            put_values(alloc, page, found);
         }
     }
-    same(rt, text.as_str(), wanted, name);
 }
 
-fn put_runs(rt: &impl Abort, text: &mut String, found: &[Found], most: usize) {
+fn put_first(page: &mut Page, found: &[Found], most: usize) {
     for place in 0..most {
         if let Some(run) = found.get(place) {
-            put_run(rt, text, run);
+            put_run(page, run);
         }
     }
 }
 
 // The run that fails is shown by how the check ended.
-fn put_run(rt: &impl Abort, text: &mut String, run: &Found) {
+fn put_run(page: &mut Page, run: &Found) {
     if let Ending::Ended(Number(value)) = run.ending {
-        put_text(rt, text, ";");
-        put_choices(rt, text, run.choices.as_slice());
-        put_value(rt, text, " = ", value);
+        page.add(";");
+        put_choices(page, run.choices.as_slice());
+        page.add_number(" = ", value);
     }
 }
 
 // More choices than so many are shown by their number.
 const MANY: usize = 99;
 
-fn put_choices(rt: &impl Abort, text: &mut String, choices: &[Choice]) {
+fn put_choices(page: &mut Page, choices: &[Choice]) {
     if choices.len() > MANY {
-        put_value(rt, text, " ", choices.len() as u64);
-        put_text(rt, text, " choices");
+        page.add_number(" ", choices.len() as u64);
+        page.add(" choices");
     } else {
-        put(rt, text, ShownChoices(choices));
+        page.add_choices(choices);
     }
 }
 
-fn put_values(rt: &(impl Abort + AllocGlobal), text: &mut String, found: &[Found]) {
-    let mut values = Vec::new(rt.alloc());
+impl Page {
+    // The choices, each after a space.
+    fn add_choices(&mut self, choices: &[Choice]) {
+        let shown = ShownChoices(choices);
+        let _ = write!(self.text, "{shown}");
+    }
+}
+
+fn put_values(alloc: Global, page: &mut Page, found: &[Found]) {
+    let mut values = Vec::new(alloc);
     for run in found {
-        add_value(rt, &mut values, run);
+        add_value(&mut values, run);
     }
-    put_list(rt, text, values.as_slice());
+    put_list(page, values.as_slice());
 }
 
-fn add_value(rt: &impl Abort, values: &mut Vec<u64>, run: &Found) {
+// Where memory is refused the value is missing.
+fn add_value(values: &mut Vec<u64>, run: &Found) {
     if let Ending::Ended(Number(value)) = run.ending
-        && let Err(place) = values.binary_search(&value)
+        && let Err(place) = values.as_slice().binary_search(&value)
     {
-        values
-            .insert(place, value)
-            .expect(rt, "no memory for the values");
+        let _ = values.insert(place, value);
     }
 }
 
-fn put_list(rt: &impl Abort, text: &mut String, values: &[u64]) {
+fn put_list(page: &mut Page, values: &[u64]) {
     for value in values {
-        put_value(rt, text, "; ", *value);
+        page.add_number("; ", *value);
     }
 }
 
 // How the check ended, as the program prints it. The number of runs may be left out.
-fn put_end(rt: &impl Abort, text: &mut String, found: &[Found], is_counted: bool) {
+fn put_end(page: &mut Page, found: &[Found], is_counted: bool) {
     let many = found.len() as u64;
     match found.last() {
         Some(
@@ -163,53 +166,49 @@ fn put_end(rt: &impl Abort, text: &mut String, found: &[Found], is_counted: bool
                 choices,
                 ending: Ending::Failed(kind),
             },
-        ) => put_failure(rt, text, *kind, many, choices.as_slice()),
-        _ if is_counted => put_value(rt, text, "complete ", many),
-        _ => put_text(rt, text, "complete"),
+        ) => put_failure(page, *kind, many, choices.as_slice()),
+        _ if is_counted => page.add_number("complete ", many),
+        _ => page.add("complete"),
     }
 }
 
 // The last of so many runs failed.
-fn put_failure(
-    rt: &impl Abort,
-    text: &mut String,
-    kind: FailureKind,
-    many: u64,
-    choices: &[Choice],
-) {
-    put_value(rt, text, "failed ", u64::from(kind.number()));
-    put_value(rt, text, " ", many.saturating_sub(1));
-    put_choices(rt, text, choices);
+fn put_failure(page: &mut Page, kind: FailureKind, many: u64, choices: &[Choice]) {
+    page.add_number("failed ", u64::from(kind.number()));
+    page.add_number(" ", many.saturating_sub(1));
+    put_choices(page, choices);
 }
 
-// Each of these runs is made again by its choices.
-fn replay_each<R: Abort + AllocGlobal, B: Body<Data = Number>>(
-    rt: &R,
+// Whether each of these runs is made again by its choices.
+fn replays_each<B: Body<Data = Number>>(
+    alloc: Global,
     settings: Settings,
     body: &B,
     found: &[Found],
-    name: &str,
-) {
-    let builder = Settings {
+) -> bool {
+    let reduced = Settings {
         reduce: true,
         ..settings
-    }
-    .builder();
+    };
+    let builder = reduced.builder();
     for run in found {
-        replay(rt, &builder, body, run, name);
+        if !replays(alloc, &builder, body, run) {
+            return false;
+        }
     }
+    true
 }
 
-fn replay<R: Abort + AllocGlobal, B: Body<Data = Number>>(
-    rt: &R,
+fn replays<B: Body<Data = Number>>(
+    alloc: Global,
     builder: &Builder,
     body: &B,
     run: &Found,
-    name: &str,
-) {
-    let list = run.choices.as_slice();
-    let replay = builder.replay(rt.alloc(), body, list).expect(rt, name);
-    assert!(rt; is_replay(&replay, run), "{name}");
+) -> bool {
+    match &builder.replay(alloc, body, run.choices.as_slice()) {
+        Ok(replay) => is_replay(replay, run),
+        Err(_) => false,
+    }
 }
 
 // This is how the run ended, and what it chose.

@@ -1,44 +1,40 @@
 //! The first body of docs/GUIDE.md.
-use loom_model::model::{Builder, Replay, Report};
-use loom_model::{Choice, FailureKind};
+use super::finding::{Shows, put_found};
+use super::texts::{Page, same};
 use loom_row_bodies::guide::Counter;
 use loom_row_bodies::rows::WHOLE;
 use loom_row_bodies::settings::Builds;
+use std::process::Abort;
+use std::rt::Files;
 use std::test::Fail;
 
-#[test]
-fn no_thread_is_counted_third(rt: HostRuntime) -> Result<(), Fail> {
-    let report = WHOLE.builder().check(&rt, rt.alloc(), &Counter::main(2))?;
-    match report {
-        Report::Complete { runs } => assert_eq!(rt; runs, 4),
-        _ => return Err(Fail::from("the check is not complete")),
-    }
+// A check of the body that asserts that fewer than so many threads were counted says this.
+fn says(rt: &(impl Abort + AllocGlobal + Files), fewer_than: u64, text: &str) -> Result<(), Fail> {
+    let body = Counter::main(fewer_than);
+    let report = WHOLE.builder().check(rt, rt.alloc(), &body)?;
+    let report = format!(in rt.alloc(); "{report}")?;
+    assert_eq!(rt; report.as_str(), text);
     Ok(())
 }
 
 #[test]
+fn no_thread_is_counted_third(rt: HostRuntime) -> Result<(), Fail> {
+    says(&rt, 2, "complete: 4 runs, none failed")
+}
+
+#[test]
 fn main_is_not_always_first(rt: HostRuntime) -> Result<(), Fail> {
+    let text =
+        "failed after 1 run: an assertion of the body failed: replay its choices to see how the run came there\nreplay: t1 t1 t1 t0";
+    says(&rt, 1, text)
+}
+
+// The failing run is made again by its choices.
+#[test]
+fn its_failure_comes_again(rt: HostRuntime) {
+    let mut page = Page::new(rt.alloc());
     let body = Counter::main(1);
-    let Report::Failed {
-        runs,
-        failure,
-        choices,
-    } = WHOLE.builder().check(&rt, rt.alloc(), &body)?
-    else {
-        return Err(Fail::from("no run failed"));
-    };
-    assert_eq!(rt; runs, 1);
-    assert_eq!(rt; failure.kind, FailureKind::Assertion);
-    let [zero, one] = [Choice::Thread(Some(0)), Choice::Thread(Some(1))];
-    assert_eq!(rt; choices.as_slice(), [one, one, one, zero].as_slice());
-    let Replay::Failed {
-        failure,
-        choices: again,
-    } = Builder::new().replay(rt.alloc(), &body, choices.as_slice())?
-    else {
-        return Err(Fail::from("the run ended"));
-    };
-    assert_eq!(rt; failure.kind, FailureKind::Assertion);
-    assert_eq!(rt; again.as_slice(), choices.as_slice());
-    Ok(())
+    put_found(rt.alloc(), WHOLE, &body, Shows::First(0), &mut page);
+    let text = "failed 1 1 t1 t1 t1 t0";
+    same(&rt, page.text.as_str(), text, "first counter");
 }

@@ -1,15 +1,18 @@
 //! What a check finds is what the plain program finds.
-use super::checking::{found_by, is_run, script};
+use super::checking::{found_by, is_run};
+use super::rows::program_rows;
+use super::texts::holds;
 use super::{bodies, others, searches, shared};
 use loom_model::Body;
 use loom_plain::halt::Halt;
 use loom_plain::run::{Ending, Settings as PlainSettings};
 use loom_plain::search::{Found, least_set, runs_in_order};
 use loom_row_bodies::guide::Counter;
-use loom_row_bodies::rows::{Checked, DEFAULTS, Row, all_rows, row_of};
+use loom_row_bodies::rows::{Checked, DEFAULTS, Row, row_of};
 use loom_row_bodies::settings::Settings;
 use loom_row_bodies::updates::Updater;
 use loom_scripts::number::Number;
+use loom_scripts::script::Script;
 use std::alloc::Global;
 use std::process::Abort;
 
@@ -149,27 +152,25 @@ fn are_same(reduce: bool, plain: &[Found], found: &[Found]) -> bool {
     }
 }
 
-// A check that isn't reduced finds what the plain program does, in the same order. One that is makes runs of the least set.
-fn compare<R: Abort + AllocGlobal, B: Body<Data = Number>>(
-    rt: &R,
-    settings: Settings,
-    body: &B,
-    name: &str,
-) {
-    let plain = plain_runs(rt.alloc(), settings, body).expect(rt, name);
-    let found = found_by(rt, settings, body, name);
-    let is_same = are_same(settings.reduce, plain.as_slice(), found.as_slice());
-    assert!(rt; is_same, "{name}");
+// Whether a check that isn't reduced finds what the plain program does, in the same order. One that is makes runs of the least set.
+fn is_as_plain<B: Body<Data = Number>>(alloc: Global, settings: Settings, body: &B) -> bool {
+    let keeper = found_by(alloc, settings, body);
+    match &plain_runs(alloc, settings, body) {
+        Ok(plain) => {
+            let found = keeper.found.as_slice();
+            keeper.is_counted && are_same(settings.reduce, plain.as_slice(), found)
+        }
+        Err(_) => false,
+    }
 }
 
 // The same by each of these searches, none of which is limited.
-fn compare_by<R: Abort + AllocGlobal, B: Body<Data = Number>>(
-    rt: &R,
+fn are_as_plain<B: Body<Data = Number>>(
+    alloc: Global,
     settings: Settings,
     body: &B,
     searches: &[Search],
-    name: &str,
-) {
+) -> bool {
     for (reduce, bound) in searches {
         let settings = Settings {
             max_permutations: None,
@@ -177,23 +178,22 @@ fn compare_by<R: Abort + AllocGlobal, B: Body<Data = Number>>(
             preemption_bound: *bound,
             ..settings
         };
-        compare(rt, settings, body, name);
+        if !is_as_plain(alloc, settings, body) {
+            return false;
+        }
     }
+    true
 }
 
-fn compare_row(rt: &(impl Abort + AllocGlobal), row: &Row, searches: &[Search]) {
+fn is_row_as_plain(alloc: Global, row: &Row, searches: &[Search]) -> bool {
     match row.checked {
-        Checked::Script(steps) => {
-            compare_by(rt, row.settings, &script(rt, steps), searches, row.name);
-        }
+        Checked::Script(steps) => match &Script::new(alloc, steps) {
+            Ok(script) => are_as_plain(alloc, row.settings, script, searches),
+            Err(_) => false,
+        },
         Checked::Updater(one, other) => {
-            compare_by(
-                rt,
-                row.settings,
-                &Updater::main(one, other),
-                searches,
-                row.name,
-            );
+            let updater = Updater::main(one, other);
+            are_as_plain(alloc, row.settings, &updater, searches)
         }
     }
 }
@@ -201,34 +201,40 @@ fn compare_row(rt: &(impl Abort + AllocGlobal), row: &Row, searches: &[Search]) 
 fn compare_rows(rt: &(impl Abort + AllocGlobal), rows: &[Row]) {
     for row in rows {
         if !LARGE.contains(&row.name) {
-            compare_row(rt, row, EACH);
+            holds(rt, is_row_as_plain(rt.alloc(), row, EACH), row.name);
         }
     }
 }
 
-fn compare_large(rt: &(impl Abort + AllocGlobal), rows: &[Row], name: &str, searches: &[Search]) {
-    let row = row_of(rows, name).expect(rt, name);
-    compare_row(rt, row, searches);
+fn compare_large(rt: &(impl Abort + AllocGlobal), rows: &[Row]) {
+    for (name, searches) in &LARGE_BODIES {
+        let is_so = match row_of(rows, *name) {
+            Some(row) => is_row_as_plain(rt.alloc(), row, *searches),
+            None => false,
+        };
+        holds(rt, is_so, *name);
+    }
+}
+
+// Whether the checks of a counter find what the plain program does.
+fn is_counter_as_plain(alloc: Global, fewer_than: u64) -> bool {
+    are_as_plain(alloc, DEFAULTS, &Counter::main(fewer_than), EACH)
 }
 
 #[test]
 fn rows_are_what_the_plain_program_finds(rt: HostRuntime) {
-    let rows = all_rows(rt.alloc()).expect(&rt, "no memory for the rows");
-    compare_rows(&rt, rows.as_slice());
+    compare_rows(&rt, program_rows(&rt).as_slice());
 }
 
 #[test]
 fn large_rows_are_what_the_plain_program_finds(rt: HostRuntime) {
-    let rows = all_rows(rt.alloc()).expect(&rt, "no memory for the rows");
-    for (name, searches) in &LARGE_BODIES {
-        compare_large(&rt, rows.as_slice(), *name, *searches);
-    }
+    compare_large(&rt, program_rows(&rt).as_slice());
 }
 
 #[test]
 fn counters_are_what_the_plain_program_finds(rt: HostRuntime) {
-    compare_by(&rt, DEFAULTS, &Counter::main(2), EACH, "counter");
-    compare_by(&rt, DEFAULTS, &Counter::main(1), EACH, "first counter");
+    holds(&rt, is_counter_as_plain(rt.alloc(), 2), "counter");
+    holds(&rt, is_counter_as_plain(rt.alloc(), 1), "first counter");
 }
 
 #[test]

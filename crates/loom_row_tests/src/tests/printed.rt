@@ -1,8 +1,9 @@
 //! What the rows print.
-use super::texts::{Printed, is_status, put_often, put_text};
+use super::rows::program_rows;
+use super::texts::{Page, Pen, Printed, holds};
 use super::words::says;
-use loom_row_bodies::rows::{all_rows, run_row};
-use std::io::{self, ErrorKind, Write};
+use loom_row_bodies::rows::{Row, run_row};
+use std::alloc::Global;
 use std::process::Abort;
 use std::rt::Files;
 
@@ -147,14 +148,18 @@ fn print(
     lines: &'static [(&'static str, &'static str, u8)],
 ) {
     for (name, line, status) in lines {
-        let printed = Printed {
-            out: *line,
-            goes_on: false,
-            err: "",
-            status: *status,
-        };
-        says(rt, &[*name], &printed);
+        prints(rt, *name, *line, *status);
     }
+}
+
+fn prints(rt: &(impl Abort + AllocGlobal + Files), name: &str, line: &str, status: u8) {
+    let printed = Printed {
+        out: line,
+        goes_on: false,
+        err: "",
+        status,
+    };
+    says(rt, &[name], &printed);
 }
 
 #[test]
@@ -168,66 +173,43 @@ fn fences_are_counted(rt: HostRuntime) {
 }
 
 /// A line that begins so, goes on with these choices of main and of the other thread, and ends.
-pub fn long_line(
-    rt: &(impl Abort + AllocGlobal),
-    begins: &str,
-    main: usize,
-    other: usize,
-    ends: &str,
-) -> String {
-    let mut line = String::new(rt.alloc());
-    put_text(rt, &mut line, begins);
-    put_often(rt, &mut line, " t0", main);
-    put_often(rt, &mut line, " t1", other);
-    put_text(rt, &mut line, ends);
+pub fn long_line(alloc: Global, begins: &str, main: usize, other: usize, ends: &str) -> Page {
+    let mut line = Page::new(alloc);
+    line.add(begins);
+    line.add_often(" t0", main);
+    line.add_often(" t1", other);
+    line.add(ends);
     line
-}
-
-// The row fails and prints this line.
-fn fails(rt: &(impl Abort + AllocGlobal + Files), name: &str, line: &str) {
-    let printed = Printed {
-        out: line,
-        goes_on: false,
-        err: "",
-        status: 1,
-    };
-    says(rt, &[name], &printed);
 }
 
 #[test]
 fn accesses_are_counted(rt: HostRuntime) {
-    let line = long_line(&rt, "failed 10 0", 65_535, 0, "\n");
-    fails(&rt, "too_many_locks", line.as_str());
+    let line = long_line(rt.alloc(), "failed 10 0", 65_535, 0, "\n");
+    prints(&rt, "too_many_locks", line.text.as_str(), 1);
 }
 
 #[test]
 fn stores_are_counted(rt: HostRuntime) {
-    let line = long_line(&rt, "failed 11 0", 40_000, 25_536, "\n");
-    fails(&rt, "too_many_stores", line.as_str());
+    let line = long_line(rt.alloc(), "failed 11 0", 40_000, 25_536, "\n");
+    prints(&rt, "too_many_stores", line.text.as_str(), 1);
 }
 
-// A writer that takes nothing.
-#[derive(Drop)]
-struct Broken;
-
-impl Write for Broken {
-    fn write(&mut self, _buf: &[u8]) -> io::Result<usize> {
-        Err(io::Error::from(ErrorKind::BrokenPipe))
-    }
-
-    fn flush(&mut self) -> io::Result<()> {
-        Ok(())
-    }
+// Whether the status is 2 where a pen takes nothing that the row is to print, and the other one was given nothing.
+fn is_refused(rt: &(impl AllocGlobal + Files), rows: &[Row], name: &str, breaks_out: bool) -> bool {
+    let mut out = Pen::new(rt.alloc());
+    let mut err = Pen::new(rt.alloc());
+    out.is_broken = breaks_out;
+    err.is_broken = !breaks_out;
+    let status = run_row(rt, rows, &[name], &mut out, &mut err);
+    status == 2 && out.text.is_empty() && err.text.is_empty()
 }
 
 #[test]
 fn a_writer_that_fails_gives_status_2(rt: HostRuntime) {
-    let rows = all_rows(rt.alloc()).expect(&rt, "no memory for the rows");
+    let rows = program_rows(&rt);
     let rows = rows.as_slice();
-    let mut taken = Vec::new(rt.alloc());
-    let status = run_row(&rt, rows, &["lock_beside"], &mut Broken, &mut taken);
-    is_status(&rt, status, 2, "lock_beside");
-    let status = run_row(&rt, rows, &["no_such_row"], &mut taken, &mut Broken);
-    is_status(&rt, status, 2, "no_such_row");
-    assert!(rt; taken.is_empty());
+    let is_so = is_refused(&rt, rows, "lock_beside", true);
+    holds(&rt, is_so, "lock_beside");
+    let is_so = is_refused(&rt, rows, "no_such_row", false);
+    holds(&rt, is_so, "no_such_row");
 }

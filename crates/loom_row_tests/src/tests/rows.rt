@@ -19,6 +19,11 @@ fn joined(alloc: Global) -> Result<Vec<Row>, AllocError> {
     Ok(rows)
 }
 
+/// The rows of the program.
+pub fn program_rows(rt: &(impl Abort + AllocGlobal)) -> Vec<Row> {
+    all_rows(rt.alloc()).expect(rt, "no memory for the rows")
+}
+
 /// All bodies with their names.
 pub fn rows_of(rt: &(impl Abort + AllocGlobal)) -> Vec<Row> {
     joined(rt.alloc()).expect(rt, "no memory for the rows")

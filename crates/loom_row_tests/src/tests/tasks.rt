@@ -1,7 +1,7 @@
 //! What is printed of rows that aren't checked as they are.
 use super::printed::long_line;
 use super::rows::rows_of;
-use super::texts::{Printed, is_printed};
+use super::texts::{Pen, Printed, holds, is_printed};
 use loom_model::Choice;
 use loom_row_bodies::rows::{DEFAULTS, LONG_RUNS, Row, row_of};
 use loom_row_bodies::settings::Settings;
@@ -70,16 +70,20 @@ fn does(
     printed: &Printed,
 ) {
     let rows = rows_of(rt);
-    let found = row_of(rows.as_slice(), name).expect(rt, name);
-    let row = Row { settings, ..*found };
-    prints(rt, &row, task, printed);
+    let is_so = match row_of(rows.as_slice(), name) {
+        Some(found) => prints(rt, &Row { settings, ..*found }, task, printed),
+        None => false,
+    };
+    holds(rt, is_so, name);
 }
 
-fn prints(rt: &(impl Abort + AllocGlobal + Files), row: &Row, task: Task, printed: &Printed) {
-    let mut out = Vec::new(rt.alloc());
-    let mut err = Vec::new(rt.alloc());
-    let status = do_task(rt, row, task, false, None, &mut out, &mut err).expect(rt, row.name);
-    is_printed(rt, out.as_slice(), err.as_slice(), status, printed);
+fn prints(rt: &(impl AllocGlobal + Files), row: &Row, task: Task, printed: &Printed) -> bool {
+    let mut out = Pen::new(rt.alloc());
+    let mut err = Pen::new(rt.alloc());
+    match do_task(rt, row, task, false, None, &mut out, &mut err) {
+        Ok(status) => is_printed(&out, &err, status, printed),
+        Err(_) => false,
+    }
 }
 
 // The settings are refused by this line.
@@ -100,21 +104,28 @@ fn settings_out_of_range_are_refused(rt: HostRuntime) {
     }
 }
 
-// A failure that is replayed by these choices keeps its kind.
-fn fails_again(rt: &(impl Abort + AllocGlobal + Files), choices: &[Choice]) {
+// This prints the line alone, with this status.
+fn ends(
+    rt: &(impl Abort + AllocGlobal + Files),
+    name: &str,
+    settings: Settings,
+    task: Task,
+    line: &str,
+    status: u8,
+) {
     let printed = Printed {
-        out: "failed 1 t0\n",
+        out: line,
         goes_on: false,
         err: "",
-        status: 1,
+        status,
     };
-    does(
-        rt,
-        "fail after a lock",
-        DEFAULTS,
-        Task::Replay(choices),
-        &printed,
-    );
+    does(rt, name, settings, task, &printed);
+}
+
+// A failure that is replayed by these choices keeps its kind.
+fn fails_again(rt: &(impl Abort + AllocGlobal + Files), choices: &[Choice]) {
+    let task = Task::Replay(choices);
+    ends(rt, "fail after a lock", DEFAULTS, task, "failed 1 t0\n", 1);
 }
 
 #[test]
@@ -125,24 +136,14 @@ fn a_failure_keeps_its_kind(rt: HostRuntime) {
 
 #[test]
 fn accesses_of_a_whole_search_are_counted(rt: HostRuntime) {
-    let line = long_line(&rt, "failed 10 0", 65_535, 0, "\n");
-    let printed = Printed {
-        out: line.as_str(),
-        goes_on: false,
-        err: "",
-        status: 1,
-    };
-    does(&rt, "too_many_locks", LONG_AND_WHOLE, Task::Check, &printed);
+    let line = long_line(rt.alloc(), "failed 10 0", 65_535, 0, "\n");
+    let text = line.text.as_str();
+    ends(&rt, "too_many_locks", LONG_AND_WHOLE, Task::Check, text, 1);
 }
 
 #[test]
 fn as_many_stores_as_may_be(rt: HostRuntime) {
-    let line = long_line(&rt, "ended", 40_000, 25_536, " t-\n");
-    let printed = Printed {
-        out: line.as_str(),
-        goes_on: false,
-        err: "",
-        status: 0,
-    };
-    does(&rt, "many stores", LONG_RUNS, Task::Replay(&[]), &printed);
+    let line = long_line(rt.alloc(), "ended", 40_000, 25_536, " t-\n");
+    let task = Task::Replay(&[]);
+    ends(&rt, "many stores", LONG_RUNS, task, line.text.as_str(), 0);
 }

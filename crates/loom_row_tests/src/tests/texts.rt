@@ -1,32 +1,103 @@
 //! Texts that are written and compared whole.
-use loom_row_bodies::line::ShownChoices;
-use std::fmt::Write;
+use std::alloc::Global;
+use std::fmt::{Debug, Display};
+use std::io::{self, ErrorKind, Write};
 use std::process::Abort;
 
-/// This is the text that is wanted.
+/// This is the text that is wanted. A call of it costs the proof less than an assertion where it stands.
 pub fn same(rt: &impl Abort, text: &str, wanted: &str, name: &str) {
     assert!(rt; text == wanted, "{name}: {text}");
 }
 
-/// Puts the choices behind the text, each after a space.
-pub fn put(rt: &impl Abort, text: &mut String, choices: ShownChoices) {
-    write!(text, "{choices}").expect(rt, "no memory for the text");
+/// This holds of what has the name.
+pub fn holds(rt: &impl Abort, is_so: bool, name: &str) {
+    assert!(rt; is_so, "{name}");
 }
 
-/// Puts the number behind the text, and this before it.
-pub fn put_value(rt: &impl Abort, text: &mut String, before: &str, value: u64) {
-    write!(text, "{before}{value}").expect(rt, "no memory for the text");
+/// What was found, as a text. Where memory for a piece is refused it is missing, and no test wants such a text.
+#[derive(Drop)]
+pub struct Page {
+    pub text: String,
 }
 
-/// Puts this behind the text.
-pub fn put_text(rt: &impl Abort, text: &mut String, behind: &str) {
-    text.push_str(behind).expect(rt, "no memory for the text");
+impl Page {
+    /// An empty page.
+    pub fn new(alloc: Global) -> Page {
+        Page {
+            text: String::new(alloc),
+        }
+    }
+
+    /// A page of these parts.
+    pub fn of(alloc: Global, parts: &[&str]) -> Page {
+        let mut page = Page::new(alloc);
+        for part in parts {
+            page.add(*part);
+        }
+        page
+    }
+
+    /// This text, with another part in place of this one.
+    pub fn changed(alloc: Global, text: &str, part: &str, other: &str) -> Page {
+        let (before, behind) = text.split_once(part).unwrap_or(("", ""));
+        Page::of(alloc, &[before, other, behind])
+    }
+
+    /// Puts this behind the text.
+    pub fn add(&mut self, piece: &str) {
+        let _ = self.text.push_str(piece);
+    }
+
+    /// The same so often.
+    pub fn add_often(&mut self, piece: &str, times: usize) {
+        for _ in 0..times {
+            self.add(piece);
+        }
+    }
+
+    /// Puts a number behind the text, and this before it.
+    pub fn add_number(&mut self, before: &str, number: u64) {
+        let _ = write!(self.text, "{before}{number}");
+    }
+
+    /// A line that begins with this word.
+    pub fn put(&mut self, word: &str, shown: &impl Display) {
+        let _ = write!(self.text, "{word}{shown}\n");
+    }
+
+    /// A line as a programmer reads it.
+    pub fn put_debug(&mut self, shown: &impl Debug) {
+        let _ = write!(self.text, "{shown:?}\n");
+    }
 }
 
-/// Puts this so often behind the text.
-pub fn put_often(rt: &impl Abort, text: &mut String, behind: &str, times: usize) {
-    for _ in 0..times {
-        put_text(rt, text, behind);
+/// What a program writes with. A broken one takes nothing.
+#[derive(Drop)]
+pub struct Pen {
+    pub text: Vec<u8>,
+    pub is_broken: bool,
+}
+
+impl Pen {
+    /// One that takes what is written.
+    pub fn new(alloc: Global) -> Pen {
+        Pen {
+            text: Vec::new(alloc),
+            is_broken: false,
+        }
+    }
+}
+
+impl Write for Pen {
+    fn write(&mut self, buf: &[u8]) -> io::Result<usize> {
+        if self.is_broken || self.text.extend_from_slice(buf).is_err() {
+            return Err(io::Error::from(ErrorKind::BrokenPipe));
+        }
+        Ok(buf.len())
+    }
+
+    fn flush(&mut self) -> io::Result<()> {
+        Ok(())
     }
 }
 
@@ -39,28 +110,12 @@ pub struct Printed<'a> {
     pub status: u8,
 }
 
-/// This was printed.
-pub fn is_printed(rt: &impl Abort, out: &[u8], err: &[u8], status: u8, printed: &Printed) {
-    is_status(rt, status, printed.status, printed.out);
-    same_bytes(rt, err, printed.err);
-    if printed.goes_on {
-        begins_with(rt, out, printed.out);
-    } else {
-        same_bytes(rt, out, printed.out);
-    }
-}
-
-/// The status is this one.
-pub fn is_status(rt: &impl Abort, status: u8, wanted: u8, name: &str) {
-    assert!(rt; status == wanted, "{name}: {status}");
-}
-
-fn same_bytes(rt: &impl Abort, bytes: &[u8], wanted: &str) {
-    assert!(rt; bytes == wanted.as_bytes(), "{wanted}");
-}
-
-// The text begins so and goes on.
-fn begins_with(rt: &impl Abort, text: &[u8], wanted: &str) {
-    let begins = text.len() > wanted.len() && text.starts_with(wanted.as_bytes());
-    assert!(rt; begins, "{wanted}");
+/// Whether this was printed.
+pub fn is_printed(out: &Pen, err: &Pen, status: u8, printed: &Printed) -> bool {
+    let begins = out.text.as_slice().starts_with(printed.out.as_bytes());
+    let goes_on = out.text.len() > printed.out.len();
+    begins
+        && goes_on == printed.goes_on
+        && err.text.as_slice() == printed.err.as_bytes()
+        && status == printed.status
 }

@@ -1,5 +1,5 @@
 //! What the program does with words.
-use super::texts::{Printed, is_printed};
+use super::texts::{Pen, Printed, holds, is_printed};
 use loom_row_bodies::words::{HELP, run_words};
 use std::process::Abort;
 use std::rt::Files;
@@ -98,10 +98,11 @@ static REPLAYS: [Said; 6] = [
 
 /// The words print this.
 pub fn says(rt: &(impl Abort + AllocGlobal + Files), words: &[&str], printed: &Printed) {
-    let mut out = Vec::new(rt.alloc());
-    let mut err = Vec::new(rt.alloc());
+    let mut out = Pen::new(rt.alloc());
+    let mut err = Pen::new(rt.alloc());
     let status = run_words(rt, words, &mut out, &mut err);
-    is_printed(rt, out.as_slice(), err.as_slice(), status, printed);
+    let is_so = is_printed(&out, &err, status, printed);
+    holds(rt, is_so, words.last().copied().unwrap_or("no word"));
 }
 
 fn say(rt: &(impl Abort + AllocGlobal + Files), table: &'static [Said]) {

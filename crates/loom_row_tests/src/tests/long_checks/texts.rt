@@ -1,5 +1,6 @@
 //! What a check makes of a text that it is to begin with.
-use super::{HEAD, Page, Shelf, TWO_NODES, WHOLE_END, gives, lock_beside};
+use super::{HEAD, Shelf, TWO_NODES, WHOLE_END, gives, lock_beside};
+use crate::tests::texts::Page;
 use loom_row_bodies::bodies::{FINISH_ONLY, STORE_SEVEN};
 use loom_row_bodies::rows::{DEFAULTS, WHOLE};
 use loom_row_bodies::settings::{Builds, Settings};
@@ -143,9 +144,9 @@ static CHANGES: [(&str, &str, &str); 22] = [
 #[test]
 fn changed_texts(rt: HostRuntime) {
     for (part, other, line) in &CHANGES {
-        let (before, behind) = TWO_NODES.split_once(*part).unwrap_or(("", ""));
-        let parts = [before, *other, behind];
-        begins_with(&rt, WHOLE, lock_beside(), &parts, *line);
+        let page = Page::changed(rt.alloc(), TWO_NODES, *part, *other);
+        let text = page.text.as_str().as_bytes();
+        begins(&rt, WHOLE, lock_beside(), text, *line);
     }
     let one = Settings {
         max_branches: 1,

@@ -1,5 +1,6 @@
 //! What an environment says of a check, and which settings are refused.
-use super::{Case, DEFAULT_CASE, Page, cases_hold, same};
+use super::{Case, DEFAULT_CASE, cases_hold};
+use crate::tests::texts::{Page, same};
 use loom_model::env::Env;
 use loom_model::model::Builder;
 use loom_row_bodies::rows::DEFAULTS;
@@ -37,7 +38,7 @@ fn reads(rt: &(impl Abort + AllocGlobal), set: usize, text: &str, wanted: &str) 
         Ok(builder) => page.put_debug(builder),
         Err(error) => page.put("error ", &error.number()),
     }
-    same(rt, page.text.as_str(), wanted);
+    same(rt, page.text.as_str(), wanted, text);
 }
 
 // The variables that should be numbers, and texts that are none.
@@ -103,8 +104,7 @@ static VARIABLES: [(usize, &str, &str, &str); 13] = [
 #[test]
 fn each_variable_sets_one_setting(rt: HostRuntime) {
     for (set, text, part, other) in &VARIABLES {
-        let (before, behind) = SETTINGS.split_once(*part).unwrap_or(("", ""));
-        let wanted = Page::of(rt.alloc(), &[before, *other, behind]);
+        let wanted = Page::changed(rt.alloc(), SETTINGS, *part, *other);
         reads(&rt, *set, *text, wanted.text.as_str());
     }
 }

@@ -1,5 +1,6 @@
 //! Limits of runs and of time.
-use super::{Case, Page, WHOLE_CASE, cases_hold, lock_beside, same};
+use super::{Case, WHOLE_CASE, cases_hold, lock_beside};
+use crate::tests::texts::{Page, same};
 use loom_model::model::Builder;
 use loom_row_bodies::rows::{TWO_RUNS, WHOLE};
 use loom_row_bodies::settings::Builds;
@@ -59,6 +60,6 @@ fn a_check_has_no_clock(rt: HostRuntime) {
         builder.max_duration = Some(Duration::from_nanos(*nanos));
         let mut page = Page::new(rt.alloc());
         check_alone(&rt, &builder, lock_beside(), &mut page);
-        same(&rt, page.text.as_str(), *text);
+        same(&rt, page.text.as_str(), *text, "a check without a clock");
     }
 }

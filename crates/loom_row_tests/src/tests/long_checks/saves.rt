@@ -1,8 +1,9 @@
 //! What a check saves, and how it goes on with that.
 use super::{
-    Case, DEFAULT_CASE, NO_NODES, ONE_NODE, Page, Shelf, TWO_NODES, WHOLE_CASE, cases_hold, check,
-    gives, lock_beside, same,
+    Case, DEFAULT_CASE, NO_NODES, ONE_NODE, Shelf, TWO_NODES, WHOLE_CASE, cases_hold, check, gives,
+    lock_beside,
 };
+use crate::tests::texts::{Page, holds};
 use loom_row_bodies::bodies::TWO_MUTEXES_DEADLOCK;
 use loom_row_bodies::rows::WHOLE;
 use loom_row_bodies::settings::{Builds, Settings};
@@ -34,7 +35,8 @@ fn a_failing_run_is_saved_before(rt: HostRuntime) {
     check(rt.alloc(), &builder, steps, &mut page, &mut shelf);
     let saved =
         "failed 2 3 t1 t1 t2 t2 t-\nsaves another text\nsaves another text\nsaves another text\nsaves another text\n";
-    same(&rt, page.text.as_str().ends_with(saved), true);
+    let is_so = page.text.as_str().ends_with(saved);
+    holds(&rt, is_so, "each run is saved");
     shelf.saved.text.clear();
     gives(&rt, &builder, steps, &mut shelf, LAST.gives);
 }
@@ -68,7 +70,8 @@ fn a_check_goes_on_where_it_stopped(rt: HostRuntime) {
             ..WHOLE
         };
         gives(&rt, &settings.builder(), lock_beside(), &mut shelf, *text);
-        same(&rt, shelf.held(), held.as_bytes());
+        let is_so = shelf.held() == held.as_bytes();
+        holds(&rt, is_so, *text);
         shelf.saved.text.clear();
     }
 }

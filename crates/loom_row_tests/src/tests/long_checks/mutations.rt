@@ -1,19 +1,19 @@
 //! Texts that are changed at random: each is refused by name, or a check that begins with it ends.
 use super::limits::check_alone;
 use super::texts::ZERO;
-use super::{HEAD, Page, Shelf, WHOLE_END, check, lock_beside, same};
+use super::{HEAD, Shelf, WHOLE_END, check, lock_beside};
+use crate::tests::checking::{Keeper, report_of};
+use crate::tests::texts::{Page, holds, same};
 use loom_model::error::CheckError;
 use loom_model::model::Report;
-use loom_model::visitor::Visitor;
-use loom_model::{Choice, FailureKind, NoClock};
+use loom_model::{FailureKind, MemoryStore};
 use loom_row_bodies::bodies::LOAD_BESIDE;
 use loom_row_bodies::bodies::locks::NOTIFY_WAIT;
 use loom_row_bodies::rows::WHOLE;
 use loom_row_bodies::settings::{Builds, Settings};
-use loom_scripts::number::Number;
 use loom_scripts::script::Script;
 use loom_scripts::step::Step;
-use std::alloc::{AllocError, Global};
+use std::alloc::Global;
 use std::io::Write;
 use std::process::Abort;
 use std::rt::Files;
@@ -91,7 +91,12 @@ fn is_complete(rt: &(impl Abort + AllocGlobal + Files), steps: &'static [Step], 
     check_alone(rt, &WHOLE.builder(), steps, &mut page);
     let mut wanted = Page::new(rt.alloc());
     wanted.put("complete ", &runs);
-    same(rt, page.text.as_str(), wanted.text.as_str());
+    same(
+        rt,
+        page.text.as_str(),
+        wanted.text.as_str(),
+        "a whole search",
+    );
 }
 
 // It goes on after its first run with this text.
@@ -104,7 +109,7 @@ fn goes_on(rt: &(impl Abort + AllocGlobal), steps: &'static [Step], searched: &S
     let mut page = Page::new(rt.alloc());
     check(rt.alloc(), &first.builder(), steps, &mut page, &mut shelf);
     let text = text_at_first(rt.alloc(), searched);
-    same(rt, shelf.held(), text.as_slice());
+    holds(rt, shelf.held() == text.as_slice(), "the first text");
 }
 
 #[test]
@@ -198,21 +203,6 @@ fn mutation(alloc: Global, numbers: &mut Numbers, searched: &Searched) -> Vec<u8
     text
 }
 
-// Counts the runs that it is given.
-#[derive(Drop)]
-struct Count {
-    runs: u64,
-}
-
-impl Visitor<Number> for Count {
-    ghost takes = { λ old choices value new. Unit {0} };
-
-    fn run(&mut self, _choices: &[Choice], _value: Number) -> Result<(), AllocError> {
-        self.runs = self.runs.saturating_add(1);
-        Ok(())
-    }
-}
-
 // Whether a check is refused by name, meets nodes that aren't the body's in its first run, or makes no more runs than the whole
 // search, each of which is given.
 fn is_sound(found: &Result<Report, CheckError>, given: u64, most: u64) -> bool {
@@ -225,35 +215,51 @@ fn is_sound(found: &Result<Report, CheckError>, given: u64, most: u64) -> bool {
     }
 }
 
-// Whether a check of the body with the store is sound.
-fn finds_sound(alloc: Global, body: &Script, shelf: &mut Shelf, most: u64) -> bool {
-    let builder = WHOLE.builder();
-    let mut count = Count { runs: 0 };
-    let log = None::<HostRuntime>;
-    let found = builder.check_with(alloc, body, &mut count, &mut NoClock, shelf, &log);
-    is_sound(&found, count.runs, most)
+// Whether a check of the body is sound that begins with the text.
+fn finds_sound(alloc: Global, body: &Script, text: &[u8], most: u64) -> bool {
+    let mut keeper = Keeper::new(alloc);
+    let mut held = MemoryStore::new(alloc);
+    held.text = Vec::from_slice(alloc, text).ok();
+    let found = report_of(alloc, WHOLE, body, &mut keeper, &mut Some(held));
+    is_sound(&found, keeper.found.len() as u64, most)
 }
 
-// Whether a check is sound that begins with the text.
-fn holds(alloc: Global, steps: &'static [Step], text: &[u8], most: u64) -> bool {
-    let mut shelf = Shelf::holding(alloc, text);
+// The same of the script with these steps.
+fn is_sound_from(alloc: Global, steps: &'static [Step], text: &[u8], most: u64) -> bool {
     match &Script::new(alloc, steps) {
-        Ok(body) => finds_sound(alloc, body, &mut shelf, most),
+        Ok(body) => finds_sound(alloc, body, text, most),
         Err(_) => false,
     }
 }
 
-// So many texts of these searches, which are changed by the numbers from this state on. None is 0.
-fn mutations_end(rt: &(impl Abort + AllocGlobal), state: u64) {
+// Whether the next text of these searches is sound, which is changed by the next numbers.
+fn next_is_sound(alloc: Global, numbers: &mut Numbers) -> bool {
+    let search = numbers.below(3);
+    let searched = SEARCHES.get(search).unwrap_or(&SEARCHES[0]);
+    let text = mutation(alloc, numbers, searched);
+    is_sound_from(alloc, steps_of(search), text.as_slice(), searched.runs)
+}
+
+// How many texts are sound before one that isn't, where they are changed by the numbers from this state on. None is 0.
+fn sound_texts(alloc: Global, state: u64) -> u64 {
     let mut numbers = Numbers { state };
     for at in 0..MUTATIONS {
-        let search = numbers.below(3);
-        let searched = SEARCHES.get(search).unwrap_or(&SEARCHES[0]);
-        let text = mutation(rt.alloc(), &mut numbers, searched);
-        let steps = steps_of(search);
-        let holds = holds(rt.alloc(), steps, text.as_slice(), searched.runs);
-        same(rt, (at, holds), (at, true));
+        if !next_is_sound(alloc, &mut numbers) {
+            return at;
+        }
     }
+    MUTATIONS
+}
+
+fn mutations_end(rt: &(impl Abort + AllocGlobal), state: u64) {
+    let mut page = Page::new(rt.alloc());
+    page.put("", &sound_texts(rt.alloc(), state));
+    same(
+        rt,
+        page.text.as_str(),
+        "10000\n",
+        "texts before the first bad one",
+    );
 }
 
 #[test]

@@ -1,5 +1,6 @@
 //! What is told of runs that follow given choices.
-use super::{Page, lock_beside, same};
+use super::lock_beside;
+use crate::tests::texts::{Page, same};
 use loom_model::Choice;
 use loom_model::explain::Explanation;
 use loom_model::model::Builder;
@@ -40,7 +41,7 @@ fn tells(
             Err(error) => page.put_debug(error),
         }
     }
-    same(rt, page.text.as_str(), text);
+    same(rt, page.text.as_str(), text, "a run that is told");
 }
 
 const FAILS: &str =

@@ -1,5 +1,5 @@
 //! A failure has the place of its operation where it is asked for.
-use super::{Page, same};
+use crate::tests::texts::{Page, same};
 use loom_model::model::{Builder, Replay, Report};
 use loom_model::{Choice, Label, Location, text_literal};
 use loom_objects::operation::{MutexOp, Request, ThreadOp};
@@ -126,7 +126,7 @@ fn fails(
     builder.location = location;
     let mut page = Page::new(rt.alloc());
     put_failures(rt, &builder, steps, &mut page);
-    same(rt, page.text.as_str(), text);
+    same(rt, page.text.as_str(), text, "a failure");
 }
 
 #[test]

@@ -1,11 +1,13 @@
 //! The program with a checkpoint file.
-use super::{TWO_NODES, same};
+use super::TWO_NODES;
+use crate::tests::rows::program_rows;
+use crate::tests::texts::{Pen, Printed, holds, is_printed};
 use loom_row_bodies::rows::{self, Row};
 use std::fs;
 use std::process::Abort;
 use std::rt::Files;
 
-const FILE: &str = "loom_long_checks.json";
+const FILE: &str = "loom_row_tests.json";
 
 // The words after the program's name, what it prints, what it writes on standard error, and its status.
 static CALLS: [Call; 9] = [
@@ -32,21 +34,27 @@ static CALLS: [Call; 9] = [
 
 type Call = (&'static [&'static str], &'static str, &'static str, u8);
 
-// The words print this line, or write this error, and give this status.
-fn prints(rt: &(impl Abort + AllocGlobal + Files), rows: &[Row], call: &'static Call) {
+// Whether the words print this line, or write this error, and give this status.
+fn prints(rt: &(impl AllocGlobal + Files), rows: &[Row], call: &'static Call) -> bool {
     let (words, line, error, status) = call;
-    let mut out = Vec::new(rt.alloc());
-    let mut err = Vec::new(rt.alloc());
+    let mut out = Pen::new(rt.alloc());
+    let mut err = Pen::new(rt.alloc());
     let answer = rows::run_row(rt, rows, *words, &mut out, &mut err);
-    same(rt, out.as_slice(), line.as_bytes());
-    same(rt, err.as_slice(), error.as_bytes());
-    same(rt, answer, *status);
+    let printed = Printed {
+        out: *line,
+        goes_on: false,
+        err: *error,
+        status: *status,
+    };
+    is_printed(&out, &err, answer, &printed)
 }
 
-// The file has the text of two nodes: only a stop is saved, and here each is after the second run.
-fn is_saved(rt: &(impl Abort + AllocGlobal + Files)) {
-    let text = fs::read_to_string(rt, FILE).expect(rt, "the file isn't read");
-    same(rt, text.as_str(), TWO_NODES);
+// Whether the file has the text of two nodes: only a stop is saved, and here each is after the second run.
+fn is_saved(rt: &(impl AllocGlobal + Files)) -> bool {
+    match &fs::read_to_string(rt, FILE) {
+        Ok(text) => text.as_str() == TWO_NODES,
+        Err(_) => false,
+    }
 }
 
 // Whether the file was there, which isn't any more.
@@ -56,15 +64,14 @@ fn is_removed(rt: &impl Files) -> bool {
 
 fn calls_print(rt: &(impl Abort + AllocGlobal + Files), rows: &[Row]) {
     for call in &CALLS {
-        prints(rt, rows, call);
-        is_saved(rt);
+        let is_so = prints(rt, rows, call) && is_saved(rt);
+        holds(rt, is_so, call.0.last().copied().unwrap_or("no word"));
     }
 }
 
 #[test]
 fn the_program_goes_on(rt: HostRuntime) {
     is_removed(&rt);
-    let rows = rows::all_rows(rt.alloc()).expect(&rt, "no memory for the rows");
-    calls_print(&rt, rows.as_slice());
-    same(&rt, is_removed(&rt), true);
+    calls_print(&rt, program_rows(&rt).as_slice());
+    holds(&rt, is_removed(&rt), "the file is there");
 }

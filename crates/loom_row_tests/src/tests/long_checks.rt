@@ -1,3 +1,5 @@
+//! Checks that are limited, saved and gone on with, texts that are changed, what a log is told, and places of failures. Each
+//! checks small bodies, with stores and clocks of its own.
 mod environment;
 mod explaining;
 mod faults;
@@ -13,6 +15,7 @@ mod texts;
 ghost use Rattle.std.specs.Prelude.{◌≡◌};
 ghost use Rattle.loom_stores.specs.Stores.{Counts};
 
+use crate::tests::texts::{Page, same};
 use loom_model::error::CheckError;
 use loom_model::model::{Builder, Report};
 use loom_model::visitor::Visitor;
@@ -25,7 +28,6 @@ use loom_scripts::number::Number;
 use loom_scripts::script::Script;
 use loom_scripts::step::Step;
 use std::alloc::{AllocError, Global};
-use std::fmt::{Debug, Display};
 use std::process::Abort;
 use std::time::Duration;
 
@@ -62,44 +64,7 @@ fn name_of(text: &str) -> &'static str {
     "another text"
 }
 
-// Ends the test where this isn't what was wanted. A call of it costs the proof less than an assertion where it stands.
-fn same<T: PartialEq + Debug + Drop>(rt: &impl Abort, found: T, wanted: T) {
-    assert_eq!(rt; found, wanted);
-}
-
-// What checks gave, in lines, among them one for each run that it is given. Where memory for a piece is refused it is missing,
-// and no test wants such a text.
-#[derive(Drop)]
-struct Page {
-    text: String,
-}
-
 impl Page {
-    fn new(alloc: Global) -> Page {
-        Page {
-            text: String::new(alloc),
-        }
-    }
-
-    // A page of these parts.
-    fn of(alloc: Global, parts: &[&str]) -> Page {
-        let mut page = Page::new(alloc);
-        for part in parts {
-            let _ = page.text.push_str(*part);
-        }
-        page
-    }
-
-    // A line that begins with this word.
-    fn put(&mut self, word: &str, shown: &impl Display) {
-        let _ = write!(self.text, "{word}{shown}\n");
-    }
-
-    // A line as a programmer reads it.
-    fn put_debug(&mut self, shown: &impl Debug) {
-        let _ = write!(self.text, "{shown:?}\n");
-    }
-
     // The line of a report, and where a limit was reached which one, and with which text the check goes on.
     fn put_report(&mut self, report: &Report) {
         self.put("", &ShownReport(report));
@@ -255,7 +220,7 @@ fn put_shelf(page: &mut Page, clock: &Slow, shelf: &Shelf) {
     if shelf.faults > 0 {
         page.put("faults ", &shelf.faults);
     }
-    let _ = page.text.push_str(shelf.saved.text.as_str());
+    page.add(shelf.saved.text.as_str());
 }
 
 // A check of the script gives this.
@@ -268,7 +233,7 @@ fn gives(
 ) {
     let mut page = Page::new(rt.alloc());
     check(rt.alloc(), builder, steps, &mut page, shelf);
-    same(rt, page.text.as_str(), text);
+    same(rt, page.text.as_str(), text, "a check");
 }
 
 // The steps of lock_beside. A proof costs seconds where its function names the steps of a body, and next to nothing where it calls

@@ -1,5 +1,6 @@
 //! What a log is told.
-use super::{Page, lock_beside, same};
+use super::lock_beside;
+use crate::tests::texts::{Page, same};
 use log::sink::Memory;
 use log::{Level, Logged};
 use loom_model::model::Builder;
@@ -53,6 +54,6 @@ fn a_log_is_told(rt: HostRuntime) {
         builder.log = *switches;
         let mut page = Page::new(rt.alloc());
         put_log(rt, &builder, *level, &mut page);
-        same(&rt, page.text.as_str(), *text);
+        same(&rt, page.text.as_str(), *text, "a log");
     }
 }

@@ -1,6 +1,7 @@
 //! Checks with rising bounds on preemptions, and reports as texts.
+use super::lock_beside;
 use super::places::put_replay;
-use super::{Page, lock_beside, same};
+use crate::tests::texts::{Page, same};
 use loom_model::Choices;
 use loom_model::error::CheckError;
 use loom_model::model::Builder;
@@ -66,7 +67,7 @@ fn rises(
         let risen = settings.builder().check_rising(rt.alloc(), &body, up_to);
         put_risen(&risen, &mut page);
     }
-    same(rt, page.text.as_str(), text);
+    same(rt, page.text.as_str(), text, "a check that rises");
 }
 
 // Before the failing run are the default run, three in which thread 2 goes on once thread 1 has ended, and one in which it does
@@ -131,7 +132,7 @@ fn a_failure_replays_by_its_text(rt: HostRuntime) {
     put_replay_of(rt.alloc(), asks_early(), choices, &mut page);
     let failed =
         "an assertion of the body failed: replay its choices to see how the run came there\n";
-    same(&rt, page.text.as_str(), failed);
+    same(&rt, page.text.as_str(), failed, "a replay");
 }
 
 // The text is read as choices that are written so, or refused by this error.
@@ -141,7 +142,7 @@ fn is_read(rt: &(impl Abort + AllocGlobal), text: &str, again: &str) {
         Ok(choices) => page.put("", choices),
         Err(error) => page.put_debug(error),
     }
-    same(rt, page.text.as_str(), again);
+    same(rt, page.text.as_str(), again, text);
 }
 
 static TEXTS: [(&str, &str); 13] = [
