@@ -16,7 +16,7 @@ use loom_views::rt::num::Numbers;
 use std::collections::LinkedList;
 
 /// An atomic, whose stores are kept with the views (loom's `rt/atomic.rs`).
-#[derive(Clone, Copy, Debug)]
+#[derive(Clone, Copy)]
 pub struct Atomic {
     /// The type of what it holds.
     pub numbers: Numbers,
@@ -79,7 +79,7 @@ pub struct Cell<D> {
 }
 
 /// Whether a thread has woken from a notifier without a notification (loom's `rt/notify.rs`).
-#[derive(Clone, Copy, Debug, PartialEq, Eq)]
+#[derive(Clone, Copy)]
 pub enum Spurious {
     /// None does: it is a notifier that a `join` waits on.
     Never,
@@ -92,7 +92,7 @@ pub enum Spurious {
 }
 
 /// A notifier, on which one thread waits at a time (loom's `rt/notify.rs`).
-#[derive(Clone, Copy, Debug)]
+#[derive(Clone, Copy)]
 pub struct Notify {
     /// Whether it was notified since a thread last waited.
     pub notified: bool,
@@ -114,7 +114,7 @@ pub struct Channel<D> {
 }
 
 /// How many wakers of a future there are (loom's `future/mod.rs`, where an `Arc` counts them).
-#[derive(Clone, Copy, Debug)]
+#[derive(Clone, Copy)]
 pub struct Wakers {
     /// The number of the notifier by which they wake.
     pub notifier: usize,
@@ -123,7 +123,7 @@ pub struct Wakers {
 }
 
 /// A place for a waker, and the lock round it (loom's `future/atomic_waker.rs`).
-#[derive(Clone, Copy, Debug)]
+#[derive(Clone, Copy)]
 pub struct AtomicWaker {
     /// The thread that holds the lock.
     pub holder: Option<u8>,

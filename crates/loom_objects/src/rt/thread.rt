@@ -6,7 +6,7 @@ use loom_views::sequence::Sequence;
 use std::collections::LinkedList;
 
 /// Whether a thread may be chosen (loom's `rt/thread.rs`).
-#[derive(Clone, Copy, Debug, PartialEq, Eq)]
+#[derive(Clone, Copy)]
 pub enum State {
     Runnable,
     /// Its pending operation waits for an object.
@@ -28,7 +28,7 @@ pub struct Name {
 }
 
 /// How far a thread's end has come: `finish`, `exit` and `end` come once each, in this order.
-#[derive(Clone, Copy, Debug, PartialEq, Eq)]
+#[derive(Clone, Copy)]
 pub enum Phase {
     Working,
     Finished,
@@ -37,7 +37,7 @@ pub enum Phase {
 }
 
 /// What a thread does with a counted reference when it is chosen.
-#[derive(Clone, Copy, Debug, PartialEq, Eq)]
+#[derive(Clone, Copy)]
 pub enum Counting {
     /// It makes one reference more.
     Clone,
@@ -52,7 +52,7 @@ pub enum Counting {
 }
 
 /// Which call it was that takes a mutex.
-#[derive(Clone, Copy, Debug, PartialEq, Eq)]
+#[derive(Clone, Copy)]
 pub enum Locking {
     /// `lock`, or the end of a wait on a condition variable.
     Untimed,
@@ -61,7 +61,7 @@ pub enum Locking {
 }
 
 /// How a thread takes a read-write lock when it is chosen.
-#[derive(Clone, Copy, Debug, PartialEq, Eq)]
+#[derive(Clone, Copy)]
 pub enum Claim {
     Read,
     /// To read, without waiting.
@@ -72,14 +72,14 @@ pub enum Claim {
 }
 
 /// How many of a condition variable's waiters a thread wakes when it is chosen.
-#[derive(Clone, Copy, Debug, PartialEq, Eq)]
+#[derive(Clone, Copy)]
 pub enum Waking {
     One,
     All,
 }
 
 /// How a thread takes a message out of a channel when it is chosen.
-#[derive(Clone, Copy, Debug, PartialEq, Eq)]
+#[derive(Clone, Copy)]
 pub enum Receiving {
     /// `recv`.
     Recv,
@@ -88,7 +88,7 @@ pub enum Receiving {
 }
 
 /// What a thread does with a waker that it has taken out of its place.
-#[derive(Clone, Copy, Debug, PartialEq, Eq)]
+#[derive(Clone, Copy)]
 pub enum Taking {
     /// It has the waker.
     Answer,
@@ -97,7 +97,7 @@ pub enum Taking {
 }
 
 /// What follows once a waker was dropped.
-#[derive(Clone, Copy, Debug, PartialEq, Eq)]
+#[derive(Clone, Copy)]
 pub enum AfterDrop {
     /// The thread is answered.
     Done,
@@ -108,7 +108,7 @@ pub enum AfterDrop {
 }
 
 /// What follows once a waker has notified.
-#[derive(Clone, Copy, Debug, PartialEq, Eq)]
+#[derive(Clone, Copy)]
 pub enum AfterWake {
     /// The thread is answered.
     Done,
@@ -197,7 +197,7 @@ pub struct Thread<D> {
 }
 
 /// What the threads of a run offer to a schedule.
-#[derive(Clone, Copy, Debug, PartialEq, Eq)]
+#[derive(Clone, Copy)]
 pub struct Offers {
     /// The thread that goes on by itself; none where no thread can go on.
     pub default: Option<u8>,
