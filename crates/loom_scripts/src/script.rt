@@ -1,8 +1,8 @@
 //! Bodies that take one step of a list after another.
-ghost use Rattle.std.specs.Prelude.{◌≡◌, IfOk, Ok, Some, option_copied};
+ghost use Rattle.std.specs.Prelude.{◌≡◌, Err, IfOk, Ok, Some, option_copied};
 ghost use Rattle.loom_objects.specs.Labels.{bare};
 ghost use Rattle.loom_scripts.specs.Running.{spawned, started};
-ghost use Rattle.loom_scripts.specs.Script.{label_of, next_of, request, spawn_at, step_request, store};
+ghost use Rattle.loom_scripts.specs.Script.{label_of, next_of, request, spawn_at, store};
 
 use crate::number::Number;
 use crate::state::{State, place_of};
@@ -122,27 +122,6 @@ impl Script {
         let child = self.child(place_of(self.steps, name))?;
         Ok(Request::Thread(ThreadOp::Spawn(child, None)))
     }
-
-    /// What the step asks for. Beyond the script's end, and where a jump leads to a jump or past a label to another one, it
-    /// fails.
-    fn step_request(&self, step: Option<&Step>) -> Result<Request<Number, Script>, AllocError>
-        ensures { IfOk result (λ made. made ≡ step_request self.now (option_copied step.entry)) }
-    {
-        match step {
-            Some(Step::Do(_, asked) | Step::Labelled(_, asked, _)) => self.request(asked),
-            Some(Step::Store(slot, value, order)) => Ok(self.store(*slot, *value, *order)),
-            Some(Step::SpawnAt(_, name)) => self.spawn_at(name),
-            Some(
-                Step::Jump(_)
-                | Step::Unless(..)
-                | Step::Label(_)
-                | Step::JumpTo(_)
-                | Step::IfTo(..)
-                | Step::UnlessTo(..),
-            )
-            | None => Ok(Request::Fail),
-        }
-    }
 }
 
 // How the script's author calls the step.
@@ -187,6 +166,13 @@ fn called(request: Request<Number, Script>, label: &Label) -> Result<Op<Number, 
     })
 }
 
+// A growth that was refused.
+fn refused(refusal: AllocError) -> Result<Op<Number, Script>, AllocError>
+    ensures { result ≡ Err refusal }
+{
+    Err(refusal)
+}
+
 impl Body for Script {
     type Data = Number;
 
@@ -201,8 +187,29 @@ impl Body for Script {
             self.state.keep(&reply);
         }
         let step = self.state.fetch(self.steps);
-        let request = self.step_request(step)?;
-        // Each answer goes out by itself: where both meet, each would be moved once more.
+        // Each answer goes out by itself: where two meet, each of them would be moved once more. Beyond the script's end, and
+        // where a jump leads to a jump or past a label to another one, the step fails.
+        let asked = match step {
+            Some(Step::Do(_, asked) | Step::Labelled(_, asked, _)) => asked,
+            Some(Step::Store(slot, value, order)) => return bare(self.store(*slot, *value, *order)),
+            Some(Step::SpawnAt(_, name)) => match self.spawn_at(name) {
+                Ok(request) => return bare(request),
+                Err(refusal) => return refused(refusal),
+            },
+            Some(
+                Step::Jump(_)
+                | Step::Unless(..)
+                | Step::Label(_)
+                | Step::JumpTo(_)
+                | Step::IfTo(..)
+                | Step::UnlessTo(..),
+            )
+            | None => return bare(Request::Fail),
+        };
+        let request = match self.request(asked) {
+            Ok(request) => request,
+            Err(refusal) => return refused(refusal),
+        };
         if let Some(label) = label_of(step) {
             return called(request, label);
         }
