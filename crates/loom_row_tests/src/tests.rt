@@ -58,3 +58,23 @@ mod texts;
 mod values;
 mod wakers;
 mod words;
+
+use finding::find;
+
+#[test]
+fn rows_find_what_their_tables_say(rt: HostRuntime) {
+    find(&rt, &cells::CASES);
+    find(&rt, &channels::CASES);
+    find(&rt, &exploring::CASES);
+    find(&rt, &lists::CASES);
+    find(&rt, &litmus::CASES);
+}
+
+#[test]
+fn other_rows_find_what_their_tables_say(rt: HostRuntime) {
+    find(&rt, &locks::CASES);
+    find(&rt, &values::CASES);
+    find(&rt, &wakers::CASES);
+    find(&rt, &each_operation::CASES);
+    find(&rt, &sizes::CASES);
+}

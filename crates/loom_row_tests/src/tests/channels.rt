@@ -1,8 +1,9 @@
 //! Channels: what their rows find.
-use super::finding::{Case, Shows, find};
+use super::finding::{Case, Shows};
 use loom_row_bodies::rows::{DEFAULTS, WHOLE};
 
-static CASES: [Case; 10] = [
+/// The rows of these.
+pub static CASES: [Case; 10] = [
     case!("send_then_recv", WHOLE, 1, "complete 1; t0 t0 t- = 5"),
     case!("recv_after_drop", WHOLE, 1, "complete 1; t0 t- = 7"),
     case!("try_recv_empty", WHOLE, 1, "complete 1; t- = 7"),
@@ -22,8 +23,3 @@ static CASES: [Case; 10] = [
         "failed 1 1 t1 t2 t2 t2 t0"
     ),
 ];
-
-#[test]
-fn channels(rt: HostRuntime) {
-    find(&rt, &CASES);
-}

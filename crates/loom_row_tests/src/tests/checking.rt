@@ -43,20 +43,22 @@ impl Keeper {
         Ok(())
     }
 
-    // Keeps the run that failed, if one did. Whether so many runs ended as the report says.
-    fn close(&mut self, report: &Report) -> bool {
+    // Keeps the run that failed, if one did, and whether so many runs ended as the report says.
+    fn close(&mut self, found: &Result<Report, CheckError>) {
         let ended = self.found.len() as u64;
-        match report {
-            Report::Complete { runs } => *runs == ended,
-            Report::Failed {
-                runs,
-                failure,
-                choices,
-            } => {
+        match found {
+            Ok(Report::Complete { runs }) => self.is_counted = *runs == ended,
+            Ok(
+                Report::Failed {
+                    runs,
+                    failure,
+                    choices,
+                },
+            ) => {
                 let kept = self.keep(choices.as_slice(), Ending::Failed(failure.kind));
-                kept.is_ok() && *runs == ended
+                self.is_counted = kept.is_ok() && *runs == ended;
             }
-            Report::Stopped { .. } => false,
+            Ok(Report::Stopped { .. }) | Err(_) => {}
         }
     }
 }
@@ -78,10 +80,14 @@ pub fn report_of<B: Body<Data = Number>>(
 /// The runs that a check makes.
 pub fn found_by<B: Body<Data = Number>>(alloc: Global, settings: Settings, body: &B) -> Keeper {
     let mut keeper = Keeper::new(alloc);
-    if let Ok(report) = &report_of(alloc, settings, body, &mut keeper, &mut None) {
-        keeper.is_counted = keeper.close(report);
-    }
+    fill(alloc, settings, body, &mut keeper);
     keeper
+}
+
+fn fill<B: Body<Data = Number>>(alloc: Global, settings: Settings, body: &B, keeper: &mut Keeper) {
+    let mut store = None;
+    let found = report_of(alloc, settings, body, keeper, &mut store);
+    keeper.close(&found);
 }
 
 /// Whether the run made these choices and ended so.

@@ -1,5 +1,5 @@
 //! Scripts that between them make every operation: with memory enough none fails for want of it.
-use super::finding::{Case, Shows, find};
+use super::finding::{Case, Shows};
 use loom_model::sync::atomic::Ordering::{AcqRel, Release, SeqCst};
 use loom_model::text_literal;
 use loom_objects::operation::{
@@ -234,7 +234,8 @@ pub fn rows() -> &'static [Row] {
     &ROWS
 }
 
-static CASES: [Case; 11] = [
+/// The rows of these.
+pub static CASES: [Case; 11] = [
     results!("atomics", DEFAULTS, "complete; 7"),
     results!("cells", DEFAULTS, "complete; 7"),
     results!("counts", DEFAULTS, "complete; 7"),
@@ -247,8 +248,3 @@ static CASES: [Case; 11] = [
     case!("fail_at_once", DEFAULTS, 0, "failed 1 0"),
     case!("unreachable", DEFAULTS, 0, "failed 15 0"),
 ];
-
-#[test]
-fn each_operation_finds_memory(rt: HostRuntime) {
-    find(&rt, &CASES);
-}

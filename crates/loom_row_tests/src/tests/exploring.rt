@@ -1,11 +1,12 @@
 //! Runs that don't explore everywhere: what their rows find.
-use super::finding::{Case, Shows, find};
+use super::finding::{Case, Shows};
 use loom_row_bodies::rows::{DEFAULTS, EXPLICIT, WHOLE};
 
 // The one run that is made without exploring.
 const DEFAULT_RUN: &str = "complete 1; t0 t1 t1 t- = 7";
 
-static CASES: [Case; 5] = [
+/// The rows of these.
+pub static CASES: [Case; 5] = [
     case!("stop_exploring", WHOLE, 1, DEFAULT_RUN),
     case!("skip_branch", WHOLE, 1, DEFAULT_RUN),
     case!("lock_beside", EXPLICIT, 1, DEFAULT_RUN),
@@ -18,8 +19,3 @@ static CASES: [Case; 5] = [
     ),
     case!("stop_exploring_twice", DEFAULTS, 0, "failed 19 0"),
 ];
-
-#[test]
-fn runs_explore_where_they_are_to(rt: HostRuntime) {
-    find(&rt, &CASES);
-}

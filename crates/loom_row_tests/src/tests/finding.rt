@@ -1,7 +1,8 @@
 //! What a check finds, as a text.
-use super::checking::{Keeper, found_by, is_run};
+use super::checking::{found_by, is_run};
 use super::rows::rows_of;
 use super::texts::{Page, same};
+use loom_model::error::CheckError;
 use loom_model::model::{Builder, Replay};
 use loom_model::{Body, Choice, FailureKind};
 use loom_plain::run::Ending;
@@ -12,6 +13,7 @@ use loom_row_bodies::settings::{Builds, Settings};
 use loom_row_bodies::updates::Updater;
 use loom_scripts::number::Number;
 use loom_scripts::script::Script;
+use loom_scripts::step::Step;
 use std::alloc::Global;
 use std::process::Abort;
 
@@ -34,31 +36,36 @@ pub struct Case {
 
 /// A check of each of these bodies finds what its text says. Its runs replay, unless their values alone are shown.
 pub fn find(rt: &(impl Abort + AllocGlobal), cases: &'static [Case]) {
-    let rows = rows_of(rt);
+    find_in(rt, rows_of(rt).as_slice(), cases);
+}
+
+fn find_in(rt: &(impl Abort + AllocGlobal), rows: &[Row], cases: &'static [Case]) {
     for case in cases {
-        find_case(rt, rows.as_slice(), case);
+        find_case(rt, rows, case);
     }
 }
 
 fn find_case(rt: &(impl Abort + AllocGlobal), rows: &[Row], case: &'static Case) {
     let mut page = Page::new(rt.alloc());
-    if let Some(row) = row_of(rows, case.name) {
-        put_checked(rt.alloc(), row.checked, case, &mut page);
-    }
+    put_case(rt.alloc(), rows, case, &mut page);
     same(rt, page.text.as_str(), case.text, case.name);
 }
 
-fn put_checked(alloc: Global, checked: Checked, case: &Case, page: &mut Page) {
-    match checked {
-        Checked::Script(steps) => {
-            if let Ok(script) = &Script::new(alloc, steps) {
-                put_found(alloc, case.settings, script, case.shows, page);
+fn put_case(alloc: Global, rows: &[Row], case: &Case, page: &mut Page) {
+    if let Some(row) = row_of(rows, case.name) {
+        match row.checked {
+            Checked::Script(steps) => put_script(alloc, case, steps, page),
+            Checked::Updater(one, other) => {
+                let updater = Updater::main(one, other);
+                put_found(alloc, case.settings, &updater, case.shows, page);
             }
         }
-        Checked::Updater(one, other) => {
-            let updater = Updater::main(one, other);
-            put_found(alloc, case.settings, &updater, case.shows, page);
-        }
+    }
+}
+
+fn put_script(alloc: Global, case: &Case, steps: &'static [Step], page: &mut Page) {
+    if let Ok(script) = &Script::new(alloc, steps) {
+        put_found(alloc, case.settings, script, case.shows, page);
     }
 }
 
@@ -71,20 +78,19 @@ pub fn put_found<B: Body<Data = Number>>(
     page: &mut Page,
 ) {
     let keeper = found_by(alloc, settings, body);
-    put_runs(alloc, &keeper, shows, page);
-    if let Shows::First(_) = shows
-        && !replays_each(alloc, settings, body, keeper.found.as_slice())
-    {
-        page.add("; no run again");
+    put_counted(page, keeper.is_counted);
+    put_runs(alloc, keeper.found.as_slice(), shows, page);
+    put_replays(alloc, settings, body, keeper.found.as_slice(), shows, page);
+}
+
+// What no test wants, where the report says another number of runs.
+fn put_counted(page: &mut Page, is_counted: bool) {
+    if !is_counted {
+        page.add("another number of runs: ");
     }
 }
 
-// What no test wants stands there where the report says another number of runs.
-fn put_runs(alloc: Global, keeper: &Keeper, shows: Shows, page: &mut Page) {
-    let found = keeper.found.as_slice();
-    if !keeper.is_counted {
-        page.add("another number of runs: ");
-    }
+fn put_runs(alloc: Global, found: &[Found], shows: Shows, page: &mut Page) {
     match shows {
         Shows::First(most) => {
             put_end(page, found, true);
@@ -159,16 +165,24 @@ fn put_list(page: &mut Page, values: &[u64]) {
 
 // How the check ended, as the program prints it. The number of runs may be left out.
 fn put_end(page: &mut Page, found: &[Found], is_counted: bool) {
-    let many = found.len() as u64;
     match found.last() {
-        Some(
-            Found {
-                choices,
-                ending: Ending::Failed(kind),
-            },
-        ) => put_failure(page, *kind, many, choices.as_slice()),
-        _ if is_counted => page.add_number("complete ", many),
-        _ => page.add("complete"),
+        Some(run) => put_last(page, run, found.len() as u64, is_counted),
+        None => put_complete(page, 0, is_counted),
+    }
+}
+
+// The last of so many runs.
+fn put_last(page: &mut Page, run: &Found, many: u64, is_counted: bool) {
+    match run.ending {
+        Ending::Ended(_) => put_complete(page, many, is_counted),
+        Ending::Failed(kind) => put_failure(page, kind, many, run.choices.as_slice()),
+    }
+}
+
+fn put_complete(page: &mut Page, many: u64, is_counted: bool) {
+    page.add("complete");
+    if is_counted {
+        page.add_number(" ", many);
     }
 }
 
@@ -177,6 +191,24 @@ fn put_failure(page: &mut Page, kind: FailureKind, many: u64, choices: &[Choice]
     page.add_number("failed ", u64::from(kind.number()));
     page.add_number(" ", many.saturating_sub(1));
     put_choices(page, choices);
+}
+
+// What no test wants, where one of these runs isn't made again by its choices. Values alone aren't made again.
+fn put_replays<B: Body<Data = Number>>(
+    alloc: Global,
+    settings: Settings,
+    body: &B,
+    found: &[Found],
+    shows: Shows,
+    page: &mut Page,
+) {
+    let are_made = match shows {
+        Shows::First(_) => replays_each(alloc, settings, body, found),
+        Shows::Values => true,
+    };
+    if !are_made {
+        page.add("; no run again");
+    }
 }
 
 // Whether each of these runs is made again by its choices.
@@ -190,9 +222,17 @@ fn replays_each<B: Body<Data = Number>>(
         reduce: true,
         ..settings
     };
-    let builder = reduced.builder();
+    are_replays(alloc, &reduced.builder(), body, found)
+}
+
+fn are_replays<B: Body<Data = Number>>(
+    alloc: Global,
+    builder: &Builder,
+    body: &B,
+    found: &[Found],
+) -> bool {
     for run in found {
-        if !replays(alloc, &builder, body, run) {
+        if !replays(alloc, builder, body, run) {
             return false;
         }
     }
@@ -205,18 +245,19 @@ fn replays<B: Body<Data = Number>>(
     body: &B,
     run: &Found,
 ) -> bool {
-    match &builder.replay(alloc, body, run.choices.as_slice()) {
-        Ok(replay) => is_replay(replay, run),
-        Err(_) => false,
-    }
+    let replay = builder.replay(alloc, body, run.choices.as_slice());
+    is_replay(&replay, run)
 }
 
 // This is how the run ended, and what it chose.
-fn is_replay(replay: &Replay<Number>, run: &Found) -> bool {
+fn is_replay(replay: &Result<Replay<Number>, CheckError>, run: &Found) -> bool {
     match replay {
-        Replay::Ended { choices, value } => is_run(run, choices.as_slice(), Ending::Ended(*value)),
-        Replay::Failed { failure, choices } => {
+        Ok(Replay::Ended { choices, value }) => {
+            is_run(run, choices.as_slice(), Ending::Ended(*value))
+        }
+        Ok(Replay::Failed { failure, choices }) => {
             is_run(run, choices.as_slice(), Ending::Failed(failure.kind))
         }
+        Err(_) => false,
     }
 }

@@ -1,8 +1,9 @@
 //! The exact runs of small bodies.
-use super::finding::{Case, Shows, find};
+use super::finding::{Case, Shows};
 use loom_row_bodies::rows::WHOLE;
 
-static CASES: [Case; 7] = [
+/// The rows of these.
+pub static CASES: [Case; 7] = [
     case!("finish_only", WHOLE, 1, "complete 1; t- = 7"),
     case!("spawn_only", WHOLE, 1, "complete 1; t1 t1 t- = 7"),
     // One thread loads what it stored last.
@@ -39,8 +40,3 @@ static CASES: [Case; 7] = [
         "complete 6; t0 l0 t1 t1 t1 t- = 0; t1 t1 t1 t0 l0 t- = 0; t1 t1 t1 t0 l1 t- = 1; t1 t1 t0 l0 t1 t- = 0; t1 t1 t0 l1 t1 t- = 1; t1 t0 l0 t1 t1 t- = 0"
     ),
 ];
-
-#[test]
-fn small_bodies_have_these_runs(rt: HostRuntime) {
-    find(&rt, &CASES);
-}

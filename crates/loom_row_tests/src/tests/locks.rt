@@ -1,8 +1,9 @@
 //! Locks, condition variables, notifiers and threads that wait: what their rows find.
-use super::finding::{Case, Shows, find};
+use super::finding::{Case, Shows};
 use loom_row_bodies::rows::WHOLE;
 
-static CASES: [Case; 9] = [
+/// The rows of these.
+pub static CASES: [Case; 9] = [
     case!("rwlock_read_twice", WHOLE, 1, "complete 1; t0 t0 t- = 7"),
     case!(
         "rwlock_write_then_try_write",
@@ -29,8 +30,3 @@ static CASES: [Case; 9] = [
     results!("notify_all", WHOLE, "complete; 7"),
     results!("unpark_wakes", WHOLE, "complete; 7"),
 ];
-
-#[test]
-fn locks_and_waits(rt: HostRuntime) {
-    find(&rt, &CASES);
-}

@@ -204,12 +204,23 @@ fn check(
     shelf: &mut Shelf,
 ) {
     let mut clock = Slow { answers: 0 };
-    if let Ok(body) = Script::new(alloc, steps) {
-        let log = None::<HostRuntime>;
-        let found = builder.check_with(alloc, &body, page, &mut clock, shelf, &log);
-        page.put_found(&found);
+    if let Ok(body) = &Script::new(alloc, steps) {
+        put_check(alloc, builder, body, page, &mut clock, shelf);
     }
     put_shelf(page, &clock, shelf);
+}
+
+fn put_check(
+    alloc: Global,
+    builder: &Builder,
+    body: &Script,
+    page: &mut Page,
+    clock: &mut Slow,
+    shelf: &mut Shelf,
+) {
+    let log = None::<HostRuntime>;
+    let found = builder.check_with(alloc, body, page, clock, shelf, &log);
+    page.put_found(&found);
 }
 
 // How often the clock was asked and how many faults the store met, if any, and what was saved.
@@ -285,4 +296,12 @@ fn cases_hold(rt: &(impl Abort + AllocGlobal), cases: &[Case]) {
     for case in cases {
         case_holds(rt, case);
     }
+}
+
+#[test]
+fn checks_give_what_their_cases_say(rt: HostRuntime) {
+    cases_hold(&rt, &limits::LIMITS);
+    cases_hold(&rt, &faults::FAULTS);
+    cases_hold(&rt, &saves::EACH);
+    cases_hold(&rt, &environment::RANGES);
 }

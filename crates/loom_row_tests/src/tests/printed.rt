@@ -165,10 +165,6 @@ fn prints(rt: &(impl Abort + AllocGlobal + Files), name: &str, line: &str, statu
 #[test]
 fn each_row_prints_its_line(rt: HostRuntime) {
     print(&rt, &LINES);
-}
-
-#[test]
-fn fences_are_counted(rt: HostRuntime) {
     print(&rt, &FENCES);
 }
 

@@ -1,5 +1,5 @@
 //! Runs as large as they may be: five threads, three guards of one thread, a path of 1,000 nodes.
-use super::finding::{Case, Shows, find};
+use super::finding::{Case, Shows};
 use loom_row_bodies::rows::WHOLE;
 
 // The last thread is chosen twice, the ends and joins of the others take six choices in one order: 28 ways to join these.
@@ -33,7 +33,8 @@ const FIVE_THREADS_BESIDE: &str = "complete 28\
     ; t1 t2 t3 t4 t3 t2 t4 t2 t1 t1 t0 t- = 7\
     ; t1 t2 t3 t4 t3 t4 t2 t2 t1 t1 t0 t- = 7";
 
-static CASES: [Case; 3] = [
+/// The rows of these.
+pub static CASES: [Case; 3] = [
     case!("five threads", WHOLE, 28, FIVE_THREADS_BESIDE),
     case!("three guards", WHOLE, 1, "complete 1; t0 t0 t0 t- = 1"),
     case!(
@@ -43,8 +44,3 @@ static CASES: [Case; 3] = [
         "complete 2; 1000 choices = 497; 1000 choices = 497"
     ),
 ];
-
-#[test]
-fn runs_may_be_so_large(rt: HostRuntime) {
-    find(&rt, &CASES);
-}

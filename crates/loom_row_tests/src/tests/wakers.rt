@@ -1,8 +1,9 @@
 //! Wakers and places for them: what their rows find.
-use super::finding::{Case, Shows, find};
+use super::finding::{Case, Shows};
 use loom_row_bodies::rows::{DEFAULTS, WHOLE};
 
-static CASES: [Case; 5] = [
+/// The rows of these.
+pub static CASES: [Case; 5] = [
     case!("ready_at_once", WHOLE, 1, "complete 1; t0 t- = 7"),
     case!(
         "waker_round",
@@ -15,8 +16,3 @@ static CASES: [Case; 5] = [
     results!("spurious_poll", DEFAULTS, "complete; 1; 2; 3"),
     case!("waker_leak", DEFAULTS, 0, "failed 5 0 t0 t0 t-"),
 ];
-
-#[test]
-fn wakers(rt: HostRuntime) {
-    find(&rt, &CASES);
-}

@@ -1,7 +1,8 @@
 //! What an environment says of a check, and which settings are refused.
-use super::{Case, DEFAULT_CASE, cases_hold};
+use super::{Case, DEFAULT_CASE};
 use crate::tests::texts::{Page, same};
 use loom_model::env::Env;
+use loom_model::error::CheckError;
 use loom_model::model::Builder;
 use loom_row_bodies::rows::DEFAULTS;
 use loom_row_bodies::settings::Settings;
@@ -31,13 +32,22 @@ fn environment(alloc: Global, set: usize, text: &str) -> Env {
     }
 }
 
-// Where this variable has this text, these are the settings, or the error.
-fn reads(rt: &(impl Abort + AllocGlobal), set: usize, text: &str, wanted: &str) {
-    let mut page = Page::new(rt.alloc());
-    match &Builder::from_env(environment(rt.alloc(), set, text)) {
+fn put_read(alloc: Global, set: usize, text: &str, page: &mut Page) {
+    let read = Builder::from_env(environment(alloc, set, text));
+    put_builder(&read, page);
+}
+
+fn put_builder(read: &Result<Builder, CheckError>, page: &mut Page) {
+    match read {
         Ok(builder) => page.put_debug(builder),
         Err(error) => page.put("error ", &error.number()),
     }
+}
+
+// Where this variable has this text, these are the settings, or the error.
+fn reads(rt: &(impl Abort + AllocGlobal), set: usize, text: &str, wanted: &str) {
+    let mut page = Page::new(rt.alloc());
+    put_read(rt.alloc(), set, text, &mut page);
     same(rt, page.text.as_str(), wanted, text);
 }
 
@@ -46,12 +56,16 @@ static NUMBERS: [usize; 5] = [0, 1, 2, 3, 5];
 
 static NO_NUMBERS: [&str; 6] = ["abc", "", "-5", "+", "5 ", "18446744073709551616"];
 
+fn is_no_number(rt: &(impl Abort + AllocGlobal), set: usize) {
+    for text in &NO_NUMBERS {
+        reads(rt, set, *text, "error 6\n");
+    }
+}
+
 #[test]
 fn other_texts_are_no_numbers(rt: HostRuntime) {
     for set in &NUMBERS {
-        for text in &NO_NUMBERS {
-            reads(&rt, *set, *text, "error 6\n");
-        }
+        is_no_number(&rt, *set);
     }
 }
 
@@ -101,16 +115,21 @@ static VARIABLES: [(usize, &str, &str, &str); 13] = [
     ),
 ];
 
+// Where this variable has this text, this part of the settings reads so.
+fn sets(rt: &(impl Abort + AllocGlobal), set: usize, text: &str, part: &str, other: &str) {
+    let wanted = Page::changed(rt.alloc(), SETTINGS, part, other);
+    reads(rt, set, text, wanted.text.as_str());
+}
+
 #[test]
 fn each_variable_sets_one_setting(rt: HostRuntime) {
     for (set, text, part, other) in &VARIABLES {
-        let wanted = Page::changed(rt.alloc(), SETTINGS, *part, *other);
-        reads(&rt, *set, *text, wanted.text.as_str());
+        sets(&rt, *set, *text, *part, *other);
     }
 }
 
 // The first setting out of range is refused.
-static RANGES: [Case; 4] = [
+pub(super) static RANGES: [Case; 4] = [
     Case {
         settings: Settings {
             max_threads: 0,
@@ -140,8 +159,3 @@ static RANGES: [Case; 4] = [
         ..DEFAULT_CASE
     },
 ];
-
-#[test]
-fn the_first_setting_out_of_range_is_refused(rt: HostRuntime) {
-    cases_hold(&rt, &RANGES);
-}

@@ -2,13 +2,14 @@
 use super::lock_beside;
 use crate::tests::texts::{Page, same};
 use loom_model::Choice;
+use loom_model::error::CheckError;
 use loom_model::explain::Explanation;
-use loom_model::model::Builder;
 use loom_objects::operation::{Request, ThreadOp};
 use loom_row_bodies::rows::DEFAULTS;
 use loom_row_bodies::settings::{Builds, Settings};
 use loom_scripts::script::Script;
 use loom_scripts::step::{FAIL, Step};
+use std::alloc::Global;
 use std::process::Abort;
 
 // Main waits for a thread, which fails.
@@ -26,6 +27,19 @@ fn put_told(told: &Explanation, page: &mut Page) {
     page.put_debug(&told.options);
 }
 
+// The same of the run that follows the choices, or the error.
+fn put_run(alloc: Global, settings: Settings, body: &Script, choices: &[Choice], page: &mut Page) {
+    let told = settings.builder().explain(alloc, body, choices);
+    put_answer(&told, page);
+}
+
+fn put_answer(told: &Result<Explanation, CheckError>, page: &mut Page) {
+    match told {
+        Ok(told) => put_told(told, page),
+        Err(error) => page.put_debug(error),
+    }
+}
+
 // This is told of the run of the script that follows the choices.
 fn tells(
     rt: &(impl Abort + AllocGlobal),
@@ -35,11 +49,8 @@ fn tells(
     text: &str,
 ) {
     let mut page = Page::new(rt.alloc());
-    if let Ok(body) = Script::new(rt.alloc(), steps) {
-        match &settings.builder().explain(rt.alloc(), &body, choices) {
-            Ok(told) => put_told(told, &mut page),
-            Err(error) => page.put_debug(error),
-        }
+    if let Ok(body) = &Script::new(rt.alloc(), steps) {
+        put_run(rt.alloc(), settings, body, choices, &mut page);
     }
     same(rt, page.text.as_str(), text, "a run that is told");
 }

@@ -1,5 +1,5 @@
 //! A store that meets a fault ends the check.
-use super::{Case, WHOLE_CASE, cases_hold};
+use super::{Case, WHOLE_CASE};
 use loom_row_bodies::rows::TWO_RUNS;
 
 const EACH: Case = Case {
@@ -7,7 +7,7 @@ const EACH: Case = Case {
     ..WHOLE_CASE
 };
 
-static FAULTS: [Case; 6] = [
+pub(super) static FAULTS: [Case; 6] = [
     Case {
         fails_at: 1,
         gives: "error 13\nfaults 1\n",
@@ -41,8 +41,3 @@ static FAULTS: [Case; 6] = [
         ..WHOLE_CASE
     },
 ];
-
-#[test]
-fn a_fault_is_answered(rt: HostRuntime) {
-    cases_hold(&rt, &FAULTS);
-}

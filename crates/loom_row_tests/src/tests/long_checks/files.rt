@@ -3,9 +3,9 @@ use super::TWO_NODES;
 use crate::tests::rows::program_rows;
 use crate::tests::texts::{Pen, Printed, holds, is_printed};
 use loom_row_bodies::rows::{self, Row};
-use std::fs;
 use std::process::Abort;
 use std::rt::Files;
+use std::{fs, io};
 
 const FILE: &str = "loom_row_tests.json";
 
@@ -51,7 +51,12 @@ fn prints(rt: &(impl AllocGlobal + Files), rows: &[Row], call: &'static Call) ->
 
 // Whether the file has the text of two nodes: only a stop is saved, and here each is after the second run.
 fn is_saved(rt: &(impl AllocGlobal + Files)) -> bool {
-    match &fs::read_to_string(rt, FILE) {
+    let text = fs::read_to_string(rt, FILE);
+    has_two_nodes(&text)
+}
+
+fn has_two_nodes(text: &io::Result<String>) -> bool {
+    match text {
         Ok(text) => text.as_str() == TWO_NODES,
         Err(_) => false,
     }
@@ -64,8 +69,8 @@ fn is_removed(rt: &impl Files) -> bool {
 
 fn calls_print(rt: &(impl Abort + AllocGlobal + Files), rows: &[Row]) {
     for call in &CALLS {
-        let is_so = prints(rt, rows, call) && is_saved(rt);
-        holds(rt, is_so, call.0.last().copied().unwrap_or("no word"));
+        holds(rt, prints(rt, rows, call), call.1);
+        holds(rt, is_saved(rt), "the file has two nodes");
     }
 }
 

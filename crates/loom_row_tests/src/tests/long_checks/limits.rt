@@ -1,16 +1,17 @@
 //! Limits of runs and of time.
-use super::{Case, WHOLE_CASE, cases_hold, lock_beside};
+use super::{Case, WHOLE_CASE, lock_beside};
 use crate::tests::texts::{Page, same};
 use loom_model::model::Builder;
 use loom_row_bodies::rows::{TWO_RUNS, WHOLE};
 use loom_row_bodies::settings::Builds;
 use loom_scripts::script::Script;
 use loom_scripts::step::Step;
+use std::process::Abort;
 use std::rt::Files;
 use std::time::Duration;
 
 // The count of runs is tested before the time.
-static LIMITS: [Case; 3] = [
+pub(super) static LIMITS: [Case; 3] = [
     Case {
         settings: TWO_RUNS,
         gives: " t0 t1 t1 t-\n t1 t1 t0 t-\nstopped 2\nby max_permutations\nat two nodes\nsaves two nodes\n",
@@ -29,11 +30,6 @@ static LIMITS: [Case; 3] = [
     },
 ];
 
-#[test]
-fn limits_stop_a_check(rt: HostRuntime) {
-    cases_hold(&rt, &LIMITS);
-}
-
 // Puts on the page what a check finds that nobody is given.
 pub(super) fn check_alone(
     rt: &(impl AllocGlobal + Files),
@@ -41,10 +37,23 @@ pub(super) fn check_alone(
     steps: &'static [Step],
     page: &mut Page,
 ) {
-    if let Ok(body) = Script::new(rt.alloc(), steps) {
-        let found = builder.check(rt, rt.alloc(), &body);
-        page.put_found(&found);
+    if let Ok(body) = &Script::new(rt.alloc(), steps) {
+        put_check(rt, builder, body, page);
     }
+}
+
+fn put_check(rt: &(impl AllocGlobal + Files), builder: &Builder, body: &Script, page: &mut Page) {
+    let found = builder.check(rt, rt.alloc(), body);
+    page.put_found(&found);
+}
+
+// A check of lock_beside that may take so long gives this.
+fn takes(rt: &(impl Abort + AllocGlobal + Files), nanos: u64, text: &str) {
+    let mut builder = WHOLE.builder();
+    builder.max_duration = Some(Duration::from_nanos(nanos));
+    let mut page = Page::new(rt.alloc());
+    check_alone(rt, &builder, lock_beside(), &mut page);
+    same(rt, page.text.as_str(), text, "a check without a clock");
 }
 
 // How long a check may take that has no clock, in nanoseconds, and what it finds.
@@ -56,10 +65,6 @@ static LONGEST: [(u64, &str); 2] = [
 #[test]
 fn a_check_has_no_clock(rt: HostRuntime) {
     for (nanos, text) in &LONGEST {
-        let mut builder = WHOLE.builder();
-        builder.max_duration = Some(Duration::from_nanos(*nanos));
-        let mut page = Page::new(rt.alloc());
-        check_alone(&rt, &builder, lock_beside(), &mut page);
-        same(&rt, page.text.as_str(), *text, "a check without a clock");
+        takes(&rt, *nanos, *text);
     }
 }

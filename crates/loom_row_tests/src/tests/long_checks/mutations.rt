@@ -18,12 +18,14 @@ use std::io::Write;
 use std::process::Abort;
 use std::rt::Files;
 
-// How many texts each test changes.
+// How many texts are changed by the numbers from each state on.
 const MUTATIONS: u64 = 10_000;
 
-// How many runs the search of a body makes that isn't reduced, and the nodes of the text with which it goes on after its first run.
+// How many runs the search of a body makes that isn't reduced, what that gives, and the nodes of the text with which it goes on
+// after its first run.
 struct Searched {
     runs: u64,
+    report: &'static str,
     nodes: &'static [&'static str],
 }
 
@@ -37,14 +39,17 @@ const WAITING: &str = "{\"exploring\":true,\"spurious\":true}";
 static SEARCHES: [Searched; 3] = [
     Searched {
         runs: 3,
+        report: "complete 3\n",
         nodes: &[LOCKING],
     },
     Searched {
         runs: 6,
+        report: "complete 6\n",
         nodes: &[LOCKING],
     },
     Searched {
         runs: 2,
+        report: "complete 2\n",
         nodes: &[ZERO, WAITING],
     },
 ];
@@ -85,29 +90,27 @@ fn text_at_first(alloc: Global, searched: &Searched) -> Vec<u8> {
     text_of(alloc, searched.nodes, many, many, "")
 }
 
-// The whole search is complete after so many runs.
-fn is_complete(rt: &(impl Abort + AllocGlobal + Files), steps: &'static [Step], runs: u64) {
+// The whole search gives this.
+fn is_complete(rt: &(impl Abort + AllocGlobal + Files), steps: &'static [Step], report: &str) {
     let mut page = Page::new(rt.alloc());
     check_alone(rt, &WHOLE.builder(), steps, &mut page);
-    let mut wanted = Page::new(rt.alloc());
-    wanted.put("complete ", &runs);
-    same(
-        rt,
-        page.text.as_str(),
-        wanted.text.as_str(),
-        "a whole search",
-    );
+    same(rt, page.text.as_str(), report, "a whole search");
 }
 
-// It goes on after its first run with this text.
-fn goes_on(rt: &(impl Abort + AllocGlobal), steps: &'static [Step], searched: &Searched) {
+// Saves where a check stops behind its first run.
+fn check_first(alloc: Global, steps: &'static [Step], shelf: &mut Shelf) {
     let first = Settings {
         max_permutations: Some(1),
         ..WHOLE
     };
+    let mut page = Page::new(alloc);
+    check(alloc, &first.builder(), steps, &mut page, shelf);
+}
+
+// It goes on after its first run with this text.
+fn goes_on(rt: &(impl Abort + AllocGlobal), steps: &'static [Step], searched: &Searched) {
     let mut shelf = Shelf::new(rt.alloc(), 0);
-    let mut page = Page::new(rt.alloc());
-    check(rt.alloc(), &first.builder(), steps, &mut page, &mut shelf);
+    check_first(rt.alloc(), steps, &mut shelf);
     let text = text_at_first(rt.alloc(), searched);
     holds(rt, shelf.held() == text.as_slice(), "the first text");
 }
@@ -116,7 +119,7 @@ fn goes_on(rt: &(impl Abort + AllocGlobal), steps: &'static [Step], searched: &S
 fn searches_go_on_with_their_texts(rt: HostRuntime) {
     for search in 0..SEARCHES.len() {
         let searched = &SEARCHES[search];
-        is_complete(&rt, steps_of(search), searched.runs);
+        is_complete(&rt, steps_of(search), searched.report);
         goes_on(&rt, steps_of(search), searched);
     }
 }
@@ -262,52 +265,35 @@ fn mutations_end(rt: &(impl Abort + AllocGlobal), state: u64) {
     );
 }
 
+// Where the numbers begin.
+static FIRST: [u64; 5] = [
+    0x9e37_79b9_7f4a_7c15,
+    0x6e78_9e6a_a1b9_65f4,
+    0x06c4_5d18_8009_454f,
+    0xf88b_b8a8_724c_81ec,
+    0x1b39_896a_51a8_749b,
+];
+
+static SECOND: [u64; 5] = [
+    0x53cb_9f0c_747e_a2ea,
+    0x2c82_9abe_1f45_32e1,
+    0xc584_133a_c916_ab3c,
+    0x3ee5_7890_41c9_8ac3,
+    0xf3b8_488c_368c_b0a6,
+];
+
+fn all_mutations_end(rt: &(impl Abort + AllocGlobal), states: &[u64]) {
+    for state in states {
+        mutations_end(rt, *state);
+    }
+}
+
 #[test]
 fn first_mutations_end(rt: HostRuntime) {
-    mutations_end(&rt, 0x9e37_79b9_7f4a_7c15);
+    all_mutations_end(&rt, &FIRST);
 }
 
 #[test]
 fn second_mutations_end(rt: HostRuntime) {
-    mutations_end(&rt, 0x6e78_9e6a_a1b9_65f4);
-}
-
-#[test]
-fn third_mutations_end(rt: HostRuntime) {
-    mutations_end(&rt, 0x06c4_5d18_8009_454f);
-}
-
-#[test]
-fn fourth_mutations_end(rt: HostRuntime) {
-    mutations_end(&rt, 0xf88b_b8a8_724c_81ec);
-}
-
-#[test]
-fn fifth_mutations_end(rt: HostRuntime) {
-    mutations_end(&rt, 0x1b39_896a_51a8_749b);
-}
-
-#[test]
-fn sixth_mutations_end(rt: HostRuntime) {
-    mutations_end(&rt, 0x53cb_9f0c_747e_a2ea);
-}
-
-#[test]
-fn seventh_mutations_end(rt: HostRuntime) {
-    mutations_end(&rt, 0x2c82_9abe_1f45_32e1);
-}
-
-#[test]
-fn eighth_mutations_end(rt: HostRuntime) {
-    mutations_end(&rt, 0xc584_133a_c916_ab3c);
-}
-
-#[test]
-fn ninth_mutations_end(rt: HostRuntime) {
-    mutations_end(&rt, 0x3ee5_7890_41c9_8ac3);
-}
-
-#[test]
-fn tenth_mutations_end(rt: HostRuntime) {
-    mutations_end(&rt, 0xf3b8_488c_368c_b0a6);
+    all_mutations_end(&rt, &SECOND);
 }

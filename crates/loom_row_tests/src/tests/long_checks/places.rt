@@ -1,8 +1,10 @@
 //! A failure has the place of its operation where it is asked for.
 use crate::tests::texts::{Page, same};
+use loom_model::error::CheckError;
 use loom_model::model::{Builder, Replay, Report};
 use loom_model::{Choice, Label, Location, text_literal};
 use loom_objects::operation::{MutexOp, Request, ThreadOp};
+use loom_scripts::number::Number;
 use loom_scripts::script::Script;
 use loom_scripts::step::{Step, Value};
 use std::alloc::Global;
@@ -64,7 +66,12 @@ pub(super) fn put_replay(
     choices: &[Choice],
     page: &mut Page,
 ) {
-    if let Ok(Replay::Failed { failure, .. }) = &builder.replay(alloc, body, choices) {
+    let replay = builder.replay(alloc, body, choices);
+    put_failure(&replay, page);
+}
+
+fn put_failure(replay: &Result<Replay<Number>, CheckError>, page: &mut Page) {
+    if let Ok(Replay::Failed { failure, .. }) = replay {
         page.put("", failure);
     }
 }
@@ -73,22 +80,30 @@ pub(super) fn put_replay(
 fn put_failures(
     rt: &(impl AllocGlobal + Files),
     builder: &Builder,
-    steps: &'static [Step],
+    body: &Script,
     page: &mut Page,
 ) {
-    if let Ok(body) = Script::new(rt.alloc(), steps) {
-        let found = builder.check(rt, rt.alloc(), &body);
-        if let Ok(
-            Report::Failed {
-                failure,
-                choices,
-                ..
-            },
-        ) = &found
-        {
-            page.put("", failure);
-            put_replay(rt.alloc(), builder, &body, choices.as_slice(), page);
-        }
+    let found = builder.check(rt, rt.alloc(), body);
+    put_both(rt.alloc(), builder, body, &found, page);
+}
+
+fn put_both(
+    alloc: Global,
+    builder: &Builder,
+    body: &Script,
+    found: &Result<Report, CheckError>,
+    page: &mut Page,
+) {
+    if let Ok(
+        Report::Failed {
+            failure,
+            choices,
+            ..
+        },
+    ) = found
+    {
+        page.put("", failure);
+        put_replay(alloc, builder, body, choices.as_slice(), page);
     }
 }
 
@@ -115,6 +130,12 @@ const FAILED_AT_5: &str = twice!(
     "body.rs:5: an assertion of the body failed: replay its choices to see how the run came there"
 );
 
+fn builder_of(location: bool) -> Builder {
+    let mut builder = Builder::new();
+    builder.location = location;
+    builder
+}
+
 // A check of the body that asks for places or doesn't fails by this text, and so does the replay.
 fn fails(
     rt: &(impl Abort + AllocGlobal + Files),
@@ -122,22 +143,40 @@ fn fails(
     steps: &'static [Step],
     text: &str,
 ) {
-    let mut builder = Builder::new();
-    builder.location = location;
     let mut page = Page::new(rt.alloc());
-    put_failures(rt, &builder, steps, &mut page);
+    if let Ok(body) = &Script::new(rt.alloc(), steps) {
+        put_failures(rt, &builder_of(location), body, &mut page);
+    }
     same(rt, page.text.as_str(), text, "a failure");
+}
+
+// The same where places are asked for, and where they aren't.
+fn fail_both(
+    rt: &(impl Abort + AllocGlobal + Files),
+    steps: &'static [Step],
+    placed: &str,
+    bare: &str,
+) {
+    fails(rt, true, steps, placed);
+    fails(rt, false, steps, bare);
+}
+
+// A constant of labelled steps is large, so each is named by one function alone.
+fn release_unlocked() -> &'static [Step] {
+    RELEASE_UNLOCKED
+}
+
+fn release_nowhere() -> &'static [Step] {
+    RELEASE_NOWHERE
+}
+
+fn child_fails() -> &'static [Step] {
+    CHILD_FAILS
 }
 
 #[test]
 fn a_failure_has_its_place(rt: HostRuntime) {
-    let unlocked = RELEASE_UNLOCKED;
-    fails(&rt, true, unlocked, MISUSED_AT_7);
-    fails(&rt, false, unlocked, MISUSED);
-    let nowhere = RELEASE_NOWHERE;
-    fails(&rt, true, nowhere, MISUSED);
-    fails(&rt, false, nowhere, MISUSED);
-    let child = CHILD_FAILS;
-    fails(&rt, true, child, FAILED_AT_5);
-    fails(&rt, false, child, FAILED);
+    fail_both(&rt, release_unlocked(), MISUSED_AT_7, MISUSED);
+    fail_both(&rt, release_nowhere(), MISUSED, MISUSED);
+    fail_both(&rt, child_fails(), FAILED_AT_5, FAILED);
 }

@@ -2,12 +2,13 @@
 use super::lock_beside;
 use crate::tests::texts::{Page, same};
 use log::sink::Memory;
-use log::{Level, Logged};
+use log::{Level, Log, Logged};
 use loom_model::model::Builder;
 use loom_model::{MemoryStore, NoClock};
 use loom_row_bodies::rows::WHOLE;
 use loom_row_bodies::settings::Builds;
 use loom_scripts::script::Script;
+use std::alloc::Global;
 
 const ITERATIONS: &str =
     "complete 3\n[INFO  loom::search] iteration 2\n[INFO  loom::search] completed in 3 iterations\n";
@@ -18,21 +19,26 @@ const SWITCHES: &str =
 // Puts on the page what a check finds, and what a log of this level is told.
 fn put_log(rt: HostRuntime, builder: &Builder, level: Level, page: &mut Page) {
     let log = Logged::new(rt, level, Memory::new(rt.alloc()));
-    if let Ok(body) = Script::new(rt.alloc(), lock_beside()) {
-        let mut runs = Page::new(rt.alloc());
-        let mut store = None::<MemoryStore>;
-        let found = builder.check_with(
-            rt.alloc(),
-            &body,
-            &mut runs,
-            &mut NoClock,
-            &mut store,
-            &log,
-        );
-        page.put_found(&found);
-    }
+    put_check(rt.alloc(), builder, &log, page);
     let (_, sink) = log.into_parts();
-    for line in sink.into_lines().as_slice() {
+    put_lines(sink.into_lines().as_slice(), page);
+}
+
+fn put_check(alloc: Global, builder: &Builder, log: &impl Log, page: &mut Page) {
+    if let Ok(body) = &Script::new(alloc, lock_beside()) {
+        put_report(alloc, builder, body, log, page);
+    }
+}
+
+fn put_report(alloc: Global, builder: &Builder, body: &Script, log: &impl Log, page: &mut Page) {
+    let mut runs = Page::new(alloc);
+    let mut store = None::<MemoryStore>;
+    let found = builder.check_with(alloc, body, &mut runs, &mut NoClock, &mut store, log);
+    page.put_found(&found);
+}
+
+fn put_lines(lines: &[String], page: &mut Page) {
+    for line in lines {
         page.put("", line);
     }
 }
@@ -46,14 +52,18 @@ static LOGS: [(Level, bool, &str); 5] = [
     (Level::Warn, true, "complete 3\n"),
 ];
 
+fn is_told(rt: HostRuntime, level: Level, switches: bool, page: &mut Page) {
+    let mut builder = WHOLE.builder();
+    builder.checkpoint_interval = 2;
+    builder.log = switches;
+    put_log(rt, &builder, level, page);
+}
+
 #[test]
 fn a_log_is_told(rt: HostRuntime) {
     for (level, switches, text) in &LOGS {
-        let mut builder = WHOLE.builder();
-        builder.checkpoint_interval = 2;
-        builder.log = *switches;
         let mut page = Page::new(rt.alloc());
-        put_log(rt, &builder, *level, &mut page);
+        is_told(rt, *level, *switches, &mut page);
         same(&rt, page.text.as_str(), *text, "a log");
     }
 }

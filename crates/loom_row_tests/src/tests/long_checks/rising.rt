@@ -2,11 +2,11 @@
 use super::lock_beside;
 use super::places::put_replay;
 use crate::tests::texts::{Page, same};
-use loom_model::Choices;
 use loom_model::error::CheckError;
 use loom_model::model::Builder;
 use loom_model::rising::Risen;
 use loom_model::sync::atomic::Ordering::Relaxed;
+use loom_model::{Choices, ChoicesError};
 use loom_objects::operation::{AtomicOp, ChannelOp, Request, ThreadOp};
 use loom_row_bodies::rows::{DEFAULTS, TWO_RUNS, WHOLE};
 use loom_row_bodies::settings::{Builds, Settings};
@@ -54,6 +54,11 @@ fn put_risen(risen: &Result<Risen, CheckError>, page: &mut Page) {
     }
 }
 
+fn put_check(alloc: Global, settings: Settings, body: &Script, up_to: usize, page: &mut Page) {
+    let risen = settings.builder().check_rising(alloc, body, up_to);
+    put_risen(&risen, page);
+}
+
 // A check of the script with bounds that rise up to this one gives this.
 fn rises(
     rt: &(impl Abort + AllocGlobal),
@@ -63,9 +68,8 @@ fn rises(
     text: &str,
 ) {
     let mut page = Page::new(rt.alloc());
-    if let Ok(body) = Script::new(rt.alloc(), steps) {
-        let risen = settings.builder().check_rising(rt.alloc(), &body, up_to);
-        put_risen(&risen, &mut page);
+    if let Ok(body) = &Script::new(rt.alloc(), steps) {
+        put_check(rt.alloc(), settings, body, up_to, &mut page);
     }
     same(rt, page.text.as_str(), text, "a check that rises");
 }
@@ -118,30 +122,46 @@ fn the_bound_rises_while_checks_are_complete(rt: HostRuntime) {
 
 // Puts on the page why the run of the script fails that follows the choices in this text.
 fn put_replay_of(alloc: Global, steps: &'static [Step], text: &str, page: &mut Page) {
-    if let Ok(body) = Script::new(alloc, steps) {
-        if let Ok(choices) = Choices::parse(alloc, text) {
-            put_replay(alloc, &Builder::new(), &body, choices.as_slice(), page);
-        }
+    if let Ok(body) = &Script::new(alloc, steps) {
+        put_replay_read(alloc, body, text, page);
+    }
+}
+
+fn put_replay_read(alloc: Global, body: &Script, text: &str, page: &mut Page) {
+    if let Ok(choices) = &Choices::parse(alloc, text) {
+        put_replay(alloc, &Builder::new(), body, choices.as_slice(), page);
+    }
+}
+
+// The choices at the end of the report.
+fn choices_of(report: &str) -> &str {
+    match report.split_once("replay: ") {
+        Some((_, choices)) => choices,
+        None => "",
     }
 }
 
 #[test]
 fn a_failure_replays_by_its_text(rt: HostRuntime) {
-    let (_, choices) = FAILS.split_once("replay: ").unwrap_or(("", ""));
     let mut page = Page::new(rt.alloc());
-    put_replay_of(rt.alloc(), asks_early(), choices, &mut page);
+    put_replay_of(rt.alloc(), asks_early(), choices_of(FAILS), &mut page);
     let failed =
         "an assertion of the body failed: replay its choices to see how the run came there\n";
     same(&rt, page.text.as_str(), failed, "a replay");
 }
 
-// The text is read as choices that are written so, or refused by this error.
-fn is_read(rt: &(impl Abort + AllocGlobal), text: &str, again: &str) {
-    let mut page = Page::new(rt.alloc());
-    match &Choices::parse(rt.alloc(), text) {
+fn put_choices(choices: &Result<Choices, ChoicesError>, page: &mut Page) {
+    match choices {
         Ok(choices) => page.put("", choices),
         Err(error) => page.put_debug(error),
     }
+}
+
+// The text is read as choices that are written so, or refused by this error.
+fn is_read(rt: &(impl Abort + AllocGlobal), text: &str, again: &str) {
+    let mut page = Page::new(rt.alloc());
+    let choices = Choices::parse(rt.alloc(), text);
+    put_choices(&choices, &mut page);
     same(rt, page.text.as_str(), again, text);
 }
 

@@ -1,23 +1,19 @@
 //! What a check saves, and how it goes on with that.
 use super::{
-    Case, DEFAULT_CASE, NO_NODES, ONE_NODE, Shelf, TWO_NODES, WHOLE_CASE, cases_hold, check, gives,
-    lock_beside,
+    Case, DEFAULT_CASE, NO_NODES, ONE_NODE, Shelf, TWO_NODES, WHOLE_CASE, check, gives, lock_beside,
 };
 use crate::tests::texts::{Page, holds};
 use loom_row_bodies::bodies::TWO_MUTEXES_DEADLOCK;
 use loom_row_bodies::rows::WHOLE;
 use loom_row_bodies::settings::{Builds, Settings};
+use loom_scripts::step::Step;
+use std::process::Abort;
 
-static EACH: [Case; 1] = [Case {
+pub(super) static EACH: [Case; 1] = [Case {
     interval: 1,
     gives: " t0 t1 t1 t-\n t1 t1 t0 t-\n t1 t0 t1 t-\ncomplete 3\nsaves no nodes\nsaves one node\nsaves two nodes\n",
     ..WHOLE_CASE
 }];
-
-#[test]
-fn each_run_is_saved(rt: HostRuntime) {
-    cases_hold(&rt, &EACH);
-}
 
 // How the body with two mutexes is checked, with each run saved, and what a check gives that begins with its last text.
 static LAST: Case = Case {
@@ -26,19 +22,30 @@ static LAST: Case = Case {
     ..DEFAULT_CASE
 };
 
+fn two_mutexes() -> &'static [Step] {
+    TWO_MUTEXES_DEADLOCK
+}
+
+const SAVED: &str =
+    "failed 2 3 t1 t1 t2 t2 t-\nsaves another text\nsaves another text\nsaves another text\nsaves another text\n";
+
+fn saves_before(rt: &(impl Abort + AllocGlobal), shelf: &mut Shelf) {
+    let mut page = Page::new(rt.alloc());
+    check(rt.alloc(), &LAST.builder(), two_mutexes(), &mut page, shelf);
+    let is_so = page.text.as_str().ends_with(SAVED);
+    holds(rt, is_so, "each run is saved");
+}
+
+fn goes_on_and_fails(rt: &(impl Abort + AllocGlobal), shelf: &mut Shelf) {
+    shelf.saved.text.clear();
+    gives(rt, &LAST.builder(), two_mutexes(), shelf, LAST.gives);
+}
+
 #[test]
 fn a_failing_run_is_saved_before(rt: HostRuntime) {
-    let builder = LAST.builder();
     let mut shelf = Shelf::new(rt.alloc(), 0);
-    let mut page = Page::new(rt.alloc());
-    let steps = TWO_MUTEXES_DEADLOCK;
-    check(rt.alloc(), &builder, steps, &mut page, &mut shelf);
-    let saved =
-        "failed 2 3 t1 t1 t2 t2 t-\nsaves another text\nsaves another text\nsaves another text\nsaves another text\n";
-    let is_so = page.text.as_str().ends_with(saved);
-    holds(&rt, is_so, "each run is saved");
-    shelf.saved.text.clear();
-    gives(&rt, &builder, steps, &mut shelf, LAST.gives);
+    saves_before(&rt, &mut shelf);
+    goes_on_and_fails(&rt, &mut shelf);
 }
 
 // How many runs each leg makes, what it gives, and what the store holds then.
@@ -61,17 +68,30 @@ static LEGS: [(Option<usize>, &str, &str); 4] = [
     (None, " t1 t0 t1 t-\ncomplete 1\n", TWO_NODES),
 ];
 
+// A check with this store, which makes so many runs at most, gives this.
+fn leg(
+    rt: &(impl Abort + AllocGlobal),
+    max_permutations: Option<usize>,
+    shelf: &mut Shelf,
+    text: &str,
+) {
+    let settings = Settings {
+        max_permutations,
+        ..WHOLE
+    };
+    shelf.saved.text.clear();
+    gives(rt, &settings.builder(), lock_beside(), shelf, text);
+}
+
+fn goes_on(rt: &(impl Abort + AllocGlobal), shelf: &mut Shelf) {
+    for (max_permutations, text, held) in &LEGS {
+        leg(rt, *max_permutations, shelf, *text);
+        holds(rt, shelf.held() == held.as_bytes(), *text);
+    }
+}
+
 #[test]
 fn a_check_goes_on_where_it_stopped(rt: HostRuntime) {
     let mut shelf = Shelf::new(rt.alloc(), 0);
-    for (max_permutations, text, held) in &LEGS {
-        let settings = Settings {
-            max_permutations: *max_permutations,
-            ..WHOLE
-        };
-        gives(&rt, &settings.builder(), lock_beside(), &mut shelf, *text);
-        let is_so = shelf.held() == held.as_bytes();
-        holds(&rt, is_so, *text);
-        shelf.saved.text.clear();
-    }
+    goes_on(&rt, &mut shelf);
 }

@@ -1,7 +1,7 @@
 //! What a check makes of a text that it is to begin with.
 use super::{HEAD, Shelf, TWO_NODES, WHOLE_END, gives, lock_beside};
 use crate::tests::texts::Page;
-use loom_row_bodies::bodies::{FINISH_ONLY, STORE_SEVEN};
+use loom_row_bodies::bodies::{FINISH_ONLY, LOCK_BESIDE, STORE_SEVEN};
 use loom_row_bodies::rows::{DEFAULTS, WHOLE};
 use loom_row_bodies::settings::{Builds, Settings};
 use loom_scripts::step::Step;
@@ -19,16 +19,10 @@ fn begins(
     gives(rt, &settings.builder(), steps, &mut shelf, line);
 }
 
-// The same of a text of these parts.
-fn begins_with(
-    rt: &(impl Abort + AllocGlobal),
-    settings: Settings,
-    steps: &'static [Step],
-    parts: &[&str],
-    line: &str,
-) {
-    let page = Page::of(rt.alloc(), parts);
-    begins(rt, settings, steps, page.text.as_str().as_bytes(), line);
+fn begins_with(rt: &(impl Abort + AllocGlobal), begun: &'static Begun) {
+    let page = Page::of(rt.alloc(), begun.parts);
+    let text = page.text.as_str().as_bytes();
+    begins(rt, begun.settings, begun.steps, text, begun.gives);
 }
 
 static TEXTS: [(&[u8], &str); 9] = [
@@ -43,12 +37,16 @@ static TEXTS: [(&[u8], &str); 9] = [
     (b"{\"version\":7}", "error 9\n"),
 ];
 
+// Each proper beginning of the text is refused.
+fn beginnings_are_refused(rt: &(impl Abort + AllocGlobal), bytes: &[u8]) {
+    for end in 0..bytes.len() {
+        begins(rt, WHOLE, lock_beside(), &bytes[..end], "error 7\n");
+    }
+}
+
 #[test]
 fn whole_texts(rt: HostRuntime) {
-    let bytes = TWO_NODES.as_bytes();
-    for end in 0..bytes.len() {
-        begins(&rt, WHOLE, lock_beside(), &bytes[..end], "error 7\n");
-    }
+    beginnings_are_refused(&rt, TWO_NODES.as_bytes());
     for (text, line) in &TEXTS {
         begins(&rt, WHOLE, lock_beside(), *text, *line);
     }
@@ -141,18 +139,18 @@ static CHANGES: [(&str, &str, &str); 22] = [
     ),
 ];
 
+// A check that begins with the text of two nodes, with another part in place of this one, gives this.
+fn begins_changed(rt: &(impl Abort + AllocGlobal), part: &str, other: &str, line: &str) {
+    let page = Page::changed(rt.alloc(), TWO_NODES, part, other);
+    let text = page.text.as_str().as_bytes();
+    begins(rt, WHOLE, lock_beside(), text, line);
+}
+
 #[test]
 fn changed_texts(rt: HostRuntime) {
     for (part, other, line) in &CHANGES {
-        let page = Page::changed(rt.alloc(), TWO_NODES, *part, *other);
-        let text = page.text.as_str().as_bytes();
-        begins(&rt, WHOLE, lock_beside(), text, *line);
+        begins_changed(&rt, *part, *other, *line);
     }
-    let one = Settings {
-        max_branches: 1,
-        ..WHOLE
-    };
-    begins_with(&rt, one, lock_beside(), &[TWO_NODES], "error 11\n");
 }
 
 // A schedule at which the one thread could go on.
@@ -173,27 +171,65 @@ const LOAD: &str = "{\"at\":0,\"exploring\":true,\"load\":[0,1]}";
 // What stands behind the nodes where the search is reduced.
 const REDUCED_END: &str = "],\"preemption_bound\":null,\"reduce\":true,\"version\":1}";
 
+// A script, how it is checked, the parts of the text with which that begins, and what it gives.
+struct Begun {
+    steps: &'static [Step],
+    settings: Settings,
+    parts: &'static [&'static str],
+    gives: &'static str,
+}
+
+static OTHERS: [Begun; 5] = [
+    Begun {
+        steps: LOCK_BESIDE,
+        settings: Settings {
+            max_branches: 1,
+            ..WHOLE
+        },
+        parts: &[TWO_NODES],
+        gives: "error 11\n",
+    },
+    Begun {
+        steps: FINISH_ONLY,
+        settings: WHOLE,
+        parts: &[TWO_NODES],
+        gives: "failed 20 0\n",
+    },
+    Begun {
+        steps: LOCK_BESIDE,
+        settings: WHOLE,
+        parts: &[HEAD, ZERO, WHOLE_END],
+        gives: "failed 20 0\n",
+    },
+    Begun {
+        steps: STORE_SEVEN,
+        settings: DEFAULTS,
+        parts: &[
+            HEAD,
+            FIRST,
+            FIRST,
+            FIRST,
+            FIRST,
+            FIRST,
+            FIRST,
+            FIRST,
+            FIRST,
+            LOAD,
+            REDUCED_END,
+        ],
+        gives: "failed 20 0 t0 t0 t0 t0 t0 t0 t0 t0\n",
+    },
+    Begun {
+        steps: LOCK_BESIDE,
+        settings: DEFAULTS,
+        parts: &[HEAD, ONE_PENDING, REDUCED_END],
+        gives: " t0 t1 t1 t-\n t1 t1 t0 t-\ncomplete 2\n",
+    },
+];
+
 #[test]
 fn texts_of_other_bodies(rt: HostRuntime) {
-    begins_with(&rt, WHOLE, FINISH_ONLY, &[TWO_NODES], "failed 20 0\n");
-    let zero = [HEAD, ZERO, WHOLE_END];
-    begins_with(&rt, WHOLE, lock_beside(), &zero, "failed 20 0\n");
-    let eight = [
-        HEAD,
-        FIRST,
-        FIRST,
-        FIRST,
-        FIRST,
-        FIRST,
-        FIRST,
-        FIRST,
-        FIRST,
-        LOAD,
-        REDUCED_END,
-    ];
-    let line = "failed 20 0 t0 t0 t0 t0 t0 t0 t0 t0\n";
-    begins_with(&rt, DEFAULTS, STORE_SEVEN, &eight, line);
-    let pending = [HEAD, ONE_PENDING, REDUCED_END];
-    let lines = " t0 t1 t1 t-\n t1 t1 t0 t-\ncomplete 2\n";
-    begins_with(&rt, DEFAULTS, lock_beside(), &pending, lines);
+    for begun in &OTHERS {
+        begins_with(&rt, begun);
+    }
 }
