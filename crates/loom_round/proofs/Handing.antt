@@ -1,6 +1,6 @@
 -- One operation more of a run.
 use Rattle.std.proofs.Common.{◌≡◌, ◌<◌, ◌≤◌, ◌+◌, ℕ, zero, suc, List, [], ◌∷◌, length, get_or, sym, ◌∙◌, ap, refl, subst, arith}
-use Rattle.std.specs.Prelude.{◌≢◌, ◌⊎◌, OnOk, Result, Ok, Err, Option, Some, None, slice_get, slice_set, ⊤}
+use Rattle.std.specs.Prelude.{OnOk, Result, Ok, Err, Option, Some, None, slice_get, slice_set, ⊤}
 use Rattle.loom_view_parts.specs.declared.rt.failure.FailureKind.TheVariants.{Misuse}
 use Rattle.loom_objects.specs.declared.failure.Stop.{Stop}
 use Rattle.loom_objects.specs.declared.failure.Stop.TheVariants.{Failure as Because, Memory}
@@ -14,7 +14,7 @@ use Rattle.loom_objects.specs.Operation.{plain, started}
 use Rattle.loom_objects.specs.Tree.{Gives, ◌>>=◌, found}
 use Rattle.loom_objects.specs.World.{World}
 use Rattle.loom_engine.specs.declared.rt.execution.Progress.{Progress}
-use Rattle.loom_engine.specs.Execution.{Comes, MayBeRefused, ShowsCourse}
+use Rattle.loom_engine.specs.Execution.{Comes, ExecutionState, ShowsCourse, Submits, SubmitsAt}
 use Rattle.loom_runs.specs.Courses.{Course}
 use Rattle.loom_runs.specs.Machine.{submit}
 use Rattle.loom_path.specs.Routes.{IsSameSearch, Route, trail, drives}
@@ -23,7 +23,7 @@ use Rattle.loom_runs.specs.Runs.{Meaning, with_child, at_turn, handed, play}
 use Rattle.loom_walks.specs.Trees.Drive.{drive}
 use Rattle.loom_walks.specs.Trees.Marks.{marking}
 use Rattle.loom_walks.proofs.Trees.Binding.{drive_then, drive_fails}
-use Rattle.loom_round.specs.Ending.{Outcome, IsUnderWay, ComesToTurn, MayBeRefusedBy}
+use Rattle.loom_round.specs.Ending.{Outcome, IsUnderWay, ComesToTurn}
 
 pub slice_get_is : {A : Type 0} (xs : List A) (i : ℕ) (x : A) → i < length xs → x ≡ get_or xs i x → slice_get xs i ≡ Some x
 slice_get_is [] i x l e = absurd (omega arith)
@@ -38,6 +38,11 @@ slice_get_past (x ∷ xs) (suc i) p = slice_get_past xs i (omega arith)
 -- the search stays the same over one stretch and then another
 pub joined : (old mid new : Route) → IsSameSearch old mid → IsSameSearch mid new → IsSameSearch old new
 joined old mid new one other = (other.0 ∙ one.0, other.1 ∙ one.1, other.2 ∙ one.2)
+
+-- an operation is submitted to an execution that isn't over
+pub before_the_end : {D : Type 0} (old new : ExecutionState D) (todo : Request D ⊤) (path path' : Route) (result : Result (Turn D) Stop) → old.over ≡ None
+    → Submits old todo path result new path' → SubmitsAt None old todo path result new path'
+before_the_end old new todo path path' result going event = subst (λ (over : Option Stop). SubmitsAt over old todo path result new path') going event
 
 module _ {D S : Type 0} (next : Meaning D S) where
   opened : (left : ℕ) (bodies : List S) (c : Course D) (thread : ℕ) (answer : Reply D) (body : S) (stepped : S × Op D S)
@@ -59,18 +64,6 @@ module _ {D S : Type 0} (next : Meaning D S) where
     pub within : thread < length bodies
     pub at : body ≡ get_or bodies thread body
     pub step : (after, op) ≡ next body answer
-
-  -- memory may be refused at the operation that the thread's body hands over
-  pub refused_by : (bodies : List S) (run : Progress D) (path : Route) (thread : ℕ) (answer : Reply D) (body after : S) (op : Op D S) (todo : Request D ⊤) (child : Option S)
-      → IsHanded bodies thread answer body after op → todo ≡ plain op → child ≡ started op → (MayBeRefused todo run path ⊎ (child ≢ None))
-      → (own : S) → slice_get bodies thread ≡ Some own → MayBeRefusedBy (next own answer).1 run path
-  refused_by bodies run path thread answer body after op todo child h same_op same_child refused own at =
-      let there : slice_get bodies thread ≡ Some body = slice_get_is bodies thread body h.within h.at in
-      let same : body ≡ own = cc in
-      subst (λ (b : S). MayBeRefusedBy (next b answer).1 run path) same
-      (subst (λ (stepped : S × Op D S). MayBeRefusedBy stepped.1 run path) h.step
-      (subst (λ (o : Request D ⊤). MayBeRefused o run path ⊎ (started op ≢ None)) same_op
-      (subst (λ (c : Option S). MayBeRefused todo run path ⊎ (c ≢ None)) same_child refused)))
 
   module _ (outcome : Outcome D) where
     -- a thread that has no body
@@ -132,15 +125,15 @@ module _ {D S : Type 0} (next : Meaning D S) where
         (ap (λ (o : Request D ⊤). drives (submit o z.course) path) (sym same_op) ∙ come.2))
         ∙ left_is bodies run path thread answer body after op h z)
 
-    -- the operation leads to a turn or stops the run
-    pub comes : (bodies : List S) (run run' : Progress D) (path path' : Route) (thread : ℕ) (answer : Reply D) (body after : S) (op : Op D S) (todo : Request D ⊤) (child : Option S) (result : Result (Turn D) Stop)
+    -- the operation is submitted, and leads to a turn or stops the run
+    pub comes : (bodies : List S) (old new : ExecutionState D) (path path' : Route) (thread : ℕ) (answer : Reply D) (body after : S) (op : Op D S) (todo : Request D ⊤) (child : Option S) (result : Result (Turn D) Stop)
         → IsHanded bodies thread answer body after op → todo ≡ plain op → child ≡ started op
-        → ((c : Course D) → ShowsCourse c run path → Comes (submit todo c) path result run' path')
-        → OnOk result (run.state.steps_left ≡ run'.state.steps_left + 1) → path'.search ≡ path.search
-        → IsUnderWay next outcome bodies run path thread answer
-        → (bodies' : List S) → OnOk result (bodies' ≡ with_child (slice_set bodies thread after) child)
-        → ComesToTurn next outcome result bodies' run' path'
-    comes bodies run run' path path' thread answer body after op todo child (Ok turned) h same_op same_child event steps same z bodies' more =
-        turns bodies run run' path path' thread answer body after op todo child turned h same_op same_child event steps same z bodies' more
-    comes bodies run run' path path' thread answer body after op todo child (Err stop) h same_op same_child event steps same z bodies' more =
-        stops bodies run run' path path' thread answer body after op todo stop h same_op event z bodies'
+        → old.over ≡ None → Submits old todo path result new path'
+        → OnOk result (old.run.state.steps_left ≡ new.run.state.steps_left + 1) → path'.search ≡ path.search
+        → IsUnderWay next outcome bodies old.run path thread answer
+        → (bodies' : List S) → bodies' ≡ with_child (slice_set bodies thread after) child
+        → ComesToTurn next outcome result bodies' new.run path'
+    comes bodies old new path path' thread answer body after op todo child (Ok turned) h same_op same_child going event steps same z bodies' more =
+        turns bodies old.run new.run path path' thread answer body after op todo child turned h same_op same_child (before_the_end old new todo path path' (Ok turned) going event).0 steps same z bodies' more
+    comes bodies old new path path' thread answer body after op todo child (Err stop) h same_op same_child going event steps same z bodies' more =
+        stops bodies old.run new.run path path' thread answer body after op todo stop h same_op (before_the_end old new todo path path' (Err stop) going event).0 z bodies'

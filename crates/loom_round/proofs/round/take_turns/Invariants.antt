@@ -7,13 +7,13 @@ use Rattle.loom_round.specs.Ending.{IsUnderWay}
 use Rattle.loom_round.proofs.round.take_turns.Given as goal
 
 -- the run is under way to what it was under way to at its start
-abbrev pub invariant-loop-answer : goal.invariant-loop-answer
-invariant-loop-answer g l = record {
+abbrev pub invariant-turns : goal.invariant-turns
+invariant-turns g l = record {
   under_way : (tree : Tree _) → (start : Route) → IsUnderWay g.B.Body.next (drives tree start) l.fn.bodies.items l.fn.execution.run l.fn.path 0 reply.Start
       → IsUnderWay g.B.Body.next (drives tree start) l.bodies.items l.execution.run l.path l.thread l.reply;
   going : l.execution.over ≡ None;
   same : IsSameSearch l.fn.path l.path;
 }
 
-abbrev pub decreases-loop-answer : goal.decreases-loop-answer
-decreases-loop-answer g l = l.execution.run.state.steps_left
+abbrev pub decreases-turns : goal.decreases-turns
+decreases-turns g l = l.execution.run.state.steps_left
