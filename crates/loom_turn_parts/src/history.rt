@@ -113,7 +113,7 @@ fn add_event<D: Exact, M: Machine<D>>(
 }
 
 /// One operation of the machine, and how it ended. It fails only where a growth is refused.
-fn take_turn<D, M: Machine<D>>(
+fn take_turn<D: Exact, M: Machine<D>>(
     machine: &mut M,
     op: Request<D, ()>,
 ) -> Result<Outcome<D>, AllocError>

@@ -1,5 +1,5 @@
 //! What the last event of a run says.
-ghost use Rattle.std.specs.Prelude.{◌≡◌, IfOk};
+ghost use Rattle.std.specs.Prelude.{◌≡◌, IfOk, MatchOption, None, Some};
 ghost use Rattle.loom_turn_parts.specs.Events.{last_event, end_in, ended_by, failed_by};
 
 use crate::event::{Event, Outcome};
@@ -99,19 +99,29 @@ fn failure_in<D>(history: &[Event<D>]) -> Option<Failure>
     }
 }
 
-/// Main's result, if the last event has ended the run. It fails only where a growth is refused.
-fn value_in<D: Exact>(history: &[Event<D>]) -> Result<Option<D>, AllocError>
-    ensures { IfOk result (λ value. value ≡ ended_by (last_event history.now)) }
+/// Main's result, if the last event has ended the run.
+fn ended_in<D>(history: &[Event<D>]) -> Option<&D>
+    ensures { MatchOption result (ended_by (last_event history.now) ≡ None) (λ value. ended_by (last_event history.now) ≡ Some value.now) }
 {
     match history.last() {
         Some(event) => match &event.outcome {
-            Outcome::Went(Turn::Ended(value)) => match value.try_clone() {
-                Ok(copy) => Ok(Some(copy)),
-                Err(error) => Err(error),
-            },
-            Outcome::Went(Turn::Reply(..)) => Ok(None),
-            Outcome::Went(Turn::Start(_)) => Ok(None),
-            Outcome::Failed(_) => Ok(None),
+            Outcome::Went(Turn::Ended(value)) => Some(value),
+            Outcome::Went(Turn::Reply(..)) => None,
+            Outcome::Went(Turn::Start(_)) => None,
+            Outcome::Failed(_) => None,
+        },
+        None => None,
+    }
+}
+
+/// A copy of main's result, if the last event has ended the run. It fails only where a growth is refused.
+fn value_in<D: Exact>(history: &[Event<D>]) -> Result<Option<D>, AllocError>
+    ensures { IfOk result (λ value. value ≡ ended_by (last_event history.now)) }
+{
+    match ended_in(history) {
+        Some(value) => match value.try_clone() {
+            Ok(copy) => Ok(Some(copy)),
+            Err(error) => Err(error),
         },
         None => Ok(None),
     }
