@@ -1,137 +1,172 @@
-//! Cells.
+//! Cells, and what they share with atomics: accesses that must not meet.
 use crate::graph::Graph;
 use crate::halt::Told;
 use crate::machine::Machine;
 use crate::memory::push;
-use crate::readers::Readers;
-use crate::state::Cell;
+use crate::state::{Access, Accessed, Kind, Object};
 use loom_objects::operation::{CellOp, Reply};
 use loom_scripts::number::Number;
 use loom_views::rt::failure::FailureKind;
-use std::alloc::Global;
 
-impl Cell {
-    /// Without data, and not whole.
-    pub fn none(alloc: Global) -> Cell {
-        Cell {
-            value: None,
-            is_whole: false,
-            readers: Readers::new(),
-            writer: None,
-            reads: Vec::new(alloc),
-            writes: Vec::new(alloc),
-        }
-    }
-
-    // Whether a thread has it open.
-    fn is_open(&self) -> bool {
-        self.writer.is_some() || self.readers.is_any()
+// Whether an access of this kind conflicts with an earlier one of that kind.
+fn conflicts(access: Access, earlier: Access) -> bool {
+    match access {
+        Access::Load => earlier == Access::Mutation,
+        Access::Store => earlier == Access::Mutation || earlier == Access::UnsyncLoad,
+        Access::UnsyncLoad => earlier == Access::Mutation || earlier == Access::Store,
+        Access::Mutation => true,
     }
 }
 
-// Whether the views of all these points are inside that of this one.
-fn are_inside(graph: &Graph, points: &Vec<usize>, present: usize) -> bool {
-    for point in points {
-        if !graph.is_inside(*point, present) {
-            return false;
+impl Object {
+    // Whether a thread has it open, so that this access can't be made.
+    fn is_open(&self, access: Access) -> bool {
+        self.holder.is_some() || (access == Access::Mutation && self.readers != [0; 5])
+    }
+
+    // Whether an earlier access that conflicts with this one is outside of the view of the point.
+    fn is_race(&self, access: Access, graph: &Graph, point: usize) -> bool {
+        for earlier in &self.accesses {
+            if conflicts(access, earlier.access) && !graph.is_inside(earlier.point, point) {
+                return true;
+            }
+        }
+        false
+    }
+
+    /// The thread opens a read more.
+    pub fn opens(&mut self, thread: u8) {
+        if let Some(count) = self.readers.get_mut(usize::from(thread)) {
+            *count = count.saturating_add(1);
         }
     }
-    true
+
+    /// The thread closes a read. Whether it had one open.
+    pub fn closes(&mut self, thread: u8) -> bool {
+        match self.readers.get_mut(usize::from(thread)) {
+            Some(count) => {
+                let is_open = *count > 0;
+                *count = count.saturating_sub(1);
+                is_open
+            }
+            None => false,
+        }
+    }
 }
 
 impl Machine {
+    /// An access of this kind: nobody has the object open, and no earlier access that it conflicts with is outside of the
+    /// active thread's view.
+    pub fn meets(&mut self, number: usize, access: Access) {
+        let present = self.present();
+        let (is_open, is_race) = match self.objects.get(number) {
+            Some(object) => (
+                object.is_open(access),
+                object.is_race(access, &self.graph, present),
+            ),
+            None => (false, false),
+        };
+        self.check(!is_open, FailureKind::OpenAccess);
+        self.check(!is_race, FailureKind::Race);
+        self.keeps_access(number, access);
+    }
+
+    /// The active thread has made an access of this kind.
+    pub fn keeps_access(&mut self, number: usize, access: Access) {
+        let point = self.present();
+        if let Some(object) = self.objects.get_mut(number) {
+            push(
+                &mut object.accesses,
+                Accessed { access, point },
+                &mut self.halt,
+            );
+        }
+    }
+
     /// An operation of a cell.
     pub fn cell_begins(&mut self, op: CellOp<Number>) -> Told {
-        let reply = match op {
-            CellOp::New(value) => self.cell_new(value),
-            CellOp::Read(number) => Reply::Reading(number, self.cell_read(number)),
+        match op {
+            // That the cell was made counts as a write.
+            CellOp::New(value) => {
+                let number = self.makes(Kind::Cell, Some(value));
+                self.keeps_access(number, Access::Mutation);
+                Some(Reply::Cell(number))
+            }
+            CellOp::Read(number) => Some(Reply::Reading(number, self.cell_read(number))),
             CellOp::ReadEnd(number) => {
                 self.cell_read_end(number);
-                Reply::Done
+                Some(Reply::Done)
             }
             CellOp::Deref(number) => self.cell_deref(number),
-            CellOp::Write(number) => Reply::Writing(number, self.cell_write(number)),
+            CellOp::Write(number) => Some(Reply::Writing(number, self.cell_write(number))),
             CellOp::WriteEnd(number, value) => {
                 self.cell_write_end(number, value);
-                Reply::Done
+                Some(Reply::Done)
             }
             CellOp::IntoInner(number) => self.cell_into_inner(number),
             CellOp::Get(number) => {
                 let value = self.cell_read(number);
                 self.cell_read_end(number);
-                Reply::Data(value)
+                Some(Reply::Data(value))
             }
             CellOp::Replace(number, value) => {
                 let old = self.cell_write(number);
                 self.cell_write_end(number, value);
-                Reply::Data(old)
+                Some(Reply::Data(old))
             }
             CellOp::Swap(one, other) => {
                 self.cell_swap(one, other);
-                Reply::Done
+                Some(Reply::Done)
             }
-        };
-        Some(reply)
-    }
-
-    // That the cell was made counts as a read and a write.
-    fn cell_new(&mut self, value: Number) -> Reply<Number> {
-        let mut cell = Cell::none(self.alloc);
-        cell.value = Some(value);
-        cell.is_whole = true;
-        let objects = &mut *self.objects;
-        let number = objects.cells.add(cell, &mut objects.count, &mut self.halt);
-        self.keeps_read(number);
-        self.keeps_write(number);
-        Reply::Cell(number)
+        }
     }
 
     // The cell is taken apart, unless a thread has it open.
-    fn cell_into_inner(&mut self, number: usize) -> Reply<Number> {
-        let cell = self.cell(number);
-        let (is_open, value) = (cell.is_open(), cell.value);
+    fn cell_into_inner(&mut self, number: usize) -> Told {
+        let cell = self.object(number, Kind::Cell);
+        let (is_open, value) = (cell.is_open(Access::Mutation), cell.value);
         cell.is_whole = false;
         self.check(!is_open, FailureKind::OpenAccess);
-        Reply::Data(self.required(value))
+        Some(Reply::Data(self.required(value)))
     }
 
-    // Another copy of the data, in a read that the active thread has open.
-    fn cell_deref(&mut self, number: usize) -> Reply<Number> {
+    // Another copy of the data, in a read that the active thread has open and leaves open.
+    fn cell_deref(&mut self, number: usize) -> Told {
         let active = self.active;
-        let cell = self.cell(number);
-        let (is_reading, value) = (cell.readers.has(active), cell.value);
+        let cell = self.object(number, Kind::Cell);
+        let is_reading = cell.closes(active);
+        cell.opens(active);
+        let value = cell.value;
         self.require(is_reading);
-        Reply::Data(self.required(value))
+        Some(Reply::Data(self.required(value)))
     }
 
     // A read begins, and has a copy of the data.
     fn cell_read(&mut self, number: usize) -> Number {
         let active = self.active;
-        let value = self.cell(number).value;
+        let value = self.object(number, Kind::Cell).value;
         self.raise();
-        self.meets_read(number);
-        self.cell(number).readers.open(active);
+        self.meets(number, Access::Load);
+        self.at(number).opens(active);
         self.required(value)
     }
 
     // A read of the active thread ends.
     fn cell_read_end(&mut self, number: usize) {
         let active = self.active;
-        let readers = &mut self.cell(number).readers;
-        let is_reading = readers.has(active);
-        readers.close(active);
+        let is_reading = self.object(number, Kind::Cell).closes(active);
         self.require(is_reading);
-        self.meets_read(number);
+        self.meets(number, Access::Load);
     }
 
     // A write begins, and has the data.
     fn cell_write(&mut self, number: usize) -> Number {
         let active = self.active;
-        let value = self.cell(number).value;
+        let value = self.object(number, Kind::Cell).value;
         self.raise();
-        self.meets_write(number);
-        let cell = self.cell(number);
-        cell.writer = Some(active);
+        self.meets(number, Access::Mutation);
+        let cell = self.at(number);
+        cell.holder = Some(active);
         cell.value = None;
         self.required(value)
     }
@@ -139,60 +174,23 @@ impl Machine {
     // The write of the active thread ends, and leaves this data.
     fn cell_write_end(&mut self, number: usize, value: Number) {
         let active = self.active;
-        let cell = self.cell(number);
-        let is_writing = cell.writer == Some(active);
-        cell.writer = None;
+        let cell = self.object(number, Kind::Cell);
+        let is_writing = cell.holder == Some(active);
+        cell.holder = None;
         cell.value = Some(value);
         self.require(is_writing);
-        self.meets_write(number);
+        self.meets(number, Access::Mutation);
     }
 
     // The data of two cells are exchanged.
     fn cell_swap(&mut self, one: usize, other: usize) {
-        self.cell(one);
-        self.cell(other);
+        self.object(one, Kind::Cell);
+        self.object(other, Kind::Cell);
         if one != other {
             let value = self.cell_write(one);
             let other_value = self.cell_write(other);
             self.cell_write_end(other, value);
             self.cell_write_end(one, other_value);
         }
-    }
-
-    // The active thread meets the cell to read: nobody writes, and no write is outside of its view.
-    fn meets_read(&mut self, number: usize) {
-        let present = self.present();
-        let cell = self.objects.cells.at(number);
-        let is_open = cell.writer.is_some();
-        let has_seen = are_inside(&self.graph, &cell.writes, present);
-        self.check(!is_open, FailureKind::OpenAccess);
-        self.check(has_seen, FailureKind::Race);
-        self.keeps_read(number);
-    }
-
-    // The active thread meets the cell to write: nobody has it open, and no access is outside of its view.
-    fn meets_write(&mut self, number: usize) {
-        let present = self.present();
-        let cell = self.objects.cells.at(number);
-        let is_open = cell.is_open();
-        let has_seen = are_inside(&self.graph, &cell.writes, present)
-            && are_inside(&self.graph, &cell.reads, present);
-        self.check(!is_open, FailureKind::OpenAccess);
-        self.check(has_seen, FailureKind::Race);
-        self.keeps_write(number);
-    }
-
-    // The active thread's present point is one of a read.
-    fn keeps_read(&mut self, number: usize) {
-        let present = self.present();
-        let reads = &mut self.objects.cells.at(number).reads;
-        push(reads, present, &mut self.halt);
-    }
-
-    // The active thread's present point is one of a write.
-    fn keeps_write(&mut self, number: usize) {
-        let present = self.present();
-        let writes = &mut self.objects.cells.at(number).writes;
-        push(writes, present, &mut self.halt);
     }
 }

@@ -6,7 +6,8 @@ use loom_objects::choice::Choice;
 use loom_objects::operation::{ExploreOp, Reply};
 use loom_views::rt::failure::FailureKind;
 
-/// What could be chosen: the default is the first that is there.
+/// What could be chosen: the default is the first that is there. Where a thread is chosen, the first is the default, and the
+/// option of a thread of this number, if it isn't the default, has the place behind its number.
 pub type Options = [Option<Choice>; 7];
 
 /// The default of these options.
@@ -19,14 +20,17 @@ pub fn default_of(options: &Options) -> Option<Choice> {
     None
 }
 
-/// What stood where a thread was chosen.
+/// What the schedules before a choice come to.
 #[derive(Clone, Copy)]
-pub struct Standing {
-    /// Of each thread whether it could neither go on nor yielded.
-    pub disabled: [bool; 5],
-    /// Of each thread, where its pending operation depends on an access that it isn't ordered after: the place of the schedule
-    /// that chose the thread of the access.
-    pub unordered: [Option<usize>; 5],
+pub struct Past {
+    /// How many preemptions they count.
+    pub preemptions: usize,
+    /// What was chosen at the last one.
+    pub last: Option<Choice>,
+    /// The last one that explores.
+    pub nearest: Option<usize>,
+    /// The last one that explores and chose another thread than the one before it, which the first one has not.
+    pub switch: Option<usize>,
 }
 
 /// A choice that was made, and what else could have been chosen.
@@ -36,69 +40,92 @@ pub struct Made {
     pub choice: Choice,
     /// All that could be chosen.
     pub options: Options,
-    /// Where a thread was chosen.
-    pub standing: Option<Standing>,
+    /// Where a thread was chosen: of each thread whether it could neither go on nor yielded.
+    pub disabled: Option<[bool; 5]>,
     /// Whether another option may be tried.
     pub is_exploring: bool,
+    pub past: Past,
+    /// Of each option whether the run calls for it.
+    pub marks: [bool; 7],
 }
 
-/// The choices of one run.
-#[derive(Drop)]
-pub struct Choices {
-    /// The choices that are given.
-    pub list: Vec<Choice>,
-    /// The choices that were made.
-    pub made: Vec<Made>,
-    /// How many may be made.
-    pub most: usize,
-    /// Whether other options are tried at the choices that come.
-    pub is_exploring: bool,
-    /// Whether that stays as it is up to the run's end.
-    pub is_settled: bool,
-}
-
-impl Choices {
-    // The choice that is given at this place.
-    fn given(&self, place: usize) -> Option<Choice> {
-        self.list.get(place).copied()
+impl Made {
+    // What the schedules come to with this one, if it is one, which was made at this place. It counts as a preemption where it passes over the
+    // default, which is the thread that was chosen before, or there was no schedule before.
+    fn and_past(&self, place: usize) -> Past {
+        let mut past = self.past;
+        if self.disabled.is_none() {
+            return past;
+        }
+        let default = default_of(&self.options);
+        let chosen = Some(self.choice);
+        if default != chosen && (past.last.is_none() || past.last == default) {
+            past.preemptions = past.preemptions.saturating_add(1);
+        }
+        if self.is_exploring {
+            past.nearest = Some(place);
+            if past.last != chosen {
+                past.switch = Some(place);
+            }
+        }
+        past.last = chosen;
+        past
     }
 }
 
 impl Machine {
     /// Makes the choice that is given here, or else the default. Nothing is chosen once the run has halted.
-    pub fn choose(&mut self, options: Options, standing: Option<Standing>) -> Option<Choice> {
-        let place = self.choices.made.len();
-        self.check(place < self.choices.most, FailureKind::TooManyBranches);
-        let choice = self.choices.given(place).or(default_of(&options));
+    pub fn choose(&mut self, options: Options, disabled: Option<[bool; 5]>) -> Option<Choice> {
+        let rest = &*self.rest;
+        let (place, most) = (rest.run.made.len(), rest.settings.max_branches);
+        let choice = rest.given.get(place).copied();
+        let choice = choice.or(default_of(&options));
+        self.check(place < most, FailureKind::TooManyBranches);
         self.check(options.contains(&choice), FailureKind::NotDeterministic);
-        let Some(choice) = choice else {
-            return None;
-        };
         if self.has_halted() {
             return None;
         }
+        if let Some(choice) = choice {
+            self.keeps_choice(place, choice, options, disabled);
+        }
+        choice
+    }
+
+    // The choice is made at this place.
+    fn keeps_choice(
+        &mut self,
+        place: usize,
+        choice: Choice,
+        options: Options,
+        disabled: Option<[bool; 5]>,
+    ) {
+        if disabled.is_some() {
+            self.finds_reversals();
+        }
+        let rest = &mut *self.rest;
         let made = Made {
             choice,
             options,
-            standing,
-            is_exploring: self.choices.is_exploring,
+            disabled,
+            is_exploring: rest.is_exploring,
+            past: rest.past,
+            marks: [false; 7],
         };
-        push(&mut self.choices.made, made, &mut self.halt);
-        Some(choice)
+        rest.past = made.and_past(place);
+        push(&mut rest.run.made, made, &mut self.halt);
+        push(&mut rest.run.choices, choice, &mut self.halt);
     }
 
     /// Whether other options are tried changes, unless that is settled.
     pub fn switches(&mut self, op: ExploreOp) -> Told {
-        let (explores, settles) = match op {
-            ExploreOp::Explore => (true, false),
-            ExploreOp::StopExploring => (false, false),
-            ExploreOp::SkipBranch => (false, true),
-        };
-        if !self.choices.is_settled {
-            let changes = self.choices.is_exploring != explores;
+        let explores = op == ExploreOp::Explore;
+        let settles = op == ExploreOp::SkipBranch;
+        let rest = &mut *self.rest;
+        if !rest.is_settled {
+            let changes = rest.is_exploring != explores;
+            rest.is_exploring = explores;
+            rest.is_settled = settles;
             self.check(settles || changes, FailureKind::ExploreSwitch);
-            self.choices.is_exploring = explores;
-            self.choices.is_settled = settles;
         }
         Some(Reply::Done)
     }

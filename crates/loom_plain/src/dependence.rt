@@ -1,8 +1,8 @@
 //! Which accesses to objects are ordered: a graph of its own, in which each scheduled operation on an object is a point.
-use crate::graph::Graph;
-use crate::halt::Halt;
+use crate::machine::Machine;
 use crate::memory::push;
-use std::alloc::Global;
+use crate::run::Reversal;
+use loom_views::rt::failure::FailureKind;
 
 /// What an operation does to its object, as far as others depend on it.
 #[derive(Clone, Copy, PartialEq, Eq)]
@@ -29,31 +29,14 @@ pub enum Action {
     Other,
 }
 
-/// An object that a pending operation is on, and what is done to it.
-#[derive(Clone, Copy, PartialEq, Eq)]
-pub struct Use {
-    pub object: usize,
-    pub action: Action,
-}
-
-// An access that was made.
+/// An access that was made.
 #[derive(Clone, Copy)]
-struct Access {
-    thread: u8,
-    used: Use,
+pub struct Access {
+    object: usize,
+    action: Action,
     point: usize,
     // The place of the schedule that chose its thread.
     place: usize,
-}
-
-/// The accesses of a run.
-#[derive(Drop)]
-pub struct Dependence {
-    graph: Graph,
-    // The point of each thread's last access. Main begins with a point of its own, a thread with its parent's.
-    threads: Vec<usize>,
-    // From the first one.
-    accesses: Vec<Access>,
 }
 
 // Whether an access depends on such an earlier one to the same object.
@@ -69,83 +52,67 @@ fn depends(action: Action, earlier: Action) -> bool {
     }
 }
 
-impl Dependence {
-    /// Without threads and accesses.
-    pub fn new(alloc: Global) -> Dependence {
-        Dependence {
-            graph: Graph::new(alloc),
-            threads: Vec::new(alloc),
-            accesses: Vec::new(alloc),
-        }
-    }
-
-    /// Main, which comes after nothing.
-    pub fn main(&mut self, halt: &mut Option<Halt>) {
-        let point = self.graph.add(&[], None, halt);
-        push(&mut self.threads, point, halt);
-    }
-
-    // The point of the thread's last access, or of its parent's before it was made.
-    fn own(&self, thread: u8) -> usize {
-        self.threads.get(usize::from(thread)).copied().unwrap_or(0)
-    }
-
-    /// A thread more, which this one makes.
-    pub fn child(&mut self, parent: u8, halt: &mut Option<Halt>) {
-        let own = self.own(parent);
-        push(&mut self.threads, own, halt);
-    }
-
-    // The last access that this use depends on.
-    fn last_before(&self, used: Use) -> Option<Access> {
+impl Machine {
+    // The last access that one depends on which does this to the object.
+    fn last_before(&self, object: usize, action: Action) -> Option<Access> {
         let mut last = None;
-        for access in &self.accesses {
-            if access.used.object == used.object && depends(used.action, access.used.action) {
+        for access in &self.rest.accesses {
+            if access.object == object && depends(action, access.action) {
                 last = Some(*access);
             }
         }
         last
     }
 
-    /// The place of the last access that this use depends on, where no chain of edges leads from that to the thread.
-    pub fn unordered(&self, thread: u8, used: Use) -> Option<usize> {
-        match self.last_before(used) {
-            Some(access) if !self.graph.reaches(access.point, self.own(thread)) => {
-                Some(access.place)
-            }
+    // Where the thread is about to make an access that depends on one from which no chain of edges leads to the thread: the place
+    // of that one's schedule.
+    fn unordered(&mut self, number: u8) -> Option<usize> {
+        let thread = self.thread(number);
+        let (pending, own) = (thread.pending, thread.last);
+        let Some(action) = pending.action else {
+            return None;
+        };
+        match self.last_before(pending.number, action) {
+            Some(access) if !self.rest.order.reaches(access.point, own) => Some(access.place),
             Some(_) | None => None,
         }
     }
 
-    /// How many accesses the thread has made.
-    pub fn accesses_of(&self, thread: u8) -> usize {
-        let mut count = 0usize;
-        for access in &self.accesses {
-            if access.thread == thread {
-                count = count.saturating_add(1);
+    /// Which threads are about to make accesses that depend on ones that they aren't ordered after.
+    pub fn finds_reversals(&mut self) {
+        for thread in 0..5u8 {
+            if let Some(place) = self.unordered(thread) {
+                let reversals = &mut self.rest.run.reversals;
+                push(reversals, Reversal { thread, place }, &mut self.halt);
             }
         }
-        count
     }
 
-    /// The thread, chosen at this place, makes an access: it comes after the thread's last one and after the last one that it
-    /// depends on.
-    pub fn record(&mut self, thread: u8, used: Use, place: usize, halt: &mut Option<Halt>) {
-        let own = self.own(thread);
-        let before = match self.last_before(used) {
+    /// The active thread, chosen at this place, makes an access where it is pending on an object: it comes after the thread's last
+    /// one and after the last one that it depends on.
+    pub fn makes_access(&mut self, place: usize) {
+        let me = self.me();
+        let (pending, own, count) = (me.pending, me.last, me.accesses);
+        let Some(action) = pending.action else {
+            return;
+        };
+        self.check(count < 65_534, FailureKind::TooManyVersions);
+        let object = pending.number;
+        let before = match self.last_before(object, action) {
             Some(access) => access.point,
             None => own,
         };
-        let point = self.graph.add(&[own, before], None, halt);
-        if let Some(last) = self.threads.get_mut(usize::from(thread)) {
-            *last = point;
-        }
+        let rest = &mut *self.rest;
+        let point = rest.order.add(&[own, before], None, &mut self.halt);
         let access = Access {
-            thread,
-            used,
+            object,
+            action,
             point,
             place,
         };
-        push(&mut self.accesses, access, halt);
+        push(&mut rest.accesses, access, &mut self.halt);
+        let me = self.me();
+        me.last = point;
+        me.accesses = count.saturating_add(1);
     }
 }

@@ -1,7 +1,6 @@
 //! Why no runs are found.
 use loom_objects::operation::Reply;
 use loom_scripts::number::Number;
-use std::alloc::{AllocError, AllocFailed};
 
 /// Why no runs are found.
 #[derive(Clone, Copy, Debug)]
@@ -16,15 +15,3 @@ pub enum Halt {
 
 /// What the active thread is told, or nothing where it comes to a branch point.
 pub type Told = Option<Reply<Number>>;
-
-impl From<AllocError> for Halt {
-    fn from(_: AllocError) -> Halt {
-        Halt::Memory
-    }
-}
-
-impl<T: Drop> From<AllocFailed<T>> for Halt {
-    fn from(_: AllocFailed<T>) -> Halt {
-        Halt::Memory
-    }
-}

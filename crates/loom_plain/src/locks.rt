@@ -1,20 +1,43 @@
-//! Mutexes.
+//! Mutexes and read-write locks.
+use crate::dependence::Action;
 use crate::halt::Told;
 use crate::machine::Machine;
-use crate::state::{Mutex, Pending, State};
-use loom_objects::operation::{MutexOp, Reply};
+use crate::state::{Claim, Kind, Object, State, Step};
+use loom_objects::operation::{MutexOp, Reply, RwLockOp};
 use loom_scripts::number::Number;
 
-impl Mutex {
-    /// Free, with this value; without one it isn't whole.
-    pub fn of(value: Option<Number>, point: usize) -> Mutex {
-        Mutex {
-            value,
-            holder: None,
-            lent: None,
-            is_whole: value.is_some(),
-            point,
+impl Claim {
+    // Whether who takes the lock so reads.
+    fn is_read(self) -> bool {
+        match self {
+            Claim::Read | Claim::TryRead => true,
+            Claim::Write | Claim::TryWrite | Claim::Lock | Claim::TryLock | Claim::Relock => false,
         }
+    }
+
+    // Whether who takes the lock so doesn't wait for it.
+    fn is_try(self) -> bool {
+        match self {
+            Claim::TryRead | Claim::TryWrite | Claim::TryLock => true,
+            Claim::Read | Claim::Write | Claim::Lock | Claim::Relock => false,
+        }
+    }
+
+    // What taking the lock so does, as far as others depend on it.
+    fn action(self) -> Action {
+        match self {
+            Claim::Write | Claim::TryWrite => Action::Write,
+            Claim::Read | Claim::TryRead | Claim::Lock | Claim::TryLock | Claim::Relock => {
+                Action::Other
+            }
+        }
+    }
+}
+
+impl Object {
+    // Whether a thread that takes the lock so can't have it now.
+    fn refuses(&self, claim: Claim) -> bool {
+        self.holder.is_some() || (!claim.is_read() && self.readers != [0; 5])
     }
 }
 
@@ -22,97 +45,107 @@ impl Machine {
     /// An operation of a mutex is handed over.
     pub fn mutex_begins(&mut self, op: MutexOp<Number>) -> Told {
         match op {
-            MutexOp::New(value) => self.mutex_new(value),
-            MutexOp::Lock(number) => {
-                let is_held = self.mutex(number).holder.is_some();
-                self.pends(Pending::Lock(number), is_held)
-            }
-            MutexOp::TryLock(number) => {
-                self.mutex(number);
-                self.pends(Pending::TryLock(number), false)
-            }
+            MutexOp::New(value) => Some(Reply::Mutex(self.makes(Kind::Mutex, Some(value)))),
+            MutexOp::Lock(number) => self.claim_begins(number, Kind::Mutex, Claim::Lock),
+            MutexOp::TryLock(number) => self.claim_begins(number, Kind::Mutex, Claim::TryLock),
             MutexOp::Release(number, value) => {
-                self.unlock(number, value);
+                self.unlocks(number, Kind::Mutex, value);
                 Some(Reply::Done)
             }
-            MutexOp::GetMut(number) => self.mutex_out(number, true),
-            MutexOp::Put(number, value) => self.mutex_put(number, value),
-            MutexOp::IntoInner(number) => self.mutex_out(number, false),
+            MutexOp::GetMut(number) => self.lends(number, Kind::Mutex, true),
+            MutexOp::Put(number, value) => self.puts(number, Kind::Mutex, value),
+            MutexOp::IntoInner(number) => self.lends(number, Kind::Mutex, false),
         }
     }
 
-    fn mutex_new(&mut self, value: Number) -> Told {
-        let mutex = Mutex::of(Some(value), self.fresh_point());
-        let objects = &mut *self.objects;
-        let number = objects
-            .mutexes
-            .add(mutex, &mut objects.count, &mut self.halt);
-        Some(Reply::Mutex(number))
+    /// An operation of a read-write lock is handed over.
+    pub fn rwlock_begins(&mut self, op: RwLockOp<Number>) -> Told {
+        match op {
+            RwLockOp::New(value) => Some(Reply::RwLock(self.makes(Kind::RwLock, Some(value)))),
+            RwLockOp::Read(number) => self.claim_begins(number, Kind::RwLock, Claim::Read),
+            RwLockOp::TryRead(number) => self.claim_begins(number, Kind::RwLock, Claim::TryRead),
+            RwLockOp::ReadRelease(number) => self.read_release(number),
+            RwLockOp::Write(number) => self.claim_begins(number, Kind::RwLock, Claim::Write),
+            RwLockOp::TryWrite(number) => self.claim_begins(number, Kind::RwLock, Claim::TryWrite),
+            RwLockOp::WriteRelease(number, value) => {
+                self.unlocks(number, Kind::RwLock, value);
+                Some(Reply::Done)
+            }
+            RwLockOp::GetMut(number) => self.lends(number, Kind::RwLock, true),
+            RwLockOp::Put(number, value) => self.puts(number, Kind::RwLock, value),
+            RwLockOp::IntoInner(number) => self.lends(number, Kind::RwLock, false),
+        }
     }
 
-    // The data of a mutex that nobody holds goes out. Whether the mutex stays whole.
-    fn mutex_out(&mut self, number: usize, is_whole: bool) -> Told {
-        let mutex = *self.mutex(number);
-        self.require(mutex.holder.is_none() && mutex.lent.is_none());
-        *self.mutex(number) = Mutex {
-            value: None,
-            lent: Some(self.active),
-            is_whole,
-            ..mutex
+    /// The active thread comes to take the lock. A call that waits is blocked while the lock refuses it.
+    pub fn claim_begins(&mut self, number: usize, kind: Kind, claim: Claim) -> Told {
+        let is_refused = self.object(number, kind).refuses(claim);
+        let is_blocked = is_refused && !claim.is_try();
+        self.pends(number, claim.action(), Step::Claim(claim), is_blocked)
+    }
+
+    /// The active thread takes the lock, or finds it taken. Who waits for a taken one isn't chosen.
+    pub fn claims(&mut self, number: usize, claim: Claim) -> Told {
+        let lock = self.at(number);
+        let is_usable = lock.is_whole && lock.lent.is_none();
+        let is_refused = lock.refuses(claim);
+        self.require(is_usable);
+        if is_refused {
+            self.expect(claim.is_try());
+            return Some(Reply::WouldBlock);
+        }
+        let value = if claim.is_read() {
+            self.reads(number)
+        } else {
+            self.writes(number)
         };
-        Some(Reply::Data(self.expected(mutex.value)))
+        Some(match claim {
+            Claim::Read | Claim::TryRead => Reply::ReadLocked(number, value),
+            Claim::Write | Claim::TryWrite => Reply::WriteLocked(number, value),
+            Claim::Lock | Claim::TryLock => Reply::Locked(number, value),
+            Claim::Relock => Reply::Waited(number, value, false),
+        })
     }
 
-    // The active thread, which has the data out, puts it back.
-    fn mutex_put(&mut self, number: usize, value: Number) -> Told {
+    // The active thread reads, and has a copy of the data.
+    fn reads(&mut self, number: usize) -> Number {
         let active = self.active;
-        let mutex = self.mutex(number);
-        let is_out = mutex.lent == Some(active);
-        mutex.lent = None;
-        mutex.value = Some(value);
-        self.require(is_out);
+        let lock = self.at(number);
+        let value = lock.value;
+        lock.opens(active);
+        self.acquires_from(number);
+        self.set_pending(number, Some(Action::Write), State::Blocked);
+        self.required(value)
+    }
+
+    // The active thread has the lock alone, and the data.
+    fn writes(&mut self, number: usize) -> Number {
+        let value = self.at(number).value.take();
+        self.holds(number);
+        self.required(value)
+    }
+
+    // The active thread, which has a guard for reading, ends one.
+    fn read_release(&mut self, number: usize) -> Told {
+        let active = self.active;
+        let lock = self.object(number, Kind::RwLock);
+        let is_reading = lock.closes(active);
+        let is_free = lock.readers == [0; 5];
+        self.require(is_reading);
+        self.releases_to(number);
+        if is_free {
+            self.set_pending(number, None, State::Runnable);
+        }
         Some(Reply::Done)
     }
 
-    /// The active thread, which holds the mutex, releases it.
-    pub fn unlock(&mut self, number: usize, value: Number) {
-        let Mutex { holder, point, .. } = *self.mutex(number);
-        self.require(holder == Some(self.active));
-        let point = self.released_to(point);
-        let mutex = self.mutex(number);
-        mutex.value = Some(value);
-        mutex.holder = None;
-        mutex.point = point;
-        self.set_pending(number, State::Runnable);
-    }
-
-    /// The active thread takes the mutex, or finds it held.
-    pub fn lock(&mut self, number: usize) -> Option<Number> {
+    /// The active thread, which holds the lock, releases it with this data.
+    pub fn unlocks(&mut self, number: usize, kind: Kind, value: Number) {
         let active = self.active;
-        let mutex = *self.mutex(number);
-        self.require(mutex.lent.is_none());
-        if mutex.holder.is_some() {
-            return None;
-        }
-        self.acquire(mutex.point);
-        let taken = self.mutex(number);
-        taken.value = None;
-        taken.holder = Some(active);
-        self.set_pending(number, State::Blocked);
-        Some(self.expected(mutex.value))
-    }
-
-    /// The active thread takes the mutex. Who waits for a held one isn't chosen.
-    pub fn locks(&mut self, number: usize) -> Told {
-        let value = self.lock(number);
-        Some(Reply::Locked(number, self.expected(value)))
-    }
-
-    /// The active thread takes the mutex, unless it is held.
-    pub fn tries_lock(&mut self, number: usize) -> Told {
-        match self.lock(number) {
-            Some(value) => Some(Reply::Locked(number, value)),
-            None => Some(Reply::WouldBlock),
-        }
+        let lock = self.object(number, kind);
+        let is_held = lock.holder == Some(active);
+        lock.value = Some(value);
+        self.require(is_held);
+        self.frees(number);
     }
 }

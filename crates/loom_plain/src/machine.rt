@@ -1,15 +1,45 @@
 //! The whole state of a run, and the moves that all operations make.
-use crate::choices::Choices;
-use crate::dependence::{Action, Dependence};
+use crate::choices::Past;
+use crate::dependence::{Access, Action};
 use crate::graph::Graph;
 use crate::halt::{Halt, Told};
-use crate::objects::Objects;
-use crate::state::{Pending, State, Thread};
+use crate::run::{PlainRun, Settings};
+use crate::state::{Object, Pending, State, Step, Thread};
+use loom_objects::choice::Choice;
 use loom_objects::operation::Lazy;
 use loom_scripts::number::Number;
 use loom_views::rt::failure::FailureKind;
 use loom_views::sequence::Sequence;
-use std::alloc::{AllocError, Global};
+use std::alloc::Global;
+
+/// What few moves of a run change. It stands apart, since each method of the machine has all fields of that in its meaning.
+#[derive(Drop)]
+pub struct Rest {
+    /// Stands for a thread that isn't there, and is never chosen.
+    pub nobody: Thread,
+    /// Stands for an object that isn't there.
+    pub nothing: Object,
+    /// The points of accesses to objects, and the accesses, from the first one.
+    pub order: Graph,
+    pub accesses: Vec<Access>,
+    /// The values that were made once in the run, in the order made, each with the point that is acquired with it.
+    pub lazies: Sequence<Lazy<Number>>,
+    /// The choices that are given.
+    pub given: Vec<Choice>,
+    /// What was chosen.
+    pub run: PlainRun,
+    /// What the schedules that were made come to.
+    pub past: Past,
+    /// Whether other options are tried at the choices that come.
+    pub is_exploring: bool,
+    /// Whether that stays as it is up to the run's end.
+    pub is_settled: bool,
+    pub settings: Settings,
+    /// How many threads have ended.
+    pub ended: usize,
+    /// The point at which sequentially consistent fences meet.
+    pub global: usize,
+}
 
 /// The whole state of a run. Once the run has failed or can't be made, nothing is chosen any more, and what the operation on
 /// its way still does doesn't count.
@@ -20,61 +50,27 @@ pub struct Machine {
     pub failure: Option<FailureKind>,
     /// Why the run can't be made.
     pub halt: Option<Halt>,
+    /// Its first point is 0, which raises no thread, and which no other point reaches.
     pub graph: Graph,
-    /// The point at which sequentially consistent fences meet.
-    pub global: usize,
     /// In order of creation; main is the first.
     pub threads: Vec<Thread>,
-    /// Stands for a thread that isn't there.
-    pub nobody: Box<Thread>,
-    pub objects: Box<Objects>,
-    pub dependence: Dependence,
-    /// The values that were made once in the run, in the order made, each with the point that is acquired with it.
-    pub lazies: Sequence<Lazy<Number>>,
+    /// In order of creation.
+    pub objects: Vec<Object>,
     /// The thread whose turn it is.
     pub active: u8,
-    pub choices: Choices,
-    pub max_threads: usize,
+    pub rest: Box<Rest>,
 }
 
 impl Machine {
-    /// Without threads and objects.
-    pub fn new(alloc: Global, max_threads: usize, choices: Choices) -> Result<Machine, AllocError> {
-        let nobody = Box::new(alloc, Thread::new(alloc, 0, 0))?;
-        let objects = Box::new(alloc, Objects::new(alloc))?;
-        Ok(Machine {
-            alloc,
-            failure: None,
-            halt: None,
-            graph: Graph::new(alloc),
-            global: 0,
-            threads: Vec::new(alloc),
-            nobody,
-            objects,
-            dependence: Dependence::new(alloc),
-            lazies: Sequence::new(alloc),
-            active: 0,
-            choices,
-            max_threads,
-        })
-    }
-
     /// Whether the run goes no further.
     pub fn has_halted(&self) -> bool {
         self.failure.is_some() || self.halt.is_some()
     }
 
-    /// The run fails by this kind, unless it has failed already.
-    pub fn fails(&mut self, kind: FailureKind) {
-        if self.failure.is_none() {
-            self.failure = Some(kind);
-        }
-    }
-
-    /// The run fails by this kind, unless the test holds.
+    /// The run fails by this kind, unless the test holds or it has failed already.
     pub fn check(&mut self, test: bool, kind: FailureKind) {
-        if !test {
-            self.fails(kind);
+        if !test && self.failure.is_none() {
+            self.failure = Some(kind);
         }
     }
 
@@ -103,20 +99,11 @@ impl Machine {
         value.unwrap_or(Number(0))
     }
 
-    /// The value, which is there.
-    pub fn expected(&mut self, value: Option<Number>) -> Number {
-        self.expect(value.is_some());
-        value.unwrap_or(Number(0))
-    }
-
-    /// The thread of this number.
+    /// The thread of this number, or who stands for it.
     pub fn thread(&mut self, number: u8) -> &mut Thread {
-        let place = usize::from(number);
-        let is_there = place < self.threads.len();
-        self.expect(is_there);
-        match self.threads.get_mut(place) {
+        match self.threads.get_mut(usize::from(number)) {
             Some(thread) => thread,
-            None => &mut *self.nobody,
+            None => &mut self.rest.nobody,
         }
     }
 
@@ -124,14 +111,6 @@ impl Machine {
     pub fn me(&mut self) -> &mut Thread {
         let active = self.active;
         self.thread(active)
-    }
-
-    /// The thread of this number, if it is there and is another one than the active thread.
-    pub fn other(&mut self, number: u8) -> Option<&mut Thread> {
-        if number == self.active {
-            return None;
-        }
-        self.threads.get_mut(usize::from(number))
     }
 
     /// The point that the active thread is at.
@@ -144,11 +123,6 @@ impl Machine {
         self.graph.add(after, raises, &mut self.halt)
     }
 
-    /// A point without edges.
-    pub fn fresh_point(&mut self) -> usize {
-        self.point(&[], None)
-    }
-
     /// The active thread raises its version.
     pub fn raise(&mut self) {
         let active = self.active;
@@ -158,7 +132,7 @@ impl Machine {
         let point = self.point(&[present], Some(active));
         let me = self.me();
         me.present = point;
-        me.raised = Some(point);
+        me.raised = point;
     }
 
     /// The active thread acquires from the point.
@@ -183,42 +157,44 @@ impl Machine {
         self.thread(number).present = point;
     }
 
-    /// The active thread comes to a branch point.
-    pub fn pends(&mut self, pending: Pending, is_blocked: bool) -> Told {
+    /// The active thread comes to a branch point, where it is to do this to the object.
+    pub fn pends(&mut self, number: usize, action: Action, step: Step, is_blocked: bool) -> Told {
         let me = self.me();
-        me.pending = pending;
+        me.pending = Pending {
+            number,
+            action: Some(action),
+            step,
+        };
         if is_blocked {
             me.state = State::Blocked;
         }
         None
     }
 
-    /// The active thread comes to a branch point without object, in this state.
-    pub fn steps_back(&mut self, state: State, pending: Pending) -> Told {
+    /// The active thread comes to a branch point in this state, where others depend on nothing that it does to an object.
+    pub fn steps_back(&mut self, state: State, number: usize, step: Step) -> Told {
         let me = self.me();
-        me.pending = pending;
+        me.pending = Pending {
+            number,
+            action: None,
+            step,
+        };
         me.state = state;
         None
     }
 
-    /// Each other thread that is pending on the object comes to this state.
-    pub fn set_pending(&mut self, number: usize, state: State) {
+    /// Each other thread that is about to do this to the object, or whatever is done to it, comes to this state.
+    pub fn set_pending(&mut self, number: usize, action: Option<Action>, state: State) {
         for other in 0..5u8 {
-            if let Some(thread) = self.other(other)
-                && thread.pending.is_on(number)
+            let is_other = other != self.active;
+            let thread = self.thread(other);
+            let pending = thread.pending;
+            if is_other
+                && pending.number == number
+                && pending.action.is_some()
+                && (action.is_none() || action == pending.action)
             {
                 thread.state = state;
-            }
-        }
-    }
-
-    /// Each other thread that is about to do this to the object is blocked.
-    pub fn block(&mut self, action: Action, number: usize) {
-        for other in 0..5u8 {
-            if let Some(thread) = self.other(other)
-                && thread.pending.does(action, number)
-            {
-                thread.state = State::Blocked;
             }
         }
     }

@@ -1,254 +1,128 @@
-//! Which runs a run calls for: preemptions, marks and alternatives.
-use crate::choices::{Made, Standing, default_of};
+//! Which runs a run calls for: marks and alternatives.
+use crate::choices::Made;
 use crate::halt::Halt;
 use crate::memory::push;
-use crate::run::Settings;
+use crate::run::{PlainRun, Reversal, Settings};
 use loom_objects::choice::Choice;
-use std::alloc::{AllocError, Global};
+use std::alloc::Global;
 
-// A thread that is added at the schedule of this place: it is marked there, or each option where it was disabled.
-#[derive(Clone, Copy)]
-struct Added {
-    place: usize,
-    thread: u8,
-}
-
-// What stood where a thread was chosen at this place.
-fn standing_at(made: &[Made], place: usize) -> Option<Standing> {
-    match made.get(place) {
-        Some(each) => each.standing,
-        None => None,
-    }
-}
-
-// Whether another option may be tried at this place.
-fn explores_at(made: &[Made], place: usize) -> bool {
-    match made.get(place) {
-        Some(each) => each.is_exploring,
-        None => false,
-    }
-}
-
-// What was chosen at this place, if that was a thread.
-fn thread_at(made: &[Made], place: usize) -> Option<Choice> {
-    match made.get(place) {
-        Some(each) if each.standing.is_some() => Some(each.choice),
-        Some(_) | None => None,
-    }
-}
-
-// Whether the choice counts as a preemption, where the schedule before chose this: it passes over the default, which is the thread that
-// was chosen before, or there was no schedule before.
-fn preempts(each: &Made, last: Option<Choice>) -> bool {
-    let default = default_of(&each.options);
-    default != Some(each.choice) && (last.is_none() || last == default)
-}
-
-/// How many preemptions the schedules before this place count.
-pub fn preemptions(made: &[Made], place: usize) -> usize {
-    let mut count = 0usize;
-    let mut last = None;
-    for each in made.iter().take(place) {
-        if each.standing.is_some() {
-            if preempts(each, last) {
-                count = count.saturating_add(1);
-            }
-            last = Some(each.choice);
-        }
-    }
-    count
-}
-
-// The nearest exploring schedule from this place down.
-fn nearest(made: &[Made], place: usize) -> Option<usize> {
-    for here in (0..place.saturating_add(1)).rev() {
-        if standing_at(made, here).is_some() && explores_at(made, here) {
-            return Some(here);
-        }
-    }
-    None
-}
-
-// The nearest exploring schedule before this place that chose another thread than the one before it, or else the first one, if that
-// explores.
-fn switch_before(made: &[Made], place: usize) -> Option<usize> {
-    let mut later = None;
-    for here in (0..place).rev() {
-        let Some(chosen) = thread_at(made, here) else {
-            continue;
-        };
-        if let Some(place) = later
-            && explores_at(made, place)
-            && thread_at(made, place) != Some(chosen)
-        {
-            return Some(place);
-        }
-        later = Some(here);
-    }
-    match later {
-        Some(first) if explores_at(made, first) => later,
-        Some(_) | None => None,
-    }
-}
-
-// The threads that a run adds.
-#[derive(Drop)]
-struct Adding {
-    list: Vec<Added>,
-    halt: Option<Halt>,
-}
-
-impl Adding {
-    // The thread is added at the schedule, unless the schedule's count is the bound.
-    fn add(&mut self, bound: Option<usize>, made: &[Made], added: Added) {
-        if bound != Some(preemptions(made, added.place)) {
-            push(&mut self.list, added, &mut self.halt);
+impl Made {
+    // Whether the thread of this number was disabled where a thread was chosen here.
+    fn has_disabled(&self, number: usize) -> bool {
+        match &self.disabled {
+            Some(disabled) => disabled.get(number).copied().unwrap_or(false),
+            None => false,
         }
     }
 
-    // The thread is added for one access: at the nearest schedule from its place down, and under a bound before that one too.
-    fn add_for(&mut self, bound: Option<usize>, made: &[Made], access: usize, thread: u8) {
-        let Some(place) = nearest(made, access) else {
-            return;
-        };
-        self.add(bound, made, Added { place, thread });
-        if let Some(place) = switch_before(made, place)
-            && bound.is_some()
-        {
-            self.add(bound, made, Added { place, thread });
+    // The thread of this number is marked, or each option but the default where it was disabled.
+    fn mark(&mut self, number: usize) {
+        if self.has_disabled(number) {
+            self.marks = [false, true, true, true, true, true, true];
+        } else if let Some(mark) = self.marks.get_mut(number.saturating_add(1)) {
+            *mark = true;
         }
     }
 
-    // Each thread is added for the access that it isn't ordered after at this schedule.
-    fn add_each(&mut self, bound: Option<usize>, made: &[Made], standing: Standing) {
-        for thread in 0..5u8 {
-            let access = standing.unordered.get(usize::from(thread)).copied();
-            if let Some(Some(access)) = access {
-                self.add_for(bound, made, access, thread);
-            }
-        }
-    }
-
-    // Threads are added for each schedule of the run.
-    fn add_all(&mut self, bound: Option<usize>, made: &[Made]) {
-        for each in made {
-            if let Some(standing) = each.standing {
-                self.add_each(bound, made, standing);
-            }
+    // The option at this place among all, if another one was chosen here and it is to be tried: because each is, or it is marked.
+    fn tried(&self, number: usize, tries_each: bool) -> Option<Choice> {
+        let is_marked = self.marks.get(number).copied().unwrap_or(false);
+        let option = self.options.get(number).copied().flatten();
+        if (tries_each || is_marked) && option != Some(self.choice) {
+            option
+        } else {
+            None
         }
     }
 }
 
-// Whether the thread, added here, marks the option: it is the thread's, or the thread was disabled. The default isn't marked.
-fn marks(each: &Made, thread: u8, option: Choice) -> bool {
-    let is_disabled = match each.standing {
-        Some(standing) => standing.disabled.get(usize::from(thread)) != Some(&false),
-        None => false,
+// The thread is marked at the schedule of this place, unless the schedule's count is the bound.
+fn mark(bound: Option<usize>, made: &mut Vec<Made>, place: usize, thread: u8) {
+    if let Some(here) = made.get_mut(place)
+        && bound != Some(here.past.preemptions)
+    {
+        here.mark(usize::from(thread));
+    }
+}
+
+// The thread is marked for one access: at the nearest schedule from its place down, and under a bound before that one too.
+fn mark_for(bound: Option<usize>, made: &mut Vec<Made>, reversal: Reversal) {
+    let Reversal { thread, place } = reversal;
+    let Some(here) = made.get(place) else {
+        return;
     };
-    let is_default = default_of(&each.options) == Some(option);
-    !is_default && (is_disabled || option == Choice::Thread(Some(thread)))
+    let nearest = if here.is_exploring {
+        Some(place)
+    } else {
+        here.past.nearest
+    };
+    let Some(nearest) = nearest else {
+        return;
+    };
+    mark(bound, made, nearest, thread);
+    if let Some(here) = made.get(nearest)
+        && let Some(switch) = here.past.switch
+        && bound.is_some()
+    {
+        mark(bound, made, switch, thread);
+    }
 }
 
-// Whether each option of this place is to be tried: where no thread was chosen, and below the bound where the search isn't reduced.
-fn tries_each(settings: Settings, made: &[Made], place: usize) -> bool {
-    if standing_at(made, place).is_none() {
-        return true;
+/// Marks what the run calls for.
+pub fn mark_all(bound: Option<usize>, run: &mut PlainRun) {
+    for reversal in &run.reversals {
+        mark_for(bound, &mut run.made, *reversal);
     }
+}
+
+// Whether each option of this choice is to be tried: where no thread was chosen, and below the bound where the search isn't reduced.
+fn tries_each(settings: Settings, here: &Made) -> bool {
     let is_below = match settings.bound {
-        Some(bound) => preemptions(made, place) < bound,
+        Some(bound) => here.past.preemptions < bound,
         None => true,
     };
-    is_below && !settings.reduce
+    here.disabled.is_none() || (is_below && !settings.reduce)
 }
 
-/// What was chosen, in order.
-pub fn choices_of(alloc: Global, made: &[Made]) -> Result<Vec<Choice>, AllocError> {
-    let mut choices = Vec::new(alloc);
-    for each in made {
-        choices.push(each.choice)?;
-    }
-    Ok(choices)
-}
-
-// The choices before this place, and the option.
-fn up_to(
+// Adds the choices before this place, and the option.
+fn push_list(
     alloc: Global,
-    made: &[Made],
+    choices: &[Choice],
     place: usize,
     option: Choice,
-) -> Result<Vec<Choice>, AllocError> {
-    let mut list = choices_of(alloc, made.get(..place).unwrap_or(made))?;
-    list.push(option)?;
-    Ok(list)
+    lists: &mut Vec<Vec<Choice>>,
+    halt: &mut Option<Halt>,
+) {
+    let before = choices.get(..place).unwrap_or(choices);
+    match before.to_vec(alloc) {
+        Ok(mut list) => {
+            push(&mut list, option, halt);
+            push(lists, list, halt);
+        }
+        Err(_) => *halt = Some(Halt::Memory),
+    }
 }
 
-// For each other option of this place that is to be tried: the choices before, and the option. Where the search doesn't explore there is
-// none.
-fn alternatives_at(
+/// For each other option of this place that is to be tried, the last one first: the choices before, and the option. Where the
+/// search doesn't explore there is none.
+pub fn push_alternatives(
     alloc: Global,
     settings: Settings,
-    made: &[Made],
-    added: &Vec<Added>,
+    run: &PlainRun,
     place: usize,
     lists: &mut Vec<Vec<Choice>>,
-) -> Result<(), AllocError> {
-    let Some(here) = made.get(place) else {
-        return Ok(());
+    halt: &mut Option<Halt>,
+) {
+    let Some(here) = run.made.get(place) else {
+        return;
     };
-    let tries_each = tries_each(settings, made, place);
-    for option in &here.options {
-        if let Some(option) = *option
-            && here.is_exploring
-            && option != here.choice
-            && (tries_each || is_marked(added, here, place, option))
-        {
-            lists.push(up_to(alloc, made, place, option)?)?;
+    if !here.is_exploring {
+        return;
+    }
+    let tries_each = tries_each(settings, here);
+    for number in (0..7usize).rev() {
+        if let Some(option) = here.tried(number, tries_each) {
+            push_list(alloc, run.choices.as_slice(), place, option, lists, halt);
         }
     }
-    Ok(())
-}
-
-// Whether a thread that is added at this place marks the option.
-fn is_marked(added: &Vec<Added>, here: &Made, place: usize, option: Choice) -> bool {
-    for each in added {
-        if each.place == place && marks(here, each.thread, option) {
-            return true;
-        }
-    }
-    false
-}
-
-/// The alternatives of a run, each up to the option in which it differs.
-pub fn alternatives(
-    alloc: Global,
-    settings: Settings,
-    made: &[Made],
-) -> Result<Vec<Vec<Choice>>, Halt> {
-    let mut adding = Adding {
-        list: Vec::new(alloc),
-        halt: None,
-    };
-    if settings.reduce {
-        adding.add_all(settings.bound, made);
-    }
-    let mut lists = Vec::new(alloc);
-    for place in 0..made.len() {
-        alternatives_at(alloc, settings, made, &adding.list, place, &mut lists)?;
-    }
-    match adding.halt {
-        Some(halt) => Err(halt),
-        None => Ok(lists),
-    }
-}
-
-/// The alternatives of a run at this place, in a search that isn't reduced.
-pub fn alternatives_past(
-    alloc: Global,
-    settings: Settings,
-    made: &[Made],
-    place: usize,
-) -> Result<Vec<Vec<Choice>>, AllocError> {
-    let mut lists = Vec::new(alloc);
-    alternatives_at(alloc, settings, made, &Vec::new(alloc), place, &mut lists)?;
-    Ok(lists)
 }

@@ -1,156 +1,134 @@
-//! The objects of a run, in a table for each kind. To use one that isn't there or isn't whole is a misuse; what is done to it
-//! then is done to what stands for it.
+//! The objects of a run, in one list. To use one that isn't there, isn't whole or is of another kind is a misuse.
+use crate::halt::Told;
 use crate::machine::Machine;
-use crate::state::{
-    Atomic, Cell, Channel, Condvar, Counted, Mutex, Notify, Place, RwLock, Tracked, Wakers,
-};
-use crate::table::Table;
+use crate::memory::push;
+use crate::state::{Kind, Object, State};
+use loom_objects::operation::Reply;
+use loom_scripts::number::Number;
 use loom_views::rt::failure::FailureKind;
-use std::alloc::Global;
 
-/// The objects of a run.
-#[derive(Drop)]
-pub struct Objects {
-    /// How many there are of all kinds, which are numbered together.
-    pub count: usize,
-    pub atomics: Table<Atomic>,
-    pub cells: Table<Cell>,
-    pub arcs: Table<Counted>,
-    pub tracks: Table<Tracked>,
-    pub mutexes: Table<Mutex>,
-    pub rwlocks: Table<RwLock>,
-    pub condvars: Table<Condvar>,
-    pub notifies: Table<Notify>,
-    pub channels: Table<Channel>,
-    pub wakers: Table<Wakers>,
-    pub places: Table<Place>,
-}
-
-impl Objects {
-    /// None of any kind.
-    pub fn new(alloc: Global) -> Objects {
-        Objects {
-            count: 0,
-            atomics: Table::new(alloc, Atomic::none(alloc)),
-            cells: Table::new(alloc, Cell::none(alloc)),
-            arcs: Table::new(alloc, Counted::of(None, 0)),
-            tracks: Table::new(alloc, Tracked::of(None)),
-            mutexes: Table::new(alloc, Mutex::of(None, 0)),
-            rwlocks: Table::new(alloc, RwLock::of(None, 0)),
-            condvars: Table::new(alloc, Condvar::new(alloc)),
-            notifies: Table::new(alloc, Notify::new(false, 0)),
-            channels: Table::new(alloc, Channel::of(alloc, 0, 0)),
-            wakers: Table::new(alloc, Wakers::of(0, 0, 0)),
-            places: Table::new(alloc, Place::new(0)),
+impl Object {
+    // What is left of it that has to be given back.
+    fn leak(&self) -> Option<FailureKind> {
+        match self.kind {
+            Kind::Arc | Kind::Wakers if self.is_whole => Some(FailureKind::LeakArc),
+            Kind::Track if self.is_whole => Some(FailureKind::LeakTrack),
+            Kind::Channel if !self.messages.is_empty() => Some(FailureKind::LeakMessages),
+            Kind::Atomic
+            | Kind::Cell
+            | Kind::Arc
+            | Kind::Track
+            | Kind::Mutex
+            | Kind::RwLock
+            | Kind::Condvar
+            | Kind::Notify
+            | Kind::End
+            | Kind::Channel
+            | Kind::Wakers
+            | Kind::Place
+            | Kind::Nothing => None,
         }
-    }
-
-    // What is left of the object of this number that has to be given back.
-    fn leak_of(&mut self, number: usize) -> Option<FailureKind> {
-        if self.arcs.at(number).count > 0 || self.wakers.at(number).count > 0 {
-            Some(FailureKind::LeakArc)
-        } else if self.tracks.at(number).is_tracked {
-            Some(FailureKind::LeakTrack)
-        } else if !self.channels.at(number).messages.is_empty() {
-            Some(FailureKind::LeakMessages)
-        } else {
-            None
-        }
-    }
-
-    /// What is left of the first object that has to be given back.
-    pub fn leak(&mut self) -> Option<FailureKind> {
-        for number in 0..self.count {
-            if let Some(kind) = self.leak_of(number) {
-                return Some(kind);
-            }
-        }
-        None
-    }
-}
-
-// To use the object is a misuse, unless the test holds or the run has failed already.
-fn require(test: bool, failure: &mut Option<FailureKind>) {
-    if !test && failure.is_none() {
-        *failure = Some(FailureKind::Misuse);
     }
 }
 
 impl Machine {
-    /// The atomic of this number, which is whole.
-    pub fn atomic(&mut self, number: usize) -> &mut Atomic {
-        let atomic = self.objects.atomics.at(number);
-        require(atomic.is_whole, &mut self.failure);
-        atomic
+    /// What is left of the first object that has to be given back.
+    pub fn leak(&self) -> Option<FailureKind> {
+        for object in &self.objects {
+            let leak = object.leak();
+            if leak.is_some() {
+                return leak;
+            }
+        }
+        None
     }
 
-    /// The cell of this number, which is whole.
-    pub fn cell(&mut self, number: usize) -> &mut Cell {
-        let cell = self.objects.cells.at(number);
-        require(cell.is_whole, &mut self.failure);
-        cell
+    /// The object of this number, or what stands for it.
+    pub fn at(&mut self, number: usize) -> &mut Object {
+        match self.objects.get_mut(number) {
+            Some(object) => object,
+            None => &mut self.rest.nothing,
+        }
     }
 
-    /// The counted reference of this number, of which some are left.
-    pub fn arc(&mut self, number: usize) -> &mut Counted {
-        let arc = self.objects.arcs.at(number);
-        require(arc.count > 0, &mut self.failure);
-        arc
+    /// The object of this number, which is whole and of this kind.
+    pub fn object(&mut self, number: usize, kind: Kind) -> &mut Object {
+        let object = self.at(number);
+        let is_usable = object.is_whole && object.kind == kind;
+        self.require(is_usable);
+        self.at(number)
     }
 
-    /// The tracked value of this number, which wasn't given back.
-    pub fn track(&mut self, number: usize) -> &mut Tracked {
-        let track = self.objects.tracks.at(number);
-        require(track.is_tracked, &mut self.failure);
-        track
+    /// One object more, which has the next number. Where memory is refused the run can't be made.
+    pub fn makes(&mut self, kind: Kind, value: Option<Number>) -> usize {
+        let number = self.objects.len();
+        let object = Object::new(self.alloc, kind, value, 0);
+        push(&mut self.objects, object, &mut self.halt);
+        number
     }
 
-    /// The mutex of this number, which is whole.
-    pub fn mutex(&mut self, number: usize) -> &mut Mutex {
-        let mutex = self.objects.mutexes.at(number);
-        require(mutex.is_whole, &mut self.failure);
-        mutex
+    /// The active thread acquires from the object.
+    pub fn acquires_from(&mut self, number: usize) {
+        let point = self.at(number).point;
+        self.acquire(point);
     }
 
-    /// The read-write lock of this number, which is whole.
-    pub fn rwlock(&mut self, number: usize) -> &mut RwLock {
-        let rwlock = self.objects.rwlocks.at(number);
-        require(rwlock.is_whole, &mut self.failure);
-        rwlock
+    /// The active thread releases to the object.
+    pub fn releases_to(&mut self, number: usize) {
+        let point = self.at(number).point;
+        let point = self.released_to(point);
+        self.at(number).point = point;
     }
 
-    /// The condition variable of this number.
-    pub fn condvar(&mut self, number: usize) -> &mut Condvar {
-        let condvars = &mut self.objects.condvars;
-        require(condvars.has(number), &mut self.failure);
-        condvars.at(number)
+    /// The active thread holds the object, which it acquires from, and others that are pending on it are blocked.
+    pub fn holds(&mut self, number: usize) {
+        let active = self.active;
+        self.at(number).holder = Some(active);
+        self.acquires_from(number);
+        self.set_pending(number, None, State::Blocked);
     }
 
-    /// The notifier of this number.
-    pub fn notify(&mut self, number: usize) -> &mut Notify {
-        let notifies = &mut self.objects.notifies;
-        require(notifies.has(number), &mut self.failure);
-        notifies.at(number)
+    /// The active thread holds the object no more, which it releases to, and others that are pending on it go on.
+    pub fn frees(&mut self, number: usize) {
+        self.releases_to(number);
+        self.at(number).holder = None;
+        self.set_pending(number, None, State::Runnable);
     }
 
-    /// The channel of this number.
-    pub fn channel(&mut self, number: usize) -> &mut Channel {
-        let channels = &mut self.objects.channels;
-        require(channels.has(number), &mut self.failure);
-        channels.at(number)
+    /// The value of an object that nobody holds goes out. Whether the object may be used afterwards.
+    pub fn lends(&mut self, number: usize, kind: Kind, is_whole: bool) -> Told {
+        let active = self.active;
+        let object = self.object(number, kind);
+        let is_free = object.holder.is_none() && object.lent.is_none() && object.readers == [0; 5];
+        let value = object.value;
+        object.value = None;
+        object.lent = Some(active);
+        object.is_whole = is_whole;
+        self.require(is_free);
+        Some(Reply::Data(self.required(value)))
     }
 
-    /// The wakers of this number, of which some are left.
-    pub fn wakers(&mut self, number: usize) -> &mut Wakers {
-        let wakers = self.objects.wakers.at(number);
-        require(wakers.count > 0, &mut self.failure);
-        wakers
+    /// The active thread, which has the value out, puts it back.
+    pub fn puts(&mut self, number: usize, kind: Kind, value: Number) -> Told {
+        let active = self.active;
+        let object = self.object(number, kind);
+        let is_out = object.lent == Some(active);
+        object.lent = None;
+        object.value = Some(value);
+        self.require(is_out);
+        Some(Reply::Done)
     }
 
-    /// The place for wakers of this number.
-    pub fn place(&mut self, number: usize) -> &mut Place {
-        let places = &mut self.objects.places;
-        require(places.has(number), &mut self.failure);
-        places.at(number)
+    /// One reference fewer, which the active thread releases to; who drops the last one acquires. Whether it was the last.
+    pub fn drops_one(&mut self, number: usize) -> bool {
+        self.releases_to(number);
+        let object = self.at(number);
+        object.count = object.count.saturating_sub(1);
+        let is_last = object.count == 0;
+        if is_last {
+            object.is_whole = false;
+            self.acquires_from(number);
+        }
+        is_last
     }
 }

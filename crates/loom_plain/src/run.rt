@@ -1,15 +1,17 @@
 //! One run: the operations of the threads, one after another.
-use crate::choices::{Choices, Made, Options, Standing};
+use crate::choices::{Made, Options, Past};
+use crate::graph::Graph;
 use crate::halt::{Halt, Told};
-use crate::machine::Machine;
+use crate::machine::{Machine, Rest};
 use crate::memory::push;
-use crate::state::{Pending, Phase, State, Thread};
+use crate::state::{Kind, Object, State, Step, Thread};
 use loom_objects::body::Body;
 use loom_objects::choice::Choice;
 use loom_objects::operation::{Reply, Request};
 use loom_scripts::number::Number;
 use loom_views::rt::failure::FailureKind;
-use std::alloc::{AllocError, Global};
+use loom_views::sequence::Sequence;
+use std::alloc::Global;
 use std::mem;
 
 /// What a run may use, and which runs are made.
@@ -34,10 +36,22 @@ pub enum Ending {
     Failed(FailureKind),
 }
 
+/// A thread that was about to make an access which depends on an earlier one that it isn't ordered after.
+#[derive(Clone, Copy)]
+pub struct Reversal {
+    pub thread: u8,
+    /// The place of the schedule that chose the thread of the earlier access.
+    pub place: usize,
+}
+
 /// A run that was made.
 #[derive(Drop)]
 pub struct PlainRun {
+    /// Its choices, in order.
+    pub choices: Vec<Choice>,
+    /// The same, with what else could have been chosen.
     pub made: Vec<Made>,
+    pub reversals: Vec<Reversal>,
     pub ending: Ending,
 }
 
@@ -48,11 +62,22 @@ pub fn run<B: Body<Data = Number>>(
     body: &B,
     list: Vec<Choice>,
 ) -> Result<PlainRun, Halt> {
-    let mut machine = opening(alloc, settings, list)?;
-    let mut bodies = Vec::new(alloc);
+    match Box::new(alloc, rest_of(alloc, settings, list)) {
+        Ok(rest) => {
+            let mut machine = opening(alloc, rest);
+            makes_run(&mut machine, body, settings.max_steps);
+            machine.comes_to_end()
+        }
+        Err(_) => Err(Halt::Memory),
+    }
+}
+
+// The threads' operations, from main's first one on.
+fn makes_run<B: Body<Data = Number>>(machine: &mut Machine, body: &B, steps: usize) {
+    machine.starts_main();
+    let mut bodies = Vec::new(machine.alloc);
     push_copy(&mut bodies, body, &mut machine.halt);
-    goes_on(&mut machine, &mut bodies, settings.max_steps);
-    machine.comes_to_end()
+    goes_on(machine, &mut bodies, steps);
 }
 
 // One more body, in the same state as this one.
@@ -63,30 +88,67 @@ fn push_copy<B: Body<Data = Number>>(bodies: &mut Vec<B>, body: &B, halt: &mut O
     }
 }
 
-// Main alone, about to hand over its first operation.
-fn opening(alloc: Global, settings: Settings, list: Vec<Choice>) -> Result<Machine, AllocError> {
-    let choices = Choices {
-        list,
+// Nothing chosen.
+fn no_run(alloc: Global) -> PlainRun {
+    PlainRun {
+        choices: Vec::new(alloc),
         made: Vec::new(alloc),
-        most: settings.max_branches,
+        reversals: Vec::new(alloc),
+        ending: Ending::Ended(Number(0)),
+    }
+}
+
+// What is needed beside threads and objects, where these choices are given.
+fn rest_of(alloc: Global, settings: Settings, given: Vec<Choice>) -> Rest {
+    Rest {
+        nobody: Thread::new(alloc, State::Ended, 0, 0, 0),
+        nothing: Object::new(alloc, Kind::Nothing, None, 0),
+        order: Graph::new(alloc),
+        accesses: Vec::new(alloc),
+        lazies: Sequence::new(alloc),
+        given,
+        run: no_run(alloc),
+        past: Past {
+            preemptions: 0,
+            last: None,
+            nearest: None,
+            switch: None,
+        },
         is_exploring: !settings.expect_explicit_explore,
         is_settled: false,
-    };
-    let mut machine = Machine::new(alloc, settings.max_threads, choices)?;
-    machine.starts_main();
-    Ok(machine)
+        settings,
+        ended: 0,
+        global: 0,
+    }
+}
+
+// Without threads and objects.
+fn opening(alloc: Global, rest: Box<Rest>) -> Machine {
+    Machine {
+        alloc,
+        failure: None,
+        halt: None,
+        graph: Graph::new(alloc),
+        threads: Vec::new(alloc),
+        objects: Vec::new(alloc),
+        active: 0,
+        rest,
+    }
 }
 
 // The threads' operations up to the run's end.
 fn goes_on<B: Body<Data = Number>>(machine: &mut Machine, bodies: &mut Vec<B>, steps: usize) {
     let mut reply = Reply::Start;
     for _ in 0..steps {
+        if machine.has_halted() {
+            return;
+        }
         match step(machine, bodies, reply) {
             Some(told) => reply = told,
             None => return,
         }
     }
-    machine.fails(FailureKind::TooManySteps);
+    machine.check(false, FailureKind::TooManySteps);
 }
 
 // The thread whose turn it is is told the reply, and hands its next operation over. Gives what is told next, or nothing at the
@@ -101,7 +163,7 @@ fn step<B: Body<Data = Number>>(
         return None;
     };
     let Ok(op) = body.resume(reply) else {
-        machine.grows(false);
+        machine.halt = Some(Halt::Memory);
         return None;
     };
     let (request, child) = op.split();
@@ -112,29 +174,26 @@ fn step<B: Body<Data = Number>>(
 }
 
 impl Machine {
-    // Main is the first thread.
+    // Main is the first thread, about to hand over its first operation.
     fn starts_main(&mut self) {
-        self.global = self.fresh_point();
-        let present = self.fresh_point();
-        let released = self.fresh_point();
-        let main = Thread::new(self.alloc, present, released);
+        let first = self.point(&[], None);
+        let last = self.rest.order.add(&[], None, &mut self.halt);
+        let main = Thread::new(self.alloc, State::Runnable, first, first, last);
         push(&mut self.threads, main, &mut self.halt);
-        self.dependence.main(&mut self.halt);
     }
 
     // The active thread hands the operation over. Gives what is told to the thread whose turn it is then, or nothing at the
     // run's end.
     fn submit(&mut self, request: Request<Number, ()>) -> Told {
-        let told = match self.begins(request) {
+        match self.begins(request) {
             Some(told) => Some(told),
             None => self.goes_to_told(),
-        };
-        if self.has_halted() { None } else { told }
+        }
     }
 
     // Threads are chosen until one is told something, or none is left.
     fn goes_to_told(&mut self) -> Told {
-        for _ in 0..self.choices.most.saturating_add(1) {
+        for _ in 0..self.rest.settings.max_branches.saturating_add(1) {
             if !self.schedule() {
                 return None;
             }
@@ -164,130 +223,95 @@ impl Machine {
             Request::Lazy(op) => self.lazy_begins(op),
             Request::Explore(op) => self.switches(op),
             Request::Thread(op) => self.thread_begins(op),
-            Request::Fail => self.gives_up(FailureKind::Assertion),
-            Request::Unreachable => self.gives_up(FailureKind::Unreachable),
+            Request::Fail => {
+                self.check(false, FailureKind::Assertion);
+                None
+            }
+            Request::Unreachable => {
+                self.check(false, FailureKind::Unreachable);
+                None
+            }
         }
-    }
-
-    // The body gives up.
-    fn gives_up(&mut self, kind: FailureKind) -> Told {
-        self.fails(kind);
-        None
     }
 
     // What the chosen thread has pending takes effect. Nothing is told where it comes to another branch point.
     fn takes_effect(&mut self) -> Told {
         let me = self.me();
-        let pending = me.pending;
-        me.pending = Pending::Nothing;
-        match pending {
-            Pending::Nothing => {
+        let (number, step) = (me.pending.number, me.pending.step);
+        me.pending.action = None;
+        me.pending.step = Step::Nothing;
+        match step {
+            Step::Nothing => {
                 self.expect(false);
                 None
             }
-            Pending::Start => Some(Reply::Start),
-            Pending::Continue => Some(Reply::Done),
-            Pending::Atomic(number, op) => self.accesses(number, op),
-            Pending::Count(number, counting) => self.counts(number, counting),
-            Pending::Lock(number) => self.locks(number),
-            Pending::TryLock(number) => self.tries_lock(number),
-            Pending::Claim(number, claim) => self.claims(number, claim),
-            Pending::Sleep(number, mutex, value, is_timed) => {
-                self.sleeps(number, mutex, value, is_timed)
+            Step::Start => Some(Reply::Start),
+            Step::Continue => Some(Reply::Done),
+            Step::Update(update) => self.updates(number, update),
+            Step::Store(value, order) => self.stores(number, value, order),
+            Step::Count(counting) => self.counts(number, counting),
+            Step::Claim(claim) => self.claims(number, claim),
+            Step::Sleep(mutex, value, claim) => self.sleeps(number, mutex, value, claim),
+            Step::Awake(claim) => self.claim_begins(number, Kind::Mutex, claim),
+            Step::NotifyOne => self.wakes_up(number, 1),
+            Step::NotifyAll => self.wakes_up(number, 5),
+            Step::Notify => {
+                self.notifies(number);
+                Some(Reply::Done)
             }
-            Pending::Awake(mutex, is_timed) => self.wakes_up(mutex, is_timed),
-            Pending::Relock(mutex, is_timed) => self.relocks(mutex, is_timed),
-            Pending::NotifyOne(number) => self.wakes_one(number),
-            Pending::NotifyAll(number) => self.wakes_all(number),
-            Pending::Notify(number) => self.tells_notified(number),
-            Pending::Await(number) => self.awaits(number),
-            Pending::Rouse(number) => self.rouses(number),
-            Pending::Join(thread, number) => self.join(thread, number),
-            Pending::Finish(number, value) => self.finish(number, value),
-            Pending::Send(number, value) => self.sends(number, value),
-            Pending::Receive(number, receiving) => self.receives(number, receiving),
-            Pending::Wake(notifier, waker, after) => self.wakes_by(notifier, waker, after),
-            Pending::CloneWaker(number, place) => self.clones_waker(number, place),
-            Pending::DropWaker(number, after) => self.drops_waker(number, after),
-            Pending::Register(number, waker) => self.registers(number, waker),
-            Pending::TakeWaker(number, wakes) => self.takes_waker(number, wakes),
+            Step::Await => {
+                self.acquires_notice(number);
+                self.rouses(number)
+            }
+            Step::Rouse => self.rouses(number),
+            Step::Join(thread) => self.joins(number, thread),
+            Step::Finish(value) => self.finishes(number, value),
+            Step::Send(value) => self.sends(number, value),
+            Step::Receive(receiving) => self.receives(number, receiving),
+            Step::Wake(waker, after) => self.wakes_by(number, waker, after),
+            Step::CloneWaker(place) => self.clones_waker(number, place),
+            Step::DropWaker(after) => self.drops_waker(number, after),
+            Step::Register(waker) => self.registers(number, waker),
+            Step::TakeWaker(wakes) => self.takes_waker(number, wakes),
         }
     }
 
     // A thread is chosen, or none. The chosen one makes an access where it is pending on an object.
     fn schedule(&mut self) -> bool {
-        let (options, standing) = (self.thread_options(), self.standing());
-        let place = self.choices.made.len();
-        let chosen = self.choose(options, Some(standing));
+        let options = self.thread_options();
+        let disabled = [
+            self.lateness(0) == u64::MAX,
+            self.lateness(1) == u64::MAX,
+            self.lateness(2) == u64::MAX,
+            self.lateness(3) == u64::MAX,
+            self.lateness(4) == u64::MAX,
+        ];
+        let place = self.rest.run.made.len();
+        let chosen = self.choose(options, Some(disabled));
         let Some(Choice::Thread(Some(chosen))) = chosen else {
             return false;
         };
         self.active = chosen;
         self.makes_access(place);
+        // Each other thread that yields is runnable again.
         for number in 0..5u8 {
-            if let Some(thread) = self.other(number)
-                && thread.state == State::Yielding
-            {
+            let is_other = number != self.active;
+            let thread = self.thread(number);
+            if is_other && thread.state == State::Yielding {
                 thread.state = State::Runnable;
             }
         }
         true
     }
 
-    // The active thread, chosen at this place, makes an access where it is pending on an object.
-    fn makes_access(&mut self, place: usize) {
-        let active = self.active;
-        if let Some(used) = self.me().pending.used() {
-            let count = self.dependence.accesses_of(active);
-            self.check(count < 65_534, FailureKind::TooManyVersions);
-            self.dependence.record(active, used, place, &mut self.halt);
-        }
-    }
-
-    // Which threads are disabled, and which accesses they aren't ordered after.
-    fn standing(&self) -> Standing {
-        Standing {
-            disabled: [
-                self.is_disabled(0),
-                self.is_disabled(1),
-                self.is_disabled(2),
-                self.is_disabled(3),
-                self.is_disabled(4),
-            ],
-            unordered: [
-                self.unordered(0),
-                self.unordered(1),
-                self.unordered(2),
-                self.unordered(3),
-                self.unordered(4),
-            ],
-        }
-    }
-
-    // Whether the thread can neither go on nor yields.
-    fn is_disabled(&self, number: u8) -> bool {
-        self.lateness(number).is_none()
-    }
-
-    // Where the thread's pending operation depends on an access that it isn't ordered after: the place of that one's schedule.
-    fn unordered(&self, number: u8) -> Option<usize> {
-        match self.threads.get(usize::from(number)) {
-            Some(thread) => match thread.pending.used() {
-                Some(used) => self.dependence.unordered(number, used),
-                None => None,
-            },
-            None => None,
-        }
-    }
-
     // The default, and each other thread that is runnable.
-    fn thread_options(&self) -> Options {
+    fn thread_options(&mut self) -> Options {
         let default = self.default_thread();
         let mut options = [None; 7];
         options[0] = Some(Choice::Thread(default));
         for number in 0..5u8 {
             if default != Some(number)
-                && self.is_in(number, State::Runnable)
+                && self.thread(number).state == State::Runnable
                 && let Some(option) = options.get_mut(usize::from(number).saturating_add(1))
             {
                 *option = Some(Choice::Thread(Some(number)));
@@ -296,36 +320,26 @@ impl Machine {
         options
     }
 
-    // Whether the thread is there and in this state.
-    fn is_in(&self, number: u8, state: State) -> bool {
-        match self.threads.get(usize::from(number)) {
-            Some(thread) => thread.state == state,
-            None => false,
-        }
-    }
-
-    // How late the thread comes where it isn't chosen: the active one is the first, then come others that are runnable, those
+    // How late the thread comes where it isn't chosen, or the highest number where it can neither go on nor yields: the active one is the first, then come others that are runnable, those
     // that have yielded less often first, and then those that yield. Others don't come.
-    fn lateness(&self, number: u8) -> Option<u64> {
-        match self.threads.get(usize::from(number)) {
-            Some(thread) => match thread.state {
-                State::Runnable if number == self.active => Some(0),
-                State::Runnable => Some(thread.yields.saturating_add(1)),
-                State::Yielding => Some(u64::MAX),
-                State::Blocked | State::Parked | State::Sleeping | State::Ended => None,
-            },
-            None => None,
+    fn lateness(&mut self, number: u8) -> u64 {
+        let is_active = number == self.active;
+        let thread = self.thread(number);
+        match thread.state {
+            State::Runnable if is_active => 0,
+            State::Runnable => thread.yields.saturating_add(1),
+            State::Yielding => u64::MAX - 1,
+            State::Blocked | State::Parked | State::Sleeping | State::Ended => u64::MAX,
         }
     }
 
     // The thread that comes first; of those that come equally late the first.
-    fn default_thread(&self) -> Option<u8> {
+    fn default_thread(&mut self) -> Option<u8> {
         let mut first = None;
-        let mut least = 0;
+        let mut least = u64::MAX;
         for number in 0..5u8 {
-            if let Some(late) = self.lateness(number)
-                && (first.is_none() || late < least)
-            {
+            let late = self.lateness(number);
+            if late < least {
                 first = Some(number);
                 least = late;
             }
@@ -333,40 +347,24 @@ impl Machine {
         first
     }
 
-    // Whether each thread has ended.
-    fn has_ended(&self) -> bool {
-        for thread in &self.threads {
-            if thread.phase != Phase::Over {
-                return false;
-            }
-        }
-        true
-    }
-
-    // The run is over, and gives its choices away.
+    // The run is over, and gives its choices away. It fails where some thread hasn't ended or some object is left, unless it has
+    // failed already.
     fn comes_to_end(&mut self) -> Result<PlainRun, Halt> {
-        match self.ends() {
-            Ok(ending) => {
-                let none = Vec::new(self.alloc);
-                let made = mem::replace(&mut self.choices.made, none);
-                Ok(PlainRun { made, ending })
-            }
-            Err(halt) => Err(halt),
-        }
-    }
-
-    // How the run has ended. It fails where some thread hasn't ended or some object is left, unless it has failed already.
-    fn ends(&mut self) -> Result<Ending, Halt> {
-        let has_ended = self.has_ended();
+        let has_ended = self.rest.ended == self.threads.len();
         self.check(has_ended, FailureKind::Deadlock);
-        if let Some(kind) = self.objects.leak() {
-            self.fails(kind);
-        }
-        match (self.halt, self.failure, self.thread(0).value) {
-            (Some(halt), _, _) => Err(halt),
-            (None, Some(kind), _) => Ok(Ending::Failed(kind)),
-            (None, None, Some(value)) => Ok(Ending::Ended(value)),
-            (None, None, None) => Err(Halt::Broken),
+        let leak = self.leak();
+        self.failure = self.failure.or(leak);
+        let value = self.thread(0).value;
+        self.expect(value.is_some());
+        let none = no_run(self.alloc);
+        let mut run = mem::replace(&mut self.rest.run, none);
+        run.ending = match self.failure {
+            Some(kind) => Ending::Failed(kind),
+            None => Ending::Ended(value.unwrap_or(Number(0))),
+        };
+        match self.halt {
+            Some(halt) => Err(halt),
+            None => Ok(run),
         }
     }
 }

@@ -1,12 +1,12 @@
 //! What threads and objects are.
-use crate::dependence::{Action, Use};
-use crate::readers::Readers;
-use loom_objects::operation::AtomicOp;
+use crate::dependence::Action;
 use loom_objects::rt::thread::Name;
 use loom_scripts::number::Number;
+use loom_views::rt::change::Change;
 use loom_views::rt::num::Numbers;
 use std::alloc::Global;
 use std::collections::LinkedList;
+use std::sync::atomic::Ordering;
 
 /// What a thread waits for.
 #[derive(Clone, Copy, PartialEq, Eq)]
@@ -28,13 +28,18 @@ pub enum Phase {
     Over,
 }
 
-/// How a read-write lock is taken.
+/// How a mutex or a read-write lock is taken.
 #[derive(Clone, Copy)]
 pub enum Claim {
     Read,
     TryRead,
     Write,
     TryWrite,
+    /// A mutex.
+    Lock,
+    TryLock,
+    /// A mutex, after a wait that has a time.
+    Relock,
 }
 
 /// What a branch point of a counted reference is for.
@@ -66,119 +71,77 @@ pub enum AfterDrop {
     Free(usize),
 }
 
-/// What a thread does when it is chosen. Objects are named by their numbers.
+/// What a load or a read-modify-write makes of the number that it reads.
 #[derive(Clone, Copy)]
-pub enum Pending {
+pub enum Becoming {
+    /// Nothing: a load.
+    Same,
+    Changed(Change),
+    /// The second number where the first was read, and else nothing.
+    Exchanged(u64, u64),
+}
+
+/// A load or a read-modify-write.
+#[derive(Clone, Copy)]
+pub struct Update {
+    pub becoming: Becoming,
+    /// The ordering where something is stored.
+    pub success: Ordering,
+    /// The ordering where nothing is.
+    pub failure: Ordering,
+    /// Whether it is told that something was stored.
+    pub is_exchange: bool,
+}
+
+/// What a thread does when it is chosen.
+#[derive(Clone, Copy)]
+pub enum Step {
     Nothing,
     /// It begins.
     Start,
     /// It goes on, and is told nothing but that.
     Continue,
-    Atomic(usize, AtomicOp),
-    Count(usize, Counting),
-    Lock(usize),
-    TryLock(usize),
-    Claim(usize, Claim),
-    /// It falls asleep on the condition variable and releases the mutex. Whether the call has a time.
-    Sleep(usize, usize, Number, bool),
+    /// It loads from an atomic, and may store.
+    Update(Update),
+    /// It stores a value to an atomic.
+    Store(u64, Ordering),
+    Count(Counting),
+    Claim(Claim),
+    /// It falls asleep on the condition variable and releases this mutex, with this value. How it takes that again.
+    Sleep(usize, Number, Claim),
     /// It was woken, and comes to the mutex.
-    Awake(usize, bool),
-    /// It takes the mutex again.
-    Relock(usize, bool),
-    NotifyOne(usize),
-    NotifyAll(usize),
-    Notify(usize),
-    Await(usize),
+    Awake(Claim),
+    NotifyOne,
+    NotifyAll,
+    Notify,
+    Await,
     /// It has woken from the notifier without a notification.
-    Rouse(usize),
-    /// The thread that it joins, and that one's notifier.
-    Join(u8, usize),
+    Rouse,
+    /// The thread that it joins, whose notifier it is on.
+    Join(u8),
     /// It notifies its own notifier, and keeps the result.
-    Finish(usize, Number),
-    Send(usize, Number),
-    Receive(usize, Receiving),
-    /// It notifies this notifier by the waker, which it may drop then.
-    Wake(usize, usize, Option<AfterDrop>),
+    Finish(Number),
+    Send(Number),
+    Receive(Receiving),
+    /// It notifies the notifier by the waker, which it may drop then.
+    Wake(usize, Option<AfterDrop>),
     /// It makes a waker more, which may be for this place.
-    CloneWaker(usize, Option<usize>),
-    DropWaker(usize, AfterDrop),
-    /// The place, and the waker that is to take it.
-    Register(usize, usize),
+    CloneWaker(Option<usize>),
+    DropWaker(AfterDrop),
+    /// The waker that the place is to take.
+    Register(usize),
     /// Whether it wakes by the waker that it takes out.
-    TakeWaker(usize, bool),
+    TakeWaker(bool),
 }
 
-// What the access does to its atomic.
-fn atomic_action(op: AtomicOp) -> Action {
-    match op {
-        AtomicOp::Load(..) => Action::Read,
-        AtomicOp::New(..)
-        | AtomicOp::Store(..)
-        | AtomicOp::Update(..)
-        | AtomicOp::CompareExchange(..)
-        | AtomicOp::CompareAndSwap(..)
-        | AtomicOp::UnsyncLoad(_)
-        | AtomicOp::IntoInner(_)
-        | AtomicOp::WithMut(_)
-        | AtomicOp::WithMutEnd(..) => Action::Change,
-    }
-}
-
-fn counting_action(counting: Counting) -> Action {
-    match counting {
-        Counting::Clone => Action::Increment,
-        Counting::StrongCount => Action::Inspect,
-        Counting::Drop | Counting::GetMut | Counting::TryUnwrap | Counting::Unwrap => {
-            Action::Decrement
-        }
-    }
-}
-
-impl Pending {
-    /// What it does to an object, as far as others depend on it.
-    pub fn used(self) -> Option<Use> {
-        let (object, action) = match self {
-            Pending::Nothing
-            | Pending::Start
-            | Pending::Continue
-            | Pending::Awake(..)
-            | Pending::Rouse(_) => return None,
-            Pending::Atomic(number, op) => (number, atomic_action(op)),
-            Pending::Count(number, counting) => (number, counting_action(counting)),
-            Pending::Claim(number, Claim::Write | Claim::TryWrite) => (number, Action::Write),
-            Pending::Await(number) | Pending::Join(_, number) => (number, Action::Wait),
-            Pending::Lock(number)
-            | Pending::TryLock(number)
-            | Pending::Claim(number, Claim::Read | Claim::TryRead)
-            | Pending::Sleep(number, ..)
-            | Pending::Relock(number, _)
-            | Pending::NotifyOne(number)
-            | Pending::NotifyAll(number)
-            | Pending::Notify(number)
-            | Pending::Finish(number, _)
-            | Pending::Wake(number, ..)
-            | Pending::Register(number, _)
-            | Pending::TakeWaker(number, _) => (number, Action::Other),
-            Pending::Send(number, _) => (number, Action::Send),
-            Pending::Receive(number, _) => (number, Action::Receive),
-            Pending::CloneWaker(number, _) => (number, Action::Increment),
-            Pending::DropWaker(number, _) => (number, Action::Decrement),
-        };
-        Some(Use { object, action })
-    }
-
-    /// Whether it does this to the object.
-    pub fn does(self, action: Action, object: usize) -> bool {
-        self.used() == Some(Use { object, action })
-    }
-
-    /// Whether it is pending on the object.
-    pub fn is_on(self, object: usize) -> bool {
-        match self.used() {
-            Some(used) => used.object == object,
-            None => false,
-        }
-    }
+/// What a thread does when it is chosen, and to which object.
+#[derive(Clone, Copy)]
+pub struct Pending {
+    /// The object's number, if there is one.
+    pub number: usize,
+    /// What it does to the object, as far as others depend on it.
+    pub action: Option<Action>,
+    pub step: Step,
 }
 
 /// A thread's own value.
@@ -199,10 +162,10 @@ pub struct Thread {
     pub present: usize,
     /// The point that its last release fence left.
     pub released: usize,
-    /// The last point that raised it.
-    pub raised: Option<usize>,
-    /// At its last yield, the last point that had raised it.
-    pub yielded: Option<Option<usize>>,
+    /// The last point that raised it, or 0.
+    pub raised: usize,
+    /// At its last yield, the last point that had raised it, or 0.
+    pub yielded: Option<usize>,
     /// How often it has yielded.
     pub yields: u64,
     pub has_token: bool,
@@ -216,13 +179,10 @@ pub struct Thread {
     pub locals: Vec<Local>,
     /// The messages that it has taken of a receiver that it drops.
     pub taken: LinkedList<Number>,
-}
-
-/// A thread's first touch of a store.
-#[derive(Clone, Copy)]
-pub struct Touch {
-    /// The last point that had raised the thread then.
-    pub raised: Option<usize>,
+    /// How many accesses it has made.
+    pub accesses: usize,
+    /// The point of its last access, among those of accesses. Main begins with a point of its own, a thread with its parent's.
+    pub last: usize,
 }
 
 /// One store of an atomic.
@@ -236,102 +196,25 @@ pub struct Store {
     /// The point that is acquired with it.
     pub sync: usize,
     pub is_seq_cst: bool,
-    /// Of each thread that has touched it.
-    pub touches: [Option<Touch>; 5],
+    /// Of each thread that has touched it: the last point that had raised the thread at its first touch, or 0.
+    pub touches: [Option<usize>; 5],
 }
 
-/// What kind of access to an atomic was made.
+/// What kind of access to an atomic or a cell was made.
 #[derive(Clone, Copy, PartialEq, Eq)]
 pub enum Access {
+    /// Also a read of a cell.
     Load,
     Store,
     UnsyncLoad,
+    /// Also a write of a cell.
     Mutation,
 }
 
-/// An access to an atomic, and the point that its thread was at.
+/// An access, and the point that its thread was at.
 #[derive(Clone, Copy)]
 pub struct Accessed {
     pub access: Access,
-    pub point: usize,
-}
-
-#[derive(Drop)]
-pub struct Atomic {
-    pub numbers: Numbers,
-    pub is_whole: bool,
-    /// The thread that has a mutation open.
-    pub mutator: Option<u8>,
-    pub accesses: Vec<Accessed>,
-    /// All stores ever made, the initial one first.
-    pub stores: Vec<Store>,
-}
-
-#[derive(Drop)]
-pub struct Cell {
-    pub value: Option<Number>,
-    pub is_whole: bool,
-    /// The reads that are open.
-    pub readers: Readers,
-    pub writer: Option<u8>,
-    /// The points of all reads.
-    pub reads: Vec<usize>,
-    /// The points of all writes.
-    pub writes: Vec<usize>,
-}
-
-#[derive(Clone, Copy)]
-pub struct Counted {
-    pub count: u64,
-    pub value: Option<Number>,
-    /// The thread that has the value out.
-    pub lent: Option<u8>,
-    pub point: usize,
-}
-
-#[derive(Clone, Copy)]
-pub struct Tracked {
-    pub value: Option<Number>,
-    pub lent: Option<u8>,
-    pub is_tracked: bool,
-}
-
-#[derive(Clone, Copy)]
-pub struct Mutex {
-    pub value: Option<Number>,
-    pub holder: Option<u8>,
-    /// The thread that has the data out without holding the mutex.
-    pub lent: Option<u8>,
-    pub is_whole: bool,
-    pub point: usize,
-}
-
-#[derive(Clone, Copy)]
-pub struct RwLock {
-    pub value: Option<Number>,
-    /// The guards for reading.
-    pub readers: Readers,
-    pub writer: Option<u8>,
-    pub lent: Option<u8>,
-    pub is_whole: bool,
-    pub point: usize,
-}
-
-#[derive(Drop)]
-pub struct Condvar {
-    /// The threads that wait, the first one first.
-    pub waiters: LinkedList<u8>,
-}
-
-#[derive(Clone, Copy)]
-pub struct Notify {
-    pub is_notified: bool,
-    /// Whether a thread's join alone waits on it.
-    pub is_of_thread: bool,
-    /// The thread inside a wait on it.
-    pub waiter: Option<u8>,
-    /// Whether a thread has woken from it without a notification.
-    pub has_woken: bool,
     pub point: usize,
 }
 
@@ -342,27 +225,123 @@ pub struct Message {
     pub point: usize,
 }
 
+/// What an object is.
+#[derive(Clone, Copy, PartialEq, Eq)]
+pub enum Kind {
+    Atomic,
+    Cell,
+    Arc,
+    Track,
+    Mutex,
+    RwLock,
+    Condvar,
+    Notify,
+    /// A notifier on which a thread's join alone waits.
+    End,
+    Channel,
+    /// The wakers of a future, counted.
+    Wakers,
+    /// A place for a waker, with its lock.
+    Place,
+    /// It stands for an object that isn't there.
+    Nothing,
+}
+
+/// An object. What another kind has doesn't count.
 #[derive(Drop)]
-pub struct Channel {
-    pub senders: u64,
-    pub has_receiver: bool,
-    /// The one that was sent first first.
-    pub messages: LinkedList<Message>,
-    pub point: usize,
-}
-
-/// The wakers of a future, counted.
-#[derive(Clone, Copy)]
-pub struct Wakers {
-    pub notifier: usize,
-    pub count: u64,
-    pub point: usize,
-}
-
-/// A place for a waker, with its lock.
-#[derive(Clone, Copy)]
-pub struct Place {
+pub struct Object {
+    pub kind: Kind,
+    /// Whether it may be used.
+    pub is_whole: bool,
+    /// What a cell, a counted reference, a tracked value or a lock holds.
+    pub value: Option<Number>,
+    /// The thread that has it alone: that has a mutation or a write open, holds a lock, or is inside a wait on a notifier.
     pub holder: Option<u8>,
-    pub waker: Option<usize>,
+    /// The thread that has the value out without holding.
+    pub lent: Option<u8>,
+    /// How many reads of a cell or a lock each thread has open.
+    pub readers: [u64; 5],
+    /// How many references, senders or wakers there are.
+    pub count: u64,
+    /// The point that is acquired with it.
     pub point: usize,
+    /// What an atomic holds.
+    pub numbers: Numbers,
+    /// All accesses to an atomic or a cell.
+    pub accesses: Vec<Accessed>,
+    /// All stores ever made to an atomic, the initial one first.
+    pub stores: Vec<Store>,
+    /// The threads that wait on a condition variable, the first one first.
+    pub waiters: LinkedList<u8>,
+    pub is_notified: bool,
+    /// Whether a thread has woken from the notifier without a notification.
+    pub has_woken: bool,
+    pub has_receiver: bool,
+    /// The message that was sent first first.
+    pub messages: LinkedList<Message>,
+    /// The notifier of wakers.
+    pub notifier: usize,
+    /// The waker in a place.
+    pub waker: Option<usize>,
+}
+
+impl Thread {
+    /// A thread in this state that is to begin at this point, and whose last access has this one.
+    pub fn new(
+        alloc: Global,
+        state: State,
+        present: usize,
+        released: usize,
+        last: usize,
+    ) -> Thread {
+        Thread {
+            state,
+            phase: Phase::Working,
+            pending: Pending {
+                number: 0,
+                action: None,
+                step: Step::Start,
+            },
+            present,
+            released,
+            raised: 0,
+            yielded: None,
+            yields: 0,
+            has_token: false,
+            value: None,
+            notifier: None,
+            is_joined: false,
+            name: None,
+            locals: Vec::new(alloc),
+            taken: LinkedList::new(alloc),
+            accesses: 0,
+            last,
+        }
+    }
+}
+
+impl Object {
+    /// An object that nobody has used.
+    pub fn new(alloc: Global, kind: Kind, value: Option<Number>, point: usize) -> Object {
+        Object {
+            kind,
+            is_whole: true,
+            value,
+            holder: None,
+            lent: None,
+            readers: [0; 5],
+            count: 1,
+            point,
+            numbers: Numbers::Bool,
+            accesses: Vec::new(alloc),
+            stores: Vec::new(alloc),
+            waiters: LinkedList::new(alloc),
+            is_notified: false,
+            has_woken: false,
+            has_receiver: true,
+            messages: LinkedList::new(alloc),
+            notifier: 0,
+            waker: None,
+        }
+    }
 }

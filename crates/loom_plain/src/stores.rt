@@ -1,11 +1,11 @@
 //! The stores of an atomic: which are seen, which stand below others, and which may be read.
 use crate::choices::Options;
 use crate::graph::Graph;
-use crate::state::{Store, Touch};
+use crate::state::Store;
 use loom_objects::choice::Choice;
 use std::sync::atomic::Ordering;
 
-/// How many stores of an atomic are kept: the last ones.
+/// How many stores of an atomic are kept: the last ones. The slot of a store is the rest of its number by that.
 const KEPT: usize = 7;
 
 /// Who looks for a store to read.
@@ -14,8 +14,8 @@ pub struct Reader {
     pub thread: u8,
     /// The point that the thread is at.
     pub present: usize,
-    /// At the thread's last yield, the last point that had raised it.
-    pub yielded: Option<Option<usize>>,
+    /// At the thread's last yield, the last point that had raised it, or 0.
+    pub yielded: Option<usize>,
     /// The ordering of a load; a read-modify-write has none.
     pub load: Option<Ordering>,
 }
@@ -27,26 +27,31 @@ pub fn kept(stores: &[Store]) -> &[Store] {
         .unwrap_or(stores)
 }
 
-// The slot of the store.
-fn slot(store: &Store) -> usize {
-    store.number % KEPT
-}
-
 /// The kept store in the slot.
 pub fn store_in(stores: &[Store], wanted: usize) -> Option<&Store> {
     for store in kept(stores) {
-        if slot(store) == wanted {
+        if store.number % KEPT == wanted {
             return Some(store);
         }
     }
     None
 }
 
-/// Whether the store is seen from the point: a thread's first touch of it reaches the point.
+impl Store {
+    /// The thread touches it, once this point has raised the thread, or none where that is 0. Only its first touch is kept.
+    pub fn touched(&mut self, thread: u8, raised: usize) {
+        if let Some(touch) = self.touches.get_mut(usize::from(thread)) {
+            *touch = touch.or(Some(raised));
+        }
+    }
+}
+
+/// Whether the store is seen from the point: a thread's first touch of it reaches the point. One before which nothing has raised
+/// its thread reaches all points.
 pub fn is_seen(graph: &Graph, store: &Store, point: usize) -> bool {
     for touch in &store.touches {
-        if let Some(touch) = *touch
-            && reaches(graph, touch, point)
+        if let Some(raised) = *touch
+            && (raised == 0 || graph.reaches(raised, point))
         {
             return true;
         }
@@ -54,49 +59,22 @@ pub fn is_seen(graph: &Graph, store: &Store, point: usize) -> bool {
     false
 }
 
-// Whether the touch reaches the point. One before which nothing has raised its thread reaches all points.
-fn reaches(graph: &Graph, touch: Touch, point: usize) -> bool {
-    match touch.raised {
-        Some(raised) => graph.reaches(raised, point),
-        None => true,
-    }
-}
-
-// Whether the view of the one store's order lies strictly inside that of the other's.
-fn is_below(graph: &Graph, one: &Store, other: &Store) -> bool {
-    graph.is_inside(one.order, other.order) && !graph.is_inside(other.order, one.order)
-}
-
-// Whether the views of both stores' orders are the same.
-fn is_level(graph: &Graph, one: &Store, other: &Store) -> bool {
-    graph.is_inside(one.order, other.order) && graph.is_inside(other.order, one.order)
-}
-
-// Whether the one comes no later than the other, where none is before all points.
-fn is_no_later(one: Option<usize>, other: Option<usize>) -> bool {
-    match (one, other) {
-        (None, _) => true,
-        (Some(_), None) => false,
-        (Some(one), Some(other)) => one <= other,
-    }
-}
-
 // Whether the reader has touched the store at or before its last yield.
 fn is_before_yield(reader: Reader, store: &Store) -> bool {
-    let touch = store
-        .touches
-        .get(usize::from(reader.thread))
-        .copied()
-        .flatten();
-    match (reader.yielded, touch) {
-        (Some(yielded), Some(touch)) => is_no_later(touch.raised, yielded),
-        (Some(_), None) | (None, _) => false,
+    match (
+        reader.yielded,
+        store.touches.get(usize::from(reader.thread)),
+    ) {
+        (Some(yielded), Some(Some(touch))) => *touch <= yielded,
+        (Some(_), Some(None) | None) | (None, _) => false,
     }
 }
 
-// Whether the one store drops the other from what may be read.
+// Whether the one store drops the other from what may be read: the view of the other's order lies strictly inside that of its own,
+// and it is read in its place.
 fn drops(graph: &Graph, reader: Reader, one: &Store, other: &Store) -> bool {
-    if !is_below(graph, other, one) {
+    let is_below = graph.is_inside(other.order, one.order);
+    if !is_below || graph.is_inside(one.order, other.order) {
         return false;
     }
     match reader.load {
@@ -117,7 +95,7 @@ fn is_dropped(
     below: usize,
 ) -> bool {
     for other in kept(stores) {
-        if slot(other) < below && drops(graph, reader, other, store) {
+        if other.number % KEPT < below && drops(graph, reader, other, store) {
             return true;
         }
     }
@@ -128,8 +106,9 @@ fn is_dropped(
 fn has_equal(graph: &Graph, reader: Reader, stores: &[Store], store: &Store) -> bool {
     for other in kept(stores) {
         if other.number != store.number
-            && is_level(graph, store, other)
-            && !is_dropped(graph, reader, stores, store, slot(other))
+            && graph.is_inside(store.order, other.order)
+            && graph.is_inside(other.order, store.order)
+            && !is_dropped(graph, reader, stores, store, other.number % KEPT)
         {
             return true;
         }

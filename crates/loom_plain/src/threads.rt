@@ -1,37 +1,13 @@
 //! Threads: spawns, joins, tokens, yields, ends.
+use crate::dependence::Action;
 use crate::halt::Told;
 use crate::machine::Machine;
 use crate::memory::push;
-use crate::state::{Pending, Phase, State, Thread};
+use crate::state::{Kind, Phase, State, Step, Thread};
 use loom_objects::operation::{Reply, ThreadOp};
 use loom_objects::rt::thread::Name;
 use loom_scripts::number::Number;
 use loom_views::rt::failure::FailureKind;
-use std::alloc::Global;
-use std::collections::LinkedList;
-
-impl Thread {
-    /// A thread that is to begin at this point.
-    pub fn new(alloc: Global, present: usize, released: usize) -> Thread {
-        Thread {
-            state: State::Runnable,
-            phase: Phase::Working,
-            pending: Pending::Start,
-            present,
-            released,
-            raised: None,
-            yielded: None,
-            yields: 0,
-            has_token: false,
-            value: None,
-            notifier: None,
-            is_joined: false,
-            name: None,
-            locals: Vec::new(alloc),
-            taken: LinkedList::new(alloc),
-        }
-    }
-}
 
 impl Machine {
     /// An operation of threads is handed over.
@@ -42,7 +18,7 @@ impl Machine {
             ThreadOp::Current => Some(Reply::Thread(self.active, self.me().name)),
             ThreadOp::Park => self.park(),
             ThreadOp::Unpark(thread) => self.unpark(thread),
-            ThreadOp::Yield => self.yields(Pending::Continue),
+            ThreadOp::Yield => self.yields(0, Step::Continue),
             ThreadOp::Finish(value) => self.finish_begins(value),
             ThreadOp::Exit => {
                 self.moves_on(Phase::Finished, Phase::Exited);
@@ -50,7 +26,9 @@ impl Machine {
             }
             ThreadOp::End => {
                 self.moves_on(Phase::Exited, Phase::Over);
-                self.steps_back(State::Ended, Pending::Nothing)
+                let rest = &mut *self.rest;
+                rest.ended = rest.ended.saturating_add(1);
+                self.steps_back(State::Ended, 0, Step::Nothing)
             }
         }
     }
@@ -65,45 +43,39 @@ impl Machine {
 
     fn spawn(&mut self, name: Option<Name>) -> Told {
         let count = self.threads.len();
-        self.check(count < self.max_threads, FailureKind::TooManyThreads);
+        let most = self.rest.settings.max_threads;
+        self.check(count < most, FailureKind::TooManyThreads);
         let Ok(number) = u8::try_from(count) else {
             return None;
         };
-        let before = self.present();
+        let me = self.me();
+        let (before, last) = (me.present, me.last);
         let begins = self.point(&[before], Some(number));
         self.raise();
-        let notifier = self.notify_new(true);
-        let released = self.fresh_point();
-        self.starts(name, notifier, begins, released);
-        Some(Reply::Spawned(number, name, notifier))
-    }
-
-    // A thread more, which has this notifier, and begins at this point.
-    fn starts(&mut self, name: Option<Name>, notifier: usize, begins: usize, released: usize) {
-        let mut thread = Thread::new(self.alloc, begins, released);
-        thread.raised = Some(begins);
+        let notifier = self.makes(Kind::End, None);
+        let mut thread = Thread::new(self.alloc, State::Runnable, begins, 0, last);
+        thread.raised = begins;
         thread.notifier = Some(notifier);
         thread.name = name;
         push(&mut self.threads, thread, &mut self.halt);
-        self.dependence.child(self.active, &mut self.halt);
+        Some(Reply::Spawned(number, name, notifier))
     }
 
     fn join_begins(&mut self, number: u8, notifier: usize) -> Told {
         let is_there = usize::from(number) < self.threads.len();
-        self.require(is_there);
         let thread = self.thread(number);
         let may_join = thread.notifier == Some(notifier) && !thread.is_joined;
         thread.is_joined = true;
-        self.require(may_join);
-        let is_notified = self.notify(notifier).is_notified;
-        self.pends(Pending::Join(number, notifier), !is_notified)
+        self.require(is_there && may_join);
+        let is_notified = self.at(notifier).is_notified;
+        self.pends(notifier, Action::Wait, Step::Join(number), !is_notified)
     }
 
-    /// The active thread has joined this one.
-    pub fn join(&mut self, number: u8, notifier: usize) -> Told {
+    /// The active thread has joined this one, which has the notifier.
+    pub fn joins(&mut self, notifier: usize, number: u8) -> Told {
         self.acquires_notice(notifier);
         let value = self.thread(number).value.take();
-        Some(Reply::Data(self.expected(value)))
+        Some(Reply::Data(self.required(value)))
     }
 
     fn park(&mut self) -> Told {
@@ -112,7 +84,7 @@ impl Machine {
             me.has_token = false;
             return Some(Reply::Done);
         }
-        self.steps_back(State::Parked, Pending::Continue)
+        self.steps_back(State::Parked, 0, Step::Continue)
     }
 
     fn unpark(&mut self, number: u8) -> Told {
@@ -132,12 +104,12 @@ impl Machine {
         Some(Reply::Done)
     }
 
-    /// The active thread lets others go on first.
-    pub fn yields(&mut self, pending: Pending) -> Told {
+    /// The active thread lets others go on first, and then does this.
+    pub fn yields(&mut self, number: usize, step: Step) -> Told {
         let me = self.me();
         me.yielded = Some(me.raised);
         me.yields = me.yields.saturating_add(1);
-        self.steps_back(State::Yielding, pending)
+        self.steps_back(State::Yielding, number, step)
     }
 
     fn finish_begins(&mut self, value: Number) -> Told {
@@ -148,13 +120,14 @@ impl Machine {
                 me.value = Some(value);
                 self.takes_lazies()
             }
-            Some(notifier) => self.pends(Pending::Finish(notifier, value), false),
+            Some(notifier) => self.pends(notifier, Action::Other, Step::Finish(value), false),
         }
     }
 
     /// The active thread, which isn't main, finishes.
-    pub fn finish(&mut self, notifier: usize, value: Number) -> Told {
+    pub fn finishes(&mut self, notifier: usize, value: Number) -> Told {
         self.me().value = Some(value);
-        self.tells_notified(notifier)
+        self.notifies(notifier);
+        Some(Reply::Done)
     }
 }

@@ -9,22 +9,17 @@ use loom_views::sequence::Sequence;
 use std::mem;
 
 impl Machine {
-    // The active thread's own value of this key.
-    fn local(&mut self, key: usize) -> Option<&mut Local> {
+    // The active thread's own value of this key, or nothing in its place once it was given back. What is to be put takes its
+    // place.
+    fn local_value(&mut self, key: usize, put: Option<Number>) -> Option<Option<Number>> {
         for local in self.me().locals.iter_mut() {
             if local.key == key {
-                return Some(local);
+                let old = local.value;
+                local.value = put.or(old);
+                return Some(old);
             }
         }
         None
-    }
-
-    // The value of this key, or whether it was given back.
-    fn local_value(&mut self, key: usize) -> Option<Option<Number>> {
-        match self.local(key) {
-            Some(local) => Some(local.value),
-            None => None,
-        }
     }
 
     /// An operation of a thread's own values.
@@ -33,13 +28,16 @@ impl Machine {
             LocalOp::With(key) => self.reads_local(key, true),
             LocalOp::TryWith(key) => self.reads_local(key, false),
             LocalOp::Init(key, value) => self.inits_local(key, value),
-            LocalOp::Put(key, value) => self.puts_local(key, value),
+            LocalOp::Put(key, value) => {
+                let old = self.local_value(key, Some(value)).flatten();
+                Some(Reply::Data(self.required(old)))
+            }
         }
     }
 
     // What is told of the value of this key. Whether the run fails where it was given back.
     fn reads_local(&mut self, key: usize, is_needed: bool) -> Told {
-        match self.local_value(key) {
+        match self.local_value(key, None) {
             Some(Some(value)) => Some(Reply::Data(value)),
             Some(None) => {
                 self.check(!is_needed, FailureKind::LocalGone);
@@ -51,7 +49,7 @@ impl Machine {
 
     // The first value of the key.
     fn inits_local(&mut self, key: usize, value: Number) -> Told {
-        let is_first = self.local_value(key).is_none();
+        let is_first = self.local_value(key, None).is_none();
         self.check(is_first, FailureKind::KeyTaken);
         let local = Local {
             key,
@@ -60,15 +58,6 @@ impl Machine {
         let has_grown = self.me().locals.push(local).is_ok();
         self.grows(has_grown);
         Some(Reply::Data(value))
-    }
-
-    // Another value takes the place of that of the key, which is told.
-    fn puts_local(&mut self, key: usize, value: Number) -> Told {
-        let old = self.local_value(key).flatten();
-        if let Some(local) = self.local(key) {
-            local.value = Some(value);
-        }
-        Some(Reply::Data(self.required(old)))
     }
 
     /// The active thread gives its own values back.
@@ -87,21 +76,19 @@ impl Machine {
 
     // The value of this key, if it was made, once the active thread has acquired what its maker has seen.
     fn lazy(&mut self, key: usize) -> Option<Number> {
-        let Some((value, point)) = self.lazy_value(key) else {
-            return None;
-        };
-        self.acquire(point);
-        Some(value)
-    }
-
-    // The value of this key, if it was made, and the point that is acquired with it.
-    fn lazy_value(&self, key: usize) -> Option<(Number, usize)> {
-        for lazy in self.lazies.as_slice() {
+        let mut made = None;
+        for lazy in self.rest.lazies.as_slice() {
             if lazy.key == key {
-                return Some((lazy.value, lazy.stamp));
+                made = Some((lazy.value, lazy.stamp));
             }
         }
-        None
+        match made {
+            Some((value, point)) => {
+                self.acquire(point);
+                Some(value)
+            }
+            None => None,
+        }
     }
 
     /// An operation of values that are made once in a run.
@@ -122,9 +109,8 @@ impl Machine {
 
     // The first value of the key.
     fn inits_lazy(&mut self, key: usize, value: Number) -> Told {
-        let point = self.fresh_point();
-        let stamp = self.released_to(point);
-        let has_grown = self.lazies.push(Lazy { key, value, stamp }).is_ok();
+        let stamp = self.released_to(0);
+        let has_grown = self.rest.lazies.push(Lazy { key, value, stamp }).is_ok();
         self.grows(has_grown);
         Some(Reply::Data(value))
     }
@@ -132,6 +118,6 @@ impl Machine {
     /// The values that were made once in the run are given back.
     pub fn takes_lazies(&mut self) -> Told {
         let none = Sequence::new(self.alloc);
-        Some(Reply::Lazies(mem::replace(&mut self.lazies, none)))
+        Some(Reply::Lazies(mem::replace(&mut self.rest.lazies, none)))
     }
 }

@@ -1,104 +1,93 @@
 //! Wakers of futures, and places for wakers.
+use crate::dependence::Action;
 use crate::halt::Told;
 use crate::machine::Machine;
-use crate::state::{AfterDrop, Pending, Place, State, Wakers};
+use crate::state::{AfterDrop, Kind, Step};
 use loom_objects::operation::{AtomicWakerOp, Reply, WakerOp};
 use loom_scripts::number::Number;
 
-impl Wakers {
-    /// So many of this notifier.
-    pub fn of(notifier: usize, count: u64, point: usize) -> Wakers {
-        Wakers {
-            notifier,
-            count,
-            point,
-        }
-    }
-}
-
-impl Place {
-    /// Free, without a waker.
-    pub fn new(point: usize) -> Place {
-        Place {
-            holder: None,
-            waker: None,
-            point,
-        }
+// What is told of a waker that was taken out of its place.
+fn waker_reply(waker: Option<usize>) -> Reply<Number> {
+    match waker {
+        Some(number) => Reply::Waker(number),
+        None => Reply::NoWaker,
     }
 }
 
 impl Machine {
+    // The notifier of these wakers, of which some are left.
+    fn notifier_of(&mut self, number: usize) -> usize {
+        self.object(number, Kind::Wakers).notifier
+    }
+
     /// An operation of a future's notifier or of its wakers is handed over.
     pub fn waker_begins(&mut self, op: WakerOp) -> Told {
         match op {
-            WakerOp::New => self.block_on_new(),
+            // A notifier, and then the count of its wakers.
+            WakerOp::New => {
+                let notifier = self.makes(Kind::Notify, None);
+                let number = self.makes(Kind::Wakers, None);
+                self.at(number).notifier = notifier;
+                Some(Reply::BlockOn(number))
+            }
             WakerOp::Wait(number) => {
-                let notifier = self.wakers(number).notifier;
+                let notifier = self.notifier_of(number);
                 self.wait_begins(notifier)
             }
-            WakerOp::Clone(number) => {
-                self.wakers(number);
-                self.pends(Pending::CloneWaker(number, None), false)
-            }
+            WakerOp::Clone(number) => self.clone_begins(number, None),
             WakerOp::Finish(number) | WakerOp::Drop(number) => {
-                self.wakers(number);
-                self.pends(Pending::DropWaker(number, AfterDrop::Nothing), false)
+                self.notifier_of(number);
+                self.drop_begins(number, AfterDrop::Nothing)
             }
             WakerOp::Wake(number) => self.wake_begins(number, Some(AfterDrop::Nothing)),
             WakerOp::WakeByRef(number) => self.wake_begins(number, None),
         }
     }
 
-    // A notifier, and then the count of its wakers.
-    fn block_on_new(&mut self) -> Told {
-        let notifier = self.notify_new(false);
-        let wakers = Wakers::of(notifier, 1, self.fresh_point());
-        let objects = &mut *self.objects;
-        let number = objects
-            .wakers
-            .add(wakers, &mut objects.count, &mut self.halt);
-        Some(Reply::BlockOn(number))
+    // The active thread comes to make a waker more, which may be for this place.
+    fn clone_begins(&mut self, number: usize, place: Option<usize>) -> Told {
+        self.notifier_of(number);
+        self.pends(number, Action::Increment, Step::CloneWaker(place), false)
+    }
+
+    // The active thread comes to drop the waker.
+    fn drop_begins(&mut self, number: usize, after: AfterDrop) -> Told {
+        self.pends(number, Action::Decrement, Step::DropWaker(after), false)
     }
 
     // The active thread comes to wake by the waker.
     fn wake_begins(&mut self, number: usize, after: Option<AfterDrop>) -> Told {
-        let notifier = self.wakers(number).notifier;
-        self.pends(Pending::Wake(notifier, number, after), false)
+        let notifier = self.notifier_of(number);
+        self.pends(notifier, Action::Other, Step::Wake(number, after), false)
     }
 
     /// The active thread wakes by the waker, and may come to drop that.
     pub fn wakes_by(&mut self, notifier: usize, number: usize, after: Option<AfterDrop>) -> Told {
-        self.wakers(number);
+        self.notifier_of(number);
         self.notifies(notifier);
         match after {
-            Some(after) => self.pends(Pending::DropWaker(number, after), false),
+            Some(after) => self.drop_begins(number, after),
             None => Some(Reply::Done),
         }
     }
 
     /// One waker more, which may be about to take a place.
     pub fn clones_waker(&mut self, number: usize, place: Option<usize>) -> Told {
-        let wakers = self.wakers(number);
+        let wakers = self.object(number, Kind::Wakers);
         wakers.count = wakers.count.saturating_add(1);
         match place {
-            Some(place) => self.pends(Pending::Register(place, number), false),
+            Some(place) => self.pends(place, Action::Other, Step::Register(number), false),
             None => Some(Reply::Done),
         }
     }
 
     /// One waker fewer; who drops the last one acquires.
     pub fn drops_waker(&mut self, number: usize, after: AfterDrop) -> Told {
-        let Wakers { count, point, .. } = *self.wakers(number);
-        let point = self.released_to(point);
-        let wakers = self.wakers(number);
-        wakers.point = point;
-        wakers.count = count.saturating_sub(1);
-        if count == 1 {
-            self.acquire(point);
-        }
+        self.notifier_of(number);
+        self.drops_one(number);
         match after {
             AfterDrop::Nothing => Some(Reply::Done),
-            AfterDrop::Yield => self.yields(Pending::Continue),
+            AfterDrop::Yield => self.yields(0, Step::Continue),
             AfterDrop::Free(place) => self.tells_free(place),
         }
     }
@@ -106,80 +95,55 @@ impl Machine {
     /// An operation of a place for wakers is handed over.
     pub fn place_begins(&mut self, op: AtomicWakerOp) -> Told {
         match op {
-            AtomicWakerOp::New => self.place_new(),
+            AtomicWakerOp::New => Some(Reply::AtomicWaker(self.makes(Kind::Place, None))),
             AtomicWakerOp::Register(number, waker) => {
-                self.register_begins(number, waker, Pending::Register(number, waker))
+                self.object(number, Kind::Place);
+                self.notifier_of(waker);
+                self.pends(number, Action::Other, Step::Register(waker), false)
             }
             AtomicWakerOp::RegisterByRef(number, waker) => {
-                self.register_begins(number, waker, Pending::CloneWaker(waker, Some(number)))
+                self.object(number, Kind::Place);
+                self.clone_begins(waker, Some(number))
             }
             AtomicWakerOp::Wake(number) => self.take_begins(number, true),
             AtomicWakerOp::TakeWaker(number) => self.take_begins(number, false),
-            AtomicWakerOp::Drop(number) => Some(waker_reply(self.place(number).waker.take())),
+            AtomicWakerOp::Drop(number) => {
+                Some(waker_reply(self.object(number, Kind::Place).waker.take()))
+            }
         }
-    }
-
-    fn place_new(&mut self) -> Told {
-        let place = Place::new(self.fresh_point());
-        let objects = &mut *self.objects;
-        let number = objects
-            .places
-            .add(place, &mut objects.count, &mut self.halt);
-        Some(Reply::AtomicWaker(number))
-    }
-
-    // The active thread comes to a branch point with a place and a waker that are there.
-    fn register_begins(&mut self, number: usize, waker: usize, pending: Pending) -> Told {
-        self.place(number);
-        self.wakers(waker);
-        self.pends(pending, false)
     }
 
     // The active thread comes to take the waker out, and is blocked while the place is held.
     fn take_begins(&mut self, number: usize, wakes: bool) -> Told {
-        let is_held = self.place(number).holder.is_some();
-        self.pends(Pending::TakeWaker(number, wakes), is_held)
+        let is_held = self.object(number, Kind::Place).holder.is_some();
+        self.pends(number, Action::Other, Step::TakeWaker(wakes), is_held)
     }
 
     // The active thread holds the place, and leaves this waker there. Gives the old one.
     fn holds_place(&mut self, number: usize, waker: Option<usize>) -> Option<usize> {
-        let old = *self.place(number);
-        self.require(old.holder.is_none());
-        *self.place(number) = Place {
-            holder: Some(self.active),
-            waker,
-            ..old
-        };
-        self.acquire(old.point);
-        self.set_pending(number, State::Blocked);
-        old.waker
+        let place = self.at(number);
+        let (old, is_held) = (place.waker, place.holder.is_some());
+        place.waker = waker;
+        self.require(!is_held);
+        self.holds(number);
+        old
     }
 
     // The active thread holds the place no more, and is told so.
     fn tells_free(&mut self, number: usize) -> Told {
-        self.frees_place(number);
+        self.frees(number);
         Some(Reply::Done)
-    }
-
-    // The active thread holds the place no more.
-    fn frees_place(&mut self, number: usize) {
-        let before = self.place(number).point;
-        let point = self.released_to(before);
-        let place = self.place(number);
-        place.holder = None;
-        place.point = point;
-        self.set_pending(number, State::Runnable);
     }
 
     /// The waker takes the place, and an old one is dropped while the place is held; where another thread holds it, the waker
     /// wakes and is dropped, and the active thread yields.
     pub fn registers(&mut self, number: usize, waker: usize) -> Told {
-        self.wakers(waker);
-        if self.place(number).holder.is_some() {
+        self.notifier_of(waker);
+        if self.at(number).holder.is_some() {
             return self.wake_begins(waker, Some(AfterDrop::Yield));
         }
         match self.holds_place(number, Some(waker)) {
-            Some(old) => self.pends(Pending::DropWaker(old, AfterDrop::Free(number)), false),
+            Some(old) => self.drop_begins(old, AfterDrop::Free(number)),
             None => self.tells_free(number),
         }
     }
@@ -187,19 +151,11 @@ impl Machine {
     /// The waker is taken out of the place, and may be about to wake.
     pub fn takes_waker(&mut self, number: usize, wakes: bool) -> Told {
         let waker = self.holds_place(number, None);
-        self.frees_place(number);
+        self.frees(number);
         match waker {
             Some(waker) if wakes => self.wake_begins(waker, Some(AfterDrop::Nothing)),
             None if wakes => Some(Reply::Done),
             Some(_) | None => Some(waker_reply(waker)),
         }
-    }
-}
-
-// What is told of a waker that was taken out of its place.
-fn waker_reply(waker: Option<usize>) -> Reply<Number> {
-    match waker {
-        Some(number) => Reply::Waker(number),
-        None => Reply::NoWaker,
     }
 }
