@@ -77,35 +77,35 @@ impl Machine {
             AtomicOp::New(numbers, value) => self.atomic_new(numbers, value),
             AtomicOp::Load(number, order) => {
                 let update = update_of(Becoming::Same, order, order);
-                self.access_begins(number, Action::Read, Step::Update(update))
+                self.comes_to(number, Kind::Atomic, Action::Read, Step::Update(update))
             }
             AtomicOp::Store(number, value, order) => {
-                self.access_begins(number, Action::Change, Step::Store(value, order))
+                self.comes_to(
+                    number,
+                    Kind::Atomic,
+                    Action::Change,
+                    Step::Store(value, order),
+                )
             }
             AtomicOp::Update(number, change, order) => {
                 let update = update_of(Becoming::Changed(change), order, order);
-                self.access_begins(number, Action::Change, Step::Update(update))
+                self.comes_to(number, Kind::Atomic, Action::Change, Step::Update(update))
             }
             AtomicOp::CompareExchange(number, exchange) => {
                 let becoming = Becoming::Exchanged(exchange.expected, exchange.new);
                 let mut update = update_of(becoming, exchange.success, exchange.failure);
                 update.is_exchange = true;
-                self.access_begins(number, Action::Change, Step::Update(update))
+                self.comes_to(number, Kind::Atomic, Action::Change, Step::Update(update))
             }
             AtomicOp::CompareAndSwap(number, expected, new, order) => {
                 let update = update_of(Becoming::Exchanged(expected, new), order, failing(order));
-                self.access_begins(number, Action::Change, Step::Update(update))
+                self.comes_to(number, Kind::Atomic, Action::Change, Step::Update(update))
             }
             AtomicOp::UnsyncLoad(number) => self.tells_newest(number, Access::UnsyncLoad, true),
             AtomicOp::IntoInner(number) => self.tells_newest(number, Access::UnsyncLoad, false),
             AtomicOp::WithMut(number) => self.tells_newest(number, Access::Mutation, true),
             AtomicOp::WithMutEnd(number, value) => self.with_mut_end(number, value),
         }
-    }
-
-    fn access_begins(&mut self, number: usize, action: Action, step: Step) -> Told {
-        self.object(number, Kind::Atomic);
-        self.pends(number, action, step, false)
     }
 
     // An access that doesn't synchronize, of which the value of the newest store is told. A mutation stays open. Whether the

@@ -41,13 +41,15 @@ impl Machine {
             }
             ChannelOp::Recv(number) => {
                 let is_waited_for = self.receiver_of(number).is_waited_for();
-                self.receive_begins(number, Receiving::Recv, is_waited_for)
+                let step = Step::Receive(Receiving::Recv);
+                self.pends(number, Action::Receive, step, is_waited_for)
             }
             ChannelOp::TryRecv(number) => {
                 if self.receiver_of(number).messages.is_empty() {
                     Some(Reply::Empty)
                 } else {
-                    self.receive_begins(number, Receiving::TryRecv, false)
+                    let step = Step::Receive(Receiving::TryRecv);
+                    self.pends(number, Action::Receive, step, false)
                 }
             }
             ChannelOp::CloneSender(number) => {
@@ -58,16 +60,6 @@ impl Machine {
             ChannelOp::DropSender(number) => self.drops_sender(number),
             ChannelOp::DropReceiver(number) => self.drains(number),
         }
-    }
-
-    // The active thread comes to receive.
-    fn receive_begins(&mut self, number: usize, receiving: Receiving, is_blocked: bool) -> Told {
-        self.pends(
-            number,
-            Action::Receive,
-            Step::Receive(receiving),
-            is_blocked,
-        )
     }
 
     // One sender fewer; with the last one, who waits for a message goes on.
@@ -85,7 +77,8 @@ impl Machine {
     fn drains(&mut self, number: usize) -> Told {
         let channel = self.receiver_of(number);
         if !channel.messages.is_empty() {
-            return self.receive_begins(number, Receiving::Drain, false);
+            let step = Step::Receive(Receiving::Drain);
+            return self.pends(number, Action::Receive, step, false);
         }
         channel.has_receiver = false;
         let none = LinkedList::new(self.alloc);

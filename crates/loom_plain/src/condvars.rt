@@ -18,8 +18,18 @@ impl Machine {
             CondvarOp::WaitTimeout(number, mutex, value) => {
                 self.wait_on_begins(number, mutex, Step::Sleep(mutex, value, Claim::Relock))
             }
-            CondvarOp::NotifyOne(number) => self.notify_on_begins(number, Step::NotifyOne),
-            CondvarOp::NotifyAll(number) => self.notify_on_begins(number, Step::NotifyAll),
+            CondvarOp::NotifyOne(number) => self.comes_to(
+                number,
+                Kind::Condvar,
+                Action::Other,
+                Step::NotifyOne,
+            ),
+            CondvarOp::NotifyAll(number) => self.comes_to(
+                number,
+                Kind::Condvar,
+                Action::Other,
+                Step::NotifyAll,
+            ),
         }
     }
 
@@ -27,12 +37,7 @@ impl Machine {
         let active = self.active;
         let is_held = self.object(mutex, Kind::Mutex).holder == Some(active);
         self.require(is_held);
-        self.notify_on_begins(number, step)
-    }
-
-    fn notify_on_begins(&mut self, number: usize, step: Step) -> Told {
-        self.object(number, Kind::Condvar);
-        self.pends(number, Action::Other, step, false)
+        self.comes_to(number, Kind::Condvar, Action::Other, step)
     }
 
     /// The active thread is the last waiter, and releases the mutex.

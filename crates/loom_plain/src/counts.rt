@@ -19,7 +19,7 @@ impl Machine {
             ArcOp::TryUnwrap(number) => (number, Action::Decrement, Counting::TryUnwrap),
             ArcOp::StrongCount(number) => (number, Action::Inspect, Counting::StrongCount),
         };
-        self.count_begins(number, action, counting)
+        self.comes_to(number, Kind::Arc, action, Step::Count(counting))
     }
 
     // A copy of the value, which isn't out.
@@ -28,11 +28,6 @@ impl Machine {
         let (is_out, value) = (arc.lent.is_some(), arc.value);
         self.require(!is_out);
         Some(Reply::Data(self.required(value)))
-    }
-
-    fn count_begins(&mut self, number: usize, action: Action, counting: Counting) -> Told {
-        self.object(number, Kind::Arc);
-        self.pends(number, action, Step::Count(counting), false)
     }
 
     /// The operation of a counted reference takes effect.
@@ -57,7 +52,8 @@ impl Machine {
             Counting::TryUnwrap => {
                 self.acquires_from(number);
                 if count == 1 {
-                    self.count_begins(number, Action::Decrement, Counting::Unwrap)
+                    let step = Step::Count(Counting::Unwrap);
+                    self.comes_to(number, Kind::Arc, Action::Decrement, step)
                 } else {
                     Some(Reply::Shared)
                 }

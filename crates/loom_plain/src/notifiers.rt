@@ -13,8 +13,7 @@ impl Machine {
         match op {
             NotifyOp::New => Some(Reply::Notify(self.makes(Kind::Notify, None))),
             NotifyOp::Notify(number) => {
-                self.object(number, Kind::Notify);
-                self.pends(number, Action::Other, Step::Notify, false)
+                self.comes_to(number, Kind::Notify, Action::Other, Step::Notify)
             }
             NotifyOp::Wait(number) => self.wait_begins(number),
         }
@@ -48,6 +47,12 @@ impl Machine {
     pub fn rouses(&mut self, number: usize) -> Told {
         self.at(number).holder = None;
         Some(Reply::Done)
+    }
+
+    /// The active thread was notified, and is told so.
+    pub fn awaits(&mut self, number: usize) -> Told {
+        self.acquires_notice(number);
+        self.rouses(number)
     }
 
     /// The active thread acquires from the notifier, which isn't notified any more.

@@ -1,8 +1,9 @@
 //! The objects of a run, in one list. To use one that isn't there, isn't whole or is of another kind is a misuse.
+use crate::dependence::Action;
 use crate::halt::Told;
 use crate::machine::Machine;
 use crate::memory::push;
-use crate::state::{Kind, Object, State};
+use crate::state::{Kind, Object, State, Step};
 use loom_objects::operation::Reply;
 use loom_scripts::number::Number;
 use loom_views::rt::failure::FailureKind;
@@ -65,6 +66,12 @@ impl Machine {
         let object = Object::new(self.alloc, kind, value, 0);
         push(&mut self.objects, object, &mut self.halt);
         number
+    }
+
+    /// The active thread comes to a branch point, where it is to do this to the object, which is whole and of this kind.
+    pub fn comes_to(&mut self, number: usize, kind: Kind, action: Action, step: Step) -> Told {
+        self.object(number, kind);
+        self.pends(number, action, step, false)
     }
 
     /// The active thread acquires from the object.

@@ -259,10 +259,7 @@ impl Machine {
                 self.notifies(number);
                 Some(Reply::Done)
             }
-            Step::Await => {
-                self.acquires_notice(number);
-                self.rouses(number)
-            }
+            Step::Await => self.awaits(number),
             Step::Rouse => self.rouses(number),
             Step::Join(thread) => self.joins(number, thread),
             Step::Finish(value) => self.finishes(number, value),
@@ -356,15 +353,16 @@ impl Machine {
         self.failure = self.failure.or(leak);
         let value = self.thread(0).value;
         self.expect(value.is_some());
-        let none = no_run(self.alloc);
-        let mut run = mem::replace(&mut self.rest.run, none);
-        run.ending = match self.failure {
+        if let Some(halt) = self.halt {
+            return Err(halt);
+        }
+        let ending = match self.failure {
             Some(kind) => Ending::Failed(kind),
             None => Ending::Ended(value.unwrap_or(Number(0))),
         };
-        match self.halt {
-            Some(halt) => Err(halt),
-            None => Ok(run),
-        }
+        let none = no_run(self.alloc);
+        let mut run = mem::replace(&mut self.rest.run, none);
+        run.ending = ending;
+        Ok(run)
     }
 }

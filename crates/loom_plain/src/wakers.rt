@@ -34,20 +34,17 @@ impl Machine {
                 let notifier = self.notifier_of(number);
                 self.wait_begins(notifier)
             }
-            WakerOp::Clone(number) => self.clone_begins(number, None),
+            WakerOp::Clone(number) => {
+                let step = Step::CloneWaker(None);
+                self.comes_to(number, Kind::Wakers, Action::Increment, step)
+            }
             WakerOp::Finish(number) | WakerOp::Drop(number) => {
-                self.notifier_of(number);
-                self.drop_begins(number, AfterDrop::Nothing)
+                let step = Step::DropWaker(AfterDrop::Nothing);
+                self.comes_to(number, Kind::Wakers, Action::Decrement, step)
             }
             WakerOp::Wake(number) => self.wake_begins(number, Some(AfterDrop::Nothing)),
             WakerOp::WakeByRef(number) => self.wake_begins(number, None),
         }
-    }
-
-    // The active thread comes to make a waker more, which may be for this place.
-    fn clone_begins(&mut self, number: usize, place: Option<usize>) -> Told {
-        self.notifier_of(number);
-        self.pends(number, Action::Increment, Step::CloneWaker(place), false)
     }
 
     // The active thread comes to drop the waker.
@@ -97,13 +94,13 @@ impl Machine {
         match op {
             AtomicWakerOp::New => Some(Reply::AtomicWaker(self.makes(Kind::Place, None))),
             AtomicWakerOp::Register(number, waker) => {
-                self.object(number, Kind::Place);
                 self.notifier_of(waker);
-                self.pends(number, Action::Other, Step::Register(waker), false)
+                self.comes_to(number, Kind::Place, Action::Other, Step::Register(waker))
             }
             AtomicWakerOp::RegisterByRef(number, waker) => {
                 self.object(number, Kind::Place);
-                self.clone_begins(waker, Some(number))
+                let step = Step::CloneWaker(Some(number));
+                self.comes_to(waker, Kind::Wakers, Action::Increment, step)
             }
             AtomicWakerOp::Wake(number) => self.take_begins(number, true),
             AtomicWakerOp::TakeWaker(number) => self.take_begins(number, false),
