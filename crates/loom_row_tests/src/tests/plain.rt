@@ -240,11 +240,16 @@ fn counters_are_what_the_plain_program_finds(rt: HostRuntime) {
 #[test]
 fn bodies_of_tests_are_what_the_plain_program_finds(rt: HostRuntime) {
     compare_rows(&rt, others::rows());
-    compare_rows(&rt, bodies::rows());
+    compare_rows(&rt, bodies::atomic_rows());
+    compare_rows(&rt, bodies::store_rows());
+    compare_rows(&rt, bodies::lock_rows());
+    compare_rows(&rt, bodies::other_rows());
     compare_rows(&rt, searches::rows());
 }
 
 #[test]
 fn bodies_that_share_are_what_the_plain_program_finds(rt: HostRuntime) {
-    compare_rows(&rt, shared::rows());
+    compare_rows(&rt, shared::channel_rows());
+    compare_rows(&rt, shared::waker_rows());
+    compare_rows(&rt, shared::value_rows());
 }

@@ -18,11 +18,17 @@ fn add(rt: &impl Abort, rows: &mut Vec<Row>, table: &[Row]) {
 /// All bodies with their names.
 pub fn rows_of(rt: &(impl Abort + AllocGlobal)) -> Vec<Row> {
     let mut rows = program_rows(rt);
-    add(rt, &mut rows, bodies::rows());
-    add(rt, &mut rows, each_operation::rows());
+    add(rt, &mut rows, bodies::atomic_rows());
+    add(rt, &mut rows, bodies::store_rows());
+    add(rt, &mut rows, bodies::lock_rows());
+    add(rt, &mut rows, bodies::other_rows());
+    add(rt, &mut rows, each_operation::object_rows());
+    add(rt, &mut rows, each_operation::other_rows());
     add(rt, &mut rows, others::rows());
     add(rt, &mut rows, others::large_rows());
     add(rt, &mut rows, searches::rows());
-    add(rt, &mut rows, shared::rows());
+    add(rt, &mut rows, shared::channel_rows());
+    add(rt, &mut rows, shared::waker_rows());
+    add(rt, &mut rows, shared::value_rows());
     rows
 }

@@ -71,15 +71,23 @@ fn put(bytes: &mut Vec<u8>, text: &str) {
     let _ = bytes.extend_from_slice(text.as_bytes());
 }
 
+fn put_nodes(text: &mut Vec<u8>, nodes: &[&str], many: usize, at: usize, node: &str) {
+    for place in 0..many {
+        if place > 0 {
+            put(text, ",");
+        }
+        match nodes.get(place) {
+            Some(kept) if place != at => put(text, *kept),
+            _ => put(text, node),
+        }
+    }
+}
+
 // The text of the first so many of these nodes, with this one at the place of another, or behind them.
 fn text_of(alloc: Global, nodes: &[&str], many: usize, at: usize, node: &str) -> Vec<u8> {
     let mut text = Vec::new(alloc);
     put(&mut text, HEAD);
-    for place in 0..many {
-        let kept = nodes.get(place).copied().unwrap_or(node);
-        put(&mut text, if place == 0 { "" } else { "," });
-        put(&mut text, if place == at { node } else { kept });
-    }
+    put_nodes(&mut text, nodes, many, at, node);
     put(&mut text, WHOLE_END);
     text
 }
