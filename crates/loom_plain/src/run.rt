@@ -140,9 +140,6 @@ fn opening(alloc: Global, rest: Box<Rest>) -> Machine {
 fn goes_on<B: Body<Data = Number>>(machine: &mut Machine, bodies: &mut Vec<B>, steps: usize) {
     let mut reply = Reply::Start;
     for _ in 0..steps {
-        if machine.has_halted() {
-            return;
-        }
         match step(machine, bodies, reply) {
             Some(told) => reply = told,
             None => return,
@@ -151,14 +148,19 @@ fn goes_on<B: Body<Data = Number>>(machine: &mut Machine, bodies: &mut Vec<B>, s
     machine.check(false, FailureKind::TooManySteps);
 }
 
-// The thread whose turn it is is told the reply, and hands its next operation over. Gives what is told next, or nothing at the
-// run's end.
+// The thread whose turn it is is told the reply, unless the run has halted, and hands its next operation over. Gives what is told
+// next, or nothing at the run's end.
 fn step<B: Body<Data = Number>>(
     machine: &mut Machine,
     bodies: &mut Vec<B>,
     reply: Reply<Number>,
 ) -> Told {
-    let Some(body) = bodies.get_mut(usize::from(machine.active)) else {
+    let place = if machine.has_halted() {
+        bodies.len()
+    } else {
+        usize::from(machine.active)
+    };
+    let Some(body) = bodies.get_mut(place) else {
         machine.expect(false);
         return None;
     };

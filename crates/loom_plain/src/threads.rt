@@ -62,11 +62,10 @@ impl Machine {
     }
 
     fn join_begins(&mut self, number: u8, notifier: usize) -> Told {
-        let is_there = usize::from(number) < self.threads.len();
         let thread = self.thread(number);
         let may_join = thread.notifier == Some(notifier) && !thread.is_joined;
         thread.is_joined = true;
-        self.require(is_there && may_join);
+        self.require(may_join);
         let is_notified = self.at(notifier).is_notified;
         self.pends(notifier, Action::Wait, Step::Join(number), !is_notified)
     }
