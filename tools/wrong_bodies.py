@@ -2,7 +2,7 @@
 """Bodies that give up where they needn't, which only a test can tell from the right ones: a contract allows the error of a
 refused growth always.
 
-Makes each edit of tools/wrong_bodies in a copy of the repository, tries the tests of loom_row_tests there, and prints a line
+Makes each edit of tools/wrong_bodies in a copy of the repository, tries the tests of loom_tests there, and prints a line
 with the tests that fail. Ends with status 1 where none fails, or where the tests didn't run.
 
     tools/wrong_bodies.py [NAME..]
@@ -18,7 +18,7 @@ from pathlib import Path
 
 TOP = Path(__file__).resolve().parent.parent
 EDITS = TOP / "tools" / "wrong_bodies"
-TESTS = "loom_row_tests"
+TESTS = "loom_tests"
 
 
 def lines_of(edit):

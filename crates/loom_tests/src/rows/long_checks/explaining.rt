@@ -1,6 +1,6 @@
 //! What is told of runs that follow given choices.
 use super::lock_beside;
-use crate::tests::texts::{Page, same};
+use crate::rows::texts::{Page, same};
 use loom_model::Choice;
 use loom_model::error::CheckError;
 use loom_model::explain::Explanation;

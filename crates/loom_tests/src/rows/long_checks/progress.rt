@@ -1,6 +1,6 @@
 //! What a log is told.
 use super::lock_beside;
-use crate::tests::texts::{Page, same};
+use crate::rows::texts::{Page, same};
 use log::sink::Memory;
 use log::{Level, Log, Logged};
 use loom_model::model::Builder;

@@ -1,6 +1,6 @@
 //! Limits of runs and of time.
 use super::{Case, WHOLE_CASE, lock_beside};
-use crate::tests::texts::{Page, same};
+use crate::rows::texts::{Page, same};
 use loom_model::model::Builder;
 use loom_row_bodies::rows::{TWO_RUNS, WHOLE};
 use loom_row_bodies::settings::Builds;

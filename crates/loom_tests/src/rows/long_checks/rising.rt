@@ -1,7 +1,7 @@
 //! Checks with rising bounds on preemptions, and reports as texts.
 use super::lock_beside;
 use super::places::put_replay;
-use crate::tests::texts::{Page, same};
+use crate::rows::texts::{Page, same};
 use loom_model::error::CheckError;
 use loom_model::model::Builder;
 use loom_model::rising::Risen;

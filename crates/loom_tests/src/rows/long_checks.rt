@@ -15,7 +15,7 @@ mod texts;
 ghost use Rattle.std.specs.Prelude.{◌≡◌};
 ghost use Rattle.loom_stores.specs.Stores.{Counts};
 
-use crate::tests::texts::{Page, same};
+use crate::rows::texts::{Page, same};
 use loom_model::error::CheckError;
 use loom_model::model::{Builder, Report};
 use loom_model::visitor::Visitor;

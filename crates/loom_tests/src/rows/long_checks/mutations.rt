@@ -2,8 +2,8 @@
 use super::limits::check_alone;
 use super::texts::ZERO;
 use super::{HEAD, Shelf, WHOLE_END, check, lock_beside};
-use crate::tests::checking::{Keeper, report_of};
-use crate::tests::texts::{Page, holds, same};
+use crate::rows::checking::{Keeper, report_of};
+use crate::rows::texts::{Page, holds, same};
 use loom_model::error::CheckError;
 use loom_model::model::Report;
 use loom_model::{FailureKind, MemoryStore};

@@ -2,7 +2,7 @@
 use super::{
     Case, DEFAULT_CASE, NO_NODES, ONE_NODE, Shelf, TWO_NODES, WHOLE_CASE, check, gives, lock_beside,
 };
-use crate::tests::texts::{Page, holds};
+use crate::rows::texts::{Page, holds};
 use loom_row_bodies::bodies::TWO_MUTEXES_DEADLOCK;
 use loom_row_bodies::rows::WHOLE;
 use loom_row_bodies::settings::{Builds, Settings};

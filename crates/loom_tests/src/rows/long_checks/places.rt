@@ -1,5 +1,5 @@
 //! A failure has the place of its operation where it is asked for.
-use crate::tests::texts::{Page, same};
+use crate::rows::texts::{Page, same};
 use loom_model::error::CheckError;
 use loom_model::model::{Builder, Replay, Report};
 use loom_model::{Choice, Label, Location, text_literal};

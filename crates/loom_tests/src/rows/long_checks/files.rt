@@ -1,13 +1,13 @@
 //! The program with a checkpoint file.
 use super::TWO_NODES;
-use crate::tests::rows::program_rows;
-use crate::tests::texts::{Pen, Printed, holds, is_printed};
+use crate::rows::rows::program_rows;
+use crate::rows::texts::{Pen, Printed, holds, is_printed};
 use loom_row_bodies::rows::{self, Row};
 use std::process::Abort;
 use std::rt::Files;
 use std::{fs, io};
 
-const FILE: &str = "loom_row_tests.json";
+const FILE: &str = "loom_tests.json";
 
 // The words after the program's name, what it prints, what it writes on standard error, and its status.
 static CALLS: [Call; 9] = [

@@ -1,6 +1,6 @@
 //! What a check makes of a text that it is to begin with.
 use super::{HEAD, Shelf, TWO_NODES, WHOLE_END, gives, lock_beside};
-use crate::tests::texts::Page;
+use crate::rows::texts::Page;
 use loom_row_bodies::bodies::{FINISH_ONLY, LOCK_BESIDE, STORE_SEVEN};
 use loom_row_bodies::rows::{DEFAULTS, WHOLE};
 use loom_row_bodies::settings::{Builds, Settings};

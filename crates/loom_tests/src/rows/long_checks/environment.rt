@@ -1,6 +1,6 @@
 //! What an environment says of a check, and which settings are refused.
 use super::{Case, DEFAULT_CASE};
-use crate::tests::texts::{Page, same};
+use crate::rows::texts::{Page, same};
 use loom_model::env::Env;
 use loom_model::error::CheckError;
 use loom_model::model::Builder;
