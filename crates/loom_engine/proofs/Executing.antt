@@ -1,6 +1,7 @@
 -- Schedules along a path, from what the chosen threads come to.
 use Rattle.std.proofs.Common.{◌≡◌, ◌+◌, ◌-◌, ◌<◌, length, ℕ, zero, suc, Bool, true, false, List, [], ◌∷◌, ap, ap₂, refl, sym, ◌∙◌, subst, arith}
-use Rattle.std.specs.Prelude.{◌&&◌, cond, nat_lt, slice_get, Option, Some, None, Result, Ok, Err, ⊤}
+use Rattle.std.specs.Result.{is_err}
+use Rattle.std.specs.Prelude.{◌&&◌, cond, is_ok, IfErr, nat_lt, slice_get, Option, Some, None, Result, Ok, Err, ⊤}
 use Rattle.loom_views.specs.Table.{Points}
 use Rattle.loom_view_parts.specs.declared.rt.failure.FailureKind.{FailureKind}
 use Rattle.loom_view_parts.specs.declared.rt.failure.FailureKind.TheVariants.{Deadlock, Misuse, NotDeterministic, TooManyBranches}
@@ -138,6 +139,11 @@ answer_passes s path question choice after e = subst (IsFurther path.position) e
 came_so : {A : Type 0} (r : Result A FailureKind) (a : A) → came r ≡ Gives a → r ≡ Ok a
 came_so (Ok b) a e = let is : b ≡ a = cc e in ap Ok is
 came_so (Err kind) a e = absurd (cc e)
+
+-- what a refusal says
+pub refused_so : {A E P : Type 0} (r : Result A E) → is_err r ≡ true → IfErr r (λ _. P) → P
+refused_so (Ok a) is p = absurd (cc is)
+refused_so (Err e) is p = p
 
 module _ {D : Type 0} where
   -- a tree that goes the same way
@@ -542,15 +548,16 @@ module _ {D : Type 0} where
       )
 
   -- memory was refused for it
-  pub start_refused : (op : Request D ⊤) (entry : Entry D) (old : RunState D) (state : RunState D) (threads objects : ℕ)
-      → ((w : World D) → Shows w old → world_comes (begins op w) (Ok entry) state)
+  pub start_refused : (op : Request D ⊤) (answer : Result (Entry D) Stop) (old : RunState D) (state : RunState D) (threads objects : ℕ)
+      → is_ok answer ≡ true → ((w : World D) → Shows w old → world_comes (begins op w) answer state)
       → threads ≡ length state.scene.threads - length old.scene.threads → objects ≡ length state.scene.objects - length old.scene.objects
       → 0 < threads + objects → (w : World D) → Shows w old → needs_memory op ≡ true
-  start_refused op entry old state threads objects does et eo more w shown =
+  start_refused op (Ok entry) old state threads objects is does et eo more w shown =
       let come = does w shown in
       let xs = ap₂ (λ (xs ys : List _). length xs - length ys) (ap (λ (w : World D). w.threads) come.1.rest) (ap (λ (w : World D). w.threads) shown.rest) in
       let ys = ap₂ (λ (xs ys : List _). length xs - length ys) (ap (λ (w : World D). w.objects) come.1.rest) (ap (λ (w : World D). w.objects) shown.rest) in
       made_needs_memory op w entry come.0 (came_so (counted op w) (entry, come.0) come.2) (omega (arith, more, et, eo, xs, ys))
+  start_refused op (Err stop) old state threads objects is does et eo more w shown = absurd (cc is)
 
   -- what a course comes to with what an operation made
   pub started_course : (op : Request D ⊤) (entry : Entry D) (old mid : Progress D) (path : Route) → Starts op old (Ok entry) mid → (c : Course D) → ShowsCourse c old path

@@ -139,17 +139,15 @@ fn start<D: Data>(run: &mut Progress<D>, op: Request<D, ()>) -> Result<Entry<D>,
     let parent = run.state.scene.active() as usize;
     let threads = run.state.scene.thread_count();
     let objects = run.state.scene.object_count();
-    match begin(&mut run.state, op) {
-        Err(stop) => Err(stop),
-        Ok(entry) => {
-            let threads = run.state.scene.thread_count().saturating_sub(threads);
-            let objects = run.state.scene.object_count().saturating_sub(objects);
-            match run.dependence.grow(parent, threads, objects) {
-                Ok(()) => Ok(entry),
-                Err(_) => Err(Stop::Memory),
-            }
+    let answer = begin(&mut run.state, op);
+    if answer.is_ok() {
+        let threads = run.state.scene.thread_count().saturating_sub(threads);
+        let objects = run.state.scene.object_count().saturating_sub(objects);
+        if run.dependence.grow(parent, threads, objects).is_err() {
+            return Err(Stop::Memory);
         }
     }
+    answer
 }
 
 /// The path explores from now on, or doesn't.
