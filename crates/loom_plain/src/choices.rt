@@ -50,8 +50,8 @@ pub struct Made {
 }
 
 impl Made {
-    // What the schedules come to with this one, if it is one, which was made at this place. It counts as a preemption where it passes over the
-    // default, which is the thread that was chosen before, or there was no schedule before.
+    // What the schedules come to with this choice, made at this place, if a thread was chosen. That counts as a preemption
+    // where it passes over the default, which is the thread that was chosen before, or there was no schedule before.
     fn and_past(&self, place: usize) -> Past {
         let mut past = self.past;
         if self.disabled.is_none() {

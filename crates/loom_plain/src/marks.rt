@@ -75,7 +75,8 @@ pub fn mark_all(bound: Option<usize>, run: &mut PlainRun) {
     }
 }
 
-// Whether each option of this choice is to be tried: where no thread was chosen, and below the bound where the search isn't reduced.
+// Whether each option of this choice is to be tried: where no thread was chosen, and below the bound where the search isn't
+// reduced.
 fn tries_each(settings: Settings, here: &Made) -> bool {
     let is_below = match settings.bound {
         Some(bound) => here.past.preemptions < bound,

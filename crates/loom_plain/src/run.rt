@@ -319,8 +319,8 @@ impl Machine {
         options
     }
 
-    // How late the thread comes where it isn't chosen, or the highest number where it can neither go on nor yields: the active one is the first, then come others that are runnable, those
-    // that have yielded less often first, and then those that yield. Others don't come.
+    // How late the thread comes where it isn't chosen: the active one is the first, then come others that are runnable, those
+    // that have yielded less often first, and then those that yield. Others have the highest number, and don't come.
     fn lateness(&mut self, number: u8) -> u64 {
         let is_active = number == self.active;
         let thread = self.thread(number);
