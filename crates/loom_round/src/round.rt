@@ -61,7 +61,11 @@ fn take_turns<B: Body, P: Places>(
     let mut reply = Reply::Start;
     'turns: loop {
         if thread >= bodies.len() {
-            return Ok(Ending::Failed(located(execution, places, FailureKind::Misuse)));
+            let failure = Failure {
+                kind: FailureKind::Misuse,
+                location: None,
+            };
+            return Ok(Ending::Failed(located(execution, places, failure)));
         }
         let body = &mut bodies[thread];
         let op = body.resume(reply)?;
@@ -72,7 +76,7 @@ fn take_turns<B: Body, P: Places>(
             Err(stop) => match stop {
                 Stop::Memory => return Err(AllocError),
                 Stop::Failure(failure) => {
-                    return Ok(Ending::Failed(located(execution, places, failure.kind)));
+                    return Ok(Ending::Failed(located(execution, places, failure)));
                 }
             },
             Ok(Turn::Ended(value)) => return Ok(Ending::Ended(value)),
@@ -88,13 +92,13 @@ fn take_turns<B: Body, P: Places>(
     }
 }
 
-/// A failure of this kind, at the last operation of the thread whose turn it is.
-fn located<D: Data, P: Places>(execution: &Execution<D>, places: &P, kind: FailureKind) -> Failure
-    ensures kind { result.kind ≡ kind }
+/// The failure, at the last operation of the thread whose turn it is.
+fn located<D: Data, P: Places>(execution: &Execution<D>, places: &P, failure: Failure) -> Failure
+    ensures kind { result.kind ≡ failure.kind }
     ensures place { P.keeps ≡ false → result.location ≡ None }
 {
-    let location = places.place(execution.active() as usize);
-    Failure { kind, location }
+    let place = places.place(execution.active() as usize);
+    failure.at(place)
 }
 
 /// What a spawn started is a body more.
