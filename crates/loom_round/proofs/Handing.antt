@@ -14,7 +14,7 @@ use Rattle.loom_objects.specs.Operation.{plain, started}
 use Rattle.loom_objects.specs.Tree.{Gives, ◌>>=◌, found}
 use Rattle.loom_objects.specs.World.{World}
 use Rattle.loom_engine.specs.declared.rt.execution.Progress.{Progress}
-use Rattle.loom_engine.specs.Execution.{Comes, ExecutionState, ShowsCourse, Submits, SubmitsAt}
+use Rattle.loom_engine.specs.Execution.{Along, Comes, ExecutionState, ShowsCourse, Submits, SubmitsAt}
 use Rattle.loom_runs.specs.Courses.{Course}
 use Rattle.loom_runs.specs.Machine.{submit}
 use Rattle.loom_path.specs.Routes.{IsSameSearch, Route, trail, drives}
@@ -79,16 +79,15 @@ module _ {D S : Type 0} (next : Meaning D S) where
         ∙ z.left
 
     -- the operation stops the run
-    pub stops : (bodies : List S) (run run' : Progress D) (path path' : Route) (thread : ℕ) (answer : Reply D) (body after : S) (op : Op D S) (todo : Request D ⊤) (stop : Stop)
-        → IsHanded bodies thread answer body after op → todo ≡ plain op
-        → ((c : Course D) → ShowsCourse c run path → Comes (submit todo c) path (Err stop) run' path')
+    pub stops : (bodies : List S) (run run' : Progress D) (path path' : Route) (thread : ℕ) (answer : Reply D) (body after : S) (op : Op D S) (stop : Stop)
+        → IsHanded bodies thread answer body after op
+        → ((c : Course D) → ShowsCourse c run path → Comes (submit (plain op) c) path (Err stop) run' path')
         → IsUnderWay next outcome bodies run path thread answer
         → (bodies' : List S) → ComesToTurn next outcome (Err stop) bodies' run' path'
-    stops bodies run run' path path' thread answer body after op todo Memory h same_op event z bodies' = tt
-    stops bodies run run' path path' thread answer body after op todo (Because failure) h same_op event z bodies' =
+    stops bodies run run' path path' thread answer body after op Memory h event z bodies' = tt
+    stops bodies run run' path path' thread answer body after op (Because failure) h event z bodies' =
         sym (left_is bodies run path thread answer body after op h z)
-        ∙ drive_fails path.search (marking path.search.bound) (submit (plain op) z.course) _ (trail path) (trail path') failure.kind
-        (ap (λ (o : Request D ⊤). drives (submit o z.course) path) (sym same_op) ∙ event z.course z.shown)
+        ∙ drive_fails path.search (marking path.search.bound) (submit (plain op) z.course) _ (trail path) (trail path') failure.kind (event z.course z.shown)
 
     -- what is left after the turn
     after_turn : (turned : Turn D) (bodies : List S) (run : Progress D) (path : Route) (c : Course D) (left : ℕ) → ShowsCourse c run path → left ≡ suc c.world.steps_left
@@ -107,33 +106,31 @@ module _ {D S : Type 0} (next : Meaning D S) where
     after_turn (turn.Ended value) bodies run path c left shown size e = sym e
 
     -- the operation leads to a turn
-    pub turns : (bodies : List S) (run run' : Progress D) (path path' : Route) (thread : ℕ) (answer : Reply D) (body after : S) (op : Op D S) (todo : Request D ⊤) (child : Option S) (turned : Turn D)
-        → IsHanded bodies thread answer body after op → todo ≡ plain op → child ≡ started op
-        → ((c : Course D) → ShowsCourse c run path → Comes (submit todo c) path (Ok turned) run' path')
+    pub turns : (bodies : List S) (run run' : Progress D) (path path' : Route) (thread : ℕ) (answer : Reply D) (body after : S) (op : Op D S) (turned : Turn D)
+        → IsHanded bodies thread answer body after op
+        → ((c : Course D) → ShowsCourse c run path → Comes (submit (plain op) c) path (Ok turned) run' path')
         → run.state.steps_left ≡ run'.state.steps_left + 1 → path'.search ≡ path.search
         → IsUnderWay next outcome bodies run path thread answer
-        → (bodies' : List S) → bodies' ≡ with_child (slice_set bodies thread after) child
+        → (bodies' : List S) → bodies' ≡ with_child (slice_set bodies thread after) (started op)
         → ComesToTurn next outcome (Ok turned) bodies' run' path'
-    turns bodies run run' path path' thread answer body after op todo child turned h same_op same_child event steps same z bodies' more =
+    turns bodies run run' path path' thread answer body after op turned h event steps same z bodies' more =
         let come = event z.course z.shown in
         let counted : z.course.world.steps_left ≡ run.state.steps_left = ap (λ (w : World D). w.steps_left) z.shown.world.rest in
         let counts : come.0.world.steps_left ≡ run'.state.steps_left = ap (λ (w : World D). w.steps_left) come.1.world.rest in
         after_turn turned bodies' run' path' come.0 z.course.world.steps_left come.1 (omega arith)
         (ap (λ (s : Settings). drive s (marking s.bound) (at_turn (play next z.course.world.steps_left bodies' come.0) (λ value. Gives value) turned) (trail path')) same
-        ∙ ap (λ (b : List S). drive path.search (marking path.search.bound) (at_turn (play next z.course.world.steps_left b come.0) (λ value. Gives value) turned) (trail path')) (more ∙ ap (with_child (slice_set bodies thread after)) same_child)
-        ∙ sym (drive_then path.search (marking path.search.bound) (submit (plain op) z.course) _ (trail path) (trail path') (turned, come.0)
-        (ap (λ (o : Request D ⊤). drives (submit o z.course) path) (sym same_op) ∙ come.2))
+        ∙ ap (λ (b : List S). drive path.search (marking path.search.bound) (at_turn (play next z.course.world.steps_left b come.0) (λ value. Gives value) turned) (trail path')) more
+        ∙ sym (drive_then path.search (marking path.search.bound) (submit (plain op) z.course) _ (trail path) (trail path') (turned, come.0) come.2)
         ∙ left_is bodies run path thread answer body after op h z)
 
     -- the operation is submitted, and leads to a turn or stops the run
-    pub comes : (bodies : List S) (old new : ExecutionState D) (path path' : Route) (thread : ℕ) (answer : Reply D) (body after : S) (op : Op D S) (todo : Request D ⊤) (child : Option S) (result : Result (Turn D) Stop)
-        → IsHanded bodies thread answer body after op → todo ≡ plain op → child ≡ started op
-        → old.over ≡ None → Submits old todo path result new path'
-        → OnOk result (old.run.state.steps_left ≡ new.run.state.steps_left + 1) → path'.search ≡ path.search
-        → IsUnderWay next outcome bodies old.run path thread answer
-        → (bodies' : List S) → bodies' ≡ with_child (slice_set bodies thread after) child
-        → ComesToTurn next outcome result bodies' new.run path'
-    comes bodies old new path path' thread answer body after op todo child (Ok turned) h same_op same_child going event steps same z bodies' more =
-        turns bodies old.run new.run path path' thread answer body after op todo child turned h same_op same_child (before_the_end old new todo path path' (Ok turned) going event).0 steps same z bodies' more
-    comes bodies old new path path' thread answer body after op todo child (Err stop) h same_op same_child going event steps same z bodies' more =
-        stops bodies old.run new.run path path' thread answer body after op todo stop h same_op (before_the_end old new todo path path' (Err stop) going event).0 z bodies'
+    pub comes : (bodies : List S) (run run' : Progress D) (path path' : Route) (thread : ℕ) (answer : Reply D) (body after : S) (op : Op D S) (result : Result (Turn D) Stop)
+        → IsHanded bodies thread answer body after op → Along (submit (plain op)) run path result run' path'
+        → OnOk result (run.state.steps_left ≡ run'.state.steps_left + 1) → path'.search ≡ path.search
+        → IsUnderWay next outcome bodies run path thread answer
+        → (bodies' : List S) → OnOk result (bodies' ≡ with_child (slice_set bodies thread after) (started op))
+        → ComesToTurn next outcome result bodies' run' path'
+    comes bodies run run' path path' thread answer body after op (Ok turned) h event steps same z bodies' more =
+        turns bodies run run' path path' thread answer body after op turned h event steps same z bodies' more
+    comes bodies run run' path path' thread answer body after op (Err stop) h event steps same z bodies' more =
+        stops bodies run run' path path' thread answer body after op stop h event z bodies'

@@ -1,15 +1,17 @@
 -- One run along a path, an operation after another.
-use Rattle.std.specs.Prelude.{◌≡◌, ℕ, suc, Bool, false, List, None, Result, Ok, Err}
+use Rattle.std.specs.Prelude.{◌≡◌, ◌≢◌, ◌⊎◌, ℕ, suc, Bool, false, List, None, Result, Ok, Err}
 use Rattle.loom_view_parts.specs.declared.rt.failure.FailureKind.{FailureKind}
 use Rattle.loom_objects.specs.declared.failure.Stop.{Stop}
 use Rattle.loom_objects.specs.declared.failure.Stop.TheVariants.{Failure as Because, Memory}
+use Rattle.loom_objects.specs.Labels.{Op}
 use Rattle.loom_objects.specs.declared.operation.Reply.{Reply}
 use Rattle.loom_objects.specs.declared.operation.Reply.TheVariants as reply
 use Rattle.loom_objects.specs.declared.operation.Turn.{Turn}
 use Rattle.loom_objects.specs.declared.operation.Turn.TheVariants as turn
+use Rattle.loom_objects.specs.Operation.{plain, started}
 use Rattle.loom_objects.specs.Tree.{Tree}
 use Rattle.loom_engine.specs.declared.rt.execution.Progress.{Progress}
-use Rattle.loom_engine.specs.Execution.{ShowsCourse}
+use Rattle.loom_engine.specs.Execution.{ShowsCourse, MayBeRefused}
 use Rattle.loom_path.specs.Routes.{Route, trail, drives}
 use Rattle.loom_runs.specs.Courses.{Course}
 use Rattle.loom_runs.specs.Runs.{Meaning, play}
@@ -46,3 +48,7 @@ module _ {D S : Type 0} (next : Meaning D S) (outcome : Outcome D) where
   ComesToTurn (Ok (turn.Ended value)) bodies run path = outcome ≡ (Ok value, trail path)
   ComesToTurn (Err (Because failure)) bodies run path = outcome ≡ (Err failure.kind, trail path)
   ComesToTurn (Err Memory) bodies run path = Unit {0}
+
+-- memory may be refused at an operation that a body hands over: the event needs it, or what it starts is a body more
+abbrev pub MayBeRefusedBy : {D S : Type 0} → Op D S → Progress D → Route → Type 0
+MayBeRefusedBy op run path = MayBeRefused (plain op) run path ⊎ (started op ≢ None)

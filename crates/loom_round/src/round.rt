@@ -1,15 +1,18 @@
-ghost use Rattle.std.specs.Prelude.{◌≡◌, ◌≢◌, ◌≤◌, false, None, OnOk, OnErr, IfOk};
+ghost use Rattle.std.specs.Prelude.{◌≡◌, ◌≢◌, ◌≤◌, ◌+◌, false, None, Err, OnOk, OnErr, IfOk};
+ghost use Rattle.loom_engine.specs.Execution.{Along, over_after};
+ghost use Rattle.loom_objects.specs.Operation.{plain, started};
 ghost use Rattle.loom_objects.specs.Tree.{Tree};
 ghost use Rattle.loom_path.specs.Routes.{IsAtStart, IsSameSearch, Route, drives};
+ghost use Rattle.loom_runs.specs.Machine as machine;
 ghost use Rattle.loom_runs.specs.Runs.{runs as runs_of, with_child};
-ghost use Rattle.loom_round.specs.Ending.{RunsAlong, IsLocated, IsUnderWay};
+ghost use Rattle.loom_round.specs.Ending.{RunsAlong, IsLocated, IsUnderWay, MayBeRefusedBy};
 
 use crate::places::Places;
 use loom_engine::rt::execution::{Execution, Limits};
 use loom_objects::body::Body;
 use loom_objects::data::Data;
 use loom_objects::failure::{Failure, Stop};
-use loom_objects::operation::{Reply, Turn};
+use loom_objects::operation::{Op, Reply, Turn};
 use loom_path::rt::path::Path;
 use loom_views::rt::failure::FailureKind;
 use std::alloc::{AllocError, Global};
@@ -70,9 +73,7 @@ fn take_turns<B: Body, P: Places>(
         let body = &mut bodies[thread];
         let op = body.resume(reply)?;
         places.hand_over(thread, op.label);
-        let (request, started) = op.split();
-        add_child(bodies, started)?;
-        match execution.submit(path, request) {
+        match submit(execution, bodies, path, op) {
             Err(stop) => match stop {
                 Stop::Memory => return Err(AllocError),
                 Stop::Failure(failure) => {
@@ -89,6 +90,31 @@ fn take_turns<B: Body, P: Places>(
                 reply = Reply::Start;
             }
         }
+    }
+}
+
+/// What a thread hands over is submitted; what a spawn starts is a body more. `Memory` only where the event needs it, or a body
+/// is added.
+// Inlined, so that the operation isn't moved, nor the answer: it is handed on as it is.
+#[inline(always)]
+fn submit<B: Body>(
+    execution: &mut Execution<B::Data>,
+    bodies: &mut Vec<B>,
+    path: &mut Path,
+    op: Op<B::Data, B>,
+) -> Result<Turn<B::Data>, Stop>
+    requires { execution.old.over ≡ None }
+    ensures event { Along (machine.submit (plain op)) execution.old.run path.old result execution.new.run path.new }
+    ensures child { OnOk result (bodies.new.items ≡ with_child bodies.old.items (started op)) }
+    ensures over { OnOk result (execution.new.over ≡ over_after result) }
+    ensures steps { OnOk result (execution.old.run.state.steps_left ≡ execution.new.run.state.steps_left + 1) }
+    ensures growth { result ≡ Err Stop.Memory → MayBeRefusedBy op execution.old.run path.old }
+    ensures same { IsSameSearch path.old path.new }
+{
+    let (request, started) = op.split();
+    match add_child(bodies, started) {
+        Ok(()) => execution.submit(path, request),
+        Err(_) => Err(Stop::Memory),
     }
 }
 
