@@ -59,6 +59,13 @@ pub struct Explanation {
     pub text: String,
 }
 
+impl Explanation {
+    /// The event of this number, from 1, if there is one.
+    pub(crate) fn event(&self, number: usize) -> Option<&Event> {
+        self.events.get(number.wrapping_sub(1))
+    }
+}
+
 impl fmt::Display for Explanation {
     fn fmt<W: fmt::Write>(&self, f: &mut fmt::Formatter<W>) -> fmt::Result {
         write!(f, "{}", self.text)

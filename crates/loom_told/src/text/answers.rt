@@ -1,5 +1,4 @@
 //! What an operation's reply says, and what the operation did to an atomic, a cell, a lock or a count.
-use crate::text::calls::Call;
 use crate::text::forms::Deed;
 use crate::text::names::Value;
 use crate::text::objects::{Manner, Store};
@@ -33,39 +32,65 @@ pub(crate) enum Outcome {
     Kept(Value),
 }
 
-/// What an operation of an atomic did.
-#[derive(Clone, Copy)]
+/// What an operation did to its atomic.
 pub(crate) struct Touch {
-    pub(crate) atomic: usize,
-    /// By which ordering it read a store.
-    pub(crate) read: Option<Ordering>,
-    /// By which ordering it made one.
-    pub(crate) write: Option<Ordering>,
+    /// Whether it read a store.
+    pub(crate) reads: bool,
+    /// Whether it made one.
+    pub(crate) writes: bool,
     pub(crate) manner: Manner,
     /// What it is, as a noun.
     pub(crate) noun: &'static str,
 }
 
-/// What an operation did to the holders of an object.
-#[derive(Clone, Copy)]
-pub(crate) enum Holding {
-    Same,
-    /// The thread has it from now on.
-    Takes(usize),
-    /// It has it no more.
-    Gives(usize),
-}
+static LOADS: Touch = Touch {
+    reads: true,
+    writes: false,
+    manner: Manner::Load,
+    noun: "load",
+};
 
-/// What an operation did to a count.
-#[derive(Clone, Copy)]
-pub(crate) enum Counting {
-    Same,
-    Up(usize),
-    Down(usize),
-    Zero(usize),
-    /// It is no more.
-    Apart(usize),
-}
+static FAILS: Touch = Touch {
+    reads: true,
+    writes: false,
+    manner: Manner::Load,
+    noun: "exchange that failed",
+};
+
+static STORES: Touch = Touch {
+    reads: false,
+    writes: true,
+    manner: Manner::Store,
+    noun: "store",
+};
+
+static CHANGES: Touch = Touch {
+    reads: true,
+    writes: true,
+    manner: Manner::Store,
+    noun: "read-modify-write",
+};
+
+static EXCHANGES: Touch = Touch {
+    reads: true,
+    writes: true,
+    manner: Manner::Store,
+    noun: "exchange",
+};
+
+static LOADS_UNSYNC: Touch = Touch {
+    reads: false,
+    writes: false,
+    manner: Manner::UnsyncLoad,
+    noun: "unsynchronized load",
+};
+
+static MUTATES: Touch = Touch {
+    reads: false,
+    writes: false,
+    manner: Manner::Mutation,
+    noun: "mutation",
+};
 
 impl Answer {
     /// Whether it is told: where the thread waited for it, and where it didn't.
@@ -92,7 +117,7 @@ impl Page {
             Answer::Stored(number) => self.number("store ", number),
             Answer::Read(_, outcome) => self.outcome(outcome),
             Answer::Waker(number) => self.number("waker of #", number),
-            Answer::Thread(thread) => self.thread("", thread),
+            Answer::Thread(thread) => self.number("thread ", usize::from(thread)),
         }
     }
 
@@ -160,75 +185,44 @@ pub(crate) fn outcome_of(told: &Reply<()>, numbers: Numbers) -> Outcome {
     }
 }
 
-fn loads(atomic: usize, order: Ordering, noun: &'static str) -> Touch {
-    Touch {
-        atomic,
-        read: Some(order),
-        write: None,
-        manner: Manner::Load,
-        noun,
-    }
-}
-
-fn stores(atomic: usize, order: Ordering) -> Touch {
-    Touch {
-        atomic,
-        read: None,
-        write: Some(order),
-        manner: Manner::Store,
-        noun: "store",
-    }
-}
-
-fn updates(atomic: usize, order: Ordering, noun: &'static str) -> Touch {
-    Touch {
-        atomic,
-        read: Some(order),
-        write: Some(order),
-        manner: Manner::Store,
-        noun,
-    }
-}
-
-fn touches(atomic: usize, manner: Manner, noun: &'static str) -> Touch {
-    Touch {
-        atomic,
-        read: None,
-        write: None,
-        manner,
-        noun,
-    }
-}
-
-/// What the operation did to its atomic, by its reply; nothing is done by what makes one.
-pub(crate) fn touch_of(op: AtomicOp, told: &Reply<()>, numbers: Numbers) -> Option<Touch> {
+/// What the operation does to its atomic, by whether it is an exchange that failed; nothing is done by what makes one.
+pub(crate) fn touch_of(op: AtomicOp, has_failed: bool) -> Option<&'static Touch> {
     let touch = match op {
         AtomicOp::New(..) => return None,
-        AtomicOp::Load(atomic, order) => loads(atomic, order, "load"),
-        AtomicOp::Store(atomic, _, order) => stores(atomic, order),
-        AtomicOp::Update(atomic, _, order) => updates(atomic, order, "read-modify-write"),
-        AtomicOp::CompareExchange(atomic, exchange) => {
-            if let Reply::Exchanged(Err(_)) = told {
-                loads(atomic, exchange.failure, "exchange that failed")
-            } else {
-                updates(atomic, exchange.success, "exchange")
-            }
-        }
-        AtomicOp::CompareAndSwap(atomic, expected, _, order) => {
-            if is_another(told, numbers.fit(expected)) {
-                loads(atomic, order, "exchange that failed")
-            } else {
-                updates(atomic, order, "exchange")
-            }
-        }
-        AtomicOp::UnsyncLoad(atomic) | AtomicOp::IntoInner(atomic) => {
-            touches(atomic, Manner::UnsyncLoad, "unsynchronized load")
-        }
-        AtomicOp::WithMut(atomic) | AtomicOp::WithMutEnd(atomic, _) => {
-            touches(atomic, Manner::Mutation, "mutation")
-        }
+        AtomicOp::Load(..) => &LOADS,
+        AtomicOp::Store(..) => &STORES,
+        AtomicOp::Update(..) => &CHANGES,
+        AtomicOp::CompareExchange(..) | AtomicOp::CompareAndSwap(..) if has_failed => &FAILS,
+        AtomicOp::CompareExchange(..) | AtomicOp::CompareAndSwap(..) => &EXCHANGES,
+        AtomicOp::UnsyncLoad(_) | AtomicOp::IntoInner(_) => &LOADS_UNSYNC,
+        AtomicOp::WithMut(_) | AtomicOp::WithMutEnd(..) => &MUTATES,
     };
     Some(touch)
+}
+
+/// By which ordering the operation reads or stores, by whether it is an exchange that failed; Relaxed where it does neither.
+pub(crate) fn order_of(op: AtomicOp, has_failed: bool) -> Ordering {
+    match op {
+        AtomicOp::Load(_, order)
+        | AtomicOp::Store(_, _, order)
+        | AtomicOp::Update(_, _, order)
+        | AtomicOp::CompareAndSwap(_, _, _, order) => order,
+        AtomicOp::CompareExchange(_, exchange) if has_failed => exchange.failure,
+        AtomicOp::CompareExchange(_, exchange) => exchange.success,
+        AtomicOp::New(..)
+        | AtomicOp::UnsyncLoad(_)
+        | AtomicOp::IntoInner(_)
+        | AtomicOp::WithMut(_)
+        | AtomicOp::WithMutEnd(..) => Ordering::Relaxed,
+    }
+}
+
+/// Whether the operation is an exchange that met another value, by its reply.
+pub(crate) fn has_failed(op: AtomicOp, told: &Reply<()>, numbers: Numbers) -> bool {
+    if let AtomicOp::CompareAndSwap(_, expected, ..) = op {
+        return is_another(told, numbers.fit(expected));
+    }
+    matches!(told, Reply::Exchanged(Err(_)))
 }
 
 /// Whether the reply is another number than the one that was expected.
@@ -254,37 +248,31 @@ pub(crate) fn cell_touch(op: &CellOp<()>) -> Option<(usize, Manner)> {
     }
 }
 
-/// Which object the thread has by this reply, or has no more by this call.
-pub(crate) fn holding_of(call: &Call, told: &Reply<()>) -> Holding {
+/// Which object the thread has by this reply.
+pub(crate) fn taken_by(told: &Reply<()>) -> Option<usize> {
     match told {
         Reply::Locked(number, _)
         | Reply::Waited(number, _, _)
         | Reply::ReadLocked(number, _)
         | Reply::WriteLocked(number, _)
         | Reply::Reading(number, _)
-        | Reply::Writing(number, _) => return Holding::Takes(*number),
-        _ => {}
-    }
-    match (call.deed, call.number()) {
-        (Deed::Takes, Some(number)) if !matches!(told, Reply::Shared) => Holding::Takes(number),
-        (Deed::Gives, Some(number)) => Holding::Gives(number),
-        _ => Holding::Same,
+        | Reply::Writing(number, _) => Some(*number),
+        _ => None,
     }
 }
 
-/// What the call did to a count of references, wakers or messages, or to what it took apart.
-pub(crate) fn counting_of(call: &Call, told: &Reply<()>) -> Counting {
-    let Some(number) = call.number() else {
-        return Counting::Same;
-    };
-    match call.deed {
-        Deed::Clones => Counting::Up(number),
-        Deed::ClonesWaker(wakers) => Counting::Up(wakers),
-        Deed::Drops => Counting::Down(number),
-        Deed::Sends if matches!(told, Reply::Done) => Counting::Up(number),
-        Deed::Receives if matches!(told, Reply::Data(_)) => Counting::Down(number),
-        Deed::Empties => Counting::Zero(number),
-        Deed::TakesApart => Counting::Apart(number),
-        Deed::Nothing | Deed::Takes | Deed::Gives | Deed::Sends | Deed::Receives => Counting::Same,
+/// Whether what the operation was to do is done, by its reply.
+pub(crate) fn is_done(deed: Deed, told: &Reply<()>) -> bool {
+    match deed {
+        Deed::Takes => !matches!(told, Reply::Shared),
+        Deed::Sends => matches!(told, Reply::Done),
+        Deed::Receives => matches!(told, Reply::Data(_)),
+        Deed::Nothing
+        | Deed::Makes
+        | Deed::Gives
+        | Deed::Clones
+        | Deed::Drops
+        | Deed::Empties
+        | Deed::TakesApart => true,
     }
 }

@@ -33,7 +33,7 @@ impl Frame {
     }
 
     /// Where the marks of the thread's lines stand.
-    fn mark(&self, thread: u8) -> usize {
+    fn mark(&self, thread: usize) -> usize {
         if self.has_columns && thread > 0 {
             self.margin.saturating_add(42)
         } else {
@@ -42,7 +42,7 @@ impl Frame {
     }
 
     /// Where the text of the thread's lines begins.
-    fn start(&self, thread: u8) -> usize {
+    fn start(&self, thread: usize) -> usize {
         let start = self.mark(thread).saturating_add(2);
         if self.has_columns {
             start
@@ -145,18 +145,15 @@ fn events_in(turn: &[Line]) -> usize {
 
 /// The row of a turn that is repeated.
 fn put_same(row: &mut Page, frame: Frame, turn: &[Line], times: usize) {
-    let Some(first) = turn.first() else {
-        return;
-    };
-    let events = events_in(turn);
-    row.pad(frame.start(first.thread));
-    if events > 1 {
-        row.number("(these ", events);
-        row.number(" events the same ", times);
-    } else {
-        row.number("(the same ", times);
+    if let Some(first) = turn.first() {
+        row.pad(frame.start(first.thread));
     }
-    row.words(" times more)\n");
+    let events = events_in(turn);
+    if events > 1 {
+        row.put("(these $ events the same $ times more)\n", &[events, times]);
+    } else {
+        row.put("(the same $ times more)\n", &[times]);
+    }
 }
 
 /// The row of a line: its number, its mark, its text in its thread's column, and its choice, which has a row of its own where
@@ -187,7 +184,7 @@ fn put_line(out: &mut Page, row: &mut Page, frame: Frame, scene: &Scene<'_>, lin
 }
 
 /// Puts the row, with what goes past the width below its beginning, and begins another one.
-fn end_row(out: &mut Page, row: &mut Page, frame: Frame, thread: u8) {
+fn end_row(out: &mut Page, row: &mut Page, frame: Frame, thread: usize) {
     out.wrapped_line(row.as_str(), frame.start(thread).saturating_add(4));
     row.clear();
 }
@@ -218,7 +215,7 @@ fn start_row(row: &mut Page, frame: Frame, scene: &Scene<'_>, line: &Line) {
     }
     if !frame.has_columns && !line.text.is_empty() {
         row.pad(mark.saturating_add(2));
-        row.number("t", usize::from(line.thread));
+        row.number("t", line.thread);
     }
     row.pad(frame.start(line.thread));
 }

@@ -1,12 +1,13 @@
 //! The events of a run as lines, each of one thread.
 use crate::explanation::{Event, Explanation, Options};
 use crate::text::answers::Answer;
-use crate::text::calls::call_of;
-use crate::text::objects::{At, Kind, Store, made_by};
+use crate::text::calls::{Call, call_of};
+use crate::text::objects::{At, Kind, Store};
 use crate::text::page::Page;
 use crate::text::world::World;
 use loom_objects::choice::Choice;
 use loom_objects::operation::{Op, Request};
+use loom_parts::label::{Label, location_in, name_in};
 use std::alloc::Global;
 
 /// A line of one thread: an operation, or what came of one.
@@ -14,7 +15,7 @@ use std::alloc::Global;
 pub(crate) struct Line {
     /// The event's number, where an operation is handed over.
     pub(crate) event: Option<usize>,
-    pub(crate) thread: u8,
+    pub(crate) thread: usize,
     pub(crate) text: Page,
     /// What stands after the text where there is room.
     pub(crate) tail: Page,
@@ -51,7 +52,7 @@ impl Lines {
     }
 
     /// A line on which nothing stands yet.
-    fn line(&self, event: Option<usize>, thread: u8) -> Line {
+    fn line(&self, event: Option<usize>, thread: usize) -> Line {
         Line {
             event,
             thread,
@@ -85,9 +86,9 @@ pub(crate) fn tell_events(explanation: &Explanation, world: &mut World, lines: &
     for (index, event) in explanation.events.iter().enumerate() {
         let at = At {
             event: index.saturating_add(1),
-            thread: event.thread,
+            thread: usize::from(event.thread),
         };
-        tell_reply(explanation, event, world, lines);
+        tell_reply(explanation, at.thread, event, world, lines);
         tell_call(explanation, at, event, world, lines);
         tell_choices(explanation, at, event, world, lines);
     }
@@ -103,84 +104,105 @@ fn choices_after(explanation: &Explanation, number: usize) -> usize {
 
 /// The choice of this place, if there is one, and of what: `t0 of t0 t1`.
 fn put_chosen(page: &mut Page, explanation: &Explanation, place: usize) {
-    let Some(choice) = explanation.choices.get(place) else {
-        return;
-    };
-    page.choice("", *choice);
-    match explanation.options.get(place) {
-        Some(Options::Threads(threads)) => put_listed(page, "t", threads.as_slice()),
-        Some(Options::Slots(slots)) => put_listed(page, "l", slots.as_slice()),
-        Some(Options::Wakes) => page.words(" of s0 s1"),
-        None => {}
+    if let Some(choice) = explanation.choices.get(place) {
+        page.choice("", *choice);
+        match explanation.options.get(place) {
+            Some(Options::Threads(threads)) => put_listed(page, "t", threads.as_slice()),
+            Some(Options::Slots(slots)) => put_listed(page, "l", slots.as_slice()),
+            Some(Options::Wakes) => page.words(" of s0 s1"),
+            None => {}
+        }
     }
 }
 
 /// Numbers after a letter, each after a space; of more than four how many, the first and the last.
 fn put_listed(page: &mut Page, letter: &str, numbers: &[u8]) {
     page.words(" of");
-    let (Some(first), Some(last)) = (numbers.first(), numbers.last()) else {
-        page.words(" ");
-        page.words(letter);
-        page.words("-");
-        return;
-    };
-    if numbers.len() <= 4 {
-        put_each(page, letter, numbers);
-    } else {
-        page.number(" ", numbers.len());
-        page.words(" (");
-        page.number(letter, usize::from(*first));
-        page.words(" .. ");
-        page.number(letter, usize::from(*last));
-        page.words(")");
+    match (numbers.first(), numbers.last()) {
+        (Some(first), Some(last)) if numbers.len() > 4 => {
+            page.number(" ", numbers.len());
+            put_lettered(page, " (", letter, *first);
+            put_lettered(page, " .. ", letter, *last);
+            page.words(")");
+        }
+        (Some(_), Some(_)) => put_each(page, letter, numbers),
+        _ => {
+            page.words(" ");
+            page.words(letter);
+            page.words("-");
+        }
     }
 }
 
 fn put_each(page: &mut Page, letter: &str, numbers: &[u8]) {
     for number in numbers {
-        page.words(" ");
-        page.number(letter, usize::from(*number));
+        put_lettered(page, " ", letter, *number);
     }
 }
 
-/// The slot of the choice just before the event, if it is of a slot.
-fn slot_before(explanation: &Explanation, event: &Event) -> Option<u8> {
-    slot_at(explanation, event.choices_before.checked_sub(1)?)
+/// A number after words and a letter.
+fn put_lettered(page: &mut Page, words: &str, letter: &str, number: u8) {
+    page.words(words);
+    page.number(letter, usize::from(number));
 }
 
 /// The slot of the choice of this place, if it is of a slot.
 fn slot_at(explanation: &Explanation, place: usize) -> Option<u8> {
-    match explanation.choices.get(place)? {
-        Choice::Load(slot) => Some(*slot),
-        Choice::Thread(_) | Choice::Spurious(_) => None,
+    match explanation.choices.get(place) {
+        Some(Choice::Load(slot)) => Some(*slot),
+        Some(Choice::Thread(_) | Choice::Spurious(_)) | None => None,
     }
 }
 
-/// What the thread has pending: its event, its line, and the operation.
+/// What a thread has pending.
+#[derive(Clone, Copy)]
+struct Pending<'a> {
+    at: At,
+    /// The number of the event to stand in front of what comes of it: none where that comes next to its line.
+    before: Option<usize>,
+    op: &'a Op<(), ()>,
+}
+
+/// What the thread has pending, if it has something.
 fn pending_of<'a>(
     explanation: &'a Explanation,
     world: &World,
-    thread: u8,
-) -> Option<(At, usize, &'a Op<(), ()>)> {
-    let member = world.member(thread)?;
-    let event = member.pending?;
-    let earlier = explanation.events.get(event.checked_sub(1)?)?;
-    Some((At { event, thread }, member.line, &earlier.op))
+    lines: &Lines,
+    thread: usize,
+) -> Option<Pending<'a>> {
+    if let Some(member) = world.threads.get(thread) {
+        if let Some(event) = explanation.event(member.pending) {
+            return Some(Pending {
+                at: At {
+                    event: member.pending,
+                    thread,
+                },
+                before: lines.number_before(member.line, member.pending),
+                op: &event.op,
+            });
+        }
+    }
+    None
 }
 
 /// What came of the thread's last operation.
-fn tell_reply(explanation: &Explanation, event: &Event, world: &mut World, lines: &mut Lines) {
-    let Some((at, line, op)) = pending_of(explanation, world, event.thread) else {
-        return;
-    };
-    let slot = slot_before(explanation, event);
-    let answer = world.settle(at, op, &event.told, slot);
-    let before = lines.number_before(line, at.event);
-    if let Answer::Read(store, _) = answer {
-        let place = event.choices_before.saturating_sub(1);
-        tell_read(explanation, place, (at, before), (store, answer), lines);
-    } else if answer.is_told(before.is_some()) {
-        tell_answer(at, before, answer, lines);
+fn tell_reply(
+    explanation: &Explanation,
+    thread: usize,
+    event: &Event,
+    world: &mut World,
+    lines: &mut Lines,
+) {
+    if let Some(pending) = pending_of(explanation, world, lines, thread) {
+        // the choice just before the event, if there is one
+        let place = event.choices_before.wrapping_sub(1);
+        let slot = slot_at(explanation, place);
+        let answer = world.settle(pending.at, pending.op, &event.told, slot);
+        if let Answer::Read(store, _) = answer {
+            tell_read(explanation, place, &pending, store, answer, lines);
+        } else if answer.is_told(pending.before.is_some()) {
+            tell_answer(&pending, answer, lines);
+        }
     }
 }
 
@@ -188,7 +210,7 @@ fn tell_reply(explanation: &Explanation, event: &Event, world: &mut World, lines
 fn put_before(page: &mut Page, before: Option<usize>, sign: &str) {
     page.words("  ");
     if let Some(event) = before {
-        page.event("", event);
+        page.number("event ", event);
         page.words(sign);
     }
 }
@@ -197,18 +219,16 @@ fn put_before(page: &mut Page, before: Option<usize>, sign: &str) {
 fn tell_read(
     explanation: &Explanation,
     place: usize,
-    asked: (At, Option<usize>),
-    read: (Store, Answer),
+    pending: &Pending<'_>,
+    store: Store,
+    answer: Answer,
     lines: &mut Lines,
 ) {
-    let (at, before) = asked;
-    let (store, answer) = read;
-    let mut line = lines.line(None, at.thread);
-    put_before(&mut line.text, before, " ");
+    let mut line = lines.line(None, pending.at.thread);
+    put_before(&mut line.text, pending.before, " ");
     line.text.number("reads store ", store.number);
     if store.order.is_some() {
-        line.text.event(" (", store.at.event);
-        line.text.words(")");
+        line.text.put(" (event $)", &[store.at.event]);
     } else {
         line.text.words(" (initial)");
     }
@@ -217,10 +237,10 @@ fn tell_read(
     lines.push(line);
 }
 
-fn tell_answer(at: At, before: Option<usize>, answer: Answer, lines: &mut Lines) {
-    if before.is_some() {
-        let mut line = lines.line(None, at.thread);
-        put_before(&mut line.text, before, ": ");
+fn tell_answer(pending: &Pending<'_>, answer: Answer, lines: &mut Lines) {
+    if pending.before.is_some() {
+        let mut line = lines.line(None, pending.at.thread);
+        put_before(&mut line.text, pending.before, ": ");
         line.text.answer(answer);
         lines.push(line);
     } else if let Some(line) = lines.list.last_mut() {
@@ -238,13 +258,13 @@ fn tell_call(
     lines: &mut Lines,
 ) {
     let bound = choices_after(explanation, at.event);
-    let call = call_of(&event.op, world);
-    world.hand_over(at, lines.list.len(), &event.op);
+    let call = call_of(&event.op.request, world);
     let mut line = lines.line(Some(at.event), at.thread);
-    line.text.call("", &call);
-    put_made(&mut line.text, &event.op, world);
-    put_label(&mut line, &event.op);
-    if call.waits.is_some() && !is_offered(explanation, event, bound) {
+    line.text.call("", &event.op.request, world);
+    world.hand_over(at, lines.list.len(), call, &event.op);
+    put_made(&mut line.text, call, world);
+    put_label(&mut line, event.op.label);
+    if call.form.waits.is_some() && !is_offered(explanation, event, bound) {
         line.tail.words(": waits");
     }
     if event.choices_before < bound {
@@ -254,20 +274,19 @@ fn tell_call(
 }
 
 /// The number of what was made just now.
-fn put_made(text: &mut Page, op: &Op<(), ()>, world: &World) {
-    match made_by(op) {
+fn put_made(text: &mut Page, call: Call, world: &World) {
+    match call.made() {
         None | Some(Kind::Joining) => {}
         Some(_) => text.number(" = #", world.objects.len().saturating_sub(1)),
     }
 }
 
-fn put_label(line: &mut Line, op: &Op<(), ()>) {
-    let Some(label) = op.label else {
-        return;
-    };
-    line.text.quoted(label.name);
-    if let Some(place) = label.location {
-        line.tail.place(" at ", place);
+fn put_label(line: &mut Line, label: Option<Label>) {
+    if let Some(name) = name_in(label) {
+        line.text.named(" \"", name, "\"");
+    }
+    if let Some(place) = location_in(label) {
+        line.tail.place(" at ", place, "");
     }
 }
 
@@ -308,15 +327,17 @@ fn tell_choice(
     if slot.is_some() && !is_last(explanation, at, place) {
         return;
     }
-    match explanation.choices.get(place.saturating_sub(1)) {
-        Some(Choice::Thread(Some(thread))) => match slot {
-            Some(slot) => tell_open_read(explanation, place, (*thread, slot), world, lines),
-            None => tell_stage(explanation, place, *thread, world, lines),
-        },
-        Some(Choice::Spurious(true)) => {
-            tell_alone(explanation, place, at, "  wakes by itself", lines);
+    match (explanation.choices.get(place.saturating_sub(1)), slot) {
+        (Some(Choice::Thread(Some(thread))), Some(slot)) => {
+            tell_open_read(explanation, place, usize::from(*thread), slot, world, lines);
         }
-        _ => tell_alone(explanation, place, at, "", lines),
+        (Some(Choice::Thread(Some(thread))), None) => {
+            tell_stage(explanation, place, usize::from(*thread), world, lines);
+        }
+        (Some(Choice::Spurious(true)), _) => {
+            tell_alone(explanation, place, at.thread, "  wakes by itself", lines);
+        }
+        _ => tell_alone(explanation, place, at.thread, "", lines),
     }
 }
 
@@ -326,8 +347,14 @@ fn is_last(explanation: &Explanation, at: At, place: usize) -> bool {
 }
 
 /// A choice beside these words.
-fn tell_alone(explanation: &Explanation, place: usize, at: At, words: &str, lines: &mut Lines) {
-    let mut line = lines.line(None, at.thread);
+fn tell_alone(
+    explanation: &Explanation,
+    place: usize,
+    thread: usize,
+    words: &str,
+    lines: &mut Lines,
+) {
+    let mut line = lines.line(None, thread);
     line.text.words(words);
     put_chosen(&mut line.choice, explanation, place);
     lines.push(line);
@@ -337,49 +364,35 @@ fn tell_alone(explanation: &Explanation, place: usize, at: At, words: &str, line
 fn tell_open_read(
     explanation: &Explanation,
     place: usize,
-    read: (u8, u8),
+    thread: usize,
+    slot: u8,
     world: &World,
     lines: &mut Lines,
 ) {
-    let (thread, slot) = read;
-    let Some((at, line, op)) = pending_of(explanation, world, thread) else {
-        return;
-    };
-    let Some(atomic) = call_of(op, world).number() else {
-        return;
-    };
-    let Some(store) = world.store_in(atomic, slot) else {
-        return;
-    };
-    let before = lines.number_before(line, at.event);
-    tell_read(
-        explanation,
-        place,
-        (at, before),
-        (store, Answer::Nothing),
-        lines,
-    );
+    if let Some(pending) = pending_of(explanation, world, lines, thread) {
+        if let Some(store) = world.store_of(call_of(&pending.op.request, world), slot) {
+            tell_read(explanation, place, &pending, store, Answer::Nothing, lines);
+        }
+    }
 }
 
 /// A stage of the thread's operation, after which it came to another branch point.
 fn tell_stage(
     explanation: &Explanation,
     place: usize,
-    thread: u8,
+    thread: usize,
     world: &mut World,
     lines: &mut Lines,
 ) {
-    let Some((at, line, op)) = pending_of(explanation, world, thread) else {
-        return;
-    };
-    let passes = call_of(op, world).passes;
-    let words = stage_words(op, passes, world.pass(thread, op));
-    let before = lines.number_before(line, at.event);
-    let mut line = lines.line(None, thread);
-    put_before(&mut line.text, before, ": ");
-    line.text.words(words);
-    put_chosen(&mut line.choice, explanation, place);
-    lines.push(line);
+    if let Some(pending) = pending_of(explanation, world, lines, thread) {
+        let passes = call_of(&pending.op.request, world).form.passes;
+        let words = stage_words(pending.op, passes, world.pass(thread, pending.op));
+        let mut line = lines.line(None, thread);
+        put_before(&mut line.text, pending.before, ": ");
+        line.text.words(words);
+        put_chosen(&mut line.choice, explanation, place);
+        lines.push(line);
+    }
 }
 
 /// What a stage of the operation comes to.

@@ -2,7 +2,7 @@
 use crate::text::objects::Object;
 use crate::text::page::Page;
 use loom_objects::rt::thread::Name;
-use loom_parts::label::Label;
+use loom_parts::label::{Label, location_in, name_in};
 use loom_parts::location::Location;
 use loom_parts::text::Text;
 use loom_views::rt::num::Numbers;
@@ -55,41 +55,31 @@ impl Page {
         }
     }
 
-    /// A place in the source: `spin.rs:87`.
-    pub(crate) fn place(&mut self, words: &str, place: Location) {
+    /// A place in the source, between words: `spin.rs:87`.
+    pub(crate) fn place(&mut self, words: &str, place: Location, after: &str) {
         self.words(words);
         self.words(place.file.as_str());
         self.bits(":", u64::from(place.line));
+        self.words(after);
     }
 
-    /// A name after a space, if there is one: ` "flag"`.
-    pub(crate) fn quoted(&mut self, name: Option<Text>) {
-        if let Some(name) = name {
-            self.words(" \"");
-            self.words(name.as_str());
-            self.words("\"");
-        }
+    /// A name between words: ` "flag"`.
+    pub(crate) fn named(&mut self, words: &str, name: Text, after: &str) {
+        self.words(words);
+        self.words(name.as_str());
+        self.words(after);
     }
 
     /// A name and a place in parentheses after a space, as far as they are there: ` ("flag", spin.rs:87)`.
     pub(crate) fn called(&mut self, label: Option<Label>) {
-        let Some(label) = label else {
-            return;
-        };
-        let mut words = " (";
-        if let Some(name) = label.name {
-            self.words(" (\"");
-            self.words(name.as_str());
-            self.words("\"");
-            words = ", ";
-        }
-        match label.location {
-            Some(place) => {
-                self.place(words, place);
-                self.words(")");
+        match (name_in(label), location_in(label)) {
+            (Some(name), Some(place)) => {
+                self.named(" (\"", name, "\", ");
+                self.place("", place, ")");
             }
-            None if label.name.is_some() => self.words(")"),
-            None => {}
+            (Some(name), None) => self.named(" (\"", name, "\")"),
+            (None, Some(place)) => self.place(" (", place, ")"),
+            (None, None) => {}
         }
     }
 
@@ -107,26 +97,13 @@ impl Page {
     }
 
     /// A thread by its number and its name: `thread 1 ("worker")`, `thread 0 (main)`.
-    pub(crate) fn titled(&mut self, words: &str, thread: u8, name: Option<Name>) {
-        self.thread(words, thread);
+    pub(crate) fn titled(&mut self, words: &str, thread: usize, name: Option<Name>) {
+        self.words(words);
+        self.number("thread ", thread);
         match name {
-            Some(name) => {
-                self.words(" (\"");
-                self.words(name.text.as_str());
-                self.words("\")");
-            }
+            Some(name) => self.named(" (\"", name.text, "\")"),
             None if thread == 0 => self.words(" (main)"),
             None => {}
-        }
-    }
-
-    /// How many, with the word in its number: `1 message`, `2 messages`.
-    pub(crate) fn many(&mut self, words: &str, count: usize, word: &str) {
-        self.number(words, count);
-        self.words(" ");
-        self.words(word);
-        if count != 1 {
-            self.words("s");
         }
     }
 }

@@ -1,8 +1,4 @@
 //! What is known of an object, a store, an access and a thread, as far as a run's events tell.
-use loom_objects::operation::{
-    ArcOp, AtomicOp, AtomicWakerOp, CellOp, ChannelOp, CondvarOp, MutexOp, NotifyOp, Op, Request,
-    RwLockOp, ThreadOp, TrackOp, WakerOp,
-};
 use loom_objects::rt::thread::Name;
 use loom_parts::label::Label;
 use loom_views::rt::num::Numbers;
@@ -49,7 +45,7 @@ pub(crate) struct Object {
 #[derive(Clone, Copy)]
 pub(crate) struct At {
     pub(crate) event: usize,
-    pub(crate) thread: u8,
+    pub(crate) thread: usize,
 }
 
 /// A store of an atomic.
@@ -107,8 +103,8 @@ pub(crate) struct Hold {
 #[derive(Clone, Copy)]
 pub(crate) struct Member {
     pub(crate) name: Option<Name>,
-    /// The event of what it has handed over last, and isn't answered yet.
-    pub(crate) pending: Option<usize>,
+    /// The event of what it has handed over last, and isn't answered yet; 0 where there is none.
+    pub(crate) pending: usize,
     /// The line of that event.
     pub(crate) line: usize,
     /// How many stages of it have passed.
@@ -195,41 +191,4 @@ impl Manner {
             Manner::CellWrite => "write",
         }
     }
-}
-
-/// What the operation makes, if it makes an object. Of the two of a future it is the count of its wakers.
-pub(crate) fn made_by(op: &Op<(), ()>) -> Option<Kind> {
-    let kind = match &op.request {
-        Request::Atomic(AtomicOp::New(numbers, _)) => Kind::Atomic(*numbers),
-        Request::Cell(CellOp::New(_)) => Kind::Cell,
-        Request::Arc(ArcOp::New(_)) => Kind::Arc,
-        Request::Track(TrackOp::New(_)) => Kind::Track,
-        Request::Mutex(MutexOp::New(_)) => Kind::Mutex,
-        Request::RwLock(RwLockOp::New(_)) => Kind::RwLock,
-        Request::Condvar(CondvarOp::New) => Kind::Condvar,
-        Request::Notify(NotifyOp::New) => Kind::Notifier,
-        Request::Channel(ChannelOp::New) => Kind::Channel,
-        Request::Waker(WakerOp::New) => Kind::Wakers,
-        Request::AtomicWaker(AtomicWakerOp::New) => Kind::Place,
-        Request::Thread(ThreadOp::Spawn(..)) => Kind::Joining,
-        Request::Atomic(..)
-        | Request::Fence(..)
-        | Request::Cell(..)
-        | Request::Arc(..)
-        | Request::Track(..)
-        | Request::Mutex(..)
-        | Request::RwLock(..)
-        | Request::Condvar(..)
-        | Request::Notify(..)
-        | Request::Channel(..)
-        | Request::Waker(..)
-        | Request::AtomicWaker(..)
-        | Request::Local(..)
-        | Request::Lazy(..)
-        | Request::Explore(..)
-        | Request::Thread(..)
-        | Request::Fail
-        | Request::Unreachable => return None,
-    };
-    Some(kind)
 }

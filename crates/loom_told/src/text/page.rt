@@ -53,11 +53,20 @@ impl Page {
         }
     }
 
-    pub(crate) fn number(&mut self, words: &str, number: usize) {
-        self.words(words);
-        if write!(self.text, "{number}").is_err() {
-            self.is_refused = true;
+    /// Words with a number in place of each `$`: `thread $ holds it since event $`.
+    pub(crate) fn put(&mut self, words: &str, numbers: &[usize]) {
+        let mut next = 0usize;
+        for piece in words.split('$') {
+            self.words(piece);
+            if let Some(number) = numbers.get(next) {
+                self.number("", *number);
+            }
+            next = next.saturating_add(1);
         }
+    }
+
+    pub(crate) fn number(&mut self, words: &str, number: usize) {
+        self.bits(words, number as u64);
     }
 
     pub(crate) fn bits(&mut self, words: &str, bits: u64) {
@@ -79,18 +88,6 @@ impl Page {
         if write!(self.text, "{choice}").is_err() {
             self.is_refused = true;
         }
-    }
-
-    /// A thread by its number: `thread 1`.
-    pub(crate) fn thread(&mut self, words: &str, thread: u8) {
-        self.words(words);
-        self.number("thread ", usize::from(thread));
-    }
-
-    /// An event by its number: `event 5`.
-    pub(crate) fn event(&mut self, words: &str, event: usize) {
-        self.words(words);
-        self.number("event ", event);
     }
 
     /// Another page.

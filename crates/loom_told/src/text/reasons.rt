@@ -12,8 +12,8 @@ use crate::text::objects::{Access, At};
 use crate::text::page::Page;
 use crate::text::world::World;
 use loom_objects::choice::Choice;
-use loom_objects::operation::{Labelled, LocalOp, Op, Request, ThreadOp};
-use loom_parts::location::Location;
+use loom_objects::operation::{LocalOp, Request, ThreadOp};
+use loom_parts::label::{Label, location_in};
 use loom_views::rt::failure::FailureKind;
 
 /// A run with what is known after its last event.
@@ -25,6 +25,10 @@ pub(crate) struct Scene<'a> {
     pub(crate) kind: Option<FailureKind>,
     /// The event of the operation by which it failed.
     pub(crate) at: At,
+    /// What that operation asked for.
+    pub(crate) request: Option<&'a Request<(), ()>>,
+    /// How it is called, if it is.
+    pub(crate) label: Option<Label>,
     /// The access that a race is with.
     pub(crate) other: Option<Access>,
 }
@@ -33,15 +37,15 @@ pub(crate) struct Scene<'a> {
 #[derive(Clone, Copy)]
 pub(crate) enum Sought {
     /// Any event of this thread.
-    Any(u8),
+    Any(usize),
     /// Exploring was switched.
     Explore,
     /// Main finished.
     Finish,
     /// This thread gave its own values back.
-    Exit(u8),
+    Exit(usize),
     /// This thread made its value of this key.
-    Init(u8, usize),
+    Init(usize, usize),
 }
 
 impl<'a> Scene<'a> {
@@ -50,36 +54,22 @@ impl<'a> Scene<'a> {
             End::Ended => None,
             End::Failed(failure) => Some(failure.kind),
         };
+        let at = failing_at(explanation, world, kind);
+        let (request, label) = match explanation.event(at.event) {
+            Some(event) => (Some(&event.op.request), event.op.label),
+            None => (None, None),
+        };
         let mut scene = Scene {
             explanation,
             world,
             kind,
-            at: failing_at(explanation, world, kind),
+            at,
+            request,
+            label,
             other: None,
         };
         scene.other = race::other_access(&scene);
         scene
-    }
-
-    /// The event of this number.
-    pub(crate) fn event(&self, number: usize) -> Option<&'a Event> {
-        self.explanation.events.get(number.checked_sub(1)?)
-    }
-
-    /// The operation by which the run failed.
-    pub(crate) fn op(&self) -> Option<&'a Op<(), ()>> {
-        match self.event(self.at.event) {
-            Some(event) => Some(&event.op),
-            None => None,
-        }
-    }
-
-    /// What it asked for.
-    pub(crate) fn request(&self) -> Option<&'a Request<(), ()>> {
-        match self.op() {
-            Some(op) => Some(&op.request),
-            None => None,
-        }
     }
 
     /// Whether the run failed by the operation of this event.
@@ -105,32 +95,21 @@ impl<'a> Scene<'a> {
     }
 
     fn is_waiting_at(&self, number: usize) -> bool {
-        match self.event(number) {
-            Some(
-                Event {
-                    op: Labelled {
-                        request: Request::Thread(ThreadOp::End),
-                        ..
-                    },
-                    ..
-                },
-            )
-            | None => false,
-            Some(event) => match self.world.member(event.thread) {
-                Some(member) => member.pending == Some(number),
-                None => false,
-            },
+        if let Some(event) = self.explanation.event(number) {
+            if let Some(member) = self.world.threads.get(usize::from(event.thread)) {
+                return member.pending == number && !is_end(&event.op.request);
+            }
         }
+        false
     }
 
     /// The number of the last event that is sought, before the one by which the run failed.
     pub(crate) fn earlier(&self, sought: Sought) -> Option<usize> {
-        let before = self.at.event.saturating_sub(1);
-        let events = self.explanation.events.get(..before).unwrap_or(&[]);
         let mut last = None;
-        for (place, event) in events.iter().enumerate() {
-            if sought.is_met_by(event) {
-                last = Some(place.saturating_add(1));
+        for (place, event) in self.explanation.events.iter().enumerate() {
+            let number = place.saturating_add(1);
+            if number < self.at.event && sought.is_met_by(event) {
+                last = Some(number);
             }
         }
         last
@@ -143,24 +122,40 @@ impl<'a> Scene<'a> {
             row.words(title_of(kind));
         }
         if let Some(other) = self.other {
-            row.event(" with ", other.at.event);
+            row.number(" with event ", other.at.event);
         }
     }
 }
 
 impl Sought {
     fn is_met_by(self, event: &Event) -> bool {
-        match (self, &event.op.request) {
-            (Sought::Any(thread), _) => event.thread == thread,
-            (Sought::Explore, Request::Explore(..)) => true,
-            (Sought::Finish, Request::Thread(ThreadOp::Finish(_))) => event.thread == 0,
-            (Sought::Exit(thread), Request::Thread(ThreadOp::Exit)) => event.thread == thread,
-            (Sought::Init(thread, key), Request::Local(LocalOp::Init(other, _))) => {
-                event.thread == thread && *other == key
+        let thread = usize::from(event.thread);
+        match self {
+            Sought::Any(other) => thread == other,
+            Sought::Explore => matches!(event.op.request, Request::Explore(..)),
+            Sought::Finish => {
+                thread == 0 && matches!(event.op.request, Request::Thread(ThreadOp::Finish(_)))
             }
-            _ => false,
+            Sought::Exit(other) => {
+                thread == other && matches!(event.op.request, Request::Thread(ThreadOp::Exit))
+            }
+            Sought::Init(other, key) => thread == other && makes_local(&event.op.request, key),
         }
     }
+}
+
+/// Whether the operation makes the thread's own value of the key.
+fn makes_local(request: &Request<(), ()>, key: usize) -> bool {
+    if let Request::Local(LocalOp::Init(other, _)) = request {
+        *other == key
+    } else {
+        false
+    }
+}
+
+/// Whether the operation is a thread's last one.
+pub(crate) fn is_end(request: &Request<(), ()>) -> bool {
+    matches!(request, Request::Thread(ThreadOp::End))
 }
 
 /// The event of the operation by which the run failed: the last one of the thread that was chosen last, where it failed when
@@ -170,35 +165,34 @@ fn failing_at(explanation: &Explanation, world: &World, kind: Option<FailureKind
     let Some(last) = explanation.events.last() else {
         return At { event, thread: 0 };
     };
-    let at = At {
+    if let (Some(kind), Some(thread)) = (kind, chosen_last(explanation, last.choices_before)) {
+        if let Some(member) = world.threads.get(thread) {
+            if is_of_the_chosen(kind) && member.pending > 0 {
+                return At {
+                    event: member.pending,
+                    thread,
+                };
+            }
+        }
+    }
+    At {
         event,
-        thread: last.thread,
-    };
-    let Some(kind) = kind else {
-        return at;
-    };
-    if !is_of_the_chosen(kind) {
-        return at;
+        thread: usize::from(last.thread),
     }
-    match chosen_last(explanation, last.choices_before) {
-        Some(thread) => pending_at(world, thread).unwrap_or(at),
-        None => at,
-    }
-}
-
-fn pending_at(world: &World, thread: u8) -> Option<At> {
-    let event = world.member(thread)?.pending?;
-    Some(At { event, thread })
 }
 
 /// The thread that was chosen last, after so many choices.
-fn chosen_last(explanation: &Explanation, from: usize) -> Option<u8> {
-    for choice in explanation.choices.get(from..)?.iter().rev() {
+fn chosen_last(explanation: &Explanation, from: usize) -> Option<usize> {
+    let mut last = None;
+    for choice in explanation.choices.get(from..).unwrap_or(&[]) {
         if let Choice::Thread(thread) = choice {
-            return *thread;
+            last = *thread;
         }
     }
-    None
+    match last {
+        Some(thread) => Some(usize::from(thread)),
+        None => None,
+    }
 }
 
 /// Whether a run fails so where an operation takes effect.
@@ -272,36 +266,24 @@ fn title_of(kind: FailureKind) -> &'static str {
 /// How the run ended, a line, and why, a line each.
 pub(crate) fn put_reasons(out: &mut Page, scene: &Scene<'_>) {
     match scene.kind {
-        None => {
-            out.event("ended, after ", scene.at.event);
-            out.words("\n");
-        }
+        None => out.put("ended, after event $\n", &[scene.at.event]),
         Some(kind) => {
             out.words("failed: ");
             out.words(title_of(kind));
-            out.event(
-                if is_at_end(kind) { ", after " } else { ", at " },
-                scene.at.event,
-            );
-            put_place(out, scene);
+            out.words(if is_at_end(kind) { ", after" } else { ", at" });
+            out.number(" event ", scene.at.event);
+            put_place(out, scene.label);
             put_reason(out, scene, kind);
         }
     }
 }
 
 /// The place of the operation by which the run failed, if it has one, and the line's end.
-fn put_place(out: &mut Page, scene: &Scene<'_>) {
-    match place_of(scene) {
-        Some(place) => {
-            out.place(" (", place);
-            out.words(")\n");
-        }
+fn put_place(out: &mut Page, label: Option<Label>) {
+    match location_in(label) {
+        Some(place) => out.place(" (", place, ")\n"),
         None => out.words("\n"),
     }
-}
-
-fn place_of(scene: &Scene<'_>) -> Option<Location> {
-    scene.op()?.label?.location
 }
 
 /// Why, a line each.

@@ -1,14 +1,14 @@
 //! What a run has made and done so far, and who has what, as far as its events tell.
 use crate::text::answers::{
-    Answer, Counting, Holding, Touch, answer_of, cell_touch, counting_of, holding_of, outcome_of,
-    touch_of,
+    Answer, answer_of, cell_touch, has_failed, is_done, order_of, outcome_of, taken_by, touch_of,
 };
-use crate::text::calls::call_of;
-use crate::text::names::{Thing, Value};
-use crate::text::objects::{
-    Access, At, Hold, Kind, Manner, Member, Object, Reading, Store, made_by,
+use crate::text::calls::{Call, call_of};
+use crate::text::forms::Deed;
+use crate::text::names::Thing;
+use crate::text::objects::{Access, At, Hold, Kind, Manner, Member, Object, Reading, Store};
+use loom_objects::operation::{
+    AtomicOp, AtomicWakerOp, CellOp, CondvarOp, Op, Reply, Request, ThreadOp,
 };
-use loom_objects::operation::{AtomicOp, CellOp, CondvarOp, Op, Reply, Request, ThreadOp};
 use loom_objects::rt::thread::Name;
 use loom_parts::label::Label;
 use loom_views::rt::MAX_ATOMIC_HISTORY;
@@ -47,11 +47,6 @@ impl World {
         world
     }
 
-    /// The number of the thread that is spawned next.
-    pub(crate) fn next_thread(&self) -> u8 {
-        u8::try_from(self.threads.len()).unwrap_or(u8::MAX)
-    }
-
     /// The object of this number, if there is one.
     pub(crate) fn object(&self, number: usize) -> Option<Object> {
         self.objects.get(number).copied()
@@ -66,21 +61,24 @@ impl World {
     }
 
     /// The thread of this number, if there is one.
-    pub(crate) fn member(&self, thread: u8) -> Option<Member> {
-        self.threads.get(usize::from(thread)).copied()
+    pub(crate) fn member(&self, thread: usize) -> Option<Member> {
+        self.threads.get(thread).copied()
     }
 
     /// The name of the thread of this number, if it has one.
-    pub(crate) fn name(&self, thread: u8) -> Option<Name> {
-        self.threads.get(usize::from(thread))?.name
+    pub(crate) fn name(&self, thread: usize) -> Option<Name> {
+        match self.threads.get(thread) {
+            Some(member) => member.name,
+            None => None,
+        }
     }
 
     /// Who has the object since when, of several the last one.
-    pub(crate) fn holder(&self, object: usize) -> Option<Hold> {
+    pub(crate) fn holder(&self, object: usize) -> Option<At> {
         let mut last = None;
         for hold in &self.holds {
             if hold.object == object {
-                last = Some(*hold);
+                last = Some(hold.at);
             }
         }
         last
@@ -99,46 +97,61 @@ impl World {
         }
     }
 
-    /// A value of the atomic.
-    pub(crate) fn value(&self, atomic: usize, bits: u64) -> Value {
-        Value {
-            numbers: self.numbers(atomic),
-            bits,
+    /// The type of what the operation's atomic holds.
+    pub(crate) fn numbers_of(&self, op: AtomicOp) -> Numbers {
+        match op.atomic() {
+            Some(atomic) => self.numbers(atomic),
+            None => Numbers::U64,
         }
     }
 
     /// The store in a slot: of the last seven of the atomic, the one whose number is the slot's modulo seven.
     pub(crate) fn store_in(&self, atomic: usize, slot: u8) -> Option<Store> {
-        for store in self.stores.iter().rev() {
+        let mut last = None;
+        for store in &self.stores {
             if store.atomic == atomic && store.number % MAX_ATOMIC_HISTORY == usize::from(slot) {
-                return Some(*store);
+                last = Some(*store);
             }
         }
-        None
+        last
+    }
+
+    /// The same, of the object that the call is on.
+    pub(crate) fn store_of(&self, call: Call, slot: u8) -> Option<Store> {
+        match call.object() {
+            Some(atomic) => self.store_in(atomic, slot),
+            None => None,
+        }
     }
 
     /// The thread has this operation pending from now on, on a line; what it makes is made.
-    pub(crate) fn hand_over(&mut self, at: At, line: usize, op: &Op<(), ()>) {
-        if let Some(member) = self.threads.get_mut(usize::from(at.thread)) {
-            member.pending = Some(at.event);
+    pub(crate) fn hand_over(&mut self, at: At, line: usize, call: Call, op: &Op<(), ()>) {
+        if let Some(member) = self.threads.get_mut(at.thread) {
+            member.pending = at.event;
             member.line = line;
             member.stage = 0;
         }
-        if let Some(kind) = made_by(op) {
+        if let Some(kind) = call.made() {
             self.make(at, kind, op);
         }
     }
 
     fn make(&mut self, at: At, kind: Kind, op: &Op<(), ()>) {
-        if matches!(kind, Kind::Wakers) {
-            self.make_object(at, Kind::Waking, None);
-        }
-        if let Request::Thread(ThreadOp::Spawn(_, name)) = &op.request {
-            self.make_thread(*name);
-        }
-        if let Request::Atomic(AtomicOp::New(..)) = &op.request {
-            let atomic = self.objects.len();
-            self.make_store(at, atomic, 0, None);
+        let number = self.objects.len();
+        match kind {
+            Kind::Wakers => self.make_object(at, Kind::Waking, None),
+            Kind::Joining => self.make_thread(spawned_name(&op.request)),
+            Kind::Atomic(_) => self.make_store(at, number, 0, None),
+            Kind::Cell
+            | Kind::Arc
+            | Kind::Track
+            | Kind::Mutex
+            | Kind::RwLock
+            | Kind::Condvar
+            | Kind::Notifier
+            | Kind::Channel
+            | Kind::Waking
+            | Kind::Place => {}
         }
         self.make_object(at, kind, op.label);
     }
@@ -146,7 +159,7 @@ impl World {
     fn make_thread(&mut self, name: Option<Name>) {
         let member = Member {
             name,
-            pending: None,
+            pending: 0,
             line: 0,
             stage: 0,
         };
@@ -191,9 +204,9 @@ impl World {
     }
 
     /// A stage of what the thread has pending has passed: which one, from 0. By that it may give a mutex free.
-    pub(crate) fn pass(&mut self, thread: u8, op: &Op<(), ()>) -> u8 {
+    pub(crate) fn pass(&mut self, thread: usize, op: &Op<(), ()>) -> u8 {
         let mut stage = 0;
-        if let Some(member) = self.threads.get_mut(usize::from(thread)) {
+        if let Some(member) = self.threads.get_mut(thread) {
             stage = member.stage;
             member.stage = stage.saturating_add(1);
         }
@@ -216,17 +229,22 @@ impl World {
         told: &Reply<()>,
         slot: Option<u8>,
     ) -> Answer {
-        let call = call_of(op, self);
-        self.hold(at, holding_of(&call, told));
-        self.count(at, counting_of(&call, told));
-        if let Some(member) = self.threads.get_mut(usize::from(at.thread)) {
-            member.pending = None;
+        let call = call_of(&op.request, self);
+        self.hold(at, call, told);
+        if is_done(call.form.deed, told) {
+            self.count(at, call.number, call.form.deed);
+        }
+        if let Some(member) = self.threads.get_mut(at.thread) {
+            member.pending = 0;
         }
         if let Request::Atomic(op) = &op.request {
             return self.settle_atomic(at, *op, told, slot);
         }
         if let Request::Cell(op) = &op.request {
             self.settle_cell(at, op);
+        }
+        if let Request::AtomicWaker(AtomicWakerOp::RegisterByRef(_, wakers)) = &op.request {
+            self.count(at, *wakers, Deed::Clones);
         }
         answer_of(told)
     }
@@ -247,16 +265,24 @@ impl World {
         told: &Reply<()>,
         slot: Option<u8>,
     ) -> Answer {
-        let numbers = match op.atomic() {
-            Some(atomic) => self.numbers(atomic),
-            None => Numbers::U64,
-        };
-        let Some(touch) = touch_of(op, told, numbers) else {
+        let numbers = self.numbers_of(op);
+        let has_failed = has_failed(op, told, numbers);
+        let Some(touch) = touch_of(op, has_failed) else {
             return Answer::Nothing;
         };
-        self.note(touch.atomic, touch.manner, at);
-        let read = self.read(at, touch, slot);
-        let number = self.write(at, touch);
+        let atomic = op.atomic().unwrap_or(0);
+        let order = order_of(op, has_failed);
+        self.note(atomic, touch.manner, at);
+        let read = if touch.reads {
+            self.read(at, atomic, slot, order, touch.noun)
+        } else {
+            None
+        };
+        let number = if touch.writes {
+            self.write(at, atomic, order)
+        } else {
+            None
+        };
         match (read, number) {
             (Some(store), _) => Answer::Read(store, outcome_of(told, numbers)),
             (None, Some(number)) => Answer::Stored(number),
@@ -264,14 +290,21 @@ impl World {
         }
     }
 
-    fn read(&mut self, at: At, touch: Touch, slot: Option<u8>) -> Option<Store> {
-        let order = touch.read?;
-        let store = self.store_in(touch.atomic, slot?)?;
+    /// The store in the slot is read.
+    fn read(
+        &mut self,
+        at: At,
+        atomic: usize,
+        slot: Option<u8>,
+        order: Ordering,
+        noun: &'static str,
+    ) -> Option<Store> {
+        let store = self.store_in(atomic, slot?)?;
         let reading = Reading {
             at,
             store,
             order,
-            noun: touch.noun,
+            noun,
         };
         if self.readings.push(reading).is_err() {
             self.is_refused = true;
@@ -279,27 +312,32 @@ impl World {
         Some(store)
     }
 
-    fn write(&mut self, at: At, touch: Touch) -> Option<usize> {
-        let order = touch.write?;
-        let number = self.object(touch.atomic)?.count;
-        self.count(at, Counting::Up(touch.atomic));
-        self.make_store(at, touch.atomic, number, Some(order));
+    /// A store is made: its number.
+    fn write(&mut self, at: At, atomic: usize, order: Ordering) -> Option<usize> {
+        let object = self.objects.get_mut(atomic)?;
+        let number = object.count;
+        object.count = number.saturating_add(1);
+        self.make_store(at, atomic, number, Some(order));
         Some(number)
     }
 
-    fn hold(&mut self, at: At, holding: Holding) {
-        match holding {
-            Holding::Same => {}
-            Holding::Takes(object) => {
-                if self.holds.push(Hold { object, at }).is_err() {
-                    self.is_refused = true;
-                }
-            }
-            Holding::Gives(object) => self.give(at.thread, object),
+    fn hold(&mut self, at: At, call: Call, told: &Reply<()>) {
+        if let Some(number) = taken_by(told) {
+            self.take(at, number);
+        } else if let Deed::Gives = call.form.deed {
+            self.give(at.thread, call.number);
+        } else if matches!(call.form.deed, Deed::Takes) && is_done(call.form.deed, told) {
+            self.take(at, call.number);
         }
     }
 
-    fn give(&mut self, thread: u8, object: usize) {
+    fn take(&mut self, at: At, object: usize) {
+        if self.holds.push(Hold { object, at }).is_err() {
+            self.is_refused = true;
+        }
+    }
+
+    fn give(&mut self, thread: usize, object: usize) {
         let mut last = self.holds.len();
         for (place, hold) in self.holds.iter().enumerate() {
             if hold.object == object && hold.at.thread == thread {
@@ -311,25 +349,28 @@ impl World {
         }
     }
 
-    fn count(&mut self, at: At, counting: Counting) {
-        let number = match counting {
-            Counting::Same => return,
-            Counting::Up(number)
-            | Counting::Down(number)
-            | Counting::Zero(number)
-            | Counting::Apart(number) => number,
-        };
+    fn count(&mut self, at: At, number: usize, deed: Deed) {
         let Some(object) = self.objects.get_mut(number) else {
             return;
         };
-        object.count = match counting {
-            Counting::Same => object.count,
-            Counting::Up(_) => object.count.saturating_add(1),
-            Counting::Down(_) => object.count.saturating_sub(1),
-            Counting::Zero(_) | Counting::Apart(_) => 0,
-        };
-        if let Counting::Apart(_) = counting {
-            object.apart = Some(at.event);
+        match deed {
+            Deed::Nothing | Deed::Makes | Deed::Takes | Deed::Gives => {}
+            Deed::Clones | Deed::Sends => object.count = object.count.saturating_add(1),
+            Deed::Drops | Deed::Receives => object.count = object.count.saturating_sub(1),
+            Deed::Empties => object.count = 0,
+            Deed::TakesApart => {
+                object.count = 0;
+                object.apart = Some(at.event);
+            }
         }
+    }
+}
+
+/// The name that a spawn gives its thread, if it gives one.
+fn spawned_name(request: &Request<(), ()>) -> Option<Name> {
+    if let Request::Thread(ThreadOp::Spawn(_, name)) = request {
+        *name
+    } else {
+        None
     }
 }

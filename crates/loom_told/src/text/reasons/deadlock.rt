@@ -1,74 +1,72 @@
 //! Deadlocks: what each thread waits for, since when, and who has it.
-use crate::text::calls::{Call, Subject, call_of};
+use crate::text::calls::{Call, argument_of, call_of};
+use crate::text::forms::On;
 use crate::text::objects::Member;
 use crate::text::page::Page;
-use crate::text::reasons::Scene;
-use loom_objects::operation::{Op, Request, ThreadOp};
+use crate::text::reasons::{Scene, is_end};
+use crate::text::world::World;
+use loom_objects::operation::Request;
 
 /// Each thread with what it waits for.
 pub(crate) fn put_deadlock(out: &mut Page, scene: &Scene<'_>) {
     for (thread, member) in scene.world.threads.iter().enumerate() {
-        let thread = u8::try_from(thread).unwrap_or(u8::MAX);
         out.titled("  ", thread, member.name);
-        put_thread(out, scene, thread, *member);
+        put_thread(out, scene, thread, member);
     }
 }
 
-fn put_thread(out: &mut Page, scene: &Scene<'_>, thread: u8, member: Member) {
-    let number = member.pending.unwrap_or(0);
-    match scene.event(number) {
+fn put_thread(out: &mut Page, scene: &Scene<'_>, thread: usize, member: &Member) {
+    match scene.explanation.event(member.pending) {
         None => out.words(": has not begun\n"),
+        Some(event) if is_end(&event.op.request) => out.words(": has ended\n"),
         Some(event) => {
-            if let Request::Thread(ThreadOp::End) = event.op.request {
-                out.words(": has ended\n");
-            } else {
-                put_wait(out, scene, (thread, member.stage), &event.op, number);
-            }
+            out.words(": ");
+            let waited_for = put_wait(out, scene.world, &event.op.request, member.stage);
+            out.number(" since event ", member.pending);
+            put_holder(out, scene.world, thread, waited_for);
         }
     }
 }
 
-/// What the thread waits for by this operation of this event. In a second stage it's a mutex.
-fn put_wait(out: &mut Page, scene: &Scene<'_>, waiter: (u8, u8), op: &Op<(), ()>, number: usize) {
-    let call = call_of(op, scene.world);
-    let (thread, stage) = waiter;
-    out.words(": ");
-    let object = match call.argument() {
+/// What the thread waits for by this request, in a second stage a mutex: which object it is, if it's one.
+fn put_wait(out: &mut Page, world: &World, request: &Request<(), ()>, stage: u8) -> Option<usize> {
+    match argument_of(request) {
         Some(mutex) if stage > 1 => {
-            out.thing("was woken, and waits for ", scene.world.thing(mutex));
+            out.thing("was woken, and waits for ", world.thing(mutex));
             Some(mutex)
         }
         _ => {
-            put_waited_for(out, scene, &call);
-            call.number()
+            let call = call_of(request, world);
+            put_waited_for(out, world, call);
+            call.object()
         }
-    };
-    out.event(" since ", number);
-    if let Some(object) = object {
-        put_holder(out, scene, thread, object);
     }
-    out.words("\n");
 }
 
 /// What a thread does that waits at the call, and for which object or thread.
-fn put_waited_for(out: &mut Page, scene: &Scene<'_>, call: &Call) {
-    out.words(call.waits.unwrap_or("waits"));
-    match call.subject {
-        Subject::Object(object) => out.thing(" ", scene.world.thing(object)),
-        Subject::Thread(other) => out.thread(" ", other),
-        Subject::Nothing | Subject::Local(_) | Subject::Lazy(_) => {}
+fn put_waited_for(out: &mut Page, world: &World, call: Call) {
+    out.words(call.form.waits.unwrap_or("waits"));
+    match call.form.on {
+        On::Object => out.thing(" ", world.thing(call.number)),
+        On::Thread => out.number(" thread ", call.number),
+        On::Nothing | On::Local | On::Lazy => {}
     }
 }
 
-/// Who has the object, if a thread has it.
-fn put_holder(out: &mut Page, scene: &Scene<'_>, thread: u8, object: usize) {
-    let Some(hold) = scene.world.holder(object) else {
-        return;
+/// Who has the object, if there is one and a thread has it, and the line's end.
+fn put_holder(out: &mut Page, world: &World, thread: usize, object: Option<usize>) {
+    let holder = match object {
+        Some(object) => world.holder(object),
+        None => None,
     };
-    if hold.at.thread == thread {
-        out.event("; it holds it itself since ", hold.at.event);
-    } else {
-        out.thread("; ", hold.at.thread);
-        out.event(" holds it since ", hold.at.event);
+    match holder {
+        Some(hold) if hold.thread == thread => {
+            out.put("; it holds it itself since event $\n", &[hold.event]);
+        }
+        Some(hold) => out.put(
+            "; thread $ holds it since event $\n",
+            &[hold.thread, hold.event],
+        ),
+        None => out.words("\n"),
     }
 }

@@ -7,44 +7,38 @@ use loom_views::rt::failure::FailureKind;
 /// The limit that the run passed, and what helps.
 pub(crate) fn put_limit(out: &mut Page, scene: &Scene<'_>, kind: FailureKind) {
     let explanation = scene.explanation;
-    let (before, limit, after) = match kind {
+    let (words, limit) = match kind {
         FailureKind::TooManyThreads => (
-            "  a run may have ",
+            "  a run may have $ threads (`max_threads`), main and ended ones counted: this spawn is for one more\n  raise `max_threads`, which may be 5 at most, or spawn fewer\n",
             explanation.max_threads,
-            " threads (`max_threads`), main and ended ones counted: this spawn is for one more\n  raise `max_threads`, which may be 5 at most, or spawn fewer\n",
         ),
         FailureKind::TooManyBranches => (
-            "  a run may come to ",
+            "  a run may come to $ branch points (`max_branches`): this one came to one more\n  a loop that waits wants a `yield_now` in each turn; else raise `max_branches`\n",
             explanation.max_branches,
-            " branch points (`max_branches`): this one came to one more\n  a loop that waits wants a `yield_now` in each turn; else raise `max_branches`\n",
         ),
         FailureKind::TooManySteps => (
-            "  the threads of a run may hand over ",
+            "  the threads of a run may hand over $ operations (`max_steps`): this is one more\n  a loop that waits wants a `yield_now` in each turn; else raise `max_steps`\n",
             explanation.max_steps,
-            " operations (`max_steps`): this is one more\n  a loop that waits wants a `yield_now` in each turn; else raise `max_steps`\n",
         ),
         FailureKind::TooManyStores => (
-            "  an atomic may have ",
+            "  an atomic may have $ stores, the first value counted: this is one more\n  no setting raises this: let a run store less to one atomic\n",
             65_535,
-            " stores, the first value counted: this is one more\n  no setting raises this: let a run store less to one atomic\n",
         ),
         _ => (
-            "  a thread may have ",
+            "  a thread may have $ versions, one for each access, fence and spawn: this is one more\n  no setting raises this: let a thread do less in a run\n",
             65_534,
-            " versions, one for each access, fence and spawn: this is one more\n  no setting raises this: let a thread do less in a run\n",
         ),
     };
     put_target(out, scene);
-    out.number(before, limit);
-    out.words(after);
+    out.put(words, &[limit]);
 }
 
 /// The atomic that the operation is one of.
 fn put_target(out: &mut Page, scene: &Scene<'_>) {
-    if let Some(Request::Atomic(op)) = scene.request() {
+    if let Some(Request::Atomic(op)) = scene.request {
         if let Some(number) = op.atomic() {
-            out.thread("  ", scene.at.thread);
-            out.thing(" is at ", scene.world.thing(number));
+            out.put("  thread $ is at ", &[scene.at.thread]);
+            out.thing("", scene.world.thing(number));
             out.words("\n");
         }
     }

@@ -1,79 +1,77 @@
 //! Misuse: which object it is, and what is asked of who uses it so.
-use crate::text::calls::{Call, call_of};
+use crate::text::calls::call_of;
+use crate::text::forms::Form;
 use crate::text::names::Thing;
-use crate::text::objects::{Hold, Kind};
+use crate::text::objects::{At, Kind};
 use crate::text::page::Page;
 use crate::text::reasons::Scene;
+use crate::text::world::World;
+use loom_objects::operation::Request;
 
 /// Which object, who has it, and what is asked.
 pub(crate) fn put_misuse(out: &mut Page, scene: &Scene<'_>) {
-    let Some(op) = scene.op() else {
-        out.words("  the run is over\n");
-        return;
-    };
-    let call = call_of(op, scene.world);
-    out.thread("  ", scene.at.thread);
-    match (call.number(), call.kind) {
-        (Some(number), Some(kind)) => put_use(out, scene, &call, scene.world.thing(number), kind),
+    match scene.request {
+        Some(request) => {
+            out.number("  thread ", scene.at.thread);
+            put_request(out, scene.world, request);
+        }
+        None => out.words("  the run is over\n"),
+    }
+}
+
+fn put_request(out: &mut Page, world: &World, request: &Request<(), ()>) {
+    let call = call_of(request, world);
+    match (call.object(), call.form.kind) {
+        (Some(number), Some(kind)) => {
+            let thing = world.thing(number);
+            match thing.object {
+                Some(object) if object.kind.is_like(kind) => {
+                    out.thing(" uses ", thing);
+                    put_state(out, call.form, object.apart, world.holder(number));
+                }
+                _ => {
+                    out.call("'s ", request, world);
+                    put_kind(out, thing, kind);
+                }
+            }
+        }
         _ => {
-            out.call("'s ", &call);
-            put_asked(out, call.asks);
+            out.call("'s ", request, world);
+            put_asked(out, call.form);
         }
     }
 }
 
-fn put_asked(out: &mut Page, asks: &str) {
+fn put_asked(out: &mut Page, form: &Form) {
     out.words(": ");
-    out.words(asks);
+    out.words(form.asks);
     out.words("\n");
 }
 
-/// The use of an object that is to be of this kind.
-fn put_use(out: &mut Page, scene: &Scene<'_>, call: &Call, thing: Thing, kind: Kind) {
-    match thing.object {
-        Some(object) if object.kind.is_like(kind) => {
-            put_state(
-                out,
-                thing,
-                object.apart,
-                scene.world.holder(thing.number),
-                call.asks,
-            );
-        }
-        Some(_) => {
-            put_kind(out, call, kind);
-            out.thing(" this is ", thing);
-            out.words("\n");
-        }
-        None => {
-            put_kind(out, call, kind);
-            out.words(" there is none of this number\n");
-        }
-    }
-}
-
-fn put_kind(out: &mut Page, call: &Call, kind: Kind) {
-    out.call("'s ", call);
+/// What kind of object is asked for, and what there is.
+fn put_kind(out: &mut Page, thing: Thing, kind: Kind) {
     out.words(" asks for one of kind ");
     out.words(kind.name());
-    out.words(", and");
+    if thing.object.is_some() {
+        out.thing(", and this is ", thing);
+        out.words("\n");
+    } else {
+        out.words(", and there is none of this number\n");
+    }
 }
 
 /// An object that is of the right kind: whether it was taken apart, who has it, and what is asked.
-fn put_state(out: &mut Page, thing: Thing, apart: Option<usize>, holder: Option<Hold>, asks: &str) {
-    out.thing(" uses ", thing);
+fn put_state(out: &mut Page, form: &Form, apart: Option<usize>, holder: Option<At>) {
     if let Some(event) = apart {
-        out.event(", which was taken apart at ", event);
-        out.words("\n");
+        out.put(", which was taken apart at event $\n", &[event]);
         return;
     }
-    put_asked(out, asks);
+    put_asked(out, form);
     match holder {
-        Some(hold) => {
-            out.thread("  ", hold.at.thread);
-            out.event(" has it since ", hold.at.event);
-            out.words("\n");
-        }
+        Some(hold) => out.put(
+            "  thread $ has it since event $\n",
+            &[hold.thread, hold.event],
+        ),
         None => out.words("  no thread has it\n"),
     }
 }

@@ -1,29 +1,32 @@
 //! Races: the access that one is with, and what is missing between the two.
 use crate::text::answers::{cell_touch, touch_of};
-use crate::text::calls::call_of;
-use crate::text::names::{Thing, article_of, order_name};
+use crate::text::names::{article_of, order_name};
 use crate::text::objects::{Access, Hold, Manner, Reading};
 use crate::text::page::Page;
 use crate::text::reasons::Scene;
-use loom_objects::operation::{AtomicOp, CellOp, Reply, Request};
-use loom_parts::text::Text;
+use crate::text::world::World;
+use loom_objects::operation::{AtomicOp, CellOp, Request};
+use loom_parts::label::name_in;
 use loom_views::rt::MAX_THREADS;
 use loom_views::rt::failure::FailureKind;
 use std::sync::atomic::Ordering;
 
 /// Which objects an operation accesses, and how: one, and for a swap of two cells another one.
-fn targets(scene: &Scene<'_>) -> Option<(usize, usize, Manner)> {
-    match scene.request() {
-        Some(Request::Atomic(op)) => atomic_targets(scene, *op),
-        Some(Request::Cell(op)) => cell_targets(op),
-        _ => None,
+fn targets(request: Option<&Request<(), ()>>) -> Option<(usize, usize, Manner)> {
+    if let Some(Request::Atomic(op)) = request {
+        return atomic_targets(*op);
     }
+    if let Some(Request::Cell(op)) = request {
+        return cell_targets(op);
+    }
+    None
 }
 
-fn atomic_targets(scene: &Scene<'_>, op: AtomicOp) -> Option<(usize, usize, Manner)> {
-    let numbers = scene.world.numbers(op.atomic()?);
-    let touch = touch_of(op, &Reply::Start, numbers)?;
-    Some((touch.atomic, touch.atomic, touch.manner))
+fn atomic_targets(op: AtomicOp) -> Option<(usize, usize, Manner)> {
+    match (op.atomic(), touch_of(op, false)) {
+        (Some(atomic), Some(touch)) => Some((atomic, atomic, touch.manner)),
+        _ => None,
+    }
 }
 
 fn cell_targets(op: &CellOp<()>) -> Option<(usize, usize, Manner)> {
@@ -37,22 +40,34 @@ fn cell_targets(op: &CellOp<()>) -> Option<(usize, usize, Manner)> {
         | CellOp::Write(_)
         | CellOp::IntoInner(_)
         | CellOp::Get(_)
-        | CellOp::Replace(..) => {
-            let (cell, manner) = cell_touch(op)?;
-            (cell, cell, manner)
-        }
+        | CellOp::Replace(..) => match cell_touch(op) {
+            Some((cell, manner)) => (cell, cell, manner),
+            None => return None,
+        },
     };
     Some(targets)
 }
 
 /// The last access of this thread that conflicts with the one that failed.
-fn last_of(scene: &Scene<'_>, thread: u8) -> Option<Access> {
-    let (one, other, manner) = targets(scene)?;
-    if thread == scene.at.thread {
-        return None;
+fn last_of(scene: &Scene<'_>, thread: usize) -> Option<Access> {
+    match targets(scene.request) {
+        Some((one, other, manner)) if thread != scene.at.thread => {
+            last_access(scene.world, thread, (one, other), manner)
+        }
+        _ => None,
     }
+}
+
+/// The last access of the thread to one of the two objects that conflicts with such a one.
+fn last_access(
+    world: &World,
+    thread: usize,
+    objects: (usize, usize),
+    manner: Manner,
+) -> Option<Access> {
+    let (one, other) = objects;
     let mut last = None;
-    for access in &scene.world.accesses {
+    for access in &world.accesses {
         if (access.object == one || access.object == other)
             && access.at.thread == thread
             && manner.conflicts_with(access.manner)
@@ -70,7 +85,7 @@ pub(crate) fn other_access(scene: &Scene<'_>) -> Option<Access> {
         return None;
     }
     let mut found = None;
-    for thread in 0..MAX_THREADS as u8 {
+    for thread in 0..MAX_THREADS {
         let last = last_of(scene, thread);
         if found.is_some() && last.is_some() {
             return None;
@@ -121,18 +136,16 @@ fn cell_verb(op: &CellOp<()>) -> &'static str {
 
 /// The thread by whose operation the run failed, and what it does.
 fn put_verb(out: &mut Page, scene: &Scene<'_>) {
-    out.thread("  ", scene.at.thread);
-    out.words(" ");
-    out.words(verb_of(scene.request()));
+    out.put("  thread $ ", &[scene.at.thread]);
+    out.words(verb_of(scene.request));
 }
 
-/// The object that the operation accesses.
-fn target(scene: &Scene<'_>) -> Thing {
-    let number = match targets(scene) {
+/// The number of the object that the operation accesses.
+fn target(scene: &Scene<'_>) -> usize {
+    match targets(scene.request) {
         Some((object, ..)) => object,
         None => 0,
-    };
-    scene.world.thing(number)
+    }
 }
 
 /// Both accesses, and what is missing between them.
@@ -141,43 +154,38 @@ pub(crate) fn put_race(out: &mut Page, scene: &Scene<'_>) {
     match scene.other {
         Some(access) => {
             out.thing(" ", scene.world.thing(access.object));
-            out.thread(" and doesn't know of ", access.at.thread);
-            out.words("'s ");
+            out.put(" and doesn't know of thread $'s ", &[access.at.thread]);
             out.words(access.manner.noun());
-            out.event(" of it (", access.at.event);
-            out.words(")\n");
-            put_missing(out, scene, access);
+            out.put(" of it (event $)\n", &[access.at.event]);
+            put_missing(out, scene.world, scene.at.thread, access);
         }
         None => {
-            out.thing(" ", target(scene));
+            out.thing(" ", scene.world.thing(target(scene)));
             out.words(" and doesn't know of one of these at least:\n");
             put_others(out, scene);
         }
     }
 }
 
-/// What is missing between the access that failed and this one.
-fn put_missing(out: &mut Page, scene: &Scene<'_>, access: Access) {
-    match last_reading(scene, access) {
-        Some(reading) => put_reading(out, scene, reading),
-        None => {
-            out.thread("  nothing orders the two: ", scene.at.thread);
-            out.thread(" has read nothing that ", access.at.thread);
-            out.words(" stored after it\n");
-        }
+/// What is missing between the access that failed, which is this thread's, and this one.
+fn put_missing(out: &mut Page, world: &World, thread: usize, access: Access) {
+    match last_reading(world, thread, access) {
+        Some(reading) => put_reading(out, world, reading),
+        None => out.put(
+            "  nothing orders the two: thread $ has read nothing that thread $ stored after it\n",
+            &[thread, access.at.thread],
+        ),
     }
 }
 
 /// The last access of each other thread that conflicts: one of them at least isn't known.
 fn put_others(out: &mut Page, scene: &Scene<'_>) {
-    for other in 0..MAX_THREADS as u8 {
+    for other in 0..MAX_THREADS {
         if let Some(access) = last_of(scene, other) {
-            out.thread("    ", other);
-            out.words("'s ");
+            out.put("    thread $'s ", &[other]);
             out.words(access.manner.noun());
             out.thing(" of ", scene.world.thing(access.object));
-            out.event(" (", access.at.event);
-            out.words(")\n");
+            out.put(" (event $)\n", &[access.at.event]);
         }
     }
 }
@@ -197,38 +205,28 @@ fn releases(order: Option<Ordering>) -> bool {
 }
 
 /// The last read by which the thread could have learned of the access, had it acquired what the store released.
-fn last_reading(scene: &Scene<'_>, access: Access) -> Option<Reading> {
+fn last_reading(world: &World, thread: usize, access: Access) -> Option<&Reading> {
     let mut last = None;
-    for reading in &scene.world.readings {
-        if reading.at.thread == scene.at.thread
-            && reading.store.at.thread == access.at.thread
-            && reading.store.at.event > access.at.event
-            && !(acquires(reading.order) && releases(reading.store.order))
-        {
-            last = Some(*reading);
+    for reading in &world.readings {
+        if reading.at.thread == thread && reading.misses(access) {
+            last = Some(reading);
         }
     }
     last
 }
 
+impl Reading {
+    /// Whether its thread could have learned of the access by it, had it acquired what the store released.
+    fn misses(&self, access: Access) -> bool {
+        self.store.at.thread == access.at.thread
+            && self.store.at.event > access.at.event
+            && !(acquires(self.order) && releases(self.store.order))
+    }
+}
+
 /// What was read, how, and what it lacks.
-fn put_reading(out: &mut Page, scene: &Scene<'_>, reading: Reading) {
-    let store = reading.store;
-    out.thread("  ", reading.at.thread);
-    out.number(" read store ", store.number);
-    out.number(" of atomic #", store.atomic);
-    out.words(" (");
-    if let Some(name) = name_of(scene, store.atomic) {
-        out.words("\"");
-        out.words(name.as_str());
-        out.words("\", ");
-    }
-    out.thread("", store.at.thread);
-    if let Some(order) = store.order {
-        out.words(", ");
-        out.words(order_name(order));
-    }
-    out.words(") by ");
+fn put_reading(out: &mut Page, world: &World, reading: &Reading) {
+    put_store(out, world, reading);
     out.words(article_of(reading.order));
     out.words(order_name(reading.order));
     out.words(" ");
@@ -240,15 +238,38 @@ fn put_reading(out: &mut Page, scene: &Scene<'_>, reading: Reading) {
     });
 }
 
-fn name_of(scene: &Scene<'_>, number: usize) -> Option<Text> {
-    scene.world.object(number)?.label?.name
+/// Which store was read, and whose it is.
+fn put_store(out: &mut Page, world: &World, reading: &Reading) {
+    let store = reading.store;
+    out.put(
+        "  thread $ read store $ of atomic #$ (",
+        &[reading.at.thread, store.number, store.atomic],
+    );
+    if let Some(object) = world.objects.get(store.atomic) {
+        if let Some(name) = name_in(object.label) {
+            out.named("\"", name, "\", ");
+        }
+    }
+    out.number("thread ", store.at.thread);
+    if let Some(order) = store.order {
+        out.words(", ");
+        out.words(order_name(order));
+    }
+    out.words(") by ");
 }
 
 /// Who has the object open.
 fn open_by(scene: &Scene<'_>) -> Option<Hold> {
-    let (one, other, _) = targets(scene)?;
+    match targets(scene.request) {
+        Some((one, other, _)) => last_hold(scene.world, one, other),
+        None => None,
+    }
+}
+
+/// The last hold of one of the two objects.
+fn last_hold(world: &World, one: usize, other: usize) -> Option<Hold> {
     let mut last = None;
-    for hold in &scene.world.holds {
+    for hold in &world.holds {
         if hold.object == one || hold.object == other {
             last = Some(*hold);
         }
@@ -259,23 +280,26 @@ fn open_by(scene: &Scene<'_>) -> Option<Hold> {
 /// What is open, by whom and since when.
 pub(crate) fn put_open_access(out: &mut Page, scene: &Scene<'_>) {
     put_verb(out, scene);
-    let Some(hold) = open_by(scene) else {
-        out.words(" what is open\n");
-        return;
-    };
-    out.thing(" ", scene.world.thing(hold.object));
-    out.thread(", which ", hold.at.thread);
-    out.event(" has open since ", hold.at.event);
-    if let Some(opened) = scene.event(hold.at.event) {
-        out.call(": ", &call_of(&opened.op, scene.world));
+    match open_by(scene) {
+        Some(hold) => {
+            out.thing(" ", scene.world.thing(hold.object));
+            out.put(
+                ", which thread $ has open since event $",
+                &[hold.at.thread, hold.at.event],
+            );
+            if let Some(opened) = scene.explanation.event(hold.at.event) {
+                out.call(": ", &opened.op.request, scene.world);
+            }
+            out.words("\n");
+        }
+        None => out.words(" what is open\n"),
     }
-    out.words("\n");
 }
 
 /// Two stores whose order isn't known.
 pub(crate) fn put_equal_orders(out: &mut Page, scene: &Scene<'_>) {
-    out.thread("  ", scene.at.thread);
-    out.thing(" is about to read ", target(scene));
+    out.number("  thread ", scene.at.thread);
+    out.thing(" is about to read ", scene.world.thing(target(scene)));
     out.words(
         ": two of its last seven stores have equal places\n  in the modification order, so which of them is later can't be said\n",
     );
