@@ -113,7 +113,7 @@ impl Page {
         match answer {
             Answer::Nothing => {}
             Answer::Words(words) | Answer::Late(words) => self.words(words),
-            Answer::Value(value) => self.value("", value),
+            Answer::Value(value) => self.value("", value.numbers, value.bits),
             Answer::Stored(number) => self.number("store ", number),
             Answer::Read(_, outcome) => self.outcome(outcome),
             Answer::Waker(number) => self.number("waker of #", number),
@@ -124,13 +124,13 @@ impl Page {
     fn outcome(&mut self, outcome: Outcome) {
         match outcome {
             Outcome::Nothing => {}
-            Outcome::Value(value) => self.value(": ", value),
+            Outcome::Value(value) => self.value(": ", value.numbers, value.bits),
             Outcome::Exchanged(value) => {
-                self.value(": Ok(", value);
+                self.value(": Ok(", value.numbers, value.bits);
                 self.words(")");
             }
             Outcome::Kept(value) => {
-                self.value(": Err(", value);
+                self.value(": Err(", value.numbers, value.bits);
                 self.words(")");
             }
         }

@@ -1,6 +1,6 @@
 //! Operations as written in code.
 use crate::text::forms::{self, Deed, Form, On};
-use crate::text::names::{Value, order_name};
+use crate::text::names::order_name;
 use crate::text::objects::Kind;
 use crate::text::page::Page;
 use crate::text::world::World;
@@ -80,21 +80,21 @@ impl Page {
     fn values(&mut self, op: AtomicOp, numbers: Numbers) {
         match op {
             AtomicOp::New(numbers, bits) => {
-                self.value("(", Value { numbers, bits });
+                self.value("(", numbers, bits);
                 self.words(")");
             }
             AtomicOp::WithMutEnd(_, bits) => {
-                self.value("(", Value { numbers, bits });
+                self.value("(", numbers, bits);
                 self.words(")");
             }
             AtomicOp::Load(_, order) => self.order("(", order),
             AtomicOp::Store(_, bits, order) => {
-                self.value("(", Value { numbers, bits });
+                self.value("(", numbers, bits);
                 self.order(", ", order);
             }
             AtomicOp::Update(_, change, order) => {
                 let bits = operand(change);
-                self.value("(", Value { numbers, bits });
+                self.value("(", numbers, bits);
                 self.order(", ", order);
             }
             AtomicOp::CompareExchange(_, exchange) => {
@@ -109,14 +109,8 @@ impl Page {
 
     /// The value that is expected, and the new one.
     fn exchange(&mut self, numbers: Numbers, expected: u64, new: u64) {
-        self.value(
-            "(",
-            Value {
-                numbers,
-                bits: expected,
-            },
-        );
-        self.value(", ", Value { numbers, bits: new });
+        self.value("(", numbers, expected);
+        self.value(", ", numbers, new);
         self.words(")");
     }
 }

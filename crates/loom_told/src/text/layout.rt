@@ -2,6 +2,7 @@
 use crate::text::lines::Line;
 use crate::text::page::{Page, WIDTH};
 use crate::text::reasons::Scene;
+use crate::text::world::World;
 use std::alloc::Global;
 
 /// How many lines a turn may have that is told once where it is repeated.
@@ -57,7 +58,7 @@ pub(crate) fn put_rows(alloc: Global, out: &mut Page, scene: &Scene<'_>, lines: 
     let events = scene.explanation.events.len();
     let frame = Frame::new(events, scene.world.threads.len());
     let mut row = Page::new(alloc);
-    put_titles(&mut row, frame, scene);
+    put_titles(&mut row, frame, scene.world);
     out.page(&row);
     row.clear();
     put_turns(out, &mut row, frame, scene, lines);
@@ -67,20 +68,23 @@ pub(crate) fn put_rows(alloc: Global, out: &mut Page, scene: &Scene<'_>, lines: 
 }
 
 /// The titles of the columns.
-fn put_titles(row: &mut Page, frame: Frame, scene: &Scene<'_>) {
+fn put_titles(row: &mut Page, frame: Frame, world: &World) {
     if frame.has_columns {
-        row.pad(frame.start(0));
-        row.titled("", 0, scene.world.name(0));
-        if scene.world.threads.len() > 1 {
-            row.pad(frame.start(1));
-            row.titled("", 1, scene.world.name(1));
-        }
+        put_names(row, frame, world);
     } else {
         row.pad(frame.mark(0).saturating_add(2));
         row.words("thread  operation");
     }
     row.pad(frame.choice);
     row.words("choice\n");
+}
+
+/// The threads' names, each over its column.
+fn put_names(row: &mut Page, frame: Frame, world: &World) {
+    for (thread, member) in world.threads.iter().enumerate() {
+        row.pad(frame.start(thread));
+        row.titled("", thread, member.name);
+    }
 }
 
 fn put_turns(out: &mut Page, row: &mut Page, frame: Frame, scene: &Scene<'_>, lines: &[Line]) {
@@ -152,7 +156,7 @@ fn put_same(row: &mut Page, frame: Frame, turn: &[Line], times: usize) {
     if events > 1 {
         row.put("(these $ events the same $ times more)\n", &[events, times]);
     } else {
-        row.put("(the same $ times more)\n", &[times]);
+        row.between("(the same ", times, " times more)\n");
     }
 }
 

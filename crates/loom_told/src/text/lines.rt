@@ -228,7 +228,7 @@ fn tell_read(
     put_before(&mut line.text, pending.before, " ");
     line.text.number("reads store ", store.number);
     if store.order.is_some() {
-        line.text.put(" (event $)", &[store.at.event]);
+        line.text.between(" (event ", store.at.event, ")");
     } else {
         line.text.words(" (initial)");
     }

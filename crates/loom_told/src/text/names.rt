@@ -42,10 +42,10 @@ pub(crate) fn article_of(order: Ordering) -> &'static str {
 }
 
 impl Page {
-    pub(crate) fn value(&mut self, words: &str, value: Value) {
-        let bits = value.numbers.fit(value.bits);
+    pub(crate) fn value(&mut self, words: &str, numbers: Numbers, bits: u64) {
+        let bits = numbers.fit(bits);
         self.words(words);
-        match value.numbers {
+        match numbers {
             Numbers::Bool if bits == 0 => self.words("false"),
             Numbers::Bool => self.words("true"),
             Numbers::U8 | Numbers::U16 | Numbers::U32 | Numbers::U64 => self.bits("", bits),

@@ -65,6 +65,12 @@ impl Page {
         }
     }
 
+    /// A number between words.
+    pub(crate) fn between(&mut self, words: &str, number: usize, after: &str) {
+        self.number(words, number);
+        self.words(after);
+    }
+
     pub(crate) fn number(&mut self, words: &str, number: usize) {
         self.bits(words, number as u64);
     }

@@ -266,7 +266,7 @@ fn title_of(kind: FailureKind) -> &'static str {
 /// How the run ended, a line, and why, a line each.
 pub(crate) fn put_reasons(out: &mut Page, scene: &Scene<'_>) {
     match scene.kind {
-        None => out.put("ended, after event $\n", &[scene.at.event]),
+        None => out.between("ended, after event ", scene.at.event, "\n"),
         Some(kind) => {
             out.words("failed: ");
             out.words(title_of(kind));
@@ -289,14 +289,19 @@ fn put_place(out: &mut Page, label: Option<Label>) {
 /// Why, a line each.
 fn put_reason(out: &mut Page, scene: &Scene<'_>, kind: FailureKind) {
     match kind {
-        FailureKind::Assertion => bodies::put_assertion(out, scene),
-        FailureKind::Unreachable => bodies::put_unreachable(out, scene),
+        FailureKind::Assertion => {
+            bodies::put_own(out, scene, "  an assertion of thread ", " failed");
+        }
+        FailureKind::Unreachable => {
+            let after = " came to code that is never to be reached";
+            bodies::put_own(out, scene, "  thread ", after);
+        }
         FailureKind::Deadlock => deadlock::put_deadlock(out, scene),
         FailureKind::Race => race::put_race(out, scene),
         FailureKind::OpenAccess => race::put_open_access(out, scene),
-        FailureKind::LeakArc => leaks::put_leaked_arc(out, scene),
-        FailureKind::LeakTrack => leaks::put_leaked_track(out, scene),
-        FailureKind::LeakMessages => leaks::put_leaked_messages(out, scene),
+        FailureKind::LeakArc | FailureKind::LeakTrack | FailureKind::LeakMessages => {
+            leaks::put_leak(out, scene.world, kind);
+        }
         FailureKind::TooManyThreads
         | FailureKind::TooManyBranches
         | FailureKind::TooManySteps

@@ -60,19 +60,6 @@ impl World {
         }
     }
 
-    /// The thread of this number, if there is one.
-    pub(crate) fn member(&self, thread: usize) -> Option<Member> {
-        self.threads.get(thread).copied()
-    }
-
-    /// The name of the thread of this number, if it has one.
-    pub(crate) fn name(&self, thread: usize) -> Option<Name> {
-        match self.threads.get(thread) {
-            Some(member) => member.name,
-            None => None,
-        }
-    }
-
     /// Who has the object since when, of several the last one.
     pub(crate) fn holder(&self, object: usize) -> Option<At> {
         let mut last = None;

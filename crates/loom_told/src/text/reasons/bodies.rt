@@ -2,48 +2,38 @@
 use crate::text::page::Page;
 use crate::text::reasons::{Scene, Sought};
 
-/// The body's own assertion, what it is called, and after which event the thread came to it.
-pub(crate) fn put_assertion(out: &mut Page, scene: &Scene<'_>) {
-    out.put("  an assertion of thread $ failed", &[scene.at.thread]);
-    put_last(out, scene);
-}
-
-/// Code that is never to be reached.
-pub(crate) fn put_unreachable(out: &mut Page, scene: &Scene<'_>) {
-    out.put(
-        "  thread $ came to code that is never to be reached",
-        &[scene.at.thread],
-    );
-    put_last(out, scene);
-}
-
-/// What this is called, and the last operation of the thread before, by whose reply it came here.
-fn put_last(out: &mut Page, scene: &Scene<'_>) {
+/// What the body says of itself, with its thread between words, what this is called, and the last operation of the thread
+/// before, by whose reply it came here.
+pub(crate) fn put_own(out: &mut Page, scene: &Scene<'_>, words: &str, after: &str) {
+    out.between(words, scene.at.thread, after);
     out.called(scene.label);
     match scene.earlier(Sought::Any(scene.at.thread)) {
-        Some(number) => out.put(
-            "\n  it came there by the reply to its operation at event $\n",
-            &[number],
+        Some(number) => out.between(
+            "\n  it came there by the reply to its operation at event ",
+            number,
+            "\n",
         ),
         None => out.words("\n  it is the thread's first operation\n"),
     }
 }
 
 pub(crate) fn put_fence(out: &mut Page, scene: &Scene<'_>) {
-    out.put(
-        "  thread $ makes a fence with Relaxed, which orders nothing\n  a fence is Acquire, Release, AcqRel or SeqCst\n",
-        &[scene.at.thread],
+    out.between(
+        "  thread ",
+        scene.at.thread,
+        " makes a fence with Relaxed, which orders nothing\n  a fence is Acquire, Release, AcqRel or SeqCst\n",
     );
 }
 
 /// Since when exploring is what it is switched to.
 pub(crate) fn put_switch(out: &mut Page, scene: &Scene<'_>) {
-    out.put(
-        "  thread $ switches exploring to what it is already, since ",
-        &[scene.at.thread],
+    out.between(
+        "  thread ",
+        scene.at.thread,
+        " switches exploring to what it is already, since ",
     );
     match scene.earlier(Sought::Explore) {
-        Some(number) => out.put("event $\n", &[number]),
+        Some(number) => out.between("event ", number, "\n"),
         None => out.words("the run's beginning (`expect_explicit_explore`)\n"),
     }
 }

@@ -61,7 +61,7 @@ fn put_holder(out: &mut Page, world: &World, thread: usize, object: Option<usize
     };
     match holder {
         Some(hold) if hold.thread == thread => {
-            out.put("; it holds it itself since event $\n", &[hold.event]);
+            out.between("; it holds it itself since event ", hold.event, "\n");
         }
         Some(hold) => out.put(
             "; thread $ holds it since event $\n",

@@ -37,8 +37,8 @@ pub(crate) fn put_limit(out: &mut Page, scene: &Scene<'_>, kind: FailureKind) {
 fn put_target(out: &mut Page, scene: &Scene<'_>) {
     if let Some(Request::Atomic(op)) = scene.request {
         if let Some(number) = op.atomic() {
-            out.put("  thread $ is at ", &[scene.at.thread]);
-            out.thing("", scene.world.thing(number));
+            out.number("  thread ", scene.at.thread);
+            out.thing(" is at ", scene.world.thing(number));
             out.words("\n");
         }
     }

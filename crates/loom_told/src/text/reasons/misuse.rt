@@ -63,7 +63,7 @@ fn put_kind(out: &mut Page, thing: Thing, kind: Kind) {
 /// An object that is of the right kind: whether it was taken apart, who has it, and what is asked.
 fn put_state(out: &mut Page, form: &Form, apart: Option<usize>, holder: Option<At>) {
     if let Some(event) = apart {
-        out.put(", which was taken apart at event $\n", &[event]);
+        out.between(", which was taken apart at event ", event, "\n");
         return;
     }
     put_asked(out, form);

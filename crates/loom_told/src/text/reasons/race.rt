@@ -136,7 +136,7 @@ fn cell_verb(op: &CellOp<()>) -> &'static str {
 
 /// The thread by whose operation the run failed, and what it does.
 fn put_verb(out: &mut Page, scene: &Scene<'_>) {
-    out.put("  thread $ ", &[scene.at.thread]);
+    out.between("  thread ", scene.at.thread, " ");
     out.words(verb_of(scene.request));
 }
 
@@ -154,9 +154,9 @@ pub(crate) fn put_race(out: &mut Page, scene: &Scene<'_>) {
     match scene.other {
         Some(access) => {
             out.thing(" ", scene.world.thing(access.object));
-            out.put(" and doesn't know of thread $'s ", &[access.at.thread]);
+            out.between(" and doesn't know of thread ", access.at.thread, "'s ");
             out.words(access.manner.noun());
-            out.put(" of it (event $)\n", &[access.at.event]);
+            out.between(" of it (event ", access.at.event, ")\n");
             put_missing(out, scene.world, scene.at.thread, access);
         }
         None => {
@@ -182,10 +182,10 @@ fn put_missing(out: &mut Page, world: &World, thread: usize, access: Access) {
 fn put_others(out: &mut Page, scene: &Scene<'_>) {
     for other in 0..MAX_THREADS {
         if let Some(access) = last_of(scene, other) {
-            out.put("    thread $'s ", &[other]);
+            out.between("    thread ", other, "'s ");
             out.words(access.manner.noun());
             out.thing(" of ", scene.world.thing(access.object));
-            out.put(" (event $)\n", &[access.at.event]);
+            out.between(" (event ", access.at.event, ")\n");
         }
     }
 }
