@@ -2,10 +2,9 @@
 use crate::dependence::Action;
 use crate::halt::Told;
 use crate::machine::Machine;
-use crate::memory::push;
 use crate::numbers::{cast, changed};
-use crate::state::{Access, Becoming, Kind, Object, Step, Store, Update};
-use crate::stores::{Reader, are_orders_equal, is_seen, kept, readable, seen_orders, store_in};
+use crate::state::{Access, Becoming, Kind, Step, Store, Update};
+use crate::stores::{KEPT, Reader, are_orders_equal, is_seen, kept, readable, store_in};
 use loom_objects::choice::Choice;
 use loom_objects::operation::{AtomicOp, Reply};
 use loom_views::rt::failure::FailureKind;
@@ -43,16 +42,6 @@ fn failing(order: Ordering) -> Ordering {
     }
 }
 
-// A load or a read-modify-write that isn't told as an exchange.
-fn update_of(becoming: Becoming, success: Ordering, failure: Ordering) -> Update {
-    Update {
-        becoming,
-        success,
-        failure,
-        is_exchange: false,
-    }
-}
-
 // What is stored, if anything, where this number was read.
 fn becomes(numbers: Numbers, becoming: Becoming, read: u64) -> Option<u64> {
     match becoming {
@@ -62,63 +51,80 @@ fn becomes(numbers: Numbers, becoming: Becoming, read: u64) -> Option<u64> {
     }
 }
 
-// The stores of the atomic of this number.
-fn stores_of(objects: &Vec<Object>, number: usize) -> &[Store] {
-    match objects.get(number) {
-        Some(object) => object.stores.as_slice(),
-        None => &[],
-    }
-}
-
 impl Machine {
     /// An operation of an atomic is handed over.
     pub fn atomic_begins(&mut self, op: AtomicOp) -> Told {
         match op {
             AtomicOp::New(numbers, value) => self.atomic_new(numbers, value),
             AtomicOp::Load(number, order) => {
-                let update = update_of(Becoming::Same, order, order);
-                self.comes_to(number, Kind::Atomic, Action::Read, Step::Update(update))
+                self.update_begins(number, Becoming::Same, order, order, false)
             }
             AtomicOp::Store(number, value, order) => {
-                self.comes_to(
-                    number,
-                    Kind::Atomic,
-                    Action::Change,
-                    Step::Store(value, order),
-                )
+                let step = Step::Store(value, order);
+                self.comes_to(number, Kind::Atomic, Action::Change, step)
             }
             AtomicOp::Update(number, change, order) => {
-                let update = update_of(Becoming::Changed(change), order, order);
-                self.comes_to(number, Kind::Atomic, Action::Change, Step::Update(update))
+                self.update_begins(number, Becoming::Changed(change), order, order, false)
             }
             AtomicOp::CompareExchange(number, exchange) => {
                 let becoming = Becoming::Exchanged(exchange.expected, exchange.new);
-                let mut update = update_of(becoming, exchange.success, exchange.failure);
-                update.is_exchange = true;
-                self.comes_to(number, Kind::Atomic, Action::Change, Step::Update(update))
+                self.update_begins(number, becoming, exchange.success, exchange.failure, true)
             }
             AtomicOp::CompareAndSwap(number, expected, new, order) => {
-                let update = update_of(Becoming::Exchanged(expected, new), order, failing(order));
-                self.comes_to(number, Kind::Atomic, Action::Change, Step::Update(update))
+                let becoming = Becoming::Exchanged(expected, new);
+                self.update_begins(number, becoming, order, failing(order), false)
             }
-            AtomicOp::UnsyncLoad(number) => self.tells_newest(number, Access::UnsyncLoad, true),
-            AtomicOp::IntoInner(number) => self.tells_newest(number, Access::UnsyncLoad, false),
-            AtomicOp::WithMut(number) => self.tells_newest(number, Access::Mutation, true),
+            AtomicOp::UnsyncLoad(number) => {
+                self.tells_newest(number, Access::UnsyncLoad, None, true)
+            }
+            AtomicOp::IntoInner(number) => {
+                self.tells_newest(number, Access::UnsyncLoad, None, false)
+            }
+            AtomicOp::WithMut(number) => {
+                let active = self.active;
+                self.tells_newest(number, Access::Mutation, Some(active), true)
+            }
             AtomicOp::WithMutEnd(number, value) => self.with_mut_end(number, value),
         }
     }
 
-    // An access that doesn't synchronize, of which the value of the newest store is told. A mutation stays open. Whether the
-    // atomic may be used afterwards.
-    fn tells_newest(&mut self, number: usize, access: Access, is_whole: bool) -> Told {
-        let active = self.active;
+    // A load or a read-modify-write is handed over.
+    fn update_begins(
+        &mut self,
+        number: usize,
+        becoming: Becoming,
+        success: Ordering,
+        failure: Ordering,
+        is_exchange: bool,
+    ) -> Told {
+        let (action, load) = match becoming {
+            Becoming::Same => (Action::Read, Some(failure)),
+            Becoming::Changed(_) | Becoming::Exchanged(..) => (Action::Change, None),
+        };
+        let step = Step::Update(Update {
+            becoming,
+            success,
+            failure,
+            load,
+            is_exchange,
+        });
+        self.comes_to(number, Kind::Atomic, action, step)
+    }
+
+    // An access that doesn't synchronize, of which the value of the newest store is told. Which thread has the atomic open
+    // afterwards, and whether it may be used.
+    fn tells_newest(
+        &mut self,
+        number: usize,
+        access: Access,
+        holder: Option<u8>,
+        is_whole: bool,
+    ) -> Told {
         self.object(number, Kind::Atomic);
         self.meets(number, access);
         let atomic = self.at(number);
+        atomic.holder = holder;
         atomic.is_whole = is_whole;
-        if access == Access::Mutation {
-            atomic.holder = Some(active);
-        }
         match atomic.stores.last() {
             Some(store) => Some(Reply::Value(store.value)),
             None => {
@@ -147,7 +153,7 @@ impl Machine {
         if let Some(newest) = atomic.stores.last_mut() {
             newest.value = value;
         }
-        self.require(is_open);
+        self.check(is_open, FailureKind::Misuse);
         self.meets(number, Access::Mutation);
         Some(Reply::Done)
     }
@@ -165,7 +171,7 @@ impl Machine {
     pub fn updates(&mut self, number: usize, update: Update) -> Told {
         self.raise();
         let numbers = self.object(number, Kind::Atomic).numbers;
-        let slot = self.chooses_slot(number, update);
+        let slot = self.chooses_slot(number, update.load);
         self.meets(number, Access::Load);
         let Read { value, sync } = self.reads_store(number, slot);
         let new = becomes(numbers, update.becoming, value);
@@ -173,8 +179,7 @@ impl Machine {
             Some(new) => {
                 self.meets(number, Access::Store);
                 self.acquires_by(sync, update.success);
-                let start = self.point(&[sync], None);
-                self.makes_store(number, new, update.success, start);
+                self.makes_store(number, new, update.success, sync);
             }
             None => self.acquires_by(sync, update.failure),
         }
@@ -189,11 +194,7 @@ impl Machine {
     }
 
     // Which store is read is chosen, by its slot.
-    fn chooses_slot(&mut self, number: usize, update: Update) -> u8 {
-        let load = match update.becoming {
-            Becoming::Same => Some(update.failure),
-            Becoming::Changed(_) | Becoming::Exchanged(..) => None,
-        };
+    fn chooses_slot(&mut self, number: usize, load: Option<Ordering>) -> u8 {
         let thread = self.active;
         let me = self.me();
         let reader = Reader {
@@ -202,11 +203,11 @@ impl Machine {
             yielded: me.yielded,
             load,
         };
-        let stores = stores_of(&self.objects, number);
+        let stores = self.read(number).stores.as_slice();
         let options = readable(&self.graph, reader, stores);
         let are_equal = are_orders_equal(&self.graph, reader, stores);
         self.check(!are_equal, FailureKind::OrdersEqual);
-        match self.choose(options, None) {
+        match self.choose(options, false) {
             Some(Choice::Load(slot)) => slot,
             Some(Choice::Thread(_) | Choice::Spurious(_)) | None => {
                 self.expect(false);
@@ -219,13 +220,12 @@ impl Machine {
     fn reads_store(&mut self, number: usize, slot: u8) -> Read {
         let me = self.me();
         let (present, raised) = (me.present, me.raised);
-        let stores = stores_of(&self.objects, number);
+        let stores = self.read(number).stores.as_slice();
         let Some(read) = store_in(stores, usize::from(slot)).copied() else {
             self.expect(false);
             return Read { value: 0, sync: 0 };
         };
-        let orders = seen_orders(&self.graph, stores, read.order, present);
-        let order = self.point(&orders, None);
+        let order = self.seen_order(number, read.order, present);
         let active = self.active;
         if let Some(store) = self.at(number).stores.get_mut(read.number) {
             store.order = order;
@@ -240,25 +240,41 @@ impl Machine {
     // A store more. Its order comes after the active thread's present point and the orders of all kept stores that are seen.
     // The point that is acquired with it comes after this one.
     fn makes_store(&mut self, number: usize, value: u64, order: Ordering, start: usize) {
-        let value = cast(self.at(number).numbers, value);
         let me = self.me();
         let (present, raised) = (me.present, me.raised);
-        let stores = stores_of(&self.objects, number);
-        let place = stores.len();
-        let orders = seen_orders(&self.graph, stores, present, present);
+        let atomic = self.at(number);
+        let (place, value) = (atomic.stores.len(), cast(atomic.numbers, value));
         self.check(place < 65_535, FailureKind::TooManyStores);
         let mut store = Store {
             number: place,
             value,
-            order: self.point(&orders, None),
+            order: self.seen_order(number, present, present),
             sync: self.released_by(start, order),
-            is_seq_cst: order == Ordering::SeqCst,
+            is_seq_cst: matches!(order, Ordering::SeqCst),
             touches: [None; 5],
         };
         store.touched(self.active, raised);
-        if let Some(atomic) = self.objects.get_mut(number) {
-            push(&mut atomic.stores, store, &mut self.halt);
+        let has_grown = self.at(number).stores.push(store).is_ok();
+        self.grows(has_grown);
+    }
+
+    // The kept store at this place, if it is seen from the point.
+    fn seen_store(&self, number: usize, place: usize, point: usize) -> Option<Store> {
+        match kept(self.read(number).stores.as_slice()).get(place) {
+            Some(store) if is_seen(&self.graph, store, point) => Some(*store),
+            Some(_) | None => None,
         }
+    }
+
+    // A point after this one and the orders of all kept stores that are seen from the other point.
+    fn seen_order(&mut self, number: usize, here: usize, point: usize) -> usize {
+        let mut order = here;
+        for place in 0..KEPT {
+            if let Some(store) = self.seen_store(number, place, point) {
+                order = self.point(order, store.order);
+            }
+        }
+        order
     }
 
     // The active thread acquires from the point, by some orderings.
@@ -271,30 +287,31 @@ impl Machine {
     // The point after this one by which a store passes on what the last release fence left, and by some orderings what the
     // active thread has seen.
     fn released_by(&mut self, point: usize, order: Ordering) -> usize {
-        if releases(order) {
-            self.released_to(point)
+        let me = self.me();
+        let passed = if releases(order) {
+            me.present
         } else {
-            let released = self.me().released;
-            self.point(&[point, released], None)
-        }
+            me.released
+        };
+        self.point(point, passed)
     }
 
     /// A fence.
     pub fn fence(&mut self, order: Ordering) -> Told {
-        self.check(order != Ordering::Relaxed, FailureKind::RelaxedFence);
+        let is_relaxed = matches!(order, Ordering::Relaxed);
+        self.check(!is_relaxed, FailureKind::RelaxedFence);
         self.raise();
         if acquires(order) {
             self.acquire_fence();
         }
         if releases(order) {
-            let released = self.me().released;
-            let released = self.released_to(released);
-            self.me().released = released;
+            let me = self.me();
+            me.released = me.present;
         }
-        if order == Ordering::SeqCst {
+        if matches!(order, Ordering::SeqCst) {
             let global = self.rest.global;
             self.acquire(global);
-            self.rest.global = self.present();
+            self.rest.global = self.me().present;
         }
         Some(Reply::Done)
     }
@@ -308,13 +325,10 @@ impl Machine {
 
     // Through the atomic's kept stores, from the oldest: the active thread acquires from each that it sees by then.
     fn acquire_seen(&mut self, number: usize) {
-        for place in 0..7usize {
-            let present = self.present();
-            if let Some(store) = kept(stores_of(&self.objects, number)).get(place)
-                && is_seen(&self.graph, store, present)
-            {
-                let sync = store.sync;
-                self.acquire(sync);
+        for place in 0..KEPT {
+            let present = self.me().present;
+            if let Some(store) = self.seen_store(number, place, present) {
+                self.acquire(store.sync);
             }
         }
     }

@@ -1,8 +1,6 @@
 //! Cells, and what they share with atomics: accesses that must not meet.
-use crate::graph::Graph;
 use crate::halt::Told;
 use crate::machine::Machine;
-use crate::memory::push;
 use crate::state::{Access, Accessed, Kind, Object};
 use loom_objects::operation::{CellOp, Reply};
 use loom_scripts::number::Number;
@@ -11,27 +9,17 @@ use loom_views::rt::failure::FailureKind;
 // Whether an access of this kind conflicts with an earlier one of that kind.
 fn conflicts(access: Access, earlier: Access) -> bool {
     match access {
-        Access::Load => earlier == Access::Mutation,
-        Access::Store => earlier == Access::Mutation || earlier == Access::UnsyncLoad,
-        Access::UnsyncLoad => earlier == Access::Mutation || earlier == Access::Store,
+        Access::Load => matches!(earlier, Access::Mutation),
+        Access::Store => matches!(earlier, Access::Mutation | Access::UnsyncLoad),
+        Access::UnsyncLoad => matches!(earlier, Access::Mutation | Access::Store),
         Access::Mutation => true,
     }
 }
 
 impl Object {
-    // Whether a thread has it open, so that this access can't be made.
-    fn is_open(&self, access: Access) -> bool {
-        self.holder.is_some() || (access == Access::Mutation && self.readers != [0; 5])
-    }
-
-    // Whether an earlier access that conflicts with this one is outside of the view of the point.
-    fn is_race(&self, access: Access, graph: &Graph, point: usize) -> bool {
-        for earlier in &self.accesses {
-            if conflicts(access, earlier.access) && !graph.is_inside(earlier.point, point) {
-                return true;
-            }
-        }
-        false
+    /// Whether a thread has it open, so that another one can't have it, to read or alone.
+    pub fn is_open(&self, is_alone: bool) -> bool {
+        self.holder.is_some() || (is_alone && self.readers != [0; 5])
     }
 
     /// The thread opens a read more.
@@ -55,17 +43,23 @@ impl Object {
 }
 
 impl Machine {
+    // Whether an earlier access to the object that conflicts with this one is outside of the view of the point.
+    fn is_race(&self, number: usize, access: Access, point: usize) -> bool {
+        for earlier in &self.read(number).accesses {
+            if conflicts(access, earlier.access) && !self.graph.is_inside(earlier.point, point) {
+                return true;
+            }
+        }
+        false
+    }
+
     /// An access of this kind: nobody has the object open, and no earlier access that it conflicts with is outside of the
     /// active thread's view.
     pub fn meets(&mut self, number: usize, access: Access) {
-        let present = self.present();
-        let (is_open, is_race) = match self.objects.get(number) {
-            Some(object) => (
-                object.is_open(access),
-                object.is_race(access, &self.graph, present),
-            ),
-            None => (false, false),
-        };
+        let is_alone = matches!(access, Access::Mutation);
+        let present = self.me().present;
+        let is_open = self.at(number).is_open(is_alone);
+        let is_race = self.is_race(number, access, present);
         self.check(!is_open, FailureKind::OpenAccess);
         self.check(!is_race, FailureKind::Race);
         self.keeps_access(number, access);
@@ -73,14 +67,13 @@ impl Machine {
 
     /// The active thread has made an access of this kind.
     pub fn keeps_access(&mut self, number: usize, access: Access) {
-        let point = self.present();
-        if let Some(object) = self.objects.get_mut(number) {
-            push(
-                &mut object.accesses,
-                Accessed { access, point },
-                &mut self.halt,
-            );
-        }
+        let point = self.me().present;
+        let has_grown = self
+            .at(number)
+            .accesses
+            .push(Accessed { access, point })
+            .is_ok();
+        self.grows(has_grown);
     }
 
     /// An operation of a cell.
@@ -124,7 +117,7 @@ impl Machine {
     // The cell is taken apart, unless a thread has it open.
     fn cell_into_inner(&mut self, number: usize) -> Told {
         let cell = self.object(number, Kind::Cell);
-        let (is_open, value) = (cell.is_open(Access::Mutation), cell.value);
+        let (is_open, value) = (cell.is_open(true), cell.value);
         cell.is_whole = false;
         self.check(!is_open, FailureKind::OpenAccess);
         Some(Reply::Data(self.required(value)))
@@ -137,7 +130,7 @@ impl Machine {
         let is_reading = cell.closes(active);
         cell.opens(active);
         let value = cell.value;
-        self.require(is_reading);
+        self.check(is_reading, FailureKind::Misuse);
         Some(Reply::Data(self.required(value)))
     }
 
@@ -155,7 +148,7 @@ impl Machine {
     fn cell_read_end(&mut self, number: usize) {
         let active = self.active;
         let is_reading = self.object(number, Kind::Cell).closes(active);
-        self.require(is_reading);
+        self.check(is_reading, FailureKind::Misuse);
         self.meets(number, Access::Load);
     }
 
@@ -178,7 +171,7 @@ impl Machine {
         let is_writing = cell.holder == Some(active);
         cell.holder = None;
         cell.value = Some(value);
-        self.require(is_writing);
+        self.check(is_writing, FailureKind::Misuse);
         self.meets(number, Access::Mutation);
     }
 

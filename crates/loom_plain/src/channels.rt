@@ -2,10 +2,10 @@
 use crate::dependence::Action;
 use crate::halt::Told;
 use crate::machine::Machine;
-use crate::memory::push_back;
 use crate::state::{Kind, Message, Object, Receiving, State, Step};
 use loom_objects::operation::{ChannelOp, Reply};
 use loom_scripts::number::Number;
+use loom_views::rt::failure::FailureKind;
 use std::collections::LinkedList;
 use std::mem;
 
@@ -20,14 +20,14 @@ impl Machine {
     // The channel of this number, of which a sender is left.
     fn sender_of(&mut self, number: usize) -> &mut Object {
         let is_left = self.object(number, Kind::Channel).count > 0;
-        self.require(is_left);
+        self.check(is_left, FailureKind::Misuse);
         self.at(number)
     }
 
     // The channel of this number, whose receiver is left.
     fn receiver_of(&mut self, number: usize) -> &mut Object {
         let is_left = self.object(number, Kind::Channel).has_receiver;
-        self.require(is_left);
+        self.check(is_left, FailureKind::Misuse);
         self.at(number)
     }
 
@@ -95,7 +95,7 @@ impl Machine {
         self.releases_to(number);
         let channel = self.at(number);
         let point = channel.point;
-        let has_grown = push_back(&mut channel.messages, Message { value, point });
+        let has_grown = channel.messages.push_back(Message { value, point }).is_ok();
         self.grows(has_grown);
         if is_first {
             self.set_pending(number, None, State::Runnable);
@@ -124,7 +124,7 @@ impl Machine {
         match receiving {
             Receiving::Recv | Receiving::TryRecv => Some(Reply::Data(message.value)),
             Receiving::Drain => {
-                let has_grown = push_back(&mut self.me().taken, message.value);
+                let has_grown = self.me().taken.push_back(message.value).is_ok();
                 self.grows(has_grown);
                 self.drains(number)
             }

@@ -40,8 +40,10 @@ pub struct Made {
     pub choice: Choice,
     /// All that could be chosen.
     pub options: Options,
-    /// Where a thread was chosen: of each thread whether it could neither go on nor yielded.
-    pub disabled: Option<[bool; 5]>,
+    /// Whether a thread was chosen.
+    pub is_schedule: bool,
+    /// Of each thread whether it could neither go on nor yielded.
+    pub disabled: [bool; 5],
     /// Whether another option may be tried.
     pub is_exploring: bool,
     pub past: Past,
@@ -54,7 +56,7 @@ impl Made {
     // where it passes over the default, which is the thread that was chosen before, or there was no schedule before.
     fn and_past(&self, place: usize) -> Past {
         let mut past = self.past;
-        if self.disabled.is_none() {
+        if !self.is_schedule {
             return past;
         }
         let default = default_of(&self.options);
@@ -75,7 +77,7 @@ impl Made {
 
 impl Machine {
     /// Makes the choice that is given here, or else the default. Nothing is chosen once the run has halted.
-    pub fn choose(&mut self, options: Options, disabled: Option<[bool; 5]>) -> Option<Choice> {
+    pub fn choose(&mut self, options: Options, is_schedule: bool) -> Option<Choice> {
         let rest = &*self.rest;
         let (place, most) = (rest.run.made.len(), rest.settings.max_branches);
         let choice = rest.given.get(place).copied();
@@ -86,26 +88,22 @@ impl Machine {
             return None;
         }
         if let Some(choice) = choice {
-            self.keeps_choice(place, choice, options, disabled);
+            self.keeps_choice(place, choice, options, is_schedule);
         }
         choice
     }
 
     // The choice is made at this place.
-    fn keeps_choice(
-        &mut self,
-        place: usize,
-        choice: Choice,
-        options: Options,
-        disabled: Option<[bool; 5]>,
-    ) {
-        if disabled.is_some() {
+    fn keeps_choice(&mut self, place: usize, choice: Choice, options: Options, is_schedule: bool) {
+        if is_schedule {
             self.finds_reversals();
         }
+        let disabled = self.disabled();
         let rest = &mut *self.rest;
         let made = Made {
             choice,
             options,
+            is_schedule,
             disabled,
             is_exploring: rest.is_exploring,
             past: rest.past,
@@ -118,8 +116,8 @@ impl Machine {
 
     /// Whether other options are tried changes, unless that is settled.
     pub fn switches(&mut self, op: ExploreOp) -> Told {
-        let explores = op == ExploreOp::Explore;
-        let settles = op == ExploreOp::SkipBranch;
+        let explores = matches!(op, ExploreOp::Explore);
+        let settles = matches!(op, ExploreOp::SkipBranch);
         let rest = &mut *self.rest;
         if !rest.is_settled {
             let changes = rest.is_exploring != explores;

@@ -2,10 +2,10 @@
 use crate::dependence::Action;
 use crate::halt::Told;
 use crate::machine::Machine;
-use crate::memory::push_back;
 use crate::state::{Claim, Kind, State, Step};
 use loom_objects::operation::{CondvarOp, Reply};
 use loom_scripts::number::Number;
+use loom_views::rt::failure::FailureKind;
 
 impl Machine {
     /// An operation of a condition variable is handed over.
@@ -18,32 +18,26 @@ impl Machine {
             CondvarOp::WaitTimeout(number, mutex, value) => {
                 self.wait_on_begins(number, mutex, Step::Sleep(mutex, value, Claim::Relock))
             }
-            CondvarOp::NotifyOne(number) => self.comes_to(
-                number,
-                Kind::Condvar,
-                Action::Other,
-                Step::NotifyOne,
-            ),
-            CondvarOp::NotifyAll(number) => self.comes_to(
-                number,
-                Kind::Condvar,
-                Action::Other,
-                Step::NotifyAll,
-            ),
+            CondvarOp::NotifyOne(number) => {
+                self.comes_to(number, Kind::Condvar, Action::Other, Step::WakeUp(1))
+            }
+            CondvarOp::NotifyAll(number) => {
+                self.comes_to(number, Kind::Condvar, Action::Other, Step::WakeUp(5))
+            }
         }
     }
 
     fn wait_on_begins(&mut self, number: usize, mutex: usize, step: Step) -> Told {
         let active = self.active;
         let is_held = self.object(mutex, Kind::Mutex).holder == Some(active);
-        self.require(is_held);
+        self.check(is_held, FailureKind::Misuse);
         self.comes_to(number, Kind::Condvar, Action::Other, step)
     }
 
     /// The active thread is the last waiter, and releases the mutex.
     pub fn sleeps(&mut self, number: usize, mutex: usize, value: Number, claim: Claim) -> Told {
         let active = self.active;
-        let has_grown = push_back(&mut self.at(number).waiters, active);
+        let has_grown = self.at(number).waiters.push_back(active).is_ok();
         self.grows(has_grown);
         self.unlocks(mutex, Kind::Mutex, value);
         self.steps_back(State::Sleeping, mutex, Step::Awake(claim))

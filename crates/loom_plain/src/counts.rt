@@ -5,6 +5,7 @@ use crate::machine::Machine;
 use crate::state::{Counting, Kind, Step};
 use loom_objects::operation::{ArcOp, Reply, TrackOp};
 use loom_scripts::number::Number;
+use loom_views::rt::failure::FailureKind;
 
 impl Machine {
     /// An operation of a counted reference is handed over.
@@ -26,7 +27,7 @@ impl Machine {
     fn tells_shared(&mut self, number: usize) -> Told {
         let arc = self.object(number, Kind::Arc);
         let (is_out, value) = (arc.lent.is_some(), arc.value);
-        self.require(!is_out);
+        self.check(!is_out, FailureKind::Misuse);
         Some(Reply::Data(self.required(value)))
     }
 
@@ -34,7 +35,7 @@ impl Machine {
     pub fn counts(&mut self, number: usize, counting: Counting) -> Told {
         let arc = self.object(number, Kind::Arc);
         let (is_out, count) = (arc.lent.is_some(), arc.count);
-        self.require(!is_out);
+        self.check(!is_out, FailureKind::Misuse);
         match counting {
             Counting::Clone => {
                 self.at(number).count = count.saturating_add(1);
@@ -59,7 +60,7 @@ impl Machine {
                 }
             }
             Counting::Unwrap => {
-                self.require(count == 1);
+                self.check(count == 1, FailureKind::Misuse);
                 self.drops_arc(number)
             }
             Counting::StrongCount => {

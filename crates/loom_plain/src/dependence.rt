@@ -42,12 +42,12 @@ pub struct Access {
 // Whether an access depends on such an earlier one to the same object.
 fn depends(action: Action, earlier: Action) -> bool {
     match action {
-        Action::Read => earlier == Action::Change,
-        Action::Increment => earlier == Action::Inspect,
-        Action::Decrement => earlier == Action::Decrement,
-        Action::Inspect => earlier == Action::Increment || earlier == Action::Decrement,
-        Action::Send => earlier == Action::Send,
-        Action::Receive => earlier == Action::Receive,
+        Action::Read => matches!(earlier, Action::Change),
+        Action::Increment => matches!(earlier, Action::Inspect),
+        Action::Decrement => matches!(earlier, Action::Decrement),
+        Action::Inspect => matches!(earlier, Action::Increment | Action::Decrement),
+        Action::Send => matches!(earlier, Action::Send),
+        Action::Receive => matches!(earlier, Action::Receive),
         Action::Change | Action::Write | Action::Wait | Action::Other => true,
     }
 }
@@ -103,7 +103,7 @@ impl Machine {
             None => own,
         };
         let rest = &mut *self.rest;
-        let point = rest.order.add(&[own, before], None, &mut self.halt);
+        let point = rest.order.add(own, before, &mut self.halt);
         let access = Access {
             object,
             action,

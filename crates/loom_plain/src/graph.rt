@@ -3,19 +3,14 @@ use crate::halt::Halt;
 use crate::memory::push;
 use std::alloc::Global;
 
-#[derive(Drop)]
-struct Point {
-    // For each point up to this one, whether it reaches this one.
-    reached: Vec<bool>,
-    // The thread whose version it raises.
-    raises: Option<u8>,
-}
-
 /// All points of a run. A point is named by its place.
 #[derive(Drop)]
 pub struct Graph {
     alloc: Global,
-    points: Vec<Point>,
+    // For each point, of each point up to it whether that reaches it.
+    points: Vec<Vec<bool>>,
+    /// The points that raise versions.
+    pub raising: Vec<usize>,
 }
 
 impl Graph {
@@ -24,62 +19,38 @@ impl Graph {
         Graph {
             alloc,
             points: Vec::new(alloc),
+            raising: Vec::new(alloc),
         }
     }
 
-    /// A point after these, which raises the thread, if there is one. What reaches one of these reaches it. Where memory is
-    /// refused, the run can't be made.
-    pub fn add(&mut self, after: &[usize], raises: Option<u8>, halt: &mut Option<Halt>) -> usize {
+    /// A point after these two. What reaches one of them reaches it. Where memory is refused, the run can't be made.
+    pub fn add(&mut self, one: usize, other: usize, halt: &mut Option<Halt>) -> usize {
         let place = self.points.len();
-        let Ok(mut reached) = vec![in self.alloc; false; place] else {
-            *halt = Some(Halt::Memory);
-            return place;
-        };
-        for before in after {
-            if let Some(before) = self.points.get(*before) {
-                mark_all(&mut reached, &before.reached);
-            }
+        let mut reached = Vec::new(self.alloc);
+        for before in 0..place {
+            let is_before = self.reaches(before, one) || self.reaches(before, other);
+            push(&mut reached, is_before, halt);
         }
         push(&mut reached, true, halt);
-        push(&mut self.points, Point { reached, raises }, halt);
+        push(&mut self.points, reached, halt);
         place
     }
 
     /// Whether the one point reaches the other, or is it.
     pub fn reaches(&self, one: usize, other: usize) -> bool {
         match self.points.get(other) {
-            Some(point) => point.reached.get(one).copied().unwrap_or(false),
+            Some(reached) => reached.get(one).copied().unwrap_or(false),
             None => false,
         }
     }
 
     /// Whether the view of the one point is inside that of the other: each raising point that reaches the one reaches the other.
     pub fn is_inside(&self, one: usize, other: usize) -> bool {
-        for (place, each) in self.points.iter().enumerate() {
-            if each.raises.is_some() && self.reaches(place, one) && !self.reaches(place, other) {
+        for point in &self.raising {
+            if self.reaches(*point, one) && !self.reaches(*point, other) {
                 return false;
             }
         }
         true
-    }
-
-    /// How many points of the thread reach this one.
-    pub fn versions(&self, point: usize, thread: u8) -> usize {
-        let mut count = 0usize;
-        for (place, each) in self.points.iter().enumerate() {
-            if each.raises == Some(thread) && self.reaches(place, point) {
-                count = count.saturating_add(1);
-            }
-        }
-        count
-    }
-}
-
-// Marks each place that is marked in the other list.
-fn mark_all(marks: &mut Vec<bool>, others: &Vec<bool>) {
-    for (place, other) in others.iter().enumerate() {
-        if *other && let Some(mark) = marks.get_mut(place) {
-            *mark = true;
-        }
     }
 }

@@ -3,7 +3,7 @@ use loom_objects::operation::Reply;
 use loom_scripts::number::Number;
 
 /// Why no runs are found.
-#[derive(Clone, Copy, Debug)]
+#[derive(Clone, Copy)]
 pub enum Halt {
     /// A growth was refused.
     Memory,

@@ -2,9 +2,10 @@
 use crate::dependence::Action;
 use crate::halt::Told;
 use crate::machine::Machine;
-use crate::state::{Claim, Kind, Object, State, Step};
+use crate::state::{Claim, Kind, State, Step};
 use loom_objects::operation::{MutexOp, Reply, RwLockOp};
 use loom_scripts::number::Number;
+use loom_views::rt::failure::FailureKind;
 
 impl Claim {
     // Whether who takes the lock so reads.
@@ -31,13 +32,6 @@ impl Claim {
                 Action::Other
             }
         }
-    }
-}
-
-impl Object {
-    // Whether a thread that takes the lock so can't have it now.
-    fn refuses(&self, claim: Claim) -> bool {
-        self.holder.is_some() || (!claim.is_read() && self.readers != [0; 5])
     }
 }
 
@@ -79,7 +73,7 @@ impl Machine {
 
     /// The active thread comes to take the lock. A call that waits is blocked while the lock refuses it.
     pub fn claim_begins(&mut self, number: usize, kind: Kind, claim: Claim) -> Told {
-        let is_refused = self.object(number, kind).refuses(claim);
+        let is_refused = self.object(number, kind).is_open(!claim.is_read());
         let is_blocked = is_refused && !claim.is_try();
         self.pends(number, claim.action(), Step::Claim(claim), is_blocked)
     }
@@ -88,8 +82,8 @@ impl Machine {
     pub fn claims(&mut self, number: usize, claim: Claim) -> Told {
         let lock = self.at(number);
         let is_usable = lock.is_whole && lock.lent.is_none();
-        let is_refused = lock.refuses(claim);
-        self.require(is_usable);
+        let is_refused = lock.is_open(!claim.is_read());
+        self.check(is_usable, FailureKind::Misuse);
         if is_refused {
             self.expect(claim.is_try());
             return Some(Reply::WouldBlock);
@@ -131,7 +125,7 @@ impl Machine {
         let lock = self.object(number, Kind::RwLock);
         let is_reading = lock.closes(active);
         let is_free = lock.readers == [0; 5];
-        self.require(is_reading);
+        self.check(is_reading, FailureKind::Misuse);
         self.releases_to(number);
         if is_free {
             self.set_pending(number, None, State::Runnable);
@@ -145,7 +139,7 @@ impl Machine {
         let lock = self.object(number, kind);
         let is_held = lock.holder == Some(active);
         lock.value = Some(value);
-        self.require(is_held);
+        self.check(is_held, FailureKind::Misuse);
         self.frees(number);
     }
 }

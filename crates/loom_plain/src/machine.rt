@@ -3,6 +3,7 @@ use crate::choices::Past;
 use crate::dependence::{Access, Action};
 use crate::graph::Graph;
 use crate::halt::{Halt, Told};
+use crate::memory::push;
 use crate::run::{PlainRun, Settings};
 use crate::state::{Object, Pending, State, Step, Thread};
 use loom_objects::choice::Choice;
@@ -74,11 +75,6 @@ impl Machine {
         }
     }
 
-    /// The body misuses an object or a thread, unless the test holds.
-    pub fn require(&mut self, test: bool) {
-        self.check(test, FailureKind::Misuse);
-    }
-
     /// The plain program is wrong, unless the test holds or the run has halted already.
     pub fn expect(&mut self, test: bool) {
         if !test && !self.has_halted() {
@@ -95,16 +91,15 @@ impl Machine {
 
     /// The value, or a misuse of what has to hold it.
     pub fn required(&mut self, value: Option<Number>) -> Number {
-        self.require(value.is_some());
+        self.check(value.is_some(), FailureKind::Misuse);
         value.unwrap_or(Number(0))
     }
 
     /// The thread of this number, or who stands for it.
     pub fn thread(&mut self, number: u8) -> &mut Thread {
-        match self.threads.get_mut(usize::from(number)) {
-            Some(thread) => thread,
-            None => &mut self.rest.nobody,
-        }
+        self.threads
+            .get_mut(usize::from(number))
+            .unwrap_or(&mut self.rest.nobody)
     }
 
     /// The thread whose turn it is.
@@ -113,48 +108,47 @@ impl Machine {
         self.thread(active)
     }
 
-    /// The point that the active thread is at.
-    pub fn present(&mut self) -> usize {
-        self.me().present
+    /// A point after these two.
+    pub fn point(&mut self, one: usize, other: usize) -> usize {
+        self.graph.add(one, other, &mut self.halt)
     }
 
-    /// A point after these, which raises the thread, if there is one.
-    pub fn point(&mut self, after: &[usize], raises: Option<u8>) -> usize {
-        self.graph.add(after, raises, &mut self.halt)
+    /// A point after this one, which raises a thread's version.
+    pub fn raising_point(&mut self, before: usize) -> usize {
+        let point = self.point(before, before);
+        push(&mut self.graph.raising, point, &mut self.halt);
+        point
     }
 
     /// The active thread raises its version.
     pub fn raise(&mut self) {
-        let active = self.active;
-        let present = self.present();
-        let versions = self.graph.versions(present, active);
-        self.check(versions < 65_534, FailureKind::TooManyVersions);
-        let point = self.point(&[present], Some(active));
+        let me = self.me();
+        let (present, versions) = (me.present, me.versions);
+        me.versions = versions.saturating_add(1);
+        let point = self.raising_point(present);
         let me = self.me();
         me.present = point;
         me.raised = point;
+        self.check(versions < 65_534, FailureKind::TooManyVersions);
     }
 
     /// The active thread acquires from the point.
     pub fn acquire(&mut self, point: usize) {
-        let present = self.present();
-        let point = self.point(&[present, point], None);
-        self.me().present = point;
+        let present = self.me().present;
+        self.me().present = self.point(present, point);
     }
 
-    /// The point after this one by which the active thread passes on what its last release fence left, and what it has seen.
+    /// The point after this one by which the active thread passes on what it has seen. What its last release fence left is of that.
     pub fn released_to(&mut self, point: usize) -> usize {
-        let me = self.me();
-        let (present, released) = (me.present, me.released);
-        self.point(&[point, released, present], None)
+        let present = self.me().present;
+        self.point(point, present)
     }
 
     /// The thread takes in what the active one has seen.
     pub fn tell(&mut self, number: u8) {
-        let present = self.present();
+        let present = self.me().present;
         let before = self.thread(number).present;
-        let point = self.point(&[before, present], None);
-        self.thread(number).present = point;
+        self.thread(number).present = self.point(before, present);
     }
 
     /// The active thread comes to a branch point, where it is to do this to the object.

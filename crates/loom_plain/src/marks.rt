@@ -7,17 +7,9 @@ use loom_objects::choice::Choice;
 use std::alloc::Global;
 
 impl Made {
-    // Whether the thread of this number was disabled where a thread was chosen here.
-    fn has_disabled(&self, number: usize) -> bool {
-        match &self.disabled {
-            Some(disabled) => disabled.get(number).copied().unwrap_or(false),
-            None => false,
-        }
-    }
-
     // The thread of this number is marked, or each option but the default where it was disabled.
     fn mark(&mut self, number: usize) {
-        if self.has_disabled(number) {
+        if self.disabled.get(number).copied().unwrap_or(false) {
             self.marks = [false, true, true, true, true, true, true];
         } else if let Some(mark) = self.marks.get_mut(number.saturating_add(1)) {
             *mark = true;
@@ -82,7 +74,7 @@ fn tries_each(settings: Settings, here: &Made) -> bool {
         Some(bound) => here.past.preemptions < bound,
         None => true,
     };
-    here.disabled.is_none() || (is_below && !settings.reduce)
+    !here.is_schedule || (is_below && !settings.reduce)
 }
 
 // Adds the choices before this place, and the option.

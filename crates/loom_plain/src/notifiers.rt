@@ -29,30 +29,36 @@ impl Machine {
         self.check(!is_second, FailureKind::SecondWaiter);
         if !has_woken && self.wakes_early() {
             self.at(number).has_woken = true;
-            self.yields(number, Step::Rouse)
+            self.yields(number, Step::Await(false))
         } else {
-            self.pends(number, Action::Wait, Step::Await, !is_notified)
+            self.pends(number, Action::Wait, Step::Await(true), !is_notified)
         }
     }
 
     // Whether the thread wakes without a notification is chosen.
     fn wakes_early(&mut self) -> bool {
-        let mut options = [None; 7];
-        options[0] = Some(Choice::Spurious(false));
-        options[1] = Some(Choice::Spurious(true));
-        self.choose(options, None) == Some(Choice::Spurious(true))
+        let options = [
+            Some(Choice::Spurious(false)),
+            Some(Choice::Spurious(true)),
+            None,
+            None,
+            None,
+            None,
+            None,
+        ];
+        match self.choose(options, false) {
+            Some(Choice::Spurious(wakes)) => wakes,
+            Some(Choice::Thread(_) | Choice::Load(_)) | None => false,
+        }
     }
 
-    /// The active thread has woken without a notification, and is told so.
-    pub fn rouses(&mut self, number: usize) -> Told {
+    /// The active thread has woken, by a notification or without one, and is told so.
+    pub fn awaits(&mut self, number: usize, is_notified: bool) -> Told {
         self.at(number).holder = None;
+        if is_notified {
+            self.acquires_notice(number);
+        }
         Some(Reply::Done)
-    }
-
-    /// The active thread was notified, and is told so.
-    pub fn awaits(&mut self, number: usize) -> Told {
-        self.acquires_notice(number);
-        self.rouses(number)
     }
 
     /// The active thread acquires from the notifier, which isn't notified any more.
@@ -76,10 +82,10 @@ impl Machine {
     // A thread that is about to wait on the notifier takes in what the active one has seen, and goes on.
     fn tells_waiter(&mut self, number: u8, notifier: usize) {
         let pending = self.thread(number).pending;
-        if pending.number == notifier && pending.action == Some(Action::Wait) {
+        if pending.number == notifier && matches!(pending.action, Some(Action::Wait)) {
             self.tell(number);
             let thread = self.thread(number);
-            if thread.state == State::Blocked {
+            if matches!(thread.state, State::Blocked) {
                 thread.state = State::Runnable;
             }
         }

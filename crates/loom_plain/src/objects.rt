@@ -46,24 +46,28 @@ impl Machine {
 
     /// The object of this number, or what stands for it.
     pub fn at(&mut self, number: usize) -> &mut Object {
-        match self.objects.get_mut(number) {
-            Some(object) => object,
-            None => &mut self.rest.nothing,
-        }
+        self.objects
+            .get_mut(number)
+            .unwrap_or(&mut self.rest.nothing)
+    }
+
+    /// The same, to be read.
+    pub fn read(&self, number: usize) -> &Object {
+        self.objects.get(number).unwrap_or(&self.rest.nothing)
     }
 
     /// The object of this number, which is whole and of this kind.
     pub fn object(&mut self, number: usize, kind: Kind) -> &mut Object {
         let object = self.at(number);
         let is_usable = object.is_whole && object.kind == kind;
-        self.require(is_usable);
+        self.check(is_usable, FailureKind::Misuse);
         self.at(number)
     }
 
     /// One object more, which has the next number. Where memory is refused the run can't be made.
     pub fn makes(&mut self, kind: Kind, value: Option<Number>) -> usize {
         let number = self.objects.len();
-        let object = Object::new(self.alloc, kind, value, 0);
+        let object = Object::new(self.alloc, kind, value);
         push(&mut self.objects, object, &mut self.halt);
         number
     }
@@ -106,12 +110,12 @@ impl Machine {
     pub fn lends(&mut self, number: usize, kind: Kind, is_whole: bool) -> Told {
         let active = self.active;
         let object = self.object(number, kind);
-        let is_free = object.holder.is_none() && object.lent.is_none() && object.readers == [0; 5];
+        let is_free = object.lent.is_none() && !object.is_open(true);
         let value = object.value;
         object.value = None;
         object.lent = Some(active);
         object.is_whole = is_whole;
-        self.require(is_free);
+        self.check(is_free, FailureKind::Misuse);
         Some(Reply::Data(self.required(value)))
     }
 
@@ -122,7 +126,7 @@ impl Machine {
         let is_out = object.lent == Some(active);
         object.lent = None;
         object.value = Some(value);
-        self.require(is_out);
+        self.check(is_out, FailureKind::Misuse);
         Some(Reply::Done)
     }
 

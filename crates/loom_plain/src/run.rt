@@ -101,8 +101,8 @@ fn no_run(alloc: Global) -> PlainRun {
 // What is needed beside threads and objects, where these choices are given.
 fn rest_of(alloc: Global, settings: Settings, given: Vec<Choice>) -> Rest {
     Rest {
-        nobody: Thread::new(alloc, State::Ended, 0, 0, 0),
-        nothing: Object::new(alloc, Kind::Nothing, None, 0),
+        nobody: Thread::new(alloc, State::Ended, 0),
+        nothing: Object::new(alloc, Kind::Nothing, None),
         order: Graph::new(alloc),
         accesses: Vec::new(alloc),
         lazies: Sequence::new(alloc),
@@ -178,9 +178,9 @@ fn step<B: Body<Data = Number>>(
 impl Machine {
     // Main is the first thread, about to hand over its first operation.
     fn starts_main(&mut self) {
-        let first = self.point(&[], None);
-        let last = self.rest.order.add(&[], None, &mut self.halt);
-        let main = Thread::new(self.alloc, State::Runnable, first, first, last);
+        self.graph.add(0, 0, &mut self.halt);
+        self.rest.order.add(0, 0, &mut self.halt);
+        let main = Thread::new(self.alloc, State::Runnable, 0);
         push(&mut self.threads, main, &mut self.halt);
     }
 
@@ -255,16 +255,13 @@ impl Machine {
             Step::Claim(claim) => self.claims(number, claim),
             Step::Sleep(mutex, value, claim) => self.sleeps(number, mutex, value, claim),
             Step::Awake(claim) => self.claim_begins(number, Kind::Mutex, claim),
-            Step::NotifyOne => self.wakes_up(number, 1),
-            Step::NotifyAll => self.wakes_up(number, 5),
+            Step::WakeUp(most) => self.wakes_up(number, most),
             Step::Notify => {
                 self.notifies(number);
                 Some(Reply::Done)
             }
-            Step::Await => self.awaits(number),
-            Step::Rouse => self.rouses(number),
+            Step::Await(is_notified) => self.awaits(number, is_notified),
             Step::Join(thread) => self.joins(number, thread),
-            Step::Finish(value) => self.finishes(number, value),
             Step::Send(value) => self.sends(number, value),
             Step::Receive(receiving) => self.receives(number, receiving),
             Step::Wake(waker, after) => self.wakes_by(number, waker, after),
@@ -278,16 +275,8 @@ impl Machine {
     // A thread is chosen, or none. The chosen one makes an access where it is pending on an object.
     fn schedule(&mut self) -> bool {
         let options = self.thread_options();
-        let disabled = [
-            self.lateness(0) == u64::MAX,
-            self.lateness(1) == u64::MAX,
-            self.lateness(2) == u64::MAX,
-            self.lateness(3) == u64::MAX,
-            self.lateness(4) == u64::MAX,
-        ];
         let place = self.rest.run.made.len();
-        let chosen = self.choose(options, Some(disabled));
-        let Some(Choice::Thread(Some(chosen))) = chosen else {
+        let Some(Choice::Thread(Some(chosen))) = self.choose(options, true) else {
             return false;
         };
         self.active = chosen;
@@ -296,11 +285,22 @@ impl Machine {
         for number in 0..5u8 {
             let is_other = number != self.active;
             let thread = self.thread(number);
-            if is_other && thread.state == State::Yielding {
+            if is_other && matches!(thread.state, State::Yielding) {
                 thread.state = State::Runnable;
             }
         }
         true
+    }
+
+    /// Of each thread whether it could neither go on nor yielded.
+    pub fn disabled(&mut self) -> [bool; 5] {
+        [
+            self.lateness(0) == u64::MAX,
+            self.lateness(1) == u64::MAX,
+            self.lateness(2) == u64::MAX,
+            self.lateness(3) == u64::MAX,
+            self.lateness(4) == u64::MAX,
+        ]
     }
 
     // The default, and each other thread that is runnable.
@@ -310,7 +310,7 @@ impl Machine {
         options[0] = Some(Choice::Thread(default));
         for number in 0..5u8 {
             if default != Some(number)
-                && self.thread(number).state == State::Runnable
+                && matches!(self.thread(number).state, State::Runnable)
                 && let Some(option) = options.get_mut(usize::from(number).saturating_add(1))
             {
                 *option = Some(Choice::Thread(Some(number)));
@@ -346,25 +346,27 @@ impl Machine {
         first
     }
 
-    // The run is over, and gives its choices away. It fails where some thread hasn't ended or some object is left, unless it has
-    // failed already.
-    fn comes_to_end(&mut self) -> Result<PlainRun, Halt> {
+    // How the run ends. It fails where some thread hasn't ended or some object is left, unless it has failed already.
+    fn ending(&mut self) -> Ending {
         let has_ended = self.rest.ended == self.threads.len();
         self.check(has_ended, FailureKind::Deadlock);
         let leak = self.leak();
         self.failure = self.failure.or(leak);
         let value = self.thread(0).value;
         self.expect(value.is_some());
+        match self.failure {
+            Some(kind) => Ending::Failed(kind),
+            None => Ending::Ended(value.unwrap_or(Number(0))),
+        }
+    }
+
+    // The run is over, and gives its choices away.
+    fn comes_to_end(&mut self) -> Result<PlainRun, Halt> {
+        self.rest.run.ending = self.ending();
         if let Some(halt) = self.halt {
             return Err(halt);
         }
-        let ending = match self.failure {
-            Some(kind) => Ending::Failed(kind),
-            None => Ending::Ended(value.unwrap_or(Number(0))),
-        };
         let none = no_run(self.alloc);
-        let mut run = mem::replace(&mut self.rest.run, none);
-        run.ending = ending;
-        Ok(run)
+        Ok(mem::replace(&mut self.rest.run, none))
     }
 }

@@ -9,7 +9,7 @@ use std::collections::LinkedList;
 use std::sync::atomic::Ordering;
 
 /// What a thread waits for.
-#[derive(Clone, Copy, PartialEq, Eq)]
+#[derive(Clone, Copy)]
 pub enum State {
     Runnable,
     Blocked,
@@ -89,6 +89,8 @@ pub struct Update {
     pub success: Ordering,
     /// The ordering where nothing is.
     pub failure: Ordering,
+    /// The ordering of a load; a read-modify-write has none.
+    pub load: Option<Ordering>,
     /// Whether it is told that something was stored.
     pub is_exchange: bool,
 }
@@ -111,16 +113,14 @@ pub enum Step {
     Sleep(usize, Number, Claim),
     /// It was woken, and comes to the mutex.
     Awake(Claim),
-    NotifyOne,
-    NotifyAll,
+    /// It wakes so many threads that wait on the condition variable, as far as there are any.
+    WakeUp(u8),
+    /// It notifies the notifier, which may be its own.
     Notify,
-    Await,
-    /// It has woken from the notifier without a notification.
-    Rouse,
+    /// It has waited on the notifier. Whether it wakes by a notification.
+    Await(bool),
     /// The thread that it joins, whose notifier it is on.
     Join(u8),
-    /// It notifies its own notifier, and keeps the result.
-    Finish(Number),
     Send(Number),
     Receive(Receiving),
     /// It notifies the notifier by the waker, which it may drop then.
@@ -164,6 +164,8 @@ pub struct Thread {
     pub released: usize,
     /// The last point that raised it, or 0.
     pub raised: usize,
+    /// How many points have raised it.
+    pub versions: usize,
     /// At its last yield, the last point that had raised it, or 0.
     pub yielded: Option<usize>,
     /// How often it has yielded.
@@ -201,7 +203,7 @@ pub struct Store {
 }
 
 /// What kind of access to an atomic or a cell was made.
-#[derive(Clone, Copy, PartialEq, Eq)]
+#[derive(Clone, Copy)]
 pub enum Access {
     /// Also a read of a cell.
     Load,
@@ -286,14 +288,8 @@ pub struct Object {
 }
 
 impl Thread {
-    /// A thread in this state that is to begin at this point, and whose last access has this one.
-    pub fn new(
-        alloc: Global,
-        state: State,
-        present: usize,
-        released: usize,
-        last: usize,
-    ) -> Thread {
+    /// A thread in this state, which begins at this point, by which it was raised, unless that is 0.
+    pub fn new(alloc: Global, state: State, begins: usize) -> Thread {
         Thread {
             state,
             phase: Phase::Working,
@@ -302,9 +298,10 @@ impl Thread {
                 action: None,
                 step: Step::Start,
             },
-            present,
-            released,
-            raised: 0,
+            present: begins,
+            released: 0,
+            raised: begins,
+            versions: 0,
             yielded: None,
             yields: 0,
             has_token: false,
@@ -315,14 +312,14 @@ impl Thread {
             locals: Vec::new(alloc),
             taken: LinkedList::new(alloc),
             accesses: 0,
-            last,
+            last: 0,
         }
     }
 }
 
 impl Object {
     /// An object that nobody has used.
-    pub fn new(alloc: Global, kind: Kind, value: Option<Number>, point: usize) -> Object {
+    pub fn new(alloc: Global, kind: Kind, value: Option<Number>) -> Object {
         Object {
             kind,
             is_whole: true,
@@ -331,7 +328,7 @@ impl Object {
             lent: None,
             readers: [0; 5],
             count: 1,
-            point,
+            point: 0,
             numbers: Numbers::Bool,
             accesses: Vec::new(alloc),
             stores: Vec::new(alloc),

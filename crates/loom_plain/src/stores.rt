@@ -6,7 +6,7 @@ use loom_objects::choice::Choice;
 use std::sync::atomic::Ordering;
 
 /// How many stores of an atomic are kept: the last ones. The slot of a store is the rest of its number by that.
-const KEPT: usize = 7;
+pub const KEPT: usize = 7;
 
 /// Who looks for a store to read.
 #[derive(Clone, Copy)]
@@ -79,7 +79,9 @@ fn drops(graph: &Graph, reader: Reader, one: &Store, other: &Store) -> bool {
     }
     match reader.load {
         Some(order) => {
-            let are_seq_cst = order == Ordering::SeqCst && one.is_seq_cst && other.is_seq_cst;
+            let are_seq_cst = matches!(order, Ordering::SeqCst)
+                && one.is_seq_cst
+                && other.is_seq_cst;
             are_seq_cst || is_before_yield(reader, other) || is_seen(graph, one, reader.present)
         }
         None => true,
@@ -138,17 +140,4 @@ pub fn readable(graph: &Graph, reader: Reader, stores: &[Store]) -> Options {
         }
     }
     slots
-}
-
-/// This point, and the orders of all kept stores that are seen from the other point.
-pub fn seen_orders(graph: &Graph, stores: &[Store], here: usize, point: usize) -> [usize; 8] {
-    let mut orders = [here; 8];
-    for (place, store) in kept(stores).iter().enumerate() {
-        if is_seen(graph, store, point)
-            && let Some(order) = orders.get_mut(place)
-        {
-            *order = store.order;
-        }
-    }
-    orders
 }

@@ -38,7 +38,7 @@ impl Machine {
         let me = self.me();
         let is_from = me.phase == from;
         me.phase = to;
-        self.require(is_from);
+        self.check(is_from, FailureKind::Misuse);
     }
 
     fn spawn(&mut self, name: Option<Name>) -> Told {
@@ -50,11 +50,12 @@ impl Machine {
         };
         let me = self.me();
         let (before, last) = (me.present, me.last);
-        let begins = self.point(&[before], Some(number));
+        let begins = self.raising_point(before);
         self.raise();
         let notifier = self.makes(Kind::End, None);
-        let mut thread = Thread::new(self.alloc, State::Runnable, begins, 0, last);
-        thread.raised = begins;
+        let mut thread = Thread::new(self.alloc, State::Runnable, begins);
+        thread.versions = 1;
+        thread.last = last;
         thread.notifier = Some(notifier);
         thread.name = name;
         push(&mut self.threads, thread, &mut self.halt);
@@ -65,7 +66,7 @@ impl Machine {
         let thread = self.thread(number);
         let may_join = thread.notifier == Some(notifier) && !thread.is_joined;
         thread.is_joined = true;
-        self.require(may_join);
+        self.check(may_join, FailureKind::Misuse);
         let is_notified = self.at(notifier).is_notified;
         self.pends(notifier, Action::Wait, Step::Join(number), !is_notified)
     }
@@ -88,7 +89,7 @@ impl Machine {
 
     fn unpark(&mut self, number: u8) -> Told {
         let is_there = usize::from(number) < self.threads.len();
-        self.require(is_there);
+        self.check(is_there, FailureKind::Misuse);
         if number != self.active {
             self.tell(number);
         }
@@ -114,19 +115,10 @@ impl Machine {
     fn finish_begins(&mut self, value: Number) -> Told {
         self.moves_on(Phase::Working, Phase::Finished);
         let me = self.me();
+        me.value = Some(value);
         match me.notifier {
-            None => {
-                me.value = Some(value);
-                self.takes_lazies()
-            }
-            Some(notifier) => self.pends(notifier, Action::Other, Step::Finish(value), false),
+            None => self.takes_lazies(),
+            Some(notifier) => self.pends(notifier, Action::Other, Step::Notify, false),
         }
-    }
-
-    /// The active thread, which isn't main, finishes.
-    pub fn finishes(&mut self, notifier: usize, value: Number) -> Told {
-        self.me().value = Some(value);
-        self.notifies(notifier);
-        Some(Reply::Done)
     }
 }

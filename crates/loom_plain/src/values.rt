@@ -93,7 +93,7 @@ impl Machine {
 
     /// An operation of values that are made once in a run.
     pub fn lazy_begins(&mut self, op: LazyOp<Number>) -> Told {
-        let is_open = self.thread(0).phase == Phase::Working;
+        let is_open = matches!(self.thread(0).phase, Phase::Working);
         self.check(is_open, FailureKind::LazyShutdown);
         match op {
             LazyOp::Get(key) => match self.lazy(key) {

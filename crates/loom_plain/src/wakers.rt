@@ -5,6 +5,7 @@ use crate::machine::Machine;
 use crate::state::{AfterDrop, Kind, Step};
 use loom_objects::operation::{AtomicWakerOp, Reply, WakerOp};
 use loom_scripts::number::Number;
+use loom_views::rt::failure::FailureKind;
 
 // What is told of a waker that was taken out of its place.
 fn waker_reply(waker: Option<usize>) -> Reply<Number> {
@@ -15,11 +16,6 @@ fn waker_reply(waker: Option<usize>) -> Reply<Number> {
 }
 
 impl Machine {
-    // The notifier of these wakers, of which some are left.
-    fn notifier_of(&mut self, number: usize) -> usize {
-        self.object(number, Kind::Wakers).notifier
-    }
-
     /// An operation of a future's notifier or of its wakers is handed over.
     pub fn waker_begins(&mut self, op: WakerOp) -> Told {
         match op {
@@ -31,7 +27,7 @@ impl Machine {
                 Some(Reply::BlockOn(number))
             }
             WakerOp::Wait(number) => {
-                let notifier = self.notifier_of(number);
+                let notifier = self.object(number, Kind::Wakers).notifier;
                 self.wait_begins(notifier)
             }
             WakerOp::Clone(number) => {
@@ -47,23 +43,18 @@ impl Machine {
         }
     }
 
-    // The active thread comes to drop the waker.
-    fn drop_begins(&mut self, number: usize, after: AfterDrop) -> Told {
-        self.pends(number, Action::Decrement, Step::DropWaker(after), false)
-    }
-
     // The active thread comes to wake by the waker.
     fn wake_begins(&mut self, number: usize, after: Option<AfterDrop>) -> Told {
-        let notifier = self.notifier_of(number);
+        let notifier = self.object(number, Kind::Wakers).notifier;
         self.pends(notifier, Action::Other, Step::Wake(number, after), false)
     }
 
     /// The active thread wakes by the waker, and may come to drop that.
     pub fn wakes_by(&mut self, notifier: usize, number: usize, after: Option<AfterDrop>) -> Told {
-        self.notifier_of(number);
+        self.object(number, Kind::Wakers);
         self.notifies(notifier);
         match after {
-            Some(after) => self.drop_begins(number, after),
+            Some(after) => self.pends(number, Action::Decrement, Step::DropWaker(after), false),
             None => Some(Reply::Done),
         }
     }
@@ -80,12 +71,15 @@ impl Machine {
 
     /// One waker fewer; who drops the last one acquires.
     pub fn drops_waker(&mut self, number: usize, after: AfterDrop) -> Told {
-        self.notifier_of(number);
+        self.object(number, Kind::Wakers);
         self.drops_one(number);
         match after {
             AfterDrop::Nothing => Some(Reply::Done),
             AfterDrop::Yield => self.yields(0, Step::Continue),
-            AfterDrop::Free(place) => self.tells_free(place),
+            AfterDrop::Free(place) => {
+                self.frees(place);
+                Some(Reply::Done)
+            }
         }
     }
 
@@ -94,7 +88,7 @@ impl Machine {
         match op {
             AtomicWakerOp::New => Some(Reply::AtomicWaker(self.makes(Kind::Place, None))),
             AtomicWakerOp::Register(number, waker) => {
-                self.notifier_of(waker);
+                self.object(waker, Kind::Wakers);
                 self.comes_to(number, Kind::Place, Action::Other, Step::Register(waker))
             }
             AtomicWakerOp::RegisterByRef(number, waker) => {
@@ -121,27 +115,27 @@ impl Machine {
         let place = self.at(number);
         let (old, is_held) = (place.waker, place.holder.is_some());
         place.waker = waker;
-        self.require(!is_held);
+        self.check(!is_held, FailureKind::Misuse);
         self.holds(number);
         old
-    }
-
-    // The active thread holds the place no more, and is told so.
-    fn tells_free(&mut self, number: usize) -> Told {
-        self.frees(number);
-        Some(Reply::Done)
     }
 
     /// The waker takes the place, and an old one is dropped while the place is held; where another thread holds it, the waker
     /// wakes and is dropped, and the active thread yields.
     pub fn registers(&mut self, number: usize, waker: usize) -> Told {
-        self.notifier_of(waker);
+        self.object(waker, Kind::Wakers);
         if self.at(number).holder.is_some() {
             return self.wake_begins(waker, Some(AfterDrop::Yield));
         }
         match self.holds_place(number, Some(waker)) {
-            Some(old) => self.drop_begins(old, AfterDrop::Free(number)),
-            None => self.tells_free(number),
+            Some(old) => {
+                let step = Step::DropWaker(AfterDrop::Free(number));
+                self.pends(old, Action::Decrement, step, false)
+            }
+            None => {
+                self.frees(number);
+                Some(Reply::Done)
+            }
         }
     }
 
