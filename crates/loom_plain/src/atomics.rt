@@ -3,7 +3,7 @@ use crate::dependence::Action;
 use crate::halt::Told;
 use crate::machine::Machine;
 use crate::numbers::{cast, changed};
-use crate::state::{Access, Becoming, Kind, Step, Store, Update};
+use crate::state::{Access, Becoming, Kind, Object, Step, Store, Update};
 use crate::stores::{KEPT, Reader, are_orders_equal, is_seen, kept, readable, store_in};
 use loom_objects::choice::Choice;
 use loom_objects::operation::{AtomicOp, Reply};
@@ -48,6 +48,19 @@ fn becomes(numbers: Numbers, becoming: Becoming, read: u64) -> Option<u64> {
         Becoming::Changed(change) => Some(changed(numbers, change, read)),
         Becoming::Exchanged(expected, new) if cast(numbers, expected) == read => Some(new),
         Becoming::Same | Becoming::Exchanged(..) => None,
+    }
+}
+
+impl Object {
+    // The thread's mutation is closed, and leaves this value in the newest store. Whether the thread had one open.
+    fn leaves(&mut self, thread: u8, value: u64) -> bool {
+        let is_open = self.holder == Some(thread);
+        self.holder = None;
+        let value = cast(self.numbers, value);
+        if let Some(newest) = self.stores.last_mut() {
+            newest.value = value;
+        }
+        is_open
     }
 }
 
@@ -146,13 +159,7 @@ impl Machine {
     // The mutation of the active thread ends: it is closed, the newest store has the value, and the tests are made again.
     fn with_mut_end(&mut self, number: usize, value: u64) -> Told {
         let active = self.active;
-        let atomic = self.object(number, Kind::Atomic);
-        let is_open = atomic.holder == Some(active);
-        atomic.holder = None;
-        let value = cast(atomic.numbers, value);
-        if let Some(newest) = atomic.stores.last_mut() {
-            newest.value = value;
-        }
+        let is_open = self.object(number, Kind::Atomic).leaves(active, value);
         self.check(is_open, FailureKind::Misuse);
         self.meets(number, Access::Mutation);
         Some(Reply::Done)

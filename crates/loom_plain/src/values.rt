@@ -67,7 +67,7 @@ impl Machine {
         for local in self.me().locals.iter_mut() {
             if let Some(value) = local.value.take() {
                 let key = local.key;
-                has_grown = has_grown && given.push(Keyed { key, value }).is_ok();
+                has_grown &= given.push(Keyed { key, value }).is_ok();
             }
         }
         self.grows(has_grown);
