@@ -8,7 +8,7 @@ use loom_scripts::number::Number;
 use std::alloc::AllocError;
 
 /// What the thread is about to be told.
-#[derive(Clone, Copy, Debug)]
+#[derive(Clone, Copy)]
 pub enum Awaits {
     /// That it starts.
     Main,
@@ -31,7 +31,7 @@ pub enum Awaits {
 /// A thread that updates its atomic twice by a function, which gives the other number after the one, and nothing after any
 /// other. It asserts that the first update is Ok of the one, and the second Err of the other, and finishes with what it
 /// loads then.
-#[derive(Clone, Copy, Debug)]
+#[derive(Clone, Copy)]
 pub struct Updater {
     /// What the atomic holds at first.
     pub one: u64,
