@@ -84,18 +84,25 @@ fn run_task<R: AllocGlobal + Files, O: Write, E: Write>(
     out: &mut O,
     err: &mut E,
 ) -> io::Result<u8> {
+    if let [option, choices, name] = words
+        && *option == "--replay"
+    {
+        return run_replay(rt, choices, explains, name, out, err);
+    }
+    match task_of(words, explains) {
+        Some((task, name, file)) => run_named_task(rt, task, explains, name, file, out, err),
+        None => refuse(err),
+    }
+}
+
+// What these words ask for, beside a run by given choices: what is done, with which row, and with which checkpoint file. Whether
+// an explanation is asked for too.
+fn task_of<'a>(words: &[&'a str], explains: bool) -> Option<(Task<'a>, &'a str, Option<&'a str>)> {
     match words {
-        [option, name] if *option == "--rising" => {
-            run_named_task(rt, Task::Rise, explains, name, None, out, err)
-        }
-        [option, choices, name] if *option == "--replay" => {
-            run_replay(rt, choices, explains, name, out, err)
-        }
-        [name] if explains => run_named_task(rt, Task::Check, true, name, None, out, err),
-        [name, file] if explains => {
-            run_named_task(rt, Task::Check, true, name, Some(file), out, err)
-        }
-        _ => refuse(err),
+        [option, name] if *option == "--rising" => Some((Task::Rise, *name, None)),
+        [name] if explains => Some((Task::Check, *name, None)),
+        [name, file] if explains => Some((Task::Check, *name, Some(*file))),
+        _ => None,
     }
 }
 
