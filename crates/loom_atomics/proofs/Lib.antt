@@ -1,1 +1,2 @@
 mod Accessing
+mod Slots

@@ -5,7 +5,7 @@ ghost use Rattle.loom_objects.specs.Scene.{Does, DoesAt, DoesIfOk, HasSlot, Keep
 ghost use Rattle.loom_views.specs.Table.{Points, ShowsViews};
 
 pub use loom_effect_parts::atomics::fence;
-use loom_effect_parts::atomics::{exchange, load, reader_of};
+use loom_effect_parts::atomics::{end_exchange, load, reader_of};
 use loom_objects::operation::{AtomicOp, Exchange, Reply};
 use loom_objects::rt::run::{Entry, Loading, Resumed};
 use loom_objects::rt::scene::Scene;
@@ -252,4 +252,25 @@ fn update<D: Drop>(
     let value = numbers.fit(change.apply(numbers, read));
     scene.update_write(number, slot, value, order)?;
     Ok(Reply::Value(read))
+}
+
+/// A compare-exchange of the store in the slot: Ok of the value that was read where it was the expected one, and else Err
+/// of it.
+fn exchange<D: Drop>(
+    scene: &mut Scene<D>,
+    number: usize,
+    exchange: Exchange,
+    slot: usize,
+) -> Result<Result<u64, u64>, FailureKind>
+    ensures { DoesAt (AtomicOp.CompareExchange number exchange) slot (rules.exchanges number exchange slot) scene.old result scene.new }
+{
+    let numbers = scene.atomic(number)?.numbers;
+    let read = scene.update_read(number, slot)?;
+    if read != numbers.fit(exchange.expected) {
+        end_exchange(scene, number, slot, exchange);
+        return Ok(Err(read));
+    }
+    let new = numbers.fit(exchange.new);
+    scene.update_write(number, slot, new, exchange.success)?;
+    Ok(Ok(read))
 }

@@ -5,7 +5,7 @@ ghost use Rattle.loom_objects.specs.Cells as rules;
 ghost use Rattle.loom_objects.specs.Scene.{Does, DoesIfOk};
 
 use crate::memory::memory_outside;
-use loom_effect_parts::cells::cell_read_end;
+use loom_effect_parts::cells::keep_reads;
 use loom_objects::data::Data;
 use loom_objects::operation::{CellOp, Reply};
 use loom_objects::rt::run::{Entry, copied};
@@ -250,4 +250,22 @@ fn cell_swap<D: Drop>(
     open_write(scene, number)?;
     open_write(scene, other)?;
     exchange_cells(scene, number, other)
+}
+
+/// A read of the thread ends.
+fn cell_read_end<D: Drop>(scene: &mut Scene<D>, number: usize) -> Result<Entry<D>, FailureKind>
+    ensures { Does (rules.cell_read_end number) scene.old result scene.new }
+{
+    let reader = scene.active();
+    let cell = scene.cell(number)?;
+    let count = cell.reads_open(reader);
+    if count == 0 {
+        return Err(FailureKind::Misuse);
+    }
+    if cell.content.lent.is_some() {
+        return Err(FailureKind::OpenAccess);
+    }
+    scene.read_cell(number)?;
+    keep_reads(scene, number, reader, count - 1)?;
+    Ok(Entry::Answered(Reply::Done))
 }

@@ -4,11 +4,11 @@ ghost use Rattle.loom_objects.specs.Counts as rules;
 ghost use Rattle.loom_objects.specs.Scene.{Does, DoesIfOk};
 
 use crate::memory::memory_outside;
-pub use loom_effect_parts::counts::try_unwrap;
+use loom_effect_parts::counts::pend_unwrap;
 use loom_objects::data::Data;
-use loom_objects::operation::{ArcOp, Reply};
+use loom_objects::operation::{ArcOp, Reply, Turn};
 use loom_objects::rt::object::Object;
-use loom_objects::rt::run::{Entry, copied};
+use loom_objects::rt::run::{Entry, Passed, copied};
 use loom_objects::rt::scene::Scene;
 use loom_objects::rt::sync::{Arc, Lent};
 use loom_objects::rt::thread::{Counting, Task};
@@ -191,4 +191,20 @@ fn tell_count<D: Drop>(scene: &mut Scene<D>, number: usize) -> Result<Reply<D>, 
     let count = arc.count;
     scene.acquire(number);
     Ok(Reply::Value(count))
+}
+
+/// The thread acquires, and comes to a second branch point, if it has the one reference alone.
+pub fn try_unwrap<D: Drop>(scene: &mut Scene<D>, number: usize) -> Result<Passed<D>, FailureKind>
+    ensures { Does (rules.tries_unwrap number) scene.old result scene.new }
+{
+    let arc = scene.arc(number)?;
+    if !arc.is_free() {
+        return Err(FailureKind::Misuse);
+    }
+    let is_sole = arc.count == 1;
+    scene.acquire(number);
+    if !is_sole {
+        return Ok(Passed::Turn(Turn::Reply(scene.active(), Reply::Shared)));
+    }
+    Ok(pend_unwrap(scene, number))
 }

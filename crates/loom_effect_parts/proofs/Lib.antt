@@ -1,4 +1,3 @@
 mod Changing
 pub mod Finding
 pub mod Going
-pub mod Slots

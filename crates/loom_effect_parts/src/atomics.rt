@@ -1,7 +1,8 @@
-ghost use Rattle.std.specs.Prelude.{◌≡◌};
+ghost use Rattle.std.specs.Prelude.{◌≡◌, slice_get};
 ghost use Rattle.loom_effect_parts.specs.Readers as parts;
 ghost use Rattle.loom_objects.specs.Atomics as rules;
 ghost use Rattle.loom_objects.specs.Scene.{Does, DoesAt};
+ghost use Rattle.loom_views.specs.Table.{Points, ShowsViews, IsSlotKept, points_after_update_fail};
 
 use loom_objects::operation::{AtomicOp, Exchange, Reply};
 use loom_objects::rt::run::Entry;
@@ -59,23 +60,11 @@ pub fn load<D: Drop>(
     Ok(Reply::Value(value))
 }
 
-/// A compare-exchange of the store in the slot: Ok of the value that was read where it was the expected one, and else Err
-/// of it.
-pub fn exchange<D: Drop>(
-    scene: &mut Scene<D>,
-    number: usize,
-    exchange: Exchange,
-    slot: usize,
-) -> Result<Result<u64, u64>, FailureKind>
-    ensures { DoesAt (AtomicOp.CompareExchange number exchange) slot (rules.exchanges number exchange slot) scene.old result scene.new }
+/// The compare-exchange has read another value: it ends as a load by its failure ordering.
+pub fn end_exchange<D: Drop>(scene: &mut Scene<D>, number: usize, slot: usize, exchange: Exchange)
+    ensures views { (p : Points) → ShowsViews p scene.old.views → IsSlotKept (slice_get p.places number) slot
+        → ShowsViews (points_after_update_fail p scene.old.active number slot exchange.failure) scene.new.views }
+    ensures rest { scene.new ≡ record scene.old { views = scene.new.views } }
 {
-    let numbers = scene.atomic(number)?.numbers;
-    let read = scene.update_read(number, slot)?;
-    if read != numbers.fit(exchange.expected) {
-        scene.update_fail(number, slot, exchange.failure);
-        return Ok(Err(read));
-    }
-    let new = numbers.fit(exchange.new);
-    scene.update_write(number, slot, new, exchange.success)?;
-    Ok(Ok(read))
+    scene.update_fail(number, slot, exchange.failure);
 }

@@ -1,26 +1,22 @@
-ghost use Rattle.std.specs.Prelude.{◌≡◌};
-ghost use Rattle.loom_objects.specs.Cells as rules;
-ghost use Rattle.loom_objects.specs.Scene.{Does};
+ghost use Rattle.std.specs.Prelude.{◌≡◌, slice_set, Ok};
+ghost use Rattle.loom_objects.specs.Cells.{with_reads};
+ghost use Rattle.loom_objects.specs.Lookup.{cell_at};
 
-use loom_objects::operation::Reply;
-use loom_objects::rt::run::Entry;
+use loom_objects::rt::object::Object;
 use loom_objects::rt::scene::Scene;
+use loom_objects::rt::sync::Cell;
 use loom_views::rt::failure::FailureKind;
 
-/// A read of the thread ends.
-pub fn cell_read_end<D: Drop>(scene: &mut Scene<D>, number: usize) -> Result<Entry<D>, FailureKind>
-    ensures { Does (rules.cell_read_end number) scene.old result scene.new }
+/// The thread has so many reads of the cell open from now on. An error only where there is no such cell.
+pub fn keep_reads<D: Drop>(
+    scene: &mut Scene<D>,
+    number: usize,
+    reader: u8,
+    count: u64,
+) -> Result<(), FailureKind>
+    ensures { (cell : Cell D) → cell_at number scene.old.objects ≡ Ok cell
+        → (result ≡ Ok tt) × (scene.new ≡ record scene.old { objects = slice_set scene.old.objects number (Object.Cell (with_reads reader count cell)) }) }
 {
-    let reader = scene.active();
-    let cell = scene.cell(number)?;
-    let count = cell.reads_open(reader);
-    if count == 0 {
-        return Err(FailureKind::Misuse);
-    }
-    if cell.content.lent.is_some() {
-        return Err(FailureKind::OpenAccess);
-    }
-    scene.read_cell(number)?;
-    scene.cell_mut(number)?.set_reads(reader, count - 1);
-    Ok(Entry::Answered(Reply::Done))
+    scene.cell_mut(number)?.set_reads(reader, count);
+    Ok(())
 }

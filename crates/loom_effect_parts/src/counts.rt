@@ -1,26 +1,15 @@
-ghost use Rattle.std.specs.Prelude.{◌≡◌};
-ghost use Rattle.loom_objects.specs.Counts as rules;
-ghost use Rattle.loom_objects.specs.Scene.{Does};
+ghost use Rattle.std.specs.Prelude.{◌≡◌, false};
+ghost use Rattle.loom_objects.specs.Moves.{pending, with_thread};
 
-use loom_objects::operation::{Reply, Turn};
 use loom_objects::rt::run::Passed;
 use loom_objects::rt::scene::Scene;
 use loom_objects::rt::thread::{Counting, Task};
-use loom_views::rt::failure::FailureKind;
 
-/// The thread acquires, and comes to a second branch point, if it has the one reference alone.
-pub fn try_unwrap<D: Drop>(scene: &mut Scene<D>, number: usize) -> Result<Passed<D>, FailureKind>
-    ensures { Does (rules.tries_unwrap number) scene.old result scene.new }
+/// The active thread comes to a second branch point, at which it takes the value out.
+pub fn pend_unwrap<D: Drop>(scene: &mut Scene<D>, number: usize) -> Passed<D>
+    ensures pends { scene.new ≡ record scene.old { threads = with_thread (pending (Task.Count Counting.Unwrap number) false) scene.old.active scene.old.threads } }
+    ensures branch { result ≡ Passed.AtBranch }
 {
-    let arc = scene.arc(number)?;
-    if !arc.is_free() {
-        return Err(FailureKind::Misuse);
-    }
-    let is_sole = arc.count == 1;
-    scene.acquire(number);
-    if !is_sole {
-        return Ok(Passed::Turn(Turn::Reply(scene.active(), Reply::Shared)));
-    }
     scene.pend(Task::Count(Counting::Unwrap, number), false);
-    Ok(Passed::AtBranch)
+    Passed::AtBranch
 }

@@ -8,7 +8,6 @@ pub mod cells;
 pub mod channels;
 pub mod condvars;
 pub mod counts;
-pub mod locks;
 pub mod notifiers;
 pub mod rwlocks;
 pub mod threads;

@@ -3,8 +3,9 @@ ghost use Rattle.loom_objects.specs.Condvars as rules;
 ghost use Rattle.loom_objects.specs.Lookup.{mutex_at};
 ghost use Rattle.loom_objects.specs.Scene.{Does, DoesIfOk};
 
+use crate::locks::set_free;
 use arrayvec::ArrayVec;
-pub use loom_effect_parts::condvars::fall_asleep;
+use loom_effect_parts::condvars::sleep;
 use loom_objects::operation::{CondvarOp, Reply};
 use loom_objects::rt::object::Object;
 use loom_objects::rt::run::{Entry, Passed};
@@ -125,4 +126,24 @@ fn rouse_all<D: Drop>(scene: &mut Scene<D>, threads: &[u8])
     for i in 0..threads.len() {
         rouse(scene, threads[i]);
     }
+}
+
+/// The first stage of a wait: the active thread is the last waiter, gives the mutex free, and sleeps.
+pub fn fall_asleep<D: Drop>(
+    scene: &mut Scene<D>,
+    locking: Locking,
+    number: usize,
+    mutex: usize,
+    value: D,
+) -> Result<Passed<D>, FailureKind>
+    ensures { Does (rules.falls_asleep locking number mutex value) scene.old result scene.new }
+{
+    let active = scene.active();
+    let condvar = scene.condvar_mut(number)?;
+    if !condvar.enter(active) {
+        return Err(FailureKind::Misuse);
+    }
+    set_free(scene, mutex, value)?;
+    sleep(scene, locking, mutex);
+    Ok(Passed::AtBranch)
 }

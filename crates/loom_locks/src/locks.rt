@@ -2,7 +2,6 @@ ghost use Rattle.std.specs.Prelude.{◌≡◌, IfOk, OnErr, true};
 ghost use Rattle.loom_objects.specs.Locks as rules;
 ghost use Rattle.loom_objects.specs.Scene.{Does, DoesIfOk};
 
-use loom_effect_parts::locks::set_free;
 use loom_objects::operation::{MutexOp, Reply};
 use loom_objects::rt::object::Object;
 use loom_objects::rt::run::Entry;
@@ -99,6 +98,23 @@ pub fn try_lock<D: Drop>(scene: &mut Scene<D>, number: usize) -> Result<Reply<D>
         return Ok(Reply::WouldBlock);
     }
     lock(scene, Locking::Untimed, number)
+}
+
+/// The active thread releases, the mutex is free and has its data back, and who is pending on it is woken.
+pub fn set_free<D: Drop>(scene: &mut Scene<D>, number: usize, value: D) -> Result<(), FailureKind>
+    ensures { Does (rules.frees number value) scene.old result scene.new }
+{
+    let active = scene.active();
+    let mutex = scene.mutex_mut(number)?;
+    match mutex.holder {
+        Some(holder) if holder == active => {}
+        _ => return Err(FailureKind::Misuse),
+    }
+    mutex.holder = None;
+    mutex.content.value = Some(value);
+    scene.release(number);
+    scene.wake_pending(number);
+    Ok(())
 }
 
 fn release<D: Drop>(scene: &mut Scene<D>, number: usize, value: D) -> Result<Entry<D>, FailureKind>

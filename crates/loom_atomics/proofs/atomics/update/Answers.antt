@@ -1,7 +1,7 @@
 use Rattle.std.proofs.Common.{◌≡◌, ap, rules, Err}
 use Rattle.loom_objects.specs.Atomics.{updates}
 use Rattle.loom_objects.specs.Scene.{Stage}
-use Rattle.loom_effect_parts.proofs.Slots.{writes_on, write_fails}
+use Rattle.loom_atomics.proofs.Slots.{writes_on, write_fails}
 use Rattle.loom_atomics.proofs.atomics.update.Goals as goal
 
 pub returns : goal.returns

@@ -1,14 +1,14 @@
 use Rattle.std.proofs.Common.{◌≡◌, ap, rules, Err}
 use Rattle.loom_objects.specs.Atomics.{exchanges}
 use Rattle.loom_objects.specs.Scene.{Stage}
-use Rattle.loom_effect_parts.proofs.Slots.{writes_on, write_fails, ends_there, exchange_fails}
-use Rattle.loom_effect_parts.proofs.atomics.exchange.Goals as goal
+use Rattle.loom_atomics.proofs.Slots.{writes_on, write_fails, ends_there, exchange_fails}
+use Rattle.loom_atomics.proofs.atomics.exchange.Goals as goal
 
 pub returns-then-read-fit : goal.returns-then-read-fit
 returns-then-read-fit g c =
-    ends_there (exchanges c.args.number c.args.exchange c.args.slot) c.args.scene.now c.update_read.new.self c.update_fail.new.self c.args.number c.args.slot c.in_ok-read.read
+    ends_there (exchanges c.args.number c.args.exchange c.args.slot) c.args.scene.now c.update_read.new.self c.end_exchange.new.scene c.args.number c.args.slot c.in_ok-read.read
     (ap (λ (s : Stage g.row.D.Denot). s.active) c.in_ok-read.ensures.rest) c.in_ok-read.ensures.shown
-    c.args.exchange.failure _ c.update_fail.ensures.views (λ p left got a b. search rules)
+    c.args.exchange.failure _ c.end_exchange.ensures.views (λ p left got a b. search rules)
 
 pub returns : goal.returns
 returns g c =

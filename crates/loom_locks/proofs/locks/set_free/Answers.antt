@@ -4,7 +4,7 @@ use Rattle.loom_views.specs.Table.{points_after_release}
 use Rattle.loom_objects.specs.Locks.{frees}
 use Rattle.loom_objects.specs.Scene.{Stage}
 use Rattle.loom_objects.proofs.Showing.{gives}
-use Rattle.loom_effect_parts.proofs.locks.set_free.Goals as goal
+use Rattle.loom_locks.proofs.locks.set_free.Goals as goal
 
 pub returns : goal.returns
 returns g c =
