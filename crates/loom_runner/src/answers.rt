@@ -1,6 +1,2 @@
 //! What the replies to operations of objects hold.
-pub mod cells;
-pub mod channels;
-pub mod counts;
-pub mod locks;
-pub mod threads;
+pub use loom_answers::{cells, channels, counts, locks, threads};

@@ -1,8 +1,8 @@
 //! What the replies to operations of channels hold.
 ghost use Rattle.std.specs.Prelude.{◌≡◌};
-ghost use Rattle.loom_runner.specs.Answers.{channel_in, sent_in, received_in, drained_in, tried_receive_in};
+ghost use Rattle.loom_answers.specs.Answers.{channel_in, sent_in, received_in, drained_in, tried_receive_in};
 
-use crate::ask::Answer;
+use crate::answer::{Answer, let_go};
 use loom_objects::operation::Reply;
 use loom_ops::sync::mpsc::{Receiver, Sender};
 use std::collections::LinkedList;
@@ -40,7 +40,10 @@ impl<D: Drop> Answer<D> for (Sender, Receiver) {
     {
         match reply {
             Reply::Channel(number) => Some((Sender { number }, Receiver { number })),
-            _ => None,
+            other => {
+                let_go(other);
+                None
+            }
         }
     }
 }
@@ -54,7 +57,10 @@ impl<D: Drop> Answer<D> for Sent<D> {
         match reply {
             Reply::Done => Some(Sent(Ok(()))),
             Reply::SendError(message) => Some(Sent(Err(message))),
-            _ => None,
+            other => {
+                let_go(other);
+                None
+            }
         }
     }
 }
@@ -68,7 +74,10 @@ impl<D: Drop> Answer<D> for Received<D> {
         match reply {
             Reply::Data(message) => Some(Received(Some(message))),
             Reply::RecvError => Some(Received(None)),
-            _ => None,
+            other => {
+                let_go(other);
+                None
+            }
         }
     }
 }
@@ -83,7 +92,10 @@ impl<D: Drop> Answer<D> for TriedReceive<D> {
             Reply::Data(message) => Some(TriedReceive(Ok(message))),
             Reply::Empty => Some(TriedReceive(Err(TryRecvError::Empty))),
             Reply::Disconnected => Some(TriedReceive(Err(TryRecvError::Disconnected))),
-            _ => None,
+            other => {
+                let_go(other);
+                None
+            }
         }
     }
 }
@@ -96,7 +108,10 @@ impl<D: Drop> Answer<D> for Drained<D> {
     {
         match reply {
             Reply::Messages(messages) => Some(Drained(messages)),
-            _ => None,
+            other => {
+                let_go(other);
+                None
+            }
         }
     }
 }

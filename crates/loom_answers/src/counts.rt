@@ -1,9 +1,9 @@
 //! What the replies to operations of counted references hold.
 ghost use Rattle.std.specs.Prelude.{◌≡◌};
-ghost use Rattle.loom_runner.specs.Answers.{left_in};
+ghost use Rattle.loom_answers.specs.Answers.{left_in};
 ghost use Rattle.loom_ops.specs.Counts.{arc_handle};
 
-use crate::ask::Answer;
+use crate::answer::{Answer, let_go};
 use loom_objects::operation::Reply;
 use loom_ops::sync::Arc;
 
@@ -17,7 +17,9 @@ impl<D: Drop> Answer<D> for Arc {
     fn from_reply(reply: Reply<D>) -> Option<Arc>
         ensures { result ≡ arc_handle reply }
     {
-        Arc::from_reply(&reply)
+        let arc = Arc::from_reply(&reply);
+        let_go(reply);
+        arc
     }
 }
 
@@ -30,7 +32,10 @@ impl<D: Drop> Answer<D> for Left<D> {
         match reply {
             Reply::Data(value) => Some(Left(Some(value))),
             Reply::Done => Some(Left(None)),
-            _ => None,
+            other => {
+                let_go(other);
+                None
+            }
         }
     }
 }

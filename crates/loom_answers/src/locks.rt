@@ -3,7 +3,7 @@ ghost use Rattle.std.specs.Prelude.{◌≡◌};
 ghost use Rattle.loom_ops.specs.Condvars.{condvar_handle};
 ghost use Rattle.loom_ops.specs.RwLocks.{rwlock_handle, read_guard_taken, write_guard_taken};
 
-use crate::ask::Answer;
+use crate::answer::{Answer, let_go};
 use loom_objects::operation::Reply;
 use loom_ops::sync::{Condvar, RwLock, RwLockReadGuard, RwLockWriteGuard};
 
@@ -13,7 +13,9 @@ impl<D: Drop> Answer<D> for RwLock {
     fn from_reply(reply: Reply<D>) -> Option<RwLock>
         ensures { result ≡ rwlock_handle reply }
     {
-        RwLock::from_reply(&reply)
+        let lock = RwLock::from_reply(&reply);
+        let_go(reply);
+        lock
     }
 }
 
@@ -43,6 +45,8 @@ impl<D: Drop> Answer<D> for Condvar {
     fn from_reply(reply: Reply<D>) -> Option<Condvar>
         ensures { result ≡ condvar_handle reply }
     {
-        Condvar::from_reply(&reply)
+        let condvar = Condvar::from_reply(&reply);
+        let_go(reply);
+        condvar
     }
 }

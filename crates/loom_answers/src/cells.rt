@@ -1,9 +1,9 @@
 //! What the replies to operations of cells hold.
 ghost use Rattle.std.specs.Prelude.{◌≡◌};
-ghost use Rattle.loom_runner.specs.Answers.{given_in};
+ghost use Rattle.loom_answers.specs.Answers.{given_in};
 ghost use Rattle.loom_ops.specs.Cells.{cell_handle, unsafe_cell_handle, reader_taken, writer_taken};
 
-use crate::ask::Answer;
+use crate::answer::{Answer, let_go};
 use loom_objects::operation::Reply;
 use loom_ops::cell::{Cell, ConstPtr, MutPtr, UnsafeCell};
 
@@ -17,7 +17,9 @@ impl<D: Drop> Answer<D> for UnsafeCell {
     fn from_reply(reply: Reply<D>) -> Option<UnsafeCell>
         ensures { result ≡ unsafe_cell_handle reply }
     {
-        UnsafeCell::from_reply(&reply)
+        let cell = UnsafeCell::from_reply(&reply);
+        let_go(reply);
+        cell
     }
 }
 
@@ -47,7 +49,9 @@ impl<D: Drop> Answer<D> for Cell {
     fn from_reply(reply: Reply<D>) -> Option<Cell>
         ensures { result ≡ cell_handle reply }
     {
-        Cell::from_reply(&reply)
+        let cell = Cell::from_reply(&reply);
+        let_go(reply);
+        cell
     }
 }
 
@@ -59,7 +63,10 @@ impl<D: Drop> Answer<D> for Given<D> {
     {
         match reply {
             Reply::Data(value) => Some(Given(value)),
-            _ => None,
+            other => {
+                let_go(other);
+                None
+            }
         }
     }
 }

@@ -3,7 +3,7 @@ ghost use Rattle.std.specs.Prelude.{◌≡◌};
 ghost use Rattle.loom_ops.specs.Notifiers.{notify_handle};
 ghost use Rattle.loom_ops.specs.Threads.{thread_handle};
 
-use crate::ask::Answer;
+use crate::answer::{Answer, let_go};
 use loom_objects::operation::Reply;
 use loom_ops::sync::Notify;
 use loom_ops::thread::Thread;
@@ -14,7 +14,9 @@ impl<D: Drop> Answer<D> for Notify {
     fn from_reply(reply: Reply<D>) -> Option<Notify>
         ensures { result ≡ notify_handle reply }
     {
-        Notify::from_reply(&reply)
+        let notifier = Notify::from_reply(&reply);
+        let_go(reply);
+        notifier
     }
 }
 
@@ -24,6 +26,8 @@ impl<D: Drop> Answer<D> for Thread {
     fn from_reply(reply: Reply<D>) -> Option<Thread>
         ensures { result ≡ thread_handle reply }
     {
-        Thread::from_reply(&reply)
+        let thread = Thread::from_reply(&reply);
+        let_go(reply);
+        thread
     }
 }
