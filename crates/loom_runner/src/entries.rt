@@ -22,6 +22,9 @@ pub(crate) fn has_room<T>(list: &mut Vec<T>) -> bool
     list.reserve(1).is_ok()
 }
 
+/// Lets an operation go. It stands alone, as `let_go` for replies: what an operation holds is let go in many ways.
+pub(crate) fn let_op_go<D: Drop>(_op: Request<D, ()>) {}
+
 /// Makes room for one more, and copies the operation for it. None where a growth was refused.
 pub(crate) fn prepare<D: Exact>(
     told: &mut Vec<Entry<D>>,

@@ -4,10 +4,11 @@ ghost use Rattle.loom_objects.specs.declared.operation.Reply.TheVariants as repl
 ghost use Rattle.loom_turns.specs.Histories.{entry};
 ghost use Rattle.loom_runner.specs.Tellings.{newcomer, with_open, failing, finishing, handed, spawning, ByStop, Closes, all_answered, is_memory, Leading};
 
-use crate::entries::{has_room, note, note_spawn, prepare};
+use crate::entries::{has_room, let_op_go, note, note_spawn, prepare};
 use crate::error::RunnerError;
 use crate::job::Job;
 use crate::shared::{self, Children, Shared};
+use loom_answers::answer::let_go;
 use loom_copies::exact::Exact;
 use loom_objects::operation::{Reply, Request, ThreadOp};
 use loom_ops::thread::JoinHandle;
@@ -85,9 +86,11 @@ impl<D: Exact + 'static, R: Wait> Handle<D, R> {
         ensures stopped { IfErr result (λ stop. ByStop stop (self.new.told ≡ with_open self.old.told op) (self.new.starved ≡ true)) }
     {
         if let Some(stop) = self.stop {
+            let_op_go(op);
             return Err(stop);
         }
         let Some(kept) = prepare(&mut self.told, &op) else {
+            let_op_go(op);
             return Err(self.give_up(Stop::Memory));
         };
         let answer = shared::hand_over(&self.rt, &self.shared, self.thread, op);
@@ -184,12 +187,14 @@ impl<D: Exact + 'static, R: Threads + Wait + Clone + Send + 'static> Handle<D, R
         ensures thread { self.new.thread ≡ self.old.thread }
         ensures told { (value : D) → last ≡ finishing value → self.new.starved ≡ false → Closes self.old.told (Ok value) self.new.told }
     {
-        let Ok(_) = self.hand_over(last) else {
+        let Ok(reply) = self.hand_over(last) else {
             return;
         };
-        let Ok(_) = self.hand_over(Request::Thread(ThreadOp::Exit)) else {
+        let_go(reply);
+        let Ok(reply) = self.hand_over(Request::Thread(ThreadOp::Exit)) else {
             return;
         };
+        let_go(reply);
         shared::end(&self.rt, &self.shared);
     }
 

@@ -2,6 +2,7 @@
 use crate::error::RunnerError;
 use crate::handle::Handle;
 use crate::job::Job;
+use loom_answers::answer::let_go;
 use loom_copies::exact::Exact;
 use loom_objects::operation::{Reply, Request, ThreadOp};
 use loom_ops::thread::JoinHandle;
@@ -59,7 +60,10 @@ pub(crate) fn give_up<D: Exact, R: Wait>(rt: &R, shared: &Shared<D>, stop: Stop)
 /// Hands over `fail`, and answers the stop.
 pub(crate) fn fail<D: Exact, R: Wait>(rt: &R, shared: &Shared<D>, me: u8) -> Stop {
     match hand_over(rt, shared, me, Request::Fail) {
-        Ok(_) => Stop::Refused,
+        Ok(reply) => {
+            let_go(reply);
+            Stop::Refused
+        }
         Err(stop) => stop,
     }
 }
@@ -95,14 +99,14 @@ pub(crate) fn start<
 ) -> Result<(JoinHandle, Child<D>), Stop>
     requires { J.ready job }
 {
+    let handle = begin(rt, shared, me)?;
+    let thread = handle.thread;
     let Ok(again) = rt.clone() else {
         return Err(Stop::Memory);
     };
     let Ok(theirs) = Arc::try_clone(shared) else {
         return Err(Stop::Memory);
     };
-    let handle = begin(rt, shared, me)?;
-    let thread = handle.thread;
     let body = move || -> Result<Vec<Told<D>>, RunnerError>
         requires { J.ready job }
     { run_job(again, alloc, theirs, thread, job) };
@@ -116,7 +120,9 @@ pub(crate) fn start<
 fn begin<D: Exact, R: Wait>(rt: &R, shared: &Shared<D>, me: u8) -> Result<JoinHandle, Stop> {
     let spawn = Request::Thread(ThreadOp::Spawn((), None));
     let reply = hand_over(rt, shared, me, spawn)?;
-    match JoinHandle::from_reply(&reply) {
+    let handle = JoinHandle::from_reply(&reply);
+    let_go(reply);
+    match handle {
         Some(handle) => Ok(handle),
         None => Err(Stop::Refused),
     }

@@ -9,10 +9,10 @@ returns-in_default-clause-told g c value is =
 
 pub returns-in_default-hand_over-clause-told : goal.returns-in_default-hand_over-clause-told
 returns-in_default-hand_over-clause-told g c value is =
-    closes_second c.args.self.now.told c.hand_over.new.self.told c.hand_over-2.new.self.told value c.in-Ok.field-0 c.in_default-hand_over.field-0 c.hand_over-2.new.self.starved c.in-Ok.ensures.live
-    (c.in-Ok.ensures.answered ∙ ap (λ op. c.args.self.now.told ++ entry op (Some c.in-Ok.field-0) ∷ []) is) c.in_default-hand_over.ensures.stopped
+    closes_second c.args.self.now.told c.hand_over.new.self.told c.hand_over-2.new.self.told value c.in-Ok.reply c.in_default-hand_over.field-0 c.hand_over-2.new.self.starved c.in-Ok.ensures.live
+    (c.in-Ok.ensures.answered ∙ ap (λ op. c.args.self.now.told ++ entry op (Some c.in-Ok.reply) ∷ []) is) c.in_default-hand_over.ensures.stopped
 
 pub returns-clause-told : goal.returns-clause-told
 returns-clause-told g c value is fed =
-    closes_both c.args.self.now.told c.hand_over.new.self.told c.hand_over-2.new.self.told value c.in-Ok.field-0 c.in-Ok-hand_over.field-0 c.in-Ok.ensures.live
-    (c.in-Ok.ensures.answered ∙ ap (λ op. c.args.self.now.told ++ entry op (Some c.in-Ok.field-0) ∷ []) is) c.in-Ok-hand_over.ensures.answered
+    closes_both c.args.self.now.told c.hand_over.new.self.told c.hand_over-2.new.self.told value c.in-Ok.reply c.in-Ok-hand_over.reply c.in-Ok.ensures.live
+    (c.in-Ok.ensures.answered ∙ ap (λ op. c.args.self.now.told ++ entry op (Some c.in-Ok.reply) ∷ []) is) c.in-Ok-hand_over.ensures.answered
