@@ -1,5 +1,5 @@
-//! What replies hold for the closures that have asked: of each handle and each kind of answer, how it is taken out of a reply. It knows
-//! no thread and no run, and `loom_runner` hands it on.
+//! What replies hold for the closures that have asked: of each handle and each kind of answer, how it is taken out of a reply. It
+//! knows no thread and no run, and `loom_runner` hands it on.
 #![tactic(auto)]
 
 pub mod answer;
