@@ -25,12 +25,12 @@ WITH_A_PATH = ["loom_model/specs/Check.antt"], 2000
 RULES = {
     f"loom_objects/specs/{name}.antt"
     for name in [
-        "Atomics", "Cells", "Channels", "Condvars", "Counts", "Effects", "Ending", "Exploring", "Leaks", "Locks", "Lookup",
+        "Atomics", "Cells", "Channels", "Condvars", "Counts", "Effects", "Ending", "Leaks", "Locks", "Lookup",
         "Moves", "Notifiers", "Rule", "RwLocks", "Schedules", "Steps", "Threads", "Tracks", "Turns", "Uses", "Values",
         "Wakers", "World",
     ]
 } | {f"loom_parts/specs/{name}.antt" for name in ["Defaults", "Leaks", "Lent"]}
-RULES |= {"loom_dependence/specs/Depends.antt", "loom_view_parts/specs/Graph.antt"}
+RULES |= {"loom_dependence/specs/Depends.antt", "loom_operations/specs/Exploring.antt", "loom_view_parts/specs/Graph.antt"}
 # the operations of one kind of object each: a body's runs hand them on to those rules
 OPERATIONS = re.compile(r"^(?!Op$)\w+Op$|^Exchange$|^Change$|^Numbers$")
 # how the code keeps the nodes of a path and the state of a run

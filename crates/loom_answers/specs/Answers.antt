@@ -1,7 +1,7 @@
 -- What replies hold for closures, by the kind of object.
 use Rattle.std.specs.Prelude.{Option, Some, None, Result, Ok, Err}
-use Rattle.loom_objects.specs.declared.operation.Reply.{Reply}
-use Rattle.loom_objects.specs.declared.operation.Reply.TheVariants.{Done, Data, Channel, SendError, RecvError, Empty as IsEmpty, Disconnected as IsDisconnected, Messages}
+use Rattle.loom_operations.specs.declared.operation.Reply.{Reply}
+use Rattle.loom_operations.specs.declared.operation.Reply.TheVariants.{Done, Data, Channel, SendError, RecvError, Empty as IsEmpty, Disconnected as IsDisconnected, Messages}
 use Rattle.loom_ops.specs.declared.sync.mpsc.Receiver.{Receiver}
 use Rattle.loom_ops.specs.declared.sync.mpsc.Sender.{Sender}
 use Rattle.loom_answers.specs.declared.cells.Given.{Given}

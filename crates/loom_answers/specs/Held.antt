@@ -1,7 +1,7 @@
 -- What replies hold for the closures that have asked.
 use Rattle.std.specs.Prelude.{ℕ, ⊤, Option, Some, None, Result, Ok, Err}
-use Rattle.loom_objects.specs.declared.operation.Reply.{Reply}
-use Rattle.loom_objects.specs.declared.operation.Reply.TheVariants.{Done, Locked, WouldBlock, Value, Exchanged, Data}
+use Rattle.loom_operations.specs.declared.operation.Reply.{Reply}
+use Rattle.loom_operations.specs.declared.operation.Reply.TheVariants.{Done, Locked, WouldBlock, Value, Exchanged, Data}
 use Rattle.loom_ops.specs.declared.sync.mutex.MutexGuard.{MutexGuard}
 use Rattle.loom_answers.specs.declared.answer.Joined.{Joined}
 use Rattle.loom_answers.specs.declared.answer.Loaded.{Loaded}

@@ -1,11 +1,11 @@
 //! What a reply holds for the closure that has asked for it.
 ghost use Rattle.std.specs.Prelude.{◌≡◌, Option};
-ghost use Rattle.loom_objects.specs.declared.operation.Reply.{Reply};
+ghost use Rattle.loom_operations.specs.declared.operation.Reply.{Reply};
 ghost use Rattle.loom_answers.specs.Held.{done_in, guard_in, tried_in, joined_in, loaded_in, exchanged_in};
 ghost use Rattle.loom_ops.specs.Atomics.{atomic_handle};
 ghost use Rattle.loom_ops.specs.Locks.{mutex_handle};
 
-use loom_objects::operation::Reply;
+use loom_operations::operation::Reply;
 use loom_ops::sync::atomic::Atomic;
 use loom_ops::sync::{Mutex, MutexGuard};
 use loom_views::rt::num::Numeric;

@@ -4,7 +4,7 @@ ghost use Rattle.loom_answers.specs.Answers.{given_in};
 ghost use Rattle.loom_ops.specs.Cells.{cell_handle, unsafe_cell_handle, reader_taken, writer_taken};
 
 use crate::answer::{Answer, let_go};
-use loom_objects::operation::Reply;
+use loom_operations::operation::Reply;
 use loom_ops::cell::{Cell, ConstPtr, MutPtr, UnsafeCell};
 
 /// What an object holds, or held (own).

@@ -3,7 +3,7 @@ ghost use Rattle.std.specs.Prelude.{◌≡◌};
 ghost use Rattle.loom_answers.specs.Answers.{channel_in, sent_in, received_in, drained_in, tried_receive_in};
 
 use crate::answer::{Answer, let_go};
-use loom_objects::operation::Reply;
+use loom_operations::operation::Reply;
 use loom_ops::sync::mpsc::{Receiver, Sender};
 use std::collections::LinkedList;
 

@@ -4,7 +4,7 @@ ghost use Rattle.loom_answers.specs.Answers.{left_in};
 ghost use Rattle.loom_ops.specs.Counts.{arc_handle};
 
 use crate::answer::{Answer, let_go};
-use loom_objects::operation::Reply;
+use loom_operations::operation::Reply;
 use loom_ops::sync::Arc;
 
 /// The value of a reference that was dropped, if it was the last one (own).

@@ -4,7 +4,7 @@ ghost use Rattle.loom_ops.specs.Condvars.{condvar_handle};
 ghost use Rattle.loom_ops.specs.RwLocks.{rwlock_handle, read_guard_taken, write_guard_taken};
 
 use crate::answer::{Answer, let_go};
-use loom_objects::operation::Reply;
+use loom_operations::operation::Reply;
 use loom_ops::sync::{Condvar, RwLock, RwLockReadGuard, RwLockWriteGuard};
 
 impl<D: Drop> Answer<D> for RwLock {

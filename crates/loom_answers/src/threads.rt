@@ -4,7 +4,7 @@ ghost use Rattle.loom_ops.specs.Notifiers.{notify_handle};
 ghost use Rattle.loom_ops.specs.Threads.{thread_handle};
 
 use crate::answer::{Answer, let_go};
-use loom_objects::operation::Reply;
+use loom_operations::operation::Reply;
 use loom_ops::sync::Notify;
 use loom_ops::thread::Thread;
 

@@ -9,15 +9,15 @@ use Rattle.loom_view_parts.specs.declared.rt.change.Change.{Change}
 use Rattle.loom_view_parts.specs.declared.rt.failure.FailureKind.{FailureKind}
 use Rattle.loom_views.specs.declared.rt.table.Views.{Views}
 use Rattle.loom_views.proofs.Table.Kept.{offered_slots_are_kept_law}
-use Rattle.loom_objects.specs.declared.operation.AtomicOp.{AtomicOp}
-use Rattle.loom_objects.specs.declared.operation.AtomicOp.TheVariants.{Load, Store, Update, CompareExchange, CompareAndSwap}
-use Rattle.loom_objects.specs.declared.operation.Exchange.{Exchange}
+use Rattle.loom_operations.specs.declared.operation.AtomicOp.{AtomicOp}
+use Rattle.loom_operations.specs.declared.operation.AtomicOp.TheVariants.{Load, Store, Update, CompareExchange, CompareAndSwap}
+use Rattle.loom_operations.specs.declared.operation.Exchange.{Exchange}
 use Rattle.loom_objects.specs.declared.rt.sync.Atomic.{Atomic}
 use Rattle.loom_objects.specs.declared.rt.run.Resumed.TheVariants as resumed
 use Rattle.loom_effect_parts.specs.Readers.{reader_of}
 use Rattle.loom_objects.specs.Atomics.{access_begins, accesses, atomic_begins, opens, some_slot}
 use Rattle.loom_objects.specs.Moves.{an_atomic, with_points}
-use Rattle.loom_objects.specs.Accessed.{accessed}
+use Rattle.loom_operations.specs.Accessed.{accessed}
 use Rattle.loom_objects.specs.Rule.{◌>>=◌}
 use Rattle.loom_objects.specs.Scene.{Stage, world_of, Comes, DoesAt, KeepsAt}
 use Rattle.loom_objects.specs.World.{World}

@@ -7,7 +7,7 @@ use Rattle.loom_views.specs.Table.{Points, Accessed, ShowsViews, StoresAs, Loads
 use Rattle.loom_view_parts.specs.declared.rt.failure.FailureKind.{FailureKind}
 use Rattle.loom_views.specs.declared.rt.table.Views.{Views}
 use Rattle.loom_views.proofs.Table.Kept.{reading_keeps_slots_law}
-use Rattle.loom_objects.specs.declared.operation.Exchange.{Exchange}
+use Rattle.loom_operations.specs.declared.operation.Exchange.{Exchange}
 use Rattle.loom_objects.specs.declared.rt.sync.Atomic.{Atomic}
 use Rattle.loom_objects.specs.Atomics.{exchanges}
 use Rattle.loom_objects.specs.Moves.{an_atomic}

@@ -1,16 +1,16 @@
 ghost use Rattle.std.specs.Prelude.{◌≡◌, IfOk, OnErr, Some, true};
 ghost use Rattle.loom_objects.specs.Atomics as rules;
-ghost use Rattle.loom_objects.specs.Accessed.{accessed};
+ghost use Rattle.loom_operations.specs.Accessed.{accessed};
 ghost use Rattle.loom_objects.specs.Scene.{Does, DoesAt, DoesIfOk, HasSlot, KeepsSlots};
 ghost use Rattle.loom_views.specs.Table.{Points, ShowsViews};
 
 pub use loom_effect_parts::atomics::fence;
 use loom_effect_parts::atomics::{end_exchange, load, reader_of};
-use loom_objects::operation::{AtomicOp, Exchange, Reply};
 use loom_objects::rt::run::{Entry, Loading, Resumed};
 use loom_objects::rt::scene::Scene;
 use loom_objects::rt::sync::Atomic;
 use loom_objects::rt::thread::Task;
+use loom_operations::operation::{AtomicOp, Exchange, Reply};
 use loom_views::rt::atomic::Reader;
 use loom_views::rt::change::Change;
 use loom_views::rt::failure::FailureKind;

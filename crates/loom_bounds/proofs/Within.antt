@@ -3,8 +3,8 @@ use Rattle.std.proofs.Common.{◌≡◌, ℕ, zero, suc, ◌<◌, Bool, true, fa
 use Rattle.std.specs.Prelude.{cond, Result, Err}
 use Rattle.loom_view_parts.specs.declared.rt.failure.FailureKind.{FailureKind}
 use Rattle.loom_parts.specs.declared.choice.Choice.{Choice}
-use Rattle.loom_objects.specs.Question.{Made, Among, made_of}
-use Rattle.loom_objects.specs.Tree.{Tree, Gives, Fails, Closes, Asks}
+use Rattle.loom_operations.specs.Question.{Made, Among, made_of}
+use Rattle.loom_operations.specs.Tree.{Tree, Gives, Fails, Closes, Asks}
 use Rattle.loom_walks.specs.Walk.Choices.{among, pick}
 use Rattle.loom_walks.specs.Walk.Bound.{IsCount}
 use Rattle.loom_walks.specs.Walk.Lists.{IsAllowed}

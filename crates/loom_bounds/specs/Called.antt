@@ -1,7 +1,7 @@
 -- Which runs a search that isn't reduced makes, said of each run by itself.
 use Rattle.std.specs.Prelude.{◌≡◌, ◌≢◌, true, false, List, ◌∷◌, ◌++◌, Some, None, ◌↔◌}
 use Rattle.loom_parts.specs.declared.choice.Choice.{Choice}
-use Rattle.loom_objects.specs.Question.{Made}
+use Rattle.loom_operations.specs.Question.{Made}
 use Rattle.loom_walks.specs.Walk.Machine.{Machine}
 use Rattle.loom_walks.specs.Walk.Sound.{IsMachine}
 use Rattle.loom_walks.specs.Walk.Runs.{Reachable}

@@ -4,8 +4,8 @@ use Rattle.loom_view_parts.specs.declared.rt.failure.FailureKind.TheVariants.{As
 use Rattle.loom_parts.specs.declared.choice.Choice.{Choice}
 use Rattle.loom_parts.specs.declared.choice.Choice.TheVariants.{Thread}
 use Rattle.loom_parts.specs.declared.ability.Ability.TheVariants.{Able, Unable}
-use Rattle.loom_objects.specs.Question.{Question, WhichThread}
-use Rattle.loom_objects.specs.Tree.{Tree, Gives, Fails, Closes, Asks}
+use Rattle.loom_operations.specs.Question.{Question, WhichThread}
+use Rattle.loom_operations.specs.Tree.{Tree, Gives, Fails, Closes, Asks}
 use Rattle.loom_walks.specs.Trees.Example.{runs_by}
 use Rattle.loom_walks.specs.Trees.Meeting.{count}
 use Rattle.loom_walks.specs.Trees.Outcomes.{outcome, passed}

@@ -7,7 +7,7 @@ use Rattle.loom_views.proofs.Table.Lists.{get-set_other, get-set_same}
 use Rattle.loom_views.specs.Table.{Points, points_after_write}
 use Rattle.loom_view_parts.specs.declared.rt.failure.FailureKind.{FailureKind}
 use Rattle.loom_view_parts.specs.declared.rt.failure.FailureKind.TheVariants.{Misuse}
-use Rattle.loom_objects.specs.declared.operation.Reply.TheVariants as reply
+use Rattle.loom_operations.specs.declared.operation.Reply.TheVariants as reply
 use Rattle.loom_objects.specs.declared.rt.run.Entry.{Entry}
 use Rattle.loom_objects.specs.declared.rt.run.Entry.TheVariants.{Answered}
 use Rattle.loom_objects.specs.declared.rt.object.Object.{Object}

@@ -4,7 +4,7 @@ use Rattle.std.specs.Prelude.{◌+◌, ◌-◌, ◌^◌, Bool, true, false, is_n
 use Rattle.loom_views.specs.Table.{Points, ShowsViews, points_after_raise, points_after_read, points_after_write}
 use Rattle.loom_view_parts.specs.declared.rt.failure.FailureKind.{FailureKind}
 use Rattle.loom_view_parts.specs.declared.rt.failure.FailureKind.TheVariants.{Misuse, OpenAccess, TooManySteps}
-use Rattle.loom_objects.specs.declared.operation.Reply.TheVariants as reply
+use Rattle.loom_operations.specs.declared.operation.Reply.TheVariants as reply
 use Rattle.loom_objects.specs.declared.rt.run.Entry.{Entry}
 use Rattle.loom_objects.specs.declared.rt.run.Entry.TheVariants.{Answered}
 use Rattle.loom_objects.specs.declared.rt.sync.Cell.{Cell}

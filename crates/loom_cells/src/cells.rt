@@ -6,11 +6,11 @@ ghost use Rattle.loom_objects.specs.Scene.{Does, DoesIfOk};
 
 use crate::memory::memory_outside;
 use loom_effect_parts::cells::keep_reads;
-use loom_objects::data::Data;
-use loom_objects::operation::{CellOp, Reply};
 use loom_objects::rt::run::{Entry, copied};
 use loom_objects::rt::scene::Scene;
 use loom_objects::rt::sync::{Cell, Lent};
+use loom_operations::data::Data;
+use loom_operations::operation::{CellOp, Reply};
 use loom_views::rt::MAX_THREADS;
 use loom_views::rt::failure::FailureKind;
 use std::alloc::AllocError;

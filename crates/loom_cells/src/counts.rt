@@ -5,13 +5,13 @@ ghost use Rattle.loom_objects.specs.Scene.{Does, DoesIfOk};
 
 use crate::memory::memory_outside;
 use loom_effect_parts::counts::pend_unwrap;
-use loom_objects::data::Data;
-use loom_objects::operation::{ArcOp, Reply, Turn};
 use loom_objects::rt::object::Object;
 use loom_objects::rt::run::{Entry, Passed, copied};
 use loom_objects::rt::scene::Scene;
 use loom_objects::rt::sync::{Arc, Lent};
 use loom_objects::rt::thread::{Counting, Task};
+use loom_operations::data::Data;
+use loom_operations::operation::{ArcOp, Reply, Turn};
 use loom_views::rt::failure::FailureKind;
 use std::alloc::AllocError;
 

@@ -4,12 +4,12 @@ ghost use Rattle.loom_objects.specs.Tracks as rules;
 ghost use Rattle.loom_objects.specs.Scene.{Does, DoesIfOk};
 
 use crate::memory::memory_outside;
-use loom_objects::data::Data;
-use loom_objects::operation::{Reply, TrackOp};
 use loom_objects::rt::object::Object;
 use loom_objects::rt::run::{Entry, copied};
 use loom_objects::rt::scene::Scene;
 use loom_objects::rt::sync::{Lent, Track};
+use loom_operations::data::Data;
+use loom_operations::operation::{Reply, TrackOp};
 use loom_views::rt::failure::FailureKind;
 use std::alloc::AllocError;
 

@@ -4,12 +4,12 @@ ghost use Rattle.loom_objects.specs.Channels as rules;
 ghost use Rattle.loom_objects.specs.Scene.{Does, DoesIfOk};
 
 use loom_effect_parts::channels::{gather, take_first};
-use loom_objects::operation::{ChannelOp, Message, Reply, Turn};
 use loom_objects::rt::object::Object;
 use loom_objects::rt::run::{Entry, Passed};
 use loom_objects::rt::scene::Scene;
 use loom_objects::rt::sync::Channel;
 use loom_objects::rt::thread::{Receiving, Task};
+use loom_operations::operation::{ChannelOp, Message, Reply, Turn};
 use loom_views::rt::failure::FailureKind;
 use std::alloc::AllocError;
 use std::collections::LinkedList;

@@ -25,6 +25,7 @@ pub enum Round {
 pub fn run_and_step<D: Drop, Choices, M, R>(
     alloc: Global,
     runs: &M,
+    room: &mut M::Room,
     receiver: &mut R,
     path: &mut Path,
 ) -> Result<Round, AllocError>
@@ -35,7 +36,7 @@ where
     requires starts { IsAtStart (M.begins_exploring runs.now) path.old }
     ensures { IfOk result (λ round. ComesTo (M.comes runs.now) R.receives path.old receiver.old round path.new receiver.new) }
 {
-    match runs.run(alloc, path)? {
+    match runs.run(alloc, room, path)? {
         Err(failure) => failed(alloc, failure, path),
         Ok(value) => ended(alloc, value, receiver, path),
     }

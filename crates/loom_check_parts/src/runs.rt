@@ -10,6 +10,9 @@ use std::alloc::{AllocError, Global};
 
 /// Makes runs, each along a path from its start. `Ending` is what a run comes to.
 pub trait Runs<Ending> {
+    /// What a run needs room for. The next one uses it again.
+    type Room;
+
     /// Whether runs may be made.
     ghost may_run: { Self → Type 0 };
 
@@ -20,7 +23,12 @@ pub trait Runs<Ending> {
     ghost comes: { Self → Route → Ending → Route → Type 0 };
 
     /// It fails only where a growth is refused.
-    fn run(&self, alloc: Global, path: &mut Path) -> Result<Ending, AllocError>
+    fn run(
+        &self,
+        alloc: Global,
+        room: &mut Self::Room,
+        path: &mut Path,
+    ) -> Result<Ending, AllocError>
         requires may { may_run self.now }
         requires starts { IsAtStart (begins_exploring self.now) path.old }
         ensures along { IfOk result (λ ending. comes self.now path.old ending path.new) }
@@ -31,6 +39,7 @@ pub trait Runs<Ending> {
 pub fn follow<Ending, M: Runs<Ending>>(
     alloc: Global,
     runs: &M,
+    room: &mut M::Room,
     explores: bool,
     max_branches: usize,
     choices: &[Choice],
@@ -41,6 +50,6 @@ pub fn follow<Ending, M: Runs<Ending>>(
     ensures { IfOk result (λ made. M.comes runs.now (record (at_rest (whole_search max_branches) explores []) { given = choices.now }) made.0 made.1) }
 {
     let mut path = following(alloc, explores, max_branches, choices)?;
-    let ending = runs.run(alloc, &mut path)?;
+    let ending = runs.run(alloc, room, &mut path)?;
     Ok((ending, path))
 }

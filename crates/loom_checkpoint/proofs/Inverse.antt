@@ -9,7 +9,7 @@ use Rattle.serde_json.specs.Find.{as_bool, as_object}
 use Rattle.serde_json.specs.View.{items_of}
 use Rattle.loom_nodes.specs.declared.rt.node.Status.{Status}
 use Rattle.loom_nodes.specs.declared.rt.node.Status.TheVariants.{Disabled, Skip, Yield, Pending, Active, Visited}
-use Rattle.loom_objects.specs.Question.{slots_from}
+use Rattle.loom_operations.specs.Question.{slots_from}
 use Rattle.loom_checkpoint.specs.Grammar.{whole, whole_or_null, list_data, status_data, status_text}
 use Rattle.loom_checkpoint.specs.Reading.{each, list_of, as_whole, as_list, as_whole_or_null, ends, expected, taken, status_named, status_of, statuses_of, is_number, begins_with, rest_of, marks_of}
 use Rattle.loom_checkpoint.proofs.Lists.{list_of-items_of, items_of-list_of}

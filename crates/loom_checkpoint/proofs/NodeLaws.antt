@@ -9,7 +9,7 @@ use Rattle.serde_json.specs.View.{items_of}
 use Rattle.loom_nodes.specs.declared.rt.node.Status.{Status}
 use Rattle.loom_nodes.specs.declared.rt.node.Node.{Node}
 use Rattle.loom_nodes.specs.declared.rt.node.Node.TheVariants.{Schedule, Load, Spurious}
-use Rattle.loom_objects.specs.Question.{slots_from, slots}
+use Rattle.loom_operations.specs.Question.{slots_from, slots}
 use Rattle.loom_path.specs.WellFormed.{is_at, is_tried, is_well_formed_schedule, is_well_formed_load, is_well_formed_spurious, is_well_formed_from, IsWellFormed, bare, unnoted}
 use Rattle.loom_checkpoint.specs.Grammar.{whole, list_data, status_data, schedule_data, load_data, spurious_data, node_data}
 use Rattle.loom_checkpoint.specs.Reading.{as_whole, as_list, ends, taken, statuses_of, marks_of, or_else, list_of, new_schedule, new_load, new_spurious, schedule_of, load_of, spurious_of, node_of}

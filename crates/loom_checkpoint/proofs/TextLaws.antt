@@ -5,7 +5,7 @@ use Rattle.serde_json.specs.View.{items_of}
 use Rattle.serde_json.specs.Written.{has_float, items_have_float}
 use Rattle.loom_nodes.specs.declared.rt.node.Node.{Node}
 use Rattle.loom_nodes.specs.declared.rt.node.Node.TheVariants.{Schedule, Load, Spurious}
-use Rattle.loom_objects.specs.Question.{slots}
+use Rattle.loom_operations.specs.Question.{slots}
 use Rattle.loom_walks.specs.Trees.Meeting.{Settings}
 use Rattle.loom_checkpoint.specs.Grammar.{whole, whole_or_null, status_data, schedule_data, load_data, spurious_data, node_data, shape_data, path_data}
 

@@ -1,7 +1,7 @@
 -- The JSON value of a path between two runs, version 1.
 use Rattle.std.specs.Prelude.{ℕ, Bool, List, map, codes, Option}
 use Rattle.serde_json.specs.Data.{Data, boolean, string, object, member, no_members}
-use Rattle.loom_objects.specs.Question.{slots}
+use Rattle.loom_operations.specs.Question.{slots}
 use Rattle.loom_walks.specs.Trees.Meeting.{Settings}
 pub use Rattle.loom_checkpoint_parts.specs.Shape.{whole, whole_or_null, list_data}
 unfoldable pub use Rattle.loom_checkpoint_parts.specs.Shape.{shape_data}

@@ -1,6 +1,6 @@
 //! Reading the parts of a path.
 ghost use Rattle.std.specs.Prelude.{◌≡◌, ◌≤◌, Some, None, Option, List, ℕ, option_map, option_and_then, map, codes, length, drop, count_by};
-ghost use Rattle.loom_objects.specs.Question.{slots};
+ghost use Rattle.loom_operations.specs.Question.{slots};
 ghost use Rattle.loom_path.specs.Nodes.{is_active};
 ghost use Rattle.loom_path.specs.WellFormed.{is_tried, is_marked, is_at, is_well_formed_schedule, is_well_formed_load, is_well_formed_spurious};
 ghost use Rattle.serde_json.specs.Find.{as_bool};

@@ -1,7 +1,7 @@
 //! Writing the parts of a path.
 ghost use Rattle.std.specs.Prelude.{◌≡◌, IfOk, map, codes, length};
 ghost use Rattle.serde_json.specs.View.{view};
-ghost use Rattle.loom_objects.specs.Question.{slots};
+ghost use Rattle.loom_operations.specs.Question.{slots};
 ghost use Rattle.loom_checkpoint.specs.Grammar.{status_text, status_data, whole, node_data, schedule_data, load_data, spurious_data, whole_or_null};
 
 use loom_path::rt::node::{Load, Node, Schedule, Spurious, Status};

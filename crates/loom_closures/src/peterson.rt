@@ -24,13 +24,22 @@ struct Side {
     fence: Ordering,
 }
 
-/// Main, with fences of this ordering: `SeqCst` is right, and `AcqRel` wrong, since both threads may find the other's flag down then.
+/// Main, which adds one beside another thread. With fences of this ordering: `SeqCst` is right, and `AcqRel` wrong, since both threads
+/// may find the other's flag down then.
 pub fn petersons_lock<R: Threads + Wait + Clone + Send + 'static>(
     handle: &mut Handle<u64, R>,
     fence: Ordering,
 ) -> Result<u64, Stop> {
     let side = new_lock(handle, fence)?;
-    add_beside(handle, &side)?;
+    let opposite = Side {
+        mine: side.theirs,
+        theirs: side.mine,
+        other: 0,
+        ..side
+    };
+    let child = handle.spawn(move |handle| add_one(handle, &opposite))?;
+    add_one(handle, &side)?;
+    handle.join(&child)?;
     let total = handle.with(&side.count, |count| *count)?;
     handle.assert(total == 2)?;
     Ok(0)
@@ -52,26 +61,14 @@ fn new_lock<R: Wait>(handle: &mut Handle<u64, R>, fence: Ordering) -> Result<Sid
     })
 }
 
-/// Main and another thread add one each, and main joins the other one.
-fn add_beside<R: Threads + Wait + Clone + Send + 'static>(
-    handle: &mut Handle<u64, R>,
-    side: &Side,
-) -> Result<u64, Stop> {
-    let opposite = Side {
-        mine: side.theirs,
-        theirs: side.mine,
-        other: 0,
-        ..*side
-    };
-    let child = handle.spawn(move |handle| add_one(handle, &opposite))?;
-    add_one(handle, side)?;
-    handle.join(&child)
-}
-
-/// Takes the lock, adds one, and frees the lock.
+/// Takes the lock, adds one, and frees the lock. The thread may enter where the other's flag is down, or the other one has let it go
+/// first.
 fn add_one<R: Wait>(handle: &mut Handle<u64, R>, side: &Side) -> Result<u64, Stop> {
     ask_for_lock(handle, side)?;
-    handle.until(|handle| may_enter(handle, side))?;
+    handle.until(|handle| {
+        let is_raised = handle.load(&side.theirs, Acquire)?;
+        Ok(!is_raised || handle.load(&side.turn, Acquire)? != side.other)
+    })?;
     handle.with_mut(&side.count, |count| *count = count.wrapping_add(1))?;
     handle.store(&side.mine, false, Release)?;
     Ok(0)
@@ -83,10 +80,4 @@ fn ask_for_lock<R: Wait>(handle: &mut Handle<u64, R>, side: &Side) -> Result<(),
     handle.fence(side.fence)?;
     handle.store(&side.turn, side.other, Relaxed)?;
     handle.fence(side.fence)
-}
-
-/// Whether the other's flag is down, or the other one has let this thread go first.
-fn may_enter<R: Wait>(handle: &mut Handle<u64, R>, side: &Side) -> Result<bool, Stop> {
-    let is_raised = handle.load(&side.theirs, Acquire)?;
-    Ok(!is_raised || handle.load(&side.turn, Acquire)? != side.other)
 }

@@ -1,12 +1,12 @@
 //! A queue with room for one item, by a mutex and a condition variable. The mutex holds how many items there are. One thread puts two
 //! items in, another one puts one, and main takes all three out.
 use loom::runner::{Handle, Stop};
-use loom::sync::{Condvar, Mutex, MutexGuard};
+use loom::sync::{Condvar, Mutex};
 use std::sync::Wait;
 use std::thread::Threads;
 
 /// Whom a thread notifies after a change.
-#[derive(Clone, Copy, Debug, PartialEq, Eq)]
+#[derive(Clone, Copy)]
 pub enum Notifies {
     /// All that sleep, which is right.
     All,
@@ -45,20 +45,13 @@ fn start_putting<R: Threads + Wait + Clone + Send + 'static>(
     queue: Queue,
     is_double: bool,
 ) -> Result<(), Stop> {
-    handle.spawn(move |handle| put_in(handle, &queue, is_double))?;
+    handle.spawn(move |handle| {
+        if is_double {
+            put(handle, &queue)?;
+        }
+        put(handle, &queue)
+    })?;
     Ok(())
-}
-
-/// Puts an item in, or two.
-fn put_in<R: Wait>(
-    handle: &mut Handle<u64, R>,
-    queue: &Queue,
-    is_double: bool,
-) -> Result<u64, Stop> {
-    if is_double {
-        put(handle, queue)?;
-    }
-    put(handle, queue)
 }
 
 /// Takes the three items out.
@@ -70,35 +63,19 @@ fn take_three<R: Wait>(handle: &mut Handle<u64, R>, queue: &Queue) -> Result<u64
 
 /// Puts an item in, once there is room.
 fn put<R: Wait>(handle: &mut Handle<u64, R>, queue: &Queue) -> Result<u64, Stop> {
-    let guard = enter(handle, queue, 1)?;
-    leave(handle, queue, guard, 1)
+    turn_to(handle, queue, 1)
 }
 
 /// Takes an item out, once there is one.
 fn take<R: Wait>(handle: &mut Handle<u64, R>, queue: &Queue) -> Result<u64, Stop> {
-    let guard = enter(handle, queue, 0)?;
-    leave(handle, queue, guard, 0)
+    turn_to(handle, queue, 0)
 }
 
-/// Waits until the queue holds something other than this.
-fn enter<R: Wait>(
-    handle: &mut Handle<u64, R>,
-    queue: &Queue,
-    old: u64,
-) -> Result<MutexGuard, Stop> {
+/// Waits until the queue holds something other than so many items. Then it holds so many, and the change is told.
+fn turn_to<R: Wait>(handle: &mut Handle<u64, R>, queue: &Queue, count: u64) -> Result<u64, Stop> {
     let (guard, items) = handle.lock(&queue.items)?;
-    let (guard, _) = handle.wait_while(&queue.changed, guard, items, |items| *items == old)?;
-    Ok(guard)
-}
-
-/// The queue holds this now, and its change is told.
-fn leave<R: Wait>(
-    handle: &mut Handle<u64, R>,
-    queue: &Queue,
-    guard: MutexGuard,
-    items: u64,
-) -> Result<u64, Stop> {
-    handle.release(guard, items)?;
+    let (guard, _) = handle.wait_while(&queue.changed, guard, items, |items| *items == count)?;
+    handle.release(guard, count)?;
     match queue.notifies {
         Notifies::All => handle.notify_all(&queue.changed)?,
         Notifies::One => handle.notify_one(&queue.changed)?,

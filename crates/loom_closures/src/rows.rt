@@ -128,7 +128,8 @@ impl Row {
             Row::GuardLeft => scenes::guard_left(handle),
             Row::Deaf => scenes::deaf(handle),
             Row::Stops => Err(Stop::Refused),
-            Row::Changes => scenes::lock_or_finish(handle, is_first),
+            Row::Changes if is_first => scenes::lock_beside(handle),
+            Row::Changes => Ok(7),
             Row::StoreBuffering => scenes::store_buffering(handle),
         }
     }

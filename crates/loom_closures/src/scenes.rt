@@ -7,34 +7,55 @@ use loom::thread::JoinHandle;
 use std::sync::Wait;
 use std::thread::Threads;
 
+/// What a thread that main starts does.
+#[derive(Clone, Copy)]
+enum Part {
+    /// Locks the one, and then the other.
+    LockBoth(Mutex, Mutex),
+    /// Adds 1 to the number.
+    AddOne(AtomicU64),
+    /// Nothing but end.
+    End,
+    /// Locks the mutex, and releases it.
+    PassThrough(Mutex),
+    /// Waits for 1, stores 2, and waits for 3.
+    Pong(AtomicUsize),
+    /// Stores 1 to the one, and loads from the other.
+    StoreAndLoad(AtomicU64, AtomicU64),
+}
+
+impl Part {
+    fn play<R: Wait>(self, handle: &mut Handle<u64, R>) -> Result<u64, Stop> {
+        match self {
+            Part::LockBoth(outer, inner) => lock_both(handle, &outer, &inner),
+            Part::AddOne(number) => handle.fetch_add(&number, 1, Relaxed),
+            Part::End => Ok(3),
+            Part::PassThrough(mutex) => pass_through(handle, &mutex),
+            Part::Pong(ball) => pong(handle, &ball),
+            Part::StoreAndLoad(mine, theirs) => store_and_load(handle, &mine, &theirs),
+        }
+    }
+}
+
+/// Starts a thread that plays this part. (One closure serves all parts: each kind of closure is checked, and built, with all of the
+/// runner once more.)
+fn start<R: Threads + Wait + Clone + Send + 'static>(
+    handle: &mut Handle<u64, R>,
+    part: Part,
+) -> Result<JoinHandle, Stop> {
+    handle.spawn(move |handle| part.play(handle))
+}
+
 /// One thread locks a mutex and then another, a second thread the other and then the one. Main joins them.
 pub(crate) fn two_mutexes<R: Threads + Wait + Clone + Send + 'static>(
     handle: &mut Handle<u64, R>,
 ) -> Result<u64, Stop> {
     let one = handle.mutex(0)?;
     let other = handle.mutex(0)?;
-    lock_crosswise(handle, one, other)
-}
-
-/// Starts a thread for each order, and joins both.
-fn lock_crosswise<R: Threads + Wait + Clone + Send + 'static>(
-    handle: &mut Handle<u64, R>,
-    one: Mutex,
-    other: Mutex,
-) -> Result<u64, Stop> {
-    let first = start_locking(handle, one, other)?;
-    let second = start_locking(handle, other, one)?;
+    let first = start(handle, Part::LockBoth(one, other))?;
+    let second = start(handle, Part::LockBoth(other, one))?;
     handle.join(&first)?;
     handle.join(&second)
-}
-
-/// Starts a thread that locks both.
-fn start_locking<R: Threads + Wait + Clone + Send + 'static>(
-    handle: &mut Handle<u64, R>,
-    outer: Mutex,
-    inner: Mutex,
-) -> Result<JoinHandle, Stop> {
-    handle.spawn(move |handle| lock_both(handle, &outer, &inner))
 }
 
 /// Holds the one while it locks the other.
@@ -55,7 +76,7 @@ pub(crate) fn two_adds<R: Threads + Wait + Clone + Send + 'static>(
     handle: &mut Handle<u64, R>,
 ) -> Result<u64, Stop> {
     let number = handle.atomic(0u64)?;
-    let child = handle.spawn(move |handle| handle.fetch_add(&number, 1, Relaxed))?;
+    let child = start(handle, Part::AddOne(number))?;
     let mine = handle.fetch_add(&number, 1, Relaxed)?;
     let theirs = handle.join(&child)?;
     handle.assert(mine != theirs)?;
@@ -67,7 +88,7 @@ pub(crate) fn lock_beside<R: Threads + Wait + Clone + Send + 'static>(
     handle: &mut Handle<u64, R>,
 ) -> Result<u64, Stop> {
     let mutex = handle.mutex(0)?;
-    handle.spawn(|_| Ok(3))?;
+    start(handle, Part::End)?;
     pass_through(handle, &mutex)?;
     Ok(7)
 }
@@ -85,7 +106,7 @@ pub(crate) fn ping_pong<R: Threads + Wait + Clone + Send + 'static>(
 ) -> Result<u64, Stop> {
     handle.stop_exploring()?;
     let ball = handle.atomic(0usize)?;
-    let child = handle.spawn(move |handle| pong(handle, &ball))?;
+    let child = start(handle, Part::Pong(ball))?;
     ping(handle, &ball)?;
     handle.join(&child)
 }
@@ -119,7 +140,7 @@ pub(crate) fn guard_left<R: Threads + Wait + Clone + Send + 'static>(
     handle: &mut Handle<u64, R>,
 ) -> Result<u64, Stop> {
     let mutex = handle.mutex(0)?;
-    handle.spawn(move |handle| pass_through(handle, &mutex))?;
+    start(handle, Part::PassThrough(mutex))?;
     handle.lock(&mutex)?;
     Ok(7)
 }
@@ -133,21 +154,13 @@ pub(crate) fn deaf<R: Wait>(handle: &mut Handle<u64, R>) -> Result<u64, Stop> {
     }
 }
 
-/// Main does something else from its second run on.
-pub(crate) fn lock_or_finish<R: Threads + Wait + Clone + Send + 'static>(
-    handle: &mut Handle<u64, R>,
-    is_first: bool,
-) -> Result<u64, Stop> {
-    if is_first { lock_beside(handle) } else { Ok(7) }
-}
-
 /// Two threads store to an atomic each, and load from the other's. Main is one of them.
 pub(crate) fn store_buffering<R: Threads + Wait + Clone + Send + 'static>(
     handle: &mut Handle<u64, R>,
 ) -> Result<u64, Stop> {
     let x = handle.atomic(0u64)?;
     let y = handle.atomic(0u64)?;
-    let child = handle.spawn(move |handle| store_and_load(handle, &x, &y))?;
+    let child = start(handle, Part::StoreAndLoad(x, y))?;
     let mine = store_and_load(handle, &y, &x)?;
     let theirs = handle.join(&child)?;
     Ok(theirs.wrapping_mul(10).wrapping_add(mine))

@@ -1,7 +1,7 @@
 //! Data of which it can be told whether two values are the same.
 ghost use Rattle.std.specs.Prelude.{◌≡◌, ◌↔◌, IsTrue, true};
 
-use loom_objects::data::Data;
+use loom_operations::data::Data;
 
 /// Data that closures on real threads may hold (own). Two values that are equal are the same value.
 pub trait Exact: Data + Eq + Send {

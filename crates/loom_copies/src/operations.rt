@@ -2,7 +2,7 @@
 ghost use Rattle.std.specs.Prelude.{◌≡◌, IfOk};
 
 use crate::exact::Exact;
-use loom_objects::operation::{
+use loom_operations::operation::{
     ArcOp, CellOp, ChannelOp, CondvarOp, LazyOp, LocalOp, MutexOp, Request, RwLockOp, ThreadOp,
     TrackOp,
 };

@@ -3,7 +3,7 @@ ghost use Rattle.std.specs.Prelude.{◌≡◌, IfOk};
 
 use crate::exact::Exact;
 use crate::parts::{copy_lazies, copy_locals, copy_messages};
-use loom_objects::operation::Reply;
+use loom_operations::operation::Reply;
 use std::alloc::{AllocError, Global};
 
 /// A copy of the reply. It fails only where a growth is refused (own).

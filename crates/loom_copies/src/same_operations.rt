@@ -3,7 +3,7 @@ ghost use Rattle.std.specs.Prelude.{◌≡◌, ◌↔◌, IsTrue};
 
 use crate::exact::{Exact, is_same_value};
 use crate::kinds::is_kind;
-use loom_objects::operation::{
+use loom_operations::operation::{
     ArcOp, AtomicOp, AtomicWakerOp, CellOp, ChannelOp, CondvarOp, Exchange, LazyOp, LocalOp,
     MutexOp, NotifyOp, Request, RwLockOp, ThreadOp, TrackOp, WakerOp,
 };

@@ -4,7 +4,7 @@ ghost use Rattle.std.specs.Prelude.{◌≡◌, ◌↔◌, IsTrue};
 use crate::exact::{Exact, is_same_value};
 use crate::kinds::is_kind;
 use crate::parts::{are_same_lazies, are_same_locals, are_same_messages};
-use loom_objects::operation::Reply;
+use loom_operations::operation::Reply;
 
 /// Whether the two are the same reply (own).
 pub fn is_same_reply<D: Exact>(one: &Reply<D>, other: &Reply<D>) -> bool

@@ -1,8 +1,8 @@
 -- How an access reads.
 use Rattle.loom_view_parts.specs.declared.rt.reader.Reader.{Reader}
 use Rattle.loom_view_parts.specs.declared.rt.reader.Reader.TheVariants as reader
-use Rattle.loom_objects.specs.declared.operation.AtomicOp.{AtomicOp}
-use Rattle.loom_objects.specs.declared.operation.AtomicOp.TheVariants.{New, Load, Store, Update, CompareExchange, CompareAndSwap, UnsyncLoad, IntoInner, WithMut, WithMutEnd}
+use Rattle.loom_operations.specs.declared.operation.AtomicOp.{AtomicOp}
+use Rattle.loom_operations.specs.declared.operation.AtomicOp.TheVariants.{New, Load, Store, Update, CompareExchange, CompareAndSwap, UnsyncLoad, IntoInner, WithMut, WithMutEnd}
 
 -- a load reads by its ordering, and another access for a read-modify-write
 abbrev pub reader_of : AtomicOp → Reader

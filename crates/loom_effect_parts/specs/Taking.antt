@@ -2,7 +2,7 @@
 use Rattle.std.specs.Prelude.{ℕ, ◌++◌, List, [], ◌∷◌, Option, Some, None, Result, Ok}
 use Rattle.loom_view_parts.specs.declared.rt.failure.FailureKind.{FailureKind}
 use Rattle.loom_view_parts.specs.declared.rt.failure.FailureKind.TheVariants.{TooManySteps}
-use Rattle.loom_objects.specs.declared.operation.Message.{Message}
+use Rattle.loom_operations.specs.declared.operation.Message.{Message}
 use Rattle.loom_objects.specs.declared.rt.sync.Channel.{Channel}
 use Rattle.loom_objects.specs.Channels.{by_receiver, fits_behind, takes}
 use Rattle.loom_objects.specs.Rule.{◌>>=◌, check}

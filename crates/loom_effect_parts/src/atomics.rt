@@ -4,9 +4,9 @@ ghost use Rattle.loom_objects.specs.Atomics as rules;
 ghost use Rattle.loom_objects.specs.Scene.{Does, DoesAt};
 ghost use Rattle.loom_views.specs.Table.{Points, ShowsViews, IsSlotKept, points_after_update_fail};
 
-use loom_objects::operation::{AtomicOp, Exchange, Reply};
 use loom_objects::rt::run::Entry;
 use loom_objects::rt::scene::Scene;
+use loom_operations::operation::{AtomicOp, Exchange, Reply};
 use loom_views::rt::atomic::Reader;
 use loom_views::rt::failure::FailureKind;
 use std::sync::atomic::Ordering;

@@ -2,8 +2,8 @@ ghost use Rattle.std.specs.Prelude.{◌≡◌};
 ghost use Rattle.loom_effect_parts.specs.Taking as stages;
 ghost use Rattle.loom_objects.specs.Scene.{Does};
 
-use loom_objects::operation::Message;
 use loom_objects::rt::scene::Scene;
+use loom_operations::operation::Message;
 use loom_views::rt::failure::FailureKind;
 use std::collections::LinkedList;
 

@@ -2,9 +2,9 @@ ghost use Rattle.std.specs.Prelude.{◌≡◌};
 ghost use Rattle.loom_objects.specs.Notifiers as rules;
 ghost use Rattle.loom_objects.specs.Scene.{Does};
 
-use loom_objects::operation::Reply;
 use loom_objects::rt::scene::Scene;
 use loom_objects::rt::sync::Spurious;
+use loom_operations::operation::Reply;
 use loom_views::rt::failure::FailureKind;
 
 /// The active thread releases and notifies: who waits takes in its view, and is woken. `Misuse` where there is no such notifier.

@@ -2,10 +2,10 @@ ghost use Rattle.std.specs.Prelude.{◌≡◌};
 ghost use Rattle.loom_objects.specs.RwLocks as rules;
 ghost use Rattle.loom_objects.specs.Scene.{Does};
 
-use loom_objects::operation::Reply;
 use loom_objects::rt::run::Entry;
 use loom_objects::rt::scene::Scene;
 use loom_objects::rt::thread::Claim;
+use loom_operations::operation::Reply;
 use loom_views::rt::failure::FailureKind;
 
 /// Whether a thread that takes a lock so waits for it.

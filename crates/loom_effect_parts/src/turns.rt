@@ -3,10 +3,10 @@ ghost use Rattle.std.specs.Prelude.{Ok, false};
 ghost use Rattle.loom_objects.specs.Scene.{Does};
 ghost use Rattle.loom_objects.specs.Wakers as rules;
 
-use loom_objects::operation::{Reply, Turn};
 use loom_objects::rt::run::Passed;
 use loom_objects::rt::scene::Scene;
 use loom_objects::rt::thread::Task;
+use loom_operations::operation::{Reply, Turn};
 
 /// The active thread is told the reply.
 pub fn answered<D: Drop>(scene: &Scene<D>, reply: Reply<D>) -> Passed<D>

@@ -5,11 +5,11 @@ ghost use Rattle.loom_objects.specs.Wakers as rules;
 
 use crate::notifiers::notify_waiter;
 use crate::turns::{answered, pend_next};
-use loom_objects::operation::Reply;
 use loom_objects::rt::run::Passed;
 use loom_objects::rt::scene::Scene;
 use loom_objects::rt::sync::Wakers;
 use loom_objects::rt::thread::{AfterWake, Task};
+use loom_operations::operation::Reply;
 use loom_views::rt::failure::FailureKind;
 
 /// The wakers of this number. `Misuse` where there are none.

@@ -8,29 +8,29 @@ use Rattle.loom_view_parts.specs.declared.rt.failure.FailureKind.TheVariants.{De
 use Rattle.loom_dependence.specs.declared.rt.dependence.Use.{Use}
 use Rattle.loom_parts.specs.declared.choice.Choice.{Choice}
 use Rattle.loom_parts.specs.declared.choice.Choice.TheVariants.{Thread, Load, Spurious}
-use Rattle.loom_objects.specs.declared.failure.Stop.{Stop}
-use Rattle.loom_objects.specs.declared.failure.Stop.TheVariants.{Failure, Memory}
-use Rattle.loom_objects.specs.declared.operation.Request.{Request}
-use Rattle.loom_objects.specs.declared.operation.Turn.{Turn}
+use Rattle.loom_operations.specs.declared.failure.Stop.{Stop}
+use Rattle.loom_operations.specs.declared.failure.Stop.TheVariants.{Failure, Memory}
+use Rattle.loom_operations.specs.declared.operation.Request.{Request}
+use Rattle.loom_operations.specs.declared.operation.Turn.{Turn}
 use Rattle.loom_objects.specs.declared.rt.run.Passed.{Passed}
 use Rattle.loom_objects.specs.declared.rt.run.Passed.TheVariants as passed
-use Rattle.loom_objects.specs.declared.rt.thread.Offers.{Offers}
-use Rattle.loom_objects.specs.Asked.{which_store, which_thread, whether_spurious}
-use Rattle.loom_objects.specs.Exploring.{is_on, switched}
-use Rattle.loom_objects.specs.declared.operation.ExploreOp.{ExploreOp}
-use Rattle.loom_objects.specs.declared.operation.Reply.TheVariants as reply
-use Rattle.loom_objects.specs.declared.rt.exploring.Exploring.{Exploring}
-use Rattle.loom_objects.specs.Question.{Question, asked_store, made_of, slots}
+use Rattle.loom_operations.specs.declared.offers.Offers.{Offers}
+use Rattle.loom_operations.specs.Asked.{which_store, which_thread, whether_spurious}
+use Rattle.loom_operations.specs.Exploring.{is_on, switched}
+use Rattle.loom_operations.specs.declared.operation.ExploreOp.{ExploreOp}
+use Rattle.loom_operations.specs.declared.operation.Reply.TheVariants as reply
+use Rattle.loom_operations.specs.declared.exploring.Exploring.{Exploring}
+use Rattle.loom_operations.specs.Question.{Question, asked_store, made_of, slots}
 use Rattle.loom_objects.specs.Scene.{KeepsAt, world_of}
 use Rattle.loom_objects.specs.Schedules.{offers}
-use Rattle.loom_objects.specs.Tree.{Tree, Gives, Fails, Closes, Asks, ◌>>=◌, came, check}
+use Rattle.loom_operations.specs.Tree.{Tree, Gives, Fails, Closes, Asks, ◌>>=◌, came, check}
 use Rattle.loom_objects.specs.World.{World}
 use Rattle.loom_objects.specs.Ending.{all_ended}
-use Rattle.loom_objects.specs.Accessed.{accessed}
+use Rattle.loom_operations.specs.Accessed.{accessed}
 use Rattle.loom_objects.specs.Shown.{Shows, Resumes, Comes as world_comes}
 use Rattle.loom_objects.specs.Steps.{begins, ends, enters_wait, read_by, resumes, turned as world_turned}
-use Rattle.loom_objects.specs.declared.operation.Reply.{Reply}
-use Rattle.loom_objects.specs.declared.operation.Turn.TheVariants as turn
+use Rattle.loom_operations.specs.declared.operation.Reply.{Reply}
+use Rattle.loom_operations.specs.declared.operation.Turn.TheVariants as turn
 use Rattle.loom_objects.specs.declared.rt.run.Entry.{Entry}
 use Rattle.loom_objects.specs.declared.rt.run.Entry.TheVariants.{Answered}
 use Rattle.loom_objects.specs.declared.rt.run.Loading.{Loading}

@@ -6,22 +6,22 @@ use Rattle.loom_view_parts.specs.declared.rt.failure.FailureKind.{FailureKind}
 use Rattle.loom_view_parts.specs.declared.rt.failure.FailureKind.TheVariants.{NotDeterministic, TooManyBranches}
 use Rattle.loom_parts.specs.declared.choice.Choice.{Choice}
 use Rattle.loom_parts.specs.declared.choice.Choice.TheVariants.{Thread, Load, Spurious}
-use Rattle.loom_objects.specs.declared.failure.Stop.{Stop}
-use Rattle.loom_objects.specs.declared.failure.Stop.TheVariants.{Failure, Memory}
-use Rattle.loom_objects.specs.declared.operation.Request.{Request}
-use Rattle.loom_objects.specs.declared.operation.Turn.{Turn}
+use Rattle.loom_operations.specs.declared.failure.Stop.{Stop}
+use Rattle.loom_operations.specs.declared.failure.Stop.TheVariants.{Failure, Memory}
+use Rattle.loom_operations.specs.declared.operation.Request.{Request}
+use Rattle.loom_operations.specs.declared.operation.Turn.{Turn}
 use Rattle.loom_objects.specs.declared.rt.run.Entry.{Entry}
 use Rattle.loom_objects.specs.declared.rt.run.Loading.{Loading}
 use Rattle.loom_objects.specs.declared.rt.run.Resumed.TheVariants as resumed
 use Rattle.loom_objects.specs.declared.rt.run.Passed.{Passed}
 use Rattle.loom_objects.specs.declared.rt.run.Passed.TheVariants as passed
-use Rattle.loom_objects.specs.declared.rt.thread.Offers.{Offers}
-use Rattle.loom_objects.specs.Question.{Question, made_of}
+use Rattle.loom_operations.specs.declared.offers.Offers.{Offers}
+use Rattle.loom_operations.specs.Question.{Question, made_of}
 use Rattle.loom_objects.specs.Shown.{Shows, Resumes, Comes as world_comes}
 use Rattle.loom_objects.specs.Steps.{enters_wait, resumes}
 use Rattle.loom_objects.specs.Effects.{needs_memory}
 use Rattle.loom_objects.specs.Uses.{use_at}
-use Rattle.loom_objects.specs.Tree.{Tree, Gives, Fails, Closes, Asks, ◌>>=◌}
+use Rattle.loom_operations.specs.Tree.{Tree, Gives, Fails, Closes, Asks, ◌>>=◌}
 use Rattle.loom_objects.specs.World.{World}
 use Rattle.loom_walks.specs.Walk.Choices.{pick}
 use Rattle.loom_walks.specs.Walk.Path.{Stored}
@@ -31,8 +31,8 @@ use Rattle.loom_walks.specs.Trees.Marks.{marking}
 use Rattle.loom_walks.specs.Trees.Meeting.{Settings, Marking, every_at}
 use Rattle.loom_walks.specs.Walk.UnderWay.{mark_with}
 use Rattle.loom_walks.proofs.Trees.Binding.{onward, drive_bind, drive_then}
-use Rattle.loom_objects.specs.Asked.{which_thread, which_store, whether_spurious}
-use Rattle.loom_objects.specs.Exploring.{is_on}
+use Rattle.loom_operations.specs.Asked.{which_thread, which_store, whether_spurious}
+use Rattle.loom_operations.specs.Exploring.{is_on}
 use Rattle.loom_runs.specs.Machine.{passes, chooses, further, further_branches, goes_on, is_asked, schedule, submit, waits}
 use Rattle.loom_runs.specs.Courses.{Course, carried, unordered_in, used_in}
 use Rattle.loom_machine.specs.Copies.{GivesCopy}

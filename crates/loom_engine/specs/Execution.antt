@@ -2,15 +2,15 @@
 use Rattle.std.specs.Prelude.{ℕ, ◌≡◌, ◌⊎◌, true, Option, Some, None, Result, Ok, Err, ⊤}
 use Rattle.loom_view_parts.specs.declared.rt.failure.FailureKind.TheVariants.{Misuse}
 use Rattle.loom_view_parts.specs.declared.rt.failure.FailureKind.{FailureKind}
-use Rattle.loom_objects.specs.declared.failure.Stop.{Stop}
-use Rattle.loom_objects.specs.declared.failure.Stop.TheVariants.{Failure, Memory}
-use Rattle.loom_objects.specs.declared.operation.Request.{Request}
-use Rattle.loom_objects.specs.declared.operation.Reply.TheVariants.{ReadLocked}
-use Rattle.loom_objects.specs.declared.operation.Turn.{Turn}
-use Rattle.loom_objects.specs.declared.operation.Turn.TheVariants.{Reply, Start, Ended}
+use Rattle.loom_operations.specs.declared.failure.Stop.{Stop}
+use Rattle.loom_operations.specs.declared.failure.Stop.TheVariants.{Failure, Memory}
+use Rattle.loom_operations.specs.declared.operation.Request.{Request}
+use Rattle.loom_operations.specs.declared.operation.Reply.TheVariants.{ReadLocked}
+use Rattle.loom_operations.specs.declared.operation.Turn.{Turn}
+use Rattle.loom_operations.specs.declared.operation.Turn.TheVariants.{Reply, Start, Ended}
 use Rattle.loom_objects.specs.Effects.{needs_memory}
-use Rattle.loom_objects.specs.Exploring.{is_on}
-use Rattle.loom_objects.specs.Tree.{Tree, Gives, Fails}
+use Rattle.loom_operations.specs.Exploring.{is_on}
+use Rattle.loom_operations.specs.Tree.{Tree, Gives, Fails}
 use Rattle.loom_objects.specs.Shown.{Shows}
 use Rattle.loom_objects.specs.World.{World}
 use Rattle.loom_objects.specs.declared.rt.run.Entry.{Entry}

@@ -2,8 +2,8 @@
 ghost use Rattle.std.specs.Prelude.{◌≡◌, None};
 ghost use Rattle.loom_engine_parts.specs.Ending.{may_end, kept_after};
 
-use loom_objects::failure::{Stop, failed};
-use loom_objects::operation::Turn;
+use loom_operations::failure::{Stop, failed};
+use loom_operations::operation::Turn;
 use loom_views::rt::failure::FailureKind;
 
 /// Whether a run may end in which no thread can go on, or why it fails: a thread hasn't ended, or the path goes on (loom's

@@ -2,7 +2,7 @@
 //! flag is down or it is let go first itself. Both add one to the number in a cell.
 use crate::named;
 use loom::sync::atomic::Ordering::{AcqRel, Acquire, Relaxed, Release, SeqCst};
-use loom_objects::operation::{AtomicOp, CellOp, Request, ThreadOp};
+use loom_operations::operation::{AtomicOp, CellOp, Request, ThreadOp};
 use loom_scripts::step::Step::{Do, JumpTo, Label, Labelled, SpawnAt, UnlessTo};
 use loom_scripts::step::{END, EXIT, FAIL, Step, Value, YIELD};
 use loom_views::rt::num::Numbers;

@@ -1,7 +1,7 @@
 //! A queue with room for one item, by a mutex and a condition variable, as a script. The mutex holds how many items there are.
 //! One thread puts two items in, another one puts one, and main takes all three out.
 use crate::named;
-use loom_objects::operation::{CondvarOp, MutexOp, Request, ThreadOp};
+use loom_operations::operation::{CondvarOp, MutexOp, Request, ThreadOp};
 use loom_scripts::step::Step::{Do, IfTo, Label, Labelled, SpawnAt, UnlessTo};
 use loom_scripts::step::{END, EXIT, Step, Value};
 

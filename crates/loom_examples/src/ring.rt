@@ -2,7 +2,7 @@
 //! that were taken out. A thread puts 11, 12 and 13 in. Main takes them out, and asserts which they are.
 use crate::named;
 use loom::sync::atomic::Ordering::{Acquire, Relaxed, Release};
-use loom_objects::operation::{AtomicOp, CellOp, Request, ThreadOp};
+use loom_operations::operation::{AtomicOp, CellOp, Request, ThreadOp};
 use loom_scripts::step::Step::{Do, JumpTo, Label, Labelled, SpawnAt, UnlessTo};
 use loom_scripts::step::{END, EXIT, FAIL, Step, Value, YIELD};
 use loom_views::rt::num::Numbers;

@@ -7,7 +7,6 @@ use loom::sync::atomic::Ordering::{Acquire, Relaxed};
 use loom::sync::atomic::{AtomicBool, Ordering};
 use loom::thread::{self, Leaving};
 use loom::{Body, Op, Reply, fail};
-use loom_scripts::number::Number;
 use std::alloc::AllocError;
 use std::mem;
 
@@ -52,14 +51,14 @@ impl Spin {
 
     /// What comes after this reply, and the operation that the thread hands over, if it knows the reply. What the reply holds is
     /// taken out of it, so that it is let go at one place.
-    fn turn(&self, reply: &mut Reply<Number>) -> Option<(Awaits, Op<Number, Spin>)>
+    fn turn(&self, reply: &mut Reply<u64>) -> Option<(Awaits, Op<u64, Spin>)>
         ensures { result ≡ turn self.now self.now.awaits reply.old }
     {
         let next = match self.awaits {
             Awaits::Main => (Awaits::TheFlag, AtomicBool::new(false)),
             Awaits::TheFlag => {
                 let flag = AtomicBool::from_reply(reply)?;
-                (Awaits::TheCell(flag), UnsafeCell::new(Number(0)))
+                (Awaits::TheCell(flag), UnsafeCell::new(0))
             }
             Awaits::TheCell(flag) => {
                 let awaits = Awaits::Trying(flag, UnsafeCell::from_reply(reply)?);
@@ -74,8 +73,8 @@ impl Spin {
                 Err(_) => (Awaits::Trying(flag, cell), thread::yield_now()),
             },
             Awaits::TheNumber(flag) => {
-                let (pointer, Number(number)) = MutPtr::take(mem::replace(reply, Reply::Done))?;
-                let next = Number(number.wrapping_add(1));
+                let (pointer, number) = MutPtr::take(mem::replace(reply, Reply::Done))?;
+                let next = number.wrapping_add(1);
                 (Awaits::Written(flag), pointer.end(next))
             }
             Awaits::Written(flag) => {
@@ -83,7 +82,7 @@ impl Spin {
                 (Awaits::Leaving(Leaving::Finish), free)
             }
             Awaits::Leaving(leaving) => {
-                let (leaving, op) = leaving.next(Number(0));
+                let (leaving, op) = leaving.next(0);
                 (Awaits::Leaving(leaving), op)
             }
         };
@@ -92,11 +91,11 @@ impl Spin {
 }
 
 impl Body for Spin {
-    type Data = Number;
+    type Data = u64;
 
     ghost next = { next_of };
 
-    fn resume(&mut self, mut reply: Reply<Number>) -> Result<Op<Number, Spin>, AllocError>
+    fn resume(&mut self, mut reply: Reply<u64>) -> Result<Op<u64, Spin>, AllocError>
         ensures { IfOk result (λ op. (self.new, op) ≡ next_of self.old reply) }
     {
         let (awaits, op) = self.turn(&mut reply).unwrap_or((self.awaits, fail()));

@@ -2,13 +2,13 @@
 use Rattle.std.proofs.Common.{◌≡◌, ℕ, zero, suc, List, [], ◌∷◌, refl, sym, ◌∙◌}
 use Rattle.std.specs.Prelude.{Option, Some, None, Ok, Err, slice_get, slice_set}
 use Rattle.loom_view_parts.specs.declared.rt.failure.FailureKind.TheVariants.{Misuse}
-use Rattle.loom_objects.specs.Labels.{Op}
-use Rattle.loom_objects.specs.declared.operation.Reply.{Reply}
-use Rattle.loom_objects.specs.declared.operation.Reply.TheVariants as reply
-use Rattle.loom_objects.specs.declared.operation.Turn.{Turn}
-use Rattle.loom_objects.specs.declared.operation.Turn.TheVariants as turn
-use Rattle.loom_objects.specs.Operation.{plain, started}
-use Rattle.loom_objects.specs.Tree.{Gives, ◌>>=◌, found}
+use Rattle.loom_operations.specs.Labels.{Op}
+use Rattle.loom_operations.specs.declared.operation.Reply.{Reply}
+use Rattle.loom_operations.specs.declared.operation.Reply.TheVariants as reply
+use Rattle.loom_operations.specs.declared.operation.Turn.{Turn}
+use Rattle.loom_operations.specs.declared.operation.Turn.TheVariants as turn
+use Rattle.loom_operations.specs.Operation.{plain, started}
+use Rattle.loom_operations.specs.Tree.{Gives, ◌>>=◌, found}
 use Rattle.loom_walks.specs.Trees.Drive.{Trail, drive}
 use Rattle.loom_walks.specs.Trees.Marks.{marking}
 use Rattle.loom_walks.specs.Trees.Meeting.{Settings}

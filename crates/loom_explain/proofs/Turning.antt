@@ -4,15 +4,15 @@ use Rattle.std.specs.Prelude.{IfOk, OnOk, Result, Ok, Err, Option, Some, slice_g
 use Rattle.std.proofs.lemmas.Option.{slice_get_past}
 use Rattle.loom_view_parts.specs.declared.rt.failure.FailureKind.{FailureKind}
 use Rattle.loom_view_parts.specs.declared.rt.failure.FailureKind.TheVariants.{Misuse}
-use Rattle.loom_objects.specs.declared.failure.Stop.{Stop}
-use Rattle.loom_objects.specs.declared.failure.Stop.TheVariants.{Failure as Because, Memory}
-use Rattle.loom_objects.specs.Labels.{Op}
-use Rattle.loom_objects.specs.declared.operation.Request.{Request}
-use Rattle.loom_objects.specs.declared.operation.Reply.{Reply}
-use Rattle.loom_objects.specs.declared.operation.Reply.TheVariants as reply
-use Rattle.loom_objects.specs.declared.operation.Turn.{Turn}
-use Rattle.loom_objects.specs.declared.operation.Turn.TheVariants as turn
-use Rattle.loom_objects.specs.Operation.{plain, started}
+use Rattle.loom_operations.specs.declared.failure.Stop.{Stop}
+use Rattle.loom_operations.specs.declared.failure.Stop.TheVariants.{Failure as Because, Memory}
+use Rattle.loom_operations.specs.Labels.{Op}
+use Rattle.loom_operations.specs.declared.operation.Request.{Request}
+use Rattle.loom_operations.specs.declared.operation.Reply.{Reply}
+use Rattle.loom_operations.specs.declared.operation.Reply.TheVariants as reply
+use Rattle.loom_operations.specs.declared.operation.Turn.{Turn}
+use Rattle.loom_operations.specs.declared.operation.Turn.TheVariants as turn
+use Rattle.loom_operations.specs.Operation.{plain, started}
 use Rattle.loom_objects.specs.World.{World}
 use Rattle.loom_engine.specs.declared.rt.execution.Progress.{Progress}
 use Rattle.loom_engine.specs.Execution.{Comes, ShowsCourse}

@@ -1,32 +1,32 @@
 -- An operation and a reply without their data: a value in the place of each is `tt`, and a list has as many.
 use Rattle.std.specs.Prelude.{map, ⊤}
-use Rattle.loom_objects.specs.declared.operation.ArcOp.{ArcOp}
-use Rattle.loom_objects.specs.declared.operation.ArcOp.TheVariants as arc
-use Rattle.loom_objects.specs.declared.operation.CellOp.{CellOp}
-use Rattle.loom_objects.specs.declared.operation.CellOp.TheVariants as cell
-use Rattle.loom_objects.specs.declared.operation.ChannelOp.{ChannelOp}
-use Rattle.loom_objects.specs.declared.operation.ChannelOp.TheVariants as channel
-use Rattle.loom_objects.specs.declared.operation.CondvarOp.{CondvarOp}
-use Rattle.loom_objects.specs.declared.operation.CondvarOp.TheVariants as condvar
-use Rattle.loom_objects.specs.declared.operation.Keyed.{Keyed}
-use Rattle.loom_objects.specs.declared.operation.Lazy.{Lazy}
-use Rattle.loom_objects.specs.declared.operation.LazyOp.{LazyOp}
-use Rattle.loom_objects.specs.declared.operation.LazyOp.TheVariants as lazy
-use Rattle.loom_objects.specs.declared.operation.LocalOp.{LocalOp}
-use Rattle.loom_objects.specs.declared.operation.LocalOp.TheVariants as local
-use Rattle.loom_objects.specs.declared.operation.MutexOp.{MutexOp}
-use Rattle.loom_objects.specs.declared.operation.MutexOp.TheVariants as mutex
-use Rattle.loom_objects.specs.Labels.{Op}
-use Rattle.loom_objects.specs.declared.operation.Request.{Request}
-use Rattle.loom_objects.specs.declared.operation.Request.TheVariants as op
-use Rattle.loom_objects.specs.declared.operation.Reply.{Reply}
-use Rattle.loom_objects.specs.declared.operation.Reply.TheVariants as reply
-use Rattle.loom_objects.specs.declared.operation.RwLockOp.{RwLockOp}
-use Rattle.loom_objects.specs.declared.operation.RwLockOp.TheVariants as rwlock
-use Rattle.loom_objects.specs.declared.operation.ThreadOp.{ThreadOp}
-use Rattle.loom_objects.specs.declared.operation.ThreadOp.TheVariants as thread
-use Rattle.loom_objects.specs.declared.operation.TrackOp.{TrackOp}
-use Rattle.loom_objects.specs.declared.operation.TrackOp.TheVariants as track
+use Rattle.loom_operations.specs.declared.operation.ArcOp.{ArcOp}
+use Rattle.loom_operations.specs.declared.operation.ArcOp.TheVariants as arc
+use Rattle.loom_operations.specs.declared.operation.CellOp.{CellOp}
+use Rattle.loom_operations.specs.declared.operation.CellOp.TheVariants as cell
+use Rattle.loom_operations.specs.declared.operation.ChannelOp.{ChannelOp}
+use Rattle.loom_operations.specs.declared.operation.ChannelOp.TheVariants as channel
+use Rattle.loom_operations.specs.declared.operation.CondvarOp.{CondvarOp}
+use Rattle.loom_operations.specs.declared.operation.CondvarOp.TheVariants as condvar
+use Rattle.loom_operations.specs.declared.operation.Keyed.{Keyed}
+use Rattle.loom_operations.specs.declared.operation.Lazy.{Lazy}
+use Rattle.loom_operations.specs.declared.operation.LazyOp.{LazyOp}
+use Rattle.loom_operations.specs.declared.operation.LazyOp.TheVariants as lazy
+use Rattle.loom_operations.specs.declared.operation.LocalOp.{LocalOp}
+use Rattle.loom_operations.specs.declared.operation.LocalOp.TheVariants as local
+use Rattle.loom_operations.specs.declared.operation.MutexOp.{MutexOp}
+use Rattle.loom_operations.specs.declared.operation.MutexOp.TheVariants as mutex
+use Rattle.loom_operations.specs.Labels.{Op}
+use Rattle.loom_operations.specs.declared.operation.Request.{Request}
+use Rattle.loom_operations.specs.declared.operation.Request.TheVariants as op
+use Rattle.loom_operations.specs.declared.operation.Reply.{Reply}
+use Rattle.loom_operations.specs.declared.operation.Reply.TheVariants as reply
+use Rattle.loom_operations.specs.declared.operation.RwLockOp.{RwLockOp}
+use Rattle.loom_operations.specs.declared.operation.RwLockOp.TheVariants as rwlock
+use Rattle.loom_operations.specs.declared.operation.ThreadOp.{ThreadOp}
+use Rattle.loom_operations.specs.declared.operation.ThreadOp.TheVariants as thread
+use Rattle.loom_operations.specs.declared.operation.TrackOp.{TrackOp}
+use Rattle.loom_operations.specs.declared.operation.TrackOp.TheVariants as track
 
 module _ {D : Type 0} where
   abbrev pub bare_cell : CellOp D → CellOp ⊤

@@ -1,11 +1,11 @@
 -- A run told as events: which thread was told what, and what it handed over then, after how many choices.
 use Rattle.std.specs.Prelude.{ℕ, zero, suc, ◌≡◌, Bool, List, [], ◌∷◌, Option, Some, None, Ok, Err, slice_get, slice_set}
 use Rattle.loom_view_parts.specs.declared.rt.failure.FailureKind.TheVariants.{TooManySteps, Misuse}
-use Rattle.loom_objects.specs.Labels.{Op}
-use Rattle.loom_objects.specs.declared.operation.Reply.{Reply}
-use Rattle.loom_objects.specs.declared.operation.Reply.TheVariants as reply
-use Rattle.loom_objects.specs.declared.operation.Turn.{Turn}
-use Rattle.loom_objects.specs.Operation.{plain, started}
+use Rattle.loom_operations.specs.Labels.{Op}
+use Rattle.loom_operations.specs.declared.operation.Reply.{Reply}
+use Rattle.loom_operations.specs.declared.operation.Reply.TheVariants as reply
+use Rattle.loom_operations.specs.declared.operation.Turn.{Turn}
+use Rattle.loom_operations.specs.Operation.{plain, started}
 use Rattle.loom_walks.specs.Trees.Drive.{Trail, drive}
 use Rattle.loom_walks.specs.Trees.Marks.{marking}
 use Rattle.loom_walks.specs.Trees.Meeting.{Settings}

@@ -2,7 +2,7 @@
 ghost use Rattle.std.specs.Prelude.{◌≡◌, IfOk, map};
 ghost use Rattle.loom_explain.specs.Bare.{bare_arc, bare_cell, bare_channel, bare_condvar, bare_lazy, bare_lazy_value, bare_local, bare_local_value, bare_mutex, bare_op, bare_reply, bare_request, bare_rwlock, bare_thread, bare_track, nothing};
 
-use loom_objects::operation::{
+use loom_operations::operation::{
     ArcOp, CellOp, ChannelOp, CondvarOp, Keyed, Labelled, Lazy, LazyOp, LocalOp, MutexOp, Op,
     Reply, Request, RwLockOp, ThreadOp, TrackOp,
 };

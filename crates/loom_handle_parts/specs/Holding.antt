@@ -1,7 +1,7 @@
 -- The mutex that a reply says is held.
 use Rattle.std.specs.Prelude.{ℕ, Option, Some, None}
-use Rattle.loom_objects.specs.declared.operation.Reply.{Reply}
-use Rattle.loom_objects.specs.declared.operation.Reply.TheVariants.{Locked, Waited}
+use Rattle.loom_operations.specs.declared.operation.Reply.{Reply}
+use Rattle.loom_operations.specs.declared.operation.Reply.TheVariants.{Locked, Waited}
 
 module _ {D : Type 0} where
   -- its number

@@ -1,7 +1,7 @@
 ghost use Rattle.std.specs.Prelude.{◌≡◌};
-ghost use Rattle.loom_objects.specs.Labels.{bare};
+ghost use Rattle.loom_operations.specs.Labels.{bare};
 
-use loom_objects::operation::{AtomicOp, Op, Request};
+use loom_operations::operation::{AtomicOp, Op, Request};
 use loom_views::rt::num::Numeric;
 
 /// Ends the thread's mutation of the atomic of this number, which leaves this value (loom's `sync/atomic/int.rs`).

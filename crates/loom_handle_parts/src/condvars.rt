@@ -1,7 +1,7 @@
 ghost use Rattle.std.specs.Prelude.{◌≡◌};
-ghost use Rattle.loom_objects.specs.Labels.{bare};
+ghost use Rattle.loom_operations.specs.Labels.{bare};
 
-use loom_objects::operation::{CondvarOp, Op, Request};
+use loom_operations::operation::{CondvarOp, Op, Request};
 
 /// The thread releases the mutex of this number, which holds this data then, and waits on the condition variable (loom's
 /// `sync/condvar.rs`).

@@ -1,8 +1,8 @@
 ghost use Rattle.std.specs.Prelude.{◌≡◌};
-ghost use Rattle.loom_objects.specs.Labels.{bare};
+ghost use Rattle.loom_operations.specs.Labels.{bare};
 ghost use Rattle.loom_handle_parts.specs.Holding.{held_in};
 
-use loom_objects::operation::{MutexOp, Op, Reply, Request};
+use loom_operations::operation::{MutexOp, Op, Reply, Request};
 
 /// The thread holds the mutex of this number from its reply on (loom's `sync/mutex.rs`).
 pub fn lock<D, S>(number: usize) -> Op<D, S>

@@ -2,7 +2,7 @@ ghost use Rattle.std.specs.Prelude.{◌≡◌};
 ghost use Rattle.std.specs.Option.{option_map};
 ghost use Rattle.loom_parts.specs.Texts.{shown};
 
-use loom_objects::rt::thread::Name;
+use loom_operations::operation::Name;
 
 /// What is kept of a thread's name, if it was given one (own).
 pub fn text_of(name: &Option<Name>) -> Option<&str>

@@ -3,7 +3,7 @@ use Rattle.std.proofs.Common.{◌≡◌, ◌∙◌, ℕ, ap, refl}
 use Rattle.std.specs.Prelude.{Bool, true, false, is_none, Result, Ok, Err, IfOk, OnErr}
 use Rattle.loom_view_parts.specs.declared.rt.failure.FailureKind.{FailureKind}
 use Rattle.loom_view_parts.specs.declared.rt.failure.FailureKind.TheVariants.{Misuse}
-use Rattle.loom_objects.specs.declared.operation.Reply.{Reply}
+use Rattle.loom_operations.specs.declared.operation.Reply.{Reply}
 use Rattle.loom_objects.specs.declared.rt.sync.RwLock.{RwLock}
 use Rattle.loom_objects.specs.declared.rt.thread.Claim.{Claim}
 use Rattle.loom_objects.specs.declared.rt.thread.Claim.TheVariants.{Read, TryRead, Write, TryWrite}

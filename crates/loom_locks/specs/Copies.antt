@@ -2,8 +2,8 @@
 use Rattle.std.specs.Prelude.{ℕ, ◌≡◌, Result, Ok, Err}
 use Rattle.loom_views.specs.Table.{Points}
 use Rattle.loom_view_parts.specs.declared.rt.failure.FailureKind.{FailureKind}
-use Rattle.loom_objects.specs.declared.operation.Reply.{Reply}
-use Rattle.loom_objects.specs.declared.operation.Reply.TheVariants.{ReadLocked}
+use Rattle.loom_operations.specs.declared.operation.Reply.{Reply}
+use Rattle.loom_operations.specs.declared.operation.Reply.TheVariants.{ReadLocked}
 use Rattle.loom_objects.specs.Scene.{Stage, world_of}
 use Rattle.loom_objects.specs.World.{World}
 

@@ -6,12 +6,12 @@ ghost use Rattle.loom_objects.specs.Scene.{Does, DoesIfOk};
 use crate::locks::set_free;
 use arrayvec::ArrayVec;
 use loom_effect_parts::condvars::sleep;
-use loom_objects::operation::{CondvarOp, Reply};
 use loom_objects::rt::object::Object;
 use loom_objects::rt::run::{Entry, Passed};
 use loom_objects::rt::scene::Scene;
 use loom_objects::rt::sync::Condvar;
 use loom_objects::rt::thread::{Locking, Task, Waking};
+use loom_operations::operation::{CondvarOp, Reply};
 use loom_views::rt::failure::FailureKind;
 use std::alloc::AllocError;
 

@@ -2,12 +2,12 @@ ghost use Rattle.std.specs.Prelude.{◌≡◌, IfOk, OnErr, true};
 ghost use Rattle.loom_objects.specs.Locks as rules;
 ghost use Rattle.loom_objects.specs.Scene.{Does, DoesIfOk};
 
-use loom_objects::operation::{MutexOp, Reply};
 use loom_objects::rt::object::Object;
 use loom_objects::rt::run::Entry;
 use loom_objects::rt::scene::Scene;
 use loom_objects::rt::sync::{Lent, Mutex};
 use loom_objects::rt::thread::{Locking, Task};
+use loom_operations::operation::{MutexOp, Reply};
 use loom_views::rt::failure::FailureKind;
 use std::alloc::AllocError;
 

@@ -4,13 +4,13 @@ ghost use Rattle.loom_objects.specs.RwLocks as rules;
 ghost use Rattle.loom_objects.specs.Scene.{Does, DoesIfOk};
 
 use loom_effect_parts::rwlocks::{read_release, waits};
-use loom_objects::data::Data;
-use loom_objects::operation::{Reply, RwLockOp};
 use loom_objects::rt::object::Object;
 use loom_objects::rt::run::Entry;
 use loom_objects::rt::scene::Scene;
 use loom_objects::rt::sync::{Lent, RwLock};
 use loom_objects::rt::thread::{Claim, Task};
+use loom_operations::data::Data;
+use loom_operations::operation::{Reply, RwLockOp};
 use loom_views::rt::MAX_THREADS;
 use loom_views::rt::failure::FailureKind;
 use std::alloc::AllocError;

@@ -8,12 +8,12 @@ use Rattle.loom_view_parts.specs.declared.rt.failure.FailureKind.{FailureKind}
 use Rattle.loom_view_parts.specs.declared.rt.failure.FailureKind.TheVariants.{TooManySteps}
 use Rattle.loom_parts.specs.declared.choice.Choice.{Choice}
 use Rattle.loom_parts.specs.declared.choice.Choice.TheVariants as choice
-use Rattle.loom_objects.specs.declared.failure.Stop.{Stop}
-use Rattle.loom_objects.specs.declared.failure.Stop.TheVariants.{Memory}
-use Rattle.loom_objects.specs.declared.operation.Request.{Request}
-use Rattle.loom_objects.specs.declared.operation.Reply.{Reply}
-use Rattle.loom_objects.specs.declared.operation.Reply.TheVariants as reply
-use Rattle.loom_objects.specs.declared.operation.Turn.TheVariants as turn
+use Rattle.loom_operations.specs.declared.failure.Stop.{Stop}
+use Rattle.loom_operations.specs.declared.failure.Stop.TheVariants.{Memory}
+use Rattle.loom_operations.specs.declared.operation.Request.{Request}
+use Rattle.loom_operations.specs.declared.operation.Reply.{Reply}
+use Rattle.loom_operations.specs.declared.operation.Reply.TheVariants as reply
+use Rattle.loom_operations.specs.declared.operation.Turn.TheVariants as turn
 use Rattle.loom_objects.specs.declared.rt.run.Entry.{Entry}
 use Rattle.loom_objects.specs.declared.rt.run.Loading.{Loading}
 use Rattle.loom_objects.specs.declared.rt.run.Passed.TheVariants as passed
@@ -22,16 +22,16 @@ use Rattle.loom_objects.specs.declared.rt.run.Resumed.TheVariants.{Passed as Tha
 use Rattle.loom_objects.specs.declared.rt.run.RunState.{RunState}
 use Rattle.loom_objects.specs.Atomics.{reads}
 use Rattle.loom_objects.specs.Effects.{chosen, counted, op_begins}
-use Rattle.loom_objects.specs.Failing.{failure_of, fails}
-use Rattle.loom_objects.specs.Accessed.{accessed}
-use Rattle.loom_objects.specs.Question.{asked_store, slots, slots_from}
+use Rattle.loom_operations.specs.Failing.{failure_of, fails}
+use Rattle.loom_operations.specs.Accessed.{accessed}
+use Rattle.loom_operations.specs.Question.{asked_store, slots, slots_from}
 use Rattle.loom_objects.specs.Rule.{check}
 use Rattle.loom_objects.specs.Rule as rule
 use Rattle.loom_objects.specs.Scene.{world_of, DoesAt, HasSlot, KeepsAt, KeepsSlots}
 use Rattle.loom_objects.specs.Scene as scene
 use Rattle.loom_objects.specs.Shown.{Shows, Comes, Does, Resumes}
 use Rattle.loom_objects.specs.Steps.{asked, asks_slot, begins, read_by, read_slot, resumes, slot_of, told, turned}
-use Rattle.loom_objects.specs.Tree.{Gives, Fails, Asks, ◌>>=◌, came}
+use Rattle.loom_operations.specs.Tree.{Gives, Fails, Asks, ◌>>=◌, came}
 use Rattle.loom_objects.specs.World.{World}
 use Rattle.loom_locks.specs.Copies.{answer_of}
 use Rattle.loom_machine.specs.Copies.{TellsCopy, GivesCopy}

@@ -2,8 +2,8 @@
 use Rattle.std.specs.Prelude.{ℕ, ◌≡◌, Bool, false, Option, Some, None, Result, Ok}
 use Rattle.loom_views.specs.Table.{Points, ShowsViews}
 use Rattle.loom_view_parts.specs.declared.rt.failure.FailureKind.{FailureKind}
-use Rattle.loom_objects.specs.declared.operation.Reply.TheVariants.{ReadLocked}
-use Rattle.loom_objects.specs.declared.operation.Turn.TheVariants as turn
+use Rattle.loom_operations.specs.declared.operation.Reply.TheVariants.{ReadLocked}
+use Rattle.loom_operations.specs.declared.operation.Turn.TheVariants as turn
 use Rattle.loom_objects.specs.declared.rt.run.Passed.{Passed}
 use Rattle.loom_objects.specs.declared.rt.run.Passed.TheVariants as passed
 use Rattle.loom_objects.specs.declared.rt.run.Resumed.{Resumed}
@@ -13,7 +13,7 @@ use Rattle.loom_objects.specs.declared.rt.thread.Task.TheVariants.{Start, Body, 
 use Rattle.loom_objects.specs.declared.rt.thread.Thread.{Thread}
 use Rattle.loom_objects.specs.RwLocks.{is_reading}
 use Rattle.loom_objects.specs.Scene.{Stage, world_of}
-use Rattle.loom_objects.specs.Tree.{Tree, Gives}
+use Rattle.loom_operations.specs.Tree.{Tree, Gives}
 use Rattle.loom_objects.specs.World.{World}
 use Rattle.loom_locks.specs.Copies.{answer_of}
 

@@ -2,7 +2,7 @@
 ghost use Rattle.std.specs.Prelude.{◌≡◌, ◌≢◌, Bool, Err, ◌+◌, slice_get, true, IfOk, OnOk};
 ghost use Rattle.loom_machine.specs.Copies.{GivesCopy, reads_at};
 ghost use Rattle.loom_objects.specs.Effects as effects;
-ghost use Rattle.loom_objects.specs.Accessed.{accessed};
+ghost use Rattle.loom_operations.specs.Accessed.{accessed};
 ghost use Rattle.loom_objects.specs.Scene.{HasSlot, KeepsAt};
 ghost use Rattle.loom_objects.specs.Shown.{Comes, Does, Shows, Resumes};
 ghost use Rattle.loom_objects.specs.Steps as rules;
@@ -11,10 +11,10 @@ ghost use Rattle.loom_parts.specs.declared.choice.Choice.{Choice};
 
 use crate::effects::{begin_op, go_on};
 use loom_atomics::atomics;
-use loom_objects::data::Data;
-use loom_objects::failure::{Stop, failed};
-use loom_objects::operation::{Request, Turn};
 use loom_objects::rt::run::{Entry, Loading, Resumed, RunState};
+use loom_operations::data::Data;
+use loom_operations::failure::{Stop, failed};
+use loom_operations::operation::{Request, Turn};
 use loom_parts::steps::take_step;
 use loom_threads::notifiers;
 use loom_views::rt::failure::FailureKind;

@@ -1,7 +1,7 @@
 -- Checks with rising bounds on preemptions.
 use Rattle.std.proofs.Common.{◌≡◌, ◌<◌, ◌≤◌, ◌+◌, ℕ, Bool, true, false, [], refl, ap, subst, inl, inr, arith}
 use Rattle.std.specs.Prelude.{◌⊎◌, Some, None, Result, Ok, Err, IfErr, nat_lt}
-use Rattle.loom_objects.specs.Tree.{Tree}
+use Rattle.loom_operations.specs.Tree.{Tree}
 use Rattle.loom_runs.specs.Trees.{IsRunTree}
 use Rattle.loom_bounds.proofs.Within.{no_failure_law}
 use Rattle.loom_walks.specs.Trees.Marks.{marking}

@@ -1,5 +1,6 @@
 -- Which errors come, and whether the store met a fault.
-use Rattle.std.proofs.Common.{◌≡◌, ℕ, inl, inr, refl, ap, ◌∙◌, subst, arith}
+use Rattle.std.proofs.Common.{◌≡◌, ℕ, inl, inr, refl, ap, sym, ◌∙◌, subst, arith}
+use Rattle.std.specs.Result.{IfErr, IsErrAnd}
 use Rattle.std.specs.Prelude.{◌≢◌, List, Option, Result, Ok, Err}
 use Rattle.loom_checkpoint.specs.declared.error.PathError.{PathError}
 use Rattle.loom_checkpoint.specs.declared.error.PathError.TheVariants as why
@@ -19,6 +20,17 @@ counted_error result store.Memory old new h is = (λ e. absurd (cc (e, is)), λ 
 pub store_error : (e : StoreError) → IsNoSave (of_store e)
 store_error store.Fault = inr refl
 store_error store.Memory = inl refl
+
+-- what `?` makes of a store's error
+pub made_of_store : {A : Type 0} (result : Result A CheckError) (e : StoreError) → IsErrAnd result (λ x. x ≡ of_store e) → result ≡ Err (of_store e)
+made_of_store (Ok a) e is = absurd is
+made_of_store (Err x) e is = ap Err is
+
+-- and by it there is no report
+pub unreported : {A : Type 0} (b : Builder) (gives : Option (List ℕ) → Type 0) (no_run : Type 0) (result : Result A CheckError) (e : StoreError) → IsErrAnd result (λ x. x ≡ of_store e)
+    → IfErr result (IsNoReport b gives no_run)
+unreported b gives no_run (Ok a) e is = tt
+unreported b gives no_run (Err x) e is = inl (subst IsNoSave (sym is) (store_error e))
 
 -- no text is refused as a store's fault
 pub text_uncounted : {A : Type 0} (result : Result A CheckError) (w : PathError) (old new : ℕ) → new ≡ old → result ≡ Err (of_path w) → CountsFaults result old new

@@ -7,7 +7,7 @@ use Rattle.loom_told.specs.declared.explanation.Event.{Event}
 use Rattle.loom_explain.specs.Story.{EndsAs, Story}
 use Rattle.loom_explain.proofs.Story.{story_law}
 use Rattle.loom_parts.specs.declared.choice.Choice.{Choice}
-use Rattle.loom_objects.specs.Tree.{Tree}
+use Rattle.loom_operations.specs.Tree.{Tree}
 use Rattle.loom_path.specs.Routes.{Route, at_rest, chosen, drives, stored, trail}
 use Rattle.loom_runs.specs.Runs.{Meaning, runs}
 use Rattle.loom_runs.proofs.Runs.Bodies.{run_tree_law}

@@ -5,7 +5,7 @@ use Rattle.std.specs.Prelude.{◌≤◌, ◌≢◌, ◌⊎◌, map, Some, None, 
 use Rattle.loom_view_parts.specs.declared.rt.failure.FailureKind.{FailureKind}
 use Rattle.loom_parts.specs.declared.choice.Choice.{Choice}
 use Rattle.loom_parts.specs.declared.choice.Choice.TheVariants.{Thread}
-use Rattle.loom_objects.specs.Tree.{Tree}
+use Rattle.loom_operations.specs.Tree.{Tree}
 use Rattle.loom_walks.specs.Walk.Path.{Stored, choices, node_at, IsResting, IsAtRest}
 use Rattle.loom_walks.specs.Trees.Meeting.{Settings, machine_of}
 use Rattle.loom_walks.specs.Trees.Drive.{Trail, drive, at_start}

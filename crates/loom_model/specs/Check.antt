@@ -7,7 +7,7 @@ use Rattle.std.specs.declared.alloc.Global.{Global}
 use Rattle.std.specs.declared.time.Duration.{Duration}
 use Rattle.loom_view_parts.specs.declared.rt.failure.FailureKind.{FailureKind}
 use Rattle.loom_parts.specs.declared.choice.Choice.{Choice}
-use Rattle.loom_objects.specs.Tree.{Tree}
+use Rattle.loom_operations.specs.Tree.{Tree}
 use Rattle.loom_walks.specs.Walk.Path.{IsResting, Rest}
 use Rattle.loom_walks.specs.Trees.Check.{Makes, MakesAll}
 use Rattle.loom_walks.specs.Trees.Marks.{marking}

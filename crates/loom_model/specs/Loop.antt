@@ -2,7 +2,7 @@
 use Rattle.std.specs.Prelude.{ℕ, ◌≡◌, ◌<◌, ◌≤◌, Bool, false, Option, Some, None, Result, Ok, Err}
 use Rattle.std.specs.declared.time.Duration.{Duration}
 use Rattle.loom_parts.specs.declared.failure.Failure.{Failure}
-use Rattle.loom_objects.specs.Tree.{Tree}
+use Rattle.loom_operations.specs.Tree.{Tree}
 use Rattle.loom_path.specs.Routes.{Route, drives, trail}
 use Rattle.loom_model.specs.declared.builder.Builder.{Builder}
 use Rattle.loom_model.specs.declared.model.Limit.{Limit}

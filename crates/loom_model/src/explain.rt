@@ -11,7 +11,7 @@ use loom_check_parts::runs::{Runs, follow};
 use loom_engine::rt::execution::Limits;
 use loom_explain::options::options_at;
 use loom_explain::telling::{Told, tell};
-use loom_objects::body::Body;
+use loom_operations::body::Body;
 use loom_parts::choice::Choice;
 use loom_path::rt::path::Path;
 pub use loom_told::explanation::{End, Event, Explanation, Options};
@@ -38,7 +38,7 @@ impl Builder {
             builder: self,
             body,
         };
-        let (told, path) = follow(alloc, &runs, explores, self.max_branches, choices)?;
+        let (told, path) = follow(alloc, &runs, &mut (), explores, self.max_branches, choices)?;
         let choices = path.choices(alloc)?;
         let options = options_at(alloc, path.nodes())?;
         let mut explanation = Explanation {
@@ -70,7 +70,9 @@ impl<'a, B: Body> Runs<Told> for ToldRuns<'a, B> {
 
     ghost comes = { λ runs old told new. IsToldAs (story_of old.search B.next old.explores runs.builder.now.max_threads runs.builder.now.max_steps runs.body.now (trail old)) told new };
 
-    fn run(&self, alloc: Global, path: &mut Path) -> Result<Told, AllocError> {
+    type Room = ();
+
+    fn run(&self, alloc: Global, _room: &mut (), path: &mut Path) -> Result<Told, AllocError> {
         let limits = Limits {
             max_threads: self.builder.max_threads,
             max_steps: self.builder.max_steps,

@@ -17,9 +17,9 @@ mod search;
 
 pub use loom_check_parts::visitor;
 pub use loom_choices::choices::{Choices, ChoicesError, ShownChoices};
-pub use loom_objects::body::Body;
-pub use loom_objects::data::Data;
-pub use loom_objects::operation::{Exchange, Labelled, Op, Reply, Request, Turn};
+pub use loom_operations::body::Body;
+pub use loom_operations::data::Data;
+pub use loom_operations::operation::{Exchange, Labelled, Op, Reply, Request, Turn};
 pub use loom_ops::{
     alloc, cell, explore, fail, future, hint, lazy_static, skip_branch, stop_exploring, sync,
     thread, unexpected_reply,

@@ -13,9 +13,9 @@ use loom_check_parts::files::file_store;
 use loom_check_parts::paths::following;
 use loom_check_parts::receiver::{Listed, NoStore, Nobody, Unlisted};
 use loom_check_parts::visitor::Visitor;
-use loom_objects::body::Body;
-use loom_objects::choice::Choice;
-use loom_objects::failure::Failure;
+use loom_operations::body::Body;
+use loom_operations::failure::Failure;
+use loom_parts::choice::Choice;
 use loom_round::round::Ending;
 use loom_stores::clock::{Clock, NoClock};
 use loom_stores::store::CheckpointStore;
@@ -150,7 +150,7 @@ impl Builder {
         self.test()?;
         let explores = !self.expect_explicit_explore;
         let mut path = following(alloc, explores, self.max_branches, choices)?;
-        let ending = self.run(alloc, body, &mut path)?;
+        let ending = self.run_once(alloc, body, &mut path)?;
         let choices = path.choices(alloc)?;
         match ending {
             Ending::Failed(failure) => Ok(Replay::Failed { failure, choices }),

@@ -1,6 +1,6 @@
 //! What a log is told of a check.
 use log::{Log, debug};
-use loom_objects::choice::Choice;
+use loom_parts::choice::Choice;
 use loom_path::rt::path::Path;
 
 /// The threads that became active in the run that the path has passed, one after another.

@@ -10,7 +10,7 @@ use crate::error::CheckError;
 use crate::model::Report;
 use loom_check_parts::limits::next_bound;
 use loom_check_parts::receiver::NoStore;
-use loom_objects::body::Body;
+use loom_operations::body::Body;
 use std::alloc::Global;
 
 /// What a check with rising bounds found.

@@ -20,11 +20,11 @@ use loom_check_parts::receiver::Receiver;
 use loom_check_parts::rounds::Round;
 use loom_check_parts::runs::Runs;
 use loom_engine::rt::execution::Limits;
-use loom_objects::body::Body;
+use loom_operations::body::Body;
 use loom_parts::failure::Failure;
 use loom_path::rt::path::Path;
 use loom_round::places::{LastPlaces, NoPlaces};
-use loom_round::round::{Ending, run};
+use loom_round::round::{Ending, Room, run};
 use loom_saves::beginning::begin;
 use loom_saves::saving::{Pace, save, save_and_run};
 use loom_stores::clock::Clock;
@@ -54,6 +54,38 @@ impl Builder {
         ensures faults { CountsFaults result (S.fault_count store.old) (S.fault_count store.new) }
     {
         self.test()?;
+        let mut room = Room::new(alloc, self.limits())?;
+        let report = self.search_in(alloc, &mut room, body, receiver, clock, store, log);
+        room.leave();
+        report
+    }
+
+    /// The same in this room, once the settings were tested.
+    fn search_in<B, Choices, R, C, S, L>(
+        &self,
+        alloc: Global,
+        room: &mut Room<B>,
+        body: &B,
+        receiver: &mut R,
+        clock: &mut C,
+        store: &mut S,
+        log: &L,
+    ) -> Result<Report, CheckError>
+    where
+        B: Body,
+        R: Receiver<B::Data, Choices>,
+        C: Clock,
+        S: CheckpointStore,
+        L: Log,
+        requires some { 1 ≤ self.now.max_threads }
+        requires few { self.now.max_threads ≤ 5 }
+        requires branches { self.now.max_branches ≤ 1000000 }
+        requires bound { IfSome self.now.preemption_bound (λ bound. bound ≤ 255) }
+        requires interval { 0 < self.now.checkpoint_interval }
+        ensures reports { IfOk result (Reports R.receives receiver.old receiver.new self.now (runs_of B.next (explores self.now) self.now.max_threads self.now.max_steps body.now) (S.gives store.old) (S.holds store.new) (C.answered clock.new)) }
+        ensures errors { IfErr result (IsNoReport self.now (S.gives store.old) (receiver.new ≡ receiver.old)) }
+        ensures faults { CountsFaults result (S.fault_count store.old) (S.fault_count store.new) }
+    {
         let mut path = self.begin(alloc, store)?;
         let mut pace = Pace {
             interval: self.checkpoint_interval,
@@ -74,7 +106,9 @@ impl Builder {
                 body,
                 log,
             };
-            match save_and_run(alloc, &runs, receiver, &mut path, store, log, &mut pace)? {
+            match save_and_run(
+                alloc, &runs, room, receiver, &mut path, store, log, &mut pace,
+            )? {
                 Round::Next => pace.runs += 1,
                 Round::Last => {
                     return Ok(Report::Complete {
@@ -124,7 +158,29 @@ impl Builder {
     }
 
     /// One run along the path, from its start.
-    pub(crate) fn run<B: Body>(
+    fn run<B: Body>(
+        &self,
+        room: &mut Room<B>,
+        body: &B,
+        path: &mut Path,
+    ) -> Result<Ending<B::Data>, AllocError>
+        requires some { 1 ≤ self.now.max_threads }
+        requires few { self.now.max_threads ≤ 5 }
+        requires starts { IsAtStart (explores self.now) path.old }
+        ensures along { IfOk result (λ ending. RunsAlong (runs_of B.next (explores self.now) self.now.max_threads self.now.max_steps body.now) path.old ending path.new) }
+        ensures located { IfOk result (IsLocated self.now.location) }
+        ensures same { IsSameSearch path.old path.new }
+    {
+        let limits = self.limits();
+        if self.location {
+            run(room, limits, body, path, &mut LastPlaces::new())
+        } else {
+            run(room, limits, body, path, &mut NoPlaces)
+        }
+    }
+
+    /// The same in a room of its own.
+    pub(crate) fn run_once<B: Body>(
         &self,
         alloc: Global,
         body: &B,
@@ -137,14 +193,20 @@ impl Builder {
         ensures located { IfOk result (IsLocated self.now.location) }
         ensures same { IsSameSearch path.old path.new }
     {
-        let limits = Limits {
+        let mut room = Room::new(alloc, self.limits())?;
+        let ending = self.run(&mut room, body, path);
+        room.leave();
+        ending
+    }
+
+    /// How much a run may use.
+    fn limits(&self) -> Limits
+        ensures threads { result.max_threads ≡ self.now.max_threads }
+        ensures steps { result.max_steps ≡ self.now.max_steps }
+    {
+        Limits {
             max_threads: self.max_threads,
             max_steps: self.max_steps,
-        };
-        if self.location {
-            run(alloc, limits, body, path, &mut LastPlaces::new())
-        } else {
-            run(alloc, limits, body, path, &mut NoPlaces)
         }
     }
 }
@@ -164,8 +226,15 @@ impl<'a, B: Body, L: Log> Runs<Result<B::Data, Failure>> for BodyRuns<'a, B, L> 
 
     ghost comes = { λ runs. Comes (runs_of B.next (explores runs.builder.now) runs.builder.now.max_threads runs.builder.now.max_steps runs.body.now) runs.builder.now.location };
 
-    fn run(&self, alloc: Global, path: &mut Path) -> Result<Result<B::Data, Failure>, AllocError> {
-        let answer = self.builder.run(alloc, self.body, path);
+    type Room = Room<B>;
+
+    fn run(
+        &self,
+        _alloc: Global,
+        room: &mut Room<B>,
+        path: &mut Path,
+    ) -> Result<Result<B::Data, Failure>, AllocError> {
+        let answer = self.builder.run(room, self.body, path);
         if self.builder.log {
             log_switches(self.log, path);
         }

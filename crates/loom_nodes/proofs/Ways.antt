@@ -1,9 +1,9 @@
 -- Nodes that stand where another one is asked for.
 use Rattle.std.proofs.Common.{◌≡◌, ◌≢◌, ℕ, Bool, true, List, Option, Some, ap, sym, subst}
 use Rattle.std.specs.Prelude.{slice_get, IsSomeAnd}
-use Rattle.loom_objects.specs.Asked.{which_thread}
-use Rattle.loom_objects.specs.Question.{Made, made_of}
-use Rattle.loom_objects.specs.declared.rt.thread.Offers.{Offers}
+use Rattle.loom_operations.specs.Asked.{which_thread}
+use Rattle.loom_operations.specs.Question.{Made, made_of}
+use Rattle.loom_operations.specs.declared.offers.Offers.{Offers}
 use Rattle.loom_walks.specs.Walk.Machine.{is_thread}
 use Rattle.loom_nodes.specs.declared.rt.node.Node.{Node}
 use Rattle.loom_nodes.specs.declared.rt.node.Node.TheVariants as node

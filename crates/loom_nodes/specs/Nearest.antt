@@ -1,7 +1,7 @@
 -- The nearest schedule that explores.
 use Rattle.std.specs.Prelude.{ℕ, suc, ◌≡◌, true, List, [], ◌∷◌, map, Option, Some, None, slice_get, IsSomeAnd}
 use Rattle.loom_parts.specs.declared.choice.Choice.{Choice}
-use Rattle.loom_objects.specs.Question.{Made}
+use Rattle.loom_operations.specs.Question.{Made}
 use Rattle.loom_walks.specs.Walk.Machine.{is_thread}
 use Rattle.loom_walks.specs.Trees.Drive.{pass_of}
 use Rattle.loom_walks.specs.Trees.Marks.{schedules_down, from_exploring}

@@ -6,7 +6,7 @@ use Rattle.loom_parts.specs.declared.choice.Choice.TheVariants as choice
 use Rattle.loom_parts.specs.declared.choice.Choice.TheVariants.{Thread}
 use Rattle.loom_parts.specs.declared.ability.Ability.{Ability}
 use Rattle.loom_parts.specs.declared.ability.Ability.TheVariants.{Able, Yielding, Unable}
-use Rattle.loom_objects.specs.Question.{WhichThread, WhetherSpurious, Question, slots, asked_store, made_of}
+use Rattle.loom_operations.specs.Question.{WhichThread, WhetherSpurious, Question, slots, asked_store, made_of}
 use Rattle.loom_walks.specs.Walk.Path.{Status as State, Closed, Skip as Skipped, Pending as ToTry, Active as Chosen, Visited as Tried, Stored, IsAtRest, advance, mark_status}
 use Rattle.loom_walks.specs.Trees.Drive.{value_status}
 use Rattle.loom_walks.specs.Trees.Marks.{adds_there}

@@ -1,7 +1,7 @@
 -- How a run ends that is stopped.
 use Rattle.std.specs.Prelude.{◌≡◌}
-use Rattle.loom_objects.specs.declared.failure.Stop.{Stop}
-use Rattle.loom_objects.specs.declared.failure.Stop.TheVariants.{Failure as Because, Memory}
+use Rattle.loom_operations.specs.declared.failure.Stop.{Stop}
+use Rattle.loom_operations.specs.declared.failure.Stop.TheVariants.{Failure as Because, Memory}
 use Rattle.loom_told.specs.declared.explanation.End.{End}
 use Rattle.loom_told.specs.declared.explanation.End.TheVariants.{Ended, Failed}
 

@@ -2,8 +2,8 @@
 ghost use Rattle.std.specs.Prelude.{◌≡◌, ◌++◌, ◌∷◌, [], IfOk, OnOk};
 ghost use Rattle.loom_noting.specs.Ends.{IsEndOf};
 
-use loom_objects::failure::Stop;
-use loom_objects::operation::{Op, Reply};
+use loom_operations::failure::Stop;
+use loom_operations::operation::{Op, Reply};
 use loom_parts::label::location_in;
 use loom_parts::location::Location;
 use loom_told::explanation::{End, Event};

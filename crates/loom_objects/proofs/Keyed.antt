@@ -3,7 +3,7 @@ use Rattle.std.proofs.Common.{◌≡◌, ◌+◌, ◌<◌, length, subst, ℕ, s
 use Rattle.std.specs.Prelude.{slice_get, ◌==◌}
 use Rattle.std.proofs.lemmas.Option.{slice_get_within}
 use Rattle.std.specs.List.{find, position_from}
-use Rattle.loom_objects.specs.declared.operation.Keyed.{Keyed}
+use Rattle.loom_operations.specs.declared.operation.Keyed.{Keyed}
 use Rattle.loom_objects.specs.Values.{has_key, put_in}
 
 zero_plus : (i : ℕ) → 0 + i ≡ i

@@ -1,6 +1,6 @@
 -- A map that is made in place, one item after another.
 use Rattle.std.proofs.Common.{◌≡◌, ◌<◌, ℕ, zero, suc, ◌+◌, List, [], ◌∷◌, ◌++◌, length, map, take, drop, set, get_or, arith, refl}
-use Rattle.std.specs.Prelude.{slice_get, Some}
+use Rattle.std.specs.Prelude.{slice_get, slice_set, Some}
 use Rattle.std.proofs.lemmas.List.Edits.{map_over_more}
 use Rattle.std.proofs.lemmas.Grind.{common_steps}
 
@@ -15,3 +15,8 @@ pub map-step : {A : Type 0} (f : A → A) (xs ys : List A) (i n : ℕ) (x : A)
     → (set ys i (f x) ≡ map f (take (i + 1) xs) ++ drop (i + 1) xs) × (length (set ys i (f x)) ≡ n) × (length xs ≡ n)
 map-step f xs ys i n x h l at =
     (map_over_more f xs ys i x (omega arith) h.0 (get_or-is ys i x at), grind (arith, common_steps), h.2)
+
+-- the first item alone, and another one in its place
+pub first-set : {A : Type 0} (xs : List A) (x : A) → 0 < length xs → slice_set (take 1 xs) 0 x ≡ x ∷ []
+first-set [] x p = absurd (omega arith)
+first-set (y ∷ ys) x p = refl

@@ -4,8 +4,8 @@ use Rattle.std.specs.Prelude.{cond, nat_lt, slice_get, slice_set}
 use Rattle.std.specs.List.{position_from}
 use Rattle.loom_parts.specs.declared.ability.Ability.{Ability}
 use Rattle.loom_parts.specs.declared.ability.Ability.TheVariants.{Able, Yielding, Unable}
-use Rattle.loom_objects.specs.declared.rt.thread.Offers.{Offers}
-use Rattle.loom_objects.specs.Question.{AreSoundOffers}
+use Rattle.loom_operations.specs.declared.offers.Offers.{Offers}
+use Rattle.loom_operations.specs.Question.{AreSoundOffers}
 use Rattle.loom_objects.specs.Schedules.{ability_in, with_able, offers_of}
 use Rattle.loom_parts.specs.Defaults.{is_able, is_yielding, better, fewest, or_else, default_thread}
 

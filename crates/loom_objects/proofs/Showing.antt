@@ -6,7 +6,7 @@ use Rattle.loom_view_parts.specs.declared.rt.failure.FailureKind.{FailureKind}
 use Rattle.loom_views.specs.declared.rt.table.Views.{Views}
 use Rattle.loom_objects.specs.Rule.{◌>>=◌}
 use Rattle.loom_objects.specs.Scene.{Stage, world_of, points_of, Comes, Does}
-use Rattle.loom_objects.specs.Tree.{Tree, Gives, Fails, came}
+use Rattle.loom_operations.specs.Tree.{Tree, Gives, Fails, came}
 use Rattle.loom_objects.specs.World.{World}
 
 module _ {A D : Type 0} (rule : World D → Result (A × World D) FailureKind) (old new : Stage D) where

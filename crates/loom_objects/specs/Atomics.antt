@@ -10,11 +10,11 @@ use Rattle.loom_view_parts.specs.declared.rt.failure.FailureKind.TheVariants.{Mi
 use Rattle.loom_view_parts.specs.declared.rt.num.Numbers.{Numbers}
 use Rattle.loom_view_parts.specs.Changes.{fit, changed}
 use Rattle.loom_views.specs.Table.{points_with_atomic, readable_slots_of, slot_set, points_after_load, points_after_store, points_after_update_read, points_after_update_write, points_after_update_fail, points_after_unsync_load, points_after_with_mut, points_after_with_mut_end, points_after_fence}
-use Rattle.loom_objects.specs.declared.operation.AtomicOp.{AtomicOp}
-use Rattle.loom_objects.specs.declared.operation.AtomicOp.TheVariants.{New, Load, Store, Update, CompareExchange, CompareAndSwap, UnsyncLoad, IntoInner, WithMut, WithMutEnd}
-use Rattle.loom_objects.specs.declared.operation.Exchange.{Exchange}
-use Rattle.loom_objects.specs.declared.operation.Reply.{Reply}
-use Rattle.loom_objects.specs.declared.operation.Reply.TheVariants as reply
+use Rattle.loom_operations.specs.declared.operation.AtomicOp.{AtomicOp}
+use Rattle.loom_operations.specs.declared.operation.AtomicOp.TheVariants.{New, Load, Store, Update, CompareExchange, CompareAndSwap, UnsyncLoad, IntoInner, WithMut, WithMutEnd}
+use Rattle.loom_operations.specs.declared.operation.Exchange.{Exchange}
+use Rattle.loom_operations.specs.declared.operation.Reply.{Reply}
+use Rattle.loom_operations.specs.declared.operation.Reply.TheVariants as reply
 use Rattle.loom_objects.specs.declared.rt.object.Object.TheVariants as object
 use Rattle.loom_objects.specs.declared.rt.run.Entry.{Entry}
 use Rattle.loom_objects.specs.declared.rt.run.Entry.TheVariants.{Answered, AtBranch}
@@ -22,7 +22,7 @@ use Rattle.loom_objects.specs.declared.rt.run.Resumed.{Resumed}
 use Rattle.loom_objects.specs.declared.rt.run.Resumed.TheVariants as resumed
 use Rattle.loom_objects.specs.declared.rt.sync.Atomic.{Atomic}
 use Rattle.loom_objects.specs.declared.rt.thread.Task.TheVariants as task
-use Rattle.loom_objects.specs.Accessed.{accessed}
+use Rattle.loom_operations.specs.Accessed.{accessed}
 use Rattle.loom_objects.specs.Rule.{◌>>=◌, check, found}
 use Rattle.loom_objects.specs.Turns.{replied}
 use Rattle.loom_objects.specs.World.{World}

@@ -5,9 +5,9 @@ use Rattle.loom_views.specs.Table.{points_with_cell, points_after_read, points_a
 use Rattle.loom_view_parts.specs.declared.rt.failure.FailureKind.{FailureKind}
 use Rattle.loom_view_parts.specs.declared.rt.failure.FailureKind.TheVariants.{Misuse, OpenAccess, TooManySteps}
 use Rattle.loom_view_parts.specs.Limits.{highest_count}
-use Rattle.loom_objects.specs.declared.operation.CellOp.{CellOp}
-use Rattle.loom_objects.specs.declared.operation.CellOp.TheVariants.{New, Read, ReadEnd, Deref, Write, WriteEnd, IntoInner, Get, Replace, Swap}
-use Rattle.loom_objects.specs.declared.operation.Reply.TheVariants as reply
+use Rattle.loom_operations.specs.declared.operation.CellOp.{CellOp}
+use Rattle.loom_operations.specs.declared.operation.CellOp.TheVariants.{New, Read, ReadEnd, Deref, Write, WriteEnd, IntoInner, Get, Replace, Swap}
+use Rattle.loom_operations.specs.declared.operation.Reply.TheVariants as reply
 use Rattle.loom_objects.specs.declared.rt.object.Object.TheVariants as object
 use Rattle.loom_objects.specs.declared.rt.run.Entry.{Entry}
 use Rattle.loom_objects.specs.declared.rt.run.Entry.TheVariants.{Answered}

@@ -2,10 +2,10 @@
 use Rattle.std.specs.Prelude.{ℕ, Bool, false, nat_lt, List, [], ◌∷◌, ◌++◌, length, take, drop, is_some, true, Result, Ok, Err, ⊤}
 use Rattle.loom_view_parts.specs.declared.rt.failure.FailureKind.{FailureKind}
 use Rattle.loom_view_parts.specs.declared.rt.failure.FailureKind.TheVariants.{Misuse}
-use Rattle.loom_objects.specs.declared.operation.CondvarOp.{CondvarOp}
-use Rattle.loom_objects.specs.declared.operation.CondvarOp.TheVariants.{New, Wait, WaitTimeout, NotifyOne, NotifyAll}
-use Rattle.loom_objects.specs.declared.operation.Reply.{Reply}
-use Rattle.loom_objects.specs.declared.operation.Reply.TheVariants as reply
+use Rattle.loom_operations.specs.declared.operation.CondvarOp.{CondvarOp}
+use Rattle.loom_operations.specs.declared.operation.CondvarOp.TheVariants.{New, Wait, WaitTimeout, NotifyOne, NotifyAll}
+use Rattle.loom_operations.specs.declared.operation.Reply.{Reply}
+use Rattle.loom_operations.specs.declared.operation.Reply.TheVariants as reply
 use Rattle.loom_objects.specs.declared.rt.object.Object.TheVariants as object
 use Rattle.loom_objects.specs.declared.rt.run.Entry.{Entry}
 use Rattle.loom_objects.specs.declared.rt.run.Entry.TheVariants.{Answered, AtBranch}

@@ -1,13 +1,13 @@
 -- The tables of the machine: what an operation does up to its branch point, and what it does once its thread is chosen.
 use Rattle.std.specs.Prelude.{ℕ, ◌-◌, Bool, false, nat_lt, Result, Ok, Err, ⊤}
 use Rattle.loom_view_parts.specs.declared.rt.failure.FailureKind.TheVariants.{Assertion, TooManySteps, Misuse, Unreachable}
-use Rattle.loom_objects.specs.declared.operation.Reply.TheVariants as reply
-use Rattle.loom_objects.specs.declared.operation.Turn.TheVariants as turn
+use Rattle.loom_operations.specs.declared.operation.Reply.TheVariants as reply
+use Rattle.loom_operations.specs.declared.operation.Turn.TheVariants as turn
 use Rattle.loom_objects.specs.Atomics.{atomic_begins, fence, accesses, needs_memory as atomic_needs_memory}
 use Rattle.loom_objects.specs.Rule.{◌>>=◌, check}
 use Rattle.loom_view_parts.specs.declared.rt.failure.FailureKind.{FailureKind}
-use Rattle.loom_objects.specs.declared.operation.Request.{Request}
-use Rattle.loom_objects.specs.declared.operation.Request.TheVariants as op
+use Rattle.loom_operations.specs.declared.operation.Request.{Request}
+use Rattle.loom_operations.specs.declared.operation.Request.TheVariants as op
 use Rattle.loom_objects.specs.declared.rt.run.Entry.{Entry}
 use Rattle.loom_objects.specs.declared.rt.run.Entry.TheVariants.{Explores}
 use Rattle.loom_objects.specs.declared.rt.run.Passed.TheVariants as passed

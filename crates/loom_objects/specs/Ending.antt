@@ -2,8 +2,8 @@
 use Rattle.std.specs.Prelude.{Bool, true, false, Result, Ok}
 use Rattle.std.specs.List.{list_all}
 use Rattle.loom_view_parts.specs.declared.rt.failure.FailureKind.{FailureKind}
-use Rattle.loom_objects.specs.declared.operation.Turn.{Turn}
-use Rattle.loom_objects.specs.declared.operation.Turn.TheVariants.{Ended as TurnEnded}
+use Rattle.loom_operations.specs.declared.operation.Turn.{Turn}
+use Rattle.loom_operations.specs.declared.operation.Turn.TheVariants.{Ended as TurnEnded}
 use Rattle.loom_objects.specs.declared.rt.thread.State.{State}
 use Rattle.loom_objects.specs.declared.rt.thread.State.TheVariants.{Runnable, Blocked, Parked, Sleeping, Yielding, Ended}
 use Rattle.loom_objects.specs.declared.rt.thread.Thread.{Thread}

@@ -1,13 +1,9 @@
 pub use Rattle.loom_parts.specs.Lent
-pub mod Question
-pub mod Asked
-pub mod Tree
 pub mod Rule
-pub mod Failing
-pub mod Operation
-pub mod Accessed
-pub mod Exploring
-pub mod Labels
+pub use Rattle.loom_operations.specs.Failing
+pub use Rattle.loom_operations.specs.Operation
+pub use Rattle.loom_operations.specs.Accessed
+pub use Rattle.loom_operations.specs.Labels
 pub mod World
 pub mod Lookup
 pub mod Borrowing

@@ -2,10 +2,10 @@
 use Rattle.std.specs.Prelude.{ℕ, ◌==◌, ◌&&◌, Bool, true, false, not, length, Option, Some, None, ⊤, Result, Ok}
 use Rattle.loom_view_parts.specs.declared.rt.failure.FailureKind.{FailureKind}
 use Rattle.loom_view_parts.specs.declared.rt.failure.FailureKind.TheVariants.{Misuse, SecondWaiter}
-use Rattle.loom_objects.specs.declared.operation.NotifyOp.{NotifyOp}
-use Rattle.loom_objects.specs.declared.operation.NotifyOp.TheVariants as notify_op
-use Rattle.loom_objects.specs.declared.operation.Reply.{Reply}
-use Rattle.loom_objects.specs.declared.operation.Reply.TheVariants as reply
+use Rattle.loom_operations.specs.declared.operation.NotifyOp.{NotifyOp}
+use Rattle.loom_operations.specs.declared.operation.NotifyOp.TheVariants as notify_op
+use Rattle.loom_operations.specs.declared.operation.Reply.{Reply}
+use Rattle.loom_operations.specs.declared.operation.Reply.TheVariants as reply
 use Rattle.loom_objects.specs.declared.rt.object.Object.TheVariants as object
 use Rattle.loom_objects.specs.declared.rt.sync.Notify.{Notify}
 use Rattle.loom_objects.specs.declared.rt.sync.Spurious.{Spurious}

@@ -4,10 +4,10 @@ use Rattle.std.specs.List.{list_all}
 use Rattle.loom_view_parts.specs.declared.rt.failure.FailureKind.{FailureKind}
 use Rattle.loom_view_parts.specs.declared.rt.failure.FailureKind.TheVariants.{Misuse, TooManySteps}
 use Rattle.loom_view_parts.specs.Limits.{highest_count}
-use Rattle.loom_objects.specs.declared.operation.RwLockOp.{RwLockOp}
-use Rattle.loom_objects.specs.declared.operation.RwLockOp.TheVariants as lock_op
-use Rattle.loom_objects.specs.declared.operation.Reply.{Reply}
-use Rattle.loom_objects.specs.declared.operation.Reply.TheVariants as reply
+use Rattle.loom_operations.specs.declared.operation.RwLockOp.{RwLockOp}
+use Rattle.loom_operations.specs.declared.operation.RwLockOp.TheVariants as lock_op
+use Rattle.loom_operations.specs.declared.operation.Reply.{Reply}
+use Rattle.loom_operations.specs.declared.operation.Reply.TheVariants as reply
 use Rattle.loom_objects.specs.declared.rt.object.Object.{Object}
 use Rattle.loom_objects.specs.declared.rt.object.Object.TheVariants as object
 use Rattle.loom_objects.specs.declared.rt.sync.RwLock.{RwLock}

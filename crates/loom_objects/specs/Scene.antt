@@ -4,13 +4,13 @@ use Rattle.std.specs.List.{Contains}
 use Rattle.loom_views.specs.Table.{Points, ShowsViews, IsSlotKept}
 use Rattle.loom_view_parts.specs.declared.rt.failure.FailureKind.{FailureKind}
 use Rattle.loom_views.specs.declared.rt.table.Views.{Views}
-use Rattle.loom_objects.specs.declared.operation.AtomicOp.{AtomicOp}
-use Rattle.loom_objects.specs.declared.operation.Lazy.{Lazy}
+use Rattle.loom_operations.specs.declared.operation.AtomicOp.{AtomicOp}
+use Rattle.loom_operations.specs.declared.operation.Lazy.{Lazy}
 use Rattle.loom_objects.specs.declared.rt.object.Object.{Object}
 use Rattle.loom_objects.specs.declared.rt.run.Resumed.{Resumed}
 use Rattle.loom_objects.specs.declared.rt.run.Resumed.TheVariants.{Passed, Load}
 use Rattle.loom_objects.specs.declared.rt.thread.Thread.{Thread}
-use Rattle.loom_objects.specs.Accessed.{accessed}
+use Rattle.loom_operations.specs.Accessed.{accessed}
 use Rattle.loom_objects.specs.World.{World}
 
 -- the threads, main first, and the objects, both in order of creation; what is kept of views; the thread whose turn it is; how

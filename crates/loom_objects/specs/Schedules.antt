@@ -6,7 +6,7 @@ use Rattle.loom_parts.specs.declared.ability.Ability.{Ability}
 use Rattle.loom_parts.specs.declared.ability.Ability.TheVariants as ability
 use Rattle.loom_parts.specs.declared.ability.Ability.TheVariants.{Able, Unable}
 use Rattle.loom_parts.specs.Defaults.{default_thread}
-use Rattle.loom_objects.specs.declared.rt.thread.Offers.{Offers}
+use Rattle.loom_operations.specs.declared.offers.Offers.{Offers}
 use Rattle.loom_objects.specs.declared.rt.thread.State.{State}
 use Rattle.loom_objects.specs.declared.rt.thread.State.TheVariants.{Runnable, Blocked, Parked, Sleeping, Yielding, Ended}
 use Rattle.loom_objects.specs.declared.rt.thread.Task.{Task}

@@ -1,18 +1,18 @@
 -- Which state of the machine a run shows, and when the code does what a step of the machine says.
 use Rattle.std.specs.Prelude.{ℕ, ◌≡◌, Bool, true, slice_get, Some, Result, Ok, Err}
 use Rattle.loom_views.specs.Table.{ShowsViews}
-use Rattle.loom_objects.specs.declared.failure.Stop.{Stop}
-use Rattle.loom_objects.specs.declared.failure.Stop.TheVariants.{Failure, Memory}
+use Rattle.loom_operations.specs.declared.failure.Stop.{Stop}
+use Rattle.loom_operations.specs.declared.failure.Stop.TheVariants.{Failure, Memory}
 use Rattle.loom_objects.specs.declared.rt.run.Loading.{Loading}
 use Rattle.loom_objects.specs.declared.rt.run.Passed.{Passed}
 use Rattle.loom_objects.specs.declared.rt.run.Resumed.{Resumed}
 use Rattle.loom_objects.specs.declared.rt.run.Resumed.TheVariants as resumed
 use Rattle.loom_objects.specs.declared.rt.run.RunState.{RunState}
-use Rattle.loom_objects.specs.Accessed.{accessed}
-use Rattle.loom_objects.specs.Question.{asked_store, slots}
+use Rattle.loom_operations.specs.Accessed.{accessed}
+use Rattle.loom_operations.specs.Question.{asked_store, slots}
 use Rattle.loom_objects.specs.Scene.{KeepsAt, world_of}
 use Rattle.loom_objects.specs.Steps.{read_by, turned}
-use Rattle.loom_objects.specs.Tree.{Tree, Gives, Fails, Asks, ◌>>=◌}
+use Rattle.loom_operations.specs.Tree.{Tree, Gives, Fails, Asks, ◌>>=◌}
 use Rattle.loom_objects.specs.World.{World}
 
 module _ {D : Type 0} where

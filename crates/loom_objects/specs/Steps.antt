@@ -3,10 +3,10 @@ use Rattle.std.specs.Prelude.{ℕ, Bool, List, [], ◌∷◌, ⊤}
 use Rattle.loom_view_parts.specs.declared.rt.failure.FailureKind.TheVariants.{Misuse, NotDeterministic}
 use Rattle.loom_parts.specs.declared.choice.Choice.{Choice}
 use Rattle.loom_parts.specs.declared.choice.Choice.TheVariants as choice
-use Rattle.loom_objects.specs.declared.operation.Request.{Request}
-use Rattle.loom_objects.specs.declared.operation.Reply.{Reply}
-use Rattle.loom_objects.specs.declared.operation.Turn.{Turn}
-use Rattle.loom_objects.specs.declared.operation.Turn.TheVariants as turn
+use Rattle.loom_operations.specs.declared.operation.Request.{Request}
+use Rattle.loom_operations.specs.declared.operation.Reply.{Reply}
+use Rattle.loom_operations.specs.declared.operation.Turn.{Turn}
+use Rattle.loom_operations.specs.declared.operation.Turn.TheVariants as turn
 use Rattle.loom_objects.specs.declared.rt.run.Entry.{Entry}
 use Rattle.loom_objects.specs.declared.rt.run.Loading.{Loading}
 use Rattle.loom_objects.specs.declared.rt.run.Passed.{Passed}
@@ -17,8 +17,8 @@ use Rattle.loom_objects.specs.Atomics.{reads}
 use Rattle.loom_objects.specs.Effects.{counted, chosen}
 use Rattle.loom_objects.specs.Ending.{end_of}
 use Rattle.loom_objects.specs.Notifiers.{enters_wait as entered}
-use Rattle.loom_objects.specs.Question.{WhichStore, slots}
-use Rattle.loom_objects.specs.Tree.{Tree, Gives, Fails, Asks, ◌>>=◌, came}
+use Rattle.loom_operations.specs.Question.{WhichStore, slots}
+use Rattle.loom_operations.specs.Tree.{Tree, Gives, Fails, Asks, ◌>>=◌, came}
 use Rattle.loom_objects.specs.World.{World}
 
 -- the slot that was chosen; nothing else is asked for

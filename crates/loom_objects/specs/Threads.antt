@@ -3,10 +3,10 @@ use Rattle.std.specs.Prelude.{ℕ, ◌==◌, ◌++◌, ◌∷◌, [], Bool, true
 use Rattle.loom_view_parts.specs.declared.rt.failure.FailureKind.{FailureKind}
 use Rattle.loom_view_parts.specs.declared.rt.failure.FailureKind.TheVariants.{TooManyThreads, Misuse}
 use Rattle.loom_views.specs.Table.{points_after_spawn}
-use Rattle.loom_objects.specs.declared.operation.ThreadOp.{ThreadOp}
-use Rattle.loom_objects.specs.declared.operation.ThreadOp.TheVariants.{Spawn, Join, Current, Park, Unpark, Yield, Finish, Exit, End}
-use Rattle.loom_objects.specs.declared.operation.Reply.{Reply}
-use Rattle.loom_objects.specs.declared.operation.Reply.TheVariants as reply
+use Rattle.loom_operations.specs.declared.operation.ThreadOp.{ThreadOp}
+use Rattle.loom_operations.specs.declared.operation.ThreadOp.TheVariants.{Spawn, Join, Current, Park, Unpark, Yield, Finish, Exit, End}
+use Rattle.loom_operations.specs.declared.operation.Reply.{Reply}
+use Rattle.loom_operations.specs.declared.operation.Reply.TheVariants as reply
 use Rattle.loom_objects.specs.declared.rt.object.Object.TheVariants as object
 use Rattle.loom_objects.specs.declared.rt.run.Entry.{Entry}
 use Rattle.loom_objects.specs.declared.rt.run.Entry.TheVariants.{Answered, AtBranch}
@@ -18,7 +18,7 @@ use Rattle.loom_objects.specs.declared.rt.thread.Phase.TheVariants.{Working, Fin
 use Rattle.loom_objects.specs.Rule.{◌>>=◌, check}
 use Rattle.loom_objects.specs.Values.{is_working}
 use Rattle.loom_objects.specs.World.{World, child_thread}
-use Rattle.loom_objects.specs.declared.rt.thread.Name.{Name}
+use Rattle.loom_operations.specs.declared.operation.Name.{Name}
 use Rattle.loom_objects.specs.Moves.{a_notifier, active_thread, at_phase, changes_active, having, in_state, rests, takes_result, unparks, with_token, with_points, acquires, is_number, tells, with_new, pends, yields}
 use Rattle.loom_objects.specs.Notifiers.{notify, with_notifier}
 use Rattle.loom_objects.specs.declared.rt.sync.Spurious.TheVariants.{Never}

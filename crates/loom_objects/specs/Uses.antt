@@ -4,14 +4,14 @@ use Rattle.std.specs.Option.{option_map}
 use Rattle.loom_dependence.specs.declared.rt.dependence.Action.{Action}
 use Rattle.loom_dependence.specs.declared.rt.dependence.Action.TheVariants.{Read, Change, Increment, Decrement, Inspect, Send, Receive, Other}
 use Rattle.loom_dependence.specs.declared.rt.dependence.Use.{Use}
-use Rattle.loom_objects.specs.declared.operation.AtomicOp.{AtomicOp}
-use Rattle.loom_objects.specs.declared.operation.AtomicOp.TheVariants as atomic
+use Rattle.loom_operations.specs.declared.operation.AtomicOp.{AtomicOp}
+use Rattle.loom_operations.specs.declared.operation.AtomicOp.TheVariants as atomic
 use Rattle.loom_objects.specs.declared.rt.thread.Counting.{Counting}
 use Rattle.loom_objects.specs.declared.rt.thread.Counting.TheVariants.{Clone, Drop, GetMut, Unwrap, StrongCount}
 use Rattle.loom_objects.specs.declared.rt.thread.Task.{Task}
 use Rattle.loom_objects.specs.declared.rt.thread.Task.TheVariants as task
 use Rattle.loom_objects.specs.declared.rt.thread.Thread.{Thread}
-use Rattle.loom_objects.specs.Accessed.{accessed}
+use Rattle.loom_operations.specs.Accessed.{accessed}
 use Rattle.loom_objects.specs.World.{World}
 
 -- an access to an atomic changes it, or may, unless it is a load

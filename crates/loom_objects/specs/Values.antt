@@ -3,13 +3,13 @@ use Rattle.std.specs.Prelude.{ℕ, ◌==◌, ◌++◌, ◌∷◌, [], List, Bool
 use Rattle.std.specs.List.{find, list_any}
 use Rattle.loom_view_parts.specs.declared.rt.failure.FailureKind.{FailureKind}
 use Rattle.loom_view_parts.specs.declared.rt.failure.FailureKind.TheVariants.{Misuse, KeyTaken, LazyShutdown, LocalGone}
-use Rattle.loom_objects.specs.declared.operation.Keyed.{Keyed}
-use Rattle.loom_objects.specs.declared.operation.Lazy.{Lazy}
-use Rattle.loom_objects.specs.declared.operation.LazyOp.{LazyOp}
-use Rattle.loom_objects.specs.declared.operation.LazyOp.TheVariants as lazy_op
-use Rattle.loom_objects.specs.declared.operation.LocalOp.{LocalOp}
-use Rattle.loom_objects.specs.declared.operation.LocalOp.TheVariants as local_op
-use Rattle.loom_objects.specs.declared.operation.Reply.TheVariants as reply
+use Rattle.loom_operations.specs.declared.operation.Keyed.{Keyed}
+use Rattle.loom_operations.specs.declared.operation.Lazy.{Lazy}
+use Rattle.loom_operations.specs.declared.operation.LazyOp.{LazyOp}
+use Rattle.loom_operations.specs.declared.operation.LazyOp.TheVariants as lazy_op
+use Rattle.loom_operations.specs.declared.operation.LocalOp.{LocalOp}
+use Rattle.loom_operations.specs.declared.operation.LocalOp.TheVariants as local_op
+use Rattle.loom_operations.specs.declared.operation.Reply.TheVariants as reply
 use Rattle.loom_objects.specs.declared.rt.run.Entry.{Entry}
 use Rattle.loom_objects.specs.declared.rt.run.Entry.TheVariants.{Answered}
 use Rattle.loom_objects.specs.declared.rt.thread.Phase.{Phase}

@@ -5,10 +5,7 @@
 //! (`loom_atomics` to `loom_wakers`) work on the scene, and all above speak of its operations and questions.
 #![tactic(auto)]
 
-pub mod body;
-pub mod data;
-pub mod failure;
-pub mod operation;
 pub mod rt;
 
+pub use loom_operations::{body, data, failure, operation};
 pub use loom_parts::choice;

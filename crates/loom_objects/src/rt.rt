@@ -1,6 +1,5 @@
 //! The state of a run.
 pub mod ending;
-pub mod exploring;
 mod lookup;
 mod moves;
 pub mod object;

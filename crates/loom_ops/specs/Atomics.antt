@@ -1,11 +1,11 @@
 -- The atomics and values that replies hold, and the operations of an update.
 use Rattle.std.specs.Prelude.{ℕ, Option, Some, None, Result, Ok, Err}
 use Rattle.std.specs.declared.sync.atomic.Ordering.{Ordering}
-use Rattle.loom_objects.specs.declared.operation.AtomicOp.TheVariants.{CompareExchange}
-use Rattle.loom_objects.specs.declared.operation.Request.TheVariants.{Atomic as OnAtomic}
-use Rattle.loom_objects.specs.declared.operation.Reply.{Reply}
-use Rattle.loom_objects.specs.declared.operation.Reply.TheVariants.{Atomic as AtomicMade, Exchanged, Value}
-use Rattle.loom_objects.specs.Labels.{Op, bare}
+use Rattle.loom_operations.specs.declared.operation.AtomicOp.TheVariants.{CompareExchange}
+use Rattle.loom_operations.specs.declared.operation.Request.TheVariants.{Atomic as OnAtomic}
+use Rattle.loom_operations.specs.declared.operation.Reply.{Reply}
+use Rattle.loom_operations.specs.declared.operation.Reply.TheVariants.{Atomic as AtomicMade, Exchanged, Value}
+use Rattle.loom_operations.specs.Labels.{Op, bare}
 use Rattle.loom_ops.specs.declared.sync.atomic.Atomic.{Atomic}
 use Rattle.loom_ops.specs.declared.sync.atomic.FetchUpdate.{FetchUpdate}
 use Rattle.loom_ops.specs.declared.sync.atomic.Fetched.{Fetched}

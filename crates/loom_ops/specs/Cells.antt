@@ -1,7 +1,7 @@
 -- The cells that replies hold.
 use Rattle.std.specs.Prelude.{Option, Some, None}
-use Rattle.loom_objects.specs.declared.operation.Reply.{Reply}
-use Rattle.loom_objects.specs.declared.operation.Reply.TheVariants.{Cell as CellMade, Reading, Writing}
+use Rattle.loom_operations.specs.declared.operation.Reply.{Reply}
+use Rattle.loom_operations.specs.declared.operation.Reply.TheVariants.{Cell as CellMade, Reading, Writing}
 use Rattle.loom_ops.specs.declared.cell.Cell.{Cell}
 use Rattle.loom_ops.specs.declared.cell.ConstPtr.{ConstPtr}
 use Rattle.loom_ops.specs.declared.cell.MutPtr.{MutPtr}

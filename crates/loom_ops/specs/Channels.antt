@@ -1,7 +1,7 @@
 -- The ends of channels that replies hold.
 use Rattle.std.specs.Prelude.{Option, Some, None}
-use Rattle.loom_objects.specs.declared.operation.Reply.{Reply}
-use Rattle.loom_objects.specs.declared.operation.Reply.TheVariants.{Channel as ChannelMade}
+use Rattle.loom_operations.specs.declared.operation.Reply.{Reply}
+use Rattle.loom_operations.specs.declared.operation.Reply.TheVariants.{Channel as ChannelMade}
 use Rattle.loom_ops.specs.declared.sync.mpsc.Receiver.{Receiver}
 use Rattle.loom_ops.specs.declared.sync.mpsc.Sender.{Sender}
 

@@ -1,7 +1,7 @@
 -- The condition variables that replies hold.
 use Rattle.std.specs.Prelude.{Option, Some, None}
-use Rattle.loom_objects.specs.declared.operation.Reply.{Reply}
-use Rattle.loom_objects.specs.declared.operation.Reply.TheVariants.{Condvar as CondvarMade, Waited}
+use Rattle.loom_operations.specs.declared.operation.Reply.{Reply}
+use Rattle.loom_operations.specs.declared.operation.Reply.TheVariants.{Condvar as CondvarMade, Waited}
 use Rattle.loom_ops.specs.declared.sync.condvar.Condvar.{Condvar}
 use Rattle.loom_ops.specs.declared.sync.condvar.WaitTimeoutResult.{WaitTimeoutResult}
 

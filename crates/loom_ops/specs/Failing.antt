@@ -1,7 +1,7 @@
 -- An assertion that fails at a reply that a body doesn't know.
 use Rattle.std.specs.Prelude.{Some, None, codes}
-use Rattle.loom_objects.specs.Labels.{Op}
-use Rattle.loom_objects.specs.declared.operation.Request.TheVariants.{Fail}
+use Rattle.loom_operations.specs.Labels.{Op}
+use Rattle.loom_operations.specs.declared.operation.Request.TheVariants.{Fail}
 use Rattle.loom_parts.specs.Texts.{first_text}
 
 -- its label says so

@@ -1,7 +1,7 @@
 -- The mutexes that replies hold, and that a lock wasn't waited for.
 use Rattle.std.specs.Prelude.{Option, Some, None, option_map}
-use Rattle.loom_objects.specs.declared.operation.Reply.{Reply}
-use Rattle.loom_objects.specs.declared.operation.Reply.TheVariants.{Locked, Mutex as MutexMade, Waited, WouldBlock as Blocked}
+use Rattle.loom_operations.specs.declared.operation.Reply.{Reply}
+use Rattle.loom_operations.specs.declared.operation.Reply.TheVariants.{Locked, Mutex as MutexMade, Waited, WouldBlock as Blocked}
 use Rattle.loom_handle_parts.specs.Holding.{held_in}
 use Rattle.loom_ops.specs.declared.sync.mutex.Mutex.{Mutex}
 use Rattle.loom_ops.specs.declared.sync.mutex.MutexGuard.{MutexGuard}

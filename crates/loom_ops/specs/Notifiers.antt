@@ -1,7 +1,7 @@
 -- The notifiers that replies hold.
 use Rattle.std.specs.Prelude.{Option, Some, None}
-use Rattle.loom_objects.specs.declared.operation.Reply.{Reply}
-use Rattle.loom_objects.specs.declared.operation.Reply.TheVariants.{Notify as NotifyMade}
+use Rattle.loom_operations.specs.declared.operation.Reply.{Reply}
+use Rattle.loom_operations.specs.declared.operation.Reply.TheVariants.{Notify as NotifyMade}
 use Rattle.loom_ops.specs.declared.sync.notify.Notify.{Notify}
 
 module _ {D : Type 0} where

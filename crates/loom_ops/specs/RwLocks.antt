@@ -1,7 +1,7 @@
 -- The read-write locks that replies hold.
 use Rattle.std.specs.Prelude.{Option, Some, None}
-use Rattle.loom_objects.specs.declared.operation.Reply.{Reply}
-use Rattle.loom_objects.specs.declared.operation.Reply.TheVariants.{ReadLocked, RwLock as RwLockMade, WriteLocked}
+use Rattle.loom_operations.specs.declared.operation.Reply.{Reply}
+use Rattle.loom_operations.specs.declared.operation.Reply.TheVariants.{ReadLocked, RwLock as RwLockMade, WriteLocked}
 use Rattle.loom_ops.specs.declared.sync.rwlock.RwLock.{RwLock}
 use Rattle.loom_ops.specs.declared.sync.rwlock.RwLockReadGuard.{RwLockReadGuard}
 use Rattle.loom_ops.specs.declared.sync.rwlock.RwLockWriteGuard.{RwLockWriteGuard}

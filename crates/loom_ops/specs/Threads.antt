@@ -1,11 +1,11 @@
 -- The threads that replies hold.
 use Rattle.std.specs.Prelude.{ℕ, Option, Some, None}
-use Rattle.loom_objects.specs.declared.operation.Request.TheVariants.{Fail, Thread as OnThread}
-use Rattle.loom_objects.specs.declared.operation.Reply.{Reply}
-use Rattle.loom_objects.specs.declared.operation.Reply.TheVariants.{AccessError as GivenBack, Spawned, Thread as ThreadIs}
-use Rattle.loom_objects.specs.declared.operation.ThreadOp.TheVariants.{End, Exit, Finish, Yield}
-use Rattle.loom_objects.specs.declared.rt.thread.Name.{Name}
-use Rattle.loom_objects.specs.Labels.{Op, bare}
+use Rattle.loom_operations.specs.declared.operation.Request.TheVariants.{Fail, Thread as OnThread}
+use Rattle.loom_operations.specs.declared.operation.Reply.{Reply}
+use Rattle.loom_operations.specs.declared.operation.Reply.TheVariants.{AccessError as GivenBack, Spawned, Thread as ThreadIs}
+use Rattle.loom_operations.specs.declared.operation.ThreadOp.TheVariants.{End, Exit, Finish, Yield}
+use Rattle.loom_operations.specs.declared.operation.Name.{Name}
+use Rattle.loom_operations.specs.Labels.{Op, bare}
 use Rattle.loom_ops.specs.declared.thread.AccessError.{AccessError}
 use Rattle.loom_ops.specs.declared.thread.JoinHandle.{JoinHandle}
 use Rattle.loom_ops.specs.declared.thread.Leaving.{Leaving}

@@ -1,7 +1,7 @@
 -- The tracked values that replies hold.
 use Rattle.std.specs.Prelude.{Option, Some, None}
-use Rattle.loom_objects.specs.declared.operation.Reply.{Reply}
-use Rattle.loom_objects.specs.declared.operation.Reply.TheVariants.{Track as TrackMade}
+use Rattle.loom_operations.specs.declared.operation.Reply.{Reply}
+use Rattle.loom_operations.specs.declared.operation.Reply.TheVariants.{Track as TrackMade}
 use Rattle.loom_ops.specs.declared.alloc.Track.{Track}
 
 module _ {D : Type 0} where

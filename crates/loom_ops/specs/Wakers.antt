@@ -1,7 +1,7 @@
 -- The wakers, their notifiers, and the places for them that replies hold.
 use Rattle.std.specs.Prelude.{Option, Some, None}
-use Rattle.loom_objects.specs.declared.operation.Reply.{Reply}
-use Rattle.loom_objects.specs.declared.operation.Reply.TheVariants.{AtomicWaker as PlaceMade, BlockOn as BlockOnMade, Waker as WakerTaken}
+use Rattle.loom_operations.specs.declared.operation.Reply.{Reply}
+use Rattle.loom_operations.specs.declared.operation.Reply.TheVariants.{AtomicWaker as PlaceMade, BlockOn as BlockOnMade, Waker as WakerTaken}
 use Rattle.loom_ops.specs.declared.future.atomic_waker.AtomicWaker.{AtomicWaker}
 use Rattle.loom_ops.specs.declared.future.BlockOn.{BlockOn}
 use Rattle.loom_ops.specs.declared.future.Waker.{Waker}

@@ -2,13 +2,12 @@
 ghost use Rattle.std.specs.Prelude.{◌≡◌, Some, None, codes};
 ghost use Rattle.std.specs.Option.{option_map};
 ghost use Rattle.loom_ops.specs.Threads.{access_error, join_handle, leave, thread_handle, named};
-ghost use Rattle.loom_objects.specs.Labels.{bare};
+ghost use Rattle.loom_operations.specs.Labels.{bare};
 ghost use Rattle.loom_parts.specs.Texts.{first_text, shown};
 
 use crate::fail;
 use loom_handle_parts::threads;
-use loom_objects::operation::{LocalOp, Op, Reply, Request, ThreadOp};
-use loom_objects::rt::thread::Name;
+use loom_operations::operation::{LocalOp, Name, Op, Reply, Request, ThreadOp};
 use loom_parts::text::Text;
 use std::fmt;
 

@@ -7,7 +7,7 @@ use borrow.Author.Tests.{ltb-true}
 use Rattle.loom_parts.specs.declared.choice.Choice.{Choice}
 use Rattle.loom_parts.specs.declared.choice.Choice.TheVariants.{Thread, Load, Spurious}
 use Rattle.loom_parts.specs.declared.ability.Ability.TheVariants.{Able}
-use Rattle.loom_objects.specs.Question.{Made, Among, able_threads, slots_from, slots, asked_store, made_of}
+use Rattle.loom_operations.specs.Question.{Made, Among, able_threads, slots_from, slots, asked_store, made_of}
 use Rattle.loom_walks.specs.Walk.Machine.{is_thread}
 use Rattle.loom_walks.specs.Walk.Choices.{same, among, pick}
 use Rattle.loom_walks.specs.Walk.Path.{Status as State, Closed, Skip as Skipped, Pending as ToTry, Active as Chosen, Visited as Tried, IsAtRest}

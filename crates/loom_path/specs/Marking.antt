@@ -1,7 +1,7 @@
 -- What the marks of a schedule do to a path, one thread after the other.
 use Rattle.std.specs.Prelude.{ℕ, ◌≡◌, Bool, ◌&&◌, eqb, List, [], ◌∷◌, Option, slice_get}
 use Rattle.loom_parts.specs.declared.choice.Choice.{Choice}
-use Rattle.loom_objects.specs.Question.{Made}
+use Rattle.loom_operations.specs.Question.{Made}
 use Rattle.loom_walks.specs.Walk.UnderWay.{mark_with}
 use Rattle.loom_walks.specs.Trees.Drive.{passes_of}
 use Rattle.loom_walks.specs.Trees.Marks.{adds_there, adds_any, is_off_bound}

@@ -5,15 +5,15 @@ use Rattle.loom_view_parts.specs.declared.rt.failure.FailureKind.{FailureKind}
 use Rattle.loom_view_parts.specs.declared.rt.failure.FailureKind.TheVariants.{NotDeterministic}
 use Rattle.loom_parts.specs.declared.choice.Choice.{Choice}
 use Rattle.loom_parts.specs.declared.choice.Choice.TheVariants.{Load}
-use Rattle.loom_objects.specs.declared.failure.Stop.{Stop}
-use Rattle.loom_objects.specs.declared.failure.Stop.TheVariants.{Failure, Memory}
-use Rattle.loom_objects.specs.Asked.{which_thread}
-use Rattle.loom_objects.specs.Exploring.{initially, switched}
-use Rattle.loom_objects.specs.Question.{Question}
-use Rattle.loom_objects.specs.declared.operation.ExploreOp.{ExploreOp}
-use Rattle.loom_objects.specs.declared.rt.exploring.Exploring.{Exploring}
-use Rattle.loom_objects.specs.declared.rt.thread.Offers.{Offers}
-use Rattle.loom_objects.specs.Tree.{Tree}
+use Rattle.loom_operations.specs.declared.failure.Stop.{Stop}
+use Rattle.loom_operations.specs.declared.failure.Stop.TheVariants.{Failure, Memory}
+use Rattle.loom_operations.specs.Asked.{which_thread}
+use Rattle.loom_operations.specs.Exploring.{initially, switched}
+use Rattle.loom_operations.specs.Question.{Question}
+use Rattle.loom_operations.specs.declared.operation.ExploreOp.{ExploreOp}
+use Rattle.loom_operations.specs.declared.exploring.Exploring.{Exploring}
+use Rattle.loom_operations.specs.declared.offers.Offers.{Offers}
+use Rattle.loom_operations.specs.Tree.{Tree}
 use Rattle.loom_nodes.specs.declared.rt.node.Node.{Node}
 use Rattle.loom_path.specs.declared.rt.path.Search.{Search}
 use Rattle.loom_walks.specs.Walk.Path.{choices}

@@ -8,8 +8,8 @@ use Rattle.std.specs.Option.{option_eq}
 use Rattle.std.proofs.lemmas.Bool.Decides.{Decides-and, Decides-like}
 use denote.Enum.Bare.{same_true, true_same}
 use Rattle.loom_parts.specs.contracts.choice.ChoicePartialEq.TheImpl as choices
-use Rattle.loom_objects.specs.contracts.rt.exploring.Exploring as exploring
-use Rattle.loom_objects.specs.contracts.rt.exploring.ExploringPartialEq.TheImpl as switches
+use Rattle.loom_operations.specs.contracts.exploring.Exploring as exploring
+use Rattle.loom_operations.specs.contracts.exploring.ExploringPartialEq.TheImpl as switches
 use Rattle.loom_parts.specs.declared.choice.Choice.TheVariants as choice
 use Rattle.loom_nodes.specs.contracts.rt.node.NodePartialEq.TheImpl as nodes
 use Rattle.loom_nodes.specs.contracts.rt.node.Status as status

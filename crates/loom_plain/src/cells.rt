@@ -2,8 +2,7 @@
 use crate::halt::Told;
 use crate::machine::Machine;
 use crate::state::{Access, Accessed, Kind, Object};
-use loom_objects::operation::{CellOp, Reply};
-use loom_scripts::number::Number;
+use loom_operations::operation::{CellOp, Reply};
 use loom_views::rt::failure::FailureKind;
 
 // Whether an access of this kind conflicts with an earlier one of that kind.
@@ -77,7 +76,7 @@ impl Machine {
     }
 
     /// An operation of a cell.
-    pub fn cell_begins(&mut self, op: CellOp<Number>) -> Told {
+    pub fn cell_begins(&mut self, op: CellOp<u64>) -> Told {
         match op {
             // That the cell was made counts as a write.
             CellOp::New(value) => {
@@ -135,7 +134,7 @@ impl Machine {
     }
 
     // A read begins, and has a copy of the data.
-    fn cell_read(&mut self, number: usize) -> Number {
+    fn cell_read(&mut self, number: usize) -> u64 {
         let active = self.active;
         let value = self.object(number, Kind::Cell).value;
         self.raise();
@@ -153,7 +152,7 @@ impl Machine {
     }
 
     // A write begins, and has the data.
-    fn cell_write(&mut self, number: usize) -> Number {
+    fn cell_write(&mut self, number: usize) -> u64 {
         let active = self.active;
         let value = self.object(number, Kind::Cell).value;
         self.raise();
@@ -165,7 +164,7 @@ impl Machine {
     }
 
     // The write of the active thread ends, and leaves this data.
-    fn cell_write_end(&mut self, number: usize, value: Number) {
+    fn cell_write_end(&mut self, number: usize, value: u64) {
         let active = self.active;
         let cell = self.object(number, Kind::Cell);
         let is_writing = cell.holder == Some(active);

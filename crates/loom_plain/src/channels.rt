@@ -3,8 +3,7 @@ use crate::dependence::Action;
 use crate::halt::Told;
 use crate::machine::Machine;
 use crate::state::{Kind, Message, Object, Receiving, State, Step};
-use loom_objects::operation::{ChannelOp, Reply};
-use loom_scripts::number::Number;
+use loom_operations::operation::{ChannelOp, Reply};
 use loom_views::rt::failure::FailureKind;
 use std::collections::LinkedList;
 use std::mem;
@@ -32,7 +31,7 @@ impl Machine {
     }
 
     /// An operation of a channel is handed over.
-    pub fn channel_begins(&mut self, op: ChannelOp<Number>) -> Told {
+    pub fn channel_begins(&mut self, op: ChannelOp<u64>) -> Told {
         match op {
             ChannelOp::New => Some(Reply::Channel(self.makes(Kind::Channel, None))),
             ChannelOp::Send(number, value) => {
@@ -86,7 +85,7 @@ impl Machine {
     }
 
     /// The active thread sends, and has the message back where there is no receiver.
-    pub fn sends(&mut self, number: usize, value: Number) -> Told {
+    pub fn sends(&mut self, number: usize, value: u64) -> Told {
         let channel = self.sender_of(number);
         if !channel.has_receiver {
             return Some(Reply::SendError(value));

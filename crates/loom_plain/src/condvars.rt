@@ -3,13 +3,12 @@ use crate::dependence::Action;
 use crate::halt::Told;
 use crate::machine::Machine;
 use crate::state::{Claim, Kind, State, Step};
-use loom_objects::operation::{CondvarOp, Reply};
-use loom_scripts::number::Number;
+use loom_operations::operation::{CondvarOp, Reply};
 use loom_views::rt::failure::FailureKind;
 
 impl Machine {
     /// An operation of a condition variable is handed over.
-    pub fn condvar_begins(&mut self, op: CondvarOp<Number>) -> Told {
+    pub fn condvar_begins(&mut self, op: CondvarOp<u64>) -> Told {
         match op {
             CondvarOp::New => Some(Reply::Condvar(self.makes(Kind::Condvar, None))),
             CondvarOp::Wait(number, mutex, value) => {
@@ -35,7 +34,7 @@ impl Machine {
     }
 
     /// The active thread is the last waiter, and releases the mutex.
-    pub fn sleeps(&mut self, number: usize, mutex: usize, value: Number, claim: Claim) -> Told {
+    pub fn sleeps(&mut self, number: usize, mutex: usize, value: u64, claim: Claim) -> Told {
         let active = self.active;
         let has_grown = self.at(number).waiters.push_back(active).is_ok();
         self.grows(has_grown);

@@ -3,13 +3,12 @@ use crate::dependence::Action;
 use crate::halt::Told;
 use crate::machine::Machine;
 use crate::state::{Counting, Kind, Step};
-use loom_objects::operation::{ArcOp, Reply, TrackOp};
-use loom_scripts::number::Number;
+use loom_operations::operation::{ArcOp, Reply, TrackOp};
 use loom_views::rt::failure::FailureKind;
 
 impl Machine {
     /// An operation of a counted reference is handed over.
-    pub fn arc_begins(&mut self, op: ArcOp<Number>) -> Told {
+    pub fn arc_begins(&mut self, op: ArcOp<u64>) -> Told {
         let (number, action, counting) = match op {
             ArcOp::New(value) => return Some(Reply::Arc(self.makes(Kind::Arc, Some(value)))),
             ArcOp::Get(number) => return self.tells_shared(number),
@@ -80,7 +79,7 @@ impl Machine {
     }
 
     /// An operation of a tracked value.
-    pub fn track_begins(&mut self, op: TrackOp<Number>) -> Told {
+    pub fn track_begins(&mut self, op: TrackOp<u64>) -> Told {
         match op {
             TrackOp::New(value) => Some(Reply::Track(self.makes(Kind::Track, Some(value)))),
             TrackOp::GetRef(number) => {

@@ -1,6 +1,5 @@
 //! Why no runs are found.
-use loom_objects::operation::Reply;
-use loom_scripts::number::Number;
+use loom_operations::operation::Reply;
 
 /// Why no runs are found.
 #[derive(Clone, Copy)]
@@ -14,4 +13,4 @@ pub enum Halt {
 }
 
 /// What the active thread is told, or nothing where it comes to a branch point.
-pub type Told = Option<Reply<Number>>;
+pub type Told = Option<Reply<u64>>;

@@ -3,8 +3,7 @@ use crate::dependence::Action;
 use crate::halt::Told;
 use crate::machine::Machine;
 use crate::state::{Claim, Kind, State, Step};
-use loom_objects::operation::{MutexOp, Reply, RwLockOp};
-use loom_scripts::number::Number;
+use loom_operations::operation::{MutexOp, Reply, RwLockOp};
 use loom_views::rt::failure::FailureKind;
 
 impl Claim {
@@ -37,7 +36,7 @@ impl Claim {
 
 impl Machine {
     /// An operation of a mutex is handed over.
-    pub fn mutex_begins(&mut self, op: MutexOp<Number>) -> Told {
+    pub fn mutex_begins(&mut self, op: MutexOp<u64>) -> Told {
         match op {
             MutexOp::New(value) => Some(Reply::Mutex(self.makes(Kind::Mutex, Some(value)))),
             MutexOp::Lock(number) => self.claim_begins(number, Kind::Mutex, Claim::Lock),
@@ -53,7 +52,7 @@ impl Machine {
     }
 
     /// An operation of a read-write lock is handed over.
-    pub fn rwlock_begins(&mut self, op: RwLockOp<Number>) -> Told {
+    pub fn rwlock_begins(&mut self, op: RwLockOp<u64>) -> Told {
         match op {
             RwLockOp::New(value) => Some(Reply::RwLock(self.makes(Kind::RwLock, Some(value)))),
             RwLockOp::Read(number) => self.claim_begins(number, Kind::RwLock, Claim::Read),
@@ -102,7 +101,7 @@ impl Machine {
     }
 
     // The active thread reads, and has a copy of the data.
-    fn reads(&mut self, number: usize) -> Number {
+    fn reads(&mut self, number: usize) -> u64 {
         let active = self.active;
         let lock = self.at(number);
         let value = lock.value;
@@ -113,7 +112,7 @@ impl Machine {
     }
 
     // The active thread has the lock alone, and the data.
-    fn writes(&mut self, number: usize) -> Number {
+    fn writes(&mut self, number: usize) -> u64 {
         let value = self.at(number).value.take();
         self.holds(number);
         self.required(value)
@@ -134,7 +133,7 @@ impl Machine {
     }
 
     /// The active thread, which holds the lock, releases it with this data.
-    pub fn unlocks(&mut self, number: usize, kind: Kind, value: Number) {
+    pub fn unlocks(&mut self, number: usize, kind: Kind, value: u64) {
         let active = self.active;
         let lock = self.object(number, kind);
         let is_held = lock.holder == Some(active);

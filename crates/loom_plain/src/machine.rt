@@ -6,9 +6,8 @@ use crate::halt::{Halt, Told};
 use crate::memory::push;
 use crate::run::{PlainRun, Settings};
 use crate::state::{Object, Pending, State, Step, Thread};
-use loom_objects::choice::Choice;
-use loom_objects::operation::Lazy;
-use loom_scripts::number::Number;
+use loom_operations::operation::Lazy;
+use loom_parts::choice::Choice;
 use loom_views::rt::failure::FailureKind;
 use loom_views::sequence::Sequence;
 use std::alloc::Global;
@@ -24,7 +23,7 @@ pub struct Rest {
     pub order: Graph,
     pub accesses: Vec<Access>,
     /// The values that were made once in the run, in the order made, each with the point that is acquired with it.
-    pub lazies: Sequence<Lazy<Number>>,
+    pub lazies: Sequence<Lazy<u64>>,
     /// The choices that are given.
     pub given: Vec<Choice>,
     /// What was chosen.
@@ -90,9 +89,9 @@ impl Machine {
     }
 
     /// The value, or a misuse of what has to hold it.
-    pub fn required(&mut self, value: Option<Number>) -> Number {
+    pub fn required(&mut self, value: Option<u64>) -> u64 {
         self.check(value.is_some(), FailureKind::Misuse);
-        value.unwrap_or(Number(0))
+        value.unwrap_or(0)
     }
 
     /// The thread of this number, or who stands for it.

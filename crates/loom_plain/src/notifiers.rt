@@ -3,8 +3,8 @@ use crate::dependence::Action;
 use crate::halt::Told;
 use crate::machine::Machine;
 use crate::state::{Kind, State, Step};
-use loom_objects::choice::Choice;
-use loom_objects::operation::{NotifyOp, Reply};
+use loom_operations::operation::{NotifyOp, Reply};
+use loom_parts::choice::Choice;
 use loom_views::rt::failure::FailureKind;
 
 impl Machine {

@@ -4,8 +4,7 @@ use crate::halt::Told;
 use crate::machine::Machine;
 use crate::memory::push;
 use crate::state::{Kind, Object, State, Step};
-use loom_objects::operation::Reply;
-use loom_scripts::number::Number;
+use loom_operations::operation::Reply;
 use loom_views::rt::failure::FailureKind;
 
 impl Object {
@@ -65,7 +64,7 @@ impl Machine {
     }
 
     /// One object more, which has the next number. Where memory is refused the run can't be made.
-    pub fn makes(&mut self, kind: Kind, value: Option<Number>) -> usize {
+    pub fn makes(&mut self, kind: Kind, value: Option<u64>) -> usize {
         let number = self.objects.len();
         let object = Object::new(self.alloc, kind, value);
         push(&mut self.objects, object, &mut self.halt);
@@ -120,7 +119,7 @@ impl Machine {
     }
 
     /// The active thread, which has the value out, puts it back.
-    pub fn puts(&mut self, number: usize, kind: Kind, value: Number) -> Told {
+    pub fn puts(&mut self, number: usize, kind: Kind, value: u64) -> Told {
         let active = self.active;
         let object = self.object(number, kind);
         let is_out = object.lent == Some(active);

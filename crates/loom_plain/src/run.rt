@@ -5,10 +5,9 @@ use crate::halt::{Halt, Told};
 use crate::machine::{Machine, Rest};
 use crate::memory::push;
 use crate::state::{Kind, Object, State, Step, Thread};
-use loom_objects::body::Body;
-use loom_objects::choice::Choice;
-use loom_objects::operation::{Reply, Request};
-use loom_scripts::number::Number;
+use loom_operations::body::Body;
+use loom_operations::operation::{Reply, Request};
+use loom_parts::choice::Choice;
 use loom_views::rt::failure::FailureKind;
 use loom_views::sequence::Sequence;
 use std::alloc::Global;
@@ -32,7 +31,7 @@ pub struct Settings {
 #[derive(Clone, Copy)]
 pub enum Ending {
     /// With main's result.
-    Ended(Number),
+    Ended(u64),
     Failed(FailureKind),
 }
 
@@ -56,7 +55,7 @@ pub struct PlainRun {
 }
 
 /// The run of the body that makes these choices, and then defaults.
-pub fn run<B: Body<Data = Number>>(
+pub fn run<B: Body<Data = u64>>(
     alloc: Global,
     settings: Settings,
     body: &B,
@@ -73,7 +72,7 @@ pub fn run<B: Body<Data = Number>>(
 }
 
 // The threads' operations, from main's first one on.
-fn makes_run<B: Body<Data = Number>>(machine: &mut Machine, body: &B, steps: usize) {
+fn makes_run<B: Body<Data = u64>>(machine: &mut Machine, body: &B, steps: usize) {
     machine.starts_main();
     let mut bodies = Vec::new(machine.alloc);
     push_copy(&mut bodies, body, &mut machine.halt);
@@ -81,7 +80,7 @@ fn makes_run<B: Body<Data = Number>>(machine: &mut Machine, body: &B, steps: usi
 }
 
 // One more body, in the same state as this one.
-fn push_copy<B: Body<Data = Number>>(bodies: &mut Vec<B>, body: &B, halt: &mut Option<Halt>) {
+fn push_copy<B: Body<Data = u64>>(bodies: &mut Vec<B>, body: &B, halt: &mut Option<Halt>) {
     match body.try_clone() {
         Ok(copy) => push(bodies, copy, halt),
         Err(_) => *halt = Some(Halt::Memory),
@@ -94,7 +93,7 @@ fn no_run(alloc: Global) -> PlainRun {
         choices: Vec::new(alloc),
         made: Vec::new(alloc),
         reversals: Vec::new(alloc),
-        ending: Ending::Ended(Number(0)),
+        ending: Ending::Ended(0),
     }
 }
 
@@ -137,7 +136,7 @@ fn opening(alloc: Global, rest: Box<Rest>) -> Machine {
 }
 
 // The threads' operations up to the run's end.
-fn goes_on<B: Body<Data = Number>>(machine: &mut Machine, bodies: &mut Vec<B>, steps: usize) {
+fn goes_on<B: Body<Data = u64>>(machine: &mut Machine, bodies: &mut Vec<B>, steps: usize) {
     let mut reply = Reply::Start;
     for _ in 0..steps {
         match step(machine, bodies, reply) {
@@ -150,10 +149,10 @@ fn goes_on<B: Body<Data = Number>>(machine: &mut Machine, bodies: &mut Vec<B>, s
 
 // The thread whose turn it is is told the reply, unless the run has halted, and hands its next operation over. Gives what is told
 // next, or nothing at the run's end.
-fn step<B: Body<Data = Number>>(
+fn step<B: Body<Data = u64>>(
     machine: &mut Machine,
     bodies: &mut Vec<B>,
-    reply: Reply<Number>,
+    reply: Reply<u64>,
 ) -> Told {
     let place = if machine.has_halted() {
         bodies.len()
@@ -186,7 +185,7 @@ impl Machine {
 
     // The active thread hands the operation over. Gives what is told to the thread whose turn it is then, or nothing at the
     // run's end.
-    fn submit(&mut self, request: Request<Number, ()>) -> Told {
+    fn submit(&mut self, request: Request<u64, ()>) -> Told {
         match self.begins(request) {
             Some(told) => Some(told),
             None => self.goes_to_told(),
@@ -207,7 +206,7 @@ impl Machine {
     }
 
     // Nothing is told where the thread comes to a branch point.
-    fn begins(&mut self, request: Request<Number, ()>) -> Told {
+    fn begins(&mut self, request: Request<u64, ()>) -> Told {
         match request {
             Request::Atomic(op) => self.atomic_begins(op),
             Request::Fence(order) => self.fence(order),
@@ -356,7 +355,7 @@ impl Machine {
         self.expect(value.is_some());
         match self.failure {
             Some(kind) => Ending::Failed(kind),
-            None => Ending::Ended(value.unwrap_or(Number(0))),
+            None => Ending::Ended(value.unwrap_or(0)),
         }
     }
 

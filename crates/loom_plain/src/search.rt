@@ -4,9 +4,8 @@ use crate::halt::Halt;
 use crate::marks::{mark_all, push_alternatives};
 use crate::memory::push;
 use crate::run::{Ending, PlainRun, Settings, run};
-use loom_objects::body::Body;
-use loom_objects::choice::Choice;
-use loom_scripts::number::Number;
+use loom_operations::body::Body;
+use loom_parts::choice::Choice;
 use std::alloc::Global;
 
 /// A run of the set.
@@ -83,7 +82,7 @@ impl Search {
     }
 
     // Adds the run that makes these choices, and then defaults. In a search in order no run makes the choices of two lists.
-    fn adds<B: Body<Data = Number>>(&mut self, body: &B, list: Vec<Choice>) {
+    fn adds<B: Body<Data = u64>>(&mut self, body: &B, list: Vec<Choice>) {
         if !self.is_in_order && self.has(&list) {
             return;
         }
@@ -125,7 +124,7 @@ impl Search {
 }
 
 // The runs of the search, unless it comes to so many.
-fn found_by<B: Body<Data = Number>>(
+fn found_by<B: Body<Data = u64>>(
     mut search: Search,
     body: &B,
     most: usize,
@@ -143,7 +142,7 @@ fn found_by<B: Body<Data = Number>>(
 }
 
 /// The set, unless it has so many runs. The default run is the first of it.
-pub fn least_set<B: Body<Data = Number>>(
+pub fn least_set<B: Body<Data = u64>>(
     alloc: Global,
     settings: Settings,
     body: &B,
@@ -154,7 +153,7 @@ pub fn least_set<B: Body<Data = Number>>(
 
 /// The runs of a search that isn't reduced, those that share a beginning together, the default first, up to the first that
 /// fails, unless there are so many.
-pub fn runs_in_order<B: Body<Data = Number>>(
+pub fn runs_in_order<B: Body<Data = u64>>(
     alloc: Global,
     settings: Settings,
     body: &B,

@@ -1,7 +1,6 @@
 //! What threads and objects are.
 use crate::dependence::Action;
-use loom_objects::rt::thread::Name;
-use loom_scripts::number::Number;
+use loom_operations::operation::Name;
 use loom_views::rt::change::Change;
 use loom_views::rt::num::Numbers;
 use std::alloc::Global;
@@ -110,7 +109,7 @@ pub enum Step {
     Count(Counting),
     Claim(Claim),
     /// It falls asleep on the condition variable and releases this mutex, with this value. How it takes that again.
-    Sleep(usize, Number, Claim),
+    Sleep(usize, u64, Claim),
     /// It was woken, and comes to the mutex.
     Awake(Claim),
     /// It wakes so many threads that wait on the condition variable, as far as there are any.
@@ -121,7 +120,7 @@ pub enum Step {
     Await(bool),
     /// The thread that it joins, whose notifier it is on.
     Join(u8),
-    Send(Number),
+    Send(u64),
     Receive(Receiving),
     /// It notifies the notifier by the waker, which it may drop then.
     Wake(usize, Option<AfterDrop>),
@@ -149,7 +148,7 @@ pub struct Pending {
 pub struct Local {
     pub key: usize,
     /// Nothing once it was given back.
-    pub value: Option<Number>,
+    pub value: Option<u64>,
 }
 
 /// A thread of the run.
@@ -172,7 +171,7 @@ pub struct Thread {
     pub yields: u64,
     pub has_token: bool,
     /// What main finished with, or what a thread will hand to who joins it.
-    pub value: Option<Number>,
+    pub value: Option<u64>,
     /// Its own notifier; main has none.
     pub notifier: Option<usize>,
     pub is_joined: bool,
@@ -180,7 +179,7 @@ pub struct Thread {
     /// In the order made.
     pub locals: Vec<Local>,
     /// The messages that it has taken of a receiver that it drops.
-    pub taken: LinkedList<Number>,
+    pub taken: LinkedList<u64>,
     /// How many accesses it has made.
     pub accesses: usize,
     /// The point of its last access, among those of accesses. Main begins with a point of its own, a thread with its parent's.
@@ -223,7 +222,7 @@ pub struct Accessed {
 /// A message, and the point that is acquired with it.
 #[derive(Clone, Copy)]
 pub struct Message {
-    pub value: Number,
+    pub value: u64,
     pub point: usize,
 }
 
@@ -256,7 +255,7 @@ pub struct Object {
     /// Whether it may be used.
     pub is_whole: bool,
     /// What a cell, a counted reference, a tracked value or a lock holds.
-    pub value: Option<Number>,
+    pub value: Option<u64>,
     /// The thread that has it alone: that has a mutation or a write open, holds a lock, or is inside a wait on a notifier.
     pub holder: Option<u8>,
     /// The thread that has the value out without holding.
@@ -319,7 +318,7 @@ impl Thread {
 
 impl Object {
     /// An object that nobody has used.
-    pub fn new(alloc: Global, kind: Kind, value: Option<Number>) -> Object {
+    pub fn new(alloc: Global, kind: Kind, value: Option<u64>) -> Object {
         Object {
             kind,
             is_whole: true,

@@ -4,14 +4,12 @@ use crate::halt::Told;
 use crate::machine::Machine;
 use crate::memory::push;
 use crate::state::{Kind, Phase, State, Step, Thread};
-use loom_objects::operation::{Reply, ThreadOp};
-use loom_objects::rt::thread::Name;
-use loom_scripts::number::Number;
+use loom_operations::operation::{Name, Reply, ThreadOp};
 use loom_views::rt::failure::FailureKind;
 
 impl Machine {
     /// An operation of threads is handed over.
-    pub fn thread_begins(&mut self, op: ThreadOp<Number, ()>) -> Told {
+    pub fn thread_begins(&mut self, op: ThreadOp<u64, ()>) -> Told {
         match op {
             ThreadOp::Spawn((), name) => self.spawn(name),
             ThreadOp::Join(thread, notifier) => self.join_begins(thread, notifier),
@@ -112,7 +110,7 @@ impl Machine {
         self.steps_back(State::Yielding, number, step)
     }
 
-    fn finish_begins(&mut self, value: Number) -> Told {
+    fn finish_begins(&mut self, value: u64) -> Told {
         self.moves_on(Phase::Working, Phase::Finished);
         let me = self.me();
         me.value = Some(value);

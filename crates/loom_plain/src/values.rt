@@ -2,8 +2,7 @@
 use crate::halt::Told;
 use crate::machine::Machine;
 use crate::state::{Local, Phase};
-use loom_objects::operation::{Keyed, Lazy, LazyOp, LocalOp, Reply};
-use loom_scripts::number::Number;
+use loom_operations::operation::{Keyed, Lazy, LazyOp, LocalOp, Reply};
 use loom_views::rt::failure::FailureKind;
 use loom_views::sequence::Sequence;
 use std::mem;
@@ -11,7 +10,7 @@ use std::mem;
 impl Machine {
     // The active thread's own value of this key, or nothing in its place once it was given back. What is to be put takes its
     // place.
-    fn local_value(&mut self, key: usize, put: Option<Number>) -> Option<Option<Number>> {
+    fn local_value(&mut self, key: usize, put: Option<u64>) -> Option<Option<u64>> {
         for local in self.me().locals.iter_mut() {
             if local.key == key {
                 let old = local.value;
@@ -23,7 +22,7 @@ impl Machine {
     }
 
     /// An operation of a thread's own values.
-    pub fn local_begins(&mut self, op: LocalOp<Number>) -> Told {
+    pub fn local_begins(&mut self, op: LocalOp<u64>) -> Told {
         match op {
             LocalOp::With(key) => self.reads_local(key, true),
             LocalOp::TryWith(key) => self.reads_local(key, false),
@@ -48,7 +47,7 @@ impl Machine {
     }
 
     // The first value of the key.
-    fn inits_local(&mut self, key: usize, value: Number) -> Told {
+    fn inits_local(&mut self, key: usize, value: u64) -> Told {
         let is_first = self.local_value(key, None).is_none();
         self.check(is_first, FailureKind::KeyTaken);
         let local = Local {
@@ -75,7 +74,7 @@ impl Machine {
     }
 
     // The value of this key, if it was made, once the active thread has acquired what its maker has seen.
-    fn lazy(&mut self, key: usize) -> Option<Number> {
+    fn lazy(&mut self, key: usize) -> Option<u64> {
         let mut made = None;
         for lazy in self.rest.lazies.as_slice() {
             if lazy.key == key {
@@ -92,7 +91,7 @@ impl Machine {
     }
 
     /// An operation of values that are made once in a run.
-    pub fn lazy_begins(&mut self, op: LazyOp<Number>) -> Told {
+    pub fn lazy_begins(&mut self, op: LazyOp<u64>) -> Told {
         let is_open = matches!(self.thread(0).phase, Phase::Working);
         self.check(is_open, FailureKind::LazyShutdown);
         match op {
@@ -108,7 +107,7 @@ impl Machine {
     }
 
     // The first value of the key.
-    fn inits_lazy(&mut self, key: usize, value: Number) -> Told {
+    fn inits_lazy(&mut self, key: usize, value: u64) -> Told {
         let stamp = self.released_to(0);
         let has_grown = self.rest.lazies.push(Lazy { key, value, stamp }).is_ok();
         self.grows(has_grown);

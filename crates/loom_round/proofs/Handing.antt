@@ -2,16 +2,16 @@
 use Rattle.std.proofs.Common.{◌≡◌, ◌<◌, ◌≤◌, ◌+◌, ℕ, zero, suc, List, [], ◌∷◌, length, get_or, sym, ◌∙◌, ap, refl, subst, arith}
 use Rattle.std.specs.Prelude.{OnOk, Result, Ok, Err, Option, Some, None, slice_get, slice_set, ⊤}
 use Rattle.loom_view_parts.specs.declared.rt.failure.FailureKind.TheVariants.{Misuse}
-use Rattle.loom_objects.specs.declared.failure.Stop.{Stop}
-use Rattle.loom_objects.specs.declared.failure.Stop.TheVariants.{Failure as Because, Memory}
-use Rattle.loom_objects.specs.Labels.{Op}
-use Rattle.loom_objects.specs.declared.operation.Request.{Request}
-use Rattle.loom_objects.specs.declared.operation.Reply.{Reply}
-use Rattle.loom_objects.specs.declared.operation.Reply.TheVariants as reply
-use Rattle.loom_objects.specs.declared.operation.Turn.{Turn}
-use Rattle.loom_objects.specs.declared.operation.Turn.TheVariants as turn
-use Rattle.loom_objects.specs.Operation.{plain, started}
-use Rattle.loom_objects.specs.Tree.{Gives, ◌>>=◌, found}
+use Rattle.loom_operations.specs.declared.failure.Stop.{Stop}
+use Rattle.loom_operations.specs.declared.failure.Stop.TheVariants.{Failure as Because, Memory}
+use Rattle.loom_operations.specs.Labels.{Op}
+use Rattle.loom_operations.specs.declared.operation.Request.{Request}
+use Rattle.loom_operations.specs.declared.operation.Reply.{Reply}
+use Rattle.loom_operations.specs.declared.operation.Reply.TheVariants as reply
+use Rattle.loom_operations.specs.declared.operation.Turn.{Turn}
+use Rattle.loom_operations.specs.declared.operation.Turn.TheVariants as turn
+use Rattle.loom_operations.specs.Operation.{plain, started}
+use Rattle.loom_operations.specs.Tree.{Gives, ◌>>=◌, found}
 use Rattle.loom_objects.specs.World.{World}
 use Rattle.loom_engine.specs.declared.rt.execution.Progress.{Progress}
 use Rattle.loom_engine.specs.Execution.{Along, Comes, ExecutionState, ShowsCourse, Submits, SubmitsAt}

@@ -1,6 +1,6 @@
 -- Where an operation was made, if its body said so.
 use Rattle.std.specs.Prelude.{Option}
-use Rattle.loom_objects.specs.Labels.{Op}
+use Rattle.loom_operations.specs.Labels.{Op}
 use Rattle.loom_parts.specs.declared.location.Location.{Location}
 use Rattle.loom_parts.specs.Labels.{location_in}
 

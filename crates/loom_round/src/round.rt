@@ -1,7 +1,7 @@
 ghost use Rattle.std.specs.Prelude.{◌≡◌, ◌≢◌, ◌≤◌, ◌+◌, false, None, Err, OnOk, OnErr, IfOk};
 ghost use Rattle.loom_engine.specs.Execution.{Along, over_after};
-ghost use Rattle.loom_objects.specs.Operation.{plain, started};
-ghost use Rattle.loom_objects.specs.Tree.{Tree};
+ghost use Rattle.loom_operations.specs.Operation.{plain, started};
+ghost use Rattle.loom_operations.specs.Tree.{Tree};
 ghost use Rattle.loom_path.specs.Routes.{IsAtStart, IsSameSearch, Route, drives};
 ghost use Rattle.loom_runs.specs.Machine as machine;
 ghost use Rattle.loom_runs.specs.Runs.{runs as runs_of, with_child};
@@ -9,10 +9,10 @@ ghost use Rattle.loom_round.specs.Ending.{RunsAlong, IsLocated, IsUnderWay, MayB
 
 use crate::places::Places;
 use loom_engine::rt::execution::{Execution, Limits};
-use loom_objects::body::Body;
-use loom_objects::data::Data;
-use loom_objects::failure::{Failure, Stop};
-use loom_objects::operation::{Op, Reply, Turn};
+use loom_operations::body::Body;
+use loom_operations::data::Data;
+use loom_operations::failure::{Failure, Stop};
+use loom_operations::operation::{Op, Reply, Turn};
 use loom_path::rt::path::Path;
 use loom_views::rt::failure::FailureKind;
 use std::alloc::{AllocError, Global};
@@ -25,10 +25,33 @@ pub enum Ending<D> {
     Failed(Failure),
 }
 
+/// What a run needs room for. The next one uses it again.
+#[derive(Drop)]
+pub struct Room<B: Body> {
+    bodies: Vec<B>,
+    execution: Execution<B::Data>,
+}
+
+impl<B: Body> Room<B> {
+    /// Room for a run.
+    pub fn new(alloc: Global, limits: Limits) -> Result<Room<B>, AllocError>
+        requires some { 1 ≤ limits.max_threads }
+        requires few { limits.max_threads ≤ 5 }
+    {
+        Ok(Room {
+            bodies: Vec::new(alloc),
+            execution: Execution::new(alloc, limits)?,
+        })
+    }
+
+    /// Lets the room go. (Whoever owns one where it ends has what all of a run holds let go, kind by kind. So that stands here.)
+    pub fn leave(self) {}
+}
+
 /// One run of the body along the path, from its start. An error only where a growth was refused, in the run or the body. Where
 /// places are kept, a failure has that of its operation.
 pub fn run<B: Body, P: Places>(
-    alloc: Global,
+    room: &mut Room<B>,
     limits: Limits,
     body: &B,
     path: &mut Path,
@@ -41,10 +64,10 @@ pub fn run<B: Body, P: Places>(
     ensures located { IfOk result (IsLocated P.keeps) }
     ensures same { IsSameSearch path.old path.new }
 {
-    let mut bodies = Vec::new(alloc);
-    bodies.push(body.try_clone()?)?;
-    let mut execution = Execution::new(alloc, limits)?;
-    take_turns(&mut execution, &mut bodies, path, places)
+    room.bodies.clear();
+    room.bodies.push(body.try_clone()?)?;
+    room.execution.restart(limits)?;
+    take_turns(&mut room.execution, &mut room.bodies, path, places)
 }
 
 /// From its start the run goes on by turns, until it ends or fails. An error only where a growth was refused.
@@ -128,6 +151,8 @@ fn located<D: Data, P: Places>(execution: &Execution<D>, places: &P, failure: Fa
 }
 
 /// What a spawn started is a body more.
+// Inlined: it is called at each operation, and few start a thread.
+#[inline(always)]
 fn add_child<B: Drop>(bodies: &mut Vec<B>, started: Option<B>) -> Result<(), AllocError>
     ensures more { OnOk result (bodies.new.items ≡ with_child bodies.old.items started) }
     ensures growth { OnErr result (started ≢ None) }

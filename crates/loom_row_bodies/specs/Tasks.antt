@@ -2,7 +2,7 @@
 use Rattle.std.specs.Prelude.{ℕ, ◌≡◌, ◌++◌, Bool, false, List, Option, codes, decimal}
 use Rattle.std.specs.Io.KnownBytes.{Appends}
 use Rattle.loom_view_parts.specs.Failures.{number_of}
-use Rattle.loom_objects.specs.Tree.{Tree}
+use Rattle.loom_operations.specs.Tree.{Tree}
 use Rattle.loom_model.specs.Beginning.{Replays}
 use Rattle.loom_model.specs.Check.{ReportsAlone}
 use Rattle.loom_model.specs.Rising.{RisesTo}
@@ -15,7 +15,6 @@ use Rattle.loom_model.specs.declared.rising.Risen.{Risen}
 use Rattle.loom_runs.specs.Runs.{runs as runs_of}
 use Rattle.loom_scripts.specs.Running.{started}
 use Rattle.loom_scripts.specs.Script as script
-use Rattle.loom_scripts.specs.declared.number.Number.{Number}
 use Rattle.loom_row_bodies.specs.Builders.{IsBuilder}
 use Rattle.loom_row_bodies.specs.Line.{PrintedOf, choices_text, report_text, status_of}
 use Rattle.loom_row_bodies.specs.Updates as updates
@@ -30,12 +29,12 @@ use Rattle.loom_row_bodies.specs.declared.tasks.Task.TheVariants as task
 abbrev pub risen_text : Risen → List ℕ
 risen_text risen = codes "bound " ++ decimal risen.bound ++ codes " " ++ report_text risen.report
 
-abbrev pub replay_text : Replay Number → List ℕ
+abbrev pub replay_text : Replay ℕ → List ℕ
 replay_text (replay.Ended choices value) = codes "ended" ++ choices_text choices.items
 replay_text (replay.Failed failure choices) = codes "failed " ++ decimal (number_of failure.kind) ++ choices_text choices.items
 
 -- 1 where the run failed
-abbrev pub replay_status : Replay Number → ℕ
+abbrev pub replay_status : Replay ℕ → ℕ
 replay_status (replay.Ended choices value) = 0
 replay_status (replay.Failed failure choices) = 1
 
@@ -43,7 +42,7 @@ replay_status (replay.Failed failure choices) = 1
 abbrev pub PrintedRisen : Risen → Option (List ℕ) → Option (List ℕ) → ℕ → Type 0
 PrintedRisen risen old new status = (status ≡ status_of risen.report) × Appends old new (risen_text risen ++ codes "\n")
 
-abbrev pub PrintedReplay : Replay Number → Option (List ℕ) → Option (List ℕ) → ℕ → Type 0
+abbrev pub PrintedReplay : Replay ℕ → Option (List ℕ) → Option (List ℕ) → ℕ → Type 0
 PrintedReplay made old new status = (status ≡ replay_status made) × Appends old new (replay_text made ++ codes "\n")
 
 -- nothing was written behind this, unless a failure is explained
@@ -54,16 +53,16 @@ IsBehind explains mid new = explains ≡ false → new ≡ mid
 
 -- What was written is of a report that a check by this builder promises of the runs of this tree, or of what its checks with bounds
 -- up to 3 find, or of a run by these choices.
-abbrev pub PrintedBy : Task → Bool → Builder → Tree Number → Option (List ℕ) → Option (List ℕ) → ℕ → Type 0
+abbrev pub PrintedBy : Task → Bool → Builder → Tree ℕ → Option (List ℕ) → Option (List ℕ) → ℕ → Type 0
 PrintedBy task.Check explains b tree old new status =
     (report : Report) × ReportsAlone b tree report × ((mid : Option (List ℕ)) × PrintedOf report old mid status × IsBehind explains mid new)
 PrintedBy task.Rise explains b tree old new status =
     (risen : Risen) × RisesTo b tree 3 risen × ((mid : Option (List ℕ)) × PrintedRisen risen old mid status × IsBehind explains mid new)
 PrintedBy (task.Replay choices) explains b tree old new status =
-    (made : Replay Number) × Replays b.max_branches tree choices.now made × ((mid : Option (List ℕ)) × PrintedReplay made old mid status × IsBehind explains mid new)
+    (made : Replay ℕ) × Replays b.max_branches tree choices.now made × ((mid : Option (List ℕ)) × PrintedReplay made old mid status × IsBehind explains mid new)
 
 -- the runs of what is checked
-abbrev pub tree_of : Checked → Builder → Tree Number
+abbrev pub tree_of : Checked → Builder → Tree ℕ
 tree_of (Script steps) b = runs_of script.next_of (explores b) b.max_threads b.max_steps (started steps.now)
 tree_of (Updater one other) b = runs_of updates.next_of (explores b) b.max_threads b.max_steps (updates.begun one other)
 

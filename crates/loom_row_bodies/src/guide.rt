@@ -5,7 +5,6 @@ ghost use Rattle.loom_row_bodies.specs.Guide.{next_of, turn, counts, begun};
 use loom_model::sync::{Mutex, MutexGuard};
 use loom_model::thread::{self, Leaving};
 use loom_model::{Body, Op, Reply, fail};
-use loom_scripts::number::Number;
 use std::alloc::AllocError;
 
 /// What a thread is about to be told.
@@ -46,7 +45,7 @@ impl Counter {
     }
 
     /// The thread holds the mutex, and found this count in it.
-    fn counts(&self, guard: MutexGuard, count: u64) -> (Awaits, Op<Number, Counter>)
+    fn counts(&self, guard: MutexGuard, count: u64) -> (Awaits, Op<u64, Counter>)
         ensures { result ≡ counts self.now.fewer_than guard.number count }
     {
         if count >= self.fewer_than {
@@ -54,15 +53,15 @@ impl Counter {
         }
         let count = count + 1;
         let leaving = Awaits::Leaving(count, Leaving::Finish);
-        (leaving, guard.release(Number(count)))
+        (leaving, guard.release(count))
     }
 
     /// What the thread awaits after this reply, and the operation that it hands over.
-    fn turn(&self, reply: Reply<Number>) -> (Awaits, Op<Number, Counter>)
+    fn turn(&self, reply: Reply<u64>) -> (Awaits, Op<u64, Counter>)
         ensures { result ≡ turn self.now.fewer_than self.now.awaits reply }
     {
         match (self.awaits, reply) {
-            (Awaits::Main, Reply::Start) => (Awaits::TheMutex, Mutex::new(Number(0))),
+            (Awaits::Main, Reply::Start) => (Awaits::TheMutex, Mutex::new(0)),
             (Awaits::TheMutex, Reply::Mutex(number)) => {
                 let mutex = Mutex { number };
                 let other = Counter {
@@ -73,11 +72,11 @@ impl Counter {
             }
             (Awaits::Counting(mutex), _) => (Awaits::TheLock, mutex.lock()),
             (Awaits::TheLock, reply) => match MutexGuard::take(reply) {
-                Some((guard, Number(count))) => self.counts(guard, count),
+                Some((guard, count)) => self.counts(guard, count),
                 None => (Awaits::Nothing, fail()),
             },
             (Awaits::Leaving(count, leaving), _) => {
-                let (leaving, op) = leaving.next(Number(count));
+                let (leaving, op) = leaving.next(count);
                 (Awaits::Leaving(count, leaving), op)
             }
             _ => (Awaits::Nothing, fail()),
@@ -86,11 +85,11 @@ impl Counter {
 }
 
 impl Body for Counter {
-    type Data = Number;
+    type Data = u64;
 
     ghost next = { next_of };
 
-    fn resume(&mut self, reply: Reply<Number>) -> Result<Op<Number, Counter>, AllocError>
+    fn resume(&mut self, reply: Reply<u64>) -> Result<Op<u64, Counter>, AllocError>
         ensures { IfOk result (λ op. (self.new, op) ≡ next_of self.old reply) }
     {
         let (awaits, op) = self.turn(reply);

@@ -12,7 +12,6 @@ use crate::updates::Updater;
 use loom_model::model::{Builder, Replay, Report};
 use loom_model::rising::Risen;
 use loom_model::{Body, Choice};
-use loom_scripts::number::Number;
 use loom_scripts::script::Script;
 use std::fmt;
 use std::io::{self, Write};
@@ -38,7 +37,7 @@ pub struct ShownRisen<'a>(pub &'a Risen);
 
 /// How a run by given choices ended, where it failed the failure's number, and the run's choices.
 #[derive(Clone, Copy)]
-pub struct ShownReplay<'a>(pub &'a Replay<Number>);
+pub struct ShownReplay<'a>(pub &'a Replay<u64>);
 
 impl fmt::Display for ShownRisen<'_> {
     ghost output = { λ shown. Some (risen_text shown.0.now) };
@@ -109,7 +108,7 @@ fn with_builder<R: AllocGlobal + Files, O: Write, E: Write>(
     }
 }
 
-fn with_body<R: AllocGlobal + Files, B: Body<Data = Number>, O: Write, E: Write>(
+fn with_body<R: AllocGlobal + Files, B: Body<Data = u64>, O: Write, E: Write>(
     rt: &R,
     builder: &Builder,
     body: &B,
@@ -127,7 +126,7 @@ fn with_body<R: AllocGlobal + Files, B: Body<Data = Number>, O: Write, E: Write>
     }
 }
 
-fn do_check<R: AllocGlobal + Files, B: Body<Data = Number>, O: Write, E: Write>(
+fn do_check<R: AllocGlobal + Files, B: Body<Data = u64>, O: Write, E: Write>(
     rt: &R,
     builder: &Builder,
     body: &B,
@@ -147,7 +146,7 @@ fn do_check<R: AllocGlobal + Files, B: Body<Data = Number>, O: Write, E: Write>(
     }
 }
 
-fn do_rise<R: AllocGlobal + Files, B: Body<Data = Number>, O: Write, E: Write>(
+fn do_rise<R: AllocGlobal + Files, B: Body<Data = u64>, O: Write, E: Write>(
     rt: &R,
     builder: &Builder,
     body: &B,
@@ -167,7 +166,7 @@ fn do_rise<R: AllocGlobal + Files, B: Body<Data = Number>, O: Write, E: Write>(
     }
 }
 
-fn do_replay<R: AllocGlobal + Files, B: Body<Data = Number>, O: Write, E: Write>(
+fn do_replay<R: AllocGlobal + Files, B: Body<Data = u64>, O: Write, E: Write>(
     rt: &R,
     builder: &Builder,
     body: &B,
@@ -196,7 +195,7 @@ fn print_risen<W: Write>(out: &mut W, risen: &Risen) -> io::Result<u8>
     Ok(line::status_of(&risen.report))
 }
 
-fn print_replay<W: Write>(out: &mut W, replay: &Replay<Number>) -> io::Result<u8>
+fn print_replay<W: Write>(out: &mut W, replay: &Replay<u64>) -> io::Result<u8>
     ensures { IfOk result (λ status. PrintedReplay replay.now (W.contents out.old) (W.contents out.new) status) }
 {
     let shown = ShownReplay(replay);
@@ -204,7 +203,7 @@ fn print_replay<W: Write>(out: &mut W, replay: &Replay<Number>) -> io::Result<u8
     Ok(status_of_replay(replay))
 }
 
-fn status_of_replay(replay: &Replay<Number>) -> u8
+fn status_of_replay(replay: &Replay<u64>) -> u8
     ensures { result ≡ replay_status replay.now }
 {
     match replay {
@@ -214,7 +213,7 @@ fn status_of_replay(replay: &Replay<Number>) -> u8
 }
 
 /// Explains the report, where a run failed and that is asked for.
-fn explain_report<R: AllocGlobal, B: Body<Data = Number>, O: Write>(
+fn explain_report<R: AllocGlobal, B: Body<Data = u64>, O: Write>(
     rt: &R,
     builder: &Builder,
     body: &B,
@@ -231,11 +230,11 @@ fn explain_report<R: AllocGlobal, B: Body<Data = Number>, O: Write>(
 }
 
 /// The same of a run by given choices.
-fn explain_replay<R: AllocGlobal, B: Body<Data = Number>, O: Write>(
+fn explain_replay<R: AllocGlobal, B: Body<Data = u64>, O: Write>(
     rt: &R,
     builder: &Builder,
     body: &B,
-    replay: &Replay<Number>,
+    replay: &Replay<u64>,
     explains: bool,
     out: &mut O,
 ) -> io::Result<()>
@@ -248,7 +247,7 @@ fn explain_replay<R: AllocGlobal, B: Body<Data = Number>, O: Write>(
 }
 
 /// Explains the failing run with these choices.
-fn tell_failure<R: AllocGlobal, B: Body<Data = Number>, O: Write>(
+fn tell_failure<R: AllocGlobal, B: Body<Data = u64>, O: Write>(
     rt: &R,
     builder: &Builder,
     body: &B,

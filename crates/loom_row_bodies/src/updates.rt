@@ -4,7 +4,6 @@ ghost use Rattle.loom_row_bodies.specs.Updates.{next_of, turn, after, first_turn
 
 use loom_model::sync::atomic::{AtomicU64, FetchUpdate, Fetched, Ordering};
 use loom_model::{Body, Op, Reply, fail, thread};
-use loom_scripts::number::Number;
 use std::alloc::AllocError;
 
 /// What the thread is about to be told.
@@ -69,7 +68,7 @@ impl Updater {
         &self,
         update: FetchUpdate<u64>,
         fetched: Option<Fetched<u64>>,
-    ) -> (Awaits, Op<Number, Updater>)
+    ) -> (Awaits, Op<u64, Updater>)
         ensures { result ≡ first_turn self.now.one self.now.other update fetched }
     {
         match fetched {
@@ -89,7 +88,7 @@ impl Updater {
         &self,
         update: FetchUpdate<u64>,
         fetched: Option<Fetched<u64>>,
-    ) -> (Awaits, Op<Number, Updater>)
+    ) -> (Awaits, Op<u64, Updater>)
         ensures { result ≡ second_turn self.now.one self.now.other update fetched }
     {
         match fetched {
@@ -105,22 +104,22 @@ impl Updater {
     }
 
     /// What the thread awaits after this reply, and the operation that it hands over.
-    fn turn(&self, reply: Reply<Number>) -> (Awaits, Op<Number, Updater>)
-        ensures { result ≡ turn self.now.one self.now.other self.now.awaits reply }
+    fn turn(&self, reply: &Reply<u64>) -> (Awaits, Op<u64, Updater>)
+        ensures { result ≡ turn self.now.one self.now.other self.now.awaits reply.now }
     {
         match self.awaits {
             Awaits::Main => (Awaits::TheAtomic, AtomicU64::new(self.one)),
-            Awaits::TheAtomic => match AtomicU64::from_reply(&reply) {
+            Awaits::TheAtomic => match AtomicU64::from_reply(reply) {
                 Some(atomic) => {
                     let update = atomic.fetch_update(Ordering::SeqCst, Ordering::SeqCst);
                     (Awaits::First(update), update.begin())
                 }
                 None => (Awaits::Nothing, fail()),
             },
-            Awaits::First(update) => self.first_turn(update, FetchUpdate::fetched(&reply)),
-            Awaits::Second(update) => self.second_turn(update, FetchUpdate::fetched(&reply)),
-            Awaits::TheNumber => match AtomicU64::value(&reply) {
-                Some(number) => (Awaits::Finished, thread::finish(Number(number))),
+            Awaits::First(update) => self.first_turn(update, FetchUpdate::fetched(reply)),
+            Awaits::Second(update) => self.second_turn(update, FetchUpdate::fetched(reply)),
+            Awaits::TheNumber => match AtomicU64::value(reply) {
+                Some(number) => (Awaits::Finished, thread::finish(number)),
                 None => (Awaits::Nothing, fail()),
             },
             Awaits::Finished => (Awaits::Exited, thread::exit()),
@@ -131,14 +130,14 @@ impl Updater {
 }
 
 impl Body for Updater {
-    type Data = Number;
+    type Data = u64;
 
     ghost next = { next_of };
 
-    fn resume(&mut self, reply: Reply<Number>) -> Result<Op<Number, Updater>, AllocError>
+    fn resume(&mut self, reply: Reply<u64>) -> Result<Op<u64, Updater>, AllocError>
         ensures { IfOk result (λ op. (self.new, op) ≡ next_of self.old reply) }
     {
-        let (awaits, op) = self.turn(reply);
+        let (awaits, op) = self.turn(&reply);
         self.awaits = awaits;
         Ok(op)
     }

@@ -1,8 +1,8 @@
 -- The first scripts: one thread or two, and a mutex.
 use Rattle.std.specs.Prelude.{List, [], ◌∷◌, None, codes}
-use Rattle.loom_objects.specs.declared.operation.MutexOp.TheVariants as mutex
-use Rattle.loom_objects.specs.declared.operation.ThreadOp.TheVariants as threads
-use Rattle.loom_objects.specs.declared.operation.Request.TheVariants as op
+use Rattle.loom_operations.specs.declared.operation.MutexOp.TheVariants as mutex
+use Rattle.loom_operations.specs.declared.operation.ThreadOp.TheVariants as threads
+use Rattle.loom_operations.specs.declared.operation.Request.TheVariants as op
 use Rattle.loom_scripts.specs.declared.step.Step.{Step}
 use Rattle.loom_scripts.specs.declared.step.Step.TheVariants.{Do, Jump}
 use Rattle.loom_scripts.specs.declared.step.Value.TheVariants.{Plain}

@@ -5,7 +5,7 @@ ghost use Rattle.loom_row_parts.specs.Meanings.{named};
 
 use crate::row;
 use crate::rows::{Row, TEN_STEPS, TWO_RUNS, WHOLE};
-use loom_objects::operation::{MutexOp, Request, ThreadOp};
+use loom_operations::operation::{MutexOp, Request, ThreadOp};
 use loom_scripts::step::{END, EXIT, Step, Value};
 
 /// Main finishes, exits and ends.

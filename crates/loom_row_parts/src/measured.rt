@@ -5,7 +5,7 @@ ghost use Rattle.loom_row_parts.specs.Measured.{named};
 
 use crate::rows::{DEFAULTS, WHOLE};
 use crate::settings::Settings;
-use loom_objects::operation::{AtomicOp, Request, ThreadOp};
+use loom_operations::operation::{AtomicOp, Request, ThreadOp};
 use loom_scripts::step::{END, EXIT, Step, Value};
 use loom_views::rt::num::Numbers;
 use std::sync::atomic::Ordering;

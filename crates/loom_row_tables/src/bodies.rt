@@ -13,7 +13,7 @@ ghost use Rattle.std.specs.Prelude.{◌≡◌, map};
 ghost use Rattle.loom_row_parts.specs.Meanings.{named};
 ghost use Rattle.loom_row_tables.specs.Names.{buffering_rows, failing_rows, load_rows, ordering_rows};
 
-use loom_objects::operation::{AtomicOp, MutexOp, Request, ThreadOp};
+use loom_operations::operation::{AtomicOp, MutexOp, Request, ThreadOp};
 pub use loom_row_parts::few_threads::{FINISH_ONLY, LOCK_BESIDE, MUTEX_FOREVER, SPAWN_ONLY};
 use loom_row_parts::row;
 use loom_row_parts::rows::{Row, WHOLE};

@@ -7,7 +7,7 @@ ghost use Rattle.loom_row_tables.specs.Measured.{body_of};
 use crate::bodies::TWO_MUTEXES_DEADLOCK;
 use crate::bodies::atomics::{ACQ_REL, THREE_ADDS};
 use crate::tables::joined;
-use loom_objects::operation::{AtomicOp, CondvarOp, MutexOp, Request, RwLockOp, ThreadOp};
+use loom_operations::operation::{AtomicOp, CondvarOp, MutexOp, Request, RwLockOp, ThreadOp};
 use loom_row_parts::measured::{self, FINISH, Measured};
 use loom_row_parts::rows::{DEFAULTS, LONG_RUNS, WHOLE};
 use loom_row_parts::settings::Settings;

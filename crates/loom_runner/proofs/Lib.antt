@@ -1,3 +1,2 @@
 pub mod Remembering
 pub mod Making
-pub mod Reporting

@@ -1,4 +1,4 @@
-use Rattle.std.proofs.Common.{◌≡◌, ◌<◌, ℕ, List, [], ◌∷◌, sym, ◌∙◌, refl, subst, Option, Some, Result, Ok, Err, IfOk, IfErr, OnOk, is_err, false, length, ap, arith}
+use Rattle.std.proofs.Common.{◌≡◌, ◌<◌, ℕ, List, [], ◌∷◌, ◌∙◌, refl, subst, Some, Result, Ok, Err, IfOk, OnOk, is_err, false, length, ap, arith}
 use Rattle.std.specs.Prelude.{slice_get}
 use Rattle.std.specs.List.{swap, SwappedAt}
 use Rattle.std.proofs.lemmas.List.Edits.{length-swap}
@@ -11,8 +11,7 @@ use Rattle.loom_runner_parts.specs.declared.rounds.Round.TheVariants.{Broke, Las
 use Rattle.loom_runner_parts.specs.Rounds.{StepsBy}
 use Rattle.loom_turns.specs.Histories.{Log, Share, IsHistory, Settles}
 use Rattle.loom_runner.specs.Tellings.{Teller, Leading, Closes, newcomer}
-use Rattle.loom_turn_laws.specs.Chains.{GoesTo}
-use Rattle.loom_runner.specs.Checks.{Made, MadeBy, Given, Rounds}
+use Rattle.loom_runner.specs.Made.{Made, MadeBy, Given}
 use Rattle.loom_runner.specs.Rounds.{Checked, Gave, Judged, WasMade}
 
 -- places behind the first one are swapped
@@ -29,11 +28,6 @@ first_stays {X} xs ys i j is at a b = go xs ys (ap length is ∙ length-swap xs 
 pub ok_gives : {A E : Type 0} (r : Result A E) (P : Type 0) → OnOk r P → is_err r ≡ false → P
 ok_gives (Ok a) P p e = p
 ok_gives (Err x) P p e = cc e
-
--- a test that passed has refused nothing
-pub not_refused : {A E : Type 0} (r : Result A E) (x : A) (P : E → Type 0) → Ok x ≡ r → IfErr r P
-not_refused (Ok a) x P e = tt
-not_refused (Err y) x P e = cc e
 
 -- what settles a state whose history is one from its own beginning
 pub checked : {D : Type 0} (limits : Limits) (began : Route) (log : Log D) (told : List (Share D)) → Settles log began limits told → IsHistory log.limits log.began log.history log.now
@@ -83,9 +77,3 @@ module _ {D F V : Type 0} (called : F → Teller D → Result D Stop → F → T
       → IfOk result (λ round. Judged takes limits v began log told round v') → IfOk result (λ round. WasMade called takes limits f v began round f' v')
   round_made f f' v v' began log told start handle answer new call main (Ok round) j = was_made f f' v v' began log told start handle answer new call main round j
   round_made f f' v v' began log told start handle answer new call main (Err e) j = tt
-
-  -- the runs go on by one that began where the last one stepped to
-  pub goes_on : (path began : Route) (f0 f f' : F) (v0 v v' : V) (ms : List (Made D)) (m : Made D) (next : Option Route) → Rounds called takes limits path f0 v0 ms f v (Some began) → m.began ≡ began
-      → Given called takes limits f v m f' v' → GoesTo m.log.now.route next → Rounds called takes limits path f0 v0 (m ∷ ms) f' v' next
-  goes_on path began f0 f f' v0 v v' ms m next rounds same given goes =
-      (f, v, (let P : Route → Type 0 = λ r. Rounds called takes limits path f0 v0 ms f v (Some r) in subst P (sym same) rounds), given, goes)

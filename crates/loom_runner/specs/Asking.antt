@@ -1,7 +1,7 @@
 -- What replies hold for the closures that have asked.
 use Rattle.std.specs.Prelude.{◌≡◌, ⊤, List, [], ◌∷◌, ◌++◌, Option, Some}
-use Rattle.loom_objects.specs.declared.operation.Request.{Request}
-use Rattle.loom_objects.specs.declared.operation.Reply.{Reply}
+use Rattle.loom_operations.specs.declared.operation.Request.{Request}
+use Rattle.loom_operations.specs.declared.operation.Reply.{Reply}
 use Rattle.loom_turn_parts.specs.declared.event.Entry.{Entry}
 use Rattle.loom_turns.specs.Histories.{entry}
 pub use Rattle.loom_answers.specs.Held.{done_in, guard_in, tried_in, joined_in, loaded_in, exchanged_in}

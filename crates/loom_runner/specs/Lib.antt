@@ -2,6 +2,5 @@ pub mod Errors
 pub mod Tellings
 pub mod Asking
 pub mod Answers
-pub mod Checks
+pub mod Made
 pub mod Rounds
-pub mod Replays

@@ -10,7 +10,7 @@ use Rattle.loom_runner_parts.specs.declared.rounds.Round.TheVariants.{Broke, Las
 use Rattle.loom_turns.specs.Histories.{Log, Share, IsHistory, Settles, last_event, ended_by, failed_by}
 use Rattle.loom_runner.specs.Tellings.{Teller}
 use Rattle.loom_turn_laws.specs.Chains.{GoesTo}
-use Rattle.loom_runner.specs.Checks.{Made, MadeBy, Given}
+use Rattle.loom_runner.specs.Made.{Made, MadeBy, Given}
 
 -- the state at the end of a run is settled
 pub record Checked {D : Type 0} (limits : Limits) (began : Route) (log : Log D) (told : List (Share D)) : Type 0 where

@@ -1,10 +1,10 @@
 -- What the calls of a handle add to what its thread was told.
 use Rattle.std.specs.Prelude.{ℕ, ◌≡◌, ◌⊎◌, ◌&&◌, ⊤, Bool, true, false, cond, MatchBool, List, [], ◌∷◌, ◌++◌, Option, Some, None, is_some, IfSome, Result, Ok, Err, slice_get}
-use Rattle.loom_objects.specs.declared.operation.Request.{Request}
-use Rattle.loom_objects.specs.declared.operation.Request.TheVariants.{Thread}
-use Rattle.loom_objects.specs.declared.operation.Reply.{Reply}
-use Rattle.loom_objects.specs.declared.operation.Reply.TheVariants.{Spawned}
-use Rattle.loom_objects.specs.declared.operation.ThreadOp.TheVariants.{Spawn, Exit}
+use Rattle.loom_operations.specs.declared.operation.Request.{Request}
+use Rattle.loom_operations.specs.declared.operation.Request.TheVariants.{Thread}
+use Rattle.loom_operations.specs.declared.operation.Reply.{Reply}
+use Rattle.loom_operations.specs.declared.operation.Reply.TheVariants.{Spawned}
+use Rattle.loom_operations.specs.declared.operation.ThreadOp.TheVariants.{Spawn, Exit}
 use Rattle.loom_turn_parts.specs.declared.stop.Stop.{Stop}
 use Rattle.loom_turn_parts.specs.declared.stop.Stop.TheVariants.{Failure, Memory, Refused}
 use Rattle.loom_turn_parts.specs.declared.event.Entry.{Entry}

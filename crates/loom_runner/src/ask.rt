@@ -6,7 +6,7 @@ ghost use Rattle.loom_runner.specs.Tellings.{all_answered};
 use crate::handle::Handle;
 pub use loom_answers::answer::{Answer, Joined, Loaded, Tried};
 use loom_copies::exact::Exact;
-use loom_objects::operation::Request;
+use loom_operations::operation::Request;
 use loom_turns::stop::Stop;
 use std::sync::Wait;
 

@@ -1,13 +1,13 @@
 // What a thread keeps of its operations, and of what it was told.
 ghost use Rattle.std.specs.Prelude.{◌≡◌, ◌++◌, ◌∷◌, ◌<◌, [], IfOk, IfErr, IfSome, OnSome, None, Some, true, vec_len, vec_capacity};
-ghost use Rattle.loom_objects.specs.declared.operation.Reply.TheVariants as reply;
+ghost use Rattle.loom_operations.specs.declared.operation.Reply.TheVariants as reply;
 ghost use Rattle.loom_turns.specs.Histories.{entry};
 ghost use Rattle.loom_runner.specs.Tellings.{spawning};
 
 use crate::shared::{Child, Children};
 use loom_copies::exact::Exact;
 use loom_copies::operations::copy_request;
-use loom_objects::operation::{Reply, Request, ThreadOp};
+use loom_operations::operation::{Reply, Request, ThreadOp};
 use loom_ops::thread::JoinHandle;
 use loom_runner_parts::calls::keep;
 use loom_turns::event::Entry;

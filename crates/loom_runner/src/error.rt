@@ -1,55 +1,28 @@
-//! Why a check of closures gives no report.
+//! Why a run of closures wasn't made.
 ghost use Rattle.std.specs.Prelude.{◌≡◌};
-ghost use Rattle.loom_runner.specs.Errors.{number_of, error_by};
+ghost use Rattle.loom_runner.specs.Errors.{error_by};
 
-use loom_model::error::CheckError;
 use loom_turns::stop::Stop;
 use thiserror::Error;
 
-/// Why a check of closures gives no report (own).
+/// Why a run of closures wasn't made (own).
 #[derive(Clone, Copy, Debug, PartialEq, Eq, Error)]
-pub enum RunnerError {
-    #[error("the host refused to start a thread: make fewer at a time, or raise its limit")]
+pub enum RoundError {
+    #[error("the host refused to start a thread")]
     Refused,
-    #[error("what the closures were told is not the history of the run: this is a fault of the runner, so please report it")]
+    #[error("what the closures were told is not the history of the run")]
     NotSettled,
-    #[error("out of memory: set a lower `max_branches` or `max_steps`, or make the closure smaller")]
+    #[error("out of memory")]
     Memory,
-    #[error("{0}")]
-    Settings(CheckError),
-}
-
-impl RunnerError {
-    /// The number by which the program names the error, from 1 to 4 (own).
-    pub fn number(self) -> u8
-        ensures { result ≡ number_of self }
-    {
-        match self {
-            RunnerError::Refused => 1,
-            RunnerError::NotSettled => 2,
-            RunnerError::Memory => 3,
-            RunnerError::Settings(_) => 4,
-        }
-    }
-}
-
-impl From<CheckError> for RunnerError {
-    ghost use Rattle.loom_runner.specs.declared.error.RunnerError.TheVariants.{Settings};
-
-    ghost from_gives = { λ why e. e ≡ Settings why };
-
-    fn from(why: CheckError) -> RunnerError {
-        RunnerError::Settings(why)
-    }
 }
 
 /// The error of a run that stopped so, and not by an event.
-pub(crate) fn error_by(stop: Stop) -> RunnerError
+pub(crate) fn error_by(stop: Stop) -> RoundError
     ensures { result ≡ error_by stop }
 {
     match stop {
-        Stop::Failure(_) => RunnerError::NotSettled,
-        Stop::Memory => RunnerError::Memory,
-        Stop::Refused => RunnerError::Refused,
+        Stop::Failure(_) => RoundError::NotSettled,
+        Stop::Memory => RoundError::Memory,
+        Stop::Refused => RoundError::Refused,
     }
 }

@@ -1,16 +1,16 @@
 //! By what a thread hands over operations.
 ghost use Rattle.std.specs.Prelude.{◌≡◌, ◌++◌, ◌∷◌, [], IfOk, IfErr, OnOk, MatchOption, Some, Ok, Err, true, false, slice_get};
-ghost use Rattle.loom_objects.specs.declared.operation.Reply.TheVariants as reply;
+ghost use Rattle.loom_operations.specs.declared.operation.Reply.TheVariants as reply;
 ghost use Rattle.loom_turns.specs.Histories.{entry};
 ghost use Rattle.loom_runner.specs.Tellings.{newcomer, with_open, failing, finishing, handed, spawning, ByStop, Closes, all_answered, is_memory, Leading};
 
 use crate::entries::{has_room, let_op_go, note, note_spawn, prepare};
-use crate::error::RunnerError;
+use crate::error::RoundError;
 use crate::job::Job;
 use crate::shared::{self, Children, Shared};
 use loom_answers::answer::let_go;
 use loom_copies::exact::Exact;
-use loom_objects::operation::{Reply, Request, ThreadOp};
+use loom_operations::operation::{Reply, Request, ThreadOp};
 use loom_ops::thread::JoinHandle;
 use loom_runner_parts::calls::{allowed, last_of};
 use loom_turns::event::Entry;
@@ -170,7 +170,7 @@ impl<D: Exact + 'static, R: Threads + Wait + Clone + Send + 'static> Handle<D, R
     /// Ends the thread by its closure's answer: hands over its result, `exit` and `end`, or for a stop `fail`, unless a call was
     /// answered by a stop already. Then joins the threads that it started. Answers what they all were told, its own list first
     /// (own). `Memory` where a call was refused memory, `Refused` where a thread was refused.
-    pub fn close(mut self, answer: Result<D, Stop>) -> Result<Vec<Told<D>>, RunnerError>
+    pub fn close(mut self, answer: Result<D, Stop>) -> Result<Vec<Told<D>>, RoundError>
         ensures told { IfOk result (λ all. Leading self.thread all.items (Closes self.told answer)) }
     {
         match last_of(answer) {
@@ -199,10 +199,10 @@ impl<D: Exact + 'static, R: Threads + Wait + Clone + Send + 'static> Handle<D, R
     }
 
     /// Joins the threads that it started.
-    pub(crate) fn leave(self) -> Result<Vec<Told<D>>, RunnerError>
+    pub(crate) fn leave(self) -> Result<Vec<Told<D>>, RoundError>
         ensures told { IfOk result (λ all. Leading self.thread all.items (λ es. es ≡ self.told)) }
         ensures fed { OnOk result (self.starved ≡ false) }
-        ensures starved { self.starved ≡ true → result ≡ Err RunnerError.Memory }
+        ensures starved { self.starved ≡ true → result ≡ Err RoundError.Memory }
     {
         let Handle {
             rt,
@@ -226,12 +226,12 @@ impl<D: Exact + 'static, R: Threads + Wait + Clone + Send + 'static> Handle<D, R
 }
 
 /// The error of a thread that stopped so, unless its run went on or failed.
-fn refusal(stop: Option<Stop>) -> Option<RunnerError>
-    ensures { MatchOption result (is_memory stop ≡ false) (λ error. is_memory stop ≡ true → error ≡ RunnerError.Memory) }
+fn refusal(stop: Option<Stop>) -> Option<RoundError>
+    ensures { MatchOption result (is_memory stop ≡ false) (λ error. is_memory stop ≡ true → error ≡ RoundError.Memory) }
 {
     match stop {
-        Some(Stop::Memory) => Some(RunnerError::Memory),
-        Some(Stop::Refused) => Some(RunnerError::Refused),
+        Some(Stop::Memory) => Some(RoundError::Memory),
+        Some(Stop::Refused) => Some(RoundError::Refused),
         Some(Stop::Failure(_)) | None => None,
     }
 }
@@ -241,15 +241,15 @@ fn gather<D: Drop>(
     alloc: Global,
     first: Told<D>,
     mut others: Vec<Told<D>>,
-) -> Result<Vec<Told<D>>, RunnerError>
+) -> Result<Vec<Told<D>>, RoundError>
     ensures { IfOk result (λ all. slice_get all.items 0 ≡ Some first) }
 {
     let mut all = Vec::new(alloc);
     if all.push(first).is_err() {
-        return Err(RunnerError::Memory);
+        return Err(RoundError::Memory);
     }
     if all.append(&mut others).is_err() {
-        return Err(RunnerError::Memory);
+        return Err(RoundError::Memory);
     }
     Ok(all)
 }

@@ -1,10 +1,10 @@
 // What the threads of a run share, and how they take turns.
-use crate::error::RunnerError;
+use crate::error::RoundError;
 use crate::handle::Handle;
 use crate::job::Job;
 use loom_answers::answer::let_go;
 use loom_copies::exact::Exact;
-use loom_objects::operation::{Reply, Request, ThreadOp};
+use loom_operations::operation::{Reply, Request, ThreadOp};
 use loom_ops::thread::JoinHandle;
 use loom_turns::stop::Stop;
 use loom_turns::told::Told;
@@ -22,7 +22,7 @@ pub struct Shared<D> {
 }
 
 /// A thread that was started.
-pub(crate) type Child<D> = thread::JoinHandle<Result<Vec<Told<D>>, RunnerError>>;
+pub(crate) type Child<D> = thread::JoinHandle<Result<Vec<Told<D>>, RoundError>>;
 
 /// The threads that a handle has started.
 pub(crate) type Children<D> = Vec<Child<D>>;
@@ -107,7 +107,7 @@ pub(crate) fn start<
     let Ok(theirs) = Arc::try_clone(shared) else {
         return Err(Stop::Memory);
     };
-    let body = move || -> Result<Vec<Told<D>>, RunnerError>
+    let body = move || -> Result<Vec<Told<D>>, RoundError>
         requires { J.ready job }
     { run_job(again, alloc, theirs, thread, job) };
     match thread::spawn(rt, body) {
@@ -135,7 +135,7 @@ fn run_job<D: Exact + 'static, R: Threads + Wait + Clone + Send + 'static, J: Jo
     shared: Arc<Shared<D>, Global>,
     thread: u8,
     job: J,
-) -> Result<Vec<Told<D>>, RunnerError>
+) -> Result<Vec<Told<D>>, RoundError>
     requires { J.ready job }
 {
     let is_started = is_started(&rt, &shared, thread);
@@ -152,14 +152,14 @@ pub(crate) fn join_all<D: Exact + 'static, R: Threads>(
     rt: &R,
     alloc: Global,
     children: Children<D>,
-) -> Result<Vec<Told<D>>, RunnerError> {
+) -> Result<Vec<Told<D>>, RoundError> {
     let mut all = Vec::new(alloc);
     let mut error = None;
     for child in children {
         match child.join(rt) {
             Ok(mut lists) => {
                 if all.append(&mut lists).is_err() {
-                    error = Some(RunnerError::Memory);
+                    error = Some(RoundError::Memory);
                 }
             }
             Err(e) => error = Some(e),

@@ -4,7 +4,7 @@ ghost use Rattle.loom_runner_parts.specs.Calls.{is_reserved, is_reserved_of_thre
 
 use loom_copies::exact::Exact;
 use loom_copies::replies::copy_reply;
-use loom_objects::operation::{Reply, Request, ThreadOp};
+use loom_operations::operation::{Reply, Request, ThreadOp};
 use loom_turn_parts::stop::Stop;
 use std::alloc::Global;
 

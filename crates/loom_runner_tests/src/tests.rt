@@ -1,6 +1,7 @@
 ghost use Rattle.std.specs.Prelude.{◌≡◌};
 
 mod bodies;
+mod children;
 mod ends;
 mod finding;
 mod forms;
@@ -10,7 +11,7 @@ mod turns;
 
 use loom::Choice;
 use loom_copies::exact::Exact;
-use loom_objects::data::Data;
+use loom_operations::data::Data;
 use std::alloc::AllocError;
 use std::process::Abort;
 
@@ -36,6 +37,12 @@ impl Exact for Count {
     ghost use Rattle.std.proofs.Common.{rules};
 
     ghost same = { λ x y e. Prim.search rules };
+}
+
+/// A copy of a value of one's own type is that value.
+#[test]
+fn own_data_is_copied(rt: HostRuntime) {
+    holds(&rt, matches!(Count(3).try_clone(), Ok(Count(3))));
 }
 
 /// Ends the test where this doesn't hold. (An assertion costs the proof seconds wherever it stands, and a call of this next to

@@ -3,9 +3,9 @@ use Rattle.std.proofs.Common.{◌≡◌, ◌≢◌, ◌≤◌, ℕ, Bool, List, 
 use Rattle.std.specs.Prelude.{slice_get}
 use Rattle.loom_parts.specs.declared.ability.Ability.{Ability}
 use Rattle.loom_parts.specs.declared.ability.Ability.TheVariants.{Able}
-use Rattle.loom_objects.specs.declared.rt.thread.Offers.{Offers}
-use Rattle.loom_objects.specs.Question.{IsSound, IsSoundDefault, AreSoundOffers}
-use Rattle.loom_objects.specs.Asked.{which_thread}
+use Rattle.loom_operations.specs.declared.offers.Offers.{Offers}
+use Rattle.loom_operations.specs.Question.{IsSound, IsSoundDefault, AreSoundOffers}
+use Rattle.loom_operations.specs.Asked.{which_thread}
 
 pub default_is_able : (default : Option ℕ) (abilities : List Ability) → AreSoundOffers default abilities → IsSoundDefault default abilities
 default_is_able None abilities sound = tt

@@ -4,9 +4,9 @@ use Rattle.std.specs.Prelude.{ℕ, suc, Bool, ◌-◌, List, length, Option, Som
 use Rattle.loom_view_parts.specs.declared.rt.failure.FailureKind.{FailureKind}
 use Rattle.loom_dependence.specs.Dependence.{Order, opening as no_accesses, grown, unordered, after_use}
 use Rattle.loom_dependence.specs.declared.rt.dependence.Use.{Use}
-use Rattle.loom_objects.specs.Exploring.{initially}
-use Rattle.loom_objects.specs.declared.rt.exploring.Exploring.{Exploring}
-use Rattle.loom_objects.specs.Tree.{Tree, Gives, Fails, Closes, Asks}
+use Rattle.loom_operations.specs.Exploring.{initially}
+use Rattle.loom_operations.specs.declared.exploring.Exploring.{Exploring}
+use Rattle.loom_operations.specs.Tree.{Tree, Gives, Fails, Closes, Asks}
 use Rattle.loom_objects.specs.Uses.{use_at, uses}
 use Rattle.loom_objects.specs.World.{World, opening as first_world}
 

@@ -1,6 +1,6 @@
 -- What needs no memory makes nothing.
 use Rattle.std.specs.Prelude.{◌≡◌, false, length, Ok, ⊤}
-use Rattle.loom_objects.specs.declared.operation.Request.{Request}
+use Rattle.loom_operations.specs.declared.operation.Request.{Request}
 use Rattle.loom_objects.specs.declared.rt.run.Entry.{Entry}
 use Rattle.loom_objects.specs.Effects.{counted, needs_memory}
 use Rattle.loom_objects.specs.World.{World}

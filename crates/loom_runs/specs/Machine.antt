@@ -3,22 +3,22 @@ use Rattle.std.specs.Prelude.{ℕ, zero, suc, Bool, Some, None, ⊤}
 use Rattle.loom_view_parts.specs.declared.rt.failure.FailureKind.TheVariants.{Deadlock, Misuse, NotDeterministic}
 use Rattle.loom_parts.specs.declared.choice.Choice.{Choice}
 use Rattle.loom_parts.specs.declared.choice.Choice.TheVariants.{Thread, Load, Spurious}
-use Rattle.loom_objects.specs.declared.operation.ExploreOp.{ExploreOp}
-use Rattle.loom_objects.specs.declared.operation.Request.{Request}
-use Rattle.loom_objects.specs.declared.operation.Reply.TheVariants as reply
-use Rattle.loom_objects.specs.declared.operation.Turn.{Turn}
-use Rattle.loom_objects.specs.declared.operation.Turn.TheVariants as turn
+use Rattle.loom_operations.specs.declared.operation.ExploreOp.{ExploreOp}
+use Rattle.loom_operations.specs.declared.operation.Request.{Request}
+use Rattle.loom_operations.specs.declared.operation.Reply.TheVariants as reply
+use Rattle.loom_operations.specs.declared.operation.Turn.{Turn}
+use Rattle.loom_operations.specs.declared.operation.Turn.TheVariants as turn
 use Rattle.loom_objects.specs.declared.rt.run.Entry.{Entry}
 use Rattle.loom_objects.specs.declared.rt.run.Entry.TheVariants.{Answered, AtBranch, Explores, Spurious as AtSpurious}
 use Rattle.loom_objects.specs.declared.rt.run.Passed.{Passed}
 use Rattle.loom_objects.specs.declared.rt.run.Passed.TheVariants as passed
-use Rattle.loom_objects.specs.Tree.{Tree, Gives, Fails, Closes, Asks, ◌>>=◌, came, check}
+use Rattle.loom_operations.specs.Tree.{Tree, Gives, Fails, Closes, Asks, ◌>>=◌, came, check}
 use Rattle.loom_objects.specs.Ending.{all_ended}
-use Rattle.loom_objects.specs.Exploring.{is_on, switched}
+use Rattle.loom_operations.specs.Exploring.{is_on, switched}
 use Rattle.loom_objects.specs.Schedules.{offers}
 use Rattle.loom_objects.specs.Steps.{begins, ends, enters_wait, resumes}
 use Rattle.loom_runs.specs.Courses.{Course, accesses, carried, grown_from, one_passed, unordered_in}
-use Rattle.loom_objects.specs.Asked.{which_thread, whether_spurious}
+use Rattle.loom_operations.specs.Asked.{which_thread, whether_spurious}
 
 -- An operation comes to as many further branch points as there are stages left of it and of those that it lets go on: a receiver
 -- that is dropped has one for each message. Each is a node, and no path has more than these.

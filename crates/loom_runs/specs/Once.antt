@@ -1,9 +1,9 @@
 -- A lazy value is made once, over every history.
 use Rattle.std.specs.Prelude.{ℕ, ◌≡◌, Bool, List, ◌∷◌, ◌++◌}
-use Rattle.loom_objects.specs.declared.operation.LazyOp.TheVariants.{Init}
-use Rattle.loom_objects.specs.declared.operation.Request.TheVariants.{Lazy}
-use Rattle.loom_objects.specs.declared.operation.Reply.TheVariants.{Data}
-use Rattle.loom_objects.specs.declared.operation.Turn.TheVariants.{Reply}
+use Rattle.loom_operations.specs.declared.operation.LazyOp.TheVariants.{Init}
+use Rattle.loom_operations.specs.declared.operation.Request.TheVariants.{Lazy}
+use Rattle.loom_operations.specs.declared.operation.Reply.TheVariants.{Data}
+use Rattle.loom_operations.specs.declared.operation.Turn.TheVariants.{Reply}
 use Rattle.loom_runs.specs.Courses.{opening}
 use Rattle.loom_runs.specs.Histories.{Event, IsHistory}
 

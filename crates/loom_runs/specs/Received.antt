@@ -1,13 +1,13 @@
 -- What is received from a channel is what was sent to it, in order, over every history.
 use Rattle.std.specs.Prelude.{ℕ, ◌≡◌, ◌==◌, ◌++◌, ◌⊎◌, Bool, false, cond, List, [], ◌∷◌, Option, Some, None, ⊤}
 use Rattle.std.specs.List.{list_any}
-use Rattle.loom_objects.specs.declared.operation.ChannelOp.{ChannelOp}
-use Rattle.loom_objects.specs.declared.operation.ChannelOp.TheVariants.{New, Send, Recv, TryRecv, CloneSender, DropSender, DropReceiver}
-use Rattle.loom_objects.specs.declared.operation.Request.{Request}
-use Rattle.loom_objects.specs.declared.operation.Request.TheVariants as op
-use Rattle.loom_objects.specs.declared.operation.Reply.TheVariants.{Data, Done}
-use Rattle.loom_objects.specs.declared.operation.Turn.{Turn}
-use Rattle.loom_objects.specs.declared.operation.Turn.TheVariants.{Reply, Start, Ended}
+use Rattle.loom_operations.specs.declared.operation.ChannelOp.{ChannelOp}
+use Rattle.loom_operations.specs.declared.operation.ChannelOp.TheVariants.{New, Send, Recv, TryRecv, CloneSender, DropSender, DropReceiver}
+use Rattle.loom_operations.specs.declared.operation.Request.{Request}
+use Rattle.loom_operations.specs.declared.operation.Request.TheVariants as op
+use Rattle.loom_operations.specs.declared.operation.Reply.TheVariants.{Data, Done}
+use Rattle.loom_operations.specs.declared.operation.Turn.{Turn}
+use Rattle.loom_operations.specs.declared.operation.Turn.TheVariants.{Reply, Start, Ended}
 use Rattle.loom_runs.specs.Courses.{opening}
 use Rattle.loom_runs.specs.Histories.{Event, IsHistory}
 

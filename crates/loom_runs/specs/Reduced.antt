@@ -1,7 +1,7 @@
 -- Small bodies, and the runs that a reduced search makes of them.
 use Rattle.std.specs.Prelude.{ℕ, zero, suc, ◌≡◌, true, List, [], ◌∷◌, Option, Some, None, length, take}
 use Rattle.loom_parts.specs.declared.choice.Choice.{Choice}
-use Rattle.loom_objects.specs.Tree.{Tree}
+use Rattle.loom_operations.specs.Tree.{Tree}
 use Rattle.loom_walks.specs.Walk.Path.{Stored, choices, step}
 use Rattle.loom_walks.specs.Trees.Drive.{at_start, drive}
 use Rattle.loom_walks.specs.Trees.Marks.{marking}

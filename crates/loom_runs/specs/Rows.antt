@@ -6,15 +6,15 @@ use Rattle.loom_view_parts.specs.declared.rt.failure.FailureKind.TheVariants.{De
 use Rattle.loom_parts.specs.declared.choice.Choice.{Choice}
 use Rattle.loom_parts.specs.declared.choice.Choice.TheVariants as choice
 use Rattle.loom_view_parts.specs.declared.rt.num.Numbers.TheVariants.{U64}
-use Rattle.loom_objects.specs.declared.operation.ArcOp.TheVariants as arc
-use Rattle.loom_objects.specs.declared.operation.AtomicOp.TheVariants as atomic
-use Rattle.loom_objects.specs.declared.operation.MutexOp.TheVariants as mutex
-use Rattle.loom_objects.specs.declared.operation.Request.{Request}
-use Rattle.loom_objects.specs.declared.operation.Request.TheVariants as op
-use Rattle.loom_objects.specs.declared.operation.Reply.{Reply}
-use Rattle.loom_objects.specs.declared.operation.Reply.TheVariants as reply
-use Rattle.loom_objects.specs.declared.operation.ThreadOp.TheVariants as thread
-use Rattle.loom_objects.specs.Labels.{bare}
+use Rattle.loom_operations.specs.declared.operation.ArcOp.TheVariants as arc
+use Rattle.loom_operations.specs.declared.operation.AtomicOp.TheVariants as atomic
+use Rattle.loom_operations.specs.declared.operation.MutexOp.TheVariants as mutex
+use Rattle.loom_operations.specs.declared.operation.Request.{Request}
+use Rattle.loom_operations.specs.declared.operation.Request.TheVariants as op
+use Rattle.loom_operations.specs.declared.operation.Reply.{Reply}
+use Rattle.loom_operations.specs.declared.operation.Reply.TheVariants as reply
+use Rattle.loom_operations.specs.declared.operation.ThreadOp.TheVariants as thread
+use Rattle.loom_operations.specs.Labels.{bare}
 use Rattle.loom_runs.specs.Runs.{Meaning, runs}
 use Rattle.loom_walks.specs.Trees.Outcomes.{outcome}
 

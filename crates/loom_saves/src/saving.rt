@@ -32,6 +32,7 @@ pub struct Pace {
 pub fn save_and_run<D: Drop, Choices, M, R, S, L>(
     alloc: Global,
     runs: &M,
+    room: &mut M::Room,
     receiver: &mut R,
     path: &mut Path,
     store: &mut S,
@@ -56,7 +57,7 @@ where
     ensures faults { Counts result (S.fault_count store.old) (S.fault_count store.new) }
 {
     pace.until_save = keep(alloc, path, store, log, pace)?;
-    match run_and_step(alloc, runs, receiver, path) {
+    match run_and_step(alloc, runs, room, receiver, path) {
         Ok(round) => Ok(round),
         Err(_) => Err(StoreError::Memory),
     }

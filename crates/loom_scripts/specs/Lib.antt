@@ -1,4 +1,3 @@
-pub mod Number
 pub mod Operations
 pub mod Running
 pub mod Script

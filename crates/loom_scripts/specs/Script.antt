@@ -1,14 +1,13 @@
 -- What a script does from one operation to the next.
 use Rattle.std.specs.Prelude.{ℕ, List, Option, Some, None, slice_get}
 use Rattle.std.specs.declared.sync.atomic.Ordering.{Ordering}
-use Rattle.loom_objects.specs.declared.operation.AtomicOp.TheVariants as atomic
-use Rattle.loom_objects.specs.Labels.{Op}
-use Rattle.loom_objects.specs.declared.operation.Request.{Request}
-use Rattle.loom_objects.specs.declared.operation.Request.TheVariants as op
-use Rattle.loom_objects.specs.declared.operation.Reply.{Reply}
-use Rattle.loom_objects.specs.declared.operation.ThreadOp.TheVariants.{Spawn}
+use Rattle.loom_operations.specs.declared.operation.AtomicOp.TheVariants as atomic
+use Rattle.loom_operations.specs.Labels.{Op}
+use Rattle.loom_operations.specs.declared.operation.Request.{Request}
+use Rattle.loom_operations.specs.declared.operation.Request.TheVariants as op
+use Rattle.loom_operations.specs.declared.operation.Reply.{Reply}
+use Rattle.loom_operations.specs.declared.operation.ThreadOp.TheVariants.{Spawn}
 use Rattle.loom_parts.specs.declared.label.Label.{Label as Called}
-use Rattle.loom_scripts.specs.declared.number.Number.{Number}
 use Rattle.loom_scripts.specs.declared.step.Step.{Step}
 use Rattle.loom_scripts.specs.declared.step.Step.TheVariants.{Do, Labelled, Store, Jump, Unless, Label, JumpTo, IfTo, UnlessTo, SpawnAt}
 use Rattle.loom_scripts.specs.declared.step.Value.{Value}
@@ -17,12 +16,12 @@ use Rattle.loom_scripts.specs.Running.{Running, fetched, landing, place_of, spaw
 use Rattle.loom_scripts.specs.Slots.{kept, number_of, object}
 
 -- what is asked for, if there is something; else the step fails
-abbrev pub or_fails : {A : Type 0} → Option A → (A → Request Number Running) → Request Number Running
+abbrev pub or_fails : {A : Type 0} → Option A → (A → Request ℕ Running) → Request ℕ Running
 or_fails None makes = op.Fail
 or_fails (Some made) makes = makes made
 
 -- what is asked for over slots, as the thread asks for it
-abbrev pub request : Running → Request Value ℕ → Request Number Running
+abbrev pub request : Running → Request Value ℕ → Request ℕ Running
 request s (op.Atomic made) = or_fails (atomic_op s.state made) (λ o. op.Atomic o)
 request s (op.Fence order) = op.Fence order
 request s (op.Cell made) = or_fails (cell_op s.state made) (λ o. op.Cell o)
@@ -43,15 +42,15 @@ request s op.Fail = op.Fail
 request s op.Unreachable = op.Unreachable
 
 -- the store of the value into the atomic in the slot
-abbrev pub store : Running → ℕ → Value → Ordering → Request Number Running
+abbrev pub store : Running → ℕ → Value → Ordering → Request ℕ Running
 store s slot value order = or_fails (object s.state slot) (λ n. op.Atomic (atomic.Store n (number_of s.state value) order))
 
 -- the start of a thread behind the label of this name
-abbrev pub spawn_at : Running → List ℕ → Request Number Running
+abbrev pub spawn_at : Running → List ℕ → Request ℕ Running
 spawn_at s name = op.Thread (Spawn (spawned s (place_of s.steps name)) None)
 
 -- what the step asks for; beyond the script's end, and where a jump leads to a jump or past a label to another one, it fails
-abbrev pub step_request : Running → Option Step → Request Number Running
+abbrev pub step_request : Running → Option Step → Request ℕ Running
 step_request s None = op.Fail
 step_request s (Some (Do keep made)) = request s made
 step_request s (Some (Labelled keep made called)) = request s made
@@ -79,16 +78,16 @@ label_of (Some (UnlessTo register n name)) = None
 label_of (Some (SpawnAt slot name)) = None
 
 -- the operation of the step
-abbrev pub step_operation : Running → Option Step → Op Number Running
+abbrev pub step_operation : Running → Option Step → Op ℕ Running
 step_operation s step = record { request = step_request s step; label = label_of step }
 
-abbrev pub operation_at : Running → ℕ → Op Number Running
+abbrev pub operation_at : Running → ℕ → Op ℕ Running
 operation_at s place = step_operation s (slice_get s.steps place)
 
 -- what the reply tells is kept, and the thread is behind the next step
-abbrev pub fetched_after : Running → Reply Number → Running
+abbrev pub fetched_after : Running → Reply ℕ → Running
 fetched_after s answer = record s { state = fetched s.steps (kept s.state answer) }
 
 -- a script's meaning: what the reply tells is kept, and the next step says which operation comes
-abbrev pub next_of : Running → Reply Number → Running × Op Number Running
+abbrev pub next_of : Running → Reply ℕ → Running × Op ℕ Running
 next_of s answer = (fetched_after s answer, operation_at (fetched_after s answer) (landing s.steps (kept s.state answer)))

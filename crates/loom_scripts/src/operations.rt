@@ -1,14 +1,13 @@
 //! Operations over slots, as a thread hands them over: by the numbers that its slots keep, and by what values stand for.
 ghost use Rattle.std.specs.Prelude.{◌≡◌, IfOk};
 ghost use Rattle.loom_scripts.specs.Operations.{atomic_op, cell_op, arc_op, track_op, mutex_op, rwlock_op, condvar_op, notify_op, channel_op, waker_op, place_op, local_op, lazy_op};
-ghost use Rattle.loom_objects.specs.declared.operation.Request.TheVariants.{Thread};
+ghost use Rattle.loom_operations.specs.declared.operation.Request.TheVariants.{Thread};
 ghost use Rattle.loom_scripts.specs.Script.{request};
 
-use crate::number::Number;
 use crate::script::Script;
 use crate::state::State;
 use crate::step::Value;
-use loom_objects::operation::{
+use loom_operations::operation::{
     ArcOp, AtomicOp, AtomicWakerOp, CellOp, ChannelOp, CondvarOp, LazyOp, LocalOp, MutexOp,
     NotifyOp, Request, RwLockOp, ThreadOp, TrackOp, WakerOp,
 };
@@ -62,11 +61,11 @@ impl State {
     }
 
     /// The operation of a cell.
-    pub(crate) fn cell_op(&self, op: &CellOp<Value>) -> Option<CellOp<Number>>
+    pub(crate) fn cell_op(&self, op: &CellOp<Value>) -> Option<CellOp<u64>>
         ensures { result ≡ cell_op self.now op.now }
     {
         match op {
-            CellOp::New(value) => return Some(CellOp::New(self.data_of(*value))),
+            CellOp::New(value) => return Some(CellOp::New(self.number_of(*value))),
             CellOp::Read(slot) => on!(self, *slot, CellOp::Read),
             CellOp::ReadEnd(slot) => on!(self, *slot, CellOp::ReadEnd),
             CellOp::Deref(slot) => on!(self, *slot, CellOp::Deref),
@@ -75,11 +74,16 @@ impl State {
                 self,
                 *slot,
                 CellOp::WriteEnd,
-                self.data_of(*value)
+                self.number_of(*value)
             ),
             CellOp::IntoInner(slot) => on!(self, *slot, CellOp::IntoInner),
             CellOp::Get(slot) => on!(self, *slot, CellOp::Get),
-            CellOp::Replace(slot, value) => on!(self, *slot, CellOp::Replace, self.data_of(*value)),
+            CellOp::Replace(slot, value) => on!(
+                self,
+                *slot,
+                CellOp::Replace,
+                self.number_of(*value)
+            ),
             CellOp::Swap(one, other) => {
                 if let (Some(one), Some(other)) = (self.object(*one), self.object(*other)) {
                     return Some(CellOp::Swap(one, other));
@@ -90,16 +94,16 @@ impl State {
     }
 
     /// The operation of a counted reference.
-    pub(crate) fn arc_op(&self, op: &ArcOp<Value>) -> Option<ArcOp<Number>>
+    pub(crate) fn arc_op(&self, op: &ArcOp<Value>) -> Option<ArcOp<u64>>
         ensures { result ≡ arc_op self.now op.now }
     {
         match op {
-            ArcOp::New(value) => return Some(ArcOp::New(self.data_of(*value))),
+            ArcOp::New(value) => return Some(ArcOp::New(self.number_of(*value))),
             ArcOp::Clone(slot) => on!(self, *slot, ArcOp::Clone),
             ArcOp::Drop(slot) => on!(self, *slot, ArcOp::Drop),
             ArcOp::Get(slot) => on!(self, *slot, ArcOp::Get),
             ArcOp::GetMut(slot) => on!(self, *slot, ArcOp::GetMut),
-            ArcOp::Put(slot, value) => on!(self, *slot, ArcOp::Put, self.data_of(*value)),
+            ArcOp::Put(slot, value) => on!(self, *slot, ArcOp::Put, self.number_of(*value)),
             ArcOp::TryUnwrap(slot) => on!(self, *slot, ArcOp::TryUnwrap),
             ArcOp::StrongCount(slot) => on!(self, *slot, ArcOp::StrongCount),
         }
@@ -107,14 +111,14 @@ impl State {
     }
 
     /// The operation of a tracked value.
-    pub(crate) fn track_op(&self, op: &TrackOp<Value>) -> Option<TrackOp<Number>>
+    pub(crate) fn track_op(&self, op: &TrackOp<Value>) -> Option<TrackOp<u64>>
         ensures { result ≡ track_op self.now op.now }
     {
         match op {
-            TrackOp::New(value) => return Some(TrackOp::New(self.data_of(*value))),
+            TrackOp::New(value) => return Some(TrackOp::New(self.number_of(*value))),
             TrackOp::GetRef(slot) => on!(self, *slot, TrackOp::GetRef),
             TrackOp::GetMut(slot) => on!(self, *slot, TrackOp::GetMut),
-            TrackOp::Put(slot, value) => on!(self, *slot, TrackOp::Put, self.data_of(*value)),
+            TrackOp::Put(slot, value) => on!(self, *slot, TrackOp::Put, self.number_of(*value)),
             TrackOp::IntoInner(slot) => on!(self, *slot, TrackOp::IntoInner),
             TrackOp::Drop(slot) => on!(self, *slot, TrackOp::Drop),
         }
@@ -122,32 +126,32 @@ impl State {
     }
 
     /// The operation of a mutex.
-    pub(crate) fn mutex_op(&self, op: &MutexOp<Value>) -> Option<MutexOp<Number>>
+    pub(crate) fn mutex_op(&self, op: &MutexOp<Value>) -> Option<MutexOp<u64>>
         ensures { result ≡ mutex_op self.now op.now }
     {
         match op {
-            MutexOp::New(value) => return Some(MutexOp::New(self.data_of(*value))),
+            MutexOp::New(value) => return Some(MutexOp::New(self.number_of(*value))),
             MutexOp::Lock(slot) => on!(self, *slot, MutexOp::Lock),
             MutexOp::TryLock(slot) => on!(self, *slot, MutexOp::TryLock),
             MutexOp::Release(slot, value) => on!(
                 self,
                 *slot,
                 MutexOp::Release,
-                self.data_of(*value)
+                self.number_of(*value)
             ),
             MutexOp::GetMut(slot) => on!(self, *slot, MutexOp::GetMut),
-            MutexOp::Put(slot, value) => on!(self, *slot, MutexOp::Put, self.data_of(*value)),
+            MutexOp::Put(slot, value) => on!(self, *slot, MutexOp::Put, self.number_of(*value)),
             MutexOp::IntoInner(slot) => on!(self, *slot, MutexOp::IntoInner),
         }
         None
     }
 
     /// The operation of a read-write lock.
-    pub(crate) fn rwlock_op(&self, op: &RwLockOp<Value>) -> Option<RwLockOp<Number>>
+    pub(crate) fn rwlock_op(&self, op: &RwLockOp<Value>) -> Option<RwLockOp<u64>>
         ensures { result ≡ rwlock_op self.now op.now }
     {
         match op {
-            RwLockOp::New(value) => return Some(RwLockOp::New(self.data_of(*value))),
+            RwLockOp::New(value) => return Some(RwLockOp::New(self.number_of(*value))),
             RwLockOp::Read(slot) => on!(self, *slot, RwLockOp::Read),
             RwLockOp::TryRead(slot) => on!(self, *slot, RwLockOp::TryRead),
             RwLockOp::ReadRelease(slot) => on!(self, *slot, RwLockOp::ReadRelease),
@@ -157,29 +161,29 @@ impl State {
                 self,
                 *slot,
                 RwLockOp::WriteRelease,
-                self.data_of(*value)
+                self.number_of(*value)
             ),
             RwLockOp::GetMut(slot) => on!(self, *slot, RwLockOp::GetMut),
-            RwLockOp::Put(slot, value) => on!(self, *slot, RwLockOp::Put, self.data_of(*value)),
+            RwLockOp::Put(slot, value) => on!(self, *slot, RwLockOp::Put, self.number_of(*value)),
             RwLockOp::IntoInner(slot) => on!(self, *slot, RwLockOp::IntoInner),
         }
         None
     }
 
     /// The operation of a condition variable.
-    pub(crate) fn condvar_op(&self, op: &CondvarOp<Value>) -> Option<CondvarOp<Number>>
+    pub(crate) fn condvar_op(&self, op: &CondvarOp<Value>) -> Option<CondvarOp<u64>>
         ensures { result ≡ condvar_op self.now op.now }
     {
         match op {
             CondvarOp::New => return Some(CondvarOp::New),
             CondvarOp::Wait(slot, mutex, value) => {
                 if let (Some(slot), Some(mutex)) = (self.object(*slot), self.object(*mutex)) {
-                    return Some(CondvarOp::Wait(slot, mutex, self.data_of(*value)));
+                    return Some(CondvarOp::Wait(slot, mutex, self.number_of(*value)));
                 }
             }
             CondvarOp::WaitTimeout(slot, mutex, value) => {
                 if let (Some(slot), Some(mutex)) = (self.object(*slot), self.object(*mutex)) {
-                    return Some(CondvarOp::WaitTimeout(slot, mutex, self.data_of(*value)));
+                    return Some(CondvarOp::WaitTimeout(slot, mutex, self.number_of(*value)));
                 }
             }
             CondvarOp::NotifyOne(slot) => on!(self, *slot, CondvarOp::NotifyOne),
@@ -201,12 +205,17 @@ impl State {
     }
 
     /// The operation of a channel.
-    pub(crate) fn channel_op(&self, op: &ChannelOp<Value>) -> Option<ChannelOp<Number>>
+    pub(crate) fn channel_op(&self, op: &ChannelOp<Value>) -> Option<ChannelOp<u64>>
         ensures { result ≡ channel_op self.now op.now }
     {
         match op {
             ChannelOp::New => return Some(ChannelOp::New),
-            ChannelOp::Send(slot, value) => on!(self, *slot, ChannelOp::Send, self.data_of(*value)),
+            ChannelOp::Send(slot, value) => on!(
+                self,
+                *slot,
+                ChannelOp::Send,
+                self.number_of(*value)
+            ),
             ChannelOp::Recv(slot) => on!(self, *slot, ChannelOp::Recv),
             ChannelOp::TryRecv(slot) => on!(self, *slot, ChannelOp::TryRecv),
             ChannelOp::CloneSender(slot) => on!(self, *slot, ChannelOp::CloneSender),
@@ -256,24 +265,24 @@ impl State {
     }
 
     /// The operation of a thread's own values. A step has the key itself; so it is with values that are made once.
-    pub(crate) fn local_op(&self, op: &LocalOp<Value>) -> LocalOp<Number>
+    pub(crate) fn local_op(&self, op: &LocalOp<Value>) -> LocalOp<u64>
         ensures { result ≡ local_op self.now op.now }
     {
         match op {
             LocalOp::With(key) => LocalOp::With(*key),
             LocalOp::TryWith(key) => LocalOp::TryWith(*key),
-            LocalOp::Init(key, value) => LocalOp::Init(*key, self.data_of(*value)),
-            LocalOp::Put(key, value) => LocalOp::Put(*key, self.data_of(*value)),
+            LocalOp::Init(key, value) => LocalOp::Init(*key, self.number_of(*value)),
+            LocalOp::Put(key, value) => LocalOp::Put(*key, self.number_of(*value)),
         }
     }
 
     /// The operation of values that are made once a run.
-    pub(crate) fn lazy_op(&self, op: &LazyOp<Value>) -> LazyOp<Number>
+    pub(crate) fn lazy_op(&self, op: &LazyOp<Value>) -> LazyOp<u64>
         ensures { result ≡ lazy_op self.now op.now }
     {
         match op {
             LazyOp::Get(key) => LazyOp::Get(*key),
-            LazyOp::Init(key, value) => LazyOp::Init(*key, self.data_of(*value)),
+            LazyOp::Init(key, value) => LazyOp::Init(*key, self.number_of(*value)),
         }
     }
 }
@@ -284,7 +293,7 @@ impl Script {
     pub(crate) fn thread_request(
         &self,
         op: &ThreadOp<Value, usize>,
-    ) -> Result<Request<Number, Script>, AllocError>
+    ) -> Result<Request<u64, Script>, AllocError>
         ensures { IfOk result (λ made. made ≡ request self.now (Thread op.now)) }
     {
         let state = self.state();
@@ -301,7 +310,7 @@ impl Script {
                 None => return Ok(Request::Fail),
             },
             ThreadOp::Yield => ThreadOp::Yield,
-            ThreadOp::Finish(value) => ThreadOp::Finish(state.data_of(*value)),
+            ThreadOp::Finish(value) => ThreadOp::Finish(state.number_of(*value)),
             ThreadOp::Exit => ThreadOp::Exit,
             ThreadOp::End => ThreadOp::End,
         }))

@@ -1,14 +1,13 @@
 //! Bodies that take one step of a list after another.
 ghost use Rattle.std.specs.Prelude.{◌≡◌, Err, IfOk, Ok, Some, option_copied};
-ghost use Rattle.loom_objects.specs.Labels.{bare};
+ghost use Rattle.loom_operations.specs.Labels.{bare};
 ghost use Rattle.loom_scripts.specs.Running.{spawned, started};
 ghost use Rattle.loom_scripts.specs.Script.{label_of, next_of, request, spawn_at, store};
 
-use crate::number::Number;
 use crate::state::{State, place_of};
 use crate::step::{Step, Value};
-use loom_objects::body::Body;
-use loom_objects::operation::{AtomicOp, Labelled, Op, Reply, Request, ThreadOp};
+use loom_operations::body::Body;
+use loom_operations::operation::{AtomicOp, Labelled, Op, Reply, Request, ThreadOp};
 use loom_parts::label::Label;
 use std::alloc::{AllocError, Global};
 use std::marker::Model;
@@ -75,7 +74,7 @@ impl Script {
     }
 
     /// What the step asks for. Where a slot keeps no such handle the step fails.
-    fn request(&self, asked: &Request<Value, usize>) -> Result<Request<Number, Script>, AllocError>
+    fn request(&self, asked: &Request<Value, usize>) -> Result<Request<u64, Script>, AllocError>
         ensures { IfOk result (λ made. made ≡ request self.now asked.now) }
     {
         let state = self.state();
@@ -103,7 +102,7 @@ impl Script {
     }
 
     /// The store of the value into the atomic in the slot.
-    fn store(&self, slot: usize, value: Value, order: Ordering) -> Request<Number, Script>
+    fn store(&self, slot: usize, value: Value, order: Ordering) -> Request<u64, Script>
         ensures { result ≡ store self.now slot value order }
     {
         match self.state.object(slot) {
@@ -116,7 +115,7 @@ impl Script {
     }
 
     /// The start of a thread behind the label of this name.
-    fn spawn_at(&self, name: &str) -> Result<Request<Number, Script>, AllocError>
+    fn spawn_at(&self, name: &str) -> Result<Request<u64, Script>, AllocError>
         ensures { IfOk result (λ made. made ≡ spawn_at self.now name.now) }
     {
         let child = self.child(place_of(self.steps, name))?;
@@ -147,7 +146,7 @@ fn label_of(step: Option<&Step>) -> Option<&Label>
 
 // The operation of a step whose author doesn't call it anything. It is a function of its own, so that the label that isn't
 // there is cleared where the answer is written, and never moved.
-fn bare(request: Request<Number, Script>) -> Result<Op<Number, Script>, AllocError>
+fn bare(request: Request<u64, Script>) -> Result<Op<u64, Script>, AllocError>
     ensures { result ≡ Ok (bare request) }
 {
     Ok(Labelled {
@@ -157,7 +156,7 @@ fn bare(request: Request<Number, Script>) -> Result<Op<Number, Script>, AllocErr
 }
 
 // The operation of a step that its author calls by this label.
-fn called(request: Request<Number, Script>, label: &Label) -> Result<Op<Number, Script>, AllocError>
+fn called(request: Request<u64, Script>, label: &Label) -> Result<Op<u64, Script>, AllocError>
     ensures { result ≡ Ok (record { request = request; label = Some label.now }) }
 {
     Ok(Labelled {
@@ -167,18 +166,18 @@ fn called(request: Request<Number, Script>, label: &Label) -> Result<Op<Number, 
 }
 
 // A growth that was refused.
-fn refused(refusal: AllocError) -> Result<Op<Number, Script>, AllocError>
+fn refused(refusal: AllocError) -> Result<Op<u64, Script>, AllocError>
     ensures { result ≡ Err refusal }
 {
     Err(refusal)
 }
 
 impl Body for Script {
-    type Data = Number;
+    type Data = u64;
 
     ghost next = { next_of };
 
-    fn resume(&mut self, reply: Reply<Number>) -> Result<Op<Number, Script>, AllocError>
+    fn resume(&mut self, reply: Reply<u64>) -> Result<Op<u64, Script>, AllocError>
         ensures { IfOk result (λ op. (self.new, op) ≡ next_of self.old reply) }
     {
         // The reply is let go before the operation is made, so that nothing of it is held beside that.

@@ -1,12 +1,10 @@
 //! How far a thread of a script is, and what it keeps.
 ghost use Rattle.std.specs.Prelude.{◌≡◌, ◌<◌, ◌==◌, length, option_copied, slice_get};
 ghost use Rattle.loom_scripts.specs.Running.{at_first, behind, child, fetched, goes_on_at, is_label, keep_of, label_at, landing, past_label, place_of};
-ghost use Rattle.loom_scripts.specs.Slots.{data_of, digits, handle_at, held, kept, lazy_digits, local_digits, name_number, notifier, number_of, object, put_handle, put_number, thread, told_by, with_digit};
+ghost use Rattle.loom_scripts.specs.Slots.{digits, handle_at, held, kept, lazy_digits, local_digits, name_number, notifier, number_of, object, put_handle, put_number, thread, told_by, with_digit};
 
-use crate::number::Number;
 use crate::step::{Step, Value};
-use loom_objects::operation::{Keyed, Lazy, Reply};
-use loom_objects::rt::thread::Name;
+use loom_operations::operation::{Keyed, Lazy, Name, Reply};
 use loom_registers::registers;
 use std::collections::LinkedList;
 
@@ -70,7 +68,7 @@ impl State {
     }
 
     /// Keeps what the reply tells where the last step says.
-    pub(crate) fn keep(&mut self, reply: &Reply<Number>)
+    pub(crate) fn keep(&mut self, reply: &Reply<u64>)
         ensures { self.new ≡ kept self.old reply.now }
     {
         match told_by(reply) {
@@ -134,13 +132,6 @@ impl State {
                 .wrapping_mul(10)
                 .wrapping_add(self.held(other)),
         }
-    }
-
-    /// The same, as objects hold it.
-    pub(crate) fn data_of(&self, value: Value) -> Number
-        ensures { result ≡ data_of self.now value }
-    {
-        Number(self.number_of(value))
     }
 
     /// What the slot keeps.
@@ -341,29 +332,29 @@ fn with_digit(number: u64, digit: u64) -> u64
 }
 
 /// A 1, and behind it the numbers.
-fn digits(numbers: &LinkedList<Number>) -> u64
+fn digits(numbers: &LinkedList<u64>) -> u64
     ensures { result ≡ digits numbers.now }
 {
     numbers
         .iter()
-        .fold(1, |number, digit| with_digit(number, digit.0))
+        .fold(1, |number, digit| with_digit(number, *digit))
 }
 
 /// A 1, and behind it the key and the number of each value.
-fn local_digits(locals: &[Keyed<Number>]) -> u64
+fn local_digits(locals: &[Keyed<u64>]) -> u64
     ensures { result ≡ local_digits locals.now }
 {
     locals.iter().fold(1, |number, local| {
-        with_digit(with_digit(number, local.key as u64), local.value.0)
+        with_digit(with_digit(number, local.key as u64), local.value)
     })
 }
 
 /// The same of values that are made once a run.
-fn lazy_digits(lazies: &[Lazy<Number>]) -> u64
+fn lazy_digits(lazies: &[Lazy<u64>]) -> u64
     ensures { result ≡ lazy_digits lazies.now }
 {
     lazies.iter().fold(1, |number, lazy| {
-        with_digit(with_digit(number, lazy.key as u64), lazy.value.0)
+        with_digit(with_digit(number, lazy.key as u64), lazy.value)
     })
 }
 
@@ -385,7 +376,7 @@ fn name_number(name: Option<Name>) -> u64
 }
 
 /// What a step keeps of the reply.
-fn told_by(reply: &Reply<Number>) -> Told
+fn told_by(reply: &Reply<u64>) -> Told
     ensures { result ≡ told_by reply.now }
 {
     match reply {
@@ -411,14 +402,14 @@ fn told_by(reply: &Reply<Number>) -> Told
         | Reply::Locked(_, number)
         | Reply::Waited(_, number, _)
         | Reply::ReadLocked(_, number)
-        | Reply::WriteLocked(_, number) => Told::Number(number.0),
+        | Reply::WriteLocked(_, number) => Told::Number(*number),
         Reply::Shared | Reply::WouldBlock | Reply::Empty | Reply::NoWaker | Reply::Absent => {
             Told::Instead(1)
         }
         Reply::RecvError | Reply::Disconnected | Reply::AccessError => Told::Instead(2),
-        Reply::SendError(number) => Told::Instead(number.0),
+        Reply::SendError(number) => Told::Instead(*number),
         Reply::Messages(numbers) => Told::Number(digits(numbers)),
-        Reply::Stood(one, other) => Told::Number(with_digit(one.0, other.0)),
+        Reply::Stood(one, other) => Told::Number(with_digit(*one, *other)),
         Reply::Locals(locals) => Told::Number(local_digits(locals.as_slice())),
         Reply::Lazies(lazies) => Told::Number(lazy_digits(lazies.as_slice())),
         Reply::Thread(thread, name) => { Told::Named(Handle::Thread(*thread), name_number(*name)) }

@@ -1,5 +1,5 @@
 //! The steps of scripts.
-use loom_objects::operation::{Request, ThreadOp};
+use loom_operations::operation::{Request, ThreadOp};
 use loom_parts::label::Label;
 use std::sync::atomic::Ordering;
 

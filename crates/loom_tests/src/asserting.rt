@@ -1,13 +1,20 @@
-//! What a test asserts. A call of one of these costs the proof less than an assertion where it stands.
-use std::fmt::Debug;
+//! What a test asserts, and scripts that it has memory for. A call of one of these costs the proof less than an assertion where
+//! it stands.
+use loom_scripts::script::Script;
+use loom_scripts::step::Step;
 use std::process::Abort;
 
-/// Ends the test where this isn't what was wanted.
-pub fn same<T: PartialEq + Debug + Drop>(rt: &impl Abort, found: T, wanted: T) {
-    assert_eq!(rt; found, wanted);
+/// The script of these steps.
+pub fn script(rt: &(impl Abort + AllocGlobal), steps: &'static [Step]) -> Script {
+    Script::new(rt.alloc(), steps).expect(rt, "no memory for a script")
 }
 
-/// Ends the test where this doesn't hold.
-pub fn holds(rt: &impl Abort, fact: bool, said: &str) {
-    assert!(rt; fact, "{said}");
+/// This is the text that is wanted.
+pub fn same(rt: &impl Abort, text: &str, wanted: &str, name: &str) {
+    assert!(rt; text == wanted, "{name}: {text}");
+}
+
+/// This holds of what has the name.
+pub fn holds(rt: &impl Abort, is_so: bool, name: &str) {
+    assert!(rt; is_so, "{name}");
 }

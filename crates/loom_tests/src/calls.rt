@@ -1,5 +1,5 @@
-//! Each call of the handles once: a function of each module has its calls by their numbers, and tables say in which order they are
-//! made, and what each is to be told.
+//! Each call of the handles once: a function of each module has its calls by their numbers, and tables say in which order they
+//! are made, and what each is to be told.
 mod answer;
 mod atomics;
 mod cells;
@@ -13,42 +13,44 @@ mod values;
 mod wakers;
 
 use crate::asserting::same;
-use crate::calls::run::Calls;
+use crate::page::Page;
 use loom_model::lazy_static::Lazy;
 use loom_model::sync::Arc;
 use loom_model::thread::{AccessError, LocalKey, ThreadId};
 use loom_views::rt::num::Numeric;
-use std::test::Fail;
+use std::process::Abort;
 
 #[test]
-fn each_call_comes_to_what_its_row_says(rt: HostRuntime) -> Result<(), Fail> {
-    let mut calls = Calls::new(rt.alloc());
-    atomics::make_all(&mut calls);
-    exchanges::make_all(&mut calls);
-    cells::make_all(&mut calls);
-    counts::make_all(&mut calls);
-    locks::make_all(&mut calls);
-    channels::make_all(&mut calls);
-    threads::make_all(&mut calls);
-    values::make_all(&mut calls);
-    wakers::make_all(&mut calls);
-    calls.end(&rt)
+fn each_call_comes_to_what_its_row_says(rt: HostRuntime) {
+    atomics::make_all(&rt);
+    exchanges::make_all(&rt);
+    cells::make_all(&rt);
+    counts::make_all(&rt);
+    locks::make_all(&rt);
+    channels::make_all(&rt);
+    threads::make_all(&rt);
+    values::make_all(&rt);
+    wakers::make_all(&rt);
+    others_are_printed(&rt);
 }
 
-#[test]
-fn what_is_no_operation_is_printed(rt: HostRuntime) -> Result<(), Fail> {
+// What is no operation, as it is printed.
+fn others_are_printed(rt: &(impl Abort + AllocGlobal)) {
+    let mut page = Page::new(rt.alloc());
+    put_others(&mut page);
+    let text =
+        "true false 18446744073709551517 ThreadId(1) LocalKey { .. } Lazy { .. } AccessError already destroyed";
+    same(rt, page.text.as_str(), text, "what is no operation");
+}
+
+fn put_others(page: &mut Page) {
     let (one, other) = (Arc { number: 0 }, Arc { number: 1 });
     let (is_same, is_other) = (one.ptr_eq(one), one.ptr_eq(other));
     // A sign is extended.
     let number = (-99i8).into_u64();
     let (id, key, lazy, error) = (ThreadId(1), LocalKey::new(1), Lazy::new(2), AccessError);
-    let text = format!(in rt.alloc();
+    let _ = write!(
+        page.text,
         "{is_same} {is_other} {number} {id:?} {key:?} {lazy:?} {error:?} {error}"
-    )?;
-    same(
-        &rt,
-        text.as_str(),
-        "true false 18446744073709551517 ThreadId(1) LocalKey { .. } Lazy { .. } AccessError already destroyed",
     );
-    Ok(())
 }

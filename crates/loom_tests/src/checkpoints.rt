@@ -1,11 +1,12 @@
-//! Texts of paths, good and bad: which are read, and why others are refused. Each is given to the reader, and what comes is compared.
+//! Texts of paths, good and bad: which are read, and why others are refused. Each is given to the reader, and what comes is
+//! compared.
 use crate::asserting::{holds, same};
+use crate::page::Page;
 use loom_checkpoint::error::PathError;
 use loom_checkpoint::text::{from_text, to_text};
 use loom_path::rt::path::{Path, Search};
-use std::alloc::{AllocError, Global};
+use std::alloc::Global;
 use std::process::Abort;
-use std::test::Fail;
 
 const TWO_NODES: &str =
     "{\"exploring\":true,\"nodes\":[{\"exploring\":true,\"first\":0,\"schedule\":[\"Visited\",\"Active\",\"Disabled\",\"Disabled\",\"Disabled\"]},{\"exploring\":true,\"first\":1,\"schedule\":[\"Active\",\"Visited\",\"Disabled\",\"Disabled\",\"Disabled\"]}],\"preemption_bound\":null,\"reduce\":false,\"version\":1}";
@@ -34,39 +35,58 @@ fn refusal(alloc: Global, text: &[u8], search: Search) -> u8 {
     }
 }
 
+// The bytes give this number.
+fn bytes_give(
+    rt: &(impl Abort + AllocGlobal),
+    bytes: &[u8],
+    search: Search,
+    number: u8,
+    name: &str,
+) {
+    let is_so = refusal(rt.alloc(), bytes, search) == number;
+    holds(rt, is_so, name);
+}
+
 // The text gives this number.
-fn gives(rt: &(impl Abort + AllocGlobal), text: &[u8], search: Search, number: u8) {
-    same(rt, refusal(rt.alloc(), text, search), number);
+fn gives(rt: &(impl Abort + AllocGlobal), text: &str, search: Search, number: u8) {
+    bytes_give(rt, text.as_bytes(), search, number, text);
 }
 
 // The path has this text.
-fn has_text(rt: &(impl Abort + AllocGlobal), path: &Path, text: &str) -> Result<(), Fail> {
-    let found = to_text(rt.alloc(), path)?;
-    same(rt, found.as_str(), text);
-    Ok(())
+fn has_text(rt: &(impl Abort + AllocGlobal), path: &Path, text: &str) {
+    match &to_text(rt.alloc(), path) {
+        Ok(found) => same(rt, found.as_str(), text, "a path's text"),
+        Err(_) => holds(rt, false, "no memory for a path's text"),
+    }
 }
 
 // The text is read, and written again as it was.
-fn is_rewritten(rt: &(impl Abort + AllocGlobal), text: &str) -> Result<(), Fail> {
-    let path = from_text(rt.alloc(), text.as_bytes(), WHOLE)?;
-    has_text(rt, &path, text)
-}
-
-#[test]
-fn texts_are_read_and_written_again(rt: HostRuntime) -> Result<(), Fail> {
-    is_rewritten(&rt, NO_NODES)?;
-    is_rewritten(&rt, TWO_NODES)?;
-    let path = Path::new(rt.alloc(), WHOLE);
-    has_text(&rt, &path, NO_NODES)
-}
-
-#[test]
-fn a_beginning_is_no_text(rt: HostRuntime) {
-    let text = TWO_NODES.as_bytes();
-    for len in 0..text.len() {
-        gives(&rt, &text[..len], WHOLE, 7);
+fn is_rewritten(rt: &(impl Abort + AllocGlobal), text: &str) {
+    match &from_text(rt.alloc(), text.as_bytes(), WHOLE) {
+        Ok(path) => has_text(rt, path, text),
+        Err(_) => holds(rt, false, text),
     }
-    gives(&rt, b"\xff", WHOLE, 7);
+}
+
+fn begins_without_nodes(rt: &(impl Abort + AllocGlobal)) {
+    let path = Path::new(rt.alloc(), WHOLE);
+    has_text(rt, &path, NO_NODES);
+}
+
+// A beginning is no text.
+fn beginnings_are_refused(rt: &(impl Abort + AllocGlobal), text: &[u8]) {
+    for len in 0..text.len() {
+        bytes_give(rt, &text[..len], WHOLE, 7, "a beginning");
+    }
+}
+
+#[test]
+fn texts_are_read_and_written_again(rt: HostRuntime) {
+    is_rewritten(&rt, NO_NODES);
+    is_rewritten(&rt, TWO_NODES);
+    begins_without_nodes(&rt);
+    beginnings_are_refused(&rt, TWO_NODES.as_bytes());
+    bytes_give(&rt, b"\xff", WHOLE, 7, "bytes that are no text");
 }
 
 // The members may come in any order, and of two with one key the last stays.
@@ -100,10 +120,9 @@ static WHOLE_VALUES: [(&str, u8); 15] = [
     ),
 ];
 
-#[test]
-fn whole_values(rt: HostRuntime) {
+fn whole_values(rt: &(impl Abort + AllocGlobal)) {
     for (text, number) in &WHOLE_VALUES {
-        gives(&rt, text.as_bytes(), WHOLE, *number);
+        gives(rt, *text, WHOLE, *number);
     }
 }
 
@@ -153,10 +172,9 @@ static SETTINGS: [(Search, u8); 6] = [
     ),
 ];
 
-#[test]
-fn other_settings(rt: HostRuntime) {
+fn other_settings(rt: &(impl Abort + AllocGlobal)) {
     for (search, number) in &SETTINGS {
-        gives(&rt, TWO_NODES.as_bytes(), *search, *number);
+        gives(rt, TWO_NODES, *search, *number);
     }
 }
 
@@ -190,13 +208,11 @@ fn paths_are_told_apart(rt: HostRuntime) {
     holds(&rt, read == path, "another path is read back");
 }
 
-// What a text gives that has this node after the first of the two.
-fn node_refusal(alloc: Global, node: &str) -> Result<u8, AllocError> {
-    let text = format!(in alloc;
-        "{{\"exploring\":true,\"nodes\":[{{\"exploring\":true,\"first\":0,\"schedule\":[\"Visited\",\"Active\",\"Disabled\",\"Disabled\",\"Disabled\"]}},{node}],\"preemption_bound\":null,\"reduce\":false,\"version\":1}}"
-    )?;
-    Ok(refusal(alloc, text.as_str().as_bytes(), WHOLE))
-}
+// What stands before a node that comes after the first of the two, and what stands behind it.
+const BEFORE: &str =
+    "{\"exploring\":true,\"nodes\":[{\"exploring\":true,\"first\":0,\"schedule\":[\"Visited\",\"Active\",\"Disabled\",\"Disabled\",\"Disabled\"]},";
+
+const BEHIND: &str = "],\"preemption_bound\":null,\"reduce\":false,\"version\":1}";
 
 static NODES: [(&str, u8); 19] = [
     (
@@ -247,11 +263,16 @@ static NODES: [(&str, u8); 19] = [
     ("{\"exploring\":true,\"spurious\":true,\"x\":0}", 12),
 ];
 
-#[test]
-fn nodes(rt: HostRuntime) -> Result<(), Fail> {
+fn nodes(rt: &(impl Abort + AllocGlobal)) {
     for (node, number) in &NODES {
-        let found = node_refusal(rt.alloc(), *node)?;
-        same(&rt, found, *number);
+        let text = Page::of(rt.alloc(), &[BEFORE, *node, BEHIND]);
+        gives(rt, text.text.as_str(), WHOLE, *number);
     }
-    Ok(())
+}
+
+#[test]
+fn texts_give_what_their_tables_say(rt: HostRuntime) {
+    whole_values(&rt);
+    other_settings(&rt);
+    nodes(&rt);
 }

@@ -2,6 +2,7 @@
 mod bodies;
 mod texts;
 
+use crate::asserting::{same, script};
 use crate::explanations::bodies::limits::{FENCES, ORDERS_EQUAL, STORES, THREE_SPAWNED};
 use crate::explanations::bodies::locks::{
     ALL_WAIT, ARC_LEFT, ASLEEP, CROSSED, LOST_UPDATE, MESSAGE_LEFT, SPINS, SPINS_AND_YIELDS,
@@ -12,12 +13,14 @@ use crate::explanations::bodies::misuses::{
 };
 use crate::explanations::bodies::races::{BESIDE, MUTATED, OPEN, SPIN, THREE, UNRELEASED};
 use crate::explanations::bodies::values::{AFTER_EXIT, AFTER_MAIN, MADE_TWICE};
+use crate::page::Page;
 use loom_choices::choices::Choices;
+use loom_model::Choice;
 use loom_model::model::Builder;
 use loom_scripts::script::Script;
 use loom_scripts::step::Step;
 use std::alloc::Global;
-use std::test::Fail;
+use std::process::Abort;
 
 /// The limits that a builder sets.
 struct Limits {
@@ -169,74 +172,72 @@ fn builder_of(row: &Row) -> Builder {
     builder
 }
 
-// What is told of the row's run that follows its choices.
-fn told(alloc: Global, row: &'static Row) -> Result<String, Fail> {
-    let body = Script::new(alloc, row.steps)?;
-    let choices = Choices::parse(alloc, row.choices)?;
-    let explanation = builder_of(row).explain(alloc, &body, choices.as_slice())?;
-    Ok(format!(in alloc; "{explanation}")?)
+// Puts on the page what is told of the row's run that follows its choices.
+fn put_told(rt: &(impl Abort + AllocGlobal), row: &'static Row, page: &mut Page) {
+    let body = script(rt, row.steps);
+    let choices = Choices::parse(rt.alloc(), row.choices).expect(rt, "no choices");
+    put_explanation(
+        rt.alloc(),
+        &builder_of(row),
+        &body,
+        choices.as_slice(),
+        page,
+    );
 }
 
-// Fails where the row has another text, and prints this one.
-fn compare(rt: &HostRuntime, row: &Row, text: &str) -> Result<(), Fail> {
-    if is_told(row, text) {
-        return Ok(());
+fn put_explanation(
+    alloc: Global,
+    builder: &Builder,
+    body: &Script,
+    choices: &[Choice],
+    page: &mut Page,
+) {
+    if let Ok(explanation) = &builder.explain(alloc, body, choices) {
+        page.add_shown(explanation);
     }
-    let name = row.name;
-    println!(rt; "=== {name}\n{text}")?;
-    Err(Fail::from("another text"))
 }
 
-fn tells_each(rt: &HostRuntime, rows: &'static [Row]) -> Result<(), Fail> {
+// The row has its text.
+fn tells(rt: &(impl Abort + AllocGlobal), row: &'static Row) {
+    let mut page = Page::new(rt.alloc());
+    put_told(rt, row, &mut page);
+    compare(rt, row, page.text.as_str());
+}
+
+fn compare(rt: &impl Abort, row: &Row, text: &str) {
+    if !is_told(row, text) {
+        same(rt, text, row.text, row.name);
+    }
+}
+
+fn tells_each(rt: &(impl Abort + AllocGlobal), rows: &'static [Row]) {
     for row in rows {
-        let text = told(rt.alloc(), row)?;
-        compare(rt, row, text.as_str())?;
+        tells(rt, row);
     }
-    Ok(())
 }
 
 #[test]
-fn races_have_their_texts(rt: HostRuntime) -> Result<(), Fail> {
-    tells_each(&rt, &RACES)?;
-    tells_each(&rt, &MORE_RACES)
+fn races_waits_and_leaks_have_their_texts(rt: HostRuntime) {
+    tells_each(&rt, &RACES);
+    tells_each(&rt, &MORE_RACES);
+    tells_each(&rt, &WAITS);
+    tells_each(&rt, &LEAKS);
 }
 
 #[test]
-fn waits_have_their_texts(rt: HostRuntime) -> Result<(), Fail> {
-    tells_each(&rt, &WAITS)
+fn other_failures_have_their_texts(rt: HostRuntime) {
+    tells_each(&rt, &MISUSES);
+    tells_each(&rt, &VALUES);
+    tells_each(&rt, &CHOICES);
+    tells_each(&rt, &AT_LIMITS);
 }
 
 #[test]
-fn leaks_have_their_texts(rt: HostRuntime) -> Result<(), Fail> {
-    tells_each(&rt, &LEAKS)
+fn as_many_fences_have_their_text(rt: HostRuntime) {
+    tells_each(&rt, &MANY_FENCES);
 }
 
 #[test]
-fn misuses_have_their_texts(rt: HostRuntime) -> Result<(), Fail> {
-    tells_each(&rt, &MISUSES)
-}
-
-#[test]
-fn values_and_switches_have_their_texts(rt: HostRuntime) -> Result<(), Fail> {
-    tells_each(&rt, &VALUES)
-}
-
-#[test]
-fn given_choices_have_their_texts(rt: HostRuntime) -> Result<(), Fail> {
-    tells_each(&rt, &CHOICES)
-}
-
-#[test]
-fn each_limit_has_its_text(rt: HostRuntime) -> Result<(), Fail> {
-    tells_each(&rt, &AT_LIMITS)
-}
-
-#[test]
-fn as_many_fences_have_their_text(rt: HostRuntime) -> Result<(), Fail> {
-    tells_each(&rt, &MANY_FENCES)
-}
-
-#[test]
-fn as_many_stores_have_their_text(rt: HostRuntime) -> Result<(), Fail> {
-    tells_each(&rt, &MANY_STORES)
+fn as_many_stores_have_their_text(rt: HostRuntime) {
+    tells_each(&rt, &MANY_STORES);
 }

@@ -1,52 +1,79 @@
 //! A text of values, as a test compares it.
 use std::alloc::Global;
-use std::fmt::{Debug, Write};
+use std::fmt::{Debug, Display};
 
-/// A text to which values are written.
+/// What was found, as a text. Where memory for a piece is refused it is missing, and no test wants such a text.
 #[derive(Drop)]
 pub struct Page {
-    text: String,
-    // whether memory for it was refused
-    is_cut: bool,
+    pub text: String,
 }
 
 impl Page {
-    /// A page without a text.
+    /// An empty page.
     pub fn new(alloc: Global) -> Page {
         Page {
             text: String::new(alloc),
-            is_cut: false,
         }
     }
 
-    /// Writes the value.
-    pub fn put<T: Debug>(&mut self, value: &T) {
-        if write!(self.text, "{value:?}").is_err() {
-            self.is_cut = true;
+    /// A page of these parts.
+    pub fn of(alloc: Global, parts: &[&str]) -> Page {
+        let mut page = Page::new(alloc);
+        for part in parts {
+            page.add(*part);
+        }
+        page
+    }
+
+    /// This text, with another part in place of this one.
+    pub fn changed(alloc: Global, text: &str, part: &str, other: &str) -> Page {
+        let (before, behind) = text.split_once(part).unwrap_or(("", ""));
+        Page::of(alloc, &[before, other, behind])
+    }
+
+    /// Puts this behind the text.
+    pub fn add(&mut self, piece: &str) {
+        let _ = self.text.push_str(piece);
+    }
+
+    /// The same so often.
+    pub fn add_often(&mut self, piece: &str, times: usize) {
+        for _ in 0..times {
+            self.add(piece);
         }
     }
 
-    /// Writes the value behind what stands there, if there is one.
-    pub fn put_some<T: Debug + Drop>(&mut self, value: Option<T>) {
-        if let Some(value) = value {
-            if write!(self.text, "; {value:?}").is_err() {
-                self.is_cut = true;
-            }
+    /// Puts a number behind the text, and this before it.
+    pub fn add_number(&mut self, before: &str, number: u64) {
+        let _ = write!(self.text, "{before}{number}");
+    }
+
+    /// Puts this behind the text, as it is shown. Where memory for it is refused the page is empty, so that it has no part of it.
+    pub fn add_shown(&mut self, shown: &impl Display) {
+        if write!(self.text, "{shown}").is_err() {
+            self.text.clear();
         }
     }
 
-    /// Whether that is the whole text.
-    pub fn has(&self, text: &str) -> bool {
-        !self.is_cut && self.text.as_str() == text
+    /// The same as a programmer reads it.
+    pub fn add_debug(&mut self, shown: &impl Debug) {
+        let _ = write!(self.text, "{shown:?}");
     }
 
-    /// The text.
-    pub fn as_str(&self) -> &str {
-        self.text.as_str()
+    /// The same behind what stands there, if there is one.
+    pub fn add_some<T: Debug + Drop>(&mut self, shown: Option<T>) {
+        if let Some(shown) = shown {
+            let _ = write!(self.text, "; {shown:?}");
+        }
     }
 
-    /// Lets the text go.
-    pub fn clear(&mut self) {
-        self.text.clear();
+    /// A line that begins with this word.
+    pub fn put(&mut self, word: &str, shown: &impl Display) {
+        let _ = write!(self.text, "{word}{shown}\n");
+    }
+
+    /// A line as a programmer reads it.
+    pub fn put_debug(&mut self, shown: &impl Debug) {
+        let _ = write!(self.text, "{shown:?}\n");
     }
 }

@@ -3,7 +3,7 @@ macro_rules! case {
     ($name:expr, $settings:expr, $first:expr, $text:expr) => {
         Case {
             name: $name,
-            settings: $settings,
+            settings: &$settings,
             shows: Shows::First($first),
             text: $text,
         }
@@ -15,7 +15,7 @@ macro_rules! results {
     ($name:expr, $settings:expr, $text:expr) => {
         Case {
             name: $name,
-            settings: $settings,
+            settings: &$settings,
             shows: Shows::Values,
             text: $text,
         }
@@ -47,6 +47,7 @@ mod litmus;
 mod locks;
 mod long_checks;
 mod others;
+mod pens;
 mod plain;
 mod printed;
 mod rows;
@@ -54,7 +55,6 @@ mod searches;
 mod shared;
 mod sizes;
 mod tasks;
-mod texts;
 mod values;
 mod wakers;
 mod words;

@@ -11,8 +11,8 @@ use loom_views::rt::change::Change;
 use loom_views::rt::num::{Numbers, Numeric};
 use loom_views::rt::table::Views;
 use loom_views::rt::vv::VersionVec;
+use std::process::Abort;
 use std::sync::atomic::Ordering::{self, Relaxed};
-use std::test::Fail;
 
 /// A call of a method of views. The first number is the thread, where there is one, and the next one the object or the stamp.
 #[derive(Clone, Copy)]
@@ -49,12 +49,12 @@ impl Call {
     // Makes the call, and writes what it returns, if that is anything.
     fn make(self, views: &mut Views, page: &mut Page) {
         match self {
-            AddPoint => page.put(&views.add_point()),
-            AddAtomic(thread, value) => page.put(&views.add_atomic(thread, value)),
-            AddCell(thread) => page.put(&views.add_cell(thread)),
-            AddStamp => page.put(&views.add_stamp()),
-            Spawn(parent) => page.put(&views.spawn(parent)),
-            Raise(thread) => page.put(&views.raise(thread)),
+            AddPoint => page.add_debug(&views.add_point()),
+            AddAtomic(thread, value) => page.add_debug(&views.add_atomic(thread, value)),
+            AddCell(thread) => page.add_debug(&views.add_cell(thread)),
+            AddStamp => page.add_debug(&views.add_stamp()),
+            Spawn(parent) => page.add_debug(&views.spawn(parent)),
+            Raise(thread) => page.add_debug(&views.raise(thread)),
             Acquire(thread, place) => views.acquire(thread, place),
             Release(thread, place, order) => views.release(thread, place, order),
             Stamp(thread, stamp) => views.stamp(thread, stamp),
@@ -64,23 +64,31 @@ impl Call {
             Fence(thread, order) => views.fence(thread, order),
             JoinThread(thread, other) => views.join_thread(thread, other),
             MarkYield(thread) => views.mark_yield(thread),
-            Readable(thread, place, reader) => page.put(&views.readable(thread, place, reader)),
-            Load(thread, place, slot, order) => page.put(&views.load(thread, place, slot, order)),
-            Store(thread, place, value, order) => page.put(&views.store(
+            Readable(thread, place, reader) => page.add_debug(&views.readable(
+                thread, place, reader,
+            )),
+            Load(thread, place, slot, order) => page.add_debug(&views.load(
+                thread, place, slot, order,
+            )),
+            Store(thread, place, value, order) => page.add_debug(&views.store(
                 thread, place, value, order,
             )),
-            UpdateRead(thread, place, slot) => page.put(&views.update_read(thread, place, slot)),
+            UpdateRead(thread, place, slot) => page.add_debug(&views.update_read(
+                thread, place, slot,
+            )),
             UpdateWrite(thread, place, slot, value, order) => {
-                page.put(&views.update_write(thread, place, slot, value, order))
+                page.add_debug(&views.update_write(thread, place, slot, value, order))
             }
             UpdateFail(thread, place, slot, order) => {
                 views.update_fail(thread, place, slot, order)
             }
-            UnsyncLoad(thread, place) => page.put(&views.unsync_load(thread, place)),
-            WithMut(thread, place) => page.put(&views.with_mut(thread, place)),
-            WithMutEnd(thread, place, value) => page.put(&views.with_mut_end(thread, place, value)),
-            Read(thread, place) => page.put(&views.read(thread, place)),
-            Write(thread, place) => page.put(&views.write(thread, place)),
+            UnsyncLoad(thread, place) => page.add_debug(&views.unsync_load(thread, place)),
+            WithMut(thread, place) => page.add_debug(&views.with_mut(thread, place)),
+            WithMutEnd(thread, place, value) => page.add_debug(&views.with_mut_end(
+                thread, place, value,
+            )),
+            Read(thread, place) => page.add_debug(&views.read(thread, place)),
+            Write(thread, place) => page.add_debug(&views.write(thread, place)),
         }
     }
 }
@@ -343,81 +351,78 @@ static OF_CELLS: [History; 4] = [
     },
 ];
 
-// Whether each call returns what its row says.
-fn all_return(views: &mut Views, page: &mut Page, rows: &[Row]) -> bool {
+// Each call returns what its row says.
+fn all_return(rt: &(impl Abort + AllocGlobal), views: &mut Views, rows: &[Row], name: &str) {
+    let mut page = Page::new(rt.alloc());
     for (call, text) in rows {
-        page.clear();
-        call.make(views, page);
-        if !page.has(*text) {
-            return false;
-        }
+        page.text.clear();
+        call.make(views, &mut page);
+        same(rt, page.text.as_str(), *text, name);
     }
-    true
 }
 
-// Fails by the name of the first history in which a call returns something else.
-fn come_about(rt: &HostRuntime, histories: &'static [History]) -> Result<(), Fail> {
-    let mut page = Page::new(rt.alloc());
+fn come_about(rt: &(impl Abort + AllocGlobal), histories: &'static [History]) {
     for history in histories {
         let mut views = Views::new(rt.alloc());
-        if !all_return(&mut views, &mut page, history.first)
-            || !all_return(&mut views, &mut page, history.then)
-        {
-            return Err(Fail::from(history.name));
-        }
+        all_return(rt, &mut views, history.first, history.name);
+        all_return(rt, &mut views, history.then, history.name);
     }
-    Ok(())
 }
 
 #[test]
-fn stores_are_seen_in_time(rt: HostRuntime) -> Result<(), Fail> {
-    come_about(&rt, &OF_STORES)
+fn histories_come_about(rt: HostRuntime) {
+    come_about(&rt, &OF_STORES);
+    come_about(&rt, &OF_READS);
+    come_about(&rt, &OF_FENCES);
+    come_about(&rt, &OF_CELLS);
 }
 
-#[test]
-fn reads_bring_what_was_done(rt: HostRuntime) -> Result<(), Fail> {
-    come_about(&rt, &OF_READS)
-}
-
-#[test]
-fn fences_release_and_acquire(rt: HostRuntime) -> Result<(), Fail> {
-    come_about(&rt, &OF_FENCES)
-}
-
-#[test]
-fn accesses_of_cells_race(rt: HostRuntime) -> Result<(), Fail> {
-    come_about(&rt, &OF_CELLS)
-}
-
-#[test]
-fn vectors_are_joined_and_compared(rt: HostRuntime) -> Result<(), Fail> {
+// Puts on the page how two vectors compare, and what they come to when the one joins the other.
+fn put_vectors(page: &mut Page) {
     let mut one = VersionVec::new();
     let mut other = VersionVec::new();
-    holds(&rt, one.inc(0), "no version more");
-    holds(&rt, other.inc(3), "no version more");
-    same(&rt, one.partial_cmp(&other), None);
-    same(&rt, one.ahead(&other), Some(3));
+    let are_raised = one.inc(0) && other.inc(3);
+    let (order, ahead) = (one.partial_cmp(&other), one.ahead(&other));
     one.join(&other);
-    same(&rt, one.versions(), [1, 0, 0, 1, 0]);
-    holds(&rt, other < one, "the vector is not behind");
-    Ok(())
+    let (joined, is_behind) = (one.versions(), other < one);
+    let _ = write!(
+        page.text,
+        "{are_raised} {order:?} {ahead:?} {joined:?} {is_behind}; "
+    );
+}
+
+// Puts on the page numbers that were made bits and are numbers again.
+fn put_numbers(page: &mut Page) {
+    let signed = i8::from_u64((-3i8).into_u64());
+    let highest = u64::from_u64(u64::MAX.into_u64());
+    let flag = bool::from_u64(true.into_u64());
+    let _ = write!(page.text, "{signed} {highest} {flag}");
+}
+
+// A change, the type of its number, the number that is changed, and what it comes to.
+static CHANGES: [(Change, Numbers, u64, u64); 7] = [
+    (Change::Max(256 + 3), Numbers::U8, 5, 5),
+    (Change::Max(256 + 7), Numbers::U8, 5, 7),
+    (Change::Min(256 + 3), Numbers::U8, 5, 3),
+    (Change::Max(128), Numbers::I8, 5, 5),
+    (Change::Min(2), Numbers::Bool, 1, 1),
+    (Change::And(2), Numbers::Bool, 1, 1),
+    (Change::Xor(2), Numbers::Bool, 1, 0),
+];
+
+// Whether each change is by a number of the type.
+fn are_changed(rt: &impl Abort) {
+    for (change, numbers, old, new) in &CHANGES {
+        holds(rt, change.apply(*numbers, *old) == *new, "a change");
+    }
 }
 
 #[test]
-fn numbers_keep_their_value(rt: HostRuntime) -> Result<(), Fail> {
-    same(&rt, i8::from_u64((-3i8).into_u64()), -3i8);
-    same(&rt, u64::from_u64(u64::MAX.into_u64()), u64::MAX);
-    same(&rt, bool::from_u64(true.into_u64()), true);
-    Ok(())
-}
-
-#[test]
-fn a_change_is_by_a_number_of_the_type(rt: HostRuntime) {
-    same(&rt, Change::Max(256 + 3).apply(Numbers::U8, 5), 5);
-    same(&rt, Change::Max(256 + 7).apply(Numbers::U8, 5), 7);
-    same(&rt, Change::Min(256 + 3).apply(Numbers::U8, 5), 3);
-    same(&rt, Change::Max(128).apply(Numbers::I8, 5), 5);
-    same(&rt, Change::Min(2).apply(Numbers::Bool, 1), 1);
-    same(&rt, Change::And(2).apply(Numbers::Bool, 1), 1);
-    same(&rt, Change::Xor(2).apply(Numbers::Bool, 1), 0);
+fn parts_of_views_are_as_they_are_told(rt: HostRuntime) {
+    let mut page = Page::new(rt.alloc());
+    put_vectors(&mut page);
+    put_numbers(&mut page);
+    let text = "true None Some(3) [1, 0, 0, 1, 0] true; -3 18446744073709551615 true";
+    same(&rt, page.text.as_str(), text, "vectors and numbers");
+    are_changed(&rt);
 }

@@ -3,8 +3,8 @@ use Rattle.std.proofs.Common.{◌≡◌, ℕ, refl}
 use Rattle.std.specs.Prelude.{true, false, slice_get, slice_set, Option, Some, None, Result, Ok}
 use Rattle.loom_view_parts.specs.declared.rt.failure.FailureKind.{FailureKind}
 use Rattle.loom_view_parts.specs.declared.rt.failure.FailureKind.TheVariants.{Misuse}
-use Rattle.loom_objects.specs.declared.operation.Reply.{Reply}
-use Rattle.loom_objects.specs.declared.operation.Reply.TheVariants as reply
+use Rattle.loom_operations.specs.declared.operation.Reply.{Reply}
+use Rattle.loom_operations.specs.declared.operation.Reply.TheVariants as reply
 use Rattle.loom_objects.specs.declared.rt.object.Object.TheVariants as object
 use Rattle.loom_objects.specs.declared.rt.sync.Notify.{Notify}
 use Rattle.loom_objects.specs.declared.rt.thread.Thread.{Thread}

@@ -3,12 +3,12 @@ ghost use Rattle.loom_objects.specs.Notifiers as rules;
 ghost use Rattle.loom_objects.specs.Scene.{Does, DoesIfOk};
 
 pub use loom_effect_parts::notifiers::{notify_waiter, wake_early};
-use loom_objects::operation::{NotifyOp, Reply};
 use loom_objects::rt::object::Object;
 use loom_objects::rt::run::Entry;
 use loom_objects::rt::scene::Scene;
 use loom_objects::rt::sync::{Notify, Spurious};
 use loom_objects::rt::thread::Task;
+use loom_operations::operation::{NotifyOp, Reply};
 use loom_views::rt::failure::FailureKind;
 use std::alloc::AllocError;
 

@@ -2,10 +2,10 @@ ghost use Rattle.std.specs.Prelude.{◌≡◌, Ok};
 ghost use Rattle.loom_objects.specs.Scene.{Does};
 ghost use Rattle.loom_objects.specs.Threads as rules;
 
-use loom_objects::operation::Reply;
 use loom_objects::rt::run::Entry;
 use loom_objects::rt::scene::Scene;
 use loom_objects::rt::thread::{State, Task};
+use loom_operations::operation::Reply;
 use loom_views::rt::failure::FailureKind;
 
 /// The active thread yields, and comes to a branch point.

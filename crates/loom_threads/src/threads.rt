@@ -5,12 +5,12 @@ ghost use Rattle.loom_objects.specs.World.{child_thread};
 
 use crate::{notifiers, parking};
 use loom_effect_parts::threads::exit;
-use loom_objects::operation::{Reply, ThreadOp};
 use loom_objects::rt::object::Object;
 use loom_objects::rt::run::Entry;
 use loom_objects::rt::scene::Scene;
 use loom_objects::rt::sync::{Notify, Spurious};
-use loom_objects::rt::thread::{Name, Phase, State, Task, Thread};
+use loom_objects::rt::thread::{Phase, State, Task, Thread};
+use loom_operations::operation::{Name, Reply, ThreadOp};
 use loom_views::rt::failure::FailureKind;
 use loom_views::sequence::Sequence;
 use std::alloc::{AllocError, Global};

@@ -3,10 +3,10 @@ ghost use Rattle.loom_objects.specs.Scene.{Does, DoesIfOk};
 ghost use Rattle.loom_objects.specs.Values as rules;
 ghost use Rattle.loom_threads.specs.Copied.{ReadsLocal};
 
-use loom_objects::data::Data;
-use loom_objects::operation::{LazyOp, LocalOp, Reply};
 use loom_objects::rt::run::{Entry, copied};
 use loom_objects::rt::scene::Scene;
+use loom_operations::data::Data;
+use loom_operations::operation::{LazyOp, LocalOp, Reply};
 use loom_views::rt::failure::FailureKind;
 use std::alloc::AllocError;
 

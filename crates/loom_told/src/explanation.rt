@@ -1,5 +1,5 @@
 //! A run, told as events.
-use loom_objects::operation::{Op, Reply};
+use loom_operations::operation::{Op, Reply};
 use loom_parts::choice::Choice;
 use loom_parts::failure::Failure;
 use std::fmt;

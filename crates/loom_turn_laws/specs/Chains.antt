@@ -4,8 +4,8 @@ use Rattle.std.specs.Prelude.{◌≡◌, ◌⊎◌, true, false, List, [], ◌�
 use Rattle.loom_view_parts.specs.declared.rt.failure.FailureKind.TheVariants.{TooManySteps}
 use Rattle.loom_parts.specs.declared.choice.Choice.{Choice}
 use Rattle.loom_parts.specs.declared.failure.Failure.{Failure}
-use Rattle.loom_objects.specs.declared.operation.Request.{Request}
-use Rattle.loom_objects.specs.Tree.{Tree, Gives, Fails, ◌>>=◌}
+use Rattle.loom_operations.specs.declared.operation.Request.{Request}
+use Rattle.loom_operations.specs.Tree.{Tree, Gives, Fails, ◌>>=◌}
 use Rattle.loom_walks.specs.Walk.Machine.{Machine}
 use Rattle.loom_walks.specs.Trees.Marks.{marking}
 use Rattle.loom_walks.specs.Trees.Meeting.{Settings, machine_of}

@@ -1,8 +1,8 @@
 use Rattle.std.proofs.Common.{◌≡◌, ◌≤◌, ◌+◌, ℕ, zero, suc, Bool, true, false, cond, List, [], ◌∷◌, ◌++◌, ap, sym, ◌∙◌, refl, subst, length, arith, add_assoc, ◌==◌}
 use Rattle.std.specs.Prelude.{slice_index, ⊤, Result}
-use Rattle.loom_objects.specs.declared.failure.Stop.{Stop as Halt}
-use Rattle.loom_objects.specs.declared.operation.Request.{Request}
-use Rattle.loom_objects.specs.declared.operation.Turn.{Turn}
+use Rattle.loom_operations.specs.declared.failure.Stop.{Stop as Halt}
+use Rattle.loom_operations.specs.declared.operation.Request.{Request}
+use Rattle.loom_operations.specs.declared.operation.Turn.{Turn}
 use Rattle.loom_turn_parts.specs.declared.event.Event.{Event}
 use Rattle.loom_turn_parts.specs.declared.event.Outcome.{Outcome}
 use Rattle.loom_turn_parts.specs.Events.{answered, calls, made, made_by, IsCounted, IsAdded}

@@ -1,5 +1,5 @@
 //! The events of a run.
-use loom_objects::operation::{Reply, Request, Turn};
+use loom_operations::operation::{Reply, Request, Turn};
 use loom_parts::failure::Failure;
 
 /// How an operation ends: by the next turn, or the run fails (own).

@@ -1,5 +1,5 @@
 //! The events of a run so far, and how one more is added.
-ghost use Rattle.std.specs.Prelude.{◌≡◌, ◌+◌, ◌<◌, ◌==◌, ◌-◌, ◌^◌, ℕ, [], if◌then◌else◌, IfOk, IfNone, OnOk, OnSome, length, vec_len, vec_capacity, slice_index};
+ghost use Rattle.std.specs.Prelude.{◌≡◌, ◌+◌, ◌<◌, ◌==◌, ◌-◌, ◌^◌, ◌++◌, ◌∷◌, ℕ, [], if◌then◌else◌, IfOk, IfNone, OnOk, OnSome, length, vec_len, vec_capacity, slice_index};
 ghost use Rattle.loom_turn_parts.specs.Events.{IsAdded, IsCounted, answered, made, made_by};
 
 use crate::event::{Event, Outcome};
@@ -7,8 +7,8 @@ use crate::machine::Machine;
 use crate::stop::Stop;
 use loom_copies::exact::Exact;
 use loom_copies::operations::copy_request;
-use loom_objects::failure::Stop as Halt;
-use loom_objects::operation::{Reply, Request, Turn};
+use loom_operations::failure::Stop as Halt;
+use loom_operations::operation::{Reply, Request, Turn};
 use loom_parts::failure::Failure;
 use loom_views::rt::failure::FailureKind;
 use std::alloc::{AllocError, Global};
@@ -101,15 +101,24 @@ fn add_event<D: Exact, M: Machine<D>>(
     match take_turn(machine, op) {
         Ok(outcome) => {
             count(counts, by as usize, &outcome);
-            history.push_reserved(Event {
+            let event = Event {
                 by,
                 op: kept,
                 outcome,
-            });
+            };
+            push(history, event);
             None
         }
         Err(_) => Some(Stop::Memory),
     }
+}
+
+/// One event more, for which there is room.
+fn push<D: Exact>(history: &mut Vec<Event<D>>, event: Event<D>)
+    requires { vec_len history.old < vec_capacity history.old }
+    ensures { history.new.items ≡ history.old.items ++ event ∷ [] }
+{
+    history.push_reserved(event);
 }
 
 /// One operation of the machine, and how it ended. It fails only where a growth is refused.

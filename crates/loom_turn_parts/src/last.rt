@@ -8,7 +8,7 @@ use crate::same::reply_to;
 use crate::stop::Stop;
 use loom_copies::exact::Exact;
 use loom_copies::replies::copy_reply;
-use loom_objects::operation::{Reply, Turn};
+use loom_operations::operation::{Reply, Turn};
 use loom_parts::failure::Failure;
 use std::alloc::{AllocError, Global};
 

@@ -1,11 +1,11 @@
 //! What takes the turns of threads.
 ghost use Rattle.std.specs.Prelude.{◌≡◌, ℕ, ⊤, Result};
-ghost use Rattle.loom_objects.specs.declared.failure.Stop.{Stop};
-ghost use Rattle.loom_objects.specs.declared.operation.Request.{Request};
-ghost use Rattle.loom_objects.specs.declared.operation.Turn.{Turn};
+ghost use Rattle.loom_operations.specs.declared.failure.Stop.{Stop};
+ghost use Rattle.loom_operations.specs.declared.operation.Request.{Request};
+ghost use Rattle.loom_operations.specs.declared.operation.Turn.{Turn};
 
-use loom_objects::failure::Stop;
-use loom_objects::operation::{Request, Turn};
+use loom_operations::failure::Stop;
+use loom_operations::operation::{Request, Turn};
 
 /// A machine whose threads take turns (own).
 pub trait Machine<D> {

@@ -8,7 +8,7 @@ use crate::told::Told;
 use loom_copies::exact::Exact;
 use loom_copies::same_operations::is_same_request;
 use loom_copies::same_replies::is_same_reply;
-use loom_objects::operation::{Reply, Request, ThreadOp, Turn};
+use loom_operations::operation::{Reply, Request, ThreadOp, Turn};
 
 /// Whether the operation is a thread's last one.
 fn is_end<D>(op: &ThreadOp<D, ()>) -> bool

@@ -1,10 +1,10 @@
 use Rattle.std.proofs.Common.{◌≡◌, ◌-◌, Bool, true, false, List, [], ◌∷◌, ◌++◌, ap, sym, ◌∙◌, refl, subst, length, arith, Option, None, Some, IfSome, IfNone, OnSome, MatchOption, is_some, length-append}
 use Rattle.std.specs.Prelude.{slice_get, option_map, ⊤}
-use Rattle.loom_objects.specs.declared.failure.Stop.{Stop as Halt}
-use Rattle.loom_objects.specs.declared.failure.Stop.TheVariants as halt
+use Rattle.loom_operations.specs.declared.failure.Stop.{Stop as Halt}
+use Rattle.loom_operations.specs.declared.failure.Stop.TheVariants as halt
 use Rattle.loom_parts.specs.declared.failure.Failure.{Failure}
-use Rattle.loom_objects.specs.declared.operation.Request.{Request}
-use Rattle.loom_objects.specs.declared.operation.Turn.TheVariants as turn
+use Rattle.loom_operations.specs.declared.operation.Request.{Request}
+use Rattle.loom_operations.specs.declared.operation.Turn.TheVariants as turn
 use Rattle.loom_path.specs.Routes.{Route}
 use Rattle.loom_runs.specs.Courses.{opening}
 use Rattle.loom_engine.specs.declared.rt.execution.Limits.{Limits}

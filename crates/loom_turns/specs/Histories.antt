@@ -1,9 +1,9 @@
 -- The history of a run that threads make, and what each thread was told of it.
 use Rattle.std.specs.Prelude.{ℕ, ◌≡◌, ◌<◌, ◌++◌, ⊤, List, [], ◌∷◌, length, Option, Some, None, option_map, Result, slice_get}
-use Rattle.loom_objects.specs.declared.failure.Stop.{Stop as Halt}
-use Rattle.loom_objects.specs.declared.failure.Stop.TheVariants as halt
-use Rattle.loom_objects.specs.declared.operation.Request.{Request}
-use Rattle.loom_objects.specs.declared.operation.Turn.{Turn}
+use Rattle.loom_operations.specs.declared.failure.Stop.{Stop as Halt}
+use Rattle.loom_operations.specs.declared.failure.Stop.TheVariants as halt
+use Rattle.loom_operations.specs.declared.operation.Request.{Request}
+use Rattle.loom_operations.specs.declared.operation.Turn.{Turn}
 use Rattle.loom_path.specs.Routes.{Route, IsSameSearch}
 use Rattle.loom_runs.specs.Courses.{opening}
 use Rattle.loom_runs.specs.Machine.{submit}

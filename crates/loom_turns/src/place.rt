@@ -3,8 +3,8 @@ ghost use Rattle.std.specs.Prelude.{◌≡◌, None};
 
 use loom_copies::exact::Exact;
 use loom_engine::rt::execution::Execution;
-use loom_objects::failure::Stop;
-use loom_objects::operation::{Request, Turn};
+use loom_operations::failure::Stop;
+use loom_operations::operation::{Request, Turn};
 use loom_path::rt::path::Path;
 use loom_turn_parts::machine::Machine;
 use std::marker::Model;

@@ -6,7 +6,7 @@ ghost use Rattle.loom_turns.specs.Histories.{Adds, Settles, IsHistory, last_even
 use crate::place::Place;
 use loom_copies::exact::Exact;
 use loom_engine::rt::execution::{Execution, Limits};
-use loom_objects::operation::{Reply, Request};
+use loom_operations::operation::{Reply, Request};
 use loom_parts::choice::Choice;
 use loom_parts::failure::Failure;
 use loom_path::rt::path::Path;

@@ -1,4 +1,4 @@
-ghost use Rattle.std.specs.Prelude.{◌≡◌, ◌++◌, ◌∷◌, [], ◌<◌, ◌↔◌, IsTrue, length, OnOk, OnErr, slice_get};
+ghost use Rattle.std.specs.Prelude.{◌≡◌, ◌++◌, ◌∷◌, [], ◌<◌, ◌↔◌, IsTrue, length, OnOk, OnErr, slice_get, take};
 ghost use Rattle.std.specs.Borrow.{sem};
 ghost use Rattle.loom_view_parts.specs.Lends.{lends_item};
 
@@ -91,6 +91,20 @@ impl<T> Sequence<T> {
 }
 
 impl<T: Drop> Sequence<T> {
+    /// No values any more. The room for them stays (own).
+    pub fn clear(&mut self)
+        ensures { self.new ≡ [] }
+    {
+        self.items.clear();
+    }
+
+    /// The first value alone, if there is one. The room for more stays (own).
+    pub fn keep_first(&mut self)
+        ensures { self.new ≡ take 1 self.old }
+    {
+        self.items.truncate(1);
+    }
+
     /// One more value, at the end. An error where the growth was refused; then nothing changes (own).
     pub fn push(&mut self, value: T) -> Result<(), AllocError>
         ensures ok { OnOk result (self.new ≡ self.old ++ value ∷ []) }

@@ -5,7 +5,7 @@ use Rattle.loom_effect_parts.specs.Wakers.{wakers_left}
 use Rattle.loom_wakers.specs.Stages.{forgets, frees, holds, takes_place}
 use Rattle.loom_view_parts.specs.declared.rt.failure.FailureKind.{FailureKind}
 use Rattle.loom_view_parts.specs.declared.rt.failure.FailureKind.TheVariants.{Misuse}
-use Rattle.loom_objects.specs.declared.operation.Reply.TheVariants as reply
+use Rattle.loom_operations.specs.declared.operation.Reply.TheVariants as reply
 use Rattle.loom_objects.specs.declared.rt.sync.AtomicWaker.{AtomicWaker}
 use Rattle.loom_objects.specs.declared.rt.sync.Wakers.{Wakers}
 use Rattle.loom_objects.specs.declared.rt.thread.AfterDrop.{AfterDrop}

@@ -6,12 +6,12 @@ ghost use Rattle.loom_wakers.specs.Stages as stages;
 use crate::wakers::waker_pends;
 use loom_effect_parts::turns::{answered, pend_next};
 use loom_effect_parts::wakers::some_wakers;
-use loom_objects::operation::{AtomicWakerOp, Reply};
 use loom_objects::rt::object::Object;
 use loom_objects::rt::run::{Entry, Passed};
 use loom_objects::rt::scene::Scene;
 use loom_objects::rt::sync::AtomicWaker;
 use loom_objects::rt::thread::{AfterDrop, AfterWake, Taking, Task};
+use loom_operations::operation::{AtomicWakerOp, Reply};
 use loom_views::rt::failure::FailureKind;
 use std::alloc::AllocError;
 

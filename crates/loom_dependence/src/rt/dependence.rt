@@ -63,6 +63,16 @@ impl Dependence {
         })
     }
 
+    /// Main alone again, and no object. The room for them stays. An error where memory for main's vector is refused (own).
+    pub fn restart(&mut self) -> Result<(), AllocError>
+        ensures { IfOk result (λ _. ShowsOrder opening self.new) }
+    {
+        self.threads.clear();
+        self.threads.push(VersionVec::new())?;
+        self.last.clear();
+        Ok(())
+    }
+
     /// So many threads more, which begin where the parent is, and so many objects more. An error only where some are made and
     /// memory for them is refused (loom's `rt/execution.rs` and `rt/object.rs`).
     // Inlined: it is called at each operation, and few make anything.
@@ -72,20 +82,37 @@ impl Dependence {
         ensures growth { IfErr result (λ _. 0 < threads + objects) }
     {
         self.add_threads(parent, threads)?;
-        append_copies(&mut self.last, LastAccesses::new(), objects)
+        self.add_objects(objects)
     }
 
     /// So many threads more, which begin where the parent is, if it is there. An error where memory is refused.
+    #[inline(always)]
     fn add_threads(&mut self, parent: usize, count: usize) -> Result<(), AllocError>
         ensures added { OnOk result (self.new.threads ≡ self.old.threads ++ copies_of count (slice_get self.old.threads parent)) }
         ensures kept { self.new.last ≡ self.old.last }
         ensures growth { OnErr result (0 < count) }
     {
+        if count == 0 {
+            return Ok(());
+        }
         if parent >= self.threads.len() {
             return Ok(());
         }
         let view = *self.threads.at(parent);
         append_copies(&mut self.threads, view, count)
+    }
+
+    /// So many objects more, without accesses. An error where memory is refused.
+    #[inline(always)]
+    fn add_objects(&mut self, count: usize) -> Result<(), AllocError>
+        ensures added { OnOk result (self.new.last ≡ self.old.last ++ copies count nothing) }
+        ensures kept { self.new.threads ≡ self.old.threads }
+        ensures growth { OnErr result (0 < count) }
+    {
+        if count == 0 {
+            return Ok(());
+        }
+        append_copies(&mut self.last, LastAccesses::new(), count)
     }
 
     /// For each thread, by what it is about to do, the place of the last access that this depends on, where the thread isn't

@@ -5,21 +5,21 @@ ghost use Rattle.loom_runs.specs.Courses.{Course, opening, used_in};
 ghost use Rattle.loom_engine.specs.Execution.{Notes, ShowsCourse, IsMarked, Starts, takes_turn, Along, AllNeedMemory, MayBeRefused, Submits, itself};
 ghost use Rattle.loom_dependence.specs.Shown.{ShowsOrder};
 ghost use Rattle.loom_objects.specs.Effects.{needs_memory};
-ghost use Rattle.loom_objects.specs.Exploring.{is_on};
+ghost use Rattle.loom_operations.specs.Exploring.{is_on};
 ghost use Rattle.loom_objects.specs.Shown.{Shows};
 ghost use Rattle.loom_objects.specs.Uses.{use_at};
 ghost use Rattle.loom_objects.specs.World.{World};
 ghost use Rattle.loom_runs.specs.Machine as machine;
 ghost use Rattle.loom_path.specs.Routes.{Route, IsAtStart, IsSame, IsSameSearch, Says, Switches};
-ghost use Rattle.loom_objects.specs.Asked.{which_store};
+ghost use Rattle.loom_operations.specs.Asked.{which_store};
 
 use loom_dependence::rt::dependence::{Dependence, Use};
 use loom_engine_parts::ending::{may_end, record_end};
 use loom_machine::steps::{begin, end_run, enter_wait, read, resume};
-use loom_objects::data::Data;
-use loom_objects::failure::{Stop, failed};
-use loom_objects::operation::{ExploreOp, Reply, Request, Turn};
 use loom_objects::rt::run::{Entry, Passed, Resumed, RunState};
+use loom_operations::data::Data;
+use loom_operations::failure::{Stop, failed};
+use loom_operations::operation::{ExploreOp, Reply, Request, Turn};
 use loom_path::rt::path::Path;
 use loom_views::rt::failure::FailureKind;
 use std::alloc::{AllocError, Global};
@@ -78,6 +78,20 @@ impl<D: Data> Execution<D> {
             },
             over: None,
         })
+    }
+
+    /// A run once more, in which main is about to hand over its first operation. What the last one needed room for is used again.
+    pub fn restart(&mut self, limits: Limits) -> Result<(), AllocError>
+        requires some { 1 ≤ limits.max_threads }
+        requires few { limits.max_threads ≤ 5 }
+        ensures opens { IfOk result (λ _. (explores : Bool) (path : Route) → IsAtStart explores path → ShowsCourse (opening explores limits.max_threads limits.max_steps) self.new.run path) }
+        ensures steps { IfOk result (λ _. self.new.run.state.steps_left ≡ limits.max_steps) }
+        ensures over { IfOk result (λ _. self.new.over ≡ None) }
+    {
+        self.run.state.restart(limits.max_threads, limits.max_steps);
+        self.run.dependence.restart()?;
+        self.over = None;
+        Ok(())
     }
 
     /// The active thread hands over an operation, which is done up to the next turn: the path says who goes on at a branch

@@ -2,7 +2,7 @@
 use Rattle.std.proofs.Common.{◌≡◌, ◌≤◌, ◌<◌, ◌-◌, ℕ, zero, suc, true, false, List, [], ◌∷◌, length, map, take, get_or, Bool, Option, Some, None, refl, ap, subst, sym, ◌∙◌, arith}
 use Rattle.std.specs.Prelude.{cond, slice_get}
 use Rattle.loom_parts.specs.declared.choice.Choice.{Choice}
-use Rattle.loom_objects.specs.Question.{Made, asked_store, slots, made_of}
+use Rattle.loom_operations.specs.Question.{Made, asked_store, slots, made_of}
 use Rattle.loom_walks.specs.Walk.Machine.{is_thread}
 use Rattle.loom_walks.specs.Trees.Drive.{pass_of}
 use Rattle.loom_walks.specs.Walk.Path.{Stored}

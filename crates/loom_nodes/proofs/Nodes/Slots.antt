@@ -7,11 +7,11 @@ use Rattle.std.specs.List.{Contains}
 use Rattle.std.proofs.lemmas.Grind.{common_steps}
 use Rattle.loom_parts.specs.declared.choice.Choice.{Choice}
 use Rattle.loom_parts.specs.declared.choice.Choice.TheVariants.{Load}
-use Rattle.loom_objects.specs.Question.{Made, Among, made_of}
+use Rattle.loom_operations.specs.Question.{Made, Among, made_of}
 use Rattle.loom_walks.specs.Walk.Path.{fresh, advance}
 use Rattle.loom_walks.specs.Trees.Drive.{new_node}
 use Rattle.loom_nodes.specs.Nodes.{in_turn}
-use Rattle.loom_objects.specs.Question.{slots_from, slots, asked_store}
+use Rattle.loom_operations.specs.Question.{slots_from, slots, asked_store}
 use Rattle.loom_nodes.proofs.Nodes.Turns.{Distinct, get_among, turn_fresh, turn_given, not_given, turn_next, turn_last, turn_stays}
 
 -- ---- the list

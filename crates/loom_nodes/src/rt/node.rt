@@ -2,16 +2,17 @@
 ghost use Rattle.std.specs.Prelude.{◌≡◌, ◌<◌, ◌≤◌, ◌+◌, ◌^◌, ◌↔◌, ◌&&◌, ℕ, List, [], ◌∷◌, ◌++◌, Option, IfSome, IsSomeAnd, IsTrue, true, slice_get, slice_index, length};
 ghost use Rattle.std.specs.List.{position_from, Contains};
 ghost use Rattle.std.specs.Option.{option_map};
-ghost use Rattle.loom_objects.specs.Question.{Made, made_of, slots, AreSoundOffers};
-ghost use Rattle.loom_objects.specs.Asked.{which_thread, which_store, whether_spurious};
+ghost use Rattle.loom_operations.specs.Question.{Made, made_of, slots, AreSoundOffers};
+ghost use Rattle.loom_operations.specs.Asked.{which_thread, which_store, whether_spurious};
 ghost use Rattle.loom_walks.specs.Walk.Path.{choose as chosen};
 ghost use Rattle.loom_walks.specs.Trees.Drive.{pass_of};
 ghost use Rattle.loom_walks.specs.Trees.Meeting.{preempts};
 ghost use Rattle.loom_nodes.specs.Nodes.{ability_of, is_active, is_pending, is_left, with_status as with_statuses, seen, seen_schedule, seen_load, seen_spurious, Advances, IsWell, IsWellSchedule, IsWellLoad};
 ghost use Rattle.loom_nodes.specs.Tallies.{Tallies, IsNoted, goes_over};
 
-use loom_objects::choice::Choice;
-use loom_objects::rt::thread::{Ability, Offers};
+use loom_operations::offers::Offers;
+use loom_parts::ability::Ability;
+use loom_parts::choice::Choice;
 
 /// What is known of a thread at a schedule (loom's `rt/path.rs`).
 #[derive(Clone, Copy, Debug, PartialEq, Eq)]

@@ -1,15 +1,15 @@
 //! The nodes at which a run chooses, and how many of them it has passed.
 ghost use Rattle.std.specs.Prelude.{◌≡◌, ◌≤◌, ◌<◌, ◌↔◌, ◌++◌, ◌∷◌, [], ℕ, List, Option, IfOk, IfErr, IsTrue, length};
-ghost use Rattle.loom_objects.specs.Asked.{which_thread};
-ghost use Rattle.loom_objects.specs.Question.{made_of};
+ghost use Rattle.loom_operations.specs.Asked.{which_thread};
+ghost use Rattle.loom_operations.specs.Question.{made_of};
 ghost use Rattle.loom_nodes.specs.Nearest.{IsNearest, passes_in};
 ghost use Rattle.loom_nodes.specs.Nodes.{AreWell};
 ghost use Rattle.loom_nodes.specs.Tallies.{AreNoted};
 ghost use Rattle.loom_nodes.specs.Ways.{FindsSchedule, Steps};
 
 use crate::rt::node::{Node, Schedule};
-use loom_objects::failure::{Stop, failed};
-use loom_objects::rt::thread::Offers;
+use loom_operations::failure::{Stop, failed};
+use loom_operations::offers::Offers;
 use loom_views::rt::failure::FailureKind;
 use std::alloc::AllocError;
 

@@ -4,10 +4,10 @@ ghost use Rattle.loom_objects.specs.Leaks as leaks;
 ghost use Rattle.loom_objects.specs.Ending as rules;
 ghost use Rattle.loom_objects.specs.Scene.{Does};
 
-use crate::operation::Turn;
 use crate::rt::object::Object;
 use crate::rt::scene::Scene;
 use crate::rt::thread::{State, Thread};
+use loom_operations::operation::Turn;
 use loom_parts::leaks::{Leaks, first_leak};
 use loom_views::rt::failure::FailureKind;
 

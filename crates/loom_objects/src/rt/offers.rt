@@ -1,11 +1,12 @@
 ghost use Rattle.std.specs.Prelude.{ℕ, ◌≡◌, Some, map, option_map, slice_get, IfOk};
-ghost use Rattle.loom_objects.specs.Question.{AreSoundOffers};
+ghost use Rattle.loom_operations.specs.Question.{AreSoundOffers};
 ghost use Rattle.loom_objects.specs.Schedules as rules;
 ghost use Rattle.loom_objects.specs.Scene.{world_of, Does};
 ghost use Rattle.loom_views.specs.Table.{Points};
 
 use crate::rt::scene::Scene;
-use crate::rt::thread::{Offers, State, Task, Thread};
+use crate::rt::thread::{State, Task, Thread};
+use loom_operations::offers::Offers;
 use loom_parts::ability::{Ability, default_thread};
 use loom_views::rt::MAX_THREADS;
 use loom_views::rt::failure::FailureKind;

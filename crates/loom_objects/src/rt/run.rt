@@ -2,9 +2,9 @@ ghost use Rattle.std.specs.Prelude.{◌≡◌, ◌≤◌, IfOk};
 ghost use Rattle.loom_objects.specs.Shown.{Shows};
 ghost use Rattle.loom_objects.specs.World.{MAX_THREADS, opening};
 
-use crate::data::Data;
-use crate::operation::{AtomicOp, ExploreOp, Reply, Turn};
 use crate::rt::scene::Scene;
+use loom_operations::data::Data;
+use loom_operations::operation::{AtomicOp, ExploreOp, Reply, Turn};
 use loom_views::rt::MAX_ATOMIC_HISTORY;
 use std::alloc::{AllocError, Global};
 
@@ -73,6 +73,19 @@ impl<D: Drop> RunState<D> {
             scene: Scene::new(alloc, max_threads)?,
             steps_left: max_steps,
         })
+    }
+}
+
+impl<D: Drop> RunState<D> {
+    /// A run once more, in which main is about to hand over its first operation. It takes no memory.
+    pub fn restart(&mut self, max_threads: usize, max_steps: usize)
+        requires some { 1 ≤ max_threads }
+        requires few { max_threads ≤ MAX_THREADS }
+        ensures opens { Shows (opening max_threads max_steps) self.new }
+        ensures limit { self.new.steps_left ≡ max_steps }
+    {
+        self.scene.restart(max_threads);
+        self.steps_left = max_steps;
     }
 }
 

@@ -19,7 +19,6 @@ ghost use Rattle.loom_objects.specs.contracts.rt.sync.Channel as channel_row;
 ghost use Rattle.loom_objects.specs.contracts.rt.sync.Wakers as wakers_row;
 ghost use Rattle.loom_objects.specs.contracts.rt.sync.AtomicWaker as place_row;
 
-use crate::operation::{Lazy, Reply, Turn};
 use crate::rt::lookup::{
     arc_in_mut, atomic_in_mut, cell_in_mut, channel_in_mut, condvar_in_mut, mutex_in_mut,
     notifier_in_mut, place_in_mut, rwlock_in_mut, track_in_mut, wakers_in_mut,
@@ -30,6 +29,7 @@ use crate::rt::sync::{
     Arc, Atomic, AtomicWaker, Cell, Channel, Condvar, Mutex, Notify, RwLock, Track, Wakers,
 };
 use crate::rt::thread::{Phase, State, Task, Thread};
+use loom_operations::operation::{Lazy, Reply, Turn};
 use loom_views::rt::failure::FailureKind;
 use loom_views::rt::table::Views;
 use loom_views::sequence::Sequence;
@@ -76,18 +76,7 @@ impl<D: Drop> Scene<D> {
         ensures views { IfOk result (λ scene. ShowsViews first_points scene.views) }
     {
         let mut threads = Sequence::new(alloc);
-        threads.push(Thread {
-            state: State::Runnable,
-            phase: Phase::Working,
-            task: Task::Body,
-            notifier: None,
-            result: None,
-            yields: 0,
-            has_token: false,
-            name: None,
-            keys: Sequence::new(alloc),
-            locals: Sequence::new(alloc),
-        })?;
+        threads.push(Thread::main(alloc))?;
         Ok(Scene {
             threads,
             objects: Sequence::new(alloc),
@@ -97,6 +86,23 @@ impl<D: Drop> Scene<D> {
             max_threads,
             alloc,
         })
+    }
+
+    /// The same scene once more: main is about to hand over its first operation. It takes no memory, and the room for threads and
+    /// objects stays (own).
+    pub fn restart(&mut self, max_threads: usize)
+        requires some { 1 ≤ max_threads }
+        requires few { max_threads ≤ MAX_THREADS }
+        ensures opens { (points : Points) → (left : ℕ) → world_of points left self.new ≡ record (opening max_threads left) { points = points } }
+        ensures views { ShowsViews first_points self.new.views }
+    {
+        self.threads.keep_first();
+        *self.threads.at_mut(0) = Thread::main(self.alloc);
+        self.objects.clear();
+        self.views.restart();
+        self.lazies.clear();
+        self.active = 0;
+        self.max_threads = max_threads;
     }
 
     /// What lists are made by.

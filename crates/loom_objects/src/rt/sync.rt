@@ -8,8 +8,8 @@ mod notifiers;
 mod readers;
 mod rwlocks;
 
-use crate::operation::Message;
 use arrayvec::ArrayVec;
+use loom_operations::operation::Message;
 pub use loom_parts::lent::Lent;
 use loom_views::rt::MAX_THREADS;
 use loom_views::rt::num::Numbers;

@@ -1,8 +1,11 @@
-use crate::operation::{AtomicOp, Keyed, Message};
+ghost use Rattle.std.specs.Prelude.{◌≡◌};
+ghost use Rattle.loom_objects.specs.World.{main_thread};
+
+pub use loom_operations::operation::Name;
+use loom_operations::operation::{AtomicOp, Keyed, Message};
 pub use loom_parts::ability::Ability;
-use loom_parts::text::Text;
-use loom_views::rt::MAX_THREADS;
 use loom_views::sequence::Sequence;
+use std::alloc::Global;
 use std::collections::LinkedList;
 
 /// Whether a thread may be chosen (loom's `rt/thread.rs`).
@@ -18,13 +21,6 @@ pub enum State {
     /// It has yielded, until another thread is chosen.
     Yielding,
     Ended,
-}
-
-/// A thread's name.
-#[derive(Clone, Copy, Debug, PartialEq, Eq)]
-pub struct Name {
-    /// What is kept of it: all of it, or its first characters that fit.
-    pub text: Text,
 }
 
 /// How far a thread's end has come: `finish`, `exit` and `end` come once each, in this order.
@@ -196,11 +192,22 @@ pub struct Thread<D> {
     pub locals: Sequence<Keyed<D>>,
 }
 
-/// What the threads of a run offer to a schedule.
-#[derive(Clone, Copy)]
-pub struct Offers {
-    /// The thread that goes on by itself; none where no thread can go on.
-    pub default: Option<u8>,
-    /// What each thread offers; the default one is able.
-    pub abilities: [Ability; MAX_THREADS],
+impl<D> Thread<D> {
+    /// Main, about to hand over its first operation.
+    pub(crate) fn main(alloc: Global) -> Thread<D>
+        ensures { result ≡ main_thread }
+    {
+        Thread {
+            state: State::Runnable,
+            phase: Phase::Working,
+            task: Task::Body,
+            notifier: None,
+            result: None,
+            yields: 0,
+            has_token: false,
+            name: None,
+            keys: Sequence::new(alloc),
+            locals: Sequence::new(alloc),
+        }
+    }
 }

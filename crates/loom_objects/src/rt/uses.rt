@@ -1,14 +1,14 @@
 //! What the pending operation of each thread does to its object (loom's `rt/thread.rs`, `rt/object.rs`).
 ghost use Rattle.std.specs.Prelude.{ℕ, ◌≡◌, length, option_map};
-ghost use Rattle.loom_objects.specs.Accessed.{accessed};
+ghost use Rattle.loom_operations.specs.Accessed.{accessed};
 ghost use Rattle.loom_objects.specs.Scene.{world_of};
 ghost use Rattle.loom_objects.specs.Uses as rules;
 ghost use Rattle.loom_views.specs.Table.{Points};
 
-use crate::operation::AtomicOp;
 use crate::rt::scene::Scene;
 use crate::rt::thread::{Counting, Task, Thread};
 use loom_dependence::rt::dependence::{Action, Use};
+use loom_operations::operation::AtomicOp;
 use loom_views::rt::MAX_THREADS;
 use loom_views::sequence::Sequence;
 

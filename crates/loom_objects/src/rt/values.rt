@@ -6,9 +6,9 @@ ghost use Rattle.loom_objects.specs.Threads.{without_locals};
 ghost use Rattle.loom_objects.specs.Values as rules;
 ghost use Rattle.loom_objects.specs.Values.{has_key, is_of, is_taken, local_at, local_of, main_works, put_in, value_of};
 
-use crate::operation::{Keyed, Lazy};
 use crate::rt::scene::Scene;
 use crate::rt::thread::{Phase, Thread};
+use loom_operations::operation::{Keyed, Lazy};
 use loom_views::sequence::Sequence;
 use std::alloc::AllocError;
 use std::mem;

@@ -3,11 +3,11 @@ ghost use Rattle.std.specs.Prelude.{◌≡◌, None};
 ghost use Rattle.std.specs.Option.{option_map};
 ghost use Rattle.loom_ops.specs.Atomics.{atomic_handle, value_in, exchange, exchanged_in, update, fetched_in};
 ghost use Rattle.loom_ops.specs.Threads.{yielding};
-ghost use Rattle.loom_objects.specs.Labels.{bare};
+ghost use Rattle.loom_operations.specs.Labels.{bare};
 
 use crate::thread;
 use loom_handle_parts::atomics;
-use loom_objects::operation::{AtomicOp, Exchange, Op, Reply, Request};
+use loom_operations::operation::{AtomicOp, Exchange, Op, Reply, Request};
 use loom_views::rt::change::Change;
 use loom_views::rt::num::Numeric;
 use std::marker::PhantomData;

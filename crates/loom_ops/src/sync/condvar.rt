@@ -1,11 +1,11 @@
 //! Condition variables: threads sleep on them until others notify.
 ghost use Rattle.std.specs.Prelude.{◌≡◌, None};
 ghost use Rattle.loom_ops.specs.Condvars.{condvar_handle, timeout_in};
-ghost use Rattle.loom_objects.specs.Labels.{bare};
+ghost use Rattle.loom_operations.specs.Labels.{bare};
 
 use crate::sync::mutex::MutexGuard;
 use loom_handle_parts::condvars;
-use loom_objects::operation::{CondvarOp, Op, Reply, Request};
+use loom_operations::operation::{CondvarOp, Op, Reply, Request};
 
 /// A condition variable of the run (loom's `sync/condvar.rs`).
 #[derive(Clone, Copy, Debug)]

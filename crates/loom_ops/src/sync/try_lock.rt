@@ -2,7 +2,7 @@
 ghost use Rattle.std.specs.Prelude.{◌≡◌, Some, codes};
 ghost use Rattle.loom_ops.specs.Locks.{try_lock_error};
 
-use loom_objects::operation::Reply;
+use loom_operations::operation::Reply;
 use std::fmt;
 
 /// Why `try_lock`, `try_read` or `try_write` has no guard (std's `sync::TryLockError`). A lock is never poisoned here.

@@ -6,7 +6,7 @@ use Rattle.loom_parts.specs.declared.choice.Choice.TheVariants.{Thread}
 use native.Mathlib.Decide.{ℕ_discrete}
 use mathlib.Core.Path.{fun_ext}
 use Rattle.loom_parts.specs.declared.choice.Choice.{Choice}
-use Rattle.loom_objects.specs.Question.{Made}
+use Rattle.loom_operations.specs.Question.{Made}
 use Rattle.loom_walks.specs.Walk.Machine.{is_thread}
 use Rattle.loom_walks.specs.Walk.UnderWay.{mark_with}
 use Rattle.loom_walks.specs.Trees.Drive.{pass_of}

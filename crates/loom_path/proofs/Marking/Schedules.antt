@@ -1,9 +1,9 @@
 -- The marks of a schedule, for one thread after the other.
 use Rattle.std.proofs.Common.{◌≡◌, ◌≤◌, ◌<◌, ◌+◌, ℕ, zero, suc, Bool, true, List, [], ◌∷◌, length, drop, get_or, Option, Some, None, refl, ap, ap₂, sym, ◌∙◌, subst, arith}
 use Rattle.loom_parts.specs.declared.choice.Choice.{Choice}
-use Rattle.loom_objects.specs.declared.rt.thread.Offers.{Offers}
-use Rattle.loom_objects.specs.Question.{Made}
-use Rattle.loom_objects.specs.Asked.{pairs, pairs_from, which_thread}
+use Rattle.loom_operations.specs.declared.offers.Offers.{Offers}
+use Rattle.loom_operations.specs.Question.{Made}
+use Rattle.loom_operations.specs.Asked.{pairs, pairs_from, which_thread}
 use Rattle.loom_walks.specs.Walk.Path.{Stored}
 use Rattle.loom_walks.specs.Walk.UnderWay.{mark_with}
 use Rattle.loom_walks.specs.Trees.Drive.{marked, passes_of, backtrack}

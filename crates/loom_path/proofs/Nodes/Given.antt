@@ -3,14 +3,14 @@ use Rattle.std.proofs.Common.{◌≡◌, ℕ, Bool, List, [], Option, Some, None
 use Rattle.std.specs.Prelude.{slice_get, true}
 use Rattle.loom_parts.specs.declared.choice.Choice.{Choice}
 use Rattle.loom_parts.specs.declared.choice.Choice.TheVariants.{Thread, Load, Spurious}
-use Rattle.loom_objects.specs.declared.rt.thread.Offers.{Offers}
-use Rattle.loom_objects.specs.Question.{Made, Among, made_of, AreSoundOffers}
+use Rattle.loom_operations.specs.declared.offers.Offers.{Offers}
+use Rattle.loom_operations.specs.Question.{Made, Among, made_of, AreSoundOffers}
 use Rattle.loom_walks.specs.Walk.Path.{Stored, fresh, first_status, choose}
 use Rattle.loom_walks.specs.Trees.Drive.{new_node}
 use Rattle.loom_nodes.specs.declared.rt.node.Status.{Status}
 use Rattle.loom_nodes.specs.declared.rt.node.Schedule.{Schedule}
 use Rattle.loom_nodes.specs.Nodes.{thread_state, state_at, is_left, seen_schedule}
-use Rattle.loom_objects.specs.Asked.{which_thread}
+use Rattle.loom_operations.specs.Asked.{which_thread}
 use Rattle.loom_walks.proofs.Walk.Statuses.{FirstStatus, is_default, is_pending, is_skipped, is_closed, fresh_cases}
 use Rattle.loom_nodes.proofs.Nodes.Statuses.{is_open, left_there, open_there}
 use Rattle.loom_path.proofs.Nodes.Making.{default_offered, given_default, given_other, given_none}

@@ -7,8 +7,8 @@ use Rattle.loom_parts.specs.declared.choice.Choice.{Choice}
 use Rattle.loom_parts.specs.declared.choice.Choice.TheVariants.{Thread, Load, Spurious}
 use Rattle.loom_parts.specs.declared.ability.Ability.{Ability}
 use Rattle.loom_parts.specs.declared.ability.Ability.TheVariants.{Able, Yielding, Unable}
-use Rattle.loom_objects.specs.Question.{Made, Among, Question, WhichThread, able_threads, thread_options, made_of, IsSoundDefault, AreSoundOffers}
-use Rattle.loom_objects.specs.declared.rt.thread.Offers.{Offers}
+use Rattle.loom_operations.specs.Question.{Made, Among, Question, WhichThread, able_threads, thread_options, made_of, IsSoundDefault, AreSoundOffers}
+use Rattle.loom_operations.specs.declared.offers.Offers.{Offers}
 use Rattle.loom_walks.specs.Walk.Machine.{is_thread}
 use Rattle.loom_walks.specs.Walk.Choices.{same, among, pick}
 use Rattle.loom_walks.specs.Walk.Path.{Status as State, Closed, Skip as Skipped, Pending as ToTry, Active as Chosen, Stored, IsAtRest, fresh, choose}
@@ -16,10 +16,10 @@ use Rattle.loom_walks.specs.Trees.Drive.{value_status, made_at, new_node}
 use Rattle.loom_nodes.specs.declared.rt.node.Status.{Status}
 use Rattle.loom_nodes.specs.declared.rt.node.Status.TheVariants.{Active}
 use Rattle.loom_nodes.specs.Nodes.{ability_of, made_status, with_status, state_of, state_at, thread_state, active_thread, is_active, seen_threads}
-use Rattle.loom_objects.specs.Tree.{Tree, Gives, Asks}
+use Rattle.loom_operations.specs.Tree.{Tree, Gives, Asks}
 use Rattle.loom_walks.specs.Trees.Sound.{IsSoundTree}
 use Rattle.loom_walks.specs.Trees.Meeting.{machine_of}
-use Rattle.loom_objects.specs.Asked.{which_thread}
+use Rattle.loom_operations.specs.Asked.{which_thread}
 use Rattle.loom_walks.proofs.Walk.Resting.{fresh_at_rest}
 use Rattle.loom_walks.proofs.Trees.Machines.{able_among, machine_law}
 use Rattle.loom_nodes.proofs.Nodes.Picks.{pick_yes, pick_no}

@@ -5,7 +5,7 @@ use Rattle.std.specs.Option.{option_map}
 use Rattle.std.proofs.lemmas.List.{length-map}
 use Rattle.loom_view_parts.specs.declared.rt.failure.FailureKind.TheVariants.{NotDeterministic, TooManyBranches}
 use Rattle.loom_parts.specs.declared.choice.Choice.{Choice}
-use Rattle.loom_objects.specs.Question.{Question, made_of, asked_store}
+use Rattle.loom_operations.specs.Question.{Question, made_of, asked_store}
 use Rattle.loom_walks.specs.Walk.Path.{Stored, choices}
 use Rattle.loom_walks.specs.Walk.Choices.{pick}
 use Rattle.loom_walks.specs.Trees.Comparing.{same_made}

@@ -2,8 +2,8 @@
 ghost use Rattle.std.specs.Prelude.{◌≡◌, ◌<◌, ◌↔◌, ℕ, List, Option, Some, IfSome, IsSomeAnd, IsTrue, true, slice_get, map, length};
 ghost use Rattle.std.specs.List.{Contains};
 ghost use Rattle.std.specs.Option.{option_map};
-ghost use Rattle.loom_objects.specs.Question.{made_of, AreSoundOffers};
-ghost use Rattle.loom_objects.specs.Asked.{which_thread, which_store, whether_spurious};
+ghost use Rattle.loom_operations.specs.Question.{made_of, AreSoundOffers};
+ghost use Rattle.loom_operations.specs.Asked.{which_thread, which_store, whether_spurious};
 ghost use Rattle.loom_walks.specs.Walk.Path.{fresh};
 ghost use Rattle.loom_walks.specs.Trees.Drive.{new_node};
 ghost use Rattle.loom_path.specs.Nodes.{made_status, is_left, seen_schedule, seen_load, seen_spurious, IsWellSchedule, IsWellLoad};
@@ -11,8 +11,9 @@ ghost use Rattle.loom_path.specs.Nodes.{made_status, is_left, seen_schedule, see
 use loom_nodes::rt::node::{
     Load, Schedule, Spurious, Status, Tally, count_slots, is_same_thread, with_status,
 };
-use loom_objects::choice::Choice;
-use loom_objects::rt::thread::{Ability, Offers};
+use loom_operations::offers::Offers;
+use loom_parts::ability::Ability;
+use loom_parts::choice::Choice;
 
 /// The status, as the node is made, of a thread that is not the choice: each option is to be tried, or none is yet.
 fn made_status(ability: Ability, every: bool) -> Status

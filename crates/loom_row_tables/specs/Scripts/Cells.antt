@@ -2,12 +2,12 @@
 use Rattle.std.specs.Prelude.{List, [], ◌∷◌, None}
 use Rattle.std.specs.declared.sync.atomic.Ordering.TheVariants.{Release, Acquire}
 use Rattle.loom_view_parts.specs.declared.rt.num.Numbers.TheVariants as numbers
-use Rattle.loom_objects.specs.declared.operation.ArcOp.TheVariants as arc
-use Rattle.loom_objects.specs.declared.operation.AtomicOp.TheVariants as atomic
-use Rattle.loom_objects.specs.declared.operation.CellOp.TheVariants as cell
-use Rattle.loom_objects.specs.declared.operation.ThreadOp.TheVariants as threads
-use Rattle.loom_objects.specs.declared.operation.TrackOp.TheVariants as track
-use Rattle.loom_objects.specs.declared.operation.Request.TheVariants as op
+use Rattle.loom_operations.specs.declared.operation.ArcOp.TheVariants as arc
+use Rattle.loom_operations.specs.declared.operation.AtomicOp.TheVariants as atomic
+use Rattle.loom_operations.specs.declared.operation.CellOp.TheVariants as cell
+use Rattle.loom_operations.specs.declared.operation.ThreadOp.TheVariants as threads
+use Rattle.loom_operations.specs.declared.operation.TrackOp.TheVariants as track
+use Rattle.loom_operations.specs.declared.operation.Request.TheVariants as op
 use Rattle.loom_scripts.specs.declared.step.Step.{Step}
 use Rattle.loom_scripts.specs.declared.step.Step.TheVariants.{Do, Unless}
 use Rattle.loom_scripts.specs.declared.step.Value.TheVariants.{Plain, Held, Next}

@@ -1,9 +1,9 @@
 -- The scripts of the rows about runs that explore from somewhere on, or up to somewhere.
 use Rattle.std.specs.Prelude.{List, [], ◌∷◌, None}
-use Rattle.loom_objects.specs.declared.operation.ExploreOp.TheVariants as explore
-use Rattle.loom_objects.specs.declared.operation.MutexOp.TheVariants as mutex
-use Rattle.loom_objects.specs.declared.operation.ThreadOp.TheVariants as threads
-use Rattle.loom_objects.specs.declared.operation.Request.TheVariants as op
+use Rattle.loom_operations.specs.declared.operation.ExploreOp.TheVariants as explore
+use Rattle.loom_operations.specs.declared.operation.MutexOp.TheVariants as mutex
+use Rattle.loom_operations.specs.declared.operation.ThreadOp.TheVariants as threads
+use Rattle.loom_operations.specs.declared.operation.Request.TheVariants as op
 use Rattle.loom_scripts.specs.declared.step.Step.{Step}
 use Rattle.loom_scripts.specs.declared.step.Step.TheVariants.{Do}
 use Rattle.loom_scripts.specs.declared.step.Value.TheVariants.{Plain}

@@ -2,13 +2,13 @@
 use Rattle.std.specs.Prelude.{List, [], ◌∷◌, Some, None, codes}
 use Rattle.std.specs.declared.sync.atomic.Ordering.TheVariants.{Relaxed}
 use Rattle.loom_view_parts.specs.declared.rt.num.Numbers.TheVariants as numbers
-use Rattle.loom_objects.specs.declared.operation.AtomicOp.TheVariants as atomic
-use Rattle.loom_objects.specs.declared.operation.CondvarOp.TheVariants as condvar
-use Rattle.loom_objects.specs.declared.operation.MutexOp.TheVariants as mutex
-use Rattle.loom_objects.specs.declared.operation.NotifyOp.TheVariants as notify
-use Rattle.loom_objects.specs.declared.operation.RwLockOp.TheVariants as rwlock
-use Rattle.loom_objects.specs.declared.operation.ThreadOp.TheVariants as threads
-use Rattle.loom_objects.specs.declared.operation.Request.TheVariants as op
+use Rattle.loom_operations.specs.declared.operation.AtomicOp.TheVariants as atomic
+use Rattle.loom_operations.specs.declared.operation.CondvarOp.TheVariants as condvar
+use Rattle.loom_operations.specs.declared.operation.MutexOp.TheVariants as mutex
+use Rattle.loom_operations.specs.declared.operation.NotifyOp.TheVariants as notify
+use Rattle.loom_operations.specs.declared.operation.RwLockOp.TheVariants as rwlock
+use Rattle.loom_operations.specs.declared.operation.ThreadOp.TheVariants as threads
+use Rattle.loom_operations.specs.declared.operation.Request.TheVariants as op
 use Rattle.loom_parts.specs.Texts.{first_text}
 use Rattle.loom_scripts.specs.declared.step.Step.{Step}
 use Rattle.loom_scripts.specs.declared.step.Step.TheVariants.{Do, Unless}

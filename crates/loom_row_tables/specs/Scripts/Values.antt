@@ -1,9 +1,9 @@
 -- The scripts of the rows about values that threads have for themselves, and values that are made once a run.
 use Rattle.std.specs.Prelude.{List, [], ◌∷◌, None}
-use Rattle.loom_objects.specs.declared.operation.LazyOp.TheVariants as lazy
-use Rattle.loom_objects.specs.declared.operation.LocalOp.TheVariants as local
-use Rattle.loom_objects.specs.declared.operation.ThreadOp.TheVariants as threads
-use Rattle.loom_objects.specs.declared.operation.Request.TheVariants as op
+use Rattle.loom_operations.specs.declared.operation.LazyOp.TheVariants as lazy
+use Rattle.loom_operations.specs.declared.operation.LocalOp.TheVariants as local
+use Rattle.loom_operations.specs.declared.operation.ThreadOp.TheVariants as threads
+use Rattle.loom_operations.specs.declared.operation.Request.TheVariants as op
 use Rattle.loom_scripts.specs.declared.step.Step.{Step}
 use Rattle.loom_scripts.specs.declared.step.Step.TheVariants.{Do, Unless}
 use Rattle.loom_scripts.specs.declared.step.Value.TheVariants.{Plain, Held}

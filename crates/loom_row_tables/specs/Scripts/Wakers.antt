@@ -2,11 +2,11 @@
 use Rattle.std.specs.Prelude.{List, [], ◌∷◌, None}
 use Rattle.std.specs.declared.sync.atomic.Ordering.TheVariants.{Release, Acquire}
 use Rattle.loom_view_parts.specs.declared.rt.num.Numbers.TheVariants as numbers
-use Rattle.loom_objects.specs.declared.operation.AtomicOp.TheVariants as atomic
-use Rattle.loom_objects.specs.declared.operation.AtomicWakerOp.TheVariants as place
-use Rattle.loom_objects.specs.declared.operation.ThreadOp.TheVariants as threads
-use Rattle.loom_objects.specs.declared.operation.WakerOp.TheVariants as waker
-use Rattle.loom_objects.specs.declared.operation.Request.TheVariants as op
+use Rattle.loom_operations.specs.declared.operation.AtomicOp.TheVariants as atomic
+use Rattle.loom_operations.specs.declared.operation.AtomicWakerOp.TheVariants as place
+use Rattle.loom_operations.specs.declared.operation.ThreadOp.TheVariants as threads
+use Rattle.loom_operations.specs.declared.operation.WakerOp.TheVariants as waker
+use Rattle.loom_operations.specs.declared.operation.Request.TheVariants as op
 use Rattle.loom_scripts.specs.declared.step.Step.{Step}
 use Rattle.loom_scripts.specs.declared.step.Step.TheVariants.{Do, Jump, Unless}
 use Rattle.loom_scripts.specs.declared.step.Value.TheVariants.{Plain}

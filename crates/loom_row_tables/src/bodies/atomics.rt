@@ -3,7 +3,7 @@ ghost use Rattle.std.specs.Prelude.{◌≡◌, map};
 ghost use Rattle.loom_row_parts.specs.Meanings.{named};
 ghost use Rattle.loom_row_tables.specs.Names.{fence_rows, function_rows, unsynchronized_rows, update_rows};
 
-use loom_objects::operation::{AtomicOp, Exchange, MutexOp, Request, ThreadOp};
+use loom_operations::operation::{AtomicOp, Exchange, MutexOp, Request, ThreadOp};
 use loom_row_parts::row;
 use loom_row_parts::rows::{Checked, DEFAULTS, Row, TEN_STEPS};
 use loom_scripts::step::{END, EXIT, FAIL, Step, Value, YIELD};

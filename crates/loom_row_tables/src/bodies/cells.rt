@@ -3,7 +3,7 @@ ghost use Rattle.std.specs.Prelude.{◌≡◌, map};
 ghost use Rattle.loom_row_parts.specs.Meanings.{named};
 ghost use Rattle.loom_row_tables.specs.Names.{causality_rows, main_alone_rows, read_race_rows, synchronized_rows, thread_race_rows, turn_rows, write_race_rows};
 
-use loom_objects::operation::{ArcOp, AtomicOp, CellOp, Request, ThreadOp, TrackOp};
+use loom_operations::operation::{ArcOp, AtomicOp, CellOp, Request, ThreadOp, TrackOp};
 use loom_row_parts::row;
 use loom_row_parts::rows::Row;
 use loom_scripts::step::{END, EXIT, FAIL, Step, Value};

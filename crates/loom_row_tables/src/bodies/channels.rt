@@ -3,8 +3,7 @@ ghost use Rattle.std.specs.Prelude.{◌≡◌, map};
 ghost use Rattle.loom_row_parts.specs.Meanings.{named};
 ghost use Rattle.loom_row_tables.specs.Names.{end_rows, message_rows};
 
-use loom_objects::operation::{ChannelOp, Request, ThreadOp};
-use loom_objects::rt::thread::Name;
+use loom_operations::operation::{ChannelOp, Name, Request, ThreadOp};
 use loom_parts::text_literal;
 use loom_row_parts::row;
 use loom_row_parts::rows::Row;

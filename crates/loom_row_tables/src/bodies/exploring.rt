@@ -3,7 +3,7 @@ ghost use Rattle.std.specs.Prelude.{◌≡◌, map};
 ghost use Rattle.loom_row_parts.specs.Meanings.{named};
 ghost use Rattle.loom_row_tables.specs.Names.{exploring_rows};
 
-use loom_objects::operation::{ExploreOp, MutexOp, Request, ThreadOp};
+use loom_operations::operation::{ExploreOp, MutexOp, Request, ThreadOp};
 use loom_row_parts::few_threads::LOCK_BESIDE;
 use loom_row_parts::row;
 use loom_row_parts::rows::{EXPLICIT, Row, WHOLE};

@@ -3,7 +3,7 @@ ghost use Rattle.std.specs.Prelude.{◌≡◌, map};
 ghost use Rattle.loom_row_parts.specs.Meanings.{named};
 ghost use Rattle.loom_row_tables.specs.Names.{limit_rows};
 
-use loom_objects::operation::{AtomicOp, LocalOp, MutexOp, Request, ThreadOp};
+use loom_operations::operation::{AtomicOp, LocalOp, MutexOp, Request, ThreadOp};
 use loom_row_parts::row;
 use loom_row_parts::rows::{LONG_RUNS, Row, THREE_NODES};
 use loom_scripts::step::{END, EXIT, Step, Value, YIELD};

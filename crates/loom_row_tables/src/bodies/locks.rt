@@ -3,10 +3,9 @@ ghost use Rattle.std.specs.Prelude.{◌≡◌, map};
 ghost use Rattle.loom_row_parts.specs.Meanings.{named};
 ghost use Rattle.loom_row_tables.specs.Names.{condvar_rows, mutex_rows, other_rows, rwlock_rows, waking_rows};
 
-use loom_objects::operation::{
-    AtomicOp, CondvarOp, MutexOp, NotifyOp, Request, RwLockOp, ThreadOp,
+use loom_operations::operation::{
+    AtomicOp, CondvarOp, MutexOp, Name, NotifyOp, Request, RwLockOp, ThreadOp,
 };
-use loom_objects::rt::thread::Name;
 use loom_parts::text_literal;
 use loom_row_parts::row;
 use loom_row_parts::rows::{LONG_RUNS, Row};

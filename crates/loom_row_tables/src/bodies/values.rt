@@ -3,7 +3,7 @@ ghost use Rattle.std.specs.Prelude.{◌≡◌, map};
 ghost use Rattle.loom_row_parts.specs.Meanings.{named};
 ghost use Rattle.loom_row_tables.specs.Names.{value_rows};
 
-use loom_objects::operation::{LazyOp, LocalOp, Request, ThreadOp};
+use loom_operations::operation::{LazyOp, LocalOp, Request, ThreadOp};
 use loom_row_parts::row;
 use loom_row_parts::rows::Row;
 use loom_scripts::step::{END, EXIT, FAIL, Step, Value};

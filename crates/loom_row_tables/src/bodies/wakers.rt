@@ -3,7 +3,7 @@ ghost use Rattle.std.specs.Prelude.{◌≡◌, map};
 ghost use Rattle.loom_row_parts.specs.Meanings.{named};
 ghost use Rattle.loom_row_tables.specs.Names.{waker_rows};
 
-use loom_objects::operation::{AtomicOp, AtomicWakerOp, Request, ThreadOp, WakerOp};
+use loom_operations::operation::{AtomicOp, AtomicWakerOp, Request, ThreadOp, WakerOp};
 use loom_row_parts::row;
 use loom_row_parts::rows::Row;
 use loom_scripts::step::{END, EXIT, FAIL, Step, Value};

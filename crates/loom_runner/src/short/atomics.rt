@@ -2,8 +2,8 @@
 ghost use Rattle.std.specs.Prelude.{◌≡◌, IfOk, None};
 ghost use Rattle.loom_runner.specs.Asking.{Tells, done_in, exchanged_in, loaded_in};
 ghost use Rattle.loom_runner.specs.Answers.{as_loaded};
-ghost use Rattle.loom_objects.specs.declared.operation.Request.TheVariants as op;
-ghost use Rattle.loom_objects.specs.declared.operation.AtomicOp.TheVariants as atomic_op;
+ghost use Rattle.loom_operations.specs.declared.operation.Request.TheVariants as op;
+ghost use Rattle.loom_operations.specs.declared.operation.AtomicOp.TheVariants as atomic_op;
 ghost use Rattle.loom_view_parts.specs.declared.rt.change.Change.TheVariants as change;
 ghost use Rattle.loom_ops.specs.Atomics.{atomic_handle, exchange};
 

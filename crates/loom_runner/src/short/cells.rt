@@ -2,8 +2,8 @@
 ghost use Rattle.std.specs.Prelude.{◌≡◌, IfOk, None};
 ghost use Rattle.loom_runner.specs.Asking.{Tells, done_in};
 ghost use Rattle.loom_runner.specs.Answers.{given_in};
-ghost use Rattle.loom_objects.specs.declared.operation.Request.TheVariants as op;
-ghost use Rattle.loom_objects.specs.declared.operation.CellOp.TheVariants as cell_op;
+ghost use Rattle.loom_operations.specs.declared.operation.Request.TheVariants as op;
+ghost use Rattle.loom_operations.specs.declared.operation.CellOp.TheVariants as cell_op;
 ghost use Rattle.loom_ops.specs.Cells.{cell_handle, unsafe_cell_handle, reader_taken, writer_taken};
 
 use crate::answers::cells::Given;

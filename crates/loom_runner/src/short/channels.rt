@@ -2,8 +2,8 @@
 ghost use Rattle.std.specs.Prelude.{◌≡◌, IfOk, None};
 ghost use Rattle.loom_runner.specs.Asking.{Tells, done_in};
 ghost use Rattle.loom_runner.specs.Answers.{channel_in, drained_in, received_in, sent_in, tried_receive_in};
-ghost use Rattle.loom_objects.specs.declared.operation.Request.TheVariants as op;
-ghost use Rattle.loom_objects.specs.declared.operation.ChannelOp.TheVariants as channel_op;
+ghost use Rattle.loom_operations.specs.declared.operation.Request.TheVariants as op;
+ghost use Rattle.loom_operations.specs.declared.operation.ChannelOp.TheVariants as channel_op;
 
 use crate::answers::channels::{Drained, Received, Sent, TriedReceive, TryRecvError};
 use crate::handle::Handle;

@@ -2,8 +2,8 @@
 ghost use Rattle.std.specs.Prelude.{◌≡◌, IfOk, None};
 ghost use Rattle.loom_runner.specs.Asking.{Tells, done_in, loaded_in};
 ghost use Rattle.loom_runner.specs.Answers.{given_in, left_in};
-ghost use Rattle.loom_objects.specs.declared.operation.Request.TheVariants as op;
-ghost use Rattle.loom_objects.specs.declared.operation.ArcOp.TheVariants as arc_op;
+ghost use Rattle.loom_operations.specs.declared.operation.Request.TheVariants as op;
+ghost use Rattle.loom_operations.specs.declared.operation.ArcOp.TheVariants as arc_op;
 ghost use Rattle.loom_ops.specs.Counts.{arc_handle};
 
 use crate::answers::cells::Given;

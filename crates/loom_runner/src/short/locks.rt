@@ -1,9 +1,9 @@
 // Short forms for mutexes and read-write locks: each makes an operation, and takes its reply apart.
 ghost use Rattle.std.specs.Prelude.{◌≡◌, IfOk, None};
 ghost use Rattle.loom_runner.specs.Asking.{Tells, done_in, guard_in, tried_in};
-ghost use Rattle.loom_objects.specs.declared.operation.Request.TheVariants as op;
-ghost use Rattle.loom_objects.specs.declared.operation.MutexOp.TheVariants as mutex_op;
-ghost use Rattle.loom_objects.specs.declared.operation.RwLockOp.TheVariants as lock_op;
+ghost use Rattle.loom_operations.specs.declared.operation.Request.TheVariants as op;
+ghost use Rattle.loom_operations.specs.declared.operation.MutexOp.TheVariants as mutex_op;
+ghost use Rattle.loom_operations.specs.declared.operation.RwLockOp.TheVariants as lock_op;
 ghost use Rattle.loom_ops.specs.Locks.{mutex_handle};
 ghost use Rattle.loom_ops.specs.RwLocks.{rwlock_handle, read_guard_taken, write_guard_taken};
 

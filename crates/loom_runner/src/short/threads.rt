@@ -1,11 +1,11 @@
 // Short forms for threads and the search: each makes an operation, and takes its reply apart.
 ghost use Rattle.std.specs.Prelude.{◌≡◌, ◌++◌, ◌∷◌, [], IfOk, IfErr, OnOk, None, Ok, Some, true};
 ghost use Rattle.loom_runner.specs.Asking.{Tells, done_in, joined_in};
-ghost use Rattle.loom_objects.specs.declared.operation.Request.TheVariants as op;
-ghost use Rattle.loom_objects.specs.declared.operation.ThreadOp.TheVariants as thread_op;
-ghost use Rattle.loom_objects.specs.declared.operation.ExploreOp.TheVariants as explore_op;
+ghost use Rattle.loom_operations.specs.declared.operation.Request.TheVariants as op;
+ghost use Rattle.loom_operations.specs.declared.operation.ThreadOp.TheVariants as thread_op;
+ghost use Rattle.loom_operations.specs.declared.operation.ExploreOp.TheVariants as explore_op;
 ghost use Rattle.loom_ops.specs.Threads.{thread_handle};
-ghost use Rattle.loom_objects.specs.declared.operation.Reply.TheVariants as reply;
+ghost use Rattle.loom_operations.specs.declared.operation.Reply.TheVariants as reply;
 ghost use Rattle.loom_turns.specs.Histories.{entry};
 ghost use Rattle.loom_runner.specs.Tellings.{with_open, spawning, ByStop, all_answered};
 

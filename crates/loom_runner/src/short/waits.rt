@@ -1,9 +1,9 @@
 // Short forms for condition variables and notifiers: each makes an operation, and takes its reply apart.
 ghost use Rattle.std.specs.Prelude.{◌≡◌, IfOk, None};
 ghost use Rattle.loom_runner.specs.Asking.{Tells, done_in, guard_in};
-ghost use Rattle.loom_objects.specs.declared.operation.Request.TheVariants as op;
-ghost use Rattle.loom_objects.specs.declared.operation.CondvarOp.TheVariants as condvar_op;
-ghost use Rattle.loom_objects.specs.declared.operation.NotifyOp.TheVariants as notifier_op;
+ghost use Rattle.loom_operations.specs.declared.operation.Request.TheVariants as op;
+ghost use Rattle.loom_operations.specs.declared.operation.CondvarOp.TheVariants as condvar_op;
+ghost use Rattle.loom_operations.specs.declared.operation.NotifyOp.TheVariants as notifier_op;
 ghost use Rattle.loom_ops.specs.Condvars.{condvar_handle};
 ghost use Rattle.loom_ops.specs.Notifiers.{notify_handle};
 

@@ -72,12 +72,17 @@ fn both_find<R: Abort + AllocGlobal + Threads + Wait + Clone + Send + 'static>(
     kind: Option<FailureKind>,
 ) -> Result<(), Fail> {
     let closures = closures.check(rt, builder)?;
-    let is_same = &closures == bodies;
+    agree(rt, &closures, bodies, kind);
+    Ok(())
+}
+
+/// Both checks are complete, or found a failure of this kind, and their reports are the same.
+fn agree<R: Abort>(rt: &R, closures: &Report, bodies: &Report, kind: Option<FailureKind>) {
+    let is_same = closures == bodies;
     assert!(rt;
-        ends_by(&closures, kind) && is_same,
+        ends_by(closures, kind) && is_same,
         "{closures}, and {bodies}"
     );
-    Ok(())
 }
 
 /// The same, where the body is a script.

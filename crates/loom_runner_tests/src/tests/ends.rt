@@ -1,10 +1,10 @@
 //! Closures that end otherwise than by their result, or not as in the run before.
+use crate::tests::children::{Task, start};
 use crate::tests::finding::Wanted::{Fails, NoSettings};
 use crate::tests::finding::{Counter, Main, comes_to};
-use crate::tests::turns::lock_beside;
-use crate::tests::{Count, NONE, ONE, ZERO};
+use crate::tests::{NONE, ONE, ZERO};
 use loom::builder::Builder;
-use loom::runner::{Handle, Job, Stop};
+use loom::runner::{Handle, Stop};
 use loom::sync::Mutex;
 use loom::{Choice, FailureKind};
 use std::sync::Wait;
@@ -16,27 +16,24 @@ use std::thread::Threads;
 static NO_CHOICES: [Choice; 0] = [];
 
 /// Locks the mutex, and releases it.
-#[derive(Drop)]
-struct Waiter {
-    mutex: Mutex,
-}
-
-impl<R: Wait> Job<Count, R> for Waiter {
-    fn run(self, handle: &mut Handle<Count, R>) -> Result<Count, Stop> {
-        let (guard, value) = handle.lock(&self.mutex)?;
-        handle.release(guard, value)?;
-        Ok(Count(3))
-    }
+pub(super) fn pass_through<R: Wait>(
+    handle: &mut Handle<u64, R>,
+    mutex: &Mutex,
+) -> Result<u64, Stop> {
+    let (guard, value) = handle.lock(mutex)?;
+    handle.release(guard, value)?;
+    Ok(3)
 }
 
 /// Main locks a mutex, for which another thread waits, and ends without a release.
 pub(super) fn leave_guard<R: Threads + Wait + Clone + Send + 'static>(
-    handle: &mut Handle<Count, R>,
-) -> Result<Count, Stop> {
-    let mutex = handle.mutex(Count(0))?;
-    handle.spawn_job(Waiter { mutex })?;
+    handle: &mut Handle<u64, R>,
+    counter: &Counter,
+) -> Result<u64, Stop> {
+    let mutex = handle.mutex(0)?;
+    start(handle, Task::PassThrough(mutex), counter)?;
     handle.lock(&mutex)?;
-    Ok(Count(7))
+    Ok(7)
 }
 
 #[test]
@@ -48,14 +45,14 @@ fn guard_left_closures(rt: HostRuntime) -> Result<(), Fail> {
 
 /// Main is given a stop, calls twice more, and counts where it was given a stop each time.
 pub(super) fn pass_over_stops<R: Wait>(
-    handle: &mut Handle<Count, R>,
+    handle: &mut Handle<u64, R>,
     stops: &Counter,
-) -> Result<Count, Stop> {
+) -> Result<u64, Stop> {
     handle.fail();
-    if handle.yield_now().is_err() && handle.mutex(Count(0)).is_err() {
+    if handle.yield_now().is_err() && handle.mutex(0).is_err() {
         stops.fetch_add(1, Ordering::SeqCst);
     }
-    Ok(Count(0))
+    Ok(0)
 }
 
 /// A closure that is given a stop, and calls once more, is given a stop again.
@@ -70,19 +67,6 @@ fn closure_deaf(rt: HostRuntime) -> Result<(), Fail> {
 fn closure_stops(rt: HostRuntime) -> Result<(), Fail> {
     let wanted = Fails(FailureKind::Assertion, 0, NO_CHOICES.as_slice());
     comes_to(&rt, &Builder::new(), Main::Stops, wanted, 1, 0)
-}
-
-/// Main does nothing from its second run on.
-pub(super) fn lock_or_finish<R: Threads + Wait + Clone + Send + 'static>(
-    handle: &mut Handle<Count, R>,
-    starts: &Counter,
-    is_first: bool,
-) -> Result<Count, Stop> {
-    if is_first {
-        lock_beside(handle, starts)
-    } else {
-        Ok(Count(7))
-    }
 }
 
 /// A closure that does something else from its second run on: it starts twice, and the other closure once.

@@ -1,8 +1,8 @@
 //! Checks of the mains of these tests, all by one closure.
-use crate::tests::{Count, ends, forms, holds, turns};
+use crate::tests::{ends, forms, holds, turns};
 use loom::builder::Builder;
 use loom::model::Report;
-use loom::runner::{Handle, Job, RunnerError, Stop, check};
+use loom::runner::{Handle, RunnerError, Stop, check};
 use loom::visitor::Visitor;
 use loom::{Choice, FailureKind};
 use std::alloc::{AllocError, Global};
@@ -54,26 +54,27 @@ impl Main {
     /// What main does where it is called for the first time, or later.
     fn run<R: Threads + Wait + Clone + Send + 'static>(
         self,
-        handle: &mut Handle<Count, R>,
+        handle: &mut Handle<u64, R>,
         counter: &Counter,
         is_first: bool,
-    ) -> Result<Count, Stop> {
+    ) -> Result<u64, Stop> {
         match self {
             Main::Updates => forms::updates(handle),
             Main::Locks => forms::locks(handle),
             Main::Data => forms::data(handle),
             Main::Messages => forms::messages(handle),
             Main::NoMessages => forms::no_messages(handle),
-            Main::Waits => forms::waits(handle),
+            Main::Waits => forms::waits(handle, counter),
             Main::TwoMutexes => turns::two_mutexes(handle, counter),
             Main::TwoAdds => turns::two_adds(handle, counter),
             Main::LockBeside => turns::counted_lock_beside(handle, counter),
-            Main::PingPong => turns::ping_pong(handle),
-            Main::GuardLeft => ends::leave_guard(handle),
+            Main::PingPong => turns::ping_pong(handle, counter),
+            Main::GuardLeft => ends::leave_guard(handle, counter),
             Main::Deaf => ends::pass_over_stops(handle, counter),
             Main::Stops => Err(Stop::Memory),
-            Main::Changes => ends::lock_or_finish(handle, counter, is_first),
-            Main::Nothing => Ok(Count(0)),
+            Main::Changes if is_first => turns::lock_beside(handle, counter),
+            Main::Changes => Ok(7),
+            Main::Nothing => Ok(0),
         }
     }
 }
@@ -99,15 +100,12 @@ struct Keeper {
     runs: Vec<Run>,
 }
 
-impl Visitor<Count> for Keeper {
+impl Visitor<u64> for Keeper {
     ghost takes = { λ old choices value new. Unit {0} };
 
-    fn run(&mut self, choices: &[Choice], value: Count) -> Result<(), AllocError> {
+    fn run(&mut self, choices: &[Choice], value: u64) -> Result<(), AllocError> {
         let choices = choices.to_vec(self.alloc)?;
-        self.runs.push(Run {
-            choices,
-            value: value.0,
-        })?;
+        self.runs.push(Run { choices, value })?;
         Ok(())
     }
 }
@@ -187,7 +185,7 @@ pub(super) fn find<R: AllocGlobal + Threads + Wait + Clone + Send + 'static>(
         rt,
         alloc,
         builder,
-        |handle: &mut Handle<Count, R>| {
+        |handle: &mut Handle<u64, R>| {
             calls = calls.wrapping_add(1);
             main.run(handle, &counter, calls == 1)
         },
@@ -228,15 +226,4 @@ pub(super) fn comes_to<R: Abort + AllocGlobal + Threads + Wait + Clone + Send + 
     holds(rt, found.comes_to(wanted));
     holds(rt, found.counts(calls, counted));
     Ok(())
-}
-
-/// Counts that it has started.
-#[derive(Drop)]
-pub(super) struct Starter(pub(super) Counter);
-
-impl<R: Wait> Job<Count, R> for Starter {
-    fn run(self, _handle: &mut Handle<Count, R>) -> Result<Count, Stop> {
-        self.0.fetch_add(1, Ordering::SeqCst);
-        Ok(Count(3))
-    }
 }

@@ -1,7 +1,7 @@
 //! Each short form once, by one thread or two: what it answers. (A function's cost grows with the square of the calls that it hands
 //! an error on from, so few stand in one.)
-use crate::tests::Count;
-use crate::tests::finding::{Main, passes};
+use crate::tests::children::{Task, start};
+use crate::tests::finding::{Counter, Main, passes};
 use loom::cell::{Cell, UnsafeCell};
 use loom::runner::ask::Loaded;
 use loom::runner::{Handle, Stop, TryRecvError};
@@ -16,7 +16,7 @@ use std::test::Fail;
 use std::thread::Threads;
 
 /// The read-modify-writes of one number after another.
-pub(super) fn updates<R: Wait>(handle: &mut Handle<Count, R>) -> Result<Count, Stop> {
+pub(super) fn updates<R: Wait>(handle: &mut Handle<u64, R>) -> Result<u64, Stop> {
     let number = handle.atomic(6u64)?;
     let before = [
         handle.swap(&number, 12, AcqRel)?,
@@ -29,7 +29,7 @@ pub(super) fn updates<R: Wait>(handle: &mut Handle<Count, R>) -> Result<Count, S
 }
 
 /// Those that set bits, and one without a short form.
-fn more_updates<R: Wait>(handle: &mut Handle<Count, R>, number: &AtomicU64) -> Result<(), Stop> {
+fn more_updates<R: Wait>(handle: &mut Handle<u64, R>, number: &AtomicU64) -> Result<(), Stop> {
     let before = [
         handle.fetch_and(number, 11, AcqRel)?,
         handle.fetch_or(number, 4, AcqRel)?,
@@ -40,172 +40,172 @@ fn more_updates<R: Wait>(handle: &mut Handle<Count, R>, number: &AtomicU64) -> R
 }
 
 /// The compare-exchanges, a fence, and a load.
-fn exchanges<R: Wait>(handle: &mut Handle<Count, R>, number: &AtomicU64) -> Result<Count, Stop> {
+fn exchanges<R: Wait>(handle: &mut Handle<u64, R>, number: &AtomicU64) -> Result<u64, Stop> {
     let read = handle.compare_exchange(number, 0, 1, SeqCst, Relaxed)?;
     handle.assert(read == Err(20))?;
     let read = handle.compare_exchange_weak(number, 20, 1, SeqCst, Relaxed)?;
     handle.assert(read == Ok(20))?;
     handle.fence(SeqCst)?;
     let last = handle.load(number, Acquire)?;
-    Ok(Count(last))
+    Ok(last)
 }
 
 /// Mutexes and read-write locks, tried while they are held and while they aren't.
-pub(super) fn locks<R: Wait>(handle: &mut Handle<Count, R>) -> Result<Count, Stop> {
-    let mutex = handle.mutex(Count(1))?;
+pub(super) fn locks<R: Wait>(handle: &mut Handle<u64, R>) -> Result<u64, Stop> {
+    let mutex = handle.mutex(1)?;
     try_held(handle, &mutex)?;
     try_free(handle, &mutex)?;
-    let lock = handle.rw_lock(Count(3))?;
+    let lock = handle.rw_lock(3)?;
     write(handle, &lock)?;
     read_twice(handle, &lock)?;
     replace(handle, &mutex)
 }
 
 /// A mutex is tried while it is held.
-fn try_held<R: Wait>(handle: &mut Handle<Count, R>, mutex: &Mutex) -> Result<(), Stop> {
+fn try_held<R: Wait>(handle: &mut Handle<u64, R>, mutex: &Mutex) -> Result<(), Stop> {
     let (guard, value) = handle.lock(mutex)?;
     let tried = handle.try_lock(mutex)?;
-    handle.assert(value == Count(1) && tried.is_none())?;
-    handle.release(guard, Count(2))
+    handle.assert(value == 1 && tried.is_none())?;
+    handle.release(guard, 2)
 }
 
 /// A mutex is tried while it isn't held.
-fn try_free<R: Wait>(handle: &mut Handle<Count, R>, mutex: &Mutex) -> Result<(), Stop> {
+fn try_free<R: Wait>(handle: &mut Handle<u64, R>, mutex: &Mutex) -> Result<(), Stop> {
     let Some((guard, value)) = handle.try_lock(mutex)? else {
         return Err(handle.fail());
     };
-    handle.assert(value == Count(2))?;
+    handle.assert(value == 2)?;
     handle.release(guard, value)
 }
 
 /// A read-write lock is written.
-fn write<R: Wait>(handle: &mut Handle<Count, R>, lock: &RwLock) -> Result<(), Stop> {
+fn write<R: Wait>(handle: &mut Handle<u64, R>, lock: &RwLock) -> Result<(), Stop> {
     let (guard, value) = handle.write(lock)?;
-    handle.assert(value == Count(3))?;
-    handle.release_write(guard, Count(4))
+    handle.assert(value == 3)?;
+    handle.release_write(guard, 4)
 }
 
 /// A read-write lock is read twice at a time.
-fn read_twice<R: Wait>(handle: &mut Handle<Count, R>, lock: &RwLock) -> Result<(), Stop> {
+fn read_twice<R: Wait>(handle: &mut Handle<u64, R>, lock: &RwLock) -> Result<(), Stop> {
     let (first, value) = handle.read(lock)?;
     let (second, again) = handle.read(lock)?;
-    handle.assert(value == Count(4) && again == Count(4))?;
+    handle.assert([value, again] == [4, 4])?;
     handle.release_read(first)?;
     handle.release_read(second)
 }
 
 /// A mutex is locked for a change, and for a look.
-fn replace<R: Wait>(handle: &mut Handle<Count, R>, mutex: &Mutex) -> Result<Count, Stop> {
-    let before = handle.with_lock(mutex, |data| mem::replace(data, Count(5)))?;
+fn replace<R: Wait>(handle: &mut Handle<u64, R>, mutex: &Mutex) -> Result<u64, Stop> {
+    let before = handle.with_lock(mutex, |data| mem::replace(data, 5))?;
     let now = handle.with_lock(mutex, |data| *data)?;
-    handle.assert(before == Count(2) && now == Count(5))?;
+    handle.assert([before, now] == [2, 5])?;
     Ok(now)
 }
 
 /// Both kinds of cells, and counted references.
-pub(super) fn data<R: Wait>(handle: &mut Handle<Count, R>) -> Result<Count, Stop> {
-    let open = handle.unsafe_cell(Count(1))?;
+pub(super) fn data<R: Wait>(handle: &mut Handle<u64, R>) -> Result<u64, Stop> {
+    let open = handle.unsafe_cell(1)?;
     look(handle, &open)?;
     open_and_end(handle, &open)?;
-    let cell = handle.cell(Count(3))?;
+    let cell = handle.cell(3)?;
     set(handle, &cell)?;
     counted(handle)
 }
 
 /// A cell is changed and read by closures.
-fn look<R: Wait>(handle: &mut Handle<Count, R>, cell: &UnsafeCell) -> Result<(), Stop> {
-    handle.with_mut(cell, |count| count.0 = 2)?;
-    let seen = handle.with(cell, |count| count.0)?;
+fn look<R: Wait>(handle: &mut Handle<u64, R>, cell: &UnsafeCell) -> Result<(), Stop> {
+    handle.with_mut(cell, |count| *count = 2)?;
+    let seen = handle.with(cell, |count| *count)?;
     handle.assert(seen == 2)
 }
 
 /// A cell is read and written by accesses that are ended.
-fn open_and_end<R: Wait>(handle: &mut Handle<Count, R>, cell: &UnsafeCell) -> Result<(), Stop> {
+fn open_and_end<R: Wait>(handle: &mut Handle<u64, R>, cell: &UnsafeCell) -> Result<(), Stop> {
     let (pointer, value) = handle.get(cell)?;
     handle.end(pointer)?;
     let (pointer, again) = handle.get_mut(cell)?;
     handle.end_mut(pointer, again)?;
-    handle.assert(value == Count(2) && again == Count(2))
+    handle.assert([value, again] == [2, 2])
 }
 
 /// A cell is written and read by accesses that end at once.
-fn set<R: Wait>(handle: &mut Handle<Count, R>, cell: &Cell) -> Result<(), Stop> {
-    handle.set(cell, Count(4))?;
+fn set<R: Wait>(handle: &mut Handle<u64, R>, cell: &Cell) -> Result<(), Stop> {
+    handle.set(cell, 4)?;
     let now = handle.copied(cell)?;
-    handle.assert(now == Count(4))
+    handle.assert(now == 4)
 }
 
 /// A counted reference, and one more of it.
-fn counted<R: Wait>(handle: &mut Handle<Count, R>) -> Result<Count, Stop> {
-    let arc = handle.arc(Count(6))?;
+fn counted<R: Wait>(handle: &mut Handle<u64, R>) -> Result<u64, Stop> {
+    let arc = handle.arc(6)?;
     let other = handle.clone_arc(&arc)?;
     let value = handle.deref(&other)?;
     let count = handle.strong_count(&arc)?;
-    handle.assert(value == Count(6) && count == 2)?;
+    handle.assert(value == 6 && count == 2)?;
     drop_both(handle, arc, other)?;
     Ok(value)
 }
 
 /// The last one gives the value.
-fn drop_both<R: Wait>(handle: &mut Handle<Count, R>, arc: Arc, other: Arc) -> Result<(), Stop> {
+fn drop_both<R: Wait>(handle: &mut Handle<u64, R>, arc: Arc, other: Arc) -> Result<(), Stop> {
     let left = handle.drop_arc(other)?;
     handle.assert(left.is_none())?;
     let left = handle.drop_arc(arc)?;
-    handle.assert(left == Some(Count(6)))
+    handle.assert(left == Some(6))
 }
 
 /// A channel with two senders, whose ends are dropped.
-pub(super) fn messages<R: Wait>(handle: &mut Handle<Count, R>) -> Result<Count, Stop> {
+pub(super) fn messages<R: Wait>(handle: &mut Handle<u64, R>) -> Result<u64, Stop> {
     let (sender, receiver) = handle.channel()?;
     let none = handle.try_recv(&receiver)?;
     handle.assert(none == Err(TryRecvError::Empty))?;
     send_two(handle, &sender)?;
     receive_two(handle, &receiver)?;
     send_late(handle, sender, receiver)?;
-    Ok(Count(0))
+    Ok(0)
 }
 
 /// Each of two senders sends, and one of them is dropped.
-fn send_two<R: Wait>(handle: &mut Handle<Count, R>, sender: &Sender) -> Result<(), Stop> {
+fn send_two<R: Wait>(handle: &mut Handle<u64, R>, sender: &Sender) -> Result<(), Stop> {
     let second = handle.clone_sender(sender)?;
-    let first = handle.send(sender, Count(1))?;
-    let other = handle.send(&second, Count(2))?;
+    let first = handle.send(sender, 1)?;
+    let other = handle.send(&second, 2)?;
     handle.assert(first.is_ok() && other.is_ok())?;
     handle.drop_sender(second)
 }
 
 /// Both messages are received.
-fn receive_two<R: Wait>(handle: &mut Handle<Count, R>, receiver: &Receiver) -> Result<(), Stop> {
+fn receive_two<R: Wait>(handle: &mut Handle<u64, R>, receiver: &Receiver) -> Result<(), Stop> {
     let one = handle.recv(receiver)?;
     let two = handle.try_recv(receiver)?;
-    handle.assert(one == Some(Count(1)) && two == Ok(Count(2)))
+    handle.assert(one == Some(1) && two == Ok(2))
 }
 
 /// The receiver is dropped, and then a message is sent in vain.
 fn send_late<R: Wait>(
-    handle: &mut Handle<Count, R>,
+    handle: &mut Handle<u64, R>,
     sender: Sender,
     receiver: Receiver,
 ) -> Result<(), Stop> {
     let left = handle.drop_receiver(receiver)?;
     handle.assert(left.is_empty())?;
-    let late = handle.send(&sender, Count(3))?;
-    handle.assert(late == Err(Count(3)))?;
+    let late = handle.send(&sender, 3)?;
+    handle.assert(late == Err(3))?;
     handle.drop_sender(sender)
 }
 
 /// The receiver of a channel without a sender is told so.
-pub(super) fn no_messages<R: Wait>(handle: &mut Handle<Count, R>) -> Result<Count, Stop> {
+pub(super) fn no_messages<R: Wait>(handle: &mut Handle<u64, R>) -> Result<u64, Stop> {
     let (sender, receiver) = handle.channel()?;
     handle.drop_sender(sender)?;
     let none = handle.recv(&receiver)?;
     handle.assert(none.is_none())?;
-    Ok(Count(0))
+    Ok(0)
 }
 
 /// By what a thread waits for another: a notifier, then a token, and then a condition variable.
 #[derive(Clone, Copy)]
-struct Signals {
+pub(super) struct Signals {
     notifier: Notify,
     waiter: Thread,
     mutex: Mutex,
@@ -214,18 +214,19 @@ struct Signals {
 
 /// A thread waits for another by each signal.
 pub(super) fn waits<R: Threads + Wait + Clone + Send + 'static>(
-    handle: &mut Handle<Count, R>,
-) -> Result<Count, Stop> {
+    handle: &mut Handle<u64, R>,
+    counter: &Counter,
+) -> Result<u64, Stop> {
     let signals = new_signals(handle)?;
-    let child = handle.spawn(move |handle| give_signals(handle, &signals))?;
+    let child = start(handle, Task::Signal(signals), counter)?;
     await_signals(handle, &signals)?;
     handle.join(&child)
 }
 
 /// The signals, of which this thread waits for each.
-fn new_signals<R: Wait>(handle: &mut Handle<Count, R>) -> Result<Signals, Stop> {
+fn new_signals<R: Wait>(handle: &mut Handle<u64, R>) -> Result<Signals, Stop> {
     let notifier = handle.notifier()?;
-    let mutex = handle.mutex(Count(0))?;
+    let mutex = handle.mutex(0)?;
     let condvar = handle.condvar()?;
     let waiter = handle.current()?;
     Ok(Signals {
@@ -237,24 +238,27 @@ fn new_signals<R: Wait>(handle: &mut Handle<Count, R>) -> Result<Signals, Stop> 
 }
 
 /// Gives each signal once, and the last one twice.
-fn give_signals<R: Wait>(handle: &mut Handle<Count, R>, signals: &Signals) -> Result<Count, Stop> {
+pub(super) fn give_signals<R: Wait>(
+    handle: &mut Handle<u64, R>,
+    signals: &Signals,
+) -> Result<u64, Stop> {
     handle.notify(&signals.notifier)?;
     handle.unpark(&signals.waiter)?;
     let (guard, _) = handle.lock(&signals.mutex)?;
-    handle.release(guard, Count(1))?;
+    handle.release(guard, 1)?;
     handle.notify_one(&signals.condvar)?;
     handle.notify_all(&signals.condvar)?;
-    Ok(Count(9))
+    Ok(9)
 }
 
 /// Waits for each signal.
-fn await_signals<R: Wait>(handle: &mut Handle<Count, R>, signals: &Signals) -> Result<(), Stop> {
+fn await_signals<R: Wait>(handle: &mut Handle<u64, R>, signals: &Signals) -> Result<(), Stop> {
     handle.wait_for(&signals.notifier)?;
     handle.park()?;
     let (guard, value) = handle.lock(&signals.mutex)?;
-    let (guard, value) = handle.wait_while(&signals.condvar, guard, value, |value| value.0 == 0)?;
+    let (guard, value) = handle.wait_while(&signals.condvar, guard, value, |value| *value == 0)?;
     handle.release(guard, value)?;
-    handle.assert(value == Count(1))
+    handle.assert(value == 1)
 }
 
 #[test]

@@ -1,6 +1,7 @@
 //! What the program prints of the rows that are closures.
 use crate::tests::holds;
 use loom_closures::rows::{ROWS, Row, run_row};
+use std::io;
 use std::process::Abort;
 use std::sync::Wait;
 use std::test::Fail;
@@ -23,6 +24,19 @@ static LINES: [(&str, &str, u8); 9] = [
     ("store_buffering_closures", "complete 30\n", 0),
 ];
 
+/// Whether the row prints this line and nothing besides, and has this status.
+fn is_printed<R: AllocGlobal + Threads + Wait + Clone + Send + 'static>(
+    rt: &R,
+    row: Row,
+    line: &str,
+    status: u8,
+) -> io::Result<bool> {
+    let mut out = Vec::new(rt.alloc());
+    let mut err = Vec::new(rt.alloc());
+    let answer = run_row(rt, row, &mut out, &mut err)?;
+    Ok(answer == status && out.as_slice() == line.as_bytes() && err.is_empty())
+}
+
 /// The row of this name prints this line and nothing besides, and has this status.
 fn prints<R: Abort + AllocGlobal + Threads + Wait + Clone + Send + 'static>(
     rt: &R,
@@ -33,11 +47,8 @@ fn prints<R: Abort + AllocGlobal + Threads + Wait + Clone + Send + 'static>(
     let Some(row) = Row::meant_by(&[name]) else {
         panic!(rt; "no row {name}");
     };
-    let mut out = Vec::new(rt.alloc());
-    let mut err = Vec::new(rt.alloc());
-    let answer = run_row(rt, row, &mut out, &mut err)?;
-    let is_line = out.as_slice() == line.as_bytes() && err.is_empty();
-    assert!(rt; is_line && answer == status, "{name}: {answer}");
+    let is_printed = is_printed(rt, row, line, status)?;
+    assert!(rt; is_printed, "{name}");
     Ok(())
 }
 

@@ -1,85 +1,58 @@
 //! Closures take turns.
+use crate::tests::children::{Task, start};
+use crate::tests::ends::pass_through;
 use crate::tests::finding::Wanted::{Complete, Fails};
-use crate::tests::finding::{Counter, Main, Run, Starter, comes_to, find, passes};
-use crate::tests::{Count, NONE, ONE, TWO, ZERO, holds};
+use crate::tests::finding::{Counter, Main, Run, comes_to, find, passes};
+use crate::tests::{NONE, ONE, TWO, ZERO, holds};
 use loom::builder::Builder;
-use loom::runner::{Handle, Job, Stop};
+use loom::runner::{Handle, Stop};
 use loom::sync::Mutex;
 use loom::sync::atomic::Ordering::{AcqRel, Acquire, Release};
 use loom::sync::atomic::{AtomicU64, AtomicUsize};
-use loom::thread::JoinHandle;
 use loom::{Choice, FailureKind};
+use std::sync::Wait;
 use std::sync::atomic::Ordering;
-use std::sync::{Arc, Wait};
 use std::test::Fail;
 use std::thread::Threads;
 
 /// Locks one mutex and then the other, and counts where a call after a stop was answered by a stop.
-#[derive(Drop)]
-struct Locker {
-    first: Mutex,
-    second: Mutex,
-    stops: Counter,
-}
-
-impl<R: Wait> Job<Count, R> for Locker {
-    fn run(self, handle: &mut Handle<Count, R>) -> Result<Count, Stop> {
-        let answer = lock_both(handle, &self.first, &self.second);
-        if answer.is_err() && handle.yield_now().is_err() {
-            self.stops.fetch_add(1, Ordering::SeqCst);
-        }
-        answer
+pub(super) fn lock_to_stop<R: Wait>(
+    handle: &mut Handle<u64, R>,
+    outer: &Mutex,
+    inner: &Mutex,
+    stops: &Counter,
+) -> Result<u64, Stop> {
+    let answer = lock_both(handle, outer, inner);
+    if answer.is_err() && handle.yield_now().is_err() {
+        stops.fetch_add(1, Ordering::SeqCst);
     }
+    answer
 }
 
 /// Holds the one while it locks the other.
 fn lock_both<R: Wait>(
-    handle: &mut Handle<Count, R>,
+    handle: &mut Handle<u64, R>,
     outer: &Mutex,
     inner: &Mutex,
-) -> Result<Count, Stop> {
+) -> Result<u64, Stop> {
     let (outer, x) = handle.lock(outer)?;
     let (inner, y) = handle.lock(inner)?;
     handle.release(inner, y)?;
     handle.release(outer, x)?;
-    Ok(Count(1))
+    Ok(1)
 }
 
 /// Two threads lock two mutexes in opposite order. They count the stops that they were given once more.
 pub(super) fn two_mutexes<R: Threads + Wait + Clone + Send + 'static>(
-    handle: &mut Handle<Count, R>,
+    handle: &mut Handle<u64, R>,
     stops: &Counter,
-) -> Result<Count, Stop> {
-    let a = handle.mutex(Count(0))?;
-    let b = handle.mutex(Count(0))?;
-    let first = start_locker(handle, a, b, stops)?;
-    let second = start_locker(handle, b, a, stops)?;
-    join_both(handle, &first, &second)
-}
-
-/// Joins one thread and then the other.
-fn join_both<R: Wait>(
-    handle: &mut Handle<Count, R>,
-    first: &JoinHandle,
-    second: &JoinHandle,
-) -> Result<Count, Stop> {
-    handle.join(first)?;
-    handle.join(second)
-}
-
-/// Starts a thread that locks both.
-fn start_locker<R: Threads + Wait + Clone + Send + 'static>(
-    handle: &mut Handle<Count, R>,
-    first: Mutex,
-    second: Mutex,
-    stops: &Counter,
-) -> Result<JoinHandle, Stop> {
-    let stops = handle.allocated(Arc::try_clone(stops))?;
-    handle.spawn_job(Locker {
-        first,
-        second,
-        stops,
-    })
+) -> Result<u64, Stop> {
+    let a = handle.mutex(0)?;
+    let b = handle.mutex(0)?;
+    let first = start(handle, Task::LockBoth(a, b), stops)?;
+    let second = start(handle, Task::LockBoth(b, a), stops)?;
+    handle.join(&first)?;
+    handle.join(&second)
 }
 
 #[test]
@@ -89,43 +62,29 @@ fn two_mutexes_deadlock_closures(rt: HostRuntime) -> Result<(), Fail> {
     comes_to(&rt, &Builder::new(), Main::TwoMutexes, wanted, 4, 2)
 }
 
-/// Adds 1, and answers what was there before.
-#[derive(Drop)]
-struct Adder {
-    atomic: AtomicU64,
-    starts: Counter,
-}
-
-impl<R: Wait> Job<Count, R> for Adder {
-    fn run(self, handle: &mut Handle<Count, R>) -> Result<Count, Stop> {
-        self.starts.fetch_add(1, Ordering::SeqCst);
-        let before = handle.fetch_add(&self.atomic, 1, AcqRel)?;
-        Ok(Count(before))
-    }
+/// Counts its start, adds 1, and answers what was there before.
+pub(super) fn add_one<R: Wait>(
+    handle: &mut Handle<u64, R>,
+    atomic: &AtomicU64,
+    starts: &Counter,
+) -> Result<u64, Stop> {
+    starts.fetch_add(1, Ordering::SeqCst);
+    let before = handle.fetch_add(atomic, 1, AcqRel)?;
+    Ok(before)
 }
 
 /// Two threads add 1 to the same number, and what they read before differs. They count their starts.
 pub(super) fn two_adds<R: Threads + Wait + Clone + Send + 'static>(
-    handle: &mut Handle<Count, R>,
+    handle: &mut Handle<u64, R>,
     starts: &Counter,
-) -> Result<Count, Stop> {
+) -> Result<u64, Stop> {
     starts.fetch_add(1, Ordering::SeqCst);
     let atomic = handle.atomic(0u64)?;
-    let child = start_adder(handle, atomic, starts)?;
+    let child = start(handle, Task::Add(atomic), starts)?;
     let before = handle.fetch_add(&atomic, 1, AcqRel)?;
-    let Count(other) = handle.join(&child)?;
+    let other = handle.join(&child)?;
     handle.assert(before != other)?;
-    Ok(Count(before))
-}
-
-/// Starts a thread that adds 1.
-fn start_adder<R: Threads + Wait + Clone + Send + 'static>(
-    handle: &mut Handle<Count, R>,
-    atomic: AtomicU64,
-    starts: &Counter,
-) -> Result<JoinHandle, Stop> {
-    let starts = handle.allocated(Arc::try_clone(starts))?;
-    handle.spawn_job(Adder { atomic, starts })
+    Ok(before)
 }
 
 #[test]
@@ -135,24 +94,28 @@ fn fetch_add_atomic_closures(rt: HostRuntime) -> Result<(), Fail> {
 
 /// Main locks a mutex beside a thread that does nothing. Both count their starts.
 pub(super) fn counted_lock_beside<R: Threads + Wait + Clone + Send + 'static>(
-    handle: &mut Handle<Count, R>,
+    handle: &mut Handle<u64, R>,
     starts: &Counter,
-) -> Result<Count, Stop> {
+) -> Result<u64, Stop> {
     starts.fetch_add(1, Ordering::SeqCst);
     lock_beside(handle, starts)
 }
 
 /// The same, where the thread alone counts its start.
 pub(super) fn lock_beside<R: Threads + Wait + Clone + Send + 'static>(
-    handle: &mut Handle<Count, R>,
+    handle: &mut Handle<u64, R>,
     starts: &Counter,
-) -> Result<Count, Stop> {
-    let mutex = handle.mutex(Count(0))?;
-    let theirs = handle.allocated(Arc::try_clone(starts))?;
-    handle.spawn_job(Starter(theirs))?;
-    let (guard, value) = handle.lock(&mutex)?;
-    handle.release(guard, value)?;
-    Ok(Count(7))
+) -> Result<u64, Stop> {
+    let mutex = handle.mutex(0)?;
+    start(handle, Task::Start, starts)?;
+    pass_through(handle, &mutex)?;
+    Ok(7)
+}
+
+/// Counts a start.
+pub(super) fn count_start(starts: &Counter) -> u64 {
+    starts.fetch_add(1, Ordering::SeqCst);
+    3
 }
 
 /// The choices of its runs.
@@ -185,7 +148,7 @@ fn lock_beside_closures(rt: HostRuntime) -> Result<(), Fail> {
 
 /// Loads until the atomic holds this, and yields in between.
 fn await_value<R: Wait>(
-    handle: &mut Handle<Count, R>,
+    handle: &mut Handle<u64, R>,
     atomic: &AtomicUsize,
     wanted: usize,
 ) -> Result<(), Stop> {
@@ -199,33 +162,30 @@ fn await_value<R: Wait>(
 }
 
 /// Waits for 1, stores 2, and waits for 3.
-#[derive(Drop)]
-struct Ponger {
-    atomic: AtomicUsize,
-}
-
-impl<R: Wait> Job<Count, R> for Ponger {
-    fn run(self, handle: &mut Handle<Count, R>) -> Result<Count, Stop> {
-        await_value(handle, &self.atomic, 1)?;
-        handle.store(&self.atomic, 2, Release)?;
-        await_value(handle, &self.atomic, 3)?;
-        Ok(Count(0))
-    }
+pub(super) fn pong<R: Wait>(
+    handle: &mut Handle<u64, R>,
+    atomic: &AtomicUsize,
+) -> Result<u64, Stop> {
+    await_value(handle, atomic, 1)?;
+    handle.store(atomic, 2, Release)?;
+    await_value(handle, atomic, 3)?;
+    Ok(0)
 }
 
 /// Main stores 1 and 3, and another thread 2 in between: each waits for what the other stores.
 pub(super) fn ping_pong<R: Threads + Wait + Clone + Send + 'static>(
-    handle: &mut Handle<Count, R>,
-) -> Result<Count, Stop> {
+    handle: &mut Handle<u64, R>,
+    counter: &Counter,
+) -> Result<u64, Stop> {
     handle.stop_exploring()?;
     let atomic = handle.atomic(0usize)?;
-    let child = handle.spawn_job(Ponger { atomic })?;
+    let child = start(handle, Task::Pong(atomic), counter)?;
     ping(handle, &atomic)?;
     handle.join(&child)
 }
 
 /// Stores 1, waits for 2, and stores 3.
-fn ping<R: Wait>(handle: &mut Handle<Count, R>, atomic: &AtomicUsize) -> Result<(), Stop> {
+fn ping<R: Wait>(handle: &mut Handle<u64, R>, atomic: &AtomicUsize) -> Result<(), Stop> {
     handle.store(atomic, 1, Release)?;
     await_value(handle, atomic, 2)?;
     handle.store(atomic, 3, Release)

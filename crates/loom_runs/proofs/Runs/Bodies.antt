@@ -3,11 +3,11 @@ use Rattle.std.proofs.Common.{ℕ, zero, suc, List, Option, Some, None}
 use Rattle.std.specs.Prelude.{slice_get}
 use Rattle.loom_view_parts.specs.declared.rt.failure.FailureKind.{FailureKind}
 use Rattle.loom_view_parts.specs.declared.rt.failure.FailureKind.TheVariants.{Misuse, TooManySteps}
-use Rattle.loom_objects.specs.declared.operation.Reply.{Reply}
-use Rattle.loom_objects.specs.declared.operation.Turn.{Turn}
-use Rattle.loom_objects.specs.declared.operation.Turn.TheVariants as turn
-use Rattle.loom_objects.specs.Operation.{plain}
-use Rattle.loom_objects.specs.Tree.{Tree, Gives, ◌>>=◌, found}
+use Rattle.loom_operations.specs.declared.operation.Reply.{Reply}
+use Rattle.loom_operations.specs.declared.operation.Turn.{Turn}
+use Rattle.loom_operations.specs.declared.operation.Turn.TheVariants as turn
+use Rattle.loom_operations.specs.Operation.{plain}
+use Rattle.loom_operations.specs.Tree.{Tree, Gives, ◌>>=◌, found}
 use Rattle.loom_runs.specs.Courses.{Course}
 use Rattle.loom_runs.specs.Machine.{submit}
 use Rattle.loom_runs.specs.Runs.{Meaning, at_turn, play}

@@ -6,7 +6,7 @@ use Rattle.loom_view_parts.specs.declared.rt.failure.FailureKind.TheVariants.{To
 use Rattle.loom_dependence.specs.Dependence.{Order, used_by}
 use Rattle.loom_dependence.specs.declared.rt.dependence.Use.{Use}
 use Rattle.loom_parts.specs.declared.choice.Choice.TheVariants.{Thread}
-use Rattle.loom_objects.specs.Tree.{Tree, Gives, Fails, Closes, Asks, ◌>>=◌, came}
+use Rattle.loom_operations.specs.Tree.{Tree, Gives, Fails, Closes, Asks, ◌>>=◌, came}
 use Rattle.loom_objects.specs.Uses.{use_at}
 use Rattle.loom_objects.specs.World.{World}
 use Rattle.loom_runs.specs.Courses.{Course, accesses, carried, one_passed, used_in, with_order}

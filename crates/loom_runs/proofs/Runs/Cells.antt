@@ -4,8 +4,8 @@ use Rattle.std.specs.Prelude.{◌==◌, ◌-◌, ◌^◌, true, false, nat_lt, i
 use Rattle.loom_view_parts.specs.declared.rt.failure.FailureKind.{FailureKind}
 use Rattle.loom_view_parts.specs.declared.rt.failure.FailureKind.TheVariants.{Misuse, NotDeterministic, OpenAccess, TooManySteps}
 use Rattle.loom_views.specs.Table.{Points, points_after_read, points_after_write}
-use Rattle.loom_objects.specs.declared.operation.CellOp.{CellOp}
-use Rattle.loom_objects.specs.declared.operation.CellOp.TheVariants as cell_op
+use Rattle.loom_operations.specs.declared.operation.CellOp.{CellOp}
+use Rattle.loom_operations.specs.declared.operation.CellOp.TheVariants as cell_op
 use Rattle.loom_objects.specs.declared.rt.object.Object.TheVariants as object
 use Rattle.loom_objects.specs.declared.rt.sync.Cell.{Cell}
 use Rattle.loom_objects.specs.Cells.{cell_begins, cell_deref, cell_get, cell_into_inner, cell_read, cell_read_end, cell_replace, cell_write, cell_write_end, data_left, exchanges_cells, holding, is_free as is_free_cell, is_unread, opens_write, reads_open, records_read, records_write, swap_if}

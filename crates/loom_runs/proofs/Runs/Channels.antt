@@ -3,9 +3,9 @@ use Rattle.std.proofs.Common.{ℕ, Bool, List, [], ◌∷◌, ◌++◌, refl}
 use Rattle.std.specs.Prelude.{◌==◌, ◌&&◌, true, false, length, nat_lt}
 use Rattle.loom_view_parts.specs.declared.rt.failure.FailureKind.TheVariants.{Misuse, TooManySteps}
 use Rattle.loom_view_parts.specs.Limits.{highest_count}
-use Rattle.loom_objects.specs.declared.operation.ChannelOp.{ChannelOp}
-use Rattle.loom_objects.specs.declared.operation.ChannelOp.TheVariants as channel_op
-use Rattle.loom_objects.specs.declared.operation.Message.{Message}
+use Rattle.loom_operations.specs.declared.operation.ChannelOp.{ChannelOp}
+use Rattle.loom_operations.specs.declared.operation.ChannelOp.TheVariants as channel_op
+use Rattle.loom_operations.specs.declared.operation.Message.{Message}
 use Rattle.loom_objects.specs.declared.rt.sync.Channel.{Channel}
 use Rattle.loom_objects.specs.declared.rt.thread.Receiving.{Receiving}
 use Rattle.loom_objects.specs.declared.rt.thread.Receiving.TheVariants as receiving

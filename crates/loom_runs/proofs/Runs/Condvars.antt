@@ -2,8 +2,8 @@
 use Rattle.std.proofs.Common.{◌≡◌, ℕ, List, [], ◌∷◌, ◌++◌, length, Option, Some, None, refl, subst, sym, ap, eqb-true}
 use Rattle.std.specs.Prelude.{true, false, nat_lt}
 use Rattle.loom_view_parts.specs.declared.rt.failure.FailureKind.TheVariants.{Misuse}
-use Rattle.loom_objects.specs.declared.operation.CondvarOp.{CondvarOp}
-use Rattle.loom_objects.specs.declared.operation.CondvarOp.TheVariants as condvar_op
+use Rattle.loom_operations.specs.declared.operation.CondvarOp.{CondvarOp}
+use Rattle.loom_operations.specs.declared.operation.CondvarOp.TheVariants as condvar_op
 use Rattle.loom_objects.specs.declared.rt.thread.Locking.{Locking}
 use Rattle.loom_objects.specs.declared.rt.thread.Locking.TheVariants.{Untimed, Timed}
 use Rattle.loom_objects.specs.declared.rt.thread.Task.TheVariants as task

@@ -2,8 +2,8 @@
 use Rattle.std.proofs.Common.{◌≡◌, ℕ, Bool, Option, Some, None, refl}
 use Rattle.std.specs.Prelude.{◌==◌, ◌-◌, ◌^◌, true, false, nat_lt, Ok, Err}
 use Rattle.loom_view_parts.specs.declared.rt.failure.FailureKind.TheVariants.{Misuse, TooManySteps}
-use Rattle.loom_objects.specs.declared.operation.ArcOp.{ArcOp}
-use Rattle.loom_objects.specs.declared.operation.ArcOp.TheVariants as arc_op
+use Rattle.loom_operations.specs.declared.operation.ArcOp.{ArcOp}
+use Rattle.loom_operations.specs.declared.operation.ArcOp.TheVariants as arc_op
 use Rattle.loom_objects.specs.declared.rt.sync.Arc.{Arc}
 use Rattle.loom_objects.specs.declared.rt.thread.Counting.{Counting}
 use Rattle.loom_objects.specs.declared.rt.thread.Counting.TheVariants as counting

@@ -5,12 +5,12 @@ use Rattle.loom_parts.specs.declared.ability.Ability.{Ability}
 use Rattle.loom_parts.specs.declared.ability.Ability.TheVariants.{Able, Yielding, Unable}
 use Rattle.loom_parts.specs.declared.choice.Choice.{Choice}
 use Rattle.loom_parts.specs.declared.choice.Choice.TheVariants.{Thread, Load, Spurious}
-use Rattle.loom_objects.specs.declared.rt.thread.Offers.{Offers}
-use Rattle.loom_objects.specs.Question.{Among, made_of, IsSound, able_threads, thread_options, slots_from}
+use Rattle.loom_operations.specs.declared.offers.Offers.{Offers}
+use Rattle.loom_operations.specs.Question.{Among, made_of, IsSound, able_threads, thread_options, slots_from}
 use Rattle.loom_objects.specs.Schedules.{ability_in, offers, standings, with_able}
 use Rattle.loom_objects.specs.World.{World}
 use Rattle.loom_objects.proofs.Offering.{offers_sound}
-use Rattle.loom_objects.specs.Asked.{which_thread, whether_spurious}
+use Rattle.loom_operations.specs.Asked.{which_thread, whether_spurious}
 use Rattle.loom_runs.proofs.Asking.{which_is_sound}
 
 pub set_length : {A : Type 0} (xs : List A) (k : ℕ) (a : A) → length (slice_set xs k a) ≡ length xs

@@ -5,12 +5,12 @@ use Rattle.loom_view_parts.specs.declared.rt.failure.FailureKind.{FailureKind}
 use Rattle.loom_view_parts.specs.declared.rt.failure.FailureKind.TheVariants.{NotDeterministic}
 use Rattle.loom_parts.specs.declared.choice.Choice.{Choice}
 use Rattle.loom_parts.specs.declared.choice.Choice.TheVariants.{Thread}
-use Rattle.loom_objects.specs.declared.operation.Turn.{Turn}
-use Rattle.loom_objects.specs.declared.operation.Turn.TheVariants.{Reply, Start, Ended}
+use Rattle.loom_operations.specs.declared.operation.Turn.{Turn}
+use Rattle.loom_operations.specs.declared.operation.Turn.TheVariants.{Reply, Start, Ended}
 use Rattle.loom_objects.specs.declared.rt.run.Passed.{Passed}
 use Rattle.loom_objects.specs.declared.rt.run.Passed.TheVariants as passed
-use Rattle.loom_objects.specs.Question.{Question, Among, made_of, IsSound}
-use Rattle.loom_objects.specs.Tree.{Tree, Gives, Fails, Closes, Asks, ◌>>=◌, check, found}
+use Rattle.loom_operations.specs.Question.{Question, Among, made_of, IsSound}
+use Rattle.loom_operations.specs.Tree.{Tree, Gives, Fails, Closes, Asks, ◌>>=◌, check, found}
 use Rattle.loom_walks.specs.Trees.Sound.{IsClosing, IsQuiet, IsFair, EndsUnchosen}
 use Rattle.loom_walks.proofs.Trees.Machines.{sound_default}
 use Rattle.loom_runs.specs.Trees.{IsRunTree}

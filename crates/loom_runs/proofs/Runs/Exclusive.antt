@@ -4,9 +4,9 @@ use Rattle.std.specs.Prelude.{slice_get, Result, Ok, Err, ⊤}
 use Rattle.loom_view_parts.specs.declared.rt.failure.FailureKind.{FailureKind}
 use Rattle.loom_parts.specs.declared.choice.Choice.{Choice}
 use Rattle.loom_parts.specs.declared.choice.Choice.TheVariants as choice
-use Rattle.loom_objects.specs.declared.operation.Request.{Request}
-use Rattle.loom_objects.specs.declared.operation.Reply.{Reply}
-use Rattle.loom_objects.specs.declared.operation.Turn.{Turn}
+use Rattle.loom_operations.specs.declared.operation.Request.{Request}
+use Rattle.loom_operations.specs.declared.operation.Reply.{Reply}
+use Rattle.loom_operations.specs.declared.operation.Turn.{Turn}
 use Rattle.loom_objects.specs.declared.rt.run.Entry.{Entry}
 use Rattle.loom_objects.specs.declared.rt.run.Entry.TheVariants.{Answered, AtBranch, Explores, Spurious as AtSpurious}
 use Rattle.loom_objects.specs.declared.rt.run.Loading.{Loading}
@@ -17,18 +17,18 @@ use Rattle.loom_objects.specs.declared.rt.run.Resumed.TheVariants as resumed
 use Rattle.loom_objects.specs.Atomics.{reads}
 use Rattle.loom_objects.specs.Effects.{chosen, counted}
 use Rattle.loom_objects.specs.Ending.{all_ended, end_of}
-use Rattle.loom_objects.specs.Exploring.{is_on, switched}
+use Rattle.loom_operations.specs.Exploring.{is_on, switched}
 use Rattle.loom_objects.specs.Notifiers.{enters_wait as entered}
-use Rattle.loom_objects.specs.Question.{slots}
+use Rattle.loom_operations.specs.Question.{slots}
 use Rattle.loom_objects.specs.Steps.{asked, asks_slot, begins, ends, enters_wait, read_slot, resumes, slot_of, told, turned}
-use Rattle.loom_objects.specs.Tree.{Tree, ◌>>=◌, came}
+use Rattle.loom_operations.specs.Tree.{Tree, ◌>>=◌, came}
 use Rattle.loom_objects.specs.World.{World, main_thread}
 use Rattle.loom_runs.specs.Courses.{Course, carried, grown_from, one_passed, opening}
 use Rattle.loom_runs.specs.Histories.{IsReached, at_first, later, LocksLaw, returned_by, opened_by}
 use Rattle.loom_runs.specs.Machine.{chooses, closes as closes_run, further, further_branches, goes_by, goes_on, passes, schedule, submit, waits}
 use Rattle.loom_runs.proofs.Runs.Keeping.{Keeps, gives, fails, closes, asks as questions, kept_value, then_keeps, check_keeps, all_exclusive}
 use Rattle.loom_runs.proofs.Runs.Tables.{Choosing, Ending, chosen_choosing, counted_entering, counted_opening, end_ending}
-use Rattle.loom_objects.specs.declared.operation.Turn.TheVariants as turn
+use Rattle.loom_operations.specs.declared.operation.Turn.TheVariants as turn
 use Rattle.loom_runs.proofs.Runs.Atomics.{reads_keeping}
 use Rattle.loom_runs.proofs.Runs.Events.{Anything}
 use Rattle.loom_runs.proofs.Runs.Carrying.{InWorld, accesses_keeps, carried_keeps}

@@ -6,16 +6,16 @@ use Rattle.loom_view_parts.specs.declared.rt.failure.FailureKind.TheVariants.{De
 use Rattle.loom_dependence.specs.Dependence.{Order}
 use Rattle.loom_parts.specs.declared.choice.Choice.{Choice}
 use Rattle.loom_parts.specs.declared.choice.Choice.TheVariants as choice
-use Rattle.loom_objects.specs.declared.operation.CondvarOp.{CondvarOp}
-use Rattle.loom_objects.specs.declared.operation.CondvarOp.TheVariants as condvar_op
-use Rattle.loom_objects.specs.declared.operation.MutexOp.{MutexOp}
-use Rattle.loom_objects.specs.declared.operation.MutexOp.TheVariants as mutex_op
-use Rattle.loom_objects.specs.declared.operation.Request.{Request}
-use Rattle.loom_objects.specs.declared.operation.Request.TheVariants as op
-use Rattle.loom_objects.specs.declared.operation.Reply.{Reply}
-use Rattle.loom_objects.specs.declared.operation.Turn.{Turn}
-use Rattle.loom_objects.specs.declared.operation.Turn.TheVariants as turn
-use Rattle.loom_objects.specs.declared.rt.exploring.Exploring.TheVariants.{On}
+use Rattle.loom_operations.specs.declared.operation.CondvarOp.{CondvarOp}
+use Rattle.loom_operations.specs.declared.operation.CondvarOp.TheVariants as condvar_op
+use Rattle.loom_operations.specs.declared.operation.MutexOp.{MutexOp}
+use Rattle.loom_operations.specs.declared.operation.MutexOp.TheVariants as mutex_op
+use Rattle.loom_operations.specs.declared.operation.Request.{Request}
+use Rattle.loom_operations.specs.declared.operation.Request.TheVariants as op
+use Rattle.loom_operations.specs.declared.operation.Reply.{Reply}
+use Rattle.loom_operations.specs.declared.operation.Turn.{Turn}
+use Rattle.loom_operations.specs.declared.operation.Turn.TheVariants as turn
+use Rattle.loom_operations.specs.declared.exploring.Exploring.TheVariants.{On}
 use Rattle.loom_objects.specs.declared.rt.run.Entry.{Entry}
 use Rattle.loom_objects.specs.declared.rt.run.Entry.TheVariants as entry
 use Rattle.loom_objects.specs.declared.rt.run.Loading.{Loading}
@@ -29,15 +29,15 @@ use Rattle.loom_objects.specs.Atomics.{reads}
 use Rattle.loom_objects.specs.Condvars.{condvar_begins, wait_begins}
 use Rattle.loom_objects.specs.Effects.{chosen, counted, op_begins}
 use Rattle.loom_objects.specs.Ending.{all_ended}
-use Rattle.loom_objects.specs.Exploring.{is_on}
+use Rattle.loom_operations.specs.Exploring.{is_on}
 use Rattle.loom_objects.specs.Locks.{free_value, frees, mutex_begins}
 use Rattle.loom_objects.specs.Moves.{a_condvar, a_mutex, is_number}
 use Rattle.loom_objects.specs.Notifiers.{enters_wait as entered}
-use Rattle.loom_objects.specs.Operation.{plain, plain_request}
-use Rattle.loom_objects.specs.Question.{Question, made_of, slots}
+use Rattle.loom_operations.specs.Operation.{plain, plain_request}
+use Rattle.loom_operations.specs.Question.{Question, made_of, slots}
 use Rattle.loom_objects.specs.Rule.{◌>>=◌ as ◌=>>◌, check as checks, found as finds}
 use Rattle.loom_objects.specs.Steps.{asked, asks_slot, begins, ends, enters_wait, read_slot, resumes, slot_of, told, turned}
-use Rattle.loom_objects.specs.Tree.{Tree, Gives, Fails, Closes, Asks, ◌>>=◌, came, check, found}
+use Rattle.loom_operations.specs.Tree.{Tree, Gives, Fails, Closes, Asks, ◌>>=◌, came, check, found}
 use Rattle.loom_objects.specs.Uses.{use_at}
 use Rattle.loom_objects.specs.World.{World}
 use Rattle.loom_walks.specs.Trees.Sound.{ExploresTree}

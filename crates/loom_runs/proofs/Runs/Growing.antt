@@ -7,37 +7,37 @@ use Rattle.loom_view_parts.specs.declared.rt.failure.FailureKind.TheVariants.{Mi
 use Rattle.loom_view_parts.specs.Changes.{fit}
 use Rattle.loom_view_parts.specs.Limits.{highest_count}
 use Rattle.loom_views.specs.Table.{Points, points_after_raise, points_after_read, points_after_unsync_load, points_after_with_mut, points_after_with_mut_end, points_after_write}
-use Rattle.loom_objects.specs.declared.operation.ArcOp.{ArcOp}
-use Rattle.loom_objects.specs.declared.operation.ArcOp.TheVariants as arc_op
-use Rattle.loom_objects.specs.declared.operation.AtomicOp.{AtomicOp}
-use Rattle.loom_objects.specs.declared.operation.AtomicOp.TheVariants as atomic_op
-use Rattle.loom_objects.specs.declared.operation.AtomicWakerOp.{AtomicWakerOp}
-use Rattle.loom_objects.specs.declared.operation.AtomicWakerOp.TheVariants as place_op
-use Rattle.loom_objects.specs.declared.operation.CellOp.{CellOp}
-use Rattle.loom_objects.specs.declared.operation.CellOp.TheVariants as cell_op
-use Rattle.loom_objects.specs.declared.operation.ChannelOp.{ChannelOp}
-use Rattle.loom_objects.specs.declared.operation.ChannelOp.TheVariants as channel_op
-use Rattle.loom_objects.specs.declared.operation.CondvarOp.{CondvarOp}
-use Rattle.loom_objects.specs.declared.operation.CondvarOp.TheVariants as condvar_op
-use Rattle.loom_objects.specs.declared.operation.Keyed.{Keyed}
-use Rattle.loom_objects.specs.declared.operation.LazyOp.{LazyOp}
-use Rattle.loom_objects.specs.declared.operation.LazyOp.TheVariants as lazy_op
-use Rattle.loom_objects.specs.declared.operation.LocalOp.{LocalOp}
-use Rattle.loom_objects.specs.declared.operation.LocalOp.TheVariants as local_op
-use Rattle.loom_objects.specs.declared.operation.MutexOp.{MutexOp}
-use Rattle.loom_objects.specs.declared.operation.MutexOp.TheVariants as mutex_op
-use Rattle.loom_objects.specs.declared.operation.NotifyOp.{NotifyOp}
-use Rattle.loom_objects.specs.declared.operation.NotifyOp.TheVariants as notify_op
-use Rattle.loom_objects.specs.declared.operation.Request.{Request}
-use Rattle.loom_objects.specs.declared.operation.Request.TheVariants as op
-use Rattle.loom_objects.specs.declared.operation.RwLockOp.{RwLockOp}
-use Rattle.loom_objects.specs.declared.operation.RwLockOp.TheVariants as lock_op
-use Rattle.loom_objects.specs.declared.operation.ThreadOp.{ThreadOp}
-use Rattle.loom_objects.specs.declared.operation.ThreadOp.TheVariants as thread_op
-use Rattle.loom_objects.specs.declared.operation.TrackOp.{TrackOp}
-use Rattle.loom_objects.specs.declared.operation.TrackOp.TheVariants as track_op
-use Rattle.loom_objects.specs.declared.operation.WakerOp.{WakerOp}
-use Rattle.loom_objects.specs.declared.operation.WakerOp.TheVariants as waker_op
+use Rattle.loom_operations.specs.declared.operation.ArcOp.{ArcOp}
+use Rattle.loom_operations.specs.declared.operation.ArcOp.TheVariants as arc_op
+use Rattle.loom_operations.specs.declared.operation.AtomicOp.{AtomicOp}
+use Rattle.loom_operations.specs.declared.operation.AtomicOp.TheVariants as atomic_op
+use Rattle.loom_operations.specs.declared.operation.AtomicWakerOp.{AtomicWakerOp}
+use Rattle.loom_operations.specs.declared.operation.AtomicWakerOp.TheVariants as place_op
+use Rattle.loom_operations.specs.declared.operation.CellOp.{CellOp}
+use Rattle.loom_operations.specs.declared.operation.CellOp.TheVariants as cell_op
+use Rattle.loom_operations.specs.declared.operation.ChannelOp.{ChannelOp}
+use Rattle.loom_operations.specs.declared.operation.ChannelOp.TheVariants as channel_op
+use Rattle.loom_operations.specs.declared.operation.CondvarOp.{CondvarOp}
+use Rattle.loom_operations.specs.declared.operation.CondvarOp.TheVariants as condvar_op
+use Rattle.loom_operations.specs.declared.operation.Keyed.{Keyed}
+use Rattle.loom_operations.specs.declared.operation.LazyOp.{LazyOp}
+use Rattle.loom_operations.specs.declared.operation.LazyOp.TheVariants as lazy_op
+use Rattle.loom_operations.specs.declared.operation.LocalOp.{LocalOp}
+use Rattle.loom_operations.specs.declared.operation.LocalOp.TheVariants as local_op
+use Rattle.loom_operations.specs.declared.operation.MutexOp.{MutexOp}
+use Rattle.loom_operations.specs.declared.operation.MutexOp.TheVariants as mutex_op
+use Rattle.loom_operations.specs.declared.operation.NotifyOp.{NotifyOp}
+use Rattle.loom_operations.specs.declared.operation.NotifyOp.TheVariants as notify_op
+use Rattle.loom_operations.specs.declared.operation.Request.{Request}
+use Rattle.loom_operations.specs.declared.operation.Request.TheVariants as op
+use Rattle.loom_operations.specs.declared.operation.RwLockOp.{RwLockOp}
+use Rattle.loom_operations.specs.declared.operation.RwLockOp.TheVariants as lock_op
+use Rattle.loom_operations.specs.declared.operation.ThreadOp.{ThreadOp}
+use Rattle.loom_operations.specs.declared.operation.ThreadOp.TheVariants as thread_op
+use Rattle.loom_operations.specs.declared.operation.TrackOp.{TrackOp}
+use Rattle.loom_operations.specs.declared.operation.TrackOp.TheVariants as track_op
+use Rattle.loom_operations.specs.declared.operation.WakerOp.{WakerOp}
+use Rattle.loom_operations.specs.declared.operation.WakerOp.TheVariants as waker_op
 use Rattle.loom_objects.specs.declared.rt.object.Object.{Object}
 use Rattle.loom_objects.specs.declared.rt.object.Object.TheVariants as object
 use Rattle.loom_objects.specs.declared.rt.run.Entry.{Entry}
@@ -70,7 +70,7 @@ use Rattle.loom_objects.specs.Lent.{handed_back, value_in}
 use Rattle.loom_objects.specs.Locks.{free_value, frees, mutex_begins, needs_memory as mutex_needs_memory}
 use Rattle.loom_objects.specs.Moves.{a_cell, a_condvar, a_mutex, a_notifier, a_place, a_rwlock, a_track, active_thread, an_arc, an_atomic, at_phase, changed_at, changes_active, is_number, unparks, with_object, with_points, with_thread, yields}
 use Rattle.loom_objects.specs.Notifiers.{comes_to_wait, is_alone, is_for_waits, may_be_spurious, notifier_begins, needs_memory as notifier_needs_memory}
-use Rattle.loom_objects.specs.Accessed.{accessed}
+use Rattle.loom_operations.specs.Accessed.{accessed}
 use Rattle.loom_objects.specs.Rule.{◌>>=◌, check, found}
 use Rattle.loom_objects.specs.RwLocks.{claim_begins, guards_of, is_unread as is_unread_lock, rwlock_begins, unlocked_value, wakes_if, with_one_fewer, needs_memory as rwlock_needs_memory}
 use Rattle.loom_objects.specs.Threads.{finish_as, has_own, is_exited, is_finished, parks_unless, thread_begins, needs_memory as thread_needs_memory}

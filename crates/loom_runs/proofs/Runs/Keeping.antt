@@ -8,9 +8,9 @@ use Rattle.loom_objects.specs.declared.rt.object.Object.{Object}
 use Rattle.loom_objects.specs.declared.rt.object.Object.TheVariants as object
 use Rattle.loom_objects.specs.declared.rt.sync.Mutex.{Mutex}
 use Rattle.loom_objects.specs.declared.rt.sync.RwLock.{RwLock}
-use Rattle.loom_objects.specs.Question.{Question}
+use Rattle.loom_operations.specs.Question.{Question}
 use Rattle.loom_objects.specs.RwLocks.{is_unread}
-use Rattle.loom_objects.specs.Tree.{Tree, Gives, Fails, Closes, Asks, ◌>>=◌, check, found}
+use Rattle.loom_operations.specs.Tree.{Tree, Gives, Fails, Closes, Asks, ◌>>=◌, check, found}
 use Rattle.loom_runs.specs.Histories.{ComesTo, is_exclusive}
 
 -- ---- trees

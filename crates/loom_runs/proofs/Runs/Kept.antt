@@ -2,7 +2,7 @@
 use Rattle.std.proofs.Common.{◌≡◌, ℕ, zero, suc, Bool, true, false, List, [], ◌∷◌, ◌++◌, map, Option, Some, None, refl}
 use Rattle.std.specs.Prelude.{cond, is_some, slice_get, slice_set}
 use Rattle.loom_views.specs.Table.{Points}
-use Rattle.loom_objects.specs.declared.operation.Message.{Message}
+use Rattle.loom_operations.specs.declared.operation.Message.{Message}
 use Rattle.loom_objects.specs.declared.rt.object.Object.{Object}
 use Rattle.loom_objects.specs.declared.rt.object.Object.TheVariants as object
 use Rattle.loom_objects.specs.declared.rt.thread.State.{State}

@@ -6,18 +6,18 @@ use Rattle.std.specs.List.{find}
 use Rattle.loom_view_parts.specs.Limits.{highest_count}
 use Rattle.loom_view_parts.specs.declared.rt.failure.FailureKind.{FailureKind}
 use Rattle.loom_view_parts.specs.declared.rt.failure.FailureKind.TheVariants.{LazyShutdown, Misuse, TooManySteps}
-use Rattle.loom_objects.specs.declared.operation.ChannelOp.{ChannelOp}
-use Rattle.loom_objects.specs.declared.operation.ChannelOp.TheVariants as channel_op
-use Rattle.loom_objects.specs.declared.operation.Lazy.{Lazy}
-use Rattle.loom_objects.specs.declared.operation.LazyOp.{LazyOp}
-use Rattle.loom_objects.specs.declared.operation.LazyOp.TheVariants as lazy_op
-use Rattle.loom_objects.specs.declared.operation.Message.{Message}
-use Rattle.loom_objects.specs.declared.operation.Request.{Request}
-use Rattle.loom_objects.specs.declared.operation.Request.TheVariants as op
-use Rattle.loom_objects.specs.declared.operation.Reply.{Reply}
-use Rattle.loom_objects.specs.declared.operation.Reply.TheVariants as reply
-use Rattle.loom_objects.specs.declared.operation.Turn.{Turn}
-use Rattle.loom_objects.specs.declared.operation.Turn.TheVariants as turn
+use Rattle.loom_operations.specs.declared.operation.ChannelOp.{ChannelOp}
+use Rattle.loom_operations.specs.declared.operation.ChannelOp.TheVariants as channel_op
+use Rattle.loom_operations.specs.declared.operation.Lazy.{Lazy}
+use Rattle.loom_operations.specs.declared.operation.LazyOp.{LazyOp}
+use Rattle.loom_operations.specs.declared.operation.LazyOp.TheVariants as lazy_op
+use Rattle.loom_operations.specs.declared.operation.Message.{Message}
+use Rattle.loom_operations.specs.declared.operation.Request.{Request}
+use Rattle.loom_operations.specs.declared.operation.Request.TheVariants as op
+use Rattle.loom_operations.specs.declared.operation.Reply.{Reply}
+use Rattle.loom_operations.specs.declared.operation.Reply.TheVariants as reply
+use Rattle.loom_operations.specs.declared.operation.Turn.{Turn}
+use Rattle.loom_operations.specs.declared.operation.Turn.TheVariants as turn
 use Rattle.loom_objects.specs.declared.rt.run.Entry.{Entry}
 use Rattle.loom_objects.specs.declared.rt.run.Entry.TheVariants as entry
 use Rattle.loom_objects.specs.declared.rt.run.Passed.TheVariants as passed

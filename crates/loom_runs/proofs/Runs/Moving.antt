@@ -11,38 +11,38 @@ use Rattle.loom_view_parts.specs.declared.rt.reader.Reader.{Reader}
 use Rattle.loom_view_parts.specs.declared.rt.reader.Reader.TheVariants as reader
 use Rattle.loom_view_parts.specs.declared.rt.failure.FailureKind.{FailureKind}
 use Rattle.loom_view_parts.specs.declared.rt.failure.FailureKind.TheVariants.{KeyTaken, Misuse, OpenAccess, RelaxedFence, SecondWaiter, TooManySteps, TooManyThreads}
-use Rattle.loom_objects.specs.declared.operation.ArcOp.{ArcOp}
-use Rattle.loom_objects.specs.declared.operation.ArcOp.TheVariants as arc_op
-use Rattle.loom_objects.specs.declared.operation.AtomicOp.{AtomicOp}
-use Rattle.loom_objects.specs.declared.operation.AtomicOp.TheVariants as atomic_op
-use Rattle.loom_objects.specs.declared.operation.AtomicWakerOp.{AtomicWakerOp}
-use Rattle.loom_objects.specs.declared.operation.AtomicWakerOp.TheVariants as place_op
-use Rattle.loom_objects.specs.declared.operation.CellOp.{CellOp}
-use Rattle.loom_objects.specs.declared.operation.CellOp.TheVariants as cell_op
-use Rattle.loom_objects.specs.declared.operation.ChannelOp.{ChannelOp}
-use Rattle.loom_objects.specs.declared.operation.CondvarOp.{CondvarOp}
-use Rattle.loom_objects.specs.declared.operation.CondvarOp.TheVariants as condvar_op
-use Rattle.loom_objects.specs.declared.operation.Exchange.{Exchange}
-use Rattle.loom_objects.specs.declared.operation.Keyed.{Keyed}
-use Rattle.loom_objects.specs.declared.operation.LazyOp.{LazyOp}
-use Rattle.loom_objects.specs.declared.operation.LocalOp.{LocalOp}
-use Rattle.loom_objects.specs.declared.operation.LocalOp.TheVariants as local_op
-use Rattle.loom_objects.specs.declared.operation.Message.{Message}
-use Rattle.loom_objects.specs.declared.operation.MutexOp.{MutexOp}
-use Rattle.loom_objects.specs.declared.operation.MutexOp.TheVariants as mutex_op
-use Rattle.loom_objects.specs.declared.operation.NotifyOp.{NotifyOp}
-use Rattle.loom_objects.specs.declared.operation.NotifyOp.TheVariants as notify_op
-use Rattle.loom_objects.specs.declared.operation.Request.{Request}
-use Rattle.loom_objects.specs.declared.operation.Request.TheVariants as op
-use Rattle.loom_objects.specs.declared.operation.Reply.{Reply}
-use Rattle.loom_objects.specs.declared.operation.RwLockOp.{RwLockOp}
-use Rattle.loom_objects.specs.declared.operation.RwLockOp.TheVariants as lock_op
-use Rattle.loom_objects.specs.declared.operation.ThreadOp.{ThreadOp}
-use Rattle.loom_objects.specs.declared.operation.ThreadOp.TheVariants as thread_op
-use Rattle.loom_objects.specs.declared.operation.TrackOp.{TrackOp}
-use Rattle.loom_objects.specs.declared.operation.TrackOp.TheVariants as track_op
-use Rattle.loom_objects.specs.declared.operation.WakerOp.{WakerOp}
-use Rattle.loom_objects.specs.declared.operation.WakerOp.TheVariants as waker_op
+use Rattle.loom_operations.specs.declared.operation.ArcOp.{ArcOp}
+use Rattle.loom_operations.specs.declared.operation.ArcOp.TheVariants as arc_op
+use Rattle.loom_operations.specs.declared.operation.AtomicOp.{AtomicOp}
+use Rattle.loom_operations.specs.declared.operation.AtomicOp.TheVariants as atomic_op
+use Rattle.loom_operations.specs.declared.operation.AtomicWakerOp.{AtomicWakerOp}
+use Rattle.loom_operations.specs.declared.operation.AtomicWakerOp.TheVariants as place_op
+use Rattle.loom_operations.specs.declared.operation.CellOp.{CellOp}
+use Rattle.loom_operations.specs.declared.operation.CellOp.TheVariants as cell_op
+use Rattle.loom_operations.specs.declared.operation.ChannelOp.{ChannelOp}
+use Rattle.loom_operations.specs.declared.operation.CondvarOp.{CondvarOp}
+use Rattle.loom_operations.specs.declared.operation.CondvarOp.TheVariants as condvar_op
+use Rattle.loom_operations.specs.declared.operation.Exchange.{Exchange}
+use Rattle.loom_operations.specs.declared.operation.Keyed.{Keyed}
+use Rattle.loom_operations.specs.declared.operation.LazyOp.{LazyOp}
+use Rattle.loom_operations.specs.declared.operation.LocalOp.{LocalOp}
+use Rattle.loom_operations.specs.declared.operation.LocalOp.TheVariants as local_op
+use Rattle.loom_operations.specs.declared.operation.Message.{Message}
+use Rattle.loom_operations.specs.declared.operation.MutexOp.{MutexOp}
+use Rattle.loom_operations.specs.declared.operation.MutexOp.TheVariants as mutex_op
+use Rattle.loom_operations.specs.declared.operation.NotifyOp.{NotifyOp}
+use Rattle.loom_operations.specs.declared.operation.NotifyOp.TheVariants as notify_op
+use Rattle.loom_operations.specs.declared.operation.Request.{Request}
+use Rattle.loom_operations.specs.declared.operation.Request.TheVariants as op
+use Rattle.loom_operations.specs.declared.operation.Reply.{Reply}
+use Rattle.loom_operations.specs.declared.operation.RwLockOp.{RwLockOp}
+use Rattle.loom_operations.specs.declared.operation.RwLockOp.TheVariants as lock_op
+use Rattle.loom_operations.specs.declared.operation.ThreadOp.{ThreadOp}
+use Rattle.loom_operations.specs.declared.operation.ThreadOp.TheVariants as thread_op
+use Rattle.loom_operations.specs.declared.operation.TrackOp.{TrackOp}
+use Rattle.loom_operations.specs.declared.operation.TrackOp.TheVariants as track_op
+use Rattle.loom_operations.specs.declared.operation.WakerOp.{WakerOp}
+use Rattle.loom_operations.specs.declared.operation.WakerOp.TheVariants as waker_op
 use Rattle.loom_objects.specs.declared.rt.object.Object.{Object}
 use Rattle.loom_objects.specs.declared.rt.object.Object.TheVariants as object
 use Rattle.loom_objects.specs.declared.rt.run.Entry.{Entry}
@@ -64,7 +64,7 @@ use Rattle.loom_objects.specs.declared.rt.thread.Counting.{Counting}
 use Rattle.loom_objects.specs.declared.rt.thread.Counting.TheVariants as counting
 use Rattle.loom_objects.specs.declared.rt.thread.Locking.{Locking}
 use Rattle.loom_objects.specs.declared.rt.thread.Locking.TheVariants.{Timed, Untimed}
-use Rattle.loom_objects.specs.declared.rt.thread.Name.{Name}
+use Rattle.loom_operations.specs.declared.operation.Name.{Name}
 use Rattle.loom_objects.specs.declared.rt.thread.Phase.TheVariants.{Exited, Over}
 use Rattle.loom_objects.specs.declared.rt.thread.Receiving.{Receiving}
 use Rattle.loom_objects.specs.declared.rt.thread.State.{State}
@@ -76,7 +76,7 @@ use Rattle.loom_objects.specs.declared.rt.thread.Task.TheVariants as task
 use Rattle.loom_objects.specs.declared.rt.thread.Thread.{Thread}
 use Rattle.loom_objects.specs.declared.rt.thread.Waking.{Waking}
 use Rattle.loom_objects.specs.declared.rt.thread.Waking.TheVariants.{All, One}
-use Rattle.loom_objects.specs.Accessed.{accessed}
+use Rattle.loom_operations.specs.Accessed.{accessed}
 use Rattle.loom_objects.specs.Atomics.{access_begins, accesses, atomic_begins, exchanges, exchanges_if, fence, is_relaxed, opens, reads, some_slot, store, swap_of, writes}
 use Rattle.loom_objects.specs.Cells.{cell_begins, data_left, exchanges_cells, is_free, is_unread, opens_write, reads_open, swap_if}
 use Rattle.loom_objects.specs.Channels.{channel_begins, drains, receives, sends}

@@ -2,8 +2,8 @@
 use Rattle.std.proofs.Common.{◌≡◌, ℕ, Bool, None, refl}
 use Rattle.std.specs.Prelude.{◌-◌, ◌^◌, true, false, not, slice_get, nat_lt}
 use Rattle.loom_view_parts.specs.declared.rt.failure.FailureKind.TheVariants.{Misuse, SecondWaiter, TooManySteps}
-use Rattle.loom_objects.specs.declared.operation.NotifyOp.{NotifyOp}
-use Rattle.loom_objects.specs.declared.operation.NotifyOp.TheVariants as notify_op
+use Rattle.loom_operations.specs.declared.operation.NotifyOp.{NotifyOp}
+use Rattle.loom_operations.specs.declared.operation.NotifyOp.TheVariants as notify_op
 use Rattle.loom_objects.specs.declared.rt.sync.Notify.{Notify}
 use Rattle.loom_objects.specs.declared.rt.sync.Spurious.TheVariants.{Waking as AboutToWake}
 use Rattle.loom_objects.specs.declared.rt.thread.Task.{Task}

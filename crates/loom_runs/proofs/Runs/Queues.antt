@@ -4,9 +4,9 @@ use Rattle.std.proofs.lemmas.Bool.{eq-eqb}
 use Rattle.std.specs.Prelude.{◌==◌, ◌⊎◌, ◌||◌, cond, is_some, nat_lt, slice_get, slice_set, Result, Ok}
 use Rattle.loom_view_parts.specs.declared.rt.failure.FailureKind.{FailureKind}
 use Rattle.loom_view_parts.specs.declared.rt.failure.FailureKind.TheVariants.{Misuse}
-use Rattle.loom_objects.specs.declared.operation.ChannelOp.{ChannelOp}
-use Rattle.loom_objects.specs.declared.operation.ChannelOp.TheVariants as channel_op
-use Rattle.loom_objects.specs.declared.operation.Message.{Message}
+use Rattle.loom_operations.specs.declared.operation.ChannelOp.{ChannelOp}
+use Rattle.loom_operations.specs.declared.operation.ChannelOp.TheVariants as channel_op
+use Rattle.loom_operations.specs.declared.operation.Message.{Message}
 use Rattle.loom_objects.specs.declared.rt.object.Object.{Object}
 use Rattle.loom_objects.specs.declared.rt.object.Object.TheVariants as object
 use Rattle.loom_objects.specs.declared.rt.sync.Channel.{Channel}

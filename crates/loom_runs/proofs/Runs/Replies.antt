@@ -4,35 +4,35 @@ use Rattle.std.specs.Prelude.{◌==◌, Result, Ok, Err, ⊤, is_none, length, n
 use Rattle.std.specs.declared.sync.atomic.Ordering.{Ordering}
 use Rattle.loom_view_parts.specs.declared.rt.failure.FailureKind.{FailureKind}
 use Rattle.loom_view_parts.specs.Changes.{fit, changed}
-use Rattle.loom_objects.specs.declared.operation.ArcOp.{ArcOp}
-use Rattle.loom_objects.specs.declared.operation.ArcOp.TheVariants as arc_op
-use Rattle.loom_objects.specs.declared.operation.AtomicOp.{AtomicOp}
-use Rattle.loom_objects.specs.declared.operation.AtomicOp.TheVariants as atomic_op
-use Rattle.loom_objects.specs.declared.operation.AtomicWakerOp.{AtomicWakerOp}
-use Rattle.loom_objects.specs.declared.operation.AtomicWakerOp.TheVariants as place_op
-use Rattle.loom_objects.specs.declared.operation.CellOp.{CellOp}
-use Rattle.loom_objects.specs.declared.operation.CellOp.TheVariants as cell_op
-use Rattle.loom_objects.specs.declared.operation.ChannelOp.{ChannelOp}
-use Rattle.loom_objects.specs.declared.operation.ChannelOp.TheVariants as channel_op
-use Rattle.loom_objects.specs.declared.operation.Keyed.{Keyed}
-use Rattle.loom_objects.specs.declared.operation.Lazy.{Lazy}
-use Rattle.loom_objects.specs.declared.operation.LazyOp.{LazyOp}
-use Rattle.loom_objects.specs.declared.operation.LazyOp.TheVariants as lazy_op
-use Rattle.loom_objects.specs.declared.operation.LocalOp.{LocalOp}
-use Rattle.loom_objects.specs.declared.operation.LocalOp.TheVariants as local_op
-use Rattle.loom_objects.specs.declared.operation.Message.{Message}
-use Rattle.loom_objects.specs.declared.operation.NotifyOp.{NotifyOp}
-use Rattle.loom_objects.specs.declared.operation.NotifyOp.TheVariants as notify_op
-use Rattle.loom_objects.specs.declared.operation.Reply.{Reply}
-use Rattle.loom_objects.specs.declared.operation.RwLockOp.{RwLockOp}
-use Rattle.loom_objects.specs.declared.operation.Turn.TheVariants as turn
-use Rattle.loom_objects.specs.declared.operation.RwLockOp.TheVariants as lock_op
-use Rattle.loom_objects.specs.declared.operation.ThreadOp.{ThreadOp}
-use Rattle.loom_objects.specs.declared.operation.ThreadOp.TheVariants as thread_op
-use Rattle.loom_objects.specs.declared.operation.TrackOp.{TrackOp}
-use Rattle.loom_objects.specs.declared.operation.TrackOp.TheVariants as track_op
-use Rattle.loom_objects.specs.declared.operation.WakerOp.{WakerOp}
-use Rattle.loom_objects.specs.declared.operation.WakerOp.TheVariants as waker_op
+use Rattle.loom_operations.specs.declared.operation.ArcOp.{ArcOp}
+use Rattle.loom_operations.specs.declared.operation.ArcOp.TheVariants as arc_op
+use Rattle.loom_operations.specs.declared.operation.AtomicOp.{AtomicOp}
+use Rattle.loom_operations.specs.declared.operation.AtomicOp.TheVariants as atomic_op
+use Rattle.loom_operations.specs.declared.operation.AtomicWakerOp.{AtomicWakerOp}
+use Rattle.loom_operations.specs.declared.operation.AtomicWakerOp.TheVariants as place_op
+use Rattle.loom_operations.specs.declared.operation.CellOp.{CellOp}
+use Rattle.loom_operations.specs.declared.operation.CellOp.TheVariants as cell_op
+use Rattle.loom_operations.specs.declared.operation.ChannelOp.{ChannelOp}
+use Rattle.loom_operations.specs.declared.operation.ChannelOp.TheVariants as channel_op
+use Rattle.loom_operations.specs.declared.operation.Keyed.{Keyed}
+use Rattle.loom_operations.specs.declared.operation.Lazy.{Lazy}
+use Rattle.loom_operations.specs.declared.operation.LazyOp.{LazyOp}
+use Rattle.loom_operations.specs.declared.operation.LazyOp.TheVariants as lazy_op
+use Rattle.loom_operations.specs.declared.operation.LocalOp.{LocalOp}
+use Rattle.loom_operations.specs.declared.operation.LocalOp.TheVariants as local_op
+use Rattle.loom_operations.specs.declared.operation.Message.{Message}
+use Rattle.loom_operations.specs.declared.operation.NotifyOp.{NotifyOp}
+use Rattle.loom_operations.specs.declared.operation.NotifyOp.TheVariants as notify_op
+use Rattle.loom_operations.specs.declared.operation.Reply.{Reply}
+use Rattle.loom_operations.specs.declared.operation.RwLockOp.{RwLockOp}
+use Rattle.loom_operations.specs.declared.operation.Turn.TheVariants as turn
+use Rattle.loom_operations.specs.declared.operation.RwLockOp.TheVariants as lock_op
+use Rattle.loom_operations.specs.declared.operation.ThreadOp.{ThreadOp}
+use Rattle.loom_operations.specs.declared.operation.ThreadOp.TheVariants as thread_op
+use Rattle.loom_operations.specs.declared.operation.TrackOp.{TrackOp}
+use Rattle.loom_operations.specs.declared.operation.TrackOp.TheVariants as track_op
+use Rattle.loom_operations.specs.declared.operation.WakerOp.{WakerOp}
+use Rattle.loom_operations.specs.declared.operation.WakerOp.TheVariants as waker_op
 use Rattle.loom_objects.specs.declared.rt.run.Entry.{Entry}
 use Rattle.loom_objects.specs.declared.rt.run.Entry.TheVariants.{Answered, AtBranch, Explores, Spurious as AtSpurious}
 use Rattle.loom_objects.specs.declared.rt.run.Passed.{Passed}
@@ -70,16 +70,16 @@ use Rattle.loom_objects.specs.Wakers.{place_begins, some_wakers, waker_begins}
 use Rattle.loom_objects.specs.World.{World}
 use Rattle.loom_runs.specs.Histories.{locked_by, locked_by_turn}
 use Rattle.loom_runs.proofs.Runs.Answering.{Answers, GoesQuietly, answers_then, waker_reply_quiet}
-use Rattle.loom_objects.specs.declared.operation.ArcOp.TheVariants.{Clone, Drop, GetMut, Put, StrongCount, TryUnwrap}
-use Rattle.loom_objects.specs.declared.operation.AtomicOp.TheVariants.{CompareAndSwap, CompareExchange, IntoInner, Load, New, Store, UnsyncLoad, Update, WithMut, WithMutEnd}
-use Rattle.loom_objects.specs.declared.operation.ThreadOp.TheVariants.{Current, End, Exit, Finish, Join, Park, Spawn, Unpark, Yield}
-use Rattle.loom_objects.specs.declared.operation.CellOp.TheVariants.{Deref, Get, ReadEnd, Replace, Swap, WriteEnd}
+use Rattle.loom_operations.specs.declared.operation.ArcOp.TheVariants.{Clone, Drop, GetMut, Put, StrongCount, TryUnwrap}
+use Rattle.loom_operations.specs.declared.operation.AtomicOp.TheVariants.{CompareAndSwap, CompareExchange, IntoInner, Load, New, Store, UnsyncLoad, Update, WithMut, WithMutEnd}
+use Rattle.loom_operations.specs.declared.operation.ThreadOp.TheVariants.{Current, End, Exit, Finish, Join, Park, Spawn, Unpark, Yield}
+use Rattle.loom_operations.specs.declared.operation.CellOp.TheVariants.{Deref, Get, ReadEnd, Replace, Swap, WriteEnd}
 use Rattle.loom_objects.specs.declared.rt.thread.Phase.TheVariants.{Finished}
-use Rattle.loom_objects.specs.declared.operation.TrackOp.TheVariants.{GetRef}
+use Rattle.loom_operations.specs.declared.operation.TrackOp.TheVariants.{GetRef}
 use Rattle.loom_view_parts.specs.declared.rt.failure.FailureKind.TheVariants.{KeyTaken, LazyShutdown, Misuse, OpenAccess, RelaxedFence, SecondWaiter, TooManySteps, TooManyThreads}
 use Rattle.loom_view_parts.specs.Limits.{highest_count}
 use Rattle.loom_objects.specs.Moves.{a_cell, a_condvar, a_notifier, a_place, a_rwlock, a_track, acquires, active_thread, an_arc, an_atomic, at_phase, changes_active, is_number, raises, releases, takes_result, unparks, with_points, yields}
-use Rattle.loom_objects.specs.Accessed.{accessed}
+use Rattle.loom_operations.specs.Accessed.{accessed}
 use Rattle.loom_objects.specs.Lent.{kept, value_in}
 use Rattle.loom_views.specs.Table.{points_after_load, points_after_spawn, points_after_store, points_after_unsync_load, points_after_update_read, points_after_with_mut, points_after_with_mut_end}
 use Rattle.loom_runs.proofs.Runs.States.{Aim, Ready}

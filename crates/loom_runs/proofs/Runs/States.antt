@@ -2,9 +2,9 @@
 -- mutex whose data is out keeps none.
 use Rattle.std.proofs.Common.{◌≡◌, ℕ, zero, suc, Bool, true, false, List, [], ◌∷◌, ◌++◌, Option, Some, None, refl, ap, subst, sym}
 use Rattle.std.specs.Prelude.{cond, is_none, map, slice_get, slice_set}
-use Rattle.loom_objects.specs.declared.operation.Reply.{Reply}
-use Rattle.loom_objects.specs.declared.operation.Turn.{Turn}
-use Rattle.loom_objects.specs.declared.operation.Turn.TheVariants as turn
+use Rattle.loom_operations.specs.declared.operation.Reply.{Reply}
+use Rattle.loom_operations.specs.declared.operation.Turn.{Turn}
+use Rattle.loom_operations.specs.declared.operation.Turn.TheVariants as turn
 use Rattle.loom_objects.specs.declared.rt.object.Object.{Object}
 use Rattle.loom_objects.specs.declared.rt.object.Object.TheVariants as object
 use Rattle.loom_objects.specs.declared.rt.sync.Mutex.{Mutex}

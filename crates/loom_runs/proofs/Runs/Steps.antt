@@ -5,13 +5,13 @@ use Rattle.loom_view_parts.specs.declared.rt.failure.FailureKind.{FailureKind}
 use Rattle.loom_view_parts.specs.declared.rt.failure.FailureKind.TheVariants.{Deadlock, ExploreSwitch, Misuse}
 use Rattle.loom_parts.specs.declared.choice.Choice.{Choice}
 use Rattle.loom_parts.specs.declared.choice.Choice.TheVariants as choice
-use Rattle.loom_objects.specs.declared.operation.ExploreOp.{ExploreOp}
-use Rattle.loom_objects.specs.declared.operation.ExploreOp.TheVariants as explore_op
-use Rattle.loom_objects.specs.declared.operation.Request.{Request}
-use Rattle.loom_objects.specs.declared.operation.Reply.{Reply}
-use Rattle.loom_objects.specs.declared.operation.Turn.{Turn}
-use Rattle.loom_objects.specs.declared.rt.exploring.Exploring.{Exploring}
-use Rattle.loom_objects.specs.declared.rt.exploring.Exploring.TheVariants.{On, Off, Skipping}
+use Rattle.loom_operations.specs.declared.operation.ExploreOp.{ExploreOp}
+use Rattle.loom_operations.specs.declared.operation.ExploreOp.TheVariants as explore_op
+use Rattle.loom_operations.specs.declared.operation.Request.{Request}
+use Rattle.loom_operations.specs.declared.operation.Reply.{Reply}
+use Rattle.loom_operations.specs.declared.operation.Turn.{Turn}
+use Rattle.loom_operations.specs.declared.exploring.Exploring.{Exploring}
+use Rattle.loom_operations.specs.declared.exploring.Exploring.TheVariants.{On, Off, Skipping}
 use Rattle.loom_objects.specs.declared.rt.run.Entry.{Entry}
 use Rattle.loom_objects.specs.declared.rt.run.Entry.TheVariants.{Answered, AtBranch, Explores, Spurious as AtSpurious}
 use Rattle.loom_objects.specs.declared.rt.run.Loading.{Loading}
@@ -22,14 +22,14 @@ use Rattle.loom_objects.specs.declared.rt.run.Resumed.TheVariants as resumed
 use Rattle.loom_objects.specs.Atomics.{reads}
 use Rattle.loom_objects.specs.Effects.{chosen, counted}
 use Rattle.loom_objects.specs.Ending.{all_ended, end_of}
-use Rattle.loom_objects.specs.Exploring.{is_on, switched}
+use Rattle.loom_operations.specs.Exploring.{is_on, switched}
 use Rattle.loom_objects.specs.Notifiers.{enters_wait as entered}
-use Rattle.loom_objects.specs.Question.{Among, made_of, slots}
+use Rattle.loom_operations.specs.Question.{Among, made_of, slots}
 use Rattle.loom_objects.specs.Schedules.{offers}
 use Rattle.loom_objects.specs.Steps.{asked, asks_slot, begins, ends, read_slot, resumes, slot_of, told, turned}
-use Rattle.loom_objects.specs.Tree.{Tree, Closes, ◌>>=◌, came, check}
+use Rattle.loom_operations.specs.Tree.{Tree, Closes, ◌>>=◌, came, check}
 use Rattle.loom_objects.specs.World.{World}
-use Rattle.loom_objects.specs.Asked.{which_thread}
+use Rattle.loom_operations.specs.Asked.{which_thread}
 use Rattle.loom_runs.specs.Courses.{Course, carried, grown_from, one_passed, unordered_in}
 use Rattle.loom_runs.specs.Machine.{chooses, closes as closes_run, further, further_branches, goes_by, goes_on, passes, schedule, submit, switches, waits}
 use Rattle.loom_runs.proofs.Runs.Answering.{Answers, ResumesOn, anything, chosen_goes, end_over}

@@ -4,18 +4,18 @@ use Rattle.std.specs.Prelude.{◌-◌, true, false, if◌then◌else◌, slice_g
 use Rattle.loom_view_parts.specs.declared.rt.failure.FailureKind.{FailureKind}
 use Rattle.loom_view_parts.specs.declared.rt.failure.FailureKind.TheVariants.{LeakArc, LeakMessages, LeakTrack, Misuse, NotDeterministic, TooManySteps}
 use Rattle.loom_view_parts.specs.declared.rt.reader.Reader.TheVariants as reader
-use Rattle.loom_objects.specs.declared.operation.AtomicOp.{AtomicOp}
-use Rattle.loom_objects.specs.declared.operation.AtomicOp.TheVariants as atomic_op
-use Rattle.loom_objects.specs.declared.operation.Request.{Request}
-use Rattle.loom_objects.specs.declared.operation.Request.TheVariants as op
-use Rattle.loom_objects.specs.declared.operation.Reply.{Reply}
-use Rattle.loom_objects.specs.declared.operation.Turn.{Turn}
+use Rattle.loom_operations.specs.declared.operation.AtomicOp.{AtomicOp}
+use Rattle.loom_operations.specs.declared.operation.AtomicOp.TheVariants as atomic_op
+use Rattle.loom_operations.specs.declared.operation.Request.{Request}
+use Rattle.loom_operations.specs.declared.operation.Request.TheVariants as op
+use Rattle.loom_operations.specs.declared.operation.Reply.{Reply}
+use Rattle.loom_operations.specs.declared.operation.Turn.{Turn}
 use Rattle.loom_objects.specs.declared.rt.run.Passed.{Passed}
 use Rattle.loom_objects.specs.declared.rt.object.Object.{Object}
 use Rattle.loom_objects.specs.declared.rt.object.Object.TheVariants as object
 use Rattle.loom_objects.specs.declared.rt.thread.Task.{Task}
 use Rattle.loom_objects.specs.declared.rt.thread.Task.TheVariants as task
-use Rattle.loom_objects.specs.declared.operation.MutexOp.TheVariants as mutex_op
+use Rattle.loom_operations.specs.declared.operation.MutexOp.TheVariants as mutex_op
 use Rattle.loom_objects.specs.declared.rt.run.Resumed.TheVariants as resumed
 use Rattle.loom_objects.specs.Atomics.{accesses, store, opens}
 use Rattle.loom_objects.specs.Effects.{chosen, counted, op_begins, takes_effect}

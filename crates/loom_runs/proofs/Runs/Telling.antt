@@ -7,10 +7,10 @@ use Rattle.loom_view_parts.specs.declared.rt.reader.Reader.{Reader}
 use Rattle.loom_view_parts.specs.declared.rt.reader.Reader.TheVariants as reader
 use Rattle.loom_view_parts.specs.declared.rt.failure.FailureKind.{FailureKind}
 use Rattle.loom_view_parts.specs.declared.rt.failure.FailureKind.TheVariants.{Misuse}
-use Rattle.loom_objects.specs.declared.operation.AtomicOp.{AtomicOp}
-use Rattle.loom_objects.specs.declared.operation.AtomicOp.TheVariants as atomic_op
-use Rattle.loom_objects.specs.declared.operation.Reply.{Reply}
-use Rattle.loom_objects.specs.declared.operation.Turn.TheVariants as turn
+use Rattle.loom_operations.specs.declared.operation.AtomicOp.{AtomicOp}
+use Rattle.loom_operations.specs.declared.operation.AtomicOp.TheVariants as atomic_op
+use Rattle.loom_operations.specs.declared.operation.Reply.{Reply}
+use Rattle.loom_operations.specs.declared.operation.Turn.TheVariants as turn
 use Rattle.loom_objects.specs.declared.rt.run.Passed.{Passed}
 use Rattle.loom_objects.specs.declared.rt.run.Passed.TheVariants as passed
 use Rattle.loom_objects.specs.declared.rt.run.Resumed.{Resumed}

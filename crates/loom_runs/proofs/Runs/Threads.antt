@@ -3,9 +3,9 @@ use Rattle.std.proofs.Common.{◌≡◌, ℕ, Bool, length, Option, Some, None, 
 use Rattle.std.specs.Prelude.{true, false, not, slice_get, nat_lt, is_none, ⊤}
 use Rattle.loom_view_parts.specs.declared.rt.failure.FailureKind.TheVariants.{Misuse, TooManyThreads}
 use Rattle.loom_views.specs.Table.{points_after_spawn}
-use Rattle.loom_objects.specs.declared.operation.ThreadOp.{ThreadOp}
-use Rattle.loom_objects.specs.declared.operation.ThreadOp.TheVariants as thread_op
-use Rattle.loom_objects.specs.declared.rt.thread.Name.{Name}
+use Rattle.loom_operations.specs.declared.operation.ThreadOp.{ThreadOp}
+use Rattle.loom_operations.specs.declared.operation.ThreadOp.TheVariants as thread_op
+use Rattle.loom_operations.specs.declared.operation.Name.{Name}
 use Rattle.loom_objects.specs.declared.rt.thread.Phase.TheVariants.{Finished, Exited, Over}
 use Rattle.loom_objects.specs.declared.rt.thread.Task.TheVariants as task
 use Rattle.loom_objects.specs.Moves.{a_notifier, at_phase, changes_active, takes_result, unparks, yields, having, with_token, in_state, unparked, unparked_from}

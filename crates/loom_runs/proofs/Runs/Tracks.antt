@@ -1,8 +1,8 @@
 -- What is done to tracked values keeps locks sound.
 use Rattle.std.proofs.Common.{ℕ}
 use Rattle.loom_view_parts.specs.declared.rt.failure.FailureKind.TheVariants.{Misuse}
-use Rattle.loom_objects.specs.declared.operation.TrackOp.{TrackOp}
-use Rattle.loom_objects.specs.declared.operation.TrackOp.TheVariants as track_op
+use Rattle.loom_operations.specs.declared.operation.TrackOp.{TrackOp}
+use Rattle.loom_operations.specs.declared.operation.TrackOp.TheVariants as track_op
 use Rattle.loom_objects.specs.Lent.{value_in}
 use Rattle.loom_objects.specs.Moves.{a_track, is_number}
 use Rattle.loom_objects.specs.Tracks.{track_begins, track_take}

@@ -3,12 +3,12 @@ use Rattle.std.proofs.Common.{ℕ, Bool, Option, Some, None}
 use Rattle.std.specs.Prelude.{true, false, not, slice_get, Result}
 use Rattle.loom_view_parts.specs.declared.rt.failure.FailureKind.{FailureKind}
 use Rattle.loom_view_parts.specs.declared.rt.failure.FailureKind.TheVariants.{KeyTaken, LazyShutdown, Misuse}
-use Rattle.loom_objects.specs.declared.operation.Keyed.{Keyed}
-use Rattle.loom_objects.specs.declared.operation.Lazy.{Lazy}
-use Rattle.loom_objects.specs.declared.operation.LazyOp.{LazyOp}
-use Rattle.loom_objects.specs.declared.operation.LazyOp.TheVariants as lazy_op
-use Rattle.loom_objects.specs.declared.operation.LocalOp.{LocalOp}
-use Rattle.loom_objects.specs.declared.operation.LocalOp.TheVariants as local_op
+use Rattle.loom_operations.specs.declared.operation.Keyed.{Keyed}
+use Rattle.loom_operations.specs.declared.operation.Lazy.{Lazy}
+use Rattle.loom_operations.specs.declared.operation.LazyOp.{LazyOp}
+use Rattle.loom_operations.specs.declared.operation.LazyOp.TheVariants as lazy_op
+use Rattle.loom_operations.specs.declared.operation.LocalOp.{LocalOp}
+use Rattle.loom_operations.specs.declared.operation.LocalOp.TheVariants as local_op
 use Rattle.loom_objects.specs.declared.rt.run.Entry.{Entry}
 use Rattle.loom_objects.specs.Values.{are_open, is_taken, lazy_at, lazy_begins, local_at, local_begins, local_or, makes_lazy, none_there, puts_local, reads_lazy, reads_local, with_local}
 use Rattle.loom_objects.specs.World.{World}

@@ -3,10 +3,10 @@ use Rattle.std.proofs.Common.{◌≡◌, ℕ, Bool, length, Option, Some, None, 
 use Rattle.std.specs.Prelude.{◌==◌, ◌+◌, ◌-◌, true, false, is_none, is_some, nat_lt}
 use Rattle.loom_view_parts.specs.declared.rt.failure.FailureKind.TheVariants.{Misuse, TooManySteps}
 use Rattle.loom_view_parts.specs.Limits.{highest_count}
-use Rattle.loom_objects.specs.declared.operation.AtomicWakerOp.{AtomicWakerOp}
-use Rattle.loom_objects.specs.declared.operation.AtomicWakerOp.TheVariants as place_op
-use Rattle.loom_objects.specs.declared.operation.WakerOp.{WakerOp}
-use Rattle.loom_objects.specs.declared.operation.WakerOp.TheVariants as waker_op
+use Rattle.loom_operations.specs.declared.operation.AtomicWakerOp.{AtomicWakerOp}
+use Rattle.loom_operations.specs.declared.operation.AtomicWakerOp.TheVariants as place_op
+use Rattle.loom_operations.specs.declared.operation.WakerOp.{WakerOp}
+use Rattle.loom_operations.specs.declared.operation.WakerOp.TheVariants as waker_op
 use Rattle.loom_objects.specs.declared.rt.object.Object.TheVariants as object
 use Rattle.loom_objects.specs.declared.rt.sync.AtomicWaker.{AtomicWaker}
 use Rattle.loom_objects.specs.declared.rt.sync.Spurious.TheVariants.{NotYet}

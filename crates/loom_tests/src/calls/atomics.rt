@@ -1,10 +1,10 @@
 //! Atomics and fences.
-use crate::calls::run::{Calls, Kind, Row};
+use crate::calls::run::{Kind, Row, make};
 use loom_model::Op;
 use loom_model::sync::atomic::Ordering::{Acquire, Release, SeqCst};
 use loom_model::sync::atomic::{Atomic, AtomicBool, AtomicI8, AtomicU8, AtomicU64, fence};
-use loom_scripts::number::Number;
 use std::marker::PhantomData;
+use std::process::Abort;
 
 /// The first object of a run, which is an atomic.
 pub fn first_atomic<T>() -> Atomic<T> {
@@ -15,7 +15,7 @@ pub fn first_atomic<T>() -> Atomic<T> {
 }
 
 /// The calls of these tables, by their numbers there.
-pub fn call(number: usize) -> Op<Number, ()> {
+pub fn call(number: usize) -> Op<u64, ()> {
     let word = first_atomic::<u64>();
     let byte = first_atomic::<u8>();
     let signed = first_atomic::<i8>();
@@ -148,10 +148,10 @@ static NAND_OF_BOOLS: [Row; 3] = [
 ];
 
 /// Makes these calls.
-pub fn make_all(calls: &mut Calls) {
-    calls.make::<u64>(Kind::Atomics, &STORE_AND_LOAD);
-    calls.make::<u8>(Kind::Atomics, &UPDATES);
-    calls.make::<u8>(Kind::Atomics, &CHANGE_IN_PLACE);
-    calls.make::<i8>(Kind::Atomics, &COMPARE_SIGNED);
-    calls.make::<bool>(Kind::Atomics, &NAND_OF_BOOLS);
+pub fn make_all(rt: &(impl Abort + AllocGlobal)) {
+    make::<u64, _>(rt, Kind::Atomics, &STORE_AND_LOAD);
+    make::<u8, _>(rt, Kind::Atomics, &UPDATES);
+    make::<u8, _>(rt, Kind::Atomics, &CHANGE_IN_PLACE);
+    make::<i8, _>(rt, Kind::Atomics, &COMPARE_SIGNED);
+    make::<bool, _>(rt, Kind::Atomics, &NAND_OF_BOOLS);
 }

@@ -1,26 +1,26 @@
 //! Channels.
-use crate::calls::run::{Calls, Kind, Row};
+use crate::calls::run::{Kind, Row, make};
 use loom_model::Op;
 use loom_model::sync::mpsc::{Receiver, Sender, channel};
-use loom_scripts::number::Number;
+use std::process::Abort;
 
 const SENDER: Sender = Sender { number: 0 };
 
 const RECEIVER: Receiver = Receiver { number: 0 };
 
 /// The calls of these tables, by their numbers there.
-pub fn call(number: usize) -> Op<Number, ()> {
+pub fn call(number: usize) -> Op<u64, ()> {
     match number {
         0 => channel(),
         1 => SENDER.clone(),
         2 => RECEIVER.try_recv(),
-        3 => SENDER.send(Number(1)),
-        4 => SENDER.send(Number(2)),
-        5 => SENDER.send(Number(3)),
+        3 => SENDER.send(1),
+        4 => SENDER.send(2),
+        5 => SENDER.send(3),
         6 => RECEIVER.recv(),
         7 => SENDER.drop(),
         8 => RECEIVER.drop(),
-        _ => SENDER.send(Number(4)),
+        _ => SENDER.send(4),
     }
 }
 
@@ -37,11 +37,11 @@ static SEND_AND_RECEIVE: [Row; 13] = [
     (3, "SENDER.send", "Reply(0, Done)"),
     (4, "SENDER.send", "Reply(0, Done)"),
     (5, "SENDER.send", "Reply(0, Done)"),
-    (6, "RECEIVER.recv", "Reply(0, Data(Number(1)))"),
-    (2, "RECEIVER.try_recv", "Reply(0, Data(Number(2)))"),
+    (6, "RECEIVER.recv", "Reply(0, Data(1))"),
+    (2, "RECEIVER.try_recv", "Reply(0, Data(2))"),
     (7, "SENDER.drop", "Reply(0, Done)"),
-    (8, "RECEIVER.drop", "Reply(0, Messages([Number(3)]))"),
-    (9, "SENDER.send", "Reply(0, SendError(Number(4)))"),
+    (8, "RECEIVER.drop", "Reply(0, Messages([3]))"),
+    (9, "SENDER.send", "Reply(0, SendError(4))"),
     (7, "SENDER.drop", "Reply(0, Done)"),
     (1, "SENDER.clone", "Misuse"),
 ];
@@ -61,7 +61,7 @@ static RECEIVE_IN_VAIN: [Row; 6] = [
 ];
 
 /// Makes these calls.
-pub fn make_all(calls: &mut Calls) {
-    calls.make::<u64>(Kind::Channels, &SEND_AND_RECEIVE);
-    calls.make::<u64>(Kind::Channels, &RECEIVE_IN_VAIN);
+pub fn make_all(rt: &(impl Abort + AllocGlobal)) {
+    make::<u64, _>(rt, Kind::Channels, &SEND_AND_RECEIVE);
+    make::<u64, _>(rt, Kind::Channels, &RECEIVE_IN_VAIN);
 }

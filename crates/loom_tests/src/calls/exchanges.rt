@@ -1,11 +1,11 @@
 //! Exchanges and updates of atomics, of each type of integers.
 use crate::calls::atomics::first_atomic;
-use crate::calls::run::{Calls, Kind, Row};
+use crate::calls::run::{Kind, Row, make};
 use loom_model::sync::atomic::Ordering::SeqCst;
 use loom_model::sync::atomic::{Atomic, Integer};
 use loom_model::{Numeric, Op};
-use loom_scripts::number::Number;
 use std::fmt::Debug;
+use std::process::Abort;
 
 const NUM_A: u64 = 11641914933775430211;
 
@@ -88,7 +88,7 @@ static OF_I64: [Row; 8] = exchanged!(
 
 /// The calls of these tables, by their numbers there: main exchanges and updates an atomic of one type, which begins with the one
 /// number.
-pub fn call<T: Numeric>(number: usize) -> Op<Number, ()> {
+pub fn call<T: Numeric>(number: usize) -> Op<u64, ()> {
     let (a, b) = (T::from_u64(NUM_A), T::from_u64(NUM_B));
     let atomic = first_atomic::<T>();
     let update = atomic.fetch_update(SeqCst, SeqCst);
@@ -104,20 +104,20 @@ pub fn call<T: Numeric>(number: usize) -> Op<Number, ()> {
 }
 
 // Makes these calls, of an atomic of this type of integers.
-fn make_of<T: Integer + Debug + Drop>(calls: &mut Calls, rows: &[Row]) {
-    calls.make::<T>(Kind::Exchanges, rows);
+fn make_of<T: Integer + Debug + Drop, R: Abort + AllocGlobal>(rt: &R, rows: &[Row]) {
+    make::<T, _>(rt, Kind::Exchanges, rows);
 }
 
 /// Makes these calls, of each type.
-pub fn make_all(calls: &mut Calls) {
-    make_of::<u8>(calls, &OF_U8);
-    make_of::<i8>(calls, &OF_I8);
-    make_of::<u16>(calls, &OF_U16);
-    make_of::<i16>(calls, &OF_I16);
-    make_of::<u32>(calls, &OF_32_BITS);
-    make_of::<i32>(calls, &OF_32_BITS);
-    make_of::<u64>(calls, &OF_U64);
-    make_of::<i64>(calls, &OF_I64);
-    make_of::<usize>(calls, &OF_U64);
-    make_of::<isize>(calls, &OF_I64);
+pub fn make_all(rt: &(impl Abort + AllocGlobal)) {
+    make_of::<u8, _>(rt, &OF_U8);
+    make_of::<i8, _>(rt, &OF_I8);
+    make_of::<u16, _>(rt, &OF_U16);
+    make_of::<i16, _>(rt, &OF_I16);
+    make_of::<u32, _>(rt, &OF_32_BITS);
+    make_of::<i32, _>(rt, &OF_32_BITS);
+    make_of::<u64, _>(rt, &OF_U64);
+    make_of::<i64, _>(rt, &OF_I64);
+    make_of::<usize, _>(rt, &OF_U64);
+    make_of::<isize, _>(rt, &OF_I64);
 }

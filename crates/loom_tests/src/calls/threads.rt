@@ -1,12 +1,12 @@
 //! Threads: their names, and those that wait.
-use crate::calls::run::{Calls, Kind, Row};
+use crate::calls::run::{Kind, Row, make};
 use loom_model::sync::atomic::spin_loop_hint;
 use loom_model::thread::{self, Builder, ThreadId};
 use loom_model::{Op, hint};
-use loom_scripts::number::Number;
+use std::process::Abort;
 
 /// The calls of these tables, by their numbers there.
-pub fn call(number: usize) -> Op<Number, ()> {
+pub fn call(number: usize) -> Op<u64, ()> {
     let main = thread::Thread {
         id: ThreadId(0),
         name: None,
@@ -62,7 +62,7 @@ static PARK_TWICE: [Row; 8] = [
 ];
 
 /// Makes these calls.
-pub fn make_all(calls: &mut Calls) {
-    calls.make::<u64>(Kind::Threads, &FIND_NAMES);
-    calls.make::<u64>(Kind::Threads, &PARK_TWICE);
+pub fn make_all(rt: &(impl Abort + AllocGlobal)) {
+    make::<u64, _>(rt, Kind::Threads, &FIND_NAMES);
+    make::<u64, _>(rt, Kind::Threads, &PARK_TWICE);
 }

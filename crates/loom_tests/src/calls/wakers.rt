@@ -1,11 +1,11 @@
 //! Wakers of futures, and places for them.
-use crate::calls::run::{Calls, Kind, Row};
+use crate::calls::run::{Kind, Row, make};
 use loom_model::Op;
 use loom_model::future::{AtomicWaker, BlockOn, Waker};
-use loom_scripts::number::Number;
+use std::process::Abort;
 
 /// The calls of these tables, by their numbers there.
-pub fn call(number: usize) -> Op<Number, ()> {
+pub fn call(number: usize) -> Op<u64, ()> {
     let (block_on, waker) = (BlockOn { number: 1 }, Waker { number: 1 });
     let (later, its_waker) = (BlockOn { number: 2 }, Waker { number: 2 });
     let place = AtomicWaker { number: 0 };
@@ -84,7 +84,7 @@ static REGISTER_AND_TAKE: [Row; 18] = [
 ];
 
 /// Makes these calls.
-pub fn make_all(calls: &mut Calls) {
-    calls.make::<u64>(Kind::Wakers, &WAKE_AND_WAIT);
-    calls.make::<u64>(Kind::Wakers, &REGISTER_AND_TAKE);
+pub fn make_all(rt: &(impl Abort + AllocGlobal)) {
+    make::<u64, _>(rt, Kind::Wakers, &WAKE_AND_WAIT);
+    make::<u64, _>(rt, Kind::Wakers, &REGISTER_AND_TAKE);
 }

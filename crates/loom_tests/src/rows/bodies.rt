@@ -1,6 +1,6 @@
 //! Bodies that aren't rows, for what rows leave out: main is the one thread, and mostly spawns the other.
 use loom_model::sync::atomic::Ordering::{AcqRel, Acquire, Relaxed, Release, SeqCst};
-use loom_objects::operation::{
+use loom_operations::operation::{
     ArcOp, AtomicOp, CellOp, CondvarOp, Exchange, MutexOp, NotifyOp, Request, RwLockOp, ThreadOp,
     TrackOp,
 };
@@ -54,7 +54,8 @@ const UPDATES_PASS_ON: &[Step] = &[
     Step::Jump(7),
 ];
 
-/// A thread writes a cell and releases a number. Main finds the number by an exchange that fails and acquires, and reads the cell.
+/// A thread writes a cell and releases a number. Main finds the number by an exchange that fails and acquires, and reads the
+/// cell.
 const FAILING_ACQUIRES: &[Step] = &[
     NEW,
     NEW_CELL,

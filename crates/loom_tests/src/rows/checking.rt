@@ -6,7 +6,6 @@ use loom_model::{Body, Choice, MemoryStore, NoClock};
 use loom_plain::run::Ending;
 use loom_plain::search::Found;
 use loom_row_bodies::settings::{Builds, Settings};
-use loom_scripts::number::Number;
 use std::alloc::{AllocError, Global};
 
 /// Keeps each run that it is given.
@@ -19,10 +18,10 @@ pub struct Keeper {
     pub is_counted: bool,
 }
 
-impl Visitor<Number> for Keeper {
+impl Visitor<u64> for Keeper {
     ghost takes = { λ old choices value new. Unit {0} };
 
-    fn run(&mut self, choices: &[Choice], value: Number) -> Result<(), AllocError> {
+    fn run(&mut self, choices: &[Choice], value: u64) -> Result<(), AllocError> {
         self.keep(choices, Ending::Ended(value))
     }
 }
@@ -64,7 +63,7 @@ impl Keeper {
 }
 
 /// What a check of the body finds that begins with what the store holds.
-pub fn report_of<B: Body<Data = Number>>(
+pub fn report_of<B: Body<Data = u64>>(
     alloc: Global,
     settings: Settings,
     body: &B,
@@ -78,13 +77,13 @@ pub fn report_of<B: Body<Data = Number>>(
 }
 
 /// The runs that a check makes.
-pub fn found_by<B: Body<Data = Number>>(alloc: Global, settings: Settings, body: &B) -> Keeper {
+pub fn found_by<B: Body<Data = u64>>(alloc: Global, settings: Settings, body: &B) -> Keeper {
     let mut keeper = Keeper::new(alloc);
     fill(alloc, settings, body, &mut keeper);
     keeper
 }
 
-fn fill<B: Body<Data = Number>>(alloc: Global, settings: Settings, body: &B, keeper: &mut Keeper) {
+fn fill<B: Body<Data = u64>>(alloc: Global, settings: Settings, body: &B, keeper: &mut Keeper) {
     let mut store = None;
     let found = report_of(alloc, settings, body, keeper, &mut store);
     keeper.close(&found);

@@ -2,11 +2,10 @@
 use super::finding::{Case, Shows};
 use loom_model::sync::atomic::Ordering::{AcqRel, Release, SeqCst};
 use loom_model::text_literal;
-use loom_objects::operation::{
+use loom_operations::operation::{
     ArcOp, AtomicOp, AtomicWakerOp, CellOp, ChannelOp, CondvarOp, Exchange, ExploreOp, LazyOp,
-    LocalOp, MutexOp, NotifyOp, Request, RwLockOp, ThreadOp, TrackOp, WakerOp,
+    LocalOp, MutexOp, Name, NotifyOp, Request, RwLockOp, ThreadOp, TrackOp, WakerOp,
 };
-use loom_objects::rt::thread::Name;
 use loom_row_bodies::rows::{Checked, DEFAULTS, Row};
 use loom_scripts::step::{END, EXIT, PARK, Step, Value, YIELD};
 use loom_views::rt::change::Change::{Add, And, Max, Min, Nand, Or, Sub, Swap, Xor};

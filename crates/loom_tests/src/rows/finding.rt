@@ -1,7 +1,8 @@
 //! What a check finds, as a text.
 use super::checking::{found_by, is_run};
 use super::rows::rows_of;
-use super::texts::{Page, same};
+use crate::asserting::{same, script};
+use crate::page::Page;
 use loom_model::error::CheckError;
 use loom_model::model::{Builder, Replay};
 use loom_model::{Body, Choice, FailureKind};
@@ -11,9 +12,6 @@ use loom_row_bodies::line::ShownChoices;
 use loom_row_bodies::rows::{Checked, Row, row_of};
 use loom_row_bodies::settings::{Builds, Settings};
 use loom_row_bodies::updates::Updater;
-use loom_scripts::number::Number;
-use loom_scripts::script::Script;
-use loom_scripts::step::Step;
 use std::alloc::Global;
 use std::process::Abort;
 
@@ -26,10 +24,11 @@ pub enum Shows {
     Values,
 }
 
-/// A body by its name, how it is checked, and what the check finds.
+/// A body by its name, how it is checked, and what the check finds. Tables refer to settings, since each that holds them costs the
+/// proof more.
 pub struct Case {
     pub name: &'static str,
-    pub settings: Settings,
+    pub settings: &'static Settings,
     pub shows: Shows,
     pub text: &'static str,
 }
@@ -47,30 +46,27 @@ fn find_in(rt: &(impl Abort + AllocGlobal), rows: &[Row], cases: &'static [Case]
 
 fn find_case(rt: &(impl Abort + AllocGlobal), rows: &[Row], case: &'static Case) {
     let mut page = Page::new(rt.alloc());
-    put_case(rt.alloc(), rows, case, &mut page);
+    put_case(rt, rows, case, &mut page);
     same(rt, page.text.as_str(), case.text, case.name);
 }
 
-fn put_case(alloc: Global, rows: &[Row], case: &Case, page: &mut Page) {
+fn put_case(rt: &(impl Abort + AllocGlobal), rows: &[Row], case: &Case, page: &mut Page) {
     if let Some(row) = row_of(rows, case.name) {
         match row.checked {
-            Checked::Script(steps) => put_script(alloc, case, steps, page),
+            Checked::Script(steps) => {
+                let body = script(rt, steps);
+                put_found(rt.alloc(), *case.settings, &body, case.shows, page);
+            }
             Checked::Updater(one, other) => {
-                let updater = Updater::main(one, other);
-                put_found(alloc, case.settings, &updater, case.shows, page);
+                let body = Updater::main(one, other);
+                put_found(rt.alloc(), *case.settings, &body, case.shows, page);
             }
         }
     }
 }
 
-fn put_script(alloc: Global, case: &Case, steps: &'static [Step], page: &mut Page) {
-    if let Ok(script) = &Script::new(alloc, steps) {
-        put_found(alloc, case.settings, script, case.shows, page);
-    }
-}
-
 /// Puts on the page what a check of the body finds, and whether a run isn't made again by its choices.
-pub fn put_found<B: Body<Data = Number>>(
+pub fn put_found<B: Body<Data = u64>>(
     alloc: Global,
     settings: Settings,
     body: &B,
@@ -78,16 +74,12 @@ pub fn put_found<B: Body<Data = Number>>(
     page: &mut Page,
 ) {
     let keeper = found_by(alloc, settings, body);
-    put_counted(page, keeper.is_counted);
-    put_runs(alloc, keeper.found.as_slice(), shows, page);
-    put_replays(alloc, settings, body, keeper.found.as_slice(), shows, page);
-}
-
-// What no test wants, where the report says another number of runs.
-fn put_counted(page: &mut Page, is_counted: bool) {
-    if !is_counted {
+    // What no test wants.
+    if !keeper.is_counted {
         page.add("another number of runs: ");
     }
+    put_runs(alloc, keeper.found.as_slice(), shows, page);
+    put_replays(alloc, settings, body, keeper.found.as_slice(), shows, page);
 }
 
 fn put_runs(alloc: Global, found: &[Found], shows: Shows, page: &mut Page) {
@@ -113,7 +105,7 @@ fn put_first(page: &mut Page, found: &[Found], most: usize) {
 
 // The run that fails is shown by how the check ended.
 fn put_run(page: &mut Page, run: &Found) {
-    if let Ending::Ended(Number(value)) = run.ending {
+    if let Ending::Ended(value) = run.ending {
         page.add(";");
         put_choices(page, run.choices.as_slice());
         page.add_number(" = ", value);
@@ -128,15 +120,7 @@ fn put_choices(page: &mut Page, choices: &[Choice]) {
         page.add_number(" ", choices.len() as u64);
         page.add(" choices");
     } else {
-        page.add_choices(choices);
-    }
-}
-
-impl Page {
-    // The choices, each after a space.
-    fn add_choices(&mut self, choices: &[Choice]) {
-        let shown = ShownChoices(choices);
-        let _ = write!(self.text, "{shown}");
+        page.add_shown(&ShownChoices(choices));
     }
 }
 
@@ -150,7 +134,7 @@ fn put_values(alloc: Global, page: &mut Page, found: &[Found]) {
 
 // Where memory is refused the value is missing.
 fn add_value(values: &mut Vec<u64>, run: &Found) {
-    if let Ending::Ended(Number(value)) = run.ending
+    if let Ending::Ended(value) = run.ending
         && let Err(place) = values.as_slice().binary_search(&value)
     {
         let _ = values.insert(place, value);
@@ -165,17 +149,13 @@ fn put_list(page: &mut Page, values: &[u64]) {
 
 // How the check ended, as the program prints it. The number of runs may be left out.
 fn put_end(page: &mut Page, found: &[Found], is_counted: bool) {
-    match found.last() {
-        Some(run) => put_last(page, run, found.len() as u64, is_counted),
-        None => put_complete(page, 0, is_counted),
-    }
-}
-
-// The last of so many runs.
-fn put_last(page: &mut Page, run: &Found, many: u64, is_counted: bool) {
-    match run.ending {
-        Ending::Ended(_) => put_complete(page, many, is_counted),
-        Ending::Failed(kind) => put_failure(page, kind, many, run.choices.as_slice()),
+    let many = found.len() as u64;
+    if let Some(run) = found.last()
+        && let Ending::Failed(kind) = run.ending
+    {
+        put_failure(page, kind, many, run.choices.as_slice());
+    } else {
+        put_complete(page, many, is_counted);
     }
 }
 
@@ -194,7 +174,7 @@ fn put_failure(page: &mut Page, kind: FailureKind, many: u64, choices: &[Choice]
 }
 
 // What no test wants, where one of these runs isn't made again by its choices. Values alone aren't made again.
-fn put_replays<B: Body<Data = Number>>(
+fn put_replays<B: Body<Data = u64>>(
     alloc: Global,
     settings: Settings,
     body: &B,
@@ -212,7 +192,7 @@ fn put_replays<B: Body<Data = Number>>(
 }
 
 // Whether each of these runs is made again by its choices.
-fn replays_each<B: Body<Data = Number>>(
+fn replays_each<B: Body<Data = u64>>(
     alloc: Global,
     settings: Settings,
     body: &B,
@@ -225,7 +205,7 @@ fn replays_each<B: Body<Data = Number>>(
     are_replays(alloc, &reduced.builder(), body, found)
 }
 
-fn are_replays<B: Body<Data = Number>>(
+fn are_replays<B: Body<Data = u64>>(
     alloc: Global,
     builder: &Builder,
     body: &B,
@@ -239,18 +219,13 @@ fn are_replays<B: Body<Data = Number>>(
     true
 }
 
-fn replays<B: Body<Data = Number>>(
-    alloc: Global,
-    builder: &Builder,
-    body: &B,
-    run: &Found,
-) -> bool {
+fn replays<B: Body<Data = u64>>(alloc: Global, builder: &Builder, body: &B, run: &Found) -> bool {
     let replay = builder.replay(alloc, body, run.choices.as_slice());
     is_replay(&replay, run)
 }
 
 // This is how the run ended, and what it chose.
-fn is_replay(replay: &Result<Replay<Number>, CheckError>, run: &Found) -> bool {
+fn is_replay(replay: &Result<Replay<u64>, CheckError>, run: &Found) -> bool {
     match replay {
         Ok(Replay::Ended { choices, value }) => {
             is_run(run, choices.as_slice(), Ending::Ended(*value))

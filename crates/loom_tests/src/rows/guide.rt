@@ -1,6 +1,7 @@
 //! The first body of docs/GUIDE.md.
 use super::finding::{Shows, put_found};
-use super::texts::{Page, same};
+use crate::asserting::{holds, same};
+use crate::page::Page;
 use loom_model::model::Report;
 use loom_row_bodies::guide::Counter;
 use loom_row_bodies::rows::WHOLE;
@@ -10,7 +11,7 @@ use loom_row_bodies::settings::Builds;
 fn no_thread_is_counted_third(rt: HostRuntime) {
     let report = WHOLE.builder().check(&rt, rt.alloc(), &Counter::main(2));
     let is_complete = matches!(&report, Ok(Report::Complete { runs: 4 }));
-    assert!(rt; is_complete);
+    holds(&rt, is_complete, "counter");
 }
 
 // Its second run fails, by an assertion of the body, and is made again by its choices.

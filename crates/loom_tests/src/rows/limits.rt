@@ -53,16 +53,12 @@ static FAILURES: [Case; 12] = [
 ];
 
 #[test]
-fn as_many_fences_as_may_be(rt: HostRuntime) {
-    find(&rt, &MANY_FENCES);
-}
-
-#[test]
 fn one_store_more_replays(rt: HostRuntime) {
     find(&rt, &MANY_STORES);
 }
 
 #[test]
-fn failures_replay(rt: HostRuntime) {
+fn limits_are_reached_and_failures_replay(rt: HostRuntime) {
+    find(&rt, &MANY_FENCES);
     find(&rt, &FAILURES);
 }

@@ -15,7 +15,8 @@ mod texts;
 ghost use Rattle.std.specs.Prelude.{◌≡◌};
 ghost use Rattle.loom_stores.specs.Stores.{Counts};
 
-use crate::rows::texts::{Page, same};
+use crate::asserting::{same, script};
+use crate::page::Page;
 use loom_model::error::CheckError;
 use loom_model::model::{Builder, Report};
 use loom_model::visitor::Visitor;
@@ -24,7 +25,6 @@ use loom_row_bodies::bodies::LOCK_BESIDE;
 use loom_row_bodies::line::{ShownChoices, ShownReport};
 use loom_row_bodies::rows::{DEFAULTS, WHOLE};
 use loom_row_bodies::settings::{Builds, Settings};
-use loom_scripts::number::Number;
 use loom_scripts::script::Script;
 use loom_scripts::step::Step;
 use std::alloc::{AllocError, Global};
@@ -88,10 +88,10 @@ impl Page {
     }
 }
 
-impl Visitor<Number> for Page {
+impl Visitor<u64> for Page {
     ghost takes = { λ old choices value new. Unit {0} };
 
-    fn run(&mut self, choices: &[Choice], _value: Number) -> Result<(), AllocError> {
+    fn run(&mut self, choices: &[Choice], _value: u64) -> Result<(), AllocError> {
         self.put("", &ShownChoices(choices));
         Ok(())
     }
@@ -197,16 +197,21 @@ impl CheckpointStore for Shelf {
 // Puts on the page what a check of the script gives: a line for each run, the line of the report or of the error, how often the
 // clock was asked and how many faults the store met, if any, and what was saved.
 fn check(
-    alloc: Global,
+    rt: &(impl Abort + AllocGlobal),
     builder: &Builder,
     steps: &'static [Step],
     page: &mut Page,
     shelf: &mut Shelf,
 ) {
     let mut clock = Slow { answers: 0 };
-    if let Ok(body) = &Script::new(alloc, steps) {
-        put_check(alloc, builder, body, page, &mut clock, shelf);
-    }
+    put_check(
+        rt.alloc(),
+        builder,
+        &script(rt, steps),
+        page,
+        &mut clock,
+        shelf,
+    );
     put_shelf(page, &clock, shelf);
 }
 
@@ -243,12 +248,12 @@ fn gives(
     text: &str,
 ) {
     let mut page = Page::new(rt.alloc());
-    check(rt.alloc(), builder, steps, &mut page, shelf);
+    check(rt, builder, steps, &mut page, shelf);
     same(rt, page.text.as_str(), text, "a check");
 }
 
-// The steps of lock_beside. A proof costs seconds where its function names the steps of a body, and next to nothing where it calls
-// this.
+// The steps of lock_beside. A proof costs seconds where its function names the steps of a body, and next to nothing where it
+// calls this.
 fn lock_beside() -> &'static [Step] {
     LOCK_BESIDE
 }

@@ -1,6 +1,6 @@
 //! Bodies of other tests that aren't rows: runs as large as they may be, and misuse.
 use loom_model::sync::atomic::Ordering::Relaxed;
-use loom_objects::operation::{
+use loom_operations::operation::{
     AtomicOp, CellOp, ChannelOp, MutexOp, NotifyOp, Request, RwLockOp, ThreadOp,
 };
 use loom_row_bodies::bodies::atomics::ACQ_REL;

@@ -1,8 +1,8 @@
 //! What a check finds is what the plain program finds.
 use super::checking::{found_by, is_run};
 use super::rows::program_rows;
-use super::texts::holds;
 use super::{bodies, others, searches, shared};
+use crate::asserting::holds;
 use loom_model::Body;
 use loom_plain::halt::Halt;
 use loom_plain::run::{Ending, Settings as PlainSettings};
@@ -11,7 +11,6 @@ use loom_row_bodies::guide::Counter;
 use loom_row_bodies::rows::{Checked, DEFAULTS, Row, row_of};
 use loom_row_bodies::settings::Settings;
 use loom_row_bodies::updates::Updater;
-use loom_scripts::number::Number;
 use loom_scripts::script::Script;
 use std::alloc::Global;
 use std::process::Abort;
@@ -83,7 +82,7 @@ static LARGE: [&str; 10] = [
 const MOST: usize = 301;
 
 // The runs that the plain program makes.
-fn plain_runs<B: Body<Data = Number>>(
+fn plain_runs<B: Body<Data = u64>>(
     alloc: Global,
     settings: Settings,
     body: &B,
@@ -152,8 +151,9 @@ fn are_same(reduce: bool, plain: &[Found], found: &[Found]) -> bool {
     }
 }
 
-// Whether a check that isn't reduced finds what the plain program does, in the same order. One that is makes runs of the least set.
-fn is_as_plain<B: Body<Data = Number>>(alloc: Global, settings: Settings, body: &B) -> bool {
+// Whether a check that isn't reduced finds what the plain program does, in the same order. One that is makes runs of the least
+// set.
+fn is_as_plain<B: Body<Data = u64>>(alloc: Global, settings: Settings, body: &B) -> bool {
     let keeper = found_by(alloc, settings, body);
     match &plain_runs(alloc, settings, body) {
         Ok(plain) => {
@@ -165,7 +165,7 @@ fn is_as_plain<B: Body<Data = Number>>(alloc: Global, settings: Settings, body: 
 }
 
 // The same by each of these searches, none of which is limited.
-fn are_as_plain<B: Body<Data = Number>>(
+fn are_as_plain<B: Body<Data = u64>>(
     alloc: Global,
     settings: Settings,
     body: &B,
@@ -224,17 +224,13 @@ fn is_counter_as_plain(alloc: Global, fewer_than: u64) -> bool {
 #[test]
 fn rows_are_what_the_plain_program_finds(rt: HostRuntime) {
     compare_rows(&rt, program_rows(&rt).as_slice());
+    holds(&rt, is_counter_as_plain(rt.alloc(), 2), "counter");
+    holds(&rt, is_counter_as_plain(rt.alloc(), 1), "first counter");
 }
 
 #[test]
 fn large_rows_are_what_the_plain_program_finds(rt: HostRuntime) {
     compare_large(&rt, program_rows(&rt).as_slice());
-}
-
-#[test]
-fn counters_are_what_the_plain_program_finds(rt: HostRuntime) {
-    holds(&rt, is_counter_as_plain(rt.alloc(), 2), "counter");
-    holds(&rt, is_counter_as_plain(rt.alloc(), 1), "first counter");
 }
 
 #[test]
@@ -245,10 +241,6 @@ fn bodies_of_tests_are_what_the_plain_program_finds(rt: HostRuntime) {
     compare_rows(&rt, bodies::lock_rows());
     compare_rows(&rt, bodies::other_rows());
     compare_rows(&rt, searches::rows());
-}
-
-#[test]
-fn bodies_that_share_are_what_the_plain_program_finds(rt: HostRuntime) {
     compare_rows(&rt, shared::channel_rows());
     compare_rows(&rt, shared::waker_rows());
     compare_rows(&rt, shared::value_rows());

@@ -1,7 +1,9 @@
 //! What the rows print.
 use super::rows::program_rows;
-use super::texts::{Page, Pen, Printed, holds};
 use super::words::says;
+use crate::asserting::holds;
+use crate::page::Page;
+use crate::rows::pens::{Pen, Printed};
 use loom_row_bodies::rows::{Row, run_row};
 use std::alloc::Global;
 use std::process::Abort;
@@ -181,16 +183,8 @@ fn prints(rt: &(impl Abort + AllocGlobal + Files), name: &str, line: &str, statu
 fn rows_print_their_lines(rt: HostRuntime) {
     print(&rt, &FIRST);
     print(&rt, &ATOMICS);
-}
-
-#[test]
-fn rows_of_cells_and_locks_print_their_lines(rt: HostRuntime) {
     print(&rt, &CELLS);
     print(&rt, &LOCKS);
-}
-
-#[test]
-fn other_rows_print_their_lines(rt: HostRuntime) {
     print(&rt, &WAITS);
     print(&rt, &OTHERS);
     print(&rt, &FENCES);
@@ -206,16 +200,22 @@ pub fn long_line(alloc: Global, begins: &str, main: usize, other: usize, ends: &
     line
 }
 
-#[test]
-fn accesses_are_counted(rt: HostRuntime) {
-    let line = long_line(rt.alloc(), "failed 10 0", 65_535, 0, "\n");
-    prints(&rt, "too_many_locks", line.text.as_str(), 1);
+// The row fails, and prints so many choices of main and of the other thread.
+fn fails_late(
+    rt: &(impl Abort + AllocGlobal + Files),
+    name: &str,
+    begins: &str,
+    main: usize,
+    other: usize,
+) {
+    let line = long_line(rt.alloc(), begins, main, other, "\n");
+    prints(rt, name, line.text.as_str(), 1);
 }
 
 #[test]
-fn stores_are_counted(rt: HostRuntime) {
-    let line = long_line(rt.alloc(), "failed 11 0", 40_000, 25_536, "\n");
-    prints(&rt, "too_many_stores", line.text.as_str(), 1);
+fn accesses_and_stores_are_counted(rt: HostRuntime) {
+    fails_late(&rt, "too_many_locks", "failed 10 0", 65_535, 0);
+    fails_late(&rt, "too_many_stores", "failed 11 0", 40_000, 25_536);
 }
 
 // Whether the status is 2 where a pen takes nothing that the row is to print, and the other one was given nothing.
@@ -228,12 +228,16 @@ fn is_refused(rt: &(impl AllocGlobal + Files), rows: &[Row], name: &str, breaks_
     status == 2 && out.text.is_empty() && err.text.is_empty()
 }
 
+fn are_refused(rt: &(impl Abort + AllocGlobal + Files), rows: &[Row]) {
+    holds(rt, is_refused(rt, rows, "lock_beside", true), "lock_beside");
+    holds(
+        rt,
+        is_refused(rt, rows, "no_such_row", false),
+        "no_such_row",
+    );
+}
+
 #[test]
 fn a_writer_that_fails_gives_status_2(rt: HostRuntime) {
-    let rows = program_rows(&rt);
-    let rows = rows.as_slice();
-    let is_so = is_refused(&rt, rows, "lock_beside", true);
-    holds(&rt, is_so, "lock_beside");
-    let is_so = is_refused(&rt, rows, "no_such_row", false);
-    holds(&rt, is_so, "no_such_row");
+    are_refused(&rt, program_rows(&rt).as_slice());
 }

@@ -1,6 +1,6 @@
 //! The rows of the program, and the bodies of tests behind them.
-use super::texts::holds;
 use super::{bodies, each_operation, others, searches, shared};
+use crate::asserting::holds;
 use loom_row_bodies::rows::{Row, all_rows};
 use std::process::Abort;
 

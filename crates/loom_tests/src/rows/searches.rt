@@ -1,7 +1,7 @@
 //! Small bodies with the runs of their searches, each of which tells a search from one that is a little wrong.
 use super::finding::{Case, Shows, find};
 use loom_model::sync::atomic::Ordering::Relaxed;
-use loom_objects::operation::{ArcOp, AtomicOp, MutexOp, Request, ThreadOp};
+use loom_operations::operation::{ArcOp, AtomicOp, MutexOp, Request, ThreadOp};
 use loom_row_bodies::rows::{Checked, DEFAULTS, Row, WHOLE};
 use loom_row_bodies::settings::Settings;
 use loom_scripts::step::{END, EXIT, PARK, Step, Value, YIELD};
@@ -340,14 +340,6 @@ static BOUNDED: [Case; 6] = [
 #[test]
 fn searches_make_these_runs(rt: HostRuntime) {
     find(&rt, &CASES);
-}
-
-#[test]
-fn a_deadlock_comes_after_three_runs(rt: HostRuntime) {
     find(&rt, &CROSSWISE);
-}
-
-#[test]
-fn bounds_leave_few_runs(rt: HostRuntime) {
     find(&rt, &BOUNDED);
 }

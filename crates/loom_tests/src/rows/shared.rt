@@ -1,7 +1,7 @@
 //! Bodies that aren't rows, in which threads meet at channels, at wakers and their places, and at values, and bodies that
 //! explore in parts.
 use loom_model::sync::atomic::Ordering::Relaxed;
-use loom_objects::operation::{
+use loom_operations::operation::{
     AtomicOp, AtomicWakerOp, CellOp, ChannelOp, ExploreOp, LazyOp, LocalOp, MutexOp, NotifyOp,
     Request, ThreadOp, WakerOp,
 };
@@ -238,7 +238,8 @@ const WAIT_BESIDE_WAKE: &[Step] = &[
     END,
 ];
 
-// A thread writes a cell and drops a waker. Main drops the other one, and reads the cell, which is a race unless that was the last.
+// A thread writes a cell and drops a waker. Main drops the other one, and reads the cell, which is a race unless that was the
+// last.
 const READ_BEHIND_DROPS: &[Step] = &[
     BLOCK_ON,
     CLONE,

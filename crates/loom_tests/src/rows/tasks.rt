@@ -1,7 +1,8 @@
 //! What is printed of rows that aren't checked as they are.
 use super::printed::long_line;
 use super::rows::rows_of;
-use super::texts::{Pen, Printed, holds, is_printed};
+use crate::asserting::holds;
+use crate::rows::pens::{Pen, Printed, is_printed};
 use loom_model::Choice;
 use loom_row_bodies::rows::{DEFAULTS, LONG_RUNS, Row, row_of};
 use loom_row_bodies::settings::Settings;
@@ -97,10 +98,9 @@ fn refuses(rt: &(impl Abort + AllocGlobal + Files), settings: Settings, line: &s
     does(rt, "lock_beside", settings, Task::Check, &printed);
 }
 
-#[test]
-fn settings_out_of_range_are_refused(rt: HostRuntime) {
+fn settings_are_refused(rt: &(impl Abort + AllocGlobal + Files)) {
     for (settings, line) in &SETTINGS {
-        refuses(&rt, *settings, *line);
+        refuses(rt, *settings, *line);
     }
 }
 
@@ -129,21 +129,26 @@ fn fails_again(rt: &(impl Abort + AllocGlobal + Files), choices: &[Choice]) {
 }
 
 #[test]
-fn a_failure_keeps_its_kind(rt: HostRuntime) {
+fn settings_are_refused_and_a_failure_keeps_its_kind(rt: HostRuntime) {
+    settings_are_refused(&rt);
     fails_again(&rt, &[Choice::Thread(Some(0))]);
     fails_again(&rt, &[]);
 }
 
-#[test]
-fn accesses_of_a_whole_search_are_counted(rt: HostRuntime) {
+fn accesses_are_counted(rt: &(impl Abort + AllocGlobal + Files)) {
     let line = long_line(rt.alloc(), "failed 10 0", 65_535, 0, "\n");
     let text = line.text.as_str();
-    ends(&rt, "too_many_locks", LONG_AND_WHOLE, Task::Check, text, 1);
+    ends(rt, "too_many_locks", LONG_AND_WHOLE, Task::Check, text, 1);
+}
+
+fn as_many_stores_as_may_be(rt: &(impl Abort + AllocGlobal + Files)) {
+    let line = long_line(rt.alloc(), "ended", 40_000, 25_536, " t-\n");
+    let task = Task::Replay(&[]);
+    ends(rt, "many stores", LONG_RUNS, task, line.text.as_str(), 0);
 }
 
 #[test]
-fn as_many_stores_as_may_be(rt: HostRuntime) {
-    let line = long_line(rt.alloc(), "ended", 40_000, 25_536, " t-\n");
-    let task = Task::Replay(&[]);
-    ends(&rt, "many stores", LONG_RUNS, task, line.text.as_str(), 0);
+fn runs_are_as_long_as_may_be(rt: HostRuntime) {
+    accesses_are_counted(&rt);
+    as_many_stores_as_may_be(&rt);
 }

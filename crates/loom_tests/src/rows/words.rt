@@ -1,5 +1,6 @@
 //! What the program does with words.
-use super::texts::{Pen, Printed, holds, is_printed};
+use crate::asserting::holds;
+use crate::rows::pens::{Pen, Printed, is_printed};
 use loom_row_bodies::words::{HELP, run_words};
 use std::process::Abort;
 use std::rt::Files;

@@ -3,7 +3,7 @@ use crate::text::forms::Deed;
 use crate::text::names::Value;
 use crate::text::objects::{Manner, Store};
 use crate::text::page::Page;
-use loom_objects::operation::{AtomicOp, CellOp, Reply};
+use loom_operations::operation::{AtomicOp, CellOp, Reply};
 use loom_views::rt::num::Numbers;
 use std::sync::atomic::Ordering;
 

@@ -4,7 +4,7 @@ use crate::text::names::order_name;
 use crate::text::objects::Kind;
 use crate::text::page::Page;
 use crate::text::world::World;
-use loom_objects::operation::{
+use loom_operations::operation::{
     ArcOp, AtomicOp, AtomicWakerOp, CellOp, ChannelOp, CondvarOp, ExploreOp, LazyOp, LocalOp,
     MutexOp, NotifyOp, Request, RwLockOp, ThreadOp, TrackOp, WakerOp,
 };

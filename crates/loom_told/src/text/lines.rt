@@ -5,8 +5,8 @@ use crate::text::calls::{Call, call_of};
 use crate::text::objects::{At, Kind, Store};
 use crate::text::page::Page;
 use crate::text::world::World;
-use loom_objects::choice::Choice;
-use loom_objects::operation::{Op, Request};
+use loom_operations::operation::{Op, Request};
+use loom_parts::choice::Choice;
 use loom_parts::label::{Label, location_in, name_in};
 use std::alloc::Global;
 

@@ -1,7 +1,7 @@
 //! How objects, values, threads and places are named.
 use crate::text::objects::Object;
 use crate::text::page::Page;
-use loom_objects::rt::thread::Name;
+use loom_operations::operation::Name;
 use loom_parts::label::{Label, location_in, name_in};
 use loom_parts::location::Location;
 use loom_parts::text::Text;

@@ -1,5 +1,5 @@
 //! What is known of an object, a store, an access and a thread, as far as a run's events tell.
-use loom_objects::rt::thread::Name;
+use loom_operations::operation::Name;
 use loom_parts::label::Label;
 use loom_views::rt::num::Numbers;
 use std::sync::atomic::Ordering;

@@ -11,8 +11,8 @@ use crate::explanation::{End, Event, Explanation};
 use crate::text::objects::{Access, At};
 use crate::text::page::Page;
 use crate::text::world::World;
-use loom_objects::choice::Choice;
-use loom_objects::operation::{LocalOp, Request, ThreadOp};
+use loom_operations::operation::{LocalOp, Request, ThreadOp};
+use loom_parts::choice::Choice;
 use loom_parts::label::{Label, location_in};
 use loom_views::rt::failure::FailureKind;
 

@@ -6,10 +6,9 @@ use crate::text::calls::{Call, call_of};
 use crate::text::forms::Deed;
 use crate::text::names::Thing;
 use crate::text::objects::{Access, At, Hold, Kind, Manner, Member, Object, Reading, Store};
-use loom_objects::operation::{
-    AtomicOp, AtomicWakerOp, CellOp, CondvarOp, Op, Reply, Request, ThreadOp,
+use loom_operations::operation::{
+    AtomicOp, AtomicWakerOp, CellOp, CondvarOp, Name, Op, Reply, Request, ThreadOp,
 };
-use loom_objects::rt::thread::Name;
 use loom_parts::label::Label;
 use loom_views::rt::MAX_ATOMIC_HISTORY;
 use loom_views::rt::num::Numbers;

@@ -66,6 +66,18 @@ impl Views {
         }
     }
 
+    /// Main alone again, and no object. It takes no memory, and the room for objects stays (own).
+    pub fn restart(&mut self)
+        ensures { ShowsViews opening self.new }
+    {
+        let threads = [ThreadViews::new(); MAX_THREADS];
+        self.threads = threads;
+        self.count = 1;
+        self.places.clear();
+        self.stamps.clear();
+        self.global = VersionVec::new();
+    }
+
     /// A thread raises its version. `TooManyVersions` where it has raised 65,534 times, `Misuse` where there is no such
     /// thread; then nothing changes (loom's `rt/vv.rs`; the limit is own).
     pub fn raise(&mut self, thread: usize) -> Result<(), FailureKind>

@@ -4,7 +4,7 @@ use Rattle.std.specs.Prelude.{cond, Result, Ok, Err}
 use Rattle.loom_view_parts.specs.declared.rt.failure.FailureKind.{FailureKind}
 use Rattle.loom_view_parts.specs.declared.rt.failure.FailureKind.TheVariants.{NotDeterministic}
 use Rattle.loom_parts.specs.declared.choice.Choice.{Choice}
-use Rattle.loom_objects.specs.Tree.{Tree, Gives, Fails, Closes, Asks, ◌>>=◌}
+use Rattle.loom_operations.specs.Tree.{Tree, Gives, Fails, Closes, Asks, ◌>>=◌}
 use Rattle.loom_walks.specs.Trees.Meeting.{Settings, Marking}
 use Rattle.loom_walks.specs.Trees.Drive.{Trail, Answer, branch, backtrack, is_used_up, drive, drive_on}
 

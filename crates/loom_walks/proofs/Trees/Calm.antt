@@ -1,7 +1,7 @@
 -- A walk that takes no run for a failure goes on where a check stopped.
 use Rattle.std.proofs.Common.{◌≡◌, ℕ, zero, suc, false, List, [], ◌∷◌, ◌++◌, Option, Some, None, refl, ap, ap₂, sym, ◌∙◌, subst, inl, inr}
 use Rattle.loom_parts.specs.declared.choice.Choice.{Choice}
-use Rattle.loom_objects.specs.Question.{Made}
+use Rattle.loom_operations.specs.Question.{Made}
 use Rattle.loom_walks.specs.Walk.Machine.{Machine, extend, run}
 use Rattle.loom_walks.specs.Walk.Sound.{IsMachine}
 use Rattle.loom_walks.specs.Walk.Runs.{Alternative}

@@ -2,7 +2,7 @@
 use Rattle.std.proofs.Common.{◌≡◌, ◌⊎◌, ℕ, zero, suc, true, false, List, [], ◌∷◌, ◌++◌, Some, None, refl, ap, sym, ◌∙◌, subst, inl, inr}
 use Rattle.std.specs.Prelude.{Result, Ok, Err}
 use Rattle.loom_parts.specs.declared.choice.Choice.{Choice}
-use Rattle.loom_objects.specs.Question.{Made, Among, made_of}
+use Rattle.loom_operations.specs.Question.{Made, Among, made_of}
 use Rattle.loom_walks.specs.Walk.Machine.{Machine}
 use Rattle.loom_walks.specs.Walk.Sound.{IsMachine}
 use Rattle.loom_walks.specs.Walk.Runs.{Reachable}
@@ -16,7 +16,7 @@ use Rattle.loom_walks.proofs.Walk.Round.{round_law, fresh_law as walk_fresh}
 use Rattle.loom_walks.proofs.Walk.Ends.{ends_law as walk_ends}
 use Rattle.loom_walks.proofs.Walk.Order.{order_law as walk_order}
 use Rattle.loom_view_parts.specs.declared.rt.failure.FailureKind.{FailureKind}
-use Rattle.loom_objects.specs.Tree.{Tree, Gives, Fails, Closes, Asks}
+use Rattle.loom_operations.specs.Tree.{Tree, Gives, Fails, Closes, Asks}
 use Rattle.loom_walks.specs.Trees.Outcomes.{met, outcome, is_failure}
 use Rattle.loom_walks.specs.Trees.Sound.{IsQuiet, IsSoundTree}
 use Rattle.loom_walks.specs.Trees.Meeting.{Settings, Marking, machine_of}

@@ -3,7 +3,7 @@ use Rattle.std.proofs.Common.{◌≡◌, ◌≢◌, ◌⊎◌, ℕ, zero, suc, �
 use Rattle.std.specs.Prelude.{slice_get, cond, nat_lt, IsSomeAnd, Result, Ok, Err}
 use Rattle.std.proofs.lemmas.Option.{slice_get_within}
 use Rattle.loom_parts.specs.declared.choice.Choice.{Choice}
-use Rattle.loom_objects.specs.Question.{Made, Among, Question, made_of}
+use Rattle.loom_operations.specs.Question.{Made, Among, Question, made_of}
 use Rattle.loom_walks.specs.Walk.Machine.{Machine, is_thread}
 use Rattle.loom_walks.specs.Walk.Choices.{among, pick}
 use Rattle.loom_walks.specs.Walk.Walks.{ExploresAll}
@@ -13,7 +13,7 @@ use Rattle.loom_walks.proofs.Walk.Bound.{bound_law as walk_bound}
 use Rattle.loom_walks.proofs.Walk.EveryRun.{every_run_law as walk_every}
 use Rattle.loom_view_parts.specs.declared.rt.failure.FailureKind.{FailureKind}
 use Rattle.loom_view_parts.specs.declared.rt.failure.FailureKind.TheVariants.{TooManyBranches}
-use Rattle.loom_objects.specs.Tree.{Tree, Gives, Fails, Closes, Asks}
+use Rattle.loom_operations.specs.Tree.{Tree, Gives, Fails, Closes, Asks}
 use Rattle.loom_walks.specs.Trees.Outcomes.{met, outcome, passed}
 use Rattle.loom_walks.specs.Trees.Sound.{IsQuiet, IsSoundTree}
 use Rattle.loom_walks.specs.Trees.Meeting.{Settings, Tally, start, is_last, preempts, tally_thread, tally_one, tally, count, is_below, every_at, every_met, Marking, front_of, marked_too, marks_of, no_marks, machine_of}

@@ -3,7 +3,7 @@ use Rattle.std.proofs.Common.{◌≡◌, ℕ, zero, suc, ◌+◌, ◌<◌, ◌�
 use Rattle.std.specs.Prelude.{slice_get, cond, nat_lt, nat_le, Result, Ok, Err, IsSomeAnd}
 use Rattle.std.proofs.lemmas.Option.{slice_get_within}
 use Rattle.loom_parts.specs.declared.choice.Choice.{Choice}
-use Rattle.loom_objects.specs.Question.{Made, Among, Question, made_of}
+use Rattle.loom_operations.specs.Question.{Made, Among, Question, made_of}
 use Rattle.loom_walks.specs.Walk.Machine.{Machine}
 use Rattle.loom_walks.specs.Walk.Choices.{among, pick}
 use Rattle.loom_walks.specs.Walk.Path.{Stored, choices, node_at, IsAtRest, IsResting, fresh, after_run, mark_status}
@@ -14,7 +14,7 @@ use Rattle.loom_walks.proofs.Walk.After.{after_run_is}
 use Rattle.loom_view_parts.specs.declared.rt.failure.FailureKind.{FailureKind}
 use Rattle.loom_view_parts.specs.declared.rt.failure.FailureKind.TheVariants.{NotDeterministic, TooManyBranches}
 use Rattle.loom_walks.specs.Trees.Comparing.{same_made}
-use Rattle.loom_objects.specs.Tree.{Tree, Gives, Fails, Closes, Asks}
+use Rattle.loom_operations.specs.Tree.{Tree, Gives, Fails, Closes, Asks}
 use Rattle.loom_walks.specs.Trees.Outcomes.{met, outcome, passed}
 use Rattle.loom_walks.specs.Trees.Sound.{IsQuiet, IsSoundTree}
 use Rattle.loom_walks.specs.Trees.Meeting.{Settings, Marking, marked_too, marks_of, no_marks, machine_of, every_at, every_met}

@@ -2,7 +2,7 @@
 use Rattle.std.proofs.Common.{◌≡◌, ℕ, zero, suc, ◌<◌, ◌≤◌, Bool, true, false, ◌&&◌, List, [], ◌∷◌, ◌++◌, length, Option, Some, None, refl, ap, ap₂, sym, ◌∙◌, subst, arith, append-nil, length-append}
 use Rattle.std.specs.Prelude.{slice_get, cond, nat_lt, nat_le, Result, Ok, Err}
 use Rattle.loom_parts.specs.declared.choice.Choice.{Choice}
-use Rattle.loom_objects.specs.Question.{Made, Among, Question, made_of}
+use Rattle.loom_operations.specs.Question.{Made, Among, Question, made_of}
 use Rattle.loom_walks.specs.Walk.Machine.{Machine}
 use Rattle.loom_walks.specs.Walk.Choices.{among, pick}
 use Rattle.loom_walks.specs.Walk.Path.{Stored, choices}
@@ -10,7 +10,7 @@ use Rattle.loom_walks.specs.Walk.Lists.{IsAllowed}
 use Rattle.loom_walks.proofs.Walk.Lists.{TwoSplits, earlier, same_place, later, two_splits, choices_append, snoc_append}
 use Rattle.loom_view_parts.specs.declared.rt.failure.FailureKind.{FailureKind}
 use Rattle.loom_view_parts.specs.declared.rt.failure.FailureKind.TheVariants.{NotDeterministic, TooManyBranches}
-use Rattle.loom_objects.specs.Tree.{Tree, Gives, Fails, Closes, Asks}
+use Rattle.loom_operations.specs.Tree.{Tree, Gives, Fails, Closes, Asks}
 use Rattle.loom_walks.specs.Trees.Outcomes.{outcome}
 use Rattle.loom_walks.specs.Trees.Sound.{IsSoundTree}
 use Rattle.loom_walks.specs.Trees.Meeting.{Settings, Marking, marked_too, no_marks, machine_of, every_at}

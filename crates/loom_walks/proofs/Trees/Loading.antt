@@ -2,7 +2,7 @@
 use Rattle.std.proofs.Common.{◌≡◌, ◌≢◌, ℕ, zero, suc, ◌+◌, ◌<◌, ◌≤◌, Bool, true, false, ◌&&◌, List, [], ◌∷◌, ◌++◌, length, map, take, Some, None, refl, ap, ap₂, sym, ◌∙◌, subst, arith, append-nil, length-append}
 use Rattle.std.specs.Prelude.{cond, nat_le, Result, Ok, Err}
 use Rattle.loom_parts.specs.declared.choice.Choice.{Choice}
-use Rattle.loom_objects.specs.Question.{Made, Among, Question, made_of}
+use Rattle.loom_operations.specs.Question.{Made, Among, Question, made_of}
 use Rattle.loom_walks.specs.Walk.Machine.{Machine}
 use Rattle.loom_walks.specs.Walk.Choices.{pick}
 use Rattle.loom_walks.specs.Walk.Path.{Stored, choices, fresh}
@@ -12,7 +12,7 @@ use Rattle.loom_walks.proofs.Walk.UnderWay.{over_law, parted}
 use Rattle.loom_view_parts.specs.declared.rt.failure.FailureKind.{FailureKind}
 use Rattle.loom_view_parts.specs.declared.rt.failure.FailureKind.TheVariants.{NotDeterministic}
 use Rattle.loom_walks.specs.Trees.Comparing.{same_made}
-use Rattle.loom_objects.specs.Tree.{Tree, Gives, Fails, Closes, Asks}
+use Rattle.loom_operations.specs.Tree.{Tree, Gives, Fails, Closes, Asks}
 use Rattle.loom_walks.specs.Trees.Outcomes.{outcome, passed}
 use Rattle.loom_walks.specs.Trees.Sound.{IsSoundTree}
 use Rattle.loom_walks.specs.Trees.Meeting.{Settings, Marking, marked_too, no_marks, machine_of, every_at, every_met}

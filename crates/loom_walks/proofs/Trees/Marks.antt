@@ -4,7 +4,7 @@ use Rattle.std.specs.Prelude.{slice_get, IsSomeAnd}
 use Rattle.std.proofs.lemmas.Bool.{and_parts}
 use Rattle.loom_parts.specs.declared.choice.Choice.{Choice}
 use Rattle.loom_parts.specs.declared.choice.Choice.TheVariants.{Thread}
-use Rattle.loom_objects.specs.Question.{Made}
+use Rattle.loom_operations.specs.Question.{Made}
 use Rattle.loom_walks.specs.Walk.Choices.{same, pick}
 use Rattle.loom_walks.specs.Trees.Meeting.{count, front_of}
 use Rattle.loom_walks.specs.Trees.Marks.{is_disabled, adds_there, adds_any, added_at, is_in, unordered_in, is_off_bound}

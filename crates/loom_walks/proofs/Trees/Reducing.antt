@@ -2,8 +2,8 @@
 use Rattle.std.proofs.Common.{◌≡◌, ◌≢◌, ◌⊎◌, ℕ, zero, suc, ◌<◌, ◌≤◌, Bool, true, false, ◌&&◌, not, List, [], ◌∷◌, ◌++◌, length, Option, Some, None, refl, sym, ◌∙◌, subst, inl, inr, arith}
 use Rattle.std.specs.Prelude.{cond}
 use Rattle.loom_parts.specs.declared.choice.Choice.{Choice}
-use Rattle.loom_objects.specs.Question.{Made}
-use Rattle.loom_objects.specs.Tree.{Tree}
+use Rattle.loom_operations.specs.Question.{Made}
+use Rattle.loom_operations.specs.Tree.{Tree}
 use Rattle.loom_walks.specs.Walk.Machine.{Machine, is_thread, extend, run}
 use Rattle.loom_walks.specs.Walk.Runs.{Alternative, Reachable, by_default, by_alternative}
 use Rattle.loom_walks.specs.Walk.Bound.{IsCount}

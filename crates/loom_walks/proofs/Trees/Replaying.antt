@@ -3,7 +3,7 @@ use Rattle.std.proofs.Common.{◌≡◌, ℕ, zero, suc, ◌<◌, ◌≤◌, Boo
 use Rattle.std.specs.Prelude.{slice_get, cond, nat_lt, nat_le, Result, Ok, Err}
 use Rattle.std.proofs.lemmas.Option.{slice_get_past}
 use Rattle.loom_parts.specs.declared.choice.Choice.{Choice}
-use Rattle.loom_objects.specs.Question.{Made, Among, Question, made_of}
+use Rattle.loom_operations.specs.Question.{Made, Among, Question, made_of}
 use Rattle.loom_walks.specs.Walk.Machine.{Machine, is_thread, run}
 use Rattle.loom_walks.specs.Walk.Choices.{same, among, pick}
 use Rattle.loom_walks.specs.Walk.Path.{Stored, choices, fresh, choose}
@@ -13,7 +13,7 @@ use Rattle.loom_walks.proofs.Walk.Lists.{choices_append, snoc_append}
 use Rattle.loom_walks.proofs.Walk.Defaults.{Defaults, over, on, run_is}
 use Rattle.loom_view_parts.specs.declared.rt.failure.FailureKind.{FailureKind}
 use Rattle.loom_view_parts.specs.declared.rt.failure.FailureKind.TheVariants.{NotDeterministic, TooManyBranches}
-use Rattle.loom_objects.specs.Tree.{Tree, Gives, Fails, Closes, Asks}
+use Rattle.loom_operations.specs.Tree.{Tree, Gives, Fails, Closes, Asks}
 use Rattle.loom_walks.specs.Trees.Outcomes.{met, outcome}
 use Rattle.loom_walks.specs.Trees.Sound.{IsSoundTree}
 use Rattle.loom_walks.specs.Trees.Meeting.{Settings, Marking, marked_too, no_marks, machine_of, every_at}

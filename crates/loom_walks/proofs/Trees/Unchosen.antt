@@ -4,8 +4,8 @@ use Rattle.std.specs.Prelude.{Ok}
 use Rattle.loom_parts.specs.declared.choice.Choice.{Choice}
 use Rattle.loom_parts.specs.declared.choice.Choice.TheVariants.{Thread}
 use Rattle.loom_parts.specs.declared.ability.Ability.{Ability}
-use Rattle.loom_objects.specs.Question.{Made, Among, Question, WhichThread, WhichStore, WhetherSpurious, thread_options, made_of}
-use Rattle.loom_objects.specs.Tree.{Tree, Gives, Fails, Closes, Asks}
+use Rattle.loom_operations.specs.Question.{Made, Among, Question, WhichThread, WhichStore, WhetherSpurious, thread_options, made_of}
+use Rattle.loom_operations.specs.Tree.{Tree, Gives, Fails, Closes, Asks}
 use Rattle.loom_walks.specs.Walk.Choices.{among, pick}
 use Rattle.loom_walks.specs.Walk.Machine.{Machine}
 use Rattle.loom_walks.specs.Walk.Path.{Stored, choices, node_at, choose, IsAtRest, IsResting, after_run, step}

@@ -2,7 +2,7 @@
 use Rattle.std.proofs.Common.{◌≡◌, ◌⊎◌, true, List, [], ◌∷◌, ◌++◌, Some, refl, ap, ap₂, sym, ◌∙◌, inl, inr, append_assoc, append-nil, Bool, Option, None, subst, ◌≢◌}
 use Rattle.loom_parts.specs.declared.choice.Choice.{Choice}
 use Rattle.loom_walks.specs.Walk.Path.{step, Skip, Pending, Visited, Stored, choices, node_at, IsAtRest, choose}
-use Rattle.loom_objects.specs.Question.{Made}
+use Rattle.loom_operations.specs.Question.{Made}
 use Rattle.loom_walks.specs.Walk.Lists.{Begins}
 use Rattle.loom_walks.specs.Walk.Driven.{IsLeftBy, Driven, last_run, one_run, IsOneOf, ToBeTried, DrivenLaw, passes, HasNoSkip, MakesNoSkip, EachMakesNoSkip, last_makes, one_makes, NoSkipLaw}
 use Rattle.loom_walks.proofs.Walk.Lists.{node_chooses, chooses_node, node_on, snoc_append, TwoSplits, earlier, same_place, later as behind, two_splits}

@@ -4,7 +4,7 @@ use mathlib.Core.Path.{refl}
 use native.Mathlib.Decide.{ℕ_discrete}
 use Rattle.loom_parts.specs.declared.choice.Choice.{Choice}
 use Rattle.loom_walks.specs.Walk.Choices.{same, same_thread, same_flag, among}
-use Rattle.loom_objects.specs.Question.{Made, Among}
+use Rattle.loom_operations.specs.Question.{Made, Among}
 use Rattle.loom_walks.specs.Walk.Machine.{run, extend}
 use Rattle.loom_walks.specs.Walk.Sound.{IsMachine}
 use Rattle.loom_walks.specs.Walk.Path.{new_nodes, step}

@@ -1,7 +1,7 @@
 -- What is left to be done from a path is what is left from it when its run is over.
 use Rattle.std.proofs.Common.{◌≡◌, ◌≢◌, ◌⊎◌, Bool, true, false, cond, ◌&&◌, List, [], ◌∷◌, ◌++◌, length, Some, ap, sym, ◌∙◌, subst, inl, inr}
 use Rattle.loom_parts.specs.declared.choice.Choice.{Choice}
-use Rattle.loom_objects.specs.Question.{Made, Among}
+use Rattle.loom_operations.specs.Question.{Made, Among}
 use Rattle.loom_walks.specs.Walk.Machine.{Machine, run}
 use Rattle.loom_walks.specs.Walk.Sound.{IsMachine}
 use Rattle.loom_walks.specs.Walk.Runs.{Alternative}

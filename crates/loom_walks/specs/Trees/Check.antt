@@ -9,7 +9,7 @@ use Rattle.loom_walks.specs.Walk.Walks.{IsStopped}
 use Rattle.loom_walks.specs.Walk.Lists.{IsWalkList, IsAllowed, IsInOrder}
 use Rattle.loom_view_parts.specs.declared.rt.failure.FailureKind.{FailureKind}
 use Rattle.loom_view_parts.specs.declared.rt.failure.FailureKind.TheVariants.{NotDeterministic}
-use Rattle.loom_objects.specs.Tree.{Tree}
+use Rattle.loom_operations.specs.Tree.{Tree}
 use Rattle.loom_walks.specs.Trees.Outcomes.{outcome, AreRuns, choices_made}
 use Rattle.loom_walks.specs.Trees.Sound.{IsSoundTree, IsClosing}
 use Rattle.loom_walks.specs.Trees.Meeting.{Settings, Marking, machine_of}

@@ -4,7 +4,7 @@ use mathlib.Core.Path.{ap, refl, ◌∙◌}
 use Rattle.loom_parts.specs.declared.choice.Choice.{Choice}
 use Rattle.loom_parts.specs.declared.ability.Ability.{Ability}
 use Rattle.loom_parts.specs.declared.ability.Ability.TheVariants.{Able, Yielding, Unable}
-use Rattle.loom_objects.specs.Question.{Made}
+use Rattle.loom_operations.specs.Question.{Made}
 use Rattle.loom_walks.specs.Walk.Choices.{same, same_flag}
 
 unfoldable pub same_choices : (a b : List Choice) → Dec (a ≡ b)

@@ -1,7 +1,7 @@
 -- How a path drives through a tree of runs.
 use Rattle.std.specs.Prelude.{ℕ, zero, ◌+◌, ◌≡◌, Bool, true, false, ◌&&◌, cond, List, [], ◌∷◌, ◌++◌, map, take, length, nat_lt, nat_le, Option, Some, None, Result, Ok, Err, slice_get}
 use Rattle.loom_parts.specs.declared.choice.Choice.{Choice}
-use Rattle.loom_objects.specs.Question.{Made, Question, made_of}
+use Rattle.loom_operations.specs.Question.{Made, Question, made_of}
 use Rattle.loom_walks.specs.Walk.Machine.{is_thread, run}
 use Rattle.loom_walks.specs.Walk.Choices.{same, among, pick}
 use Rattle.loom_walks.specs.Walk.Path.{Status, Closed, Pending, Active, Visited, Stored, choices, IsResting, fresh, after_run, choose}
@@ -9,7 +9,7 @@ use Rattle.loom_walks.specs.Walk.UnderWay.{mark_with}
 use Rattle.loom_view_parts.specs.declared.rt.failure.FailureKind.{FailureKind}
 use Rattle.loom_view_parts.specs.declared.rt.failure.FailureKind.TheVariants.{NotDeterministic, TooManyBranches}
 use Rattle.loom_walks.specs.Trees.Comparing.{same_made}
-use Rattle.loom_objects.specs.Tree.{Tree, Gives, Fails, Closes, Asks}
+use Rattle.loom_operations.specs.Tree.{Tree, Gives, Fails, Closes, Asks}
 use Rattle.loom_walks.specs.Trees.Outcomes.{outcome}
 use Rattle.loom_walks.specs.Trees.Sound.{IsSoundTree}
 use Rattle.loom_walks.specs.Trees.Meeting.{Settings, Marking, every_at, machine_of}

@@ -4,8 +4,8 @@ use Rattle.loom_parts.specs.declared.choice.Choice.{Choice}
 use Rattle.loom_parts.specs.declared.choice.Choice.TheVariants.{Thread, Spurious}
 use Rattle.loom_walks.specs.Walk.Path.{Stored, choices, step}
 use Rattle.loom_parts.specs.declared.ability.Ability.TheVariants.{Able, Unable}
-use Rattle.loom_objects.specs.Question.{Question, WhichThread, WhetherSpurious}
-use Rattle.loom_objects.specs.Tree.{Tree, Gives, Closes, Asks}
+use Rattle.loom_operations.specs.Question.{Question, WhichThread, WhetherSpurious}
+use Rattle.loom_operations.specs.Tree.{Tree, Gives, Closes, Asks}
 use Rattle.loom_walks.specs.Trees.Sound.{IsSoundTree}
 use Rattle.loom_walks.specs.Trees.Meeting.{Settings, Marking}
 use Rattle.loom_walks.specs.Trees.Drive.{drive, at_start}

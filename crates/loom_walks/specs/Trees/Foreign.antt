@@ -2,7 +2,7 @@
 use Rattle.std.specs.Prelude.{ℕ, ◌≡◌, [], ◌∷◌, Err}
 use Rattle.loom_walks.specs.Walk.Path.{Stored, Rest}
 use Rattle.loom_view_parts.specs.declared.rt.failure.FailureKind.TheVariants.{Assertion}
-use Rattle.loom_objects.specs.Tree.{Tree, Fails}
+use Rattle.loom_operations.specs.Tree.{Tree, Fails}
 use Rattle.loom_walks.specs.Trees.Meeting.{Settings, machine_of}
 use Rattle.loom_walks.specs.Trees.Drive.{drive, at_start}
 use Rattle.loom_walks.specs.Trees.Example.{no_marking}

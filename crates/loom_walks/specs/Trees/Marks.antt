@@ -4,7 +4,7 @@ use Rattle.loom_parts.specs.declared.choice.Choice.{Choice}
 use Rattle.loom_parts.specs.declared.choice.Choice.TheVariants.{Thread}
 use Rattle.loom_parts.specs.declared.ability.Ability.{Ability}
 use Rattle.loom_parts.specs.declared.ability.Ability.TheVariants.{Able, Yielding, Unable}
-use Rattle.loom_objects.specs.Question.{Made, Question, WhichThread, WhichStore, WhetherSpurious}
+use Rattle.loom_operations.specs.Question.{Made, Question, WhichThread, WhichStore, WhetherSpurious}
 use Rattle.loom_walks.specs.Walk.Machine.{is_thread}
 use Rattle.loom_walks.specs.Walk.Choices.{same, pick}
 use Rattle.loom_walks.specs.Trees.Meeting.{Marking, count, front_of}

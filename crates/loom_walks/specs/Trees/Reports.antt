@@ -1,8 +1,8 @@
 -- What is known of a check from a path without nodes by what it reports.
 use Rattle.std.specs.Prelude.{ℕ, ◌≡◌, ◌≢◌, ◌≤◌, false, List, [], ◌∷◌, ◌++◌, Some, None, Result, Ok, Err, ◌↔◌, ◌⊎◌}
 use Rattle.loom_parts.specs.declared.choice.Choice.{Choice}
-use Rattle.loom_objects.specs.Question.{Made, Among}
-use Rattle.loom_objects.specs.Tree.{Tree}
+use Rattle.loom_operations.specs.Question.{Made, Among}
+use Rattle.loom_operations.specs.Tree.{Tree}
 use Rattle.loom_view_parts.specs.declared.rt.failure.FailureKind.{FailureKind}
 use Rattle.loom_view_parts.specs.declared.rt.failure.FailureKind.TheVariants.{NotDeterministic}
 use Rattle.loom_walks.specs.Walk.Machine.{Machine}

@@ -1,7 +1,7 @@
 -- A bound on preemptions.
 use Rattle.std.specs.Prelude.{ℕ, suc, ◌<◌, ◌≤◌, ◌≡◌, ◌≢◌, true, false, List, [], ◌∷◌, ◌++◌, length, Some}
 use Rattle.loom_parts.specs.declared.choice.Choice.{Choice}
-use Rattle.loom_objects.specs.Question.{Made}
+use Rattle.loom_operations.specs.Question.{Made}
 use Rattle.loom_walks.specs.Walk.Machine.{Machine, is_thread}
 use Rattle.loom_walks.specs.Walk.Sound.{IsMachine}
 use Rattle.loom_walks.specs.Walk.Runs.{Reachable}

@@ -5,7 +5,7 @@ use mathlib.Core.Path.{ap, refl}
 use native.Mathlib.Decide.{ℕ_discrete}
 use Rattle.loom_parts.specs.declared.choice.Choice.{Choice}
 use Rattle.loom_parts.specs.declared.choice.Choice.TheVariants.{Thread, Load, Spurious}
-use Rattle.loom_objects.specs.Question.{Among}
+use Rattle.loom_operations.specs.Question.{Among}
 
 abbrev pub pick : {A B : Type 0} → Dec A → B → B → B
 pick (yes a) x y = x

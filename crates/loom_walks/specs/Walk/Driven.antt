@@ -2,7 +2,7 @@
 use Rattle.std.specs.Prelude.{◌≡◌, ◌≢◌, Bool, true, List, [], ◌∷◌, ◌++◌, Some, None, ◌⊎◌}
 use Rattle.loom_parts.specs.declared.choice.Choice.{Choice}
 use Rattle.loom_walks.specs.Walk.Path.{Status, Skip, Pending, Active, Visited, Stored, choices, node_at, IsAtRest, step}
-use Rattle.loom_objects.specs.Question.{Made}
+use Rattle.loom_operations.specs.Question.{Made}
 use Rattle.loom_walks.specs.Walk.Lists.{Begins}
 
 -- A run that began with the path p has left the path q: p's nodes with the same choices, of whose options only those

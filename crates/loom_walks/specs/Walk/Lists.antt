@@ -1,7 +1,7 @@
 -- Lists of runs: a walk list of a set of runs, in the order of the first difference.
 use Rattle.std.specs.Prelude.{◌≡◌, ◌≢◌, List, [], ◌∷◌, ◌++◌, Some, ◌⊎◌, ◌↔◌}
 use Rattle.loom_parts.specs.declared.choice.Choice.{Choice}
-use Rattle.loom_objects.specs.Question.{Made, Among}
+use Rattle.loom_operations.specs.Question.{Made, Among}
 use Rattle.loom_walks.specs.Walk.Machine.{Machine}
 
 abbrev pub Member : List Choice → List (List Choice) → Type 0

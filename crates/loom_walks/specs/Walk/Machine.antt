@@ -2,7 +2,7 @@
 use Rattle.std.specs.Prelude.{ℕ, zero, suc, Bool, true, false, List, [], ◌∷◌, ◌++◌, Option, Some, None}
 use Rattle.loom_parts.specs.declared.choice.Choice.{Choice}
 use Rattle.loom_parts.specs.declared.choice.Choice.TheVariants.{Thread, Load, Spurious}
-use Rattle.loom_objects.specs.Question.{Made}
+use Rattle.loom_operations.specs.Question.{Made}
 
 -- node: the node that a run meets after these choices, or None where it is over.
 -- every: whether each option of that node is to be tried: at a load or a spurious wake-up always; at a schedule where

@@ -1,7 +1,7 @@
 -- Which runs are to be made.
 use Rattle.std.specs.Prelude.{◌≡◌, ◌≢◌, true, List, [], ◌∷◌, ◌++◌, length, Some, ◌⊎◌}
 use Rattle.loom_parts.specs.declared.choice.Choice.{Choice}
-use Rattle.loom_objects.specs.Question.{Made, Among}
+use Rattle.loom_operations.specs.Question.{Made, Among}
 use Rattle.loom_walks.specs.Walk.Machine.{Machine, run}
 
 -- The run r calls for another: at a node that explores, after the choices before it, the option o in place of r's.

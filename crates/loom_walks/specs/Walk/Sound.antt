@@ -1,7 +1,7 @@
 -- What holds of each machine.
 use Rattle.std.specs.Prelude.{◌≤◌, ◌≡◌, true, false, List, ◌∷◌, ◌++◌, length, Some, None}
 use Rattle.loom_parts.specs.declared.choice.Choice.{Choice}
-use Rattle.loom_objects.specs.Question.{Made, Among}
+use Rattle.loom_operations.specs.Question.{Made, Among}
 use Rattle.loom_walks.specs.Walk.Machine.{Machine, is_thread}
 
 -- what holds of the nodes and marks of each machine

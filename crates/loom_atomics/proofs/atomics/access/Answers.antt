@@ -1,6 +1,6 @@
 use Rattle.std.proofs.Common.{subst}
 use Rattle.loom_view_parts.specs.declared.rt.reader.Reader.{Reader}
-use Rattle.loom_objects.specs.declared.operation.AtomicOp.{AtomicOp}
+use Rattle.loom_operations.specs.declared.operation.AtomicOp.{AtomicOp}
 use Rattle.loom_objects.specs.Atomics.{accesses, opens}
 use Rattle.loom_objects.specs.Scene.{Does, world_of}
 use Rattle.loom_objects.proofs.Showing.{does_as}

@@ -1,8 +1,8 @@
 use Rattle.std.proofs.Common.{◌≡◌, ℕ, subst, rules, Result, Ok, Err}
-use Rattle.loom_objects.specs.declared.operation.AtomicOp.TheVariants.{CompareExchange}
-use Rattle.loom_objects.specs.declared.operation.Exchange.{Exchange}
-use Rattle.loom_objects.specs.declared.operation.Reply.{Reply}
-use Rattle.loom_objects.specs.declared.operation.Reply.TheVariants.{Exchanged, Value}
+use Rattle.loom_operations.specs.declared.operation.AtomicOp.TheVariants.{CompareExchange}
+use Rattle.loom_operations.specs.declared.operation.Exchange.{Exchange}
+use Rattle.loom_operations.specs.declared.operation.Reply.{Reply}
+use Rattle.loom_operations.specs.declared.operation.Reply.TheVariants.{Exchanged, Value}
 use Rattle.loom_objects.specs.Atomics.{exchanges, either_way, swap_of}
 use Rattle.loom_objects.specs.Scene.{DoesAt}
 use Rattle.loom_atomics.proofs.Accessing.{tells}

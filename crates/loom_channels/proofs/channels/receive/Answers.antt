@@ -2,8 +2,8 @@ use Rattle.std.proofs.Common.{◌≡◌, ◌∙◌, refl, rules, subst, sym}
 use Rattle.std.specs.Prelude.{Ok, Option, Some, None}
 use Rattle.loom_channels.specs.Stages.{content}
 use Rattle.loom_effect_parts.specs.Taking.{takes_first}
-use Rattle.loom_objects.specs.declared.operation.Message.{Message}
-use Rattle.loom_objects.specs.declared.operation.Reply.TheVariants as reply
+use Rattle.loom_operations.specs.declared.operation.Message.{Message}
+use Rattle.loom_operations.specs.declared.operation.Reply.TheVariants as reply
 use Rattle.loom_objects.specs.Channels.{receives}
 use Rattle.loom_objects.specs.Rule.{◌>>=◌}
 use Rattle.loom_objects.specs.Scene.{Does, world_of}

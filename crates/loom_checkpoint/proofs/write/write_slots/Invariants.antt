@@ -1,6 +1,6 @@
 use Rattle.std.proofs.Common.{◌≡◌, ◌++◌, map, drop}
 use Rattle.serde_json.specs.View.{view}
-use Rattle.loom_objects.specs.Question.{slots_from, slots}
+use Rattle.loom_operations.specs.Question.{slots_from, slots}
 use Rattle.loom_checkpoint.specs.Grammar.{whole}
 use Rattle.loom_checkpoint.proofs.write.write_slots.Given as goal
 

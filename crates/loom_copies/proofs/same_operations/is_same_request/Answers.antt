@@ -1,21 +1,21 @@
 use Rattle.std.proofs.Common.{◌≡◌, ◌↔◌, Bool, IsTrue, ◌∙◌, sym}
 use Rattle.std.specs.Prelude.{⊤}
-use Rattle.loom_objects.specs.declared.operation.ArcOp.{ArcOp}
-use Rattle.loom_objects.specs.declared.operation.AtomicOp.{AtomicOp}
-use Rattle.loom_objects.specs.declared.operation.AtomicWakerOp.{AtomicWakerOp}
-use Rattle.loom_objects.specs.declared.operation.CellOp.{CellOp}
-use Rattle.loom_objects.specs.declared.operation.ChannelOp.{ChannelOp}
-use Rattle.loom_objects.specs.declared.operation.CondvarOp.{CondvarOp}
-use Rattle.loom_objects.specs.declared.operation.LazyOp.{LazyOp}
-use Rattle.loom_objects.specs.declared.operation.LocalOp.{LocalOp}
-use Rattle.loom_objects.specs.declared.operation.MutexOp.{MutexOp}
-use Rattle.loom_objects.specs.declared.operation.NotifyOp.{NotifyOp}
-use Rattle.loom_objects.specs.declared.operation.Request.{Request}
-use Rattle.loom_objects.specs.declared.operation.RwLockOp.{RwLockOp}
-use Rattle.loom_objects.specs.declared.operation.ThreadOp.{ThreadOp}
-use Rattle.loom_objects.specs.declared.operation.TrackOp.{TrackOp}
-use Rattle.loom_objects.specs.declared.operation.WakerOp.{WakerOp}
-use Rattle.loom_objects.specs.declared.operation.Request.TheVariants as op
+use Rattle.loom_operations.specs.declared.operation.ArcOp.{ArcOp}
+use Rattle.loom_operations.specs.declared.operation.AtomicOp.{AtomicOp}
+use Rattle.loom_operations.specs.declared.operation.AtomicWakerOp.{AtomicWakerOp}
+use Rattle.loom_operations.specs.declared.operation.CellOp.{CellOp}
+use Rattle.loom_operations.specs.declared.operation.ChannelOp.{ChannelOp}
+use Rattle.loom_operations.specs.declared.operation.CondvarOp.{CondvarOp}
+use Rattle.loom_operations.specs.declared.operation.LazyOp.{LazyOp}
+use Rattle.loom_operations.specs.declared.operation.LocalOp.{LocalOp}
+use Rattle.loom_operations.specs.declared.operation.MutexOp.{MutexOp}
+use Rattle.loom_operations.specs.declared.operation.NotifyOp.{NotifyOp}
+use Rattle.loom_operations.specs.declared.operation.Request.{Request}
+use Rattle.loom_operations.specs.declared.operation.RwLockOp.{RwLockOp}
+use Rattle.loom_operations.specs.declared.operation.ThreadOp.{ThreadOp}
+use Rattle.loom_operations.specs.declared.operation.TrackOp.{TrackOp}
+use Rattle.loom_operations.specs.declared.operation.WakerOp.{WakerOp}
+use Rattle.loom_operations.specs.declared.operation.Request.TheVariants as op
 use Rattle.loom_copies.proofs.Same.{same_kind, same_value, other_kind}
 use Rattle.loom_copies.proofs.same_operations.is_same_request.Goals as goal
 

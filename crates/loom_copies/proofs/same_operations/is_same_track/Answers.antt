@@ -1,7 +1,7 @@
 use Rattle.std.proofs.Common.{◌≡◌, ◌↔◌, ℕ, Bool, IsTrue, nat_eq, ◌∙◌}
 use Rattle.std.specs.Prelude.{◌≢◌}
-use Rattle.loom_objects.specs.declared.operation.TrackOp.{TrackOp}
-use Rattle.loom_objects.specs.declared.operation.TrackOp.TheVariants as op
+use Rattle.loom_operations.specs.declared.operation.TrackOp.{TrackOp}
+use Rattle.loom_operations.specs.declared.operation.TrackOp.TheVariants as op
 use Rattle.loom_copies.proofs.Same.{same_number, same_value, other_number, other_kind}
 use Rattle.loom_copies.proofs.same_operations.is_same_track.Goals as goal
 

@@ -1,7 +1,7 @@
 use Rattle.std.proofs.Common.{◌≡◌, ◌↔◌, ℕ, Bool, IsTrue, nat_eq, ◌∙◌, sym}
 use Rattle.std.specs.Prelude.{◌≢◌}
-use Rattle.loom_objects.specs.declared.operation.Reply.{Reply}
-use Rattle.loom_objects.specs.declared.operation.Reply.TheVariants as op
+use Rattle.loom_operations.specs.declared.operation.Reply.{Reply}
+use Rattle.loom_operations.specs.declared.operation.Reply.TheVariants as op
 use Rattle.loom_copies.proofs.Same.{same_kind, same_number, same_value, other_number, other_kind}
 use Rattle.loom_copies.proofs.same_replies.is_same_reply.Goals as goal
 

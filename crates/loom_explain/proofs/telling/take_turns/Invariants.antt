@@ -1,6 +1,6 @@
 use Rattle.std.proofs.Common.{◌≡◌}
 use Rattle.std.specs.Prelude.{None}
-use Rattle.loom_objects.specs.declared.operation.Reply.TheVariants as reply
+use Rattle.loom_operations.specs.declared.operation.Reply.TheVariants as reply
 use Rattle.loom_path.specs.Routes.{IsSameSearch}
 use Rattle.loom_explain.specs.Story.{Story}
 use Rattle.loom_explain.specs.Telling.{IsUnderWay}

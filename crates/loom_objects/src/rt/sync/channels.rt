@@ -4,8 +4,8 @@ ghost use Rattle.loom_objects.specs.Leaks.{is_none_left};
 ghost use Rattle.loom_objects.specs.Rule.{check};
 ghost use Rattle.loom_view_parts.specs.declared.rt.failure.FailureKind.TheVariants.{TooManySteps};
 
-use crate::operation::Message;
 use crate::rt::sync::Channel;
+use loom_operations::operation::Message;
 use loom_views::rt::failure::FailureKind;
 use std::collections::LinkedList;
 

@@ -8,6 +8,6 @@ returns-clause-along g c =
     c.take_turns.ensures.along (runs g.B.Body.next c.args.path.now.explores c.args.limits.max_threads c.args.limits.max_steps c.args.body.now) c.args.path.now
     (record {
       course = opening c.args.path.now.explores c.args.limits.max_threads c.args.limits.max_steps;
-      shown = c.in_ok-execution.ensures.opens c.args.path.now.explores c.args.path.now c.requires.starts;
+      shown = c.in_ok-restart.ensures.opens c.args.path.now.explores c.args.path.now c.requires.starts;
       left = search rules;
     })

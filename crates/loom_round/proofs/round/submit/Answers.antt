@@ -1,7 +1,7 @@
 use Rattle.std.proofs.Common.{subst, inl}
 use Rattle.std.specs.Prelude.{⊤}
 use Rattle.loom_engine.specs.Execution.{MayBeRefused}
-use Rattle.loom_objects.specs.declared.operation.Request.{Request}
+use Rattle.loom_operations.specs.declared.operation.Request.{Request}
 use Rattle.loom_round.proofs.Handing.{before_the_end}
 use Rattle.loom_round.proofs.round.submit.Goals as goal
 

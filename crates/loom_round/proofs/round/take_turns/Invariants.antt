@@ -1,7 +1,7 @@
 use Rattle.std.proofs.Common.{◌≡◌}
 use Rattle.std.specs.Prelude.{None}
-use Rattle.loom_objects.specs.Tree.{Tree}
-use Rattle.loom_objects.specs.declared.operation.Reply.TheVariants as reply
+use Rattle.loom_operations.specs.Tree.{Tree}
+use Rattle.loom_operations.specs.declared.operation.Reply.TheVariants as reply
 use Rattle.loom_path.specs.Routes.{IsSameSearch, Route, drives}
 use Rattle.loom_round.specs.Ending.{IsUnderWay}
 use Rattle.loom_round.proofs.round.take_turns.Given as goal

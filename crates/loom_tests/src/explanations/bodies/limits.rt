@@ -1,6 +1,6 @@
 //! Bodies that pass a limit.
 use loom_model::sync::atomic::Ordering::{Relaxed, Release};
-use loom_objects::operation::{AtomicOp, Exchange, MutexOp, Request, ThreadOp};
+use loom_operations::operation::{AtomicOp, Exchange, MutexOp, Request, ThreadOp};
 use loom_parts::label::Label;
 use loom_parts::text_literal;
 use loom_scripts::step::{END, EXIT, Step, Value};

@@ -1,10 +1,9 @@
 //! Bodies that come to a deadlock, or leave something.
 use loom_model::sync::atomic::Ordering::{Acquire, Relaxed, Release};
-use loom_objects::operation::{
-    ArcOp, AtomicOp, ChannelOp, CondvarOp, Exchange, MutexOp, NotifyOp, Request, RwLockOp,
+use loom_operations::operation::{
+    ArcOp, AtomicOp, ChannelOp, CondvarOp, Exchange, MutexOp, Name, NotifyOp, Request, RwLockOp,
     ThreadOp, TrackOp, WakerOp,
 };
-use loom_objects::rt::thread::Name;
 use loom_parts::label::Label;
 use loom_parts::text_literal;
 use loom_scripts::step::{END, EXIT, Step, Value, YIELD};

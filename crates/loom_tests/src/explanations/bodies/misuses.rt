@@ -1,6 +1,6 @@
 //! Bodies that use an operation wrongly.
 use loom_model::sync::atomic::Ordering::Relaxed;
-use loom_objects::operation::{ExploreOp, MutexOp, NotifyOp, Request, ThreadOp};
+use loom_operations::operation::{ExploreOp, MutexOp, NotifyOp, Request, ThreadOp};
 use loom_parts::label::Label;
 use loom_parts::location::Location;
 use loom_parts::text_literal;

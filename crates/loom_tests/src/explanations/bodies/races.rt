@@ -1,6 +1,6 @@
 //! Bodies that race, and whose cells are open.
 use loom_model::sync::atomic::Ordering::{self, Relaxed, Release};
-use loom_objects::operation::{AtomicOp, CellOp, Exchange, Request, ThreadOp};
+use loom_operations::operation::{AtomicOp, CellOp, Exchange, Request, ThreadOp};
 use loom_parts::label::Label;
 use loom_parts::location::Location;
 use loom_parts::text_literal;

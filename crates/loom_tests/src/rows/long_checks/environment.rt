@@ -1,6 +1,7 @@
 //! What an environment says of a check, and which settings are refused.
 use super::{Case, DEFAULT_CASE};
-use crate::rows::texts::{Page, same};
+use crate::asserting::same;
+use crate::page::Page;
 use loom_model::env::Env;
 use loom_model::error::CheckError;
 use loom_model::model::Builder;
@@ -62,10 +63,9 @@ fn is_no_number(rt: &(impl Abort + AllocGlobal), set: usize) {
     }
 }
 
-#[test]
-fn other_texts_are_no_numbers(rt: HostRuntime) {
+fn other_texts_are_no_numbers(rt: &(impl Abort + AllocGlobal)) {
     for set in &NUMBERS {
-        is_no_number(&rt, *set);
+        is_no_number(rt, *set);
     }
 }
 
@@ -121,11 +121,16 @@ fn sets(rt: &(impl Abort + AllocGlobal), set: usize, text: &str, part: &str, oth
     reads(rt, set, text, wanted.text.as_str());
 }
 
-#[test]
-fn each_variable_sets_one_setting(rt: HostRuntime) {
+fn each_variable_sets_one_setting(rt: &(impl Abort + AllocGlobal)) {
     for (set, text, part, other) in &VARIABLES {
-        sets(&rt, *set, *text, *part, *other);
+        sets(rt, *set, *text, *part, *other);
     }
+}
+
+#[test]
+fn an_environment_is_read(rt: HostRuntime) {
+    other_texts_are_no_numbers(&rt);
+    each_variable_sets_one_setting(&rt);
 }
 
 // The first setting out of range is refused.

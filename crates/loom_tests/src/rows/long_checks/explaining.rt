@@ -1,10 +1,11 @@
 //! What is told of runs that follow given choices.
 use super::lock_beside;
-use crate::rows::texts::{Page, same};
+use crate::asserting::{same, script};
+use crate::page::Page;
 use loom_model::Choice;
 use loom_model::error::CheckError;
 use loom_model::explain::Explanation;
-use loom_objects::operation::{Request, ThreadOp};
+use loom_operations::operation::{Request, ThreadOp};
 use loom_row_bodies::rows::DEFAULTS;
 use loom_row_bodies::settings::{Builds, Settings};
 use loom_scripts::script::Script;
@@ -49,9 +50,7 @@ fn tells(
     text: &str,
 ) {
     let mut page = Page::new(rt.alloc());
-    if let Ok(body) = &Script::new(rt.alloc(), steps) {
-        put_run(rt.alloc(), settings, body, choices, &mut page);
-    }
+    put_run(rt.alloc(), settings, &script(rt, steps), choices, &mut page);
     same(rt, page.text.as_str(), text, "a run that is told");
 }
 

@@ -1,7 +1,8 @@
 //! The program with a checkpoint file.
 use super::TWO_NODES;
+use crate::asserting::holds;
+use crate::rows::pens::{Pen, Printed, is_printed};
 use crate::rows::rows::program_rows;
-use crate::rows::texts::{Pen, Printed, holds, is_printed};
 use loom_row_bodies::rows::{self, Row};
 use std::process::Abort;
 use std::rt::Files;

@@ -1,10 +1,10 @@
 //! Limits of runs and of time.
 use super::{Case, WHOLE_CASE, lock_beside};
-use crate::rows::texts::{Page, same};
+use crate::asserting::{same, script};
+use crate::page::Page;
 use loom_model::model::Builder;
 use loom_row_bodies::rows::{TWO_RUNS, WHOLE};
 use loom_row_bodies::settings::Builds;
-use loom_scripts::script::Script;
 use loom_scripts::step::Step;
 use std::process::Abort;
 use std::rt::Files;
@@ -32,18 +32,13 @@ pub(super) static LIMITS: [Case; 3] = [
 
 // Puts on the page what a check finds that nobody is given.
 pub(super) fn check_alone(
-    rt: &(impl AllocGlobal + Files),
+    rt: &(impl Abort + AllocGlobal + Files),
     builder: &Builder,
     steps: &'static [Step],
     page: &mut Page,
 ) {
-    if let Ok(body) = &Script::new(rt.alloc(), steps) {
-        put_check(rt, builder, body, page);
-    }
-}
-
-fn put_check(rt: &(impl AllocGlobal + Files), builder: &Builder, body: &Script, page: &mut Page) {
-    let found = builder.check(rt, rt.alloc(), body);
+    let body = script(rt, steps);
+    let found = builder.check(rt, rt.alloc(), &body);
     page.put_found(&found);
 }
 

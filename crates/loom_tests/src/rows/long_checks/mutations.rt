@@ -2,8 +2,9 @@
 use super::limits::check_alone;
 use super::texts::ZERO;
 use super::{HEAD, Shelf, WHOLE_END, check, lock_beside};
+use crate::asserting::{holds, same};
+use crate::page::Page;
 use crate::rows::checking::{Keeper, report_of};
-use crate::rows::texts::{Page, holds, same};
 use loom_model::error::CheckError;
 use loom_model::model::Report;
 use loom_model::{FailureKind, MemoryStore};
@@ -106,19 +107,19 @@ fn is_complete(rt: &(impl Abort + AllocGlobal + Files), steps: &'static [Step], 
 }
 
 // Saves where a check stops behind its first run.
-fn check_first(alloc: Global, steps: &'static [Step], shelf: &mut Shelf) {
+fn check_first(rt: &(impl Abort + AllocGlobal), steps: &'static [Step], shelf: &mut Shelf) {
     let first = Settings {
         max_permutations: Some(1),
         ..WHOLE
     };
-    let mut page = Page::new(alloc);
-    check(alloc, &first.builder(), steps, &mut page, shelf);
+    let mut page = Page::new(rt.alloc());
+    check(rt, &first.builder(), steps, &mut page, shelf);
 }
 
 // It goes on after its first run with this text.
 fn goes_on(rt: &(impl Abort + AllocGlobal), steps: &'static [Step], searched: &Searched) {
     let mut shelf = Shelf::new(rt.alloc(), 0);
-    check_first(rt.alloc(), steps, &mut shelf);
+    check_first(rt, steps, &mut shelf);
     let text = text_at_first(rt.alloc(), searched);
     holds(rt, shelf.held() == text.as_slice(), "the first text");
 }

@@ -1,10 +1,10 @@
 //! A failure has the place of its operation where it is asked for.
-use crate::rows::texts::{Page, same};
+use crate::asserting::{same, script};
+use crate::page::Page;
 use loom_model::error::CheckError;
 use loom_model::model::{Builder, Replay, Report};
 use loom_model::{Choice, Label, Location, text_literal};
-use loom_objects::operation::{MutexOp, Request, ThreadOp};
-use loom_scripts::number::Number;
+use loom_operations::operation::{MutexOp, Request, ThreadOp};
 use loom_scripts::script::Script;
 use loom_scripts::step::{Step, Value};
 use std::alloc::Global;
@@ -70,7 +70,7 @@ pub(super) fn put_replay(
     put_failure(&replay, page);
 }
 
-fn put_failure(replay: &Result<Replay<Number>, CheckError>, page: &mut Page) {
+fn put_failure(replay: &Result<Replay<u64>, CheckError>, page: &mut Page) {
     if let Ok(Replay::Failed { failure, .. }) = replay {
         page.put("", failure);
     }
@@ -144,9 +144,7 @@ fn fails(
     text: &str,
 ) {
     let mut page = Page::new(rt.alloc());
-    if let Ok(body) = &Script::new(rt.alloc(), steps) {
-        put_failures(rt, &builder_of(location), body, &mut page);
-    }
+    put_failures(rt, &builder_of(location), &script(rt, steps), &mut page);
     same(rt, page.text.as_str(), text, "a failure");
 }
 

@@ -1,6 +1,7 @@
 //! What a log is told.
 use super::lock_beside;
-use crate::rows::texts::{Page, same};
+use crate::asserting::same;
+use crate::page::Page;
 use log::sink::Memory;
 use log::{Level, Log, Logged};
 use loom_model::model::Builder;

@@ -1,13 +1,14 @@
 //! Checks with rising bounds on preemptions, and reports as texts.
 use super::lock_beside;
 use super::places::put_replay;
-use crate::rows::texts::{Page, same};
+use crate::asserting::{same, script};
+use crate::page::Page;
 use loom_model::error::CheckError;
 use loom_model::model::Builder;
 use loom_model::rising::Risen;
 use loom_model::sync::atomic::Ordering::Relaxed;
 use loom_model::{Choices, ChoicesError};
-use loom_objects::operation::{AtomicOp, ChannelOp, Request, ThreadOp};
+use loom_operations::operation::{AtomicOp, ChannelOp, Request, ThreadOp};
 use loom_row_bodies::rows::{DEFAULTS, TWO_RUNS, WHOLE};
 use loom_row_bodies::settings::{Builds, Settings};
 use loom_scripts::script::Script;
@@ -68,9 +69,7 @@ fn rises(
     text: &str,
 ) {
     let mut page = Page::new(rt.alloc());
-    if let Ok(body) = &Script::new(rt.alloc(), steps) {
-        put_check(rt.alloc(), settings, body, up_to, &mut page);
-    }
+    put_check(rt.alloc(), settings, &script(rt, steps), up_to, &mut page);
     same(rt, page.text.as_str(), text, "a check that rises");
 }
 
@@ -86,10 +85,9 @@ static FAILING: [(usize, &str); 3] = [
     (2, FAILS),
 ];
 
-#[test]
-fn the_bound_rises_up_to_a_failure(rt: HostRuntime) {
+fn rises_up_to_a_failure(rt: &(impl Abort + AllocGlobal)) {
     for (up_to, text) in &FAILING {
-        rises(&rt, WHOLE, asks_early(), *up_to, *text);
+        rises(rt, WHOLE, asks_early(), *up_to, *text);
     }
 }
 
@@ -113,24 +111,22 @@ static BOUNDS: [(Settings, usize, &str); 7] = [
     (NO_THREADS, 256, "MaxThreads(0)\n"),
 ];
 
-#[test]
-fn the_bound_rises_while_checks_are_complete(rt: HostRuntime) {
+fn rises_while_checks_are_complete(rt: &(impl Abort + AllocGlobal)) {
     for (settings, up_to, text) in &BOUNDS {
-        rises(&rt, *settings, lock_beside(), *up_to, *text);
+        rises(rt, *settings, lock_beside(), *up_to, *text);
     }
 }
 
 // Puts on the page why the run of the script fails that follows the choices in this text.
-fn put_replay_of(alloc: Global, steps: &'static [Step], text: &str, page: &mut Page) {
-    if let Ok(body) = &Script::new(alloc, steps) {
-        put_replay_read(alloc, body, text, page);
-    }
-}
-
-fn put_replay_read(alloc: Global, body: &Script, text: &str, page: &mut Page) {
-    if let Ok(choices) = &Choices::parse(alloc, text) {
-        put_replay(alloc, &Builder::new(), body, choices.as_slice(), page);
-    }
+fn put_replay_of(
+    rt: &(impl Abort + AllocGlobal),
+    steps: &'static [Step],
+    text: &str,
+    page: &mut Page,
+) {
+    let body = script(rt, steps);
+    let choices = Choices::parse(rt.alloc(), text).expect(rt, "no choices");
+    put_replay(rt.alloc(), &Builder::new(), &body, choices.as_slice(), page);
 }
 
 // The choices at the end of the report.
@@ -141,13 +137,13 @@ fn choices_of(report: &str) -> &str {
     }
 }
 
-#[test]
-fn a_failure_replays_by_its_text(rt: HostRuntime) {
+// The failure replays by its text.
+fn replays(rt: &(impl Abort + AllocGlobal)) {
     let mut page = Page::new(rt.alloc());
-    put_replay_of(rt.alloc(), asks_early(), choices_of(FAILS), &mut page);
+    put_replay_of(rt, asks_early(), choices_of(FAILS), &mut page);
     let failed =
         "an assertion of the body failed: replay its choices to see how the run came there\n";
-    same(&rt, page.text.as_str(), failed, "a replay");
+    same(rt, page.text.as_str(), failed, "a replay");
 }
 
 fn put_choices(choices: &Result<Choices, ChoicesError>, page: &mut Page) {
@@ -181,9 +177,16 @@ static TEXTS: [(&str, &str); 13] = [
     ("t0,t1", "NotAChoice(1)\n"),
 ];
 
-#[test]
-fn texts_are_read_as_choices(rt: HostRuntime) {
+fn texts_are_read(rt: &(impl Abort + AllocGlobal)) {
     for (text, again) in &TEXTS {
-        is_read(&rt, *text, *again);
+        is_read(rt, *text, *again);
     }
+}
+
+#[test]
+fn the_bound_rises_and_choices_are_read(rt: HostRuntime) {
+    rises_up_to_a_failure(&rt);
+    rises_while_checks_are_complete(&rt);
+    replays(&rt);
+    texts_are_read(&rt);
 }

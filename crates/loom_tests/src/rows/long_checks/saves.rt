@@ -2,7 +2,8 @@
 use super::{
     Case, DEFAULT_CASE, NO_NODES, ONE_NODE, Shelf, TWO_NODES, WHOLE_CASE, check, gives, lock_beside,
 };
-use crate::rows::texts::{Page, holds};
+use crate::asserting::holds;
+use crate::page::Page;
 use loom_row_bodies::bodies::TWO_MUTEXES_DEADLOCK;
 use loom_row_bodies::rows::WHOLE;
 use loom_row_bodies::settings::{Builds, Settings};
@@ -31,7 +32,7 @@ const SAVED: &str =
 
 fn saves_before(rt: &(impl Abort + AllocGlobal), shelf: &mut Shelf) {
     let mut page = Page::new(rt.alloc());
-    check(rt.alloc(), &LAST.builder(), two_mutexes(), &mut page, shelf);
+    check(rt, &LAST.builder(), two_mutexes(), &mut page, shelf);
     let is_so = page.text.as_str().ends_with(SAVED);
     holds(rt, is_so, "each run is saved");
 }
@@ -41,11 +42,10 @@ fn goes_on_and_fails(rt: &(impl Abort + AllocGlobal), shelf: &mut Shelf) {
     gives(rt, &LAST.builder(), two_mutexes(), shelf, LAST.gives);
 }
 
-#[test]
-fn a_failing_run_is_saved_before(rt: HostRuntime) {
+fn a_failing_run_is_saved_before(rt: &(impl Abort + AllocGlobal)) {
     let mut shelf = Shelf::new(rt.alloc(), 0);
-    saves_before(&rt, &mut shelf);
-    goes_on_and_fails(&rt, &mut shelf);
+    saves_before(rt, &mut shelf);
+    goes_on_and_fails(rt, &mut shelf);
 }
 
 // How many runs each leg makes, what it gives, and what the store holds then.
@@ -90,8 +90,13 @@ fn goes_on(rt: &(impl Abort + AllocGlobal), shelf: &mut Shelf) {
     }
 }
 
-#[test]
-fn a_check_goes_on_where_it_stopped(rt: HostRuntime) {
+fn a_check_goes_on_where_it_stopped(rt: &(impl Abort + AllocGlobal)) {
     let mut shelf = Shelf::new(rt.alloc(), 0);
-    goes_on(&rt, &mut shelf);
+    goes_on(rt, &mut shelf);
+}
+
+#[test]
+fn checks_go_on_with_what_was_saved(rt: HostRuntime) {
+    a_failing_run_is_saved_before(&rt);
+    a_check_goes_on_where_it_stopped(&rt);
 }

@@ -1,6 +1,6 @@
 //! What a check makes of a text that it is to begin with.
 use super::{HEAD, Shelf, TWO_NODES, WHOLE_END, gives, lock_beside};
-use crate::rows::texts::Page;
+use crate::page::Page;
 use loom_row_bodies::bodies::{FINISH_ONLY, LOCK_BESIDE, STORE_SEVEN};
 use loom_row_bodies::rows::{DEFAULTS, WHOLE};
 use loom_row_bodies::settings::{Builds, Settings};
@@ -44,11 +44,9 @@ fn beginnings_are_refused(rt: &(impl Abort + AllocGlobal), bytes: &[u8]) {
     }
 }
 
-#[test]
-fn whole_texts(rt: HostRuntime) {
-    beginnings_are_refused(&rt, TWO_NODES.as_bytes());
+fn whole_texts(rt: &(impl Abort + AllocGlobal)) {
     for (text, line) in &TEXTS {
-        begins(&rt, WHOLE, lock_beside(), *text, *line);
+        begins(rt, WHOLE, lock_beside(), *text, *line);
     }
 }
 
@@ -146,10 +144,9 @@ fn begins_changed(rt: &(impl Abort + AllocGlobal), part: &str, other: &str, line
     begins(rt, WHOLE, lock_beside(), text, line);
 }
 
-#[test]
-fn changed_texts(rt: HostRuntime) {
+fn changed_texts(rt: &(impl Abort + AllocGlobal)) {
     for (part, other, line) in &CHANGES {
-        begins_changed(&rt, *part, *other, *line);
+        begins_changed(rt, *part, *other, *line);
     }
 }
 
@@ -227,9 +224,16 @@ static OTHERS: [Begun; 5] = [
     },
 ];
 
-#[test]
-fn texts_of_other_bodies(rt: HostRuntime) {
+fn texts_of_other_bodies(rt: &(impl Abort + AllocGlobal)) {
     for begun in &OTHERS {
-        begins_with(&rt, begun);
+        begins_with(rt, begun);
     }
+}
+
+#[test]
+fn checks_begin_with_texts(rt: HostRuntime) {
+    beginnings_are_refused(&rt, TWO_NODES.as_bytes());
+    whole_texts(&rt);
+    changed_texts(&rt);
+    texts_of_other_bodies(&rt);
 }

@@ -1,6 +1,6 @@
 use Rattle.std.proofs.Common.{refl, rules, Ok}
-use Rattle.loom_objects.specs.declared.operation.Reply.{Reply}
-use Rattle.loom_objects.specs.declared.operation.Reply.TheVariants as reply
+use Rattle.loom_operations.specs.declared.operation.Reply.{Reply}
+use Rattle.loom_operations.specs.declared.operation.Reply.TheVariants as reply
 use Rattle.loom_objects.specs.Notifiers.{notify}
 use Rattle.loom_objects.proofs.Showing.{follows, keeps}
 use Rattle.loom_effect_parts.proofs.Going.{fails_first}

@@ -1,6 +1,6 @@
 use Rattle.std.proofs.Common.{ap, rules, Ok}
-use Rattle.loom_objects.specs.declared.operation.Reply.{Reply}
-use Rattle.loom_objects.specs.declared.operation.Reply.TheVariants as reply
+use Rattle.loom_operations.specs.declared.operation.Reply.{Reply}
+use Rattle.loom_operations.specs.declared.operation.Reply.TheVariants as reply
 use Rattle.loom_objects.specs.Moves.{changes_active, having}
 use Rattle.loom_objects.specs.Notifiers.{notify}
 use Rattle.loom_objects.specs.Scene.{Stage}

@@ -1,6 +1,6 @@
 use Rattle.std.proofs.Common.{refl, rules, Ok}
 use Rattle.loom_views.specs.Table.{points_after_acquire}
-use Rattle.loom_objects.specs.declared.operation.Reply.TheVariants as reply
+use Rattle.loom_operations.specs.declared.operation.Reply.TheVariants as reply
 use Rattle.loom_objects.specs.Moves.{takes_result}
 use Rattle.loom_objects.proofs.Showing.{follows, gives}
 use Rattle.loom_effect_parts.proofs.Going.{fails_first}

@@ -5,7 +5,7 @@ use crate::text::objects::Member;
 use crate::text::page::Page;
 use crate::text::reasons::{Scene, is_end};
 use crate::text::world::World;
-use loom_objects::operation::Request;
+use loom_operations::operation::Request;
 
 /// Each thread with what it waits for.
 pub(crate) fn put_deadlock(out: &mut Page, scene: &Scene<'_>) {

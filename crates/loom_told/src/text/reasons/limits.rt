@@ -1,7 +1,7 @@
 //! Limits: which one, its value, and what usually helps.
 use crate::text::page::Page;
 use crate::text::reasons::Scene;
-use loom_objects::operation::Request;
+use loom_operations::operation::Request;
 use loom_views::rt::failure::FailureKind;
 
 /// The limit that the run passed, and what helps.

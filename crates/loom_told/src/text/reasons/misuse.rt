@@ -6,7 +6,7 @@ use crate::text::objects::{At, Kind};
 use crate::text::page::Page;
 use crate::text::reasons::Scene;
 use crate::text::world::World;
-use loom_objects::operation::Request;
+use loom_operations::operation::Request;
 
 /// Which object, who has it, and what is asked.
 pub(crate) fn put_misuse(out: &mut Page, scene: &Scene<'_>) {

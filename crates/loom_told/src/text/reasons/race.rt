@@ -5,7 +5,7 @@ use crate::text::objects::{Access, Hold, Manner, Reading};
 use crate::text::page::Page;
 use crate::text::reasons::Scene;
 use crate::text::world::World;
-use loom_objects::operation::{AtomicOp, CellOp, Request};
+use loom_operations::operation::{AtomicOp, CellOp, Request};
 use loom_parts::label::name_in;
 use loom_views::rt::MAX_THREADS;
 use loom_views::rt::failure::FailureKind;

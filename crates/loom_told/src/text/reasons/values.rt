@@ -1,7 +1,7 @@
 //! A thread's own values, values that are made once a run, and second waiters.
 use crate::text::page::Page;
 use crate::text::reasons::{Scene, Sought};
-use loom_objects::operation::{LazyOp, LocalOp, NotifyOp, Request, WakerOp};
+use loom_operations::operation::{LazyOp, LocalOp, NotifyOp, Request, WakerOp};
 
 /// What is said of a value that was used.
 struct Said {

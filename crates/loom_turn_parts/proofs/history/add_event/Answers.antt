@@ -11,10 +11,10 @@ count-requires-clause-small g c =
 
 pub returns-in-Ok-take_turn-clause-added : goal.returns-in-Ok-take_turn-clause-added
 returns-in-Ok-take_turn-clause-added g c =
-    added_so _ _ _ c.args.op c.in-Ok.kept _ c.args.history.now.items c.prepare.new.history.items c.push_reserved.new.self.items c.active-by.result c.in-Ok-take_turn.outcome
-    c.active-by.ensures c.in-Ok.ensures.copy c.in-Ok-take_turn.ensures c.prepare.ensures.history c.push_reserved.ensures.items
+    added_so _ _ _ c.args.op c.in-Ok.kept _ c.args.history.now.items c.prepare.new.history.items c.push.new.history.items c.active-by.result c.in-Ok-take_turn.outcome
+    c.active-by.ensures c.in-Ok.ensures.copy c.in-Ok-take_turn.ensures c.prepare.ensures.history c.push.ensures
 
 pub returns-in-Ok-take_turn-clause-counted : goal.returns-in-Ok-take_turn-clause-counted
 returns-in-Ok-take_turn-clause-counted g c =
-    counted_more c.args.counts.now.items c.prepare.new.counts.items c.count.new.counts.items c.args.history.now.items c.prepare.new.history.items c.push_reserved.new.self.items _
-    c.prepare.ensures.counts c.prepare.ensures.history c.push_reserved.ensures.items c.requires.counted c.count.ensures.length c.count.ensures.counted
+    counted_more c.args.counts.now.items c.prepare.new.counts.items c.count.new.counts.items c.args.history.now.items c.prepare.new.history.items c.push.new.history.items _
+    c.prepare.ensures.counts c.prepare.ensures.history c.push.ensures c.requires.counted c.count.ensures.length c.count.ensures.counted

@@ -2,7 +2,7 @@ use Rattle.std.proofs.Common.{◌≡◌, ◌∙◌, ap, subst, sym}
 use Rattle.std.specs.Prelude.{Ok, Result, false}
 use Rattle.loom_effect_parts.specs.Wakers.{wakers_left}
 use Rattle.loom_view_parts.specs.declared.rt.failure.FailureKind.{FailureKind}
-use Rattle.loom_objects.specs.declared.operation.Reply.{Reply}
+use Rattle.loom_operations.specs.declared.operation.Reply.{Reply}
 use Rattle.loom_objects.specs.declared.rt.sync.Wakers.{Wakers}
 use Rattle.loom_objects.specs.declared.rt.thread.AfterDrop.TheVariants as dropped
 use Rattle.loom_objects.specs.declared.rt.thread.AfterWake.TheVariants as woken

@@ -7,8 +7,8 @@ use Rattle.loom_model.specs.Settings.{explores}
 use Rattle.loom_model.proofs.Replaying.{replays}
 use Rattle.loom_model.proofs.builder.Builder.replay.Goals as goal
 
-pub run-requires-clause-starts : goal.run-requires-clause-starts
-run-requires-clause-starts g c =
+pub run_once-requires-clause-starts : goal.run_once-requires-clause-starts
+run_once-requires-clause-starts g c =
     let is = c.in_ok-path.ensures in
     (ap (λ (p : Route). p.position) is, ap (λ (p : Route). p.explores) is, ap (λ (p : Route). p.exploring) is)
 
@@ -17,7 +17,7 @@ returns-in-Failed-clause-replays g c =
     let tree = runs g.B.Body.next (explores c.args.self.now) c.args.self.now.max_threads c.args.self.now.max_steps c.args.body.now in
     let sound = run_tree_law g.B.Body.next (explores c.args.self.now) c.args.self.now.max_threads c.args.self.now.max_steps c.args.body.now in
     let e = rw c.in-Failed.is at c.in_ok-ending.ensures.along in
-    replays (explores c.args.self.now) c.args.self.now.max_branches tree c.args.choices.now _ c.run.new.path c.in_ok-choices.choices.items (Err c.in-Failed.failure.kind) sound
+    replays (explores c.args.self.now) c.args.self.now.max_branches tree c.args.choices.now _ c.run_once.new.path c.in_ok-choices.choices.items (Err c.in-Failed.failure.kind) sound
     c.in_ok-path.ensures e c.in_ok-choices.ensures.list
 
 pub returns-clause-replays : goal.returns-clause-replays
@@ -25,5 +25,5 @@ returns-clause-replays g c =
     let tree = runs g.B.Body.next (explores c.args.self.now) c.args.self.now.max_threads c.args.self.now.max_steps c.args.body.now in
     let sound = run_tree_law g.B.Body.next (explores c.args.self.now) c.args.self.now.max_threads c.args.self.now.max_steps c.args.body.now in
     let e = rw c.in-Ended.is at c.in_ok-ending.ensures.along in
-    replays (explores c.args.self.now) c.args.self.now.max_branches tree c.args.choices.now _ c.run.new.path c.in_ok-choices.choices.items (Ok c.in-Ended.value) sound
+    replays (explores c.args.self.now) c.args.self.now.max_branches tree c.args.choices.now _ c.run_once.new.path c.in_ok-choices.choices.items (Ok c.in-Ended.value) sound
     c.in_ok-path.ensures e c.in_ok-choices.ensures.list

@@ -1,5 +1,5 @@
 use Rattle.std.proofs.Common.{◌≡◌, drop, slice_index}
-use Rattle.loom_objects.specs.Question.{slots_from, slots}
+use Rattle.loom_operations.specs.Question.{slots_from, slots}
 use Rattle.loom_nodes.proofs.rt.node.slot_at.Given as goal
 
 -- the slot is among those that are left

@@ -1,4 +1,4 @@
-use Rattle.loom_objects.specs.Question.{slots}
+use Rattle.loom_operations.specs.Question.{slots}
 use Rattle.loom_nodes.proofs.Nodes.Slots.{some_slot, load_fresh}
 use Rattle.loom_path.proofs.rt.making.load.Goals as goal
 

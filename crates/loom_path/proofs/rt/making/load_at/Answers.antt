@@ -1,9 +1,9 @@
 use Rattle.std.proofs.Common.{◌≡◌, Some, true, refl, ap, sym, ◌∙◌, length, take, arith}
 use Rattle.std.specs.Prelude.{slice_get}
-use Rattle.loom_objects.specs.Question.{made_of}
+use Rattle.loom_operations.specs.Question.{made_of}
 use Rattle.loom_walks.specs.Trees.Drive.{new_node}
-use Rattle.loom_objects.specs.Question.{slots}
-use Rattle.loom_objects.specs.Asked.{which_store}
+use Rattle.loom_operations.specs.Question.{slots}
+use Rattle.loom_operations.specs.Asked.{which_store}
 use Rattle.loom_nodes.proofs.Nodes.Slots.{some_slot, slot_place, get_slot, load_given, load_refused}
 use Rattle.loom_path.proofs.rt.making.load_at.Goals as goal
 

@@ -1,7 +1,7 @@
 use Rattle.std.proofs.Common.{◌≡◌, Some, refl, sym}
 use Rattle.std.specs.Prelude.{slice_get}
-use Rattle.loom_objects.specs.Asked.{which_thread}
-use Rattle.loom_objects.specs.Question.{made_of}
+use Rattle.loom_operations.specs.Asked.{which_thread}
+use Rattle.loom_operations.specs.Question.{made_of}
 use Rattle.loom_nodes.specs.declared.rt.node.Node.TheVariants as node
 use Rattle.loom_nodes.proofs.Marking.Nearest.{got_node}
 use Rattle.loom_nodes.proofs.Ways.{made_otherwise, no_schedule}

@@ -1,13 +1,13 @@
 use Rattle.std.proofs.Common.{◌≡◌, ◌≤◌, ◌<◌, ◌+◌, [], ◌∷◌, ◌++◌, length, true, refl, ap, ◌∙◌, subst, sym, arith, rules}
-use Rattle.loom_objects.specs.Exploring.{is_on}
-use Rattle.loom_objects.specs.Question.{Question, made_of}
+use Rattle.loom_operations.specs.Exploring.{is_on}
+use Rattle.loom_operations.specs.Question.{Question, made_of}
 use Rattle.loom_parts.specs.declared.choice.Choice.TheVariants.{Spurious}
 use Rattle.loom_walks.specs.Trees.Drive.{new_node}
 use Rattle.loom_nodes.specs.declared.rt.node.Node.{Node}
 use Rattle.loom_nodes.specs.declared.rt.node.Node.TheVariants as node
 use Rattle.loom_path.specs.Routes.{Route}
 use Rattle.loom_nodes.specs.Tallies.{IsValueAt}
-use Rattle.loom_objects.specs.Asked.{whether_spurious}
+use Rattle.loom_operations.specs.Asked.{whether_spurious}
 use Rattle.loom_path.specs.contracts.rt.path.Path.{the_view}
 use Rattle.loom_path.proofs.Nodes.Paths.{past_end, end_of, follows, passed_on, differs, full, refuses, makes, grows}
 use Rattle.loom_nodes.proofs.Notes.{node_last, value_here}

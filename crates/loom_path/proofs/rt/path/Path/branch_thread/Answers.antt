@@ -1,13 +1,13 @@
 use Rattle.std.proofs.Common.{◌≡◌, ◌≢◌, [], ◌≤◌, ◌<◌, ◌+◌, length, Some, refl, ap, sym, ◌∙◌, subst, arith, rules}
 use Rattle.std.specs.Prelude.{slice_get, IsSomeAnd}
-use Rattle.loom_objects.specs.Exploring.{is_on}
-use Rattle.loom_objects.specs.Question.{Question, made_of}
+use Rattle.loom_operations.specs.Exploring.{is_on}
+use Rattle.loom_operations.specs.Question.{Question, made_of}
 use Rattle.loom_parts.specs.declared.choice.Choice.TheVariants.{Thread}
 use Rattle.loom_nodes.specs.declared.rt.node.Node.{Node}
 use Rattle.loom_nodes.specs.declared.rt.node.Node.TheVariants as node
 use Rattle.loom_nodes.specs.Nodes.{seen}
 use Rattle.loom_path.specs.Routes.{Route}
-use Rattle.loom_objects.specs.Asked.{which_thread}
+use Rattle.loom_operations.specs.Asked.{which_thread}
 use Rattle.loom_path.specs.contracts.rt.path.Path.{the_view}
 use Rattle.loom_path.proofs.Nodes.Paths.{past_end, end_of, follows_there, passed_on, differs_there, full, refuses, makes, grows}
 use Rattle.loom_nodes.proofs.Notes.{node_last}

@@ -1,7 +1,7 @@
 use Rattle.std.proofs.Common.{Bool, Some, None, ap, ◌∙◌}
-use Rattle.loom_objects.specs.Question.{made_of}
-use Rattle.loom_objects.specs.Asked.{which_thread}
-use Rattle.loom_objects.specs.Exploring.{is_on}
+use Rattle.loom_operations.specs.Question.{made_of}
+use Rattle.loom_operations.specs.Asked.{which_thread}
+use Rattle.loom_operations.specs.Exploring.{is_on}
 use Rattle.loom_walks.specs.Trees.Drive.{new_node}
 use Rattle.loom_path.proofs.rt.path.Path.new_schedule.Goals as goal
 

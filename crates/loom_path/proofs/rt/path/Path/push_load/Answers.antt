@@ -1,14 +1,14 @@
 use Rattle.std.proofs.Common.{◌≡◌, ◌≤◌, ◌<◌, ℕ, length, slice_index, refl, ap, sym, ◌∙◌, arith, rules}
 use Rattle.std.specs.Prelude.{true}
-use Rattle.loom_objects.specs.Exploring.{is_on}
-use Rattle.loom_objects.specs.Question.{Question, made_of, slots}
+use Rattle.loom_operations.specs.Exploring.{is_on}
+use Rattle.loom_operations.specs.Question.{Question, made_of, slots}
 use Rattle.loom_walks.specs.Trees.Drive.{new_node}
 use Rattle.loom_nodes.specs.declared.rt.node.Load.{Load}
 use Rattle.loom_nodes.specs.declared.rt.node.Node.{Node}
 use Rattle.loom_nodes.specs.declared.rt.node.Node.TheVariants as node
 use Rattle.loom_nodes.specs.Nodes.{seen, seen_load}
 use Rattle.loom_path.specs.Routes.{Route}
-use Rattle.loom_objects.specs.Asked.{which_store}
+use Rattle.loom_operations.specs.Asked.{which_store}
 use Rattle.loom_path.specs.contracts.rt.path.Path.{the_view}
 use Rattle.loom_nodes.proofs.Nodes.Slots.{some_slot, load_readable}
 use Rattle.loom_nodes.proofs.Nodes.Turns.{new_is_made}

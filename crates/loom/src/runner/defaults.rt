@@ -1,0 +1,42 @@
+//! Checks of closures with defaults.
+ghost use Rattle.std.specs.Prelude.{◌≡◌, IfOk};
+ghost use Rattle.std.specs.Fn.{CalledAtMut};
+ghost use Rattle.loom_model.specs.Settings.{defaults};
+ghost use Rattle.loom.specs.Checks.{Reports};
+
+use crate::runner::error::RunnerError;
+use crate::runner::rounds::check;
+use loom_copies::exact::Exact;
+use loom_model::builder::Builder;
+use loom_model::model::Report;
+use loom_model::visitor::Visitor;
+use loom_parts::choice::Choice;
+use loom_runner::handle::Handle;
+use loom_turns::stop::Stop;
+use std::alloc::{AllocError, Global};
+use std::sync::Wait;
+use std::thread::Threads;
+
+/// A visitor that looks at no run (own).
+#[derive(Drop)]
+pub struct Nobody;
+
+impl<D: Drop> Visitor<D> for Nobody {
+    ghost takes = { λ old choices value new. Unit {0} };
+
+    fn run(&mut self, _choices: &[Choice], _value: D) -> Result<(), AllocError> {
+        Ok(())
+    }
+}
+
+/// A check of the closure by the defaults, in which nobody is given the runs (loom's `model`).
+pub fn model<
+    D: Exact + 'static,
+    R: Threads + Wait + Clone + Send + 'static,
+    F: FnMut(&mut Handle<D, R>) -> Result<D, Stop>,
+>(rt: &R, alloc: Global, closure: F) -> Result<Report, RunnerError>
+    requires { F.IsAlwaysCallable closure }
+    ensures reports { IfOk result (λ report. (v v' : Nobody) × Reports (CalledAtMut F.FnMut) (λ old choices value new. Unit {0}) defaults closure v v' report) }
+{
+    check(rt, alloc, &Builder::new(), closure, &mut Nobody)
+}

@@ -1,0 +1,78 @@
+//! One run of closures, by given choices.
+ghost use Rattle.std.specs.Prelude.{◌≡◌, Some, Err, IfErr, IfOk};
+ghost use Rattle.std.specs.Fn.{CalledAtMut};
+ghost use Rattle.loom_model.specs.Settings.{tested};
+ghost use Rattle.loom.specs.declared.runner.error.RunnerError.TheVariants.{Settings};
+ghost use Rattle.loom.specs.Replays.{HasKept, Replays};
+
+use crate::runner::error::RunnerError;
+use loom_copies::exact::Exact;
+use loom_engine::rt::execution::Limits;
+use loom_model::builder::Builder;
+use loom_model::model::Replay;
+use loom_model::visitor::Visitor;
+use loom_parts::choice::Choice;
+use loom_path::rt::path::Path;
+use loom_runner::handle::Handle;
+use loom_runner::round::make_round;
+use loom_runner_parts::rounds::Round;
+use loom_turns::stop::Stop;
+use std::alloc::{AllocError, Global};
+use std::sync::Wait;
+use std::thread::Threads;
+
+/// Keeps the last run that it is given.
+#[derive(Drop)]
+pub(crate) struct Keeper<D> {
+    alloc: Global,
+    run: Option<(Vec<Choice>, D)>,
+}
+
+impl<D: Drop> Visitor<D> for Keeper<D> {
+    ghost takes = { λ old choices value new. HasKept choices value new.run };
+
+    fn run(&mut self, choices: &[Choice], value: D) -> Result<(), AllocError>
+        ensures { IfOk result (λ _. HasKept choices.now value self.new.run) }
+    {
+        self.run = Some((choices.to_vec(self.alloc)?, value));
+        Ok(())
+    }
+}
+
+/// One run of the closure, which follows these choices and then takes defaults (own; for bodies it is `Builder::replay`). So the
+/// choices of a failure make it again. A choice that is no option where it comes, or that is left over at the run's end, ends the
+/// run as `NotDeterministic`. Errors are those of `check`.
+pub fn replay<
+    D: Exact + 'static,
+    R: Threads + Wait + Clone + Send + 'static,
+    F: FnMut(&mut Handle<D, R>) -> Result<D, Stop>,
+>(
+    rt: &R,
+    alloc: Global,
+    builder: &Builder,
+    choices: &[Choice],
+    mut closure: F,
+) -> Result<Replay<D>, RunnerError>
+    requires { F.IsAlwaysCallable closure }
+    ensures replays { IfOk result (Replays (CalledAtMut F.FnMut) builder.now choices.now closure) }
+    ensures refused { IfErr (tested builder.now) (λ e. result ≡ Err (Settings e)) }
+{
+    builder.test()?;
+    let limits = Limits {
+        max_threads: builder.max_threads,
+        max_steps: builder.max_steps,
+    };
+    let explores = !builder.expect_explicit_explore;
+    let branches = builder.max_branches as u32;
+    let Ok(path) = Path::following(alloc, explores, branches, choices) else {
+        return Err(RunnerError::Memory);
+    };
+    let mut keeper = Keeper { alloc, run: None };
+    match make_round(rt, alloc, limits, &path, &mut closure, &mut keeper)? {
+        Round::Broke(failure, choices) => Ok(Replay::Failed { failure, choices }),
+        Round::Last | Round::Next(_) => match keeper.run {
+            Some((choices, value)) => Ok(Replay::Ended { choices, value }),
+            None => Err(RunnerError::NotSettled),
+        },
+    }
+}
