@@ -1,3 +1,5 @@
 pub mod Errors
 pub mod Checks
 pub mod Replays
+pub mod Made
+pub mod Rounds

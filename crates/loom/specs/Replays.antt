@@ -3,6 +3,7 @@ use Rattle.std.specs.Prelude.{◌≡◌, List, [], Option, Some, None, Result, V
 use Rattle.std.specs.declared.alloc.Global.{Global}
 use Rattle.loom_walks.specs.Trees.Meeting.{whole_search}
 use Rattle.loom_parts.specs.declared.choice.Choice.{Choice}
+use Rattle.loom_engine.specs.declared.rt.execution.Limits.{Limits}
 use Rattle.loom_path.specs.Routes.{Route, at_rest, chosen}
 use Rattle.loom_model.specs.declared.builder.Builder.{Builder}
 use Rattle.loom_model.specs.declared.model.Replay.{Replay}
@@ -22,17 +23,21 @@ abbrev pub HasKept : {D : Type 0} → List Choice → D → Option (Vec Choice G
 HasKept choices value None = ⊥
 HasKept choices value (Some (kept, result)) = (kept.items ≡ choices) × (result ≡ value)
 
-module _ {D F : Type 0} (called : F → Teller D → Result D Stop → F → Teller D → Type 0) (b : Builder) (given : List Choice) (f : F) where
-  -- a call of the closure has made this run, which begins with the choices
-  pub record IsReplay (m : Made D) : Type 0 where
-    pub began : m.began ≡ following b given
+-- what one run comes to that a call of the closure has made, which begins with this path: it ended or failed as its history says, with
+-- the history's choices
+module _ {D F : Type 0} (called : F → Teller D → Result D Stop → F → Teller D → Type 0) (limits : Limits) (start : Route) (f : F) where
+  pub record IsMadeAlong (m : Made D) : Type 0 where
+    pub began : m.began ≡ start
     pub after : F
     pub call : called f (newcomer 0) m.answer after m.handle
-    pub settled : Settled (limits_of b) m
+    pub settled : Settled limits m
 
-  -- it ended or failed as its history says, with the history's choices
-  abbrev pub Replays : Replay D → Type 0
-  Replays (Ended choices value) =
-      (m : Made D) × IsReplay m × (ended_by (last_event m.log.history) ≡ Some value) × (choices.items ≡ chosen m.log.now.route)
-  Replays (Failed failure choices) =
-      (m : Made D) × IsReplay m × (failed_by (last_event m.log.history) ≡ Some failure) × (choices.items ≡ chosen m.log.now.route)
+  abbrev pub ReplaysAlong : Replay D → Type 0
+  ReplaysAlong (Ended choices value) =
+      (m : Made D) × IsMadeAlong m × (ended_by (last_event m.log.history) ≡ Some value) × (choices.items ≡ chosen m.log.now.route)
+  ReplaysAlong (Failed failure choices) =
+      (m : Made D) × IsMadeAlong m × (failed_by (last_event m.log.history) ≡ Some failure) × (choices.items ≡ chosen m.log.now.route)
+
+-- one run of a builder by given choices: it begins with the path that follows them
+abbrev pub Replays : {D F : Type 0} → (F → Teller D → Result D Stop → F → Teller D → Type 0) → Builder → List Choice → F → Replay D → Type 0
+Replays called b given f = ReplaysAlong called (limits_of b) (following b given) f

@@ -1,7 +1,8 @@
-//! Checks of closures, each of which runs on a thread of the host (own): one run after another, as `loom_runner` makes them.
+//! Checks of closures, each of which runs on a thread of the host (own): one run after another.
 pub mod defaults;
 pub mod error;
 pub mod replays;
+mod round;
 pub mod rounds;
 
 pub use defaults::{Nobody, model};

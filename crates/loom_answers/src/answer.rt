@@ -8,7 +8,7 @@ ghost use Rattle.loom_ops.specs.Locks.{mutex_handle};
 use loom_operations::operation::Reply;
 use loom_ops::sync::atomic::Atomic;
 use loom_ops::sync::{Mutex, MutexGuard};
-use loom_views::rt::num::Numeric;
+use loom_view_parts::rt::num::Numeric;
 
 /// What a closure is answered in place of a reply (own).
 pub trait Answer<D>: Sized {
@@ -30,9 +30,6 @@ pub struct Loaded<T>(pub T);
 /// A lock that was tried: the guard and the data, unless it is held (own).
 pub struct Tried<D>(pub Option<(MutexGuard, D)>);
 
-/// Lets a reply go. It stands alone, since what a reply holds is let go in many ways, and a function that does it costs seconds.
-pub fn let_go<D: Drop>(_reply: Reply<D>) {}
-
 impl<D: Drop> Answer<D> for () {
     ghost held = { done_in };
 
@@ -42,7 +39,7 @@ impl<D: Drop> Answer<D> for () {
         match reply {
             Reply::Done => Some(()),
             other => {
-                let_go(other);
+                other.let_go();
                 None
             }
         }
@@ -56,7 +53,7 @@ impl<D: Drop> Answer<D> for Mutex {
         ensures { result ≡ mutex_handle reply }
     {
         let mutex = Mutex::from_reply(&reply);
-        let_go(reply);
+        reply.let_go();
         mutex
     }
 }
@@ -70,7 +67,7 @@ impl<D: Drop> Answer<D> for (MutexGuard, D) {
         match reply {
             Reply::Locked(number, value) => Some((MutexGuard { number }, value)),
             other => {
-                let_go(other);
+                other.let_go();
                 None
             }
         }
@@ -87,7 +84,7 @@ impl<D: Drop> Answer<D> for Tried<D> {
             Reply::Locked(number, value) => Some(Tried(Some((MutexGuard { number }, value)))),
             Reply::WouldBlock => Some(Tried(None)),
             other => {
-                let_go(other);
+                other.let_go();
                 None
             }
         }
@@ -101,7 +98,7 @@ impl<D: Drop, T: Numeric> Answer<D> for Atomic<T> {
         ensures { result ≡ atomic_handle reply }
     {
         let atomic = Atomic::from_reply(&reply);
-        let_go(reply);
+        reply.let_go();
         atomic
     }
 }
@@ -115,7 +112,7 @@ impl<D: Drop, T: Numeric> Answer<D> for Loaded<T> {
         match reply {
             Reply::Value(number) => Some(Loaded(T::from_u64(number))),
             other => {
-                let_go(other);
+                other.let_go();
                 None
             }
         }
@@ -132,7 +129,7 @@ impl<D: Drop, T: Numeric> Answer<D> for Result<Loaded<T>, Loaded<T>> {
             Reply::Exchanged(Ok(number)) => Some(Ok(Loaded(T::from_u64(number)))),
             Reply::Exchanged(Err(number)) => Some(Err(Loaded(T::from_u64(number)))),
             other => {
-                let_go(other);
+                other.let_go();
                 None
             }
         }
@@ -148,7 +145,7 @@ impl<D: Drop> Answer<D> for Joined<D> {
         match reply {
             Reply::Data(value) => Some(Joined(value)),
             other => {
-                let_go(other);
+                other.let_go();
                 None
             }
         }

@@ -3,7 +3,7 @@ ghost use Rattle.std.specs.Prelude.{◌≡◌};
 ghost use Rattle.loom_answers.specs.Answers.{given_in};
 ghost use Rattle.loom_ops.specs.Cells.{cell_handle, unsafe_cell_handle, reader_taken, writer_taken};
 
-use crate::answer::{Answer, let_go};
+use crate::answer::Answer;
 use loom_operations::operation::Reply;
 use loom_ops::cell::{Cell, ConstPtr, MutPtr, UnsafeCell};
 
@@ -18,7 +18,7 @@ impl<D: Drop> Answer<D> for UnsafeCell {
         ensures { result ≡ unsafe_cell_handle reply }
     {
         let cell = UnsafeCell::from_reply(&reply);
-        let_go(reply);
+        reply.let_go();
         cell
     }
 }
@@ -50,7 +50,7 @@ impl<D: Drop> Answer<D> for Cell {
         ensures { result ≡ cell_handle reply }
     {
         let cell = Cell::from_reply(&reply);
-        let_go(reply);
+        reply.let_go();
         cell
     }
 }
@@ -64,7 +64,7 @@ impl<D: Drop> Answer<D> for Given<D> {
         match reply {
             Reply::Data(value) => Some(Given(value)),
             other => {
-                let_go(other);
+                other.let_go();
                 None
             }
         }

@@ -2,7 +2,7 @@
 ghost use Rattle.std.specs.Prelude.{◌≡◌};
 ghost use Rattle.loom_answers.specs.Answers.{channel_in, sent_in, received_in, drained_in, tried_receive_in};
 
-use crate::answer::{Answer, let_go};
+use crate::answer::Answer;
 use loom_operations::operation::Reply;
 use loom_ops::sync::mpsc::{Receiver, Sender};
 use std::collections::LinkedList;
@@ -41,7 +41,7 @@ impl<D: Drop> Answer<D> for (Sender, Receiver) {
         match reply {
             Reply::Channel(number) => Some((Sender { number }, Receiver { number })),
             other => {
-                let_go(other);
+                other.let_go();
                 None
             }
         }
@@ -58,7 +58,7 @@ impl<D: Drop> Answer<D> for Sent<D> {
             Reply::Done => Some(Sent(Ok(()))),
             Reply::SendError(message) => Some(Sent(Err(message))),
             other => {
-                let_go(other);
+                other.let_go();
                 None
             }
         }
@@ -75,7 +75,7 @@ impl<D: Drop> Answer<D> for Received<D> {
             Reply::Data(message) => Some(Received(Some(message))),
             Reply::RecvError => Some(Received(None)),
             other => {
-                let_go(other);
+                other.let_go();
                 None
             }
         }
@@ -93,7 +93,7 @@ impl<D: Drop> Answer<D> for TriedReceive<D> {
             Reply::Empty => Some(TriedReceive(Err(TryRecvError::Empty))),
             Reply::Disconnected => Some(TriedReceive(Err(TryRecvError::Disconnected))),
             other => {
-                let_go(other);
+                other.let_go();
                 None
             }
         }
@@ -109,7 +109,7 @@ impl<D: Drop> Answer<D> for Drained<D> {
         match reply {
             Reply::Messages(messages) => Some(Drained(messages)),
             other => {
-                let_go(other);
+                other.let_go();
                 None
             }
         }

@@ -3,7 +3,7 @@ ghost use Rattle.std.specs.Prelude.{◌≡◌};
 ghost use Rattle.loom_answers.specs.Answers.{left_in};
 ghost use Rattle.loom_ops.specs.Counts.{arc_handle};
 
-use crate::answer::{Answer, let_go};
+use crate::answer::Answer;
 use loom_operations::operation::Reply;
 use loom_ops::sync::Arc;
 
@@ -18,7 +18,7 @@ impl<D: Drop> Answer<D> for Arc {
         ensures { result ≡ arc_handle reply }
     {
         let arc = Arc::from_reply(&reply);
-        let_go(reply);
+        reply.let_go();
         arc
     }
 }
@@ -33,7 +33,7 @@ impl<D: Drop> Answer<D> for Left<D> {
             Reply::Data(value) => Some(Left(Some(value))),
             Reply::Done => Some(Left(None)),
             other => {
-                let_go(other);
+                other.let_go();
                 None
             }
         }

@@ -3,7 +3,7 @@ ghost use Rattle.std.specs.Prelude.{◌≡◌};
 ghost use Rattle.loom_ops.specs.Condvars.{condvar_handle};
 ghost use Rattle.loom_ops.specs.RwLocks.{rwlock_handle, read_guard_taken, write_guard_taken};
 
-use crate::answer::{Answer, let_go};
+use crate::answer::Answer;
 use loom_operations::operation::Reply;
 use loom_ops::sync::{Condvar, RwLock, RwLockReadGuard, RwLockWriteGuard};
 
@@ -14,7 +14,7 @@ impl<D: Drop> Answer<D> for RwLock {
         ensures { result ≡ rwlock_handle reply }
     {
         let lock = RwLock::from_reply(&reply);
-        let_go(reply);
+        reply.let_go();
         lock
     }
 }
@@ -46,7 +46,7 @@ impl<D: Drop> Answer<D> for Condvar {
         ensures { result ≡ condvar_handle reply }
     {
         let condvar = Condvar::from_reply(&reply);
-        let_go(reply);
+        reply.let_go();
         condvar
     }
 }

@@ -3,7 +3,7 @@ ghost use Rattle.std.specs.Prelude.{◌≡◌};
 ghost use Rattle.loom_ops.specs.Notifiers.{notify_handle};
 ghost use Rattle.loom_ops.specs.Threads.{thread_handle};
 
-use crate::answer::{Answer, let_go};
+use crate::answer::Answer;
 use loom_operations::operation::Reply;
 use loom_ops::sync::Notify;
 use loom_ops::thread::Thread;
@@ -15,7 +15,7 @@ impl<D: Drop> Answer<D> for Notify {
         ensures { result ≡ notify_handle reply }
     {
         let notifier = Notify::from_reply(&reply);
-        let_go(reply);
+        reply.let_go();
         notifier
     }
 }
@@ -27,7 +27,7 @@ impl<D: Drop> Answer<D> for Thread {
         ensures { result ≡ thread_handle reply }
     {
         let thread = Thread::from_reply(&reply);
-        let_go(reply);
+        reply.let_go();
         thread
     }
 }

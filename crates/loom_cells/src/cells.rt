@@ -144,9 +144,17 @@ fn cell_get<D: Data>(
         .value()
         .ok_or(FailureKind::Misuse)?;
     let entry = copied(value);
-    scene.read_cell(number)?;
-    Ok(entry)
+    match scene.read_cell(number) {
+        Ok(()) => Ok(entry),
+        Err(kind) => {
+            let_go(entry);
+            Err(kind)
+        }
+    }
 }
+
+/// Lets an answer go. It stands alone, since what an answer holds is let go in many ways, and a function that does it costs seconds.
+fn let_go<D: Drop>(_entry: Result<Entry<D>, AllocError>) {}
 
 /// A write that begins and ends.
 fn cell_replace<D: Drop>(

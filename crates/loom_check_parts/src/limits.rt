@@ -31,13 +31,19 @@ pub fn are_made(max_permutations: Option<usize>, runs: u64) -> bool
     runs >= most_runs(max_permutations)
 }
 
+/// Tells the log of the loop a number of runs, between these words (loom's `model.rs`). It stands alone, since what a log is told
+/// costs the proof seconds.
+pub fn tell_log<L: Log>(log: &L, before: &str, number: u64, behind: &str) {
+    info!(log; target: target_or(log, "loom::search"), "{}{}{}", before, number, behind);
+}
+
 /// A check is complete with one run more than these, which the log is told by the loop's name.
 pub fn complete<L: Log>(log: &L, before: u64) -> u64
     requires fits { before < 2 ^ 64 - 1 }
     ensures { result ≡ before + 1 }
 {
     let runs = before + 1;
-    info!(log; target: target_or(log, "loom::search"), "completed in {} iterations", runs);
+    tell_log(log, "completed in ", runs, " iterations");
     runs
 }
 

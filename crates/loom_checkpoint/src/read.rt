@@ -8,7 +8,7 @@ ghost use Rattle.serde_json.specs.View.{view, members_view};
 ghost use Rattle.loom_checkpoint.specs.Checkpoint.{version_of};
 ghost use Rattle.loom_checkpoint.specs.Reading.{as_whole, as_list, as_whole_or_null, taken, expected, ends, status_named, status_of, statuses_of, marks_of, list_of, is_number, begins_with, schedule_of, load_of, spurious_of, node_of, shape_of};
 
-use loom_checkpoint_parts::statuses::{has_one_active, is_active};
+use loom_nodes::rt::reading::{has_one_active, is_active};
 use loom_path::rt::node::{Load, Node, Schedule, Spurious, Status};
 use serde_json::{Map, Value};
 use std::collections::btree_map::Iter;

@@ -1,5 +1,5 @@
 //! A path as a JSON value.
-ghost use Rattle.std.specs.Prelude.{◌≡◌, ◌≤◌, ◌⊎◌, List, length, Some, None, IfOk, IfErr, IfSome, map};
+ghost use Rattle.std.specs.Prelude.{◌≡◌, ◌≤◌, ◌⊎◌, List, length, Some, None, IfOk, IfErr, IfSome, map, nat_lt};
 ghost use Rattle.serde_json.specs.View.{view};
 ghost use Rattle.loom_nodes.specs.declared.rt.node.Node.{Node};
 ghost use Rattle.loom_path.specs.Routes.{at_rest, settings};
@@ -11,7 +11,8 @@ ghost use Rattle.loom_checkpoint.specs.Reading.{each, node_of};
 use crate::error::{PathError, Setting};
 use crate::read::{Parts, read_node, read_parts, read_version};
 use crate::write::write_nodes;
-use loom_checkpoint_parts::shape::{is_bound, is_too_many, write_shape};
+use loom_checkpoint_parts::shape::write_shape;
+use loom_nodes::rt::reading::is_bound;
 use loom_path::rt::node::Node;
 use loom_path::rt::path::{Path, Search};
 use serde_json::Value;
@@ -135,4 +136,11 @@ fn read_nodes(alloc: Global, items: &Vec<Value>) -> Result<Vec<Node>, PathError>
         }
     }
     Ok(nodes)
+}
+
+/// Whether these are more nodes than a run of the search may have.
+fn is_too_many(count: usize, search: Search) -> bool
+    ensures { result ≡ nat_lt search.max_branches count }
+{
+    count > search.max_branches as usize
 }

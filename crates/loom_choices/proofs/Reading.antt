@@ -7,7 +7,8 @@ use Rattle.std.specs.Option.{option_map}
 use Rattle.loom_parts.specs.declared.choice.Choice.{Choice}
 use Rattle.loom_parts.specs.declared.choice.Choice.TheVariants.{Thread, Load, Spurious}
 use Rattle.loom_parts.specs.Words.{choice_in, choice_text, digit_in}
-use Rattle.loom_choices.specs.Reading.{after_word, AreShort, before, choices_in, IsShort, is_space, ReadsBackLaw, word_ends}
+use Rattle.loom_parts.specs.Words.{after_word, is_space, word_ends}
+use Rattle.loom_choices.specs.Reading.{AreShort, before, choices_in, IsShort, ReadsBackLaw}
 use Rattle.loom_choices.specs.Texts.{others_text}
 
 -- these choices, and then those, if they are

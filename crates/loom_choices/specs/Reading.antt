@@ -1,23 +1,9 @@
 -- What a text of choices is read as.
-use Rattle.std.specs.Prelude.{ℕ, ◌≡◌, ◌<◌, ◌||◌, Bool, true, cond, ◌==◌, List, [], ◌∷◌, Option, Some, None}
+use Rattle.std.specs.Prelude.{ℕ, ◌≡◌, ◌<◌, cond, List, [], ◌∷◌, Option, Some, None}
 use Rattle.loom_parts.specs.declared.choice.Choice.{Choice}
 use Rattle.loom_parts.specs.declared.choice.Choice.TheVariants.{Thread, Load, Spurious}
-use Rattle.loom_parts.specs.Words.{choice_in}
+use Rattle.loom_parts.specs.Words.{after_word, is_space}
 use Rattle.loom_choices.specs.Texts.{choices_text}
-
--- a space, a tab, or the end of a line
-abbrev pub is_space : ℕ → Bool
-is_space byte = (byte == 32) || (byte == 9) || (byte == 10) || (byte == 13)
-
--- a word ends here
-abbrev pub word_ends : List ℕ → Bool
-word_ends [] = true
-word_ends (next ∷ rest) = is_space next
-
--- the choice of the word that begins with this letter
-abbrev pub after_word : ℕ → List ℕ → Option Choice
-after_word letter [] = None
-after_word letter (sign ∷ rest) = cond (word_ends rest) (choice_in letter sign) None
 
 abbrev pub before : Option Choice → Option (List Choice) → Option (List Choice)
 before None choices = None

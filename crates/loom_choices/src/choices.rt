@@ -3,8 +3,8 @@ ghost use Rattle.loom_choices.specs.Reading.{choices_in};
 ghost use Rattle.loom_choices.specs.Texts.{choices_text, others_text};
 ghost use Rattle.loom_choices.specs.declared.choices.ChoicesError.TheVariants.{Memory};
 
-use crate::word::{first_word, is_space};
 use loom_parts::choice::Choice;
+use loom_parts::word::{first_word, is_space};
 use std::alloc::{AllocError, Global};
 use std::fmt;
 use thiserror::Error;

@@ -1,9 +1,10 @@
 //! Peterson's lock for two threads. Each raises its flag, lets the other one go first, and enters where the other's flag is down or
 //! it is let go first itself. Both add one to the number in a cell.
-use loom::cell::UnsafeCell;
-use loom::runner::{Handle, Stop};
-use loom::sync::atomic::Ordering::{Acquire, Relaxed, Release};
-use loom::sync::atomic::{AtomicBool, AtomicU64, Ordering};
+use loom_ops::cell::UnsafeCell;
+use loom_ops::sync::atomic::Ordering::{Acquire, Relaxed, Release};
+use loom_ops::sync::atomic::{AtomicBool, AtomicU64, Ordering};
+use loom_runner::handle::Handle;
+use loom_turns::stop::Stop;
 use std::sync::Wait;
 use std::thread::Threads;
 

@@ -1,7 +1,8 @@
 //! A queue with room for one item, by a mutex and a condition variable. The mutex holds how many items there are. One thread puts two
 //! items in, another one puts one, and main takes all three out.
-use loom::runner::{Handle, Stop};
-use loom::sync::{Condvar, Mutex};
+use loom_ops::sync::{Condvar, Mutex};
+use loom_runner::handle::Handle;
+use loom_turns::stop::Stop;
 use std::sync::Wait;
 use std::thread::Threads;
 

@@ -1,9 +1,10 @@
 //! A ring of two cells for one producer and one consumer: one atomic counts the items that were put in, and one those that were
 //! taken out. A thread puts 11, 12 and 13 in. Main takes them out, and asserts which they are.
-use loom::cell::Cell;
-use loom::runner::{Handle, Stop};
-use loom::sync::atomic::Ordering::{Acquire, Release};
-use loom::sync::atomic::{AtomicU64, Ordering};
+use loom_ops::cell::Cell;
+use loom_ops::sync::atomic::Ordering::{Acquire, Release};
+use loom_ops::sync::atomic::{AtomicU64, Ordering};
+use loom_runner::handle::Handle;
+use loom_turns::stop::Stop;
 use std::sync::Wait;
 use std::thread::Threads;
 

@@ -1,9 +1,10 @@
-// What the rows check: main's closure of each, and what its threads do.
-use loom::runner::{Handle, Stop};
-use loom::sync::Mutex;
-use loom::sync::atomic::Ordering::{Acquire, Relaxed, Release};
-use loom::sync::atomic::{AtomicU64, AtomicUsize};
-use loom::thread::JoinHandle;
+//! What the rows check: main's closure of each, and what its threads do.
+use loom_ops::sync::Mutex;
+use loom_ops::sync::atomic::Ordering::{Acquire, Relaxed, Release};
+use loom_ops::sync::atomic::{AtomicU64, AtomicUsize};
+use loom_ops::thread::JoinHandle;
+use loom_runner::handle::Handle;
+use loom_turns::stop::Stop;
 use std::sync::Wait;
 use std::thread::Threads;
 
@@ -47,7 +48,7 @@ fn start<R: Threads + Wait + Clone + Send + 'static>(
 }
 
 /// One thread locks a mutex and then another, a second thread the other and then the one. Main joins them.
-pub(crate) fn two_mutexes<R: Threads + Wait + Clone + Send + 'static>(
+pub fn two_mutexes<R: Threads + Wait + Clone + Send + 'static>(
     handle: &mut Handle<u64, R>,
 ) -> Result<u64, Stop> {
     let one = handle.mutex(0)?;
@@ -59,7 +60,7 @@ pub(crate) fn two_mutexes<R: Threads + Wait + Clone + Send + 'static>(
 }
 
 /// Holds the one while it locks the other.
-fn lock_both<R: Wait>(
+pub fn lock_both<R: Wait>(
     handle: &mut Handle<u64, R>,
     outer: &Mutex,
     inner: &Mutex,
@@ -72,7 +73,7 @@ fn lock_both<R: Wait>(
 }
 
 /// Two threads add 1 to the same number, and what they read before differs.
-pub(crate) fn two_adds<R: Threads + Wait + Clone + Send + 'static>(
+pub fn two_adds<R: Threads + Wait + Clone + Send + 'static>(
     handle: &mut Handle<u64, R>,
 ) -> Result<u64, Stop> {
     let number = handle.atomic(0u64)?;
@@ -84,7 +85,7 @@ pub(crate) fn two_adds<R: Threads + Wait + Clone + Send + 'static>(
 }
 
 /// Main locks a mutex beside a thread that does nothing but end.
-pub(crate) fn lock_beside<R: Threads + Wait + Clone + Send + 'static>(
+pub fn lock_beside<R: Threads + Wait + Clone + Send + 'static>(
     handle: &mut Handle<u64, R>,
 ) -> Result<u64, Stop> {
     let mutex = handle.mutex(0)?;
@@ -94,14 +95,14 @@ pub(crate) fn lock_beside<R: Threads + Wait + Clone + Send + 'static>(
 }
 
 /// Locks the mutex, and releases it.
-fn pass_through<R: Wait>(handle: &mut Handle<u64, R>, mutex: &Mutex) -> Result<u64, Stop> {
+pub fn pass_through<R: Wait>(handle: &mut Handle<u64, R>, mutex: &Mutex) -> Result<u64, Stop> {
     let (guard, value) = handle.lock(mutex)?;
     handle.release(guard, value)?;
     Ok(3)
 }
 
 /// Main stores 1 and 3, and another thread 2 in between: each waits for what the other stores.
-pub(crate) fn ping_pong<R: Threads + Wait + Clone + Send + 'static>(
+pub fn ping_pong<R: Threads + Wait + Clone + Send + 'static>(
     handle: &mut Handle<u64, R>,
 ) -> Result<u64, Stop> {
     handle.stop_exploring()?;
@@ -136,7 +137,7 @@ fn wait_for<R: Wait>(
 }
 
 /// Main locks a mutex, which a thread locks and releases, and ends without a release.
-pub(crate) fn guard_left<R: Threads + Wait + Clone + Send + 'static>(
+pub fn guard_left<R: Threads + Wait + Clone + Send + 'static>(
     handle: &mut Handle<u64, R>,
 ) -> Result<u64, Stop> {
     let mutex = handle.mutex(0)?;
@@ -146,7 +147,7 @@ pub(crate) fn guard_left<R: Threads + Wait + Clone + Send + 'static>(
 }
 
 /// Main is given a stop, calls once more, and passes over the stop that it is given again.
-pub(crate) fn deaf<R: Wait>(handle: &mut Handle<u64, R>) -> Result<u64, Stop> {
+pub fn deaf<R: Wait>(handle: &mut Handle<u64, R>) -> Result<u64, Stop> {
     handle.fail();
     match handle.yield_now() {
         Ok(()) => Ok(1),
@@ -155,7 +156,7 @@ pub(crate) fn deaf<R: Wait>(handle: &mut Handle<u64, R>) -> Result<u64, Stop> {
 }
 
 /// Two threads store to an atomic each, and load from the other's. Main is one of them.
-pub(crate) fn store_buffering<R: Threads + Wait + Clone + Send + 'static>(
+pub fn store_buffering<R: Threads + Wait + Clone + Send + 'static>(
     handle: &mut Handle<u64, R>,
 ) -> Result<u64, Stop> {
     let x = handle.atomic(0u64)?;

@@ -1,8 +1,9 @@
 //! A spin lock, and a cell that it guards. Two threads take the lock, and each adds one to the number in the cell.
-use loom::cell::UnsafeCell;
-use loom::runner::{Handle, Stop};
-use loom::sync::atomic::Ordering::{Acquire, Relaxed};
-use loom::sync::atomic::{AtomicBool, Ordering};
+use loom_ops::cell::UnsafeCell;
+use loom_ops::sync::atomic::Ordering::{Acquire, Relaxed};
+use loom_ops::sync::atomic::{AtomicBool, Ordering};
+use loom_runner::handle::Handle;
+use loom_turns::stop::Stop;
 use std::sync::Wait;
 use std::thread::Threads;
 

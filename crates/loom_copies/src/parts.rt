@@ -3,7 +3,7 @@ ghost use Rattle.std.specs.Prelude.{◌≡◌, ◌↔◌, IfOk, IsTrue};
 
 use crate::exact::{Exact, is_same_value};
 use loom_operations::operation::{Keyed, Lazy};
-use loom_views::sequence::Sequence;
+use loom_view_parts::sequence::Sequence;
 use std::alloc::{AllocError, Global};
 use std::collections::LinkedList;
 

@@ -6,9 +6,9 @@ use Rattle.std.proofs.lemmas.List.{ext_get_or}
 use Rattle.loom_view_parts.specs.Graph.{Graph, reaches, Shows, IsChained}
 use Rattle.loom_view_parts.specs.Versions.{within}
 use Rattle.loom_view_parts.proofs.Views.{shows-inside}
-use Rattle.loom_view_laws.specs.Reaching.{is_raising}
-use Rattle.loom_view_laws.proofs.Sweeping.{past-is}
-use Rattle.loom_view_laws.proofs.Reaching.Raising.{staying_law, extends-itself}
+use Rattle.loom_views.specs.Reaching.{is_raising}
+use Rattle.loom_views.proofs.Sweeping.{past-is}
+use Rattle.loom_views.proofs.Reaching.Raising.{staying_law, extends-itself}
 use Rattle.loom_dependence.specs.declared.rt.dependence.Action.{Action}
 use Rattle.loom_dependence.specs.declared.rt.dependence.Dependence.{Dependence}
 use Rattle.loom_dependence.specs.declared.rt.dependence.Use.{Use}

@@ -10,7 +10,7 @@ use Rattle.loom_view_parts.proofs.Views.{chained-moved, shows-start, raised-no}
 use Rattle.loom_view_parts.proofs.Growth.{GrownBy, shows-grown, present-grown}
 use Rattle.loom_views.proofs.Table.Carried.{none-grown}
 use Rattle.loom_views.proofs.Table.Lists.{get-append_same, get-append_other}
-use Rattle.loom_view_laws.proofs.Reaching.Raising.{raising-extends, extends-grown}
+use Rattle.loom_views.proofs.Reaching.Raising.{raising-extends, extends-grown}
 use Rattle.loom_dependence.specs.declared.rt.dependence.Action.{Action}
 use Rattle.loom_dependence.specs.declared.rt.dependence.Action.TheVariants.{Read, Change, Increment, Decrement, Inspect, Send, Receive, Other}
 use Rattle.loom_dependence.specs.declared.rt.dependence.Dependence.{Dependence}

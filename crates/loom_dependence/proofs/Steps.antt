@@ -12,7 +12,7 @@ use Rattle.loom_view_parts.proofs.Views.{chained-moved, chained-raising, present
 use Rattle.loom_view_parts.proofs.ThreadMoves.{own-version}
 use Rattle.loom_view_parts.proofs.Growth.{GrownBy, same, quiet, raising}
 use Rattle.loom_views.proofs.Table.Lists.{get-set_same, get-set_other}
-use Rattle.loom_view_laws.proofs.Reaching.Raising.{new-raises}
+use Rattle.loom_views.proofs.Reaching.Raising.{new-raises}
 use Rattle.loom_dependence.specs.declared.rt.dependence.Action.{Action}
 use Rattle.loom_dependence.specs.declared.rt.dependence.Dependence.{Dependence}
 use Rattle.loom_dependence.specs.declared.rt.dependence.Use.{Use}

@@ -3,7 +3,7 @@ use Rattle.std.proofs.Common.{◌≡◌, ℕ, true, List, [], ◌∷◌, get_or,
 use Rattle.std.specs.List.{AllByRecursion}
 use Rattle.loom_view_parts.specs.Graph.{Graph, Shows, IsChained}
 use Rattle.loom_view_parts.proofs.Counted.{counted-is}
-use Rattle.loom_view_laws.specs.Reaching.{is_raising}
+use Rattle.loom_views.specs.Reaching.{is_raising}
 use Rattle.loom_dependence.specs.declared.rt.last.LastAccess.{LastAccess}
 use Rattle.loom_dependence.specs.Dependence.{Access, accesses_to, last_before}
 use Rattle.loom_dependence.specs.Shown.{ShowsLast, AreRaising, nothing, slot_of}

@@ -4,7 +4,7 @@ use Rattle.std.specs.List.{AllByRecursion}
 use Rattle.loom_view_parts.specs.declared.rt.failure.FailureKind.{FailureKind}
 use Rattle.loom_view_parts.specs.Graph.{Graph, raised, Shows, IsChained, IsPresent}
 use Rattle.loom_view_parts.specs.Versions.{join}
-use Rattle.loom_view_laws.specs.Reaching.{is_raising}
+use Rattle.loom_views.specs.Reaching.{is_raising}
 use Rattle.loom_dependence.specs.declared.rt.dependence.Action.{Action}
 use Rattle.loom_dependence.specs.declared.rt.dependence.Action.TheVariants.{Read, Change, Increment, Decrement, Inspect, Send, Receive, Other}
 use Rattle.loom_dependence.specs.declared.rt.dependence.Dependence.{Dependence}

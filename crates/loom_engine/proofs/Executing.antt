@@ -42,7 +42,7 @@ use Rattle.loom_objects.specs.declared.rt.run.RunState.{RunState}
 use Rattle.loom_runs.proofs.Runs.Growing.{made_needs_memory}
 use Rattle.loom_dependence.specs.Shown.{ShowsOrder}
 use Rattle.loom_objects.specs.Uses.{use_at, uses}
-use Rattle.loom_engine_parts.specs.Ending.{kept_after, may_end}
+use Rattle.loom_operation_parts.specs.Ending.{kept_after, may_end}
 use Rattle.loom_engine.specs.declared.rt.execution.Progress.{Progress}
 use Rattle.loom_engine.specs.Execution.{ExecutionState, Notes, Starts, ShowsCourse, IsMarked, Comes, Along, MayBeRefused, Submits, SubmitsAt, over_after, takes_turn}
 use Rattle.loom_path.specs.Routes.{Route, IsSame, Switches, SwitchesAs, trail, Says, Backtracks, drives}

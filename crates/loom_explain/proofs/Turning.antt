@@ -24,12 +24,12 @@ use Rattle.loom_walks.specs.Trees.Drive.{Trail}
 use Rattle.loom_walks.specs.Trees.Meeting.{Settings}
 use Rattle.loom_round.proofs.Handing.{IsHanded, slice_get_is}
 use Rattle.loom_round.specs.Ending.{Outcome}
-use Rattle.loom_told.specs.declared.explanation.End.{End}
-use Rattle.loom_told.specs.declared.explanation.End.TheVariants.{Ended, Failed}
-use Rattle.loom_told.specs.declared.explanation.Event.{Event}
+use Rattle.loom_operation_parts.specs.declared.event.End.{End}
+use Rattle.loom_operation_parts.specs.declared.event.End.TheVariants.{Ended, Failed}
+use Rattle.loom_operation_parts.specs.declared.event.Event.{Event}
 use Rattle.loom_explain.specs.Story.{Story, EndsAs, begins_with, by_body, event_of, goes_on, hands_over, nothing_more, story}
 use Rattle.loom_explain.specs.Telling.{IsUnderWay, ComesToTurn, behind}
-use Rattle.loom_noting.specs.Ends.{IsEndOf}
+use Rattle.loom_operation_parts.specs.Ends.{IsEndOf}
 
 -- an event goes from the rest of a story to what was told
 told_one_more : {D : Type 0} (events : List Event) (event : Event) (rest : Story D) → behind (events ++ event ∷ []) rest ≡ behind events (begins_with event rest)

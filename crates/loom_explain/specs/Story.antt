@@ -14,9 +14,9 @@ use Rattle.loom_runs.specs.Machine.{submit}
 use Rattle.loom_runs.specs.Runs.{Meaning, at_turn, runs, with_child}
 use Rattle.loom_path.specs.Routes.{Route, trail}
 use Rattle.loom_round.specs.Ending.{Outcome}
-use Rattle.loom_told.specs.declared.explanation.Event.{Event}
-use Rattle.loom_told.specs.declared.explanation.End.{End}
-use Rattle.loom_told.specs.declared.explanation.End.TheVariants.{Ended, Failed}
+use Rattle.loom_operation_parts.specs.declared.event.Event.{Event}
+use Rattle.loom_operation_parts.specs.declared.event.End.{End}
+use Rattle.loom_operation_parts.specs.declared.event.End.TheVariants.{Ended, Failed}
 use Rattle.loom_explain.specs.declared.telling.Told.{Told}
 use Rattle.loom_explain.specs.Bare.{bare_op, bare_reply}
 

@@ -11,7 +11,7 @@ use Rattle.loom_engine.specs.Execution.{ShowsCourse}
 use Rattle.loom_path.specs.Routes.{Route, trail}
 use Rattle.loom_runs.specs.Courses.{Course}
 use Rattle.loom_runs.specs.Runs.{Meaning}
-use Rattle.loom_told.specs.declared.explanation.Event.{Event}
+use Rattle.loom_operation_parts.specs.declared.event.Event.{Event}
 use Rattle.loom_explain.specs.Story.{Story, story}
 
 -- the story with these events before it

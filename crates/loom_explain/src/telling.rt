@@ -1,18 +1,20 @@
 //! Makes a run along a path, and tells it as events.
-ghost use Rattle.std.specs.Prelude.{◌≡◌, ◌≤◌, ◌+◌, None, IfOk, OnOk};
+ghost use Rattle.std.specs.Prelude.{◌≡◌, ◌≤◌, ◌+◌, ◌++◌, ◌∷◌, [], None, IfOk, OnOk};
 ghost use Rattle.loom_engine.specs.Execution.{over_after};
 ghost use Rattle.loom_runs.specs.Runs.{with_child};
 ghost use Rattle.loom_path.specs.Routes.{IsAtStart, IsSameSearch, trail};
+ghost use Rattle.loom_explain.specs.Bare.{bare_op, bare_reply};
 ghost use Rattle.loom_explain.specs.Story.{EndsAs, IsToldAs, Story, story_of};
 ghost use Rattle.loom_explain.specs.Telling.{ComesToTurn, IsUnderWay};
 
 use crate::bare::{bare_op, bare_reply};
 use loom_engine::rt::execution::{Execution, Limits};
-use loom_noting::noting::{note, stopped};
+use loom_operation_parts::noting::{note, stopped};
 use loom_operations::body::Body;
 use loom_operations::failure::{Stop, failed};
-use loom_operations::operation::{Reply, Turn};
+use loom_operations::operation::{Op, Reply, Turn};
 use loom_path::rt::path::Path;
+use loom_round::round::Room;
 use loom_told::explanation::{End, Event};
 use loom_views::rt::failure::FailureKind;
 use std::alloc::{AllocError, Global};
@@ -29,6 +31,7 @@ pub struct Told {
 /// One run of the body along the path, from its start. An error only where a growth was refused, in the run or the body.
 pub fn tell<B: Body>(
     alloc: Global,
+    room: &mut Room<B>,
     limits: Limits,
     body: &B,
     path: &mut Path,
@@ -39,11 +42,17 @@ pub fn tell<B: Body>(
     ensures told { IfOk result (λ told. IsToldAs (story_of path.old.search B.next path.old.explores limits.max_threads limits.max_steps body.now (trail path.old)) told path.new) }
     ensures same { IsSameSearch path.old path.new }
 {
-    let mut bodies = Vec::new(alloc);
-    bodies.push(body.try_clone()?)?;
-    let mut execution = Execution::new(alloc, limits)?;
+    room.bodies.clear();
+    room.bodies.push(body.try_clone()?)?;
+    room.execution.restart(limits)?;
     let mut events = Vec::new(alloc);
-    let end = take_turns(alloc, &mut execution, &mut bodies, path, &mut events)?;
+    let end = take_turns(
+        alloc,
+        &mut room.execution,
+        &mut room.bodies,
+        path,
+        &mut events,
+    )?;
     Ok(Told { events, end })
 }
 
@@ -100,17 +109,60 @@ fn hand_over<B: Body>(
 {
     let place = thread as usize;
     if place >= bodies.len() {
+        reply.let_go();
         return Ok(Err(failed(FailureKind::Misuse)));
     }
-    let told = bare_reply(alloc, &reply)?;
-    let body = &mut bodies[place];
-    let op = body.resume(reply)?;
-    note(events, thread, told, bare_op(&op), path.position())?;
+    let position = path.position();
+    let op = ask(alloc, &mut bodies[place], events, thread, position, reply)?;
     let (op, started) = op.split();
-    let answer = execution.submit(path, op);
-    add_child(bodies, started)?;
-    Ok(answer)
+    match add_child(bodies, started) {
+        Ok(()) => Ok(execution.submit(path, op)),
+        Err(refusal) => {
+            op.let_go();
+            Err(refusal)
+        }
+    }
 }
+
+/// The body is told the reply, and what it hands over is an event. An error only where a growth was refused, for the event or to
+/// the body.
+fn ask<B: Body>(
+    alloc: Global,
+    body: &mut B,
+    events: &mut Vec<Event>,
+    thread: u8,
+    choices_before: usize,
+    reply: Reply<B::Data>,
+) -> Result<Op<B::Data, B>, AllocError>
+    ensures step { IfOk result (λ op. (body.new, op) ≡ B.next body.old reply) }
+    ensures noted { IfOk result (λ op. events.new.items ≡ events.old.items
+        ++ record { thread = thread; told = bare_reply reply; op = bare_op op; choices_before = choices_before } ∷ []) }
+{
+    let told = match bare_reply(alloc, &reply) {
+        Ok(told) => told,
+        Err(refusal) => {
+            reply.let_go();
+            return Err(refusal);
+        }
+    };
+    let op = match body.resume(reply) {
+        Ok(op) => op,
+        Err(refusal) => {
+            told.let_go();
+            return Err(refusal);
+        }
+    };
+    match note(events, thread, told, bare_op(&op), choices_before) {
+        Ok(()) => Ok(op),
+        Err(refusal) => {
+            let_go(op);
+            Err(refusal)
+        }
+    }
+}
+
+/// Lets an operation go that a body has handed over.
+fn let_go<D: Drop, B: Drop>(_op: Op<D, B>) {}
 
 /// What a spawn started is a body more.
 fn add_child<B: Drop>(bodies: &mut Vec<B>, started: Option<B>) -> Result<(), AllocError>

@@ -28,6 +28,7 @@ pub fn begin<D: Data>(run: &mut RunState<D>, op: Request<D, ()>) -> Result<Entry
     ensures growth { result ≡ Err Stop.Memory → effects.needs_memory op ≡ true }
 {
     if !take_step(&mut run.steps_left) {
+        op.let_go();
         return Err(failed(FailureKind::TooManySteps));
     }
     match begin_op(&mut run.scene, op) {

@@ -3,7 +3,7 @@ use Rattle.std.proofs.Common.{◌≡◌, ◌<◌, ◌≤◌, ◌+◌, ℕ, Bool,
 use Rattle.std.specs.Prelude.{◌⊎◌, Some, None, Result, Ok, Err, IfErr, nat_lt}
 use Rattle.loom_operations.specs.Tree.{Tree}
 use Rattle.loom_runs.specs.Trees.{IsRunTree}
-use Rattle.loom_bounds.proofs.Within.{no_failure_law}
+use Rattle.loom_model.proofs.Within.{no_failure_law}
 use Rattle.loom_walks.specs.Trees.Marks.{marking}
 use Rattle.loom_walks.proofs.Trees.Marks.{marking_law}
 use Rattle.loom_model.specs.declared.builder.Builder.{Builder}

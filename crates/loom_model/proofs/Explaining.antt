@@ -1,9 +1,9 @@
 -- What is told of a run is told of the replay.
 use Rattle.std.proofs.Common.{◌≡◌, List, [], length, refl, sym, ap, ◌∙◌}
 use Rattle.std.specs.Prelude.{Result, Ok, Err}
-use Rattle.loom_told.specs.declared.explanation.End.{End}
-use Rattle.loom_told.specs.declared.explanation.End.TheVariants.{Ended, Failed}
-use Rattle.loom_told.specs.declared.explanation.Event.{Event}
+use Rattle.loom_operation_parts.specs.declared.event.End.{End}
+use Rattle.loom_operation_parts.specs.declared.event.End.TheVariants.{Ended, Failed}
+use Rattle.loom_operation_parts.specs.declared.event.Event.{Event}
 use Rattle.loom_explain.specs.Story.{EndsAs, Story}
 use Rattle.loom_explain.proofs.Story.{story_law}
 use Rattle.loom_parts.specs.declared.choice.Choice.{Choice}

@@ -6,3 +6,6 @@ pub mod Numbers
 pub mod Replaying
 pub mod Bounds
 pub mod Explaining
+mod Called
+pub mod Within
+mod BoundExample

@@ -49,9 +49,9 @@ as_seconds (Some n) = Some (record { secs = n; nanos = 0 })
 abbrev pub duration_in : Text → Result (Option Duration) CheckError
 duration_in text = then (option_in MaxDuration text) (λ n. Ok (as_seconds n))
 
--- the defaults, with what the variables say in their place; the first that should be a number and isn't is refused
-abbrev pub of_environment : Env → Result Builder CheckError
-of_environment env =
+-- the defaults with the numbers that the variables say, or the error of the first one that says none
+abbrev pub numbers_of : Env → Result Builder CheckError
+numbers_of env =
     then (number_or MaxBranches env.max_branches 1000) (λ max_branches.
     then (option_in MaxPermutations env.max_permutations) (λ max_permutations.
     then (duration_in env.max_duration) (λ max_duration.
@@ -63,7 +63,12 @@ of_environment env =
       max_duration = max_duration;
       preemption_bound = preemption_bound;
       checkpoint_interval = checkpoint_interval;
-      checkpoint_file = env.checkpoint_file;
-      location = is_some env.location;
-      log = is_some env.log;
     }))))))
+
+-- the defaults, with what the variables say in their place; the first that should be a number and isn't is refused
+abbrev pub of_environment : Env → Result Builder CheckError
+of_environment env = then (numbers_of env) (λ b. Ok (record b {
+  checkpoint_file = env.checkpoint_file;
+  location = is_some env.location;
+  log = is_some env.log;
+}))

@@ -1,9 +1,11 @@
 -- What an explanation of a run promises.
 use Rattle.std.specs.Prelude.{◌≡◌, List, length, Ok, Err}
-use Rattle.loom_told.specs.declared.explanation.End.{End}
-use Rattle.loom_told.specs.declared.explanation.End.TheVariants.{Ended, Failed}
+use Rattle.loom_operation_parts.specs.declared.event.End.{End}
+use Rattle.loom_operation_parts.specs.declared.event.End.TheVariants.{Ended, Failed}
 use Rattle.loom_told.specs.declared.explanation.Explanation.{Explanation}
-use Rattle.loom_explain.specs.Story.{Story, story_of}
+use Rattle.loom_explain.specs.Story.{IsToldAs, Story, story_of}
+use Rattle.loom_explain.specs.declared.telling.Told.{Told}
+use Rattle.loom_path.specs.Routes.{Route, chosen, trail}
 use Rattle.loom_parts.specs.declared.choice.Choice.{Choice}
 use Rattle.loom_runs.specs.Runs.{Meaning, runs}
 use Rattle.loom_walks.specs.Trees.Check.{following}
@@ -11,6 +13,22 @@ use Rattle.loom_walks.specs.Trees.Meeting.{whole_search}
 use Rattle.loom_model.specs.declared.builder.Builder.{Builder}
 use Rattle.loom_model.specs.Beginning.{IsReplay}
 use Rattle.loom_model.specs.Settings.{explores}
+
+-- the run of this body along the path is told, which comes to the other path
+abbrev pub IsToldAlong : {D S : Type 0} → Meaning D S → Builder → S → Route → Told → Route → Type 0
+IsToldAlong next b body old told new = IsToldAs (story_of old.search next old.explores b.max_threads b.max_steps body (trail old)) told new
+
+-- the events and the end are those that were told
+abbrev pub IsToldBy : Told → Explanation → Type 0
+IsToldBy told e = (e.events.items ≡ told.events.items) × (e.end ≡ told.end)
+
+-- the choices are those of the path, and at each node of it there was something to choose of
+abbrev pub IsChosenOn : Route → Explanation → Type 0
+IsChosenOn path e = (e.choices.items ≡ chosen path) × (length e.options.items ≡ length path.nodes)
+
+-- the limits are those of the settings
+abbrev pub HasLimits : Builder → Explanation → Type 0
+HasLimits b e = (e.max_threads ≡ b.max_threads) × (e.max_branches ≡ b.max_branches) × (e.max_steps ≡ b.max_steps)
 
 module _ {D S : Type 0} (b : Builder) (next : Meaning D S) (body : S) (given : List Choice) where
   -- the story of the run that follows the given choices and then takes defaults
@@ -31,4 +49,4 @@ module _ {D S : Type 0} (b : Builder) (next : Meaning D S) (body : S) (given : L
     -- something to choose of at each choice
     pub options : length e.options.items ≡ length e.choices.items
     -- the limits that it ran with
-    pub limits : (e.max_threads ≡ b.max_threads) × (e.max_branches ≡ b.max_branches) × (e.max_steps ≡ b.max_steps)
+    pub limits : HasLimits b e

@@ -7,3 +7,6 @@ pub mod Check
 pub mod Loop
 pub mod Rising
 pub mod Explaining
+pub mod Called
+pub mod Within
+pub mod BoundExample

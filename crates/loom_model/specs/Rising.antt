@@ -3,7 +3,7 @@ use Rattle.std.specs.Prelude.{ℕ, ◌≡◌, ◌≢◌, ◌<◌, ◌≤◌, Boo
 use Rattle.loom_view_parts.specs.declared.rt.failure.FailureKind.{FailureKind}
 use Rattle.loom_parts.specs.declared.choice.Choice.{Choice}
 use Rattle.loom_operations.specs.Tree.{Tree}
-use Rattle.loom_bounds.specs.Within.{IsWithin}
+use Rattle.loom_model.specs.Within.{IsWithin}
 use Rattle.loom_runs.specs.Trees.{IsRunTree}
 use Rattle.loom_walks.specs.Trees.Outcomes.{outcome}
 use Rattle.loom_model.specs.declared.builder.Builder.{Builder}

@@ -1,5 +1,5 @@
 ghost use Rattle.std.specs.Prelude.{◌≡◌, ◌≤◌, ◌<◌, OnOk, IfOk, IfErr, IfSome, Some, None, String, string_bytes};
-ghost use Rattle.loom_model.specs.Environment.{of_environment};
+ghost use Rattle.loom_model.specs.Environment.{numbers_of, of_environment};
 ghost use Rattle.loom_model.specs.Settings.{defaults, tested, tested_bound};
 
 use crate::env::{Env, number_or, optional, seconds};
@@ -74,6 +74,19 @@ impl Builder {
     pub fn from_env(env: Env) -> Result<Builder, CheckError>
         ensures { result ≡ of_environment env }
     {
+        let said = Builder::numbers_of(&env)?;
+        Ok(Builder {
+            location: env.location.is_some(),
+            log: env.log.is_some(),
+            checkpoint_file: env.checkpoint_file,
+            ..said
+        })
+    }
+
+    /// The defaults, with the numbers that the variables say.
+    fn numbers_of(env: &Env) -> Result<Builder, CheckError>
+        ensures { result ≡ numbers_of env.now }
+    {
         let max_branches = number_or(Variable::MaxBranches, &env.max_branches, 1000)?;
         let max_permutations = optional(Variable::MaxPermutations, &env.max_permutations)?;
         let max_duration = seconds(&env.max_duration)?;
@@ -86,9 +99,6 @@ impl Builder {
             max_duration,
             preemption_bound,
             checkpoint_interval,
-            location: env.location.is_some(),
-            log: env.log.is_some(),
-            checkpoint_file: env.checkpoint_file,
             ..Builder::new()
         })
     }

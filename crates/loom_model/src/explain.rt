@@ -1,19 +1,19 @@
 //! What happened in the run that follows given choices.
-ghost use Rattle.std.specs.Prelude.{◌≡◌, ◌≤◌, ◌⊎◌, Err, IfOk, IfErr};
-ghost use Rattle.loom_explain.specs.Story.{IsToldAs, story_of};
-ghost use Rattle.loom_path.specs.Routes.{trail};
-ghost use Rattle.loom_model.specs.Explaining.{Explains};
+ghost use Rattle.std.specs.Prelude.{◌≡◌, ◌≤◌, ◌⊎◌, [], Err, IfOk, IfErr, OnOk};
+ghost use Rattle.loom_walks.specs.Trees.Meeting.{whole_search};
+ghost use Rattle.loom_path.specs.Routes.{at_rest};
+ghost use Rattle.loom_model.specs.Explaining.{Explains, HasLimits, IsChosenOn, IsToldAlong, IsToldBy};
 ghost use Rattle.loom_model.specs.Settings.{explores, tested};
 
 use crate::builder::Builder;
 use crate::error::CheckError;
 use loom_check_parts::runs::{Runs, follow};
-use loom_engine::rt::execution::Limits;
 use loom_explain::options::options_at;
 use loom_explain::telling::{Told, tell};
 use loom_operations::body::Body;
 use loom_parts::choice::Choice;
 use loom_path::rt::path::Path;
+use loom_round::round::Room;
 pub use loom_told::explanation::{End, Event, Explanation, Options};
 use loom_told::text;
 use std::alloc::{AllocError, Global};
@@ -33,27 +33,75 @@ impl Builder {
         ensures errors { IfErr result (λ e. (e ≡ CheckError.Memory) ⊎ (tested self.now ≡ Err e)) }
     {
         self.test()?;
-        let explores = !self.expect_explicit_explore;
-        let runs = ToldRuns {
-            builder: self,
-            body,
-        };
-        let (told, path) = follow(alloc, &runs, &mut (), explores, self.max_branches, choices)?;
-        let choices = path.choices(alloc)?;
-        let options = options_at(alloc, path.nodes())?;
+        let (told, path) = self.tell(alloc, body, choices)?;
+        let explanation = self.explained(alloc, told, &path)?;
+        Ok(explanation)
+    }
+
+    /// The run that was told, with the choices of its path, what there was to choose of, and the text.
+    fn explained(&self, alloc: Global, told: Told, path: &Path) -> Result<Explanation, AllocError>
+        ensures told { IfOk result (IsToldBy told) }
+        ensures path { IfOk result (IsChosenOn path.now) }
+        ensures limits { IfOk result (HasLimits self.now) }
+    {
         let mut explanation = Explanation {
             events: told.events,
-            choices,
-            options,
+            choices: Vec::new(alloc),
+            options: Vec::new(alloc),
             end: told.end,
             max_threads: self.max_threads,
             max_branches: self.max_branches,
             max_steps: self.max_steps,
             text: String::new(alloc),
         };
-        explanation.text = text::told(alloc, &explanation)?;
+        fill(alloc, path, &mut explanation)?;
         Ok(explanation)
     }
+
+    /// The run that follows these choices and then takes defaults, told, and the path after it.
+    fn tell<B: Body>(
+        &self,
+        alloc: Global,
+        body: &B,
+        choices: &[Choice],
+    ) -> Result<(Told, Path), AllocError>
+        requires some { 1 ≤ self.now.max_threads }
+        requires few { self.now.max_threads ≤ 5 }
+        requires branches { self.now.max_branches ≤ 1000000 }
+        ensures { IfOk result (λ made. IsToldAlong B.next self.now body.now (record (at_rest (whole_search self.now.max_branches) (explores self.now) []) { given = choices.now }) made.0 made.1) }
+    {
+        let explores = !self.expect_explicit_explore;
+        let runs = ToldRuns {
+            builder: self,
+            body,
+        };
+        let mut room = Room::new(alloc, self.limits())?;
+        let made = follow(
+            alloc,
+            &runs,
+            &mut room,
+            explores,
+            self.max_branches,
+            choices,
+        );
+        room.leave();
+        made
+    }
+}
+
+/// Puts into an explanation the choices of the path, what there was to choose of, and the text.
+fn fill(alloc: Global, path: &Path, explanation: &mut Explanation) -> Result<(), AllocError>
+    ensures path { OnOk result (IsChosenOn path.now explanation.new) }
+    ensures events { explanation.new.events ≡ explanation.old.events }
+    ensures end { explanation.new.end ≡ explanation.old.end }
+    ensures threads { explanation.new.max_threads ≡ explanation.old.max_threads }
+    ensures branches { explanation.new.max_branches ≡ explanation.old.max_branches }
+    ensures steps { explanation.new.max_steps ≡ explanation.old.max_steps }
+{
+    explanation.choices = path.choices(alloc)?;
+    explanation.options = options_at(alloc, path.nodes())?;
+    explanation.text = text::told(alloc, explanation)?;
+    Ok(())
 }
 
 /// Makes the runs of a body, as a builder asks for them, and tells them.
@@ -68,15 +116,11 @@ impl<'a, B: Body> Runs<Told> for ToldRuns<'a, B> {
 
     ghost begins_exploring = { λ runs. explores runs.builder.now };
 
-    ghost comes = { λ runs old told new. IsToldAs (story_of old.search B.next old.explores runs.builder.now.max_threads runs.builder.now.max_steps runs.body.now (trail old)) told new };
+    ghost comes = { λ runs old told new. IsToldAlong B.next runs.builder.now runs.body.now old told new };
 
-    type Room = ();
+    type Room = Room<B>;
 
-    fn run(&self, alloc: Global, _room: &mut (), path: &mut Path) -> Result<Told, AllocError> {
-        let limits = Limits {
-            max_threads: self.builder.max_threads,
-            max_steps: self.builder.max_steps,
-        };
-        tell(alloc, limits, self.body, path)
+    fn run(&self, alloc: Global, room: &mut Room<B>, path: &mut Path) -> Result<Told, AllocError> {
+        tell(alloc, room, self.builder.limits(), self.body, path)
     }
 }

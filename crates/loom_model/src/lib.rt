@@ -1,7 +1,8 @@
 //! Checks of bodies: a body is run once for each choice of the scheduled thread that the search tries, and what a complete check
 //! has made is a stated set of runs. `builder` and `env` have the settings, `model` checks and replays, `search` is the loop of a
-//! check, `rising` raises its bound, `error` says why there is no report, and `laws` what a report means. Everything else stands
-//! under loom's paths, handed on from the crates below. Programs and tests use `loom`, which hands on all of this.
+//! check, `rising` raises its bound, `error` says why there is no report, `laws` what a report means, and `preemptions` which runs
+//! a bound leaves in. Everything else stands under loom's paths, handed on from the crates below. Programs and tests use `loom`,
+//! which hands on all of this.
 #![tactic(auto)]
 
 pub mod builder;
@@ -10,6 +11,7 @@ pub mod error;
 pub mod explain;
 pub mod laws;
 pub mod model;
+pub mod preemptions;
 mod progress;
 mod report;
 pub mod rising;

@@ -200,7 +200,7 @@ impl Builder {
     }
 
     /// How much a run may use.
-    fn limits(&self) -> Limits
+    pub(crate) fn limits(&self) -> Limits
         ensures threads { result.max_threads ≡ self.now.max_threads }
         ensures steps { result.max_steps ≡ self.now.max_steps }
     {

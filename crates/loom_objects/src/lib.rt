@@ -1,8 +1,8 @@
-//! What a run is made of: the operations that a body hands over with the replies to them, and the scene of threads and
-//! objects on which they work. The rules of the machine stand in `specs/`, a file for each kind of object: what an operation
-//! does when it is handed over, and when its thread is chosen. The scene's methods are the moves of which effects are made.
-//! It uses `loom_parts` for what is small, `loom_dependence` for accesses and `loom_views` for views. The crates of effects
-//! (`loom_atomics` to `loom_wakers`) work on the scene, and all above speak of its operations and questions.
+//! The scene of threads and objects on which operations work. The rules of the machine stand in `specs/`, a file for each
+//! kind of object: what an operation does when it is handed over, and when its thread is chosen. The scene's methods are the
+//! moves of which effects are made. It uses `loom_parts` for what is small, `loom_dependence` for accesses and `loom_views`
+//! for views; operations, replies and bodies are those of `loom_operations`, which it hands on. The crates of effects
+//! (`loom_atomics` to `loom_wakers`) work on the scene, and all above speak of it.
 #![tactic(auto)]
 
 pub mod rt;

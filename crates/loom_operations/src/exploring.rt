@@ -3,7 +3,7 @@ ghost use Rattle.std.specs.Prelude.{◌≡◌};
 ghost use Rattle.loom_operations.specs.Exploring as rules;
 
 use crate::operation::ExploreOp;
-use loom_views::rt::failure::FailureKind;
+use loom_view_parts::rt::failure::FailureKind;
 
 /// Whether the search goes on to other options at the nodes that come (loom's `rt/path.rs`).
 #[derive(Clone, Copy, Debug, PartialEq, Eq)]

@@ -2,7 +2,7 @@ ghost use Rattle.std.specs.Prelude.{◌≡◌};
 ghost use Rattle.loom_operations.specs.Failing.{failure_of};
 
 pub use loom_parts::failure::Failure;
-use loom_views::rt::failure::FailureKind;
+use loom_view_parts::rt::failure::FailureKind;
 
 /// Why a run goes no further.
 #[derive(Clone, Copy, Debug)]

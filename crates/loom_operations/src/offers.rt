@@ -1,6 +1,6 @@
 //! What a run offers where it asks which thread goes on.
 use loom_parts::ability::Ability;
-use loom_views::rt::MAX_THREADS;
+use loom_view_parts::rt::MAX_THREADS;
 
 /// What the threads of a run offer to a schedule.
 #[derive(Clone, Copy)]

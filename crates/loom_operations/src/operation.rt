@@ -8,9 +8,9 @@ ghost use Rattle.loom_parts.specs.Texts.{first_text};
 use loom_parts::label::{Label, named, placed};
 use loom_parts::location::Location;
 use loom_parts::text::Text;
-use loom_views::rt::change::Change;
-use loom_views::rt::num::Numbers;
-use loom_views::sequence::Sequence;
+use loom_view_parts::rt::change::Change;
+use loom_view_parts::rt::num::Numbers;
+use loom_view_parts::sequence::Sequence;
 use std::collections::LinkedList;
 use std::sync::atomic::Ordering;
 
@@ -445,6 +445,17 @@ pub enum Turn<D> {
     Start(u8),
     /// The run is over, with main's result.
     Ended(D),
+}
+
+impl<D: Drop> Request<D, ()> {
+    /// Lets the request go (own). It stands alone, since what a request holds is let go in many ways, and a function that does it
+    /// costs the proof seconds.
+    pub fn let_go(self) {}
+}
+
+impl<D: Drop> Reply<D> {
+    /// Lets the reply go (own), by itself for the same reason.
+    pub fn let_go(self) {}
 }
 
 impl<R> Labelled<R> {

@@ -2,7 +2,7 @@
 use Rattle.std.specs.Prelude.{Option, Some, None, option_map}
 use Rattle.loom_operations.specs.declared.operation.Reply.{Reply}
 use Rattle.loom_operations.specs.declared.operation.Reply.TheVariants.{Locked, Mutex as MutexMade, Waited, WouldBlock as Blocked}
-use Rattle.loom_handle_parts.specs.Holding.{held_in}
+use Rattle.loom_operation_parts.specs.Holding.{held_in}
 use Rattle.loom_ops.specs.declared.sync.mutex.Mutex.{Mutex}
 use Rattle.loom_ops.specs.declared.sync.mutex.MutexGuard.{MutexGuard}
 use Rattle.loom_ops.specs.declared.sync.try_lock.TryLockError.{TryLockError}

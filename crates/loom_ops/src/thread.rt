@@ -6,7 +6,7 @@ ghost use Rattle.loom_operations.specs.Labels.{bare};
 ghost use Rattle.loom_parts.specs.Texts.{first_text, shown};
 
 use crate::fail;
-use loom_handle_parts::threads;
+use loom_operation_parts::threads;
 use loom_operations::operation::{LocalOp, Name, Op, Reply, Request, ThreadOp};
 use loom_parts::text::Text;
 use std::fmt;

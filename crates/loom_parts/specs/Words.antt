@@ -1,5 +1,5 @@
 -- A choice as a word: written, and read.
-use Rattle.std.specs.Prelude.{ℕ, ◌-◌, true, false, cond, ◌==◌, List, [], ◌∷◌, ◌++◌, Option, Some, None, codes, decimal}
+use Rattle.std.specs.Prelude.{ℕ, ◌-◌, ◌||◌, Bool, true, false, cond, ◌==◌, List, [], ◌∷◌, ◌++◌, Option, Some, None, codes, decimal}
 use Rattle.std.specs.Char.{is_ascii_digit}
 use Rattle.std.specs.Option.{option_map}
 use Rattle.loom_parts.specs.declared.choice.Choice.{Choice}
@@ -29,3 +29,17 @@ choice_of [] = None
 choice_of (letter ∷ []) = None
 choice_of (letter ∷ sign ∷ []) = choice_in letter sign
 choice_of (letter ∷ sign ∷ more ∷ rest) = None
+
+-- a space, a tab, or the end of a line
+abbrev pub is_space : ℕ → Bool
+is_space byte = (byte == 32) || (byte == 9) || (byte == 10) || (byte == 13)
+
+-- a word ends here
+abbrev pub word_ends : List ℕ → Bool
+word_ends [] = true
+word_ends (next ∷ rest) = is_space next
+
+-- the choice of the word that begins with this letter
+abbrev pub after_word : ℕ → List ℕ → Option Choice
+after_word letter [] = None
+after_word letter (sign ∷ rest) = cond (word_ends rest) (choice_in letter sign) None

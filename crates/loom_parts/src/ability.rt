@@ -3,7 +3,7 @@ ghost use Rattle.std.specs.Prelude.{◌≡◌, None, Some, ◌<◌, IfSome};
 ghost use Rattle.std.specs.List.{position_from};
 ghost use Rattle.loom_parts.specs.Defaults as rules;
 
-use loom_views::rt::MAX_THREADS;
+use loom_view_parts::rt::MAX_THREADS;
 
 /// What a thread offers to a schedule.
 #[derive(Clone, Copy, Debug, PartialEq, Eq)]

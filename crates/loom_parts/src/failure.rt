@@ -2,7 +2,7 @@
 ghost use Rattle.std.specs.Prelude.{◌≡◌};
 
 use crate::location::Location;
-use loom_views::rt::failure::FailureKind;
+use loom_view_parts::rt::failure::FailureKind;
 use std::fmt;
 
 /// Why a run failed, and where, if its operation named a place.

@@ -3,8 +3,8 @@ ghost use Rattle.std.specs.Prelude.{◌≡◌, Option};
 ghost use Rattle.loom_view_parts.specs.declared.rt.failure.FailureKind.{FailureKind};
 ghost use Rattle.loom_parts.specs.Leaks as rules;
 
-use loom_views::rt::failure::FailureKind;
-use loom_views::sequence::Sequence;
+use loom_view_parts::rt::failure::FailureKind;
+use loom_view_parts::sequence::Sequence;
 
 /// What is left at a run's end, and may be a leak (own).
 pub trait Leaks {

@@ -4,7 +4,7 @@ use crate::halt::Told;
 use crate::machine::Machine;
 use crate::state::{Claim, Kind, State, Step};
 use loom_operations::operation::{CondvarOp, Reply};
-use loom_views::rt::failure::FailureKind;
+use loom_view_parts::rt::failure::FailureKind;
 
 impl Machine {
     /// An operation of a condition variable is handed over.

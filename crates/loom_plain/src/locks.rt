@@ -4,7 +4,7 @@ use crate::halt::Told;
 use crate::machine::Machine;
 use crate::state::{Claim, Kind, State, Step};
 use loom_operations::operation::{MutexOp, Reply, RwLockOp};
-use loom_views::rt::failure::FailureKind;
+use loom_view_parts::rt::failure::FailureKind;
 
 impl Claim {
     // Whether who takes the lock so reads.

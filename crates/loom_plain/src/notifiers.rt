@@ -5,7 +5,7 @@ use crate::machine::Machine;
 use crate::state::{Kind, State, Step};
 use loom_operations::operation::{NotifyOp, Reply};
 use loom_parts::choice::Choice;
-use loom_views::rt::failure::FailureKind;
+use loom_view_parts::rt::failure::FailureKind;
 
 impl Machine {
     /// An operation of a notifier is handed over.

@@ -5,7 +5,7 @@ use crate::machine::Machine;
 use crate::memory::push;
 use crate::state::{Kind, Object, State, Step};
 use loom_operations::operation::Reply;
-use loom_views::rt::failure::FailureKind;
+use loom_view_parts::rt::failure::FailureKind;
 
 impl Object {
     // What is left of it that has to be given back.

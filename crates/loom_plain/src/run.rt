@@ -8,8 +8,8 @@ use crate::state::{Kind, Object, State, Step, Thread};
 use loom_operations::body::Body;
 use loom_operations::operation::{Reply, Request};
 use loom_parts::choice::Choice;
-use loom_views::rt::failure::FailureKind;
-use loom_views::sequence::Sequence;
+use loom_view_parts::rt::failure::FailureKind;
+use loom_view_parts::sequence::Sequence;
 use std::alloc::Global;
 use std::mem;
 

@@ -12,7 +12,7 @@ use loom_engine::rt::execution::{Execution, Limits};
 use loom_operations::body::Body;
 use loom_operations::data::Data;
 use loom_operations::failure::{Failure, Stop};
-use loom_operations::operation::{Op, Reply, Turn};
+use loom_operations::operation::{Op, Reply, Request, Turn};
 use loom_path::rt::path::Path;
 use loom_views::rt::failure::FailureKind;
 use std::alloc::{AllocError, Global};
@@ -28,8 +28,10 @@ pub enum Ending<D> {
 /// What a run needs room for. The next one uses it again.
 #[derive(Drop)]
 pub struct Room<B: Body> {
-    bodies: Vec<B>,
-    execution: Execution<B::Data>,
+    /// The threads that the run has.
+    pub bodies: Vec<B>,
+    /// What they work on.
+    pub execution: Execution<B::Data>,
 }
 
 impl<B: Body> Room<B> {
@@ -87,6 +89,7 @@ fn take_turns<B: Body, P: Places>(
     let mut reply = Reply::Start;
     'turns: loop {
         if thread >= bodies.len() {
+            reply.let_go();
             let failure = Failure {
                 kind: FailureKind::Misuse,
                 location: None,
@@ -137,7 +140,10 @@ fn submit<B: Body>(
     let (request, started) = op.split();
     match add_child(bodies, started) {
         Ok(()) => execution.submit(path, request),
-        Err(_) => Err(Stop::Memory),
+        Err(_) => {
+            request.let_go();
+            Err(Stop::Memory)
+        }
     }
 }
 

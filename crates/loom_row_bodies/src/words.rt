@@ -17,8 +17,9 @@ One of these may stand before NAME, and `--explain` before `--replay` or `--risi
   --replay CHOICES    make one run by choices as \"t0 l0 t1\", and then by defaults
   --rising            check with at most 0 preemptions, then 1, 2 and 3, up to a failure
   --help              print this
-This stands alone:
+These stand alone:
   --tour              check four bodies, right and wrong, and explain what fails
+  --measure [NAME..]  print how long checks take, of bodies of these names or of some
 ";
 
 /// Does what the words ask for by the table of the program, prints what comes of it, and answers the exit status. Without an
@@ -57,6 +58,7 @@ fn is_option(word: &str) -> bool
         || word == "--rising"
         || word == "--help"
         || word == "--tour"
+        || word == "--measure"
 }
 
 fn run_options<R: AllocGlobal + Files, O: Write, E: Write>(

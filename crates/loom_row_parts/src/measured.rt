@@ -7,7 +7,7 @@ use crate::rows::{DEFAULTS, WHOLE};
 use crate::settings::Settings;
 use loom_operations::operation::{AtomicOp, Request, ThreadOp};
 use loom_scripts::step::{END, EXIT, Step, Value};
-use loom_views::rt::num::Numbers;
+use loom_view_parts::rt::num::Numbers;
 use std::sync::atomic::Ordering;
 
 /// A body with a name, and how it is checked.

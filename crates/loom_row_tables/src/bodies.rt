@@ -18,7 +18,7 @@ pub use loom_row_parts::few_threads::{FINISH_ONLY, LOCK_BESIDE, MUTEX_FOREVER, S
 use loom_row_parts::row;
 use loom_row_parts::rows::{Row, WHOLE};
 use loom_scripts::step::{END, EXIT, FAIL, Step, Value};
-use loom_views::rt::num::Numbers;
+use loom_view_parts::rt::num::Numbers;
 use std::sync::atomic::Ordering::{Acquire, Relaxed, Release};
 
 /// Main's assertion fails.

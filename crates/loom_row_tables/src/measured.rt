@@ -1,4 +1,4 @@
-//! The bodies that `loom_bench` measures: their scripts, and how each is checked.
+//! The bodies that `loom_rows` measures: their scripts, and how each is checked.
 ghost use Rattle.std.specs.Prelude.{◌≡◌, IfOk, map, option_copied};
 ghost use Rattle.loom_row_parts.specs.Measured.{named};
 ghost use Rattle.loom_row_tables.specs.Measured as table;
@@ -12,7 +12,7 @@ use loom_row_parts::measured::{self, FINISH, Measured};
 use loom_row_parts::rows::{DEFAULTS, LONG_RUNS, WHOLE};
 use loom_row_parts::settings::Settings;
 use loom_scripts::step::{END, EXIT, Step, Value, YIELD};
-use loom_views::rt::num::Numbers;
+use loom_view_parts::rt::num::Numbers;
 use std::alloc::{AllocError, Global};
 use std::sync::atomic::Ordering;
 

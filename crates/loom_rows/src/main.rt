@@ -1,18 +1,19 @@
 //! The program: it prints what a check of a named row finds, a check with rising bounds, or a run by given choices, and may keep a
 //! checkpoint in a file. The row's name is its first word but for options, and the file the next one, if there is one. The rows,
 //! the words and the printed lines stand in `loom_row_bodies`, and the rows that are closures, which have no file and no options,
-//! in `loom_closures`. Tests stand in `loom_tests` and `loom_runner_tests`. By `--tour` the program takes a first look at a row
-//! and at the bodies of `loom_examples`.
+//! in `loom_closure_rows`. Tests stand in `loom_tests` and `loom_runner_tests`. By `--tour` the program takes a first look at a row
+//! and at the bodies of `loom_examples`. By `--measure` it checks bodies again and again, and prints how long that took.
 #![tactic(auto)]
 
+mod measuring;
 mod tour;
 
-use loom_closures::rows::{Row, run_row};
+use loom_closure_rows::rows::{Row, run_row};
 use loom_row_bodies::words;
 use std::env;
 use std::io::{self, Write};
 use std::process::ExitCode;
-use std::rt::{Env, Files};
+use std::rt::{Clock, Env, Files};
 use std::sync::Wait;
 use std::thread::Threads;
 
@@ -21,11 +22,11 @@ fn main(rt: HostRuntime) -> ExitCode {
     ExitCode::from(status.unwrap_or(2))
 }
 
-fn run<R: AllocGlobal + Env + Files + Threads + Wait + Clone + Send + 'static, O: Write, E: Write>(
-    rt: &R,
-    out: &mut O,
-    err: &mut E,
-) -> io::Result<u8> {
+fn run<
+    R: AllocGlobal + Clock + Env + Files + Threads + Wait + Clone + Send + 'static,
+    O: Write,
+    E: Write,
+>(rt: &R, out: &mut O, err: &mut E) -> io::Result<u8> {
     let words = env::args(rt)?.skip(1).collect::<Vec<_>>(rt.alloc())?;
     let words = words
         .iter()
@@ -34,6 +35,11 @@ fn run<R: AllocGlobal + Env + Files + Threads + Wait + Clone + Send + 'static, O
     let words = words.as_slice();
     if is_tour(words) {
         return take_tour(rt, out, err);
+    }
+    if let [option, names @ ..] = words
+        && *option == "--measure"
+    {
+        return Ok(measuring::measure_all(rt, names, out, err));
     }
     match Row::meant_by(words) {
         Some(row) => run_row(rt, row, out, err),

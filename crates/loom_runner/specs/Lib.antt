@@ -2,5 +2,3 @@ pub mod Errors
 pub mod Tellings
 pub mod Asking
 pub mod Answers
-pub mod Made
-pub mod Rounds

@@ -1,9 +1,9 @@
-// Calls of closures. What they are given is a type of its own here, since the borrow checker doesn't cover a call of a closure that is
-// given a type with references in it.
+//! Calls of closures. What they are given is a type of its own here, since the borrow checker doesn't cover a call of a closure that is
+//! given a type with references in it.
 ghost use Rattle.std.specs.Fn.{CalledAtMut};
 
-/// Calls main's closure.
-pub(crate) fn ask_closure<H, T, F: FnMut(&mut H) -> T>(closure: &mut F, handle: &mut H) -> T
+/// Calls main's closure (own).
+pub fn ask_closure<H, T, F: FnMut(&mut H) -> T>(closure: &mut F, handle: &mut H) -> T
     requires { F.IsAlwaysCallable closure.old }
     ensures called { CalledAtMut F.FnMut closure.old handle.old result closure.new handle.new }
     ensures again { F.IsAlwaysCallable closure.new }

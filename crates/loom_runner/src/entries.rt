@@ -9,7 +9,7 @@ use loom_copies::exact::Exact;
 use loom_copies::operations::copy_request;
 use loom_operations::operation::{Reply, Request, ThreadOp};
 use loom_ops::thread::JoinHandle;
-use loom_runner_parts::calls::keep;
+use loom_turn_parts::calls::keep;
 use loom_turns::event::Entry;
 use loom_turns::stop::Stop;
 use std::alloc::Global;
@@ -21,9 +21,6 @@ pub(crate) fn has_room<T>(list: &mut Vec<T>) -> bool
 {
     list.reserve(1).is_ok()
 }
-
-/// Lets an operation go. It stands alone, as `let_go` for replies: what an operation holds is let go in many ways.
-pub(crate) fn let_op_go<D: Drop>(_op: Request<D, ()>) {}
 
 /// Makes room for one more, and copies the operation for it. None where a growth was refused.
 pub(crate) fn prepare<D: Exact>(

@@ -16,8 +16,8 @@ pub enum RoundError {
     Memory,
 }
 
-/// The error of a run that stopped so, and not by an event.
-pub(crate) fn error_by(stop: Stop) -> RoundError
+/// The error of a run that stopped so, and not by an event (own).
+pub fn error_by(stop: Stop) -> RoundError
     ensures { result ≡ error_by stop }
 {
     match stop {

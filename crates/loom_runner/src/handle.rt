@@ -4,15 +4,14 @@ ghost use Rattle.loom_operations.specs.declared.operation.Reply.TheVariants as r
 ghost use Rattle.loom_turns.specs.Histories.{entry};
 ghost use Rattle.loom_runner.specs.Tellings.{newcomer, with_open, failing, finishing, handed, spawning, ByStop, Closes, all_answered, is_memory, Leading};
 
-use crate::entries::{has_room, let_op_go, note, note_spawn, prepare};
+use crate::entries::{has_room, note, note_spawn, prepare};
 use crate::error::RoundError;
 use crate::job::Job;
 use crate::shared::{self, Children, Shared};
-use loom_answers::answer::let_go;
 use loom_copies::exact::Exact;
 use loom_operations::operation::{Reply, Request, ThreadOp};
 use loom_ops::thread::JoinHandle;
-use loom_runner_parts::calls::{allowed, last_of};
+use loom_turn_parts::calls::{allowed, last_of};
 use loom_turns::event::Entry;
 use loom_turns::stop::Stop;
 use loom_turns::told::Told;
@@ -86,11 +85,11 @@ impl<D: Exact + 'static, R: Wait> Handle<D, R> {
         ensures stopped { IfErr result (λ stop. ByStop stop (self.new.told ≡ with_open self.old.told op) (self.new.starved ≡ true)) }
     {
         if let Some(stop) = self.stop {
-            let_op_go(op);
+            op.let_go();
             return Err(stop);
         }
         let Some(kept) = prepare(&mut self.told, &op) else {
-            let_op_go(op);
+            op.let_go();
             return Err(self.give_up(Stop::Memory));
         };
         let answer = shared::hand_over(&self.rt, &self.shared, self.thread, op);
@@ -190,11 +189,11 @@ impl<D: Exact + 'static, R: Threads + Wait + Clone + Send + 'static> Handle<D, R
         let Ok(reply) = self.hand_over(last) else {
             return;
         };
-        let_go(reply);
+        reply.let_go();
         let Ok(reply) = self.hand_over(Request::Thread(ThreadOp::Exit)) else {
             return;
         };
-        let_go(reply);
+        reply.let_go();
         shared::end(&self.rt, &self.shared);
     }
 
@@ -207,23 +206,33 @@ impl<D: Exact + 'static, R: Threads + Wait + Clone + Send + 'static> Handle<D, R
         let Handle {
             rt,
             alloc,
-            shared: _,
+            shared,
             thread,
             told,
             stop,
             children,
         } = self;
+        let_go_of(shared);
         let others = shared::join_all(&rt, alloc, children);
         let first = Told {
             thread,
             entries: told,
         };
         match refusal(stop) {
-            Some(error) => Err(error),
-            None => gather(alloc, first, others?),
+            Some(error) => {
+                let_lists_go(first, others);
+                Err(error)
+            }
+            None => gather(alloc, first, others),
         }
     }
 }
+
+/// Lets go of what the threads of a run share. It stands alone, since that is done in many steps.
+fn let_go_of<D: Drop>(_shared: Arc<Shared<D>, Global>) {}
+
+/// Lets the lists go.
+fn let_lists_go<D: Drop>(_first: Told<D>, _others: Result<Vec<Told<D>>, RoundError>) {}
 
 /// The error of a thread that stopped so, unless its run went on or failed.
 fn refusal(stop: Option<Stop>) -> Option<RoundError>
@@ -236,11 +245,11 @@ fn refusal(stop: Option<Stop>) -> Option<RoundError>
     }
 }
 
-/// The lists of the threads, this one first.
+/// The lists of the threads, this one first, unless a thread that was joined answered an error.
 fn gather<D: Drop>(
     alloc: Global,
     first: Told<D>,
-    mut others: Vec<Told<D>>,
+    others: Result<Vec<Told<D>>, RoundError>,
 ) -> Result<Vec<Told<D>>, RoundError>
     ensures { IfOk result (λ all. slice_get all.items 0 ≡ Some first) }
 {
@@ -248,7 +257,7 @@ fn gather<D: Drop>(
     if all.push(first).is_err() {
         return Err(RoundError::Memory);
     }
-    if all.append(&mut others).is_err() {
+    if all.append(&mut others?).is_err() {
         return Err(RoundError::Memory);
     }
     Ok(all)

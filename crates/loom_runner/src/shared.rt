@@ -1,8 +1,7 @@
-// What the threads of a run share, and how they take turns.
+//! What the threads of a run share, and how they take turns.
 use crate::error::RoundError;
 use crate::handle::Handle;
 use crate::job::Job;
-use loom_answers::answer::let_go;
 use loom_copies::exact::Exact;
 use loom_operations::operation::{Reply, Request, ThreadOp};
 use loom_ops::thread::JoinHandle;
@@ -61,7 +60,7 @@ pub(crate) fn give_up<D: Exact, R: Wait>(rt: &R, shared: &Shared<D>, stop: Stop)
 pub(crate) fn fail<D: Exact, R: Wait>(rt: &R, shared: &Shared<D>, me: u8) -> Stop {
     match hand_over(rt, shared, me, Request::Fail) {
         Ok(reply) => {
-            let_go(reply);
+            reply.let_go();
             Stop::Refused
         }
         Err(stop) => stop,
@@ -121,7 +120,7 @@ fn begin<D: Exact, R: Wait>(rt: &R, shared: &Shared<D>, me: u8) -> Result<JoinHa
     let spawn = Request::Thread(ThreadOp::Spawn((), None));
     let reply = hand_over(rt, shared, me, spawn)?;
     let handle = JoinHandle::from_reply(&reply);
-    let_go(reply);
+    reply.let_go();
     match handle {
         Some(handle) => Ok(handle),
         None => Err(Stop::Refused),

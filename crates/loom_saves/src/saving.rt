@@ -6,7 +6,8 @@ ghost use Rattle.loom_saves.specs.Saving.{IsKept, IsSavedAs};
 ghost use Rattle.loom_stores.specs.Stores.{Counts};
 ghost use Rattle.loom_walks.specs.Trees.Resuming.{AreAtRest, HasDefaults};
 
-use log::{Log, info, target_or};
+use log::Log;
+use loom_check_parts::limits::tell_log;
 use loom_check_parts::receiver::Receiver;
 use loom_check_parts::rounds::{Round, run_and_step};
 use loom_check_parts::runs::Runs;
@@ -82,7 +83,7 @@ fn keep<S: CheckpointStore, L: Log>(
         return Ok(pace.until_save - 1);
     }
     save(alloc, path, store)?;
-    info!(log; target: target_or(log, "loom::search"), "iteration {}", pace.runs + 1);
+    tell_log(log, "iteration ", pace.runs + 1, "");
     Ok(pace.interval - 1)
 }
 

@@ -5,7 +5,7 @@ ghost use Rattle.loom_scripts.specs.Slots.{digits, handle_at, held, kept, lazy_d
 
 use crate::step::{Step, Value};
 use loom_operations::operation::{Keyed, Lazy, Name, Reply};
-use loom_registers::registers;
+use loom_parts::registers;
 use std::collections::LinkedList;
 
 // The last register.

@@ -79,9 +79,9 @@ fn local_init<D: Data>(
     if scene.active_thread().has_had(key) {
         return Ok(Err(FailureKind::KeyTaken));
     }
-    let answer = copied(&value)?;
+    let copy = value.try_clone()?;
     scene.init_local(key, value)?;
-    Ok(Ok(answer))
+    Ok(Ok(Entry::Answered(Reply::Data(copy))))
 }
 
 /// Another value takes the place of the one that is there, which comes back. `Misuse` where there is none.
@@ -157,9 +157,9 @@ fn lazy_init<D: Data>(
 fn make_lazy<D: Data>(scene: &mut Scene<D>, key: usize, value: D) -> Result<Entry<D>, AllocError>
     ensures { DoesIfOk (rules.makes_lazy key value None) scene.old result scene.new }
 {
-    let answer = copied(&value)?;
+    let copy = value.try_clone()?;
     let stamp = scene.add_stamp()?;
     scene.add_lazy(key, value, stamp)?;
     scene.release_to_stamp(stamp);
-    Ok(answer)
+    Ok(Entry::Answered(Reply::Data(copy)))
 }

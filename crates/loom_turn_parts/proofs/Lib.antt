@@ -1,3 +1,1 @@
-pub mod Counting
-pub mod Settling
 pub mod Telling

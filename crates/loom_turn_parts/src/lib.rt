@@ -1,13 +1,15 @@
-//! The small parts of what threads of a run share, where a wrong one is easily missed: its history, how an operation more is
-//! added to it, and whether each thread was told its part of it. `loom_turns` calls them, and the wrong bodies for them stand
-//! here, where little is proved again. It uses the operations and replies of `loom_operations`, and no execution: the machine that
-//! takes the turns is given to it.
+//! The small parts of what threads of a run share and of a check of closures, where a wrong one is easily missed: how an event is made
+//! and added, whether an entry of what a thread was told is an event of the history, which operation a call hands over, and which a
+//! closure's end, what is kept of an answer, and what comes after a run. `loom_history`, `loom_runner` and `loom` call them, and the
+//! wrong bodies for them stand here, where little is proved again. It uses copies and paths, and no execution, handle or lock: the
+//! machine that takes the turns is given to it.
 #![tactic(auto)]
 
+pub mod adding;
+pub mod calls;
 pub mod event;
-pub mod history;
-mod last;
 pub mod machine;
+pub mod rounds;
 pub mod same;
 pub mod stop;
 pub mod told;

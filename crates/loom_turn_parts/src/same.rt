@@ -1,67 +1,15 @@
-//! Whether lists are what threads were told by a history.
+//! Whether an entry is an event of a history.
 ghost use Rattle.std.specs.Prelude.{◌≡◌, ◌↔◌, IsTrue, MatchOption, None, Some};
-ghost use Rattle.loom_turn_parts.specs.Events.{AreShares, part, answer, replied, is_end, is_told, is_own, entry, share};
+ghost use Rattle.loom_turn_parts.specs.Events.{answer, entry, replied};
 
 use crate::event::{Entry, Event, Outcome};
-use crate::history::History;
-use crate::told::Told;
 use loom_copies::exact::Exact;
 use loom_copies::same_operations::is_same_request;
 use loom_copies::same_replies::is_same_reply;
-use loom_operations::operation::{Reply, Request, ThreadOp, Turn};
+use loom_operations::operation::{Reply, Request, Turn};
 
-/// Whether the operation is a thread's last one.
-fn is_end<D>(op: &ThreadOp<D, ()>) -> bool
-    ensures { result ≡ is_end op.now }
-{
-    match op {
-        ThreadOp::End => true,
-        ThreadOp::Spawn(..)
-        | ThreadOp::Join(..)
-        | ThreadOp::Current
-        | ThreadOp::Park
-        | ThreadOp::Unpark(_)
-        | ThreadOp::Yield
-        | ThreadOp::Finish(_)
-        | ThreadOp::Exit => false,
-    }
-}
-
-/// Whether a thread is told of the operation: of each but its last one.
-fn is_told<D>(op: &Request<D, ()>) -> bool
-    ensures { result ≡ is_told op.now }
-{
-    match op {
-        Request::Thread(op) => !is_end(op),
-        Request::Atomic(_)
-        | Request::Fence(_)
-        | Request::Cell(_)
-        | Request::Arc(_)
-        | Request::Track(_)
-        | Request::Mutex(_)
-        | Request::RwLock(_)
-        | Request::Condvar(_)
-        | Request::Notify(_)
-        | Request::Channel(_)
-        | Request::Waker(_)
-        | Request::AtomicWaker(_)
-        | Request::Local(_)
-        | Request::Lazy(_)
-        | Request::Explore(_)
-        | Request::Fail
-        | Request::Unreachable => true,
-    }
-}
-
-/// Whether the event is an operation of the thread, of which it is told.
-fn is_own_event<D>(event: &Event<D>, thread: u8) -> bool
-    ensures { result ≡ is_own thread event.now }
-{
-    event.by == thread && is_told(&event.op)
-}
-
-/// The reply to the thread, if the outcome is one.
-pub(crate) fn reply_to<D>(outcome: &Outcome<D>, thread: u8) -> Option<&Reply<D>>
+/// The reply to the thread, if the outcome is one (own).
+pub fn reply_to<D>(outcome: &Outcome<D>, thread: u8) -> Option<&Reply<D>>
     ensures { MatchOption result (replied thread outcome.now ≡ None) (λ r. replied thread outcome.now ≡ Some r.now) }
 {
     match outcome {
@@ -85,8 +33,8 @@ fn answer_to<D>(history: &[Event<D>], thread: u8) -> Option<&Reply<D>>
     None
 }
 
-/// Whether the entry is the operation, with the first reply to the thread in the history.
-fn is_entry<D: Exact>(
+/// Whether the entry is the operation, with the first reply to the thread in the history (own).
+pub fn is_entry<D: Exact>(
     told: &Entry<D>,
     op: &Request<D, ()>,
     history: &[Event<D>],
@@ -104,48 +52,4 @@ fn is_entry<D: Exact>(
         },
         None => told.reply.is_none(),
     }
-}
-
-/// Whether the entries are the thread's part of the history.
-fn is_part<D: Exact>(history: &[Event<D>], thread: u8, entries: &[Entry<D>]) -> bool
-    ensures { IsTrue result ↔ (part thread history.now ≡ entries.now) }
-{
-    let mut rest = history;
-    let mut left = entries;
-    while let Some((first, tail)) = rest.split_first() {
-        if is_own_event(first, thread) {
-            let Some((entry, others)) = left.split_first() else {
-                return false;
-            };
-            if !is_entry(entry, &first.op, rest, thread) {
-                return false;
-            }
-            left = others;
-        }
-        rest = tail;
-    }
-    left.is_empty()
-}
-
-/// Whether the list is what the thread with this number was told by the history.
-fn is_share<D: Exact>(list: &Told<D>, thread: usize, history: &[Event<D>]) -> bool
-    ensures { IsTrue result ↔ (list.now ≡ share thread (part thread history.now)) }
-{
-    list.thread as usize == thread && is_part(history, list.thread, list.entries.as_slice())
-}
-
-/// Whether each thread was told its part of the history (own).
-pub fn are_shares<D: Exact>(told: &[Told<D>], history: &History<D>) -> bool
-    ensures { IsTrue result ↔ AreShares told.now history.now }
-{
-    if told.len() != history.threads() {
-        return false;
-    }
-    let events = history.events();
-    for (k, list) in told.iter().enumerate() {
-        if !is_share(list, k, events) {
-            return false;
-        }
-    }
-    true
 }

@@ -6,12 +6,12 @@ ghost use Rattle.loom_turns.specs.Histories.{Adds, Settles, IsHistory, last_even
 use crate::place::Place;
 use loom_copies::exact::Exact;
 use loom_engine::rt::execution::{Execution, Limits};
+use loom_history::history::History;
+use loom_history::same::are_shares;
 use loom_operations::operation::{Reply, Request};
 use loom_parts::choice::Choice;
 use loom_parts::failure::Failure;
 use loom_path::rt::path::Path;
-use loom_turn_parts::history::History;
-use loom_turn_parts::same::are_shares;
 use loom_turn_parts::stop::Stop;
 use loom_turn_parts::told::Told;
 use std::alloc::{AllocError, Global};
@@ -78,9 +78,11 @@ impl<D: Exact> Turns<D> {
         ensures adds { self.old.spoiled ≡ None → end_in self.old.history ≡ None → MatchOption self.new.spoiled (Adds self.old op self.new) (λ stop. self.new.history ≡ self.old.history) }
     {
         if self.spoiled.is_some() {
+            op.let_go();
             return;
         }
         if self.history.end().is_some() {
+            op.let_go();
             return;
         }
         self.spoiled = self.history.add(&mut self.place, op);

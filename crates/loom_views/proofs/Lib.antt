@@ -7,3 +7,8 @@ pub mod Choices
 pub mod Growth
 pub mod Fences
 pub mod Table
+pub mod Sweeping
+pub mod Rows
+pub mod SomeReadable
+pub mod TableLaws
+pub mod Reaching

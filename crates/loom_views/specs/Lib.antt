@@ -6,3 +6,8 @@ pub mod Untouched
 pub mod Shown
 pub mod Table
 pub mod Kept
+pub mod Laws
+pub mod Examples
+pub mod Moves
+pub mod Reaching
+pub mod Ends

@@ -1,11 +1,13 @@
 //! One run of closures, by given choices.
-ghost use Rattle.std.specs.Prelude.{◌≡◌, Some, Err, IfErr, IfOk};
+ghost use Rattle.std.specs.Prelude.{◌≡◌, ◌≤◌, Some, Err, IfErr, IfOk};
 ghost use Rattle.std.specs.Fn.{CalledAtMut};
 ghost use Rattle.loom_model.specs.Settings.{tested};
 ghost use Rattle.loom.specs.declared.runner.error.RunnerError.TheVariants.{Settings};
-ghost use Rattle.loom.specs.Replays.{HasKept, Replays};
+ghost use Rattle.loom_path.specs.Routes.{IsAtStart};
+ghost use Rattle.loom.specs.Replays.{HasKept, Replays, ReplaysAlong};
 
 use crate::runner::error::RunnerError;
+use crate::runner::round::make_round;
 use loom_copies::exact::Exact;
 use loom_engine::rt::execution::Limits;
 use loom_model::builder::Builder;
@@ -14,8 +16,7 @@ use loom_model::visitor::Visitor;
 use loom_parts::choice::Choice;
 use loom_path::rt::path::Path;
 use loom_runner::handle::Handle;
-use loom_runner::round::make_round;
-use loom_runner_parts::rounds::Round;
+use loom_turn_parts::rounds::Round;
 use loom_turns::stop::Stop;
 use std::alloc::{AllocError, Global};
 use std::sync::Wait;
@@ -68,9 +69,31 @@ pub fn replay<
         return Err(RunnerError::Memory);
     };
     let mut keeper = Keeper { alloc, run: None };
-    match make_round(rt, alloc, limits, &path, &mut closure, &mut keeper)? {
+    make_replay(rt, alloc, limits, &path, &mut closure, &mut keeper)
+}
+
+/// The same along this path. It has several exits and owns nothing, since what a function owns is let go at each.
+fn make_replay<
+    D: Exact + 'static,
+    R: Threads + Wait + Clone + Send + 'static,
+    F: FnMut(&mut Handle<D, R>) -> Result<D, Stop>,
+>(
+    rt: &R,
+    alloc: Global,
+    limits: Limits,
+    path: &Path,
+    closure: &mut F,
+    keeper: &mut Keeper<D>,
+) -> Result<Replay<D>, RunnerError>
+    requires some { 1 ≤ limits.max_threads }
+    requires few { limits.max_threads ≤ 5 }
+    requires starts { IsAtStart path.now.explores path.now }
+    requires callable { F.IsAlwaysCallable closure.old }
+    ensures { IfOk result (ReplaysAlong (CalledAtMut F.FnMut) limits path.now closure.old) }
+{
+    match make_round(rt, alloc, limits, path, closure, keeper)? {
         Round::Broke(failure, choices) => Ok(Replay::Failed { failure, choices }),
-        Round::Last | Round::Next(_) => match keeper.run {
+        Round::Last | Round::Next(_) => match keeper.run.take() {
             Some((choices, value)) => Ok(Replay::Ended { choices, value }),
             None => Err(RunnerError::NotSettled),
         },

@@ -6,6 +6,7 @@ ghost use Rattle.loom.specs.declared.runner.error.RunnerError.TheVariants.{Setti
 ghost use Rattle.loom.specs.Checks.{Reports, fresh_path};
 
 use crate::runner::error::RunnerError;
+use crate::runner::round::make_round;
 use loom_check_parts::paths::path_search;
 use loom_copies::exact::Exact;
 use loom_engine::rt::execution::Limits;
@@ -14,8 +15,7 @@ use loom_model::model::{Limit, Report};
 use loom_model::visitor::Visitor;
 use loom_path::rt::path::Path;
 use loom_runner::handle::Handle;
-use loom_runner::round::make_round;
-use loom_runner_parts::rounds::{After, comes_after};
+use loom_turn_parts::rounds::{After, comes_after};
 use loom_turns::stop::Stop;
 use std::alloc::Global;
 use std::sync::Wait;
@@ -45,14 +45,37 @@ pub fn check<
     ensures refused { IfErr (tested builder.now) (λ e. (result ≡ Err (Settings e)) × (visitor.new ≡ visitor.old)) }
 {
     builder.test()?;
+    let mut path = fresh_path(alloc, builder);
+    make_rounds(rt, alloc, builder, &mut path, &mut closure, visitor)
+}
+
+/// The same, once the settings were tested. It has several exits and owns nothing, since what a function owns is let go at each.
+fn make_rounds<
+    D: Exact + 'static,
+    R: Threads + Wait + Clone + Send + 'static,
+    F: FnMut(&mut Handle<D, R>) -> Result<D, Stop>,
+    V: Visitor<D>,
+>(
+    rt: &R,
+    alloc: Global,
+    builder: &Builder,
+    path: &mut Path,
+    closure: &mut F,
+    visitor: &mut V,
+) -> Result<Report, RunnerError>
+    requires some { 1 ≤ builder.now.max_threads }
+    requires few { builder.now.max_threads ≤ 5 }
+    requires fresh { path.old ≡ fresh_path builder.now }
+    requires callable { F.IsAlwaysCallable closure.old }
+    ensures { IfOk result (Reports (CalledAtMut F.FnMut) V.takes builder.now closure.old visitor.old visitor.new) }
+{
     let limits = Limits {
         max_threads: builder.max_threads,
         max_steps: builder.max_steps,
     };
-    let mut path = fresh_path(alloc, builder);
     let most = most_runs(builder);
     for runs in 0..most {
-        let round = make_round(rt, alloc, limits, &path, &mut closure, visitor)?;
+        let round = make_round(rt, alloc, limits, path, closure, visitor)?;
         match comes_after(runs, round) {
             After::Failed {
                 runs,
@@ -66,7 +89,7 @@ pub fn check<
                 });
             }
             After::Complete { runs } => return Ok(Report::Complete { runs }),
-            After::Next(next) => path = next,
+            After::Next(next) => *path = next,
         }
     }
     Ok(Report::Stopped {

@@ -13,7 +13,7 @@ use loom_views::sequence::Sequence;
 use std::alloc::{AllocError, Global};
 
 /// What an operation does to its object, as far as others depend on it.
-#[derive(Clone, Copy, Debug, PartialEq, Eq)]
+#[derive(Clone, Copy, PartialEq, Eq)]
 pub enum Action {
     /// It loads from an atomic.
     Read,
@@ -34,7 +34,7 @@ pub enum Action {
 }
 
 /// An object that a pending operation is on, and what the operation does to it.
-#[derive(Clone, Copy, Debug, PartialEq, Eq)]
+#[derive(Clone, Copy, PartialEq, Eq)]
 pub struct Use {
     /// The number of the object.
     pub object: usize,

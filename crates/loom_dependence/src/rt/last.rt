@@ -9,7 +9,7 @@ use crate::rt::dependence::Action;
 use loom_views::rt::vv::VersionVec;
 
 /// An access to an object (loom's `rt/access.rs`).
-#[derive(Clone, Copy, Debug)]
+#[derive(Clone, Copy)]
 pub struct LastAccess {
     /// What the access is ordered after, and the access itself (loom's `dpor_vv`).
     pub view: VersionVec,
@@ -19,7 +19,7 @@ pub struct LastAccess {
 
 /// The last accesses to an object, one for each question that an operation can ask (loom's `last_access` and its like in
 /// `rt/atomic.rs`, `rt/arc.rs`, `rt/mpsc.rs`, `rt/mutex.rs` and the others).
-#[derive(Clone, Copy, Debug)]
+#[derive(Clone, Copy)]
 pub struct LastAccesses {
     /// The last one of all.
     pub latest: Option<LastAccess>,

@@ -14,9 +14,9 @@ ghost use Rattle.loom_path.specs.Routes.{Route, IsAtStart, IsSame, IsSameSearch,
 ghost use Rattle.loom_operations.specs.Asked.{which_store};
 
 use loom_dependence::rt::dependence::{Dependence, Use};
-use loom_engine_parts::ending::{may_end, record_end};
 use loom_machine::steps::{begin, end_run, enter_wait, read, resume};
 use loom_objects::rt::run::{Entry, Passed, Resumed, RunState};
+use loom_operation_parts::ending::{may_end, record_end};
 use loom_operations::data::Data;
 use loom_operations::failure::{Stop, failed};
 use loom_operations::operation::{ExploreOp, Reply, Request, Turn};
@@ -106,6 +106,7 @@ impl<D: Data> Execution<D> {
         ensures same { IsSameSearch path.old path.new }
     {
         if let Some(stop) = self.over {
+            op.let_go();
             return Err(stop);
         }
         let answer = hand_over(&mut self.run, path, op);
@@ -158,11 +159,15 @@ fn start<D: Data>(run: &mut Progress<D>, op: Request<D, ()>) -> Result<Entry<D>,
         let threads = run.state.scene.thread_count().saturating_sub(threads);
         let objects = run.state.scene.object_count().saturating_sub(objects);
         if run.dependence.grow(parent, threads, objects).is_err() {
+            let_go(answer);
             return Err(Stop::Memory);
         }
     }
     answer
 }
+
+/// Lets an answer go. It stands alone, since what an answer holds is let go in many ways, and a function that does it costs seconds.
+fn let_go<D: Drop>(_answer: Result<Entry<D>, Stop>) {}
 
 /// The path explores from now on, or doesn't.
 fn switch<D: Data>(run: &mut Progress<D>, path: &mut Path, op: ExploreOp) -> Result<Turn<D>, Stop>

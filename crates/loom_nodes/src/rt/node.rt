@@ -15,7 +15,7 @@ use loom_parts::ability::Ability;
 use loom_parts::choice::Choice;
 
 /// What is known of a thread at a schedule (loom's `rt/path.rs`).
-#[derive(Clone, Copy, Debug, PartialEq, Eq)]
+#[derive(Clone, Copy, PartialEq, Eq)]
 pub enum Status {
     /// It can't go on, or isn't there.
     Disabled,
@@ -32,7 +32,7 @@ pub enum Status {
 }
 
 /// A node at which a thread is chosen.
-#[derive(Clone, Copy, Debug, PartialEq, Eq)]
+#[derive(Clone, Copy, PartialEq, Eq)]
 pub struct Schedule {
     /// How many preemptions the run counts up to here (loom's `rt/path.rs`).
     pub preemptions: u32,
@@ -50,7 +50,7 @@ pub struct Schedule {
 }
 
 /// A node at which the store is chosen that a load reads.
-#[derive(Clone, Copy, Debug, PartialEq, Eq)]
+#[derive(Clone, Copy, PartialEq, Eq)]
 pub struct Load {
     /// Whether the run explores here, or takes the lowest slot and no other.
     pub exploring: bool,
@@ -61,7 +61,7 @@ pub struct Load {
 }
 
 /// A node at which it is chosen whether a thread wakes without a notification.
-#[derive(Clone, Copy, Debug, PartialEq, Eq)]
+#[derive(Clone, Copy, PartialEq, Eq)]
 pub struct Spurious {
     /// Whether the run explores here, or takes false.
     pub exploring: bool,
@@ -70,7 +70,7 @@ pub struct Spurious {
 }
 
 /// What a schedule that is made next notes of those that the run has passed.
-#[derive(Clone, Copy, Debug)]
+#[derive(Clone, Copy)]
 pub struct Tally {
     /// How many preemptions it counts.
     pub preemptions: u32,
@@ -84,7 +84,7 @@ pub struct Tally {
 }
 
 /// A node of the path.
-#[derive(Clone, Copy, Debug, PartialEq, Eq)]
+#[derive(Clone, Copy, PartialEq, Eq)]
 pub enum Node {
     /// Which thread goes on.
     Schedule(Schedule),

@@ -10,7 +10,7 @@ ghost use Rattle.loom_nodes.specs.Ways.{FindsSchedule, Steps};
 use crate::rt::node::{Node, Schedule};
 use loom_operations::failure::{Stop, failed};
 use loom_operations::offers::Offers;
-use loom_views::rt::failure::FailureKind;
+use loom_view_parts::rt::failure::FailureKind;
 use std::alloc::AllocError;
 
 /// The nodes at which runs choose, in order, and how many of them the present run has passed.

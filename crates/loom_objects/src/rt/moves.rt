@@ -11,7 +11,7 @@ use crate::rt::object::Object;
 use crate::rt::scene::Scene;
 use crate::rt::sync::{Atomic, Cell};
 use crate::rt::thread::Thread;
-use loom_parts::telling::tell;
+use loom_dependence::telling::tell;
 use loom_views::rt::MAX_ATOMIC_HISTORY;
 use loom_views::rt::atomic::Reader;
 use loom_views::rt::failure::FailureKind;

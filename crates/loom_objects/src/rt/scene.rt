@@ -5,7 +5,7 @@ ghost use Rattle.loom_objects.specs.Lookup as lookup;
 ghost use Rattle.loom_objects.specs.Moves as moves;
 ghost use Rattle.loom_objects.specs.Scene.{world_of};
 ghost use Rattle.loom_objects.specs.SceneBorrowing.{lends_in_scene};
-ghost use Rattle.loom_objects.specs.World.{MAX_THREADS, opening};
+ghost use Rattle.loom_objects.specs.World.{MAX_THREADS, main_thread, opening};
 ghost use Rattle.loom_views.specs.Table.{Points, ShowsViews, opening as first_points};
 ghost use Rattle.loom_objects.specs.contracts.rt.sync.Atomic as atomic_row;
 ghost use Rattle.loom_objects.specs.contracts.rt.sync.Mutex as mutex_row;
@@ -96,8 +96,7 @@ impl<D: Drop> Scene<D> {
         ensures opens { (points : Points) → (left : ℕ) → world_of points left self.new ≡ record (opening max_threads left) { points = points } }
         ensures views { ShowsViews first_points self.new.views }
     {
-        self.threads.keep_first();
-        *self.threads.at_mut(0) = Thread::main(self.alloc);
+        only_main(&mut self.threads, self.alloc);
         self.objects.clear();
         self.views.restart();
         self.lazies.clear();
@@ -494,4 +493,13 @@ impl<D: Drop> Scene<D> {
     {
         Resumed::Passed(Passed::Turn(Turn::Reply(self.active, reply)))
     }
+}
+
+/// Leaves main alone, which is about to hand over its first operation.
+fn only_main<D: Drop>(threads: &mut Sequence<Thread<D>>, alloc: Global)
+    requires { 0 < length threads.old }
+    ensures { threads.new ≡ main_thread ∷ [] }
+{
+    threads.keep_first();
+    *threads.at_mut(0) = Thread::main(alloc);
 }

@@ -6,10 +6,10 @@ ghost use Rattle.loom_ops.specs.Threads.{yielding};
 ghost use Rattle.loom_operations.specs.Labels.{bare};
 
 use crate::thread;
-use loom_handle_parts::atomics;
+use loom_operation_parts::atomics;
 use loom_operations::operation::{AtomicOp, Exchange, Op, Reply, Request};
-use loom_views::rt::change::Change;
-use loom_views::rt::num::Numeric;
+use loom_view_parts::rt::change::Change;
+use loom_view_parts::rt::num::Numeric;
 use std::marker::PhantomData;
 pub use std::sync::atomic::Ordering;
 

@@ -4,7 +4,7 @@ ghost use Rattle.loom_ops.specs.Condvars.{condvar_handle, timeout_in};
 ghost use Rattle.loom_operations.specs.Labels.{bare};
 
 use crate::sync::mutex::MutexGuard;
-use loom_handle_parts::condvars;
+use loom_operation_parts::condvars;
 use loom_operations::operation::{CondvarOp, Op, Reply, Request};
 
 /// A condition variable of the run (loom's `sync/condvar.rs`).

@@ -3,7 +3,7 @@ ghost use Rattle.std.specs.Prelude.{◌≡◌, None};
 ghost use Rattle.loom_ops.specs.Locks.{mutex_handle, guard_handle, guard_taken};
 ghost use Rattle.loom_operations.specs.Labels.{bare};
 
-use loom_handle_parts::locks;
+use loom_operation_parts::locks;
 use loom_operations::operation::{MutexOp, Op, Reply, Request};
 
 /// A mutex of the run (loom's `sync/mutex.rs`).

@@ -20,7 +20,7 @@ use loom_operations::failure::{Stop, failed};
 use loom_operations::offers::Offers;
 use loom_operations::operation::ExploreOp;
 use loom_parts::choice::Choice;
-use loom_views::rt::failure::FailureKind;
+use loom_view_parts::rt::failure::FailureKind;
 use std::alloc::{AllocError, Global};
 use std::marker::Model;
 

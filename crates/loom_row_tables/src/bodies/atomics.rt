@@ -7,8 +7,8 @@ use loom_operations::operation::{AtomicOp, Exchange, MutexOp, Request, ThreadOp}
 use loom_row_parts::row;
 use loom_row_parts::rows::{Checked, DEFAULTS, Row, TEN_STEPS};
 use loom_scripts::step::{END, EXIT, FAIL, Step, Value, YIELD};
-use loom_views::rt::change::Change::{Add, Max, Min, Nand, Xor};
-use loom_views::rt::num::Numbers;
+use loom_view_parts::rt::change::Change::{Add, Max, Min, Nand, Xor};
+use loom_view_parts::rt::num::Numbers;
 use std::sync::atomic::Ordering::{Acquire, Relaxed, Release, SeqCst};
 
 /// A number of 64 bits (loom's `tests/atomic_int.rs`).

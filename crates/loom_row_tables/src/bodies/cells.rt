@@ -7,7 +7,7 @@ use loom_operations::operation::{ArcOp, AtomicOp, CellOp, Request, ThreadOp, Tra
 use loom_row_parts::row;
 use loom_row_parts::rows::Row;
 use loom_scripts::step::{END, EXIT, FAIL, Step, Value};
-use loom_views::rt::num::Numbers;
+use loom_view_parts::rt::num::Numbers;
 use std::sync::atomic::Ordering::{Acquire, Release};
 
 /// A thread writes a cell and releases that by an atomic. Main reads the cell where it acquires that, before and after it joins

@@ -7,7 +7,7 @@ use loom_operations::operation::{AtomicOp, LocalOp, MutexOp, Request, ThreadOp};
 use loom_row_parts::row;
 use loom_row_parts::rows::{LONG_RUNS, Row, THREE_NODES};
 use loom_scripts::step::{END, EXIT, Step, Value, YIELD};
-use loom_views::rt::num::Numbers;
+use loom_view_parts::rt::num::Numbers;
 use std::sync::atomic::Ordering::{Relaxed, Release};
 
 const FINISH: Step = Step::Do(0, Request::Thread(ThreadOp::Finish(Value::Plain(7))));

@@ -10,7 +10,7 @@ use loom_parts::text_literal;
 use loom_row_parts::row;
 use loom_row_parts::rows::{LONG_RUNS, Row};
 use loom_scripts::step::{END, EXIT, FAIL, PARK, Step, Value, YIELD};
-use loom_views::rt::num::Numbers;
+use loom_view_parts::rt::num::Numbers;
 use std::sync::atomic::Ordering::Relaxed;
 
 const FINISH: Step = Step::Do(0, Request::Thread(ThreadOp::Finish(Value::Plain(7))));

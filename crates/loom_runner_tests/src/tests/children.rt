@@ -2,10 +2,10 @@
 //! (Closures that are spawned stand in `guide` and in `loom_closures`.)
 use crate::tests::finding::Counter;
 use crate::tests::forms::Signals;
-use crate::tests::{ends, forms, turns};
+use crate::tests::{forms, turns};
 use loom::runner::{Handle, Job, Stop};
 use loom::sync::Mutex;
-use loom::sync::atomic::{AtomicU64, AtomicUsize};
+use loom::sync::atomic::AtomicU64;
 use loom::thread::JoinHandle;
 use std::sync::{Arc, Wait};
 use std::thread::Threads;
@@ -15,14 +15,10 @@ use std::thread::Threads;
 pub(super) enum Task {
     /// Counts that it has started.
     Start,
-    /// Locks the mutex, and releases it.
-    PassThrough(Mutex),
     /// Locks one mutex and then the other, and counts where a call after a stop was answered by a stop.
     LockBoth(Mutex, Mutex),
     /// Counts that it has started, and adds 1.
     Add(AtomicU64),
-    /// Waits for 1, stores 2, and waits for 3.
-    Pong(AtomicUsize),
     /// Gives each signal.
     Signal(Signals),
 }
@@ -39,10 +35,8 @@ impl<R: Wait> Job<u64, R> for Child {
         let counter = &self.counter;
         match self.task {
             Task::Start => Ok(turns::count_start(counter)),
-            Task::PassThrough(mutex) => ends::pass_through(handle, &mutex),
             Task::LockBoth(outer, inner) => turns::lock_to_stop(handle, &outer, &inner, counter),
             Task::Add(number) => turns::add_one(handle, &number, counter),
-            Task::Pong(ball) => turns::pong(handle, &ball),
             Task::Signal(signals) => forms::give_signals(handle, &signals),
         }
     }

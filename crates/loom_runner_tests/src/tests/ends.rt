@@ -1,40 +1,16 @@
 //! Closures that end otherwise than by their result, or not as in the run before.
-use crate::tests::children::{Task, start};
 use crate::tests::finding::Wanted::{Fails, NoSettings};
 use crate::tests::finding::{Counter, Main, comes_to};
 use crate::tests::{NONE, ONE, ZERO};
 use loom::builder::Builder;
 use loom::runner::{Handle, Stop};
-use loom::sync::Mutex;
 use loom::{Choice, FailureKind};
 use std::sync::Wait;
 use std::sync::atomic::Ordering;
 use std::test::Fail;
-use std::thread::Threads;
 
 /// The choices of a run without a branch point.
 static NO_CHOICES: [Choice; 0] = [];
-
-/// Locks the mutex, and releases it.
-pub(super) fn pass_through<R: Wait>(
-    handle: &mut Handle<u64, R>,
-    mutex: &Mutex,
-) -> Result<u64, Stop> {
-    let (guard, value) = handle.lock(mutex)?;
-    handle.release(guard, value)?;
-    Ok(3)
-}
-
-/// Main locks a mutex, for which another thread waits, and ends without a release.
-pub(super) fn leave_guard<R: Threads + Wait + Clone + Send + 'static>(
-    handle: &mut Handle<u64, R>,
-    counter: &Counter,
-) -> Result<u64, Stop> {
-    let mutex = handle.mutex(0)?;
-    start(handle, Task::PassThrough(mutex), counter)?;
-    handle.lock(&mutex)?;
-    Ok(7)
-}
 
 #[test]
 fn guard_left_closures(rt: HostRuntime) -> Result<(), Fail> {

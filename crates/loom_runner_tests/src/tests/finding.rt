@@ -5,6 +5,7 @@ use loom::model::Report;
 use loom::runner::{Handle, RunnerError, Stop, check};
 use loom::visitor::Visitor;
 use loom::{Choice, FailureKind};
+use loom_closures::scenes;
 use std::alloc::{AllocError, Global};
 use std::process::Abort;
 use std::sync::atomic::{AtomicU64, Ordering};
@@ -68,8 +69,8 @@ impl Main {
             Main::TwoMutexes => turns::two_mutexes(handle, counter),
             Main::TwoAdds => turns::two_adds(handle, counter),
             Main::LockBeside => turns::counted_lock_beside(handle, counter),
-            Main::PingPong => turns::ping_pong(handle, counter),
-            Main::GuardLeft => ends::leave_guard(handle, counter),
+            Main::PingPong => scenes::ping_pong(handle),
+            Main::GuardLeft => scenes::guard_left(handle),
             Main::Deaf => ends::pass_over_stops(handle, counter),
             Main::Stops => Err(Stop::Memory),
             Main::Changes if is_first => turns::lock_beside(handle, counter),

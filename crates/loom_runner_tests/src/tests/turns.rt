@@ -1,15 +1,15 @@
 //! Closures take turns.
 use crate::tests::children::{Task, start};
-use crate::tests::ends::pass_through;
 use crate::tests::finding::Wanted::{Complete, Fails};
 use crate::tests::finding::{Counter, Main, Run, comes_to, find, passes};
 use crate::tests::{NONE, ONE, TWO, ZERO, holds};
 use loom::builder::Builder;
 use loom::runner::{Handle, Stop};
 use loom::sync::Mutex;
-use loom::sync::atomic::Ordering::{AcqRel, Acquire, Release};
-use loom::sync::atomic::{AtomicU64, AtomicUsize};
+use loom::sync::atomic::AtomicU64;
+use loom::sync::atomic::Ordering::AcqRel;
 use loom::{Choice, FailureKind};
+use loom_closures::scenes;
 use std::sync::Wait;
 use std::sync::atomic::Ordering;
 use std::test::Fail;
@@ -22,24 +22,11 @@ pub(super) fn lock_to_stop<R: Wait>(
     inner: &Mutex,
     stops: &Counter,
 ) -> Result<u64, Stop> {
-    let answer = lock_both(handle, outer, inner);
+    let answer = scenes::lock_both(handle, outer, inner);
     if answer.is_err() && handle.yield_now().is_err() {
         stops.fetch_add(1, Ordering::SeqCst);
     }
     answer
-}
-
-/// Holds the one while it locks the other.
-fn lock_both<R: Wait>(
-    handle: &mut Handle<u64, R>,
-    outer: &Mutex,
-    inner: &Mutex,
-) -> Result<u64, Stop> {
-    let (outer, x) = handle.lock(outer)?;
-    let (inner, y) = handle.lock(inner)?;
-    handle.release(inner, y)?;
-    handle.release(outer, x)?;
-    Ok(1)
 }
 
 /// Two threads lock two mutexes in opposite order. They count the stops that they were given once more.
@@ -108,7 +95,7 @@ pub(super) fn lock_beside<R: Threads + Wait + Clone + Send + 'static>(
 ) -> Result<u64, Stop> {
     let mutex = handle.mutex(0)?;
     start(handle, Task::Start, starts)?;
-    pass_through(handle, &mutex)?;
+    scenes::pass_through(handle, &mutex)?;
     Ok(7)
 }
 
@@ -144,51 +131,6 @@ fn lock_beside_closures(rt: HostRuntime) -> Result<(), Fail> {
     holds(&rt, found.comes_to(Complete(3)) && found.counts(3, 6));
     holds(&rt, are_beside(found.runs.as_slice()));
     Ok(())
-}
-
-/// Loads until the atomic holds this, and yields in between.
-fn await_value<R: Wait>(
-    handle: &mut Handle<u64, R>,
-    atomic: &AtomicUsize,
-    wanted: usize,
-) -> Result<(), Stop> {
-    for _ in 0..100 {
-        if handle.load(atomic, Acquire)? == wanted {
-            return Ok(());
-        }
-        handle.yield_now()?;
-    }
-    Err(handle.fail())
-}
-
-/// Waits for 1, stores 2, and waits for 3.
-pub(super) fn pong<R: Wait>(
-    handle: &mut Handle<u64, R>,
-    atomic: &AtomicUsize,
-) -> Result<u64, Stop> {
-    await_value(handle, atomic, 1)?;
-    handle.store(atomic, 2, Release)?;
-    await_value(handle, atomic, 3)?;
-    Ok(0)
-}
-
-/// Main stores 1 and 3, and another thread 2 in between: each waits for what the other stores.
-pub(super) fn ping_pong<R: Threads + Wait + Clone + Send + 'static>(
-    handle: &mut Handle<u64, R>,
-    counter: &Counter,
-) -> Result<u64, Stop> {
-    handle.stop_exploring()?;
-    let atomic = handle.atomic(0usize)?;
-    let child = start(handle, Task::Pong(atomic), counter)?;
-    ping(handle, &atomic)?;
-    handle.join(&child)
-}
-
-/// Stores 1, waits for 2, and stores 3.
-fn ping<R: Wait>(handle: &mut Handle<u64, R>, atomic: &AtomicUsize) -> Result<(), Stop> {
-    handle.store(atomic, 1, Release)?;
-    await_value(handle, atomic, 2)?;
-    handle.store(atomic, 3, Release)
 }
 
 #[test]

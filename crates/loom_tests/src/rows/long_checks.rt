@@ -5,6 +5,7 @@ mod explaining;
 mod faults;
 mod files;
 mod limits;
+mod measured;
 mod mutations;
 mod places;
 mod progress;

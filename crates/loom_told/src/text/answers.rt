@@ -4,7 +4,7 @@ use crate::text::names::Value;
 use crate::text::objects::{Manner, Store};
 use crate::text::page::Page;
 use loom_operations::operation::{AtomicOp, CellOp, Reply};
-use loom_views::rt::num::Numbers;
+use loom_view_parts::rt::num::Numbers;
 use std::sync::atomic::Ordering;
 
 /// What is told of a reply.

@@ -8,8 +8,8 @@ use loom_operations::operation::{
     ArcOp, AtomicOp, AtomicWakerOp, CellOp, ChannelOp, CondvarOp, ExploreOp, LazyOp, LocalOp,
     MutexOp, NotifyOp, Request, RwLockOp, ThreadOp, TrackOp, WakerOp,
 };
-use loom_views::rt::change::Change;
-use loom_views::rt::num::Numbers;
+use loom_view_parts::rt::change::Change;
+use loom_view_parts::rt::num::Numbers;
 use std::sync::atomic::Ordering;
 
 /// An operation: the number of what it is on, 0 where that is nothing, and its form.

@@ -1,6 +1,6 @@
 //! Each operation as it is written in code, with what it does, waits for and asks: a row for each.
 use crate::text::objects::Kind;
-use loom_views::rt::num::Numbers;
+use loom_view_parts::rt::num::Numbers;
 
 /// What is asked of who uses an atomic.
 const ATOMIC_THERE: &str = "the atomic is to be there";

@@ -5,7 +5,7 @@ use loom_operations::operation::Name;
 use loom_parts::label::{Label, location_in, name_in};
 use loom_parts::location::Location;
 use loom_parts::text::Text;
-use loom_views::rt::num::Numbers;
+use loom_view_parts::rt::num::Numbers;
 use std::sync::atomic::Ordering;
 
 /// A value of an atomic, by its type.

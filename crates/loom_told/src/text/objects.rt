@@ -1,7 +1,7 @@
 //! What is known of an object, a store, an access and a thread, as far as a run's events tell.
 use loom_operations::operation::Name;
 use loom_parts::label::Label;
-use loom_views::rt::num::Numbers;
+use loom_view_parts::rt::num::Numbers;
 use std::sync::atomic::Ordering;
 
 /// What an object is.

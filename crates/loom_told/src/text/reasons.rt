@@ -14,7 +14,7 @@ use crate::text::world::World;
 use loom_operations::operation::{LocalOp, Request, ThreadOp};
 use loom_parts::choice::Choice;
 use loom_parts::label::{Label, location_in};
-use loom_views::rt::failure::FailureKind;
+use loom_view_parts::rt::failure::FailureKind;
 
 /// A run with what is known after its last event.
 #[derive(Clone, Copy)]

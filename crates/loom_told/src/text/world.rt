@@ -10,8 +10,8 @@ use loom_operations::operation::{
     AtomicOp, AtomicWakerOp, CellOp, CondvarOp, Name, Op, Reply, Request, ThreadOp,
 };
 use loom_parts::label::Label;
-use loom_views::rt::MAX_ATOMIC_HISTORY;
-use loom_views::rt::num::Numbers;
+use loom_view_parts::rt::MAX_ATOMIC_HISTORY;
+use loom_view_parts::rt::num::Numbers;
 use std::alloc::Global;
 use std::sync::atomic::Ordering;
 

@@ -12,7 +12,7 @@ use crate::rt::synchronize::ThreadViews;
 use crate::rt::vv::VersionVec;
 
 /// The joined views of a cell's reads, and those of its writes (loom's `rt/cell.rs`).
-#[derive(Clone, Copy, Debug)]
+#[derive(Clone, Copy)]
 pub struct AccessRecords {
     reads: VersionVec,
     writes: VersionVec,

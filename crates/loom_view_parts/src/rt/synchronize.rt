@@ -14,7 +14,7 @@ use std::marker::Model;
 use std::sync::atomic::Ordering;
 
 /// The views of a thread (loom's `rt/thread.rs`).
-#[derive(Clone, Copy, Debug)]
+#[derive(Clone, Copy)]
 pub struct ThreadViews {
     /// What has come to the thread so far (loom's `causality`).
     pub present: VersionVec,
@@ -136,7 +136,7 @@ pub fn releases(order: Ordering) -> bool
 }
 
 /// The view of an object that threads synchronize at (loom's `rt/synchronize.rs`).
-#[derive(Clone, Copy, Debug)]
+#[derive(Clone, Copy)]
 pub struct Synchronize {
     happens_before: VersionVec,
 }

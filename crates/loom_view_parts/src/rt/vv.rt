@@ -16,7 +16,7 @@ pub const MAX_VERSION: u16 = 65_534;
 
 /// How often each thread has raised its version, as far as a view reaches: a count for each thread, none of them above
 /// `MAX_VERSION` (loom's `rt/vv.rs`).
-#[derive(Clone, Copy, Debug)]
+#[derive(Clone, Copy)]
 pub struct VersionVec {
     versions: [u16; MAX_THREADS],
 }
@@ -112,7 +112,7 @@ impl VersionVec {
 }
 
 /// Two vectors are equal where each is inside the other, which is where they have the same counts: law
-/// `loom_view_laws::equal_vectors_are_same` (loom's `rt/vv.rs`).
+/// `loom_views::laws::equal_vectors_are_same` (loom's `rt/vv.rs`).
 impl PartialEq for VersionVec {
     ghost eq = { versions_eq };
 

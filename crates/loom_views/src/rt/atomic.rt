@@ -28,13 +28,13 @@ use loom_view_parts::rt::{MAX_ATOMIC_HISTORY, MAX_THREADS};
 use std::sync::atomic::Ordering;
 
 /// For each thread, its own version when it first touched a store (loom's `rt/atomic.rs`).
-#[derive(Clone, Copy, Debug)]
+#[derive(Clone, Copy)]
 pub struct FirstSeen {
     versions: [Option<u16>; MAX_THREADS],
 }
 
 /// A store that is kept (loom's `rt/atomic.rs`).
-#[derive(Clone, Copy, Debug)]
+#[derive(Clone, Copy)]
 pub struct Store {
     value: u64,
     order: VersionVec,
@@ -45,7 +45,7 @@ pub struct Store {
 
 /// What is kept of an atomic: the last `MAX_ATOMIC_HISTORY` stores, the joined views of the accesses of each kind, and how many
 /// stores there were, at most 65,535 (loom's `rt/atomic.rs`).
-#[derive(Clone, Copy, Debug)]
+#[derive(Clone, Copy)]
 pub struct State {
     loaded_at: VersionVec,
     stored_at: VersionVec,
@@ -197,7 +197,7 @@ impl State {
     }
 
     /// The set of the slots that the reader may choose: those of the stores that no kept store keeps it from. Where two orders
-    /// are equal on the way it is `OrdersEqual`. By law `loom_view_laws::some_slot_is_readable` there is always a slot (loom's
+    /// are equal on the way it is `OrdersEqual`. By law `loom_views::laws::some_slot_is_readable` there is always a slot (loom's
     /// `rt/atomic.rs`).
     pub fn readable(
         &self,

@@ -2,7 +2,7 @@
 use crate::text::objects::{Kind, Object};
 use crate::text::page::Page;
 use crate::text::world::World;
-use loom_views::rt::failure::FailureKind;
+use loom_view_parts::rt::failure::FailureKind;
 
 /// What may be left of an object of a kind.
 struct Leak {

@@ -2,7 +2,7 @@
 use crate::text::page::Page;
 use crate::text::reasons::Scene;
 use loom_operations::operation::Request;
-use loom_views::rt::failure::FailureKind;
+use loom_view_parts::rt::failure::FailureKind;
 
 /// The limit that the run passed, and what helps.
 pub(crate) fn put_limit(out: &mut Page, scene: &Scene<'_>, kind: FailureKind) {

@@ -7,8 +7,8 @@ use crate::text::reasons::Scene;
 use crate::text::world::World;
 use loom_operations::operation::{AtomicOp, CellOp, Request};
 use loom_parts::label::name_in;
-use loom_views::rt::MAX_THREADS;
-use loom_views::rt::failure::FailureKind;
+use loom_view_parts::rt::MAX_THREADS;
+use loom_view_parts::rt::failure::FailureKind;
 use std::sync::atomic::Ordering;
 
 /// Which objects an operation accesses, and how: one, and for a swap of two cells another one.

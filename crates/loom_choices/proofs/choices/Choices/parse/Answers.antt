@@ -1,5 +1,6 @@
 use Rattle.std.proofs.Common.{rules, ◌≡◌, ◌-◌, length, take, drop, false, [], ◌∷◌, ◌++◌, sym, ◌∙◌, subst, Some}
-use Rattle.loom_choices.specs.Reading.{after_word, choices_in, is_space}
+use Rattle.loom_parts.specs.Words.{after_word, is_space}
+use Rattle.loom_choices.specs.Reading.{choices_in}
 use Rattle.loom_choices.proofs.Reading.{put_before, step_word}
 use Rattle.loom_choices.proofs.choices.Choices.parse.Goals as goal
 

@@ -1,8 +1,0 @@
-use Rattle.std.proofs.Common.{IfSome}
-use Rattle.loom_row_bodies.specs.Builders.{builder_of}
-use Rattle.loom_row_bodies.specs.Rows.{ReportsScript}
-use Rattle.loom_bench.proofs.check_often.Given as goal
-
--- the report kept is of a check of the body
-abbrev pub invariant-loop : goal.invariant-loop
-invariant-loop l = IfSome l.found (ReportsScript l.body.steps.now (builder_of l.body.settings))

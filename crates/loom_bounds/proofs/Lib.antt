@@ -1,3 +1,0 @@
-mod Called
-pub mod Within
-mod Example

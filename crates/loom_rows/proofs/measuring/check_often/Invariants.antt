@@ -1,0 +1,8 @@
+use Rattle.std.proofs.Common.{IfSome}
+use Rattle.loom_row_bodies.specs.Builders.{builder_of}
+use Rattle.loom_row_bodies.specs.Rows.{ReportsScript}
+use Rattle.loom_rows.proofs.measuring.check_often.Given as goal
+
+-- the report kept is of a check of the body
+abbrev pub invariant-loop : goal.invariant-loop
+invariant-loop g l = IfSome l.found (ReportsScript l.body.steps.now (builder_of l.body.settings))

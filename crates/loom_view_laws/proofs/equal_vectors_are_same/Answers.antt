@@ -1,5 +1,0 @@
-use Rattle.loom_view_parts.proofs.VersionLists.{equal-same}
-use Rattle.loom_view_laws.proofs.equal_vectors_are_same.Goals as goal
-
-pub returns : goal.returns
-returns c = equal-same

@@ -1,5 +1,0 @@
-use Rattle.loom_views.proofs.Table.Kept.{offered_slots_are_kept_law}
-use Rattle.loom_view_laws.proofs.offered_slots_are_kept.Goals as goal
-
-pub returns : goal.returns
-returns c = offered_slots_are_kept_law

@@ -1,5 +1,0 @@
-use Rattle.loom_views.proofs.Table.Kept.{reading_keeps_slots_law}
-use Rattle.loom_view_laws.proofs.reading_keeps_slots.Goals as goal
-
-pub returns : goal.returns
-returns c = reading_keeps_slots_law

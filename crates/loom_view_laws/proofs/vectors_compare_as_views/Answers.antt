@@ -1,5 +1,0 @@
-use Rattle.loom_view_parts.proofs.Views.{shows-inside}
-use Rattle.loom_view_laws.proofs.vectors_compare_as_views.Goals as goal
-
-pub returns : goal.returns
-returns c = shows-inside

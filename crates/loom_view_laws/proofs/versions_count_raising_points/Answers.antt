@@ -1,5 +1,0 @@
-use Rattle.loom_view_parts.proofs.Counted.{counted-is}
-use Rattle.loom_view_laws.proofs.versions_count_raising_points.Goals as goal
-
-pub returns : goal.returns
-returns c = counted-is

@@ -1,0 +1,5 @@
+use Rattle.loom_views.proofs.Rows.{examples}
+use Rattle.loom_views.proofs.laws.example_histories.Goals as goal
+
+pub returns : goal.returns
+returns c = examples

@@ -1,0 +1,5 @@
+use Rattle.loom_views.proofs.Sweeping.{past-is}
+use Rattle.loom_views.proofs.laws.past_is_reaching.Goals as goal
+
+pub returns : goal.returns
+returns c = past-is

@@ -1,0 +1,5 @@
+use Rattle.loom_views.proofs.SomeReadable.{some-readable}
+use Rattle.loom_views.proofs.laws.some_slot_is_readable.Goals as goal
+
+pub returns : goal.returns
+returns c = some-readable

@@ -1,0 +1,5 @@
+use Rattle.loom_view_parts.proofs.Views.{raising-inside}
+use Rattle.loom_views.proofs.laws.view_is_reaching.Goals as goal
+
+pub returns : goal.returns
+returns c = raising-inside
