@@ -4,7 +4,7 @@ use Rattle.loom_parts.specs.declared.choice.Choice.{Choice}
 use Rattle.loom_engine.specs.declared.rt.execution.Limits.{Limits}
 use Rattle.loom_path.specs.Routes.{Route}
 use Rattle.loom_turn_parts.specs.declared.stop.Stop.{Stop}
-use Rattle.loom_turns.specs.Chains.{GoesTo}
+use Rattle.loom_runner.specs.Chains.{GoesTo}
 use Rattle.loom_runner.specs.Tellings.{Teller}
 use Rattle.loom.specs.Checks.{Made, Given, Rounds}
 

@@ -15,19 +15,19 @@ use Rattle.loom_model.specs.declared.model.Limit.TheVariants.{Permutations}
 use Rattle.loom_model.specs.declared.model.Report.TheVariants as report
 use Rattle.loom_model.specs.Settings.{explores, most_runs, search_of}
 use Rattle.loom_turn_parts.specs.declared.stop.Stop.{Stop}
-use Rattle.loom_turns.specs.Histories.{last_event, failed_by}
-use Rattle.loom_turns.specs.Chains.{Follow}
-use Rattle.loom_turns.specs.Chains as chains
-use Rattle.loom_turns.proofs.Once.{once_law}
-use Rattle.loom_turns.proofs.Alternatives.{alternatives_law}
-use Rattle.loom_turns.proofs.Failing.{failure_law}
+use Rattle.loom_runner.specs.Histories.{last_event, failed_by}
+use Rattle.loom_runner.specs.Chains.{Follow}
+use Rattle.loom_runner.specs.Chains as chains
+use Rattle.loom_runner.proofs.Once.{once_law}
+use Rattle.loom_runner.proofs.Alternatives.{alternatives_law}
+use Rattle.loom_runner.proofs.Failing.{failure_law}
 use Rattle.loom_turn_parts.specs.declared.rounds.After.TheVariants as comes
 use Rattle.loom_turn_parts.specs.declared.rounds.Round.{Round}
 use Rattle.loom_turn_parts.specs.declared.rounds.Round.TheVariants.{Broke, Last, Next}
 use Rattle.loom_turn_parts.specs.Rounds.{comes_after}
 use Rattle.loom_runner.specs.Tellings.{Teller}
 use Rattle.loom.specs.Checks.{Made, MadeBy, Given, Rounds, Makes, HasAlternatives, HasFailed, Reports, run_of, runs_of, lists_of, limits_of, fresh_path}
-use Rattle.loom.specs.Rounds.{WasMade}
+use Rattle.loom_runner.specs.Rounds.{WasMade}
 use Rattle.loom.proofs.Making.{goes_on}
 
 -- a path between two runs may begin one

@@ -1,7 +1,7 @@
 -- What a check of closures promises. What one run is says `loom/specs/Made.antt`: a call of the closure has made it
 -- (`MadeBy`), its history is one of the machine (`Settled`), and if it ended the visitor is given it (`Given`). Each run goes on
 -- where the last one's path steps to (`Rounds`). What a report says of them is `Reports`. What closures will hand over isn't known
--- before they do, so a run's machine is that of its own history (`loom_turns/specs/Chains.antt`).
+-- before they do, so a run's machine is that of its own history (`loom_runner/specs/Chains.antt`).
 use Rattle.std.specs.Prelude.{ℕ, ◌≡◌, ◌≢◌, ◌<◌, List, [], ◌∷◌, ◌++◌, length, map, Option, Some, None, Result, string_bytes}
 use Rattle.loom_view_parts.specs.declared.rt.failure.FailureKind.TheVariants.{NotDeterministic}
 use Rattle.loom_parts.specs.declared.choice.Choice.{Choice}
@@ -16,11 +16,11 @@ use Rattle.loom_model.specs.declared.model.Report.{Report}
 use Rattle.loom_model.specs.declared.model.Report.TheVariants as report
 use Rattle.loom_model.specs.Settings.{explores, most_runs, search_of}
 use Rattle.loom_turn_parts.specs.declared.stop.Stop.{Stop}
-use Rattle.loom_turns.specs.Histories.{last_event, failed_by}
-use Rattle.loom_turns.specs.Chains.{Run, GoesTo, IsAmong, choices_of, machine}
-use Rattle.loom_turns.specs.Laws.{FailsSo}
+use Rattle.loom_runner.specs.Histories.{last_event, failed_by}
+use Rattle.loom_runner.specs.Chains.{Run, GoesTo, IsAmong, choices_of, machine}
+use Rattle.loom_runner.specs.Laws.{FailsSo}
 use Rattle.loom_runner.specs.Tellings.{Teller}
-pub use Rattle.loom.specs.Made.{Made, Settled, MadeBy, Given}
+pub use Rattle.loom_runner.specs.Made.{Made, Settled, MadeBy, Given}
 
 -- ---- runs
 

@@ -10,7 +10,7 @@ use Rattle.loom_model.specs.declared.model.Replay.{Replay}
 use Rattle.loom_model.specs.declared.model.Replay.TheVariants.{Ended, Failed}
 use Rattle.loom_model.specs.Settings.{explores}
 use Rattle.loom_turn_parts.specs.declared.stop.Stop.{Stop}
-use Rattle.loom_turns.specs.Histories.{last_event, ended_by, failed_by}
+use Rattle.loom_runner.specs.Histories.{last_event, ended_by, failed_by}
 use Rattle.loom_runner.specs.Tellings.{Teller, newcomer}
 use Rattle.loom.specs.Checks.{Made, Settled, limits_of}
 

@@ -2,7 +2,6 @@
 pub mod defaults;
 pub mod error;
 pub mod replays;
-mod round;
 pub mod rounds;
 
 pub use defaults::{Nobody, model};
@@ -13,10 +12,10 @@ pub use loom_runner::ask::Answer;
 pub use loom_runner::error::RoundError;
 pub use loom_runner::handle::Handle;
 pub use loom_runner::job::{Call, Job};
+pub use loom_runner::turns::Turns;
 pub use loom_runner::{answers, ask};
-pub use loom_turns::event::{Entry, Event, Outcome};
-pub use loom_turns::stop::Stop;
-pub use loom_turns::told::Told;
-pub use loom_turns::turns::Turns;
+pub use loom_turn_parts::event::{Entry, Event, Outcome};
+pub use loom_turn_parts::stop::Stop;
+pub use loom_turn_parts::told::Told;
 pub use replays::replay;
 pub use rounds::check;

@@ -2,7 +2,7 @@
 //! items in, another one puts one, and main takes all three out.
 use loom_ops::sync::{Condvar, Mutex};
 use loom_runner::handle::Handle;
-use loom_turns::stop::Stop;
+use loom_runner::stop::Stop;
 use std::sync::Wait;
 use std::thread::Threads;
 

@@ -4,7 +4,7 @@ use loom_ops::cell::Cell;
 use loom_ops::sync::atomic::Ordering::{Acquire, Release};
 use loom_ops::sync::atomic::{AtomicU64, Ordering};
 use loom_runner::handle::Handle;
-use loom_turns::stop::Stop;
+use loom_runner::stop::Stop;
 use std::sync::Wait;
 use std::thread::Threads;
 

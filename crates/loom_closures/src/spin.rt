@@ -3,7 +3,7 @@ use loom_ops::cell::UnsafeCell;
 use loom_ops::sync::atomic::Ordering::{Acquire, Relaxed};
 use loom_ops::sync::atomic::{AtomicBool, Ordering};
 use loom_runner::handle::Handle;
-use loom_turns::stop::Stop;
+use loom_runner::stop::Stop;
 use std::sync::Wait;
 use std::thread::Threads;
 

@@ -35,7 +35,7 @@ use Rattle.loom_operations.specs.Asked.{which_thread, which_store, whether_spuri
 use Rattle.loom_operations.specs.Exploring.{is_on}
 use Rattle.loom_runs.specs.Machine.{passes, chooses, further, further_branches, goes_on, is_asked, schedule, submit, waits}
 use Rattle.loom_runs.specs.Courses.{Course, carried, unordered_in, used_in}
-use Rattle.loom_machine.specs.Copies.{GivesCopy}
+use Rattle.loom_engine.specs.Copies.{GivesCopy}
 use Rattle.loom_engine.specs.Execution.{Along, MayBeRefused, NeedsMemory, AllNeedMemory, Notes, ShowsCourse, Starts, itself, takes_turn}
 use Rattle.loom_engine.specs.declared.rt.execution.Progress.{Progress}
 use Rattle.loom_engine.proofs.Executing.{Chooses, IsSchedule, asked, asked_so, asks_of, chosen_course, first_of, goes_on_by, marked_first, marks_of, read_asks, same_way, scheduled, started_course, unmarked_load, unmarked_wait, waiting}

@@ -1,2 +1,4 @@
 pub mod Executing
 pub mod Growing
+mod Replying
+mod Stepping

@@ -1,1 +1,3 @@
 pub mod Execution
+pub mod Copies
+pub mod Replies

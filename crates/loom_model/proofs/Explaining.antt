@@ -4,8 +4,8 @@ use Rattle.std.specs.Prelude.{Result, Ok, Err}
 use Rattle.loom_operation_parts.specs.declared.event.End.{End}
 use Rattle.loom_operation_parts.specs.declared.event.End.TheVariants.{Ended, Failed}
 use Rattle.loom_operation_parts.specs.declared.event.Event.{Event}
-use Rattle.loom_explain.specs.Story.{EndsAs, Story}
-use Rattle.loom_explain.proofs.Story.{story_law}
+use Rattle.loom_model.specs.Story.{EndsAs, Story}
+use Rattle.loom_model.proofs.Story.{story_law}
 use Rattle.loom_parts.specs.declared.choice.Choice.{Choice}
 use Rattle.loom_operations.specs.Tree.{Tree}
 use Rattle.loom_path.specs.Routes.{Route, at_rest, chosen, drives, stored, trail}

@@ -9,3 +9,7 @@ pub mod Explaining
 mod Called
 pub mod Within
 mod BoundExample
+pub mod Reading
+pub mod Handing
+pub mod Story
+pub mod Turning

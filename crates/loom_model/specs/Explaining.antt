@@ -3,8 +3,8 @@ use Rattle.std.specs.Prelude.{◌≡◌, List, length, Ok, Err}
 use Rattle.loom_operation_parts.specs.declared.event.End.{End}
 use Rattle.loom_operation_parts.specs.declared.event.End.TheVariants.{Ended, Failed}
 use Rattle.loom_told.specs.declared.explanation.Explanation.{Explanation}
-use Rattle.loom_explain.specs.Story.{IsToldAs, Story, story_of}
-use Rattle.loom_explain.specs.declared.telling.Told.{Told}
+use Rattle.loom_model.specs.Story.{IsToldAs, Story, story_of}
+use Rattle.loom_model.specs.declared.events.telling.Told.{Told}
 use Rattle.loom_path.specs.Routes.{Route, chosen, trail}
 use Rattle.loom_parts.specs.declared.choice.Choice.{Choice}
 use Rattle.loom_runs.specs.Runs.{Meaning, runs}

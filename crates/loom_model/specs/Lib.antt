@@ -10,3 +10,10 @@ pub mod Explaining
 pub mod Called
 pub mod Within
 pub mod BoundExample
+pub mod Texts
+pub mod Reading
+pub mod Ending
+pub mod Places
+pub mod Bare
+pub mod Story
+pub mod Telling

@@ -7,13 +7,13 @@ ghost use Rattle.loom_model.specs.Settings.{explores, tested};
 
 use crate::builder::Builder;
 use crate::error::CheckError;
+use crate::events::options::options_at;
+use crate::events::telling::{Told, tell};
+use crate::round::Room;
 use loom_check_parts::runs::{Runs, follow};
-use loom_explain::options::options_at;
-use loom_explain::telling::{Told, tell};
 use loom_operations::body::Body;
 use loom_parts::choice::Choice;
 use loom_path::rt::path::Path;
-use loom_round::round::Room;
 pub use loom_told::explanation::{End, Event, Explanation, Options};
 use loom_told::text;
 use std::alloc::{AllocError, Global};

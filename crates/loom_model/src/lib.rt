@@ -1,24 +1,29 @@
 //! Checks of bodies: a body is run once for each choice of the scheduled thread that the search tries, and what a complete check
-//! has made is a stated set of runs. `builder` and `env` have the settings, `model` checks and replays, `search` is the loop of a
-//! check, `rising` raises its bound, `error` says why there is no report, `laws` what a report means, and `preemptions` which runs
-//! a bound leaves in. Everything else stands under loom's paths, handed on from the crates below. Programs and tests use `loom`,
-//! which hands on all of this.
+//! has made is a stated set of runs. `builder` and `env` have the settings, `round` makes one run along a path, `model` checks and
+//! replays, `search` is the loop of a check, `rising` raises its bound, `explain` tells one run by `events`, `choices` has the choices
+//! of a run as a text, `error` says why there is no report, `laws` what a report means, and `preemptions` which runs a bound leaves
+//! in. Everything else stands under loom's paths, handed on from the crates below. Programs and tests use `loom`, which hands on
+//! all of this.
 #![tactic(auto)]
 
 pub mod builder;
+pub mod choices;
 pub mod env;
 pub mod error;
+pub mod events;
 pub mod explain;
 pub mod laws;
 pub mod model;
+pub mod places;
 pub mod preemptions;
 mod progress;
 mod report;
 pub mod rising;
+pub mod round;
 mod search;
 
+pub use crate::choices::{Choices, ChoicesError, ShownChoices};
 pub use loom_check_parts::visitor;
-pub use loom_choices::choices::{Choices, ChoicesError, ShownChoices};
 pub use loom_operations::body::Body;
 pub use loom_operations::data::Data;
 pub use loom_operations::operation::{Exchange, Labelled, Op, Reply, Request, Turn};

@@ -8,6 +8,7 @@ ghost use Rattle.loom_model.specs.Settings.{defaults, explores, tested};
 
 pub use crate::builder::Builder;
 use crate::error::CheckError;
+use crate::round::Ending;
 use log::Log;
 use loom_check_parts::files::file_store;
 use loom_check_parts::paths::following;
@@ -16,7 +17,6 @@ use loom_check_parts::visitor::Visitor;
 use loom_operations::body::Body;
 use loom_operations::failure::Failure;
 use loom_parts::choice::Choice;
-use loom_round::round::Ending;
 use loom_stores::clock::{Clock, NoClock};
 use loom_stores::store::CheckpointStore;
 use std::alloc::Global;

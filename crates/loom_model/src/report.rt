@@ -1,6 +1,6 @@
 //! What a report says, for a person.
+use crate::choices::ShownChoices;
 use crate::model::{Limit, Report};
-use loom_choices::choices::ShownChoices;
 use std::fmt;
 
 /// So many runs, as `1 run` and `2 runs`.

@@ -1,7 +1,7 @@
 //! The loop of a check.
 ghost use Rattle.std.specs.Prelude.{◌≡◌, ◌≤◌, ◌<◌, ◌^◌, ◌-◌, None, Err, IfOk, IfErr, IfSome};
 ghost use Rattle.loom_path.specs.Routes.{IsAtStart, IsSameSearch};
-ghost use Rattle.loom_round.specs.Ending.{IsLocated, RunsAlong};
+ghost use Rattle.loom_model.specs.Ending.{IsLocated, RunsAlong};
 ghost use Rattle.loom_runs.specs.Runs.{runs as runs_of};
 ghost use Rattle.loom_saves.specs.Beginning.{IsBegun};
 ghost use Rattle.loom_model.specs.Check.{Reports};
@@ -12,7 +12,9 @@ ghost use Rattle.loom_model.specs.Settings.{explores, search_of, tested};
 use crate::builder::Builder;
 use crate::error::CheckError;
 use crate::model::{Limit, Report};
+use crate::places::{LastPlaces, NoPlaces};
 use crate::progress::log_switches;
+use crate::round::{Ending, Room, run};
 use log::Log;
 use loom_check_parts::limits::{are_made, complete};
 use loom_check_parts::paths::path_search;
@@ -23,8 +25,6 @@ use loom_engine::rt::execution::Limits;
 use loom_operations::body::Body;
 use loom_parts::failure::Failure;
 use loom_path::rt::path::Path;
-use loom_round::places::{LastPlaces, NoPlaces};
-use loom_round::round::{Ending, Room, run};
 use loom_saves::beginning::begin;
 use loom_saves::saving::{Pace, save, save_and_run};
 use loom_stores::clock::Clock;

@@ -1,6 +1,6 @@
 //! The handles of a run, under loom's paths: each method makes an operation, and no handle does more. A body makes its
 //! operations by them, and reads a reply by `from_reply`. `sync`, `cell`, `thread`, `future`, `lazy_static`, `alloc` and
-//! `hint` are loom's modules. It uses the operations of `loom_operations` alone. `loom` hands its modules on, and the bodies of
+//! `hint` are loom's modules. `answers` says what replies hold for the closures that have asked. It uses the operations of `loom_operations` alone. `loom` hands its modules on, and the bodies of
 //! `loom_row_bodies` and `loom_tests` are written with it.
 #![tactic(auto)]
 
@@ -9,6 +9,7 @@ ghost use Rattle.loom_ops.specs.Failing.{unexpected};
 ghost use Rattle.loom_operations.specs.Labels.{bare};
 
 pub mod alloc;
+pub mod answers;
 pub mod cell;
 pub mod future;
 pub mod hint;

@@ -5,7 +5,7 @@ use Rattle.loom_operations.specs.declared.operation.Reply.{Reply}
 use Rattle.loom_turn_parts.specs.declared.stop.Stop.{Stop}
 use Rattle.loom_turn_parts.specs.declared.stop.Stop.TheVariants.{Failure, Memory, Refused}
 use Rattle.loom_turn_parts.specs.declared.event.Entry.{Entry}
-use Rattle.loom_turns.specs.Histories.{entry, Share}
+use Rattle.loom_runner.specs.Histories.{entry, Share}
 use Rattle.loom_turn_parts.specs.Calls.{last_of}
 use Rattle.loom_runner.specs.Tellings.{Teller, all_answered, with_open, failing, finishing, exiting, is_memory, ByStop, Remembers, Ends, Closes, Leading}
 

@@ -2,3 +2,8 @@ pub mod Errors
 pub mod Tellings
 pub mod Asking
 pub mod Answers
+pub mod Histories
+pub mod Chains
+pub mod Laws
+pub mod Made
+pub mod Rounds

@@ -8,7 +8,7 @@ use Rattle.loom_operations.specs.declared.operation.ThreadOp.TheVariants.{Spawn,
 use Rattle.loom_turn_parts.specs.declared.stop.Stop.{Stop}
 use Rattle.loom_turn_parts.specs.declared.stop.Stop.TheVariants.{Failure, Memory, Refused}
 use Rattle.loom_turn_parts.specs.declared.event.Entry.{Entry}
-use Rattle.loom_turns.specs.Histories.{entry, Share, share}
+use Rattle.loom_runner.specs.Histories.{entry, Share, share}
 pub use Rattle.loom_turn_parts.specs.Calls.{failing, finishing, is_reserved, handed}
 
 module _ {D : Type 0} where

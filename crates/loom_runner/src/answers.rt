@@ -1,2 +1,2 @@
 //! What the replies to operations of objects hold.
-pub use loom_answers::{cells, channels, counts, locks, threads};
+pub use loom_ops::answers::{cells, channels, counts, locks, threads};

@@ -4,10 +4,10 @@ ghost use Rattle.loom_runner.specs.Asking.{Tells};
 ghost use Rattle.loom_runner.specs.Tellings.{all_answered};
 
 use crate::handle::Handle;
-pub use loom_answers::answer::{Answer, Joined, Loaded, Tried};
 use loom_copies::exact::Exact;
 use loom_operations::operation::Request;
-use loom_turns::stop::Stop;
+pub use loom_ops::answers::answer::{Answer, Joined, Loaded, Tried};
+use loom_turn_parts::stop::Stop;
 use std::sync::Wait;
 
 impl<D: Exact + 'static, R: Wait> Handle<D, R> {

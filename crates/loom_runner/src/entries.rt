@@ -1,7 +1,7 @@
 // What a thread keeps of its operations, and of what it was told.
 ghost use Rattle.std.specs.Prelude.{◌≡◌, ◌++◌, ◌∷◌, ◌<◌, [], IfOk, IfErr, IfSome, OnSome, None, Some, true, vec_len, vec_capacity};
 ghost use Rattle.loom_operations.specs.declared.operation.Reply.TheVariants as reply;
-ghost use Rattle.loom_turns.specs.Histories.{entry};
+ghost use Rattle.loom_runner.specs.Histories.{entry};
 ghost use Rattle.loom_runner.specs.Tellings.{spawning};
 
 use crate::shared::{Child, Children};
@@ -10,8 +10,8 @@ use loom_copies::operations::copy_request;
 use loom_operations::operation::{Reply, Request, ThreadOp};
 use loom_ops::thread::JoinHandle;
 use loom_turn_parts::calls::keep;
-use loom_turns::event::Entry;
-use loom_turns::stop::Stop;
+use loom_turn_parts::event::Entry;
+use loom_turn_parts::stop::Stop;
 use std::alloc::Global;
 
 /// Makes room for one more. False where a growth was refused.

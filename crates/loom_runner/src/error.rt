@@ -2,7 +2,7 @@
 ghost use Rattle.std.specs.Prelude.{◌≡◌};
 ghost use Rattle.loom_runner.specs.Errors.{error_by};
 
-use loom_turns::stop::Stop;
+use loom_turn_parts::stop::Stop;
 use thiserror::Error;
 
 /// Why a run of closures wasn't made (own).

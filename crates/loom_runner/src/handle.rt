@@ -1,7 +1,7 @@
 //! By what a thread hands over operations.
 ghost use Rattle.std.specs.Prelude.{◌≡◌, ◌++◌, ◌∷◌, [], IfOk, IfErr, OnOk, MatchOption, Some, Ok, Err, true, false, slice_get};
 ghost use Rattle.loom_operations.specs.declared.operation.Reply.TheVariants as reply;
-ghost use Rattle.loom_turns.specs.Histories.{entry};
+ghost use Rattle.loom_runner.specs.Histories.{entry};
 ghost use Rattle.loom_runner.specs.Tellings.{newcomer, with_open, failing, finishing, handed, spawning, ByStop, Closes, all_answered, is_memory, Leading};
 
 use crate::entries::{has_room, note, note_spawn, prepare};
@@ -12,9 +12,9 @@ use loom_copies::exact::Exact;
 use loom_operations::operation::{Reply, Request, ThreadOp};
 use loom_ops::thread::JoinHandle;
 use loom_turn_parts::calls::{allowed, last_of};
-use loom_turns::event::Entry;
-use loom_turns::stop::Stop;
-use loom_turns::told::Told;
+use loom_turn_parts::event::Entry;
+use loom_turn_parts::stop::Stop;
+use loom_turn_parts::told::Told;
 use std::alloc::{AllocError, Global};
 use std::marker::Model;
 use std::sync::{Arc, Wait};

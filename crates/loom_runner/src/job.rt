@@ -2,7 +2,7 @@
 use crate::calls::ask_once;
 use crate::handle::Handle;
 use loom_copies::exact::Exact;
-use loom_turns::stop::Stop;
+use loom_turn_parts::stop::Stop;
 use std::sync::Wait;
 
 /// What a spawned thread does (own). One that spawns others is a `Call` of a closure.

@@ -2,12 +2,12 @@
 use crate::error::RoundError;
 use crate::handle::Handle;
 use crate::job::Job;
+use crate::turns::Turns;
 use loom_copies::exact::Exact;
 use loom_operations::operation::{Reply, Request, ThreadOp};
 use loom_ops::thread::JoinHandle;
-use loom_turns::stop::Stop;
-use loom_turns::told::Told;
-use loom_turns::turns::Turns;
+use loom_turn_parts::stop::Stop;
+use loom_turn_parts::told::Told;
 use std::alloc::Global;
 use std::sync::{Arc, Condvar, Mutex, Wait};
 use std::thread;

@@ -12,7 +12,7 @@ use loom_model::model::Report;
 use loom_model::visitor::Visitor;
 use loom_parts::choice::Choice;
 use loom_runner::handle::Handle;
-use loom_turns::stop::Stop;
+use loom_turn_parts::stop::Stop;
 use std::alloc::{AllocError, Global};
 use std::sync::Wait;
 use std::thread::Threads;

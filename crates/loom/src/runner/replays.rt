@@ -7,7 +7,6 @@ ghost use Rattle.loom_path.specs.Routes.{IsAtStart};
 ghost use Rattle.loom.specs.Replays.{HasKept, Replays, ReplaysAlong};
 
 use crate::runner::error::RunnerError;
-use crate::runner::round::make_round;
 use loom_copies::exact::Exact;
 use loom_engine::rt::execution::Limits;
 use loom_model::builder::Builder;
@@ -16,8 +15,9 @@ use loom_model::visitor::Visitor;
 use loom_parts::choice::Choice;
 use loom_path::rt::path::Path;
 use loom_runner::handle::Handle;
+use loom_runner::round::make_round;
 use loom_turn_parts::rounds::Round;
-use loom_turns::stop::Stop;
+use loom_turn_parts::stop::Stop;
 use std::alloc::{AllocError, Global};
 use std::sync::Wait;
 use std::thread::Threads;

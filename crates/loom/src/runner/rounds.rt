@@ -6,7 +6,6 @@ ghost use Rattle.loom.specs.declared.runner.error.RunnerError.TheVariants.{Setti
 ghost use Rattle.loom.specs.Checks.{Reports, fresh_path};
 
 use crate::runner::error::RunnerError;
-use crate::runner::round::make_round;
 use loom_check_parts::paths::path_search;
 use loom_copies::exact::Exact;
 use loom_engine::rt::execution::Limits;
@@ -15,8 +14,9 @@ use loom_model::model::{Limit, Report};
 use loom_model::visitor::Visitor;
 use loom_path::rt::path::Path;
 use loom_runner::handle::Handle;
+use loom_runner::round::make_round;
 use loom_turn_parts::rounds::{After, comes_after};
-use loom_turns::stop::Stop;
+use loom_turn_parts::stop::Stop;
 use std::alloc::Global;
 use std::sync::Wait;
 use std::thread::Threads;

@@ -13,8 +13,8 @@ ghost use Rattle.loom_runs.specs.Machine as machine;
 ghost use Rattle.loom_path.specs.Routes.{Route, IsAtStart, IsSame, IsSameSearch, Says, Switches};
 ghost use Rattle.loom_operations.specs.Asked.{which_store};
 
+use crate::steps::{begin, end_run, enter_wait, read, resume};
 use loom_dependence::rt::dependence::{Dependence, Use};
-use loom_machine::steps::{begin, end_run, enter_wait, read, resume};
 use loom_objects::rt::run::{Entry, Passed, Resumed, RunState};
 use loom_operation_parts::ending::{may_end, record_end};
 use loom_operations::data::Data;

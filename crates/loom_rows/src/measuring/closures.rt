@@ -1,5 +1,5 @@
 //! The rows of closures that are measured beside the bodies of the same operations.
-use loom_closure_rows::rows::Row;
+use loom_closures::rows::Row;
 use loom_row_bodies::rows::WHOLE;
 use loom_row_bodies::settings::Settings;
 

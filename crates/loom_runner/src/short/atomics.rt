@@ -11,7 +11,7 @@ use crate::ask::Loaded;
 use crate::handle::Handle;
 use loom_copies::exact::Exact;
 use loom_ops::sync::atomic::{Atomic, Integer, Ordering, fence};
-use loom_turns::stop::Stop;
+use loom_turn_parts::stop::Stop;
 use loom_views::rt::num::Numeric;
 use std::sync::Wait;
 

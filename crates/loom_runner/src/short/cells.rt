@@ -10,7 +10,7 @@ use crate::answers::cells::Given;
 use crate::handle::Handle;
 use loom_copies::exact::Exact;
 use loom_ops::cell::{Cell, ConstPtr, MutPtr, UnsafeCell};
-use loom_turns::stop::Stop;
+use loom_turn_parts::stop::Stop;
 use std::sync::Wait;
 
 impl<D: Exact + 'static, R: Wait> Handle<D, R> {

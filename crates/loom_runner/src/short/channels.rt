@@ -9,7 +9,7 @@ use crate::answers::channels::{Drained, Received, Sent, TriedReceive, TryRecvErr
 use crate::handle::Handle;
 use loom_copies::exact::Exact;
 use loom_ops::sync::mpsc::{Receiver, Sender, channel};
-use loom_turns::stop::Stop;
+use loom_turn_parts::stop::Stop;
 use std::collections::LinkedList;
 use std::sync::Wait;
 

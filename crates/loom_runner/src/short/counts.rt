@@ -12,7 +12,7 @@ use crate::ask::Loaded;
 use crate::handle::Handle;
 use loom_copies::exact::Exact;
 use loom_ops::sync::Arc;
-use loom_turns::stop::Stop;
+use loom_turn_parts::stop::Stop;
 use std::sync::Wait;
 
 impl<D: Exact + 'static, R: Wait> Handle<D, R> {

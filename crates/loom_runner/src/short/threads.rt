@@ -6,7 +6,7 @@ ghost use Rattle.loom_operations.specs.declared.operation.ThreadOp.TheVariants a
 ghost use Rattle.loom_operations.specs.declared.operation.ExploreOp.TheVariants as explore_op;
 ghost use Rattle.loom_ops.specs.Threads.{thread_handle};
 ghost use Rattle.loom_operations.specs.declared.operation.Reply.TheVariants as reply;
-ghost use Rattle.loom_turns.specs.Histories.{entry};
+ghost use Rattle.loom_runner.specs.Histories.{entry};
 ghost use Rattle.loom_runner.specs.Tellings.{with_open, spawning, ByStop, all_answered};
 
 use crate::ask::Joined;
@@ -16,7 +16,7 @@ use crate::job::Call;
 use loom_copies::exact::Exact;
 use loom_ops::thread::{JoinHandle, Thread, current, park, yield_now};
 use loom_ops::{explore, skip_branch, stop_exploring};
-use loom_turns::stop::Stop;
+use loom_turn_parts::stop::Stop;
 use std::alloc::AllocError;
 use std::sync::Wait;
 use std::thread::Threads;

@@ -10,7 +10,7 @@ ghost use Rattle.loom_ops.specs.Notifiers.{notify_handle};
 use crate::handle::Handle;
 use loom_copies::exact::Exact;
 use loom_ops::sync::{Condvar, MutexGuard, Notify};
-use loom_turns::stop::Stop;
+use loom_turn_parts::stop::Stop;
 use std::sync::Wait;
 
 impl<D: Exact + 'static, R: Wait> Handle<D, R> {

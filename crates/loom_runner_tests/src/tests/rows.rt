@@ -1,6 +1,6 @@
 //! What the program prints of the rows that are closures.
 use crate::tests::holds;
-use loom_closure_rows::rows::{ROWS, Row, run_row};
+use loom_closures::rows::{ROWS, Row, run_row};
 use std::io;
 use std::process::Abort;
 use std::sync::Wait;

@@ -1,7 +1,7 @@
 use Rattle.std.proofs.Common.{◌∙◌, Bool, ap, refl, subst, sym}
 use Rattle.std.specs.Prelude.{IfOk}
 use Rattle.loom_operations.specs.Exploring.{initially}
-use Rattle.loom_round.specs.Ending.{IsLocated}
+use Rattle.loom_model.specs.Ending.{IsLocated}
 use Rattle.loom_model.proofs.builder.Builder.run.Goals as goal
 
 pub run-requires-clause-starts : goal.run-requires-clause-starts

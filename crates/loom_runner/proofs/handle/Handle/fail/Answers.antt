@@ -1,5 +1,5 @@
 use Rattle.std.proofs.Common.{◌≡◌, None}
-use Rattle.loom_turns.specs.Histories.{entry}
+use Rattle.loom_runner.specs.Histories.{entry}
 use Rattle.loom_runner.specs.Tellings.{failing}
 use Rattle.loom_runner.proofs.Remembering.{still_stopped, stops_new, pushed, remembers_stop}
 use Rattle.loom_runner.proofs.handle.Handle.fail.Goals as goal

@@ -1,5 +1,5 @@
 use Rattle.std.proofs.Common.{◌≡◌, ◌∙◌, ◌++◌, ◌∷◌, [], ap, Some}
-use Rattle.loom_turns.specs.Histories.{entry}
+use Rattle.loom_runner.specs.Histories.{entry}
 use Rattle.loom_runner.proofs.Remembering.{closes_first, closes_second, closes_both}
 use Rattle.loom_runner.proofs.handle.Handle.finish.Goals as goal
 

@@ -1,6 +1,6 @@
 use Rattle.std.proofs.Common.{◌≡◌, None, Some}
 use Rattle.loom_operations.specs.declared.operation.Reply.TheVariants as reply
-use Rattle.loom_turns.specs.Histories.{entry}
+use Rattle.loom_runner.specs.Histories.{entry}
 use Rattle.loom_runner.specs.Tellings.{spawning}
 use Rattle.loom_runner.proofs.Remembering.{still_stopped, stops_new, pushed, remembers_reply, remembers_stop}
 use Rattle.loom_runner.proofs.handle.Handle.spawn_job.Goals as goal

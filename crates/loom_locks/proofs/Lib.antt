@@ -1,2 +1,0 @@
-pub mod Rousing
-pub mod Claiming

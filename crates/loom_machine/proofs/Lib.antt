@@ -1,2 +1,0 @@
-mod Replying
-mod Stepping

@@ -1,0 +1,5 @@
+pub mod Rousing
+pub mod Claiming
+mod Taking
+mod Accessing
+mod Slots
