@@ -19,18 +19,19 @@ from pathlib import Path
 
 CRATES = Path(__file__).resolve().parent.parent / "crates"
 # where to begin, and how many lines there may be to read
-BEGINNING = ["loom_model/specs/Beginning.antt", "loom_runs/specs/Runs.antt"], 1500
-WITH_A_PATH = ["loom_model/specs/Check.antt"], 2000
+BEGINNING = ["loom/specs/Model/Fresh.antt", "loom_engine/specs/Runs/Body.antt"], 1500
+WITH_A_PATH = ["loom/specs/Model/Check.antt"], 2000
 # what each operation does to the state of the machine, and that state
 RULES = {
     f"loom_objects/specs/{name}.antt"
     for name in [
-        "Atomics", "Cells", "Channels", "Condvars", "Counts", "Effects", "Ending", "Leaks", "Locks", "Lookup",
-        "Moves", "Notifiers", "Rule", "RwLocks", "Schedules", "Steps", "Threads", "Tracks", "Turns", "Uses", "Values",
-        "Wakers", "World",
+        "Rules/Alloc", "Rules/Arc", "Rules/Atomic", "Rules/Cell", "Rules/Condvar", "Rules/Ending", "Rules/FirstLeak",
+        "Rules/Leaks", "Rules/Locals", "Rules/Moves", "Rules/Mpsc", "Rules/Mutex", "Rules/Notify", "Rules/Replied",
+        "Rules/Rule", "Rules/RwLock", "Rules/Steps", "Rules/Tables", "Rules/Thread", "Rules/Uses", "Rules/Waker",
+        "Scene/Lookup", "Schedule/Defaults", "Schedule/Offers", "Lent", "World",
     ]
-} | {f"loom_parts/specs/{name}.antt" for name in ["Defaults", "Leaks", "Lent"]}
-RULES |= {"loom_dependence/specs/Depends.antt", "loom_operations/specs/Exploring.antt", "loom_view_parts/specs/Graph.antt"}
+}
+RULES |= {"loom_objects/specs/Dependence/Depends.antt", "loom_objects/specs/Exploring.antt", "loom_views/specs/Graph.antt"}
 # the operations of one kind of object each: a body's runs hand them on to those rules
 OPERATIONS = re.compile(r"^(?!Op$)\w+Op$|^Exchange$|^Change$|^Numbers$")
 # how the code keeps the nodes of a path and the state of a run

@@ -1,2 +1,9 @@
-pub mod Making
-pub mod Reporting
+pub mod Closures
+pub mod Copies
+pub mod ExplainLemmas
+pub mod History
+pub mod ModelLemmas
+pub mod Rounds
+pub mod RunnerLemmas
+pub mod Saving
+pub mod Turns

@@ -1,3 +1,3 @@
-pub mod Errors
-pub mod Checks
-pub mod Replays
+pub mod Explain
+pub mod Model
+pub mod Runner

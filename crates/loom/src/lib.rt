@@ -1,15 +1,41 @@
-//! Loom explores the interleavings of concurrent code: a test is run once for each choice of the scheduled thread that the search
-//! tries, and what a complete check has made is a stated set of runs. This crate is the face, which programs use, and tests of
-//! closures: everything stands under loom's paths. A test is a body, which `model` checks, or closures on real threads, which
-//! `runner` checks. Checks of bodies are handed on from `loom_model`.
+//! Checks of bodies (`model`) and of closures on threads of the host (`runner`): every run that the memory model allows is made,
+//! or those that a reduced or bounded search has to make. `explain` tells one run, `checkpoint` keeps how far a check came, and
+//! `choices` are the choices of a run as a text.
 #![tactic(auto)]
 
+pub mod checkpoint;
+pub mod choices;
+pub mod explain;
+pub mod laws;
+pub mod model;
 pub mod runner;
 
-pub use loom_model::{
-    Body, CheckpointStore, Choice, Choices, ChoicesError, Clock, Data, Exchange, Failure,
-    FailureKind, FileStore, Label, Labelled, Location, MAX_THREADS, MemoryStore, NoClock, Numeric,
-    Op, ParseChoiceError, Reply, Request, ShownChoices, StoreError, Text, Turn, alloc, builder,
-    cell, checkpoint, env, error, explain, explore, fail, future, hint, laws, lazy_static, model,
-    rising, rt, skip_branch, stop_exploring, sync, text_literal, thread, unexpected_reply, visitor,
+pub use crate::checkpoint::file::FileStore;
+pub use crate::checkpoint::memory::MemoryStore;
+pub use crate::checkpoint::store::{CheckpointStore, StoreError};
+pub use crate::choices::{Choices, ChoicesError, ShownChoices};
+pub use crate::model::clock::{Clock, NoClock};
+pub use loom_objects::body::Body;
+pub use loom_objects::choice::{Choice, ParseChoiceError};
+pub use loom_objects::data::Data;
+pub use loom_objects::failure::Failure;
+pub use loom_objects::label::Label;
+pub use loom_objects::location::Location;
+pub use loom_objects::operation::{Exchange, Labelled, Op, Reply, Request, Turn};
+pub use loom_objects::text::Text;
+pub use loom_objects::text_literal;
+pub use loom_ops::{
+    alloc, cell, explore, fail, future, hint, lazy_static, skip_branch, stop_exploring, sync,
+    thread, unexpected_reply,
 };
+pub use loom_views::rt::MAX_THREADS;
+pub use loom_views::rt::failure::FailureKind;
+pub use loom_views::rt::num::Numeric;
+
+/// The parts of a run, public for their contracts' sake.
+pub mod rt {
+    pub use loom_engine::rt::execution;
+    pub use loom_engine::rt::path::{self, node};
+    pub use loom_objects::location;
+    pub use loom_objects::rt::{dependence, run};
+}

@@ -1,21 +1,32 @@
 //! Checks of closures, each of which runs on a thread of the host (own): one run after another.
+
+pub mod after;
+pub mod checks;
+pub mod closures;
+pub mod copies;
 pub mod defaults;
 pub mod error;
+pub mod exact;
+pub mod handle;
+pub mod history;
+pub mod job;
 pub mod replays;
-pub mod rounds;
+pub mod run;
+pub mod shared;
+pub mod stop;
+pub mod turns;
 
+pub use crate::runner::error::RoundError;
+pub use crate::runner::exact::Exact;
+pub use crate::runner::handle::Handle;
+pub use crate::runner::history::event::{Entry, Event, Outcome};
+pub use crate::runner::history::told::Told;
+pub use crate::runner::job::{Call, Job};
+pub use crate::runner::stop::Stop;
+pub use crate::runner::turns::Turns;
+pub use checks::check;
 pub use defaults::{Nobody, model};
 pub use error::RunnerError;
-pub use loom_copies::exact::Exact;
-pub use loom_runner::answers::channels::TryRecvError;
-pub use loom_runner::ask::Answer;
-pub use loom_runner::error::RoundError;
-pub use loom_runner::handle::Handle;
-pub use loom_runner::job::{Call, Job};
-pub use loom_runner::turns::Turns;
-pub use loom_runner::{answers, ask};
-pub use loom_turn_parts::event::{Entry, Event, Outcome};
-pub use loom_turn_parts::stop::Stop;
-pub use loom_turn_parts::told::Told;
+pub use loom_ops::answers::answer::Answer;
+pub use loom_ops::answers::mpsc::TryRecvError;
 pub use replays::replay;
-pub use rounds::check;

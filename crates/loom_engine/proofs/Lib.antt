@@ -1,4 +1,8 @@
-pub mod Executing
-pub mod Growing
-mod Replying
-mod Stepping
+pub mod Asking
+pub mod Checkpoint
+pub mod Execution
+pub mod Nodes
+pub mod Path
+pub mod Runs
+pub mod Trees
+pub mod Walk

@@ -1,28 +1,42 @@
+-- How a run ends.
 -- One execution: the run so far, and whether it is over.
-use Rattle.std.specs.Prelude.{ℕ, ◌≡◌, ◌⊎◌, true, Option, Some, None, Result, Ok, Err, ⊤}
-use Rattle.loom_view_parts.specs.declared.rt.failure.FailureKind.TheVariants.{Misuse}
-use Rattle.loom_view_parts.specs.declared.rt.failure.FailureKind.{FailureKind}
-use Rattle.loom_operations.specs.declared.failure.Stop.{Stop}
-use Rattle.loom_operations.specs.declared.failure.Stop.TheVariants.{Failure, Memory}
-use Rattle.loom_operations.specs.declared.operation.Request.{Request}
-use Rattle.loom_operations.specs.declared.operation.Reply.TheVariants.{ReadLocked}
-use Rattle.loom_operations.specs.declared.operation.Turn.{Turn}
-use Rattle.loom_operations.specs.declared.operation.Turn.TheVariants.{Reply, Start, Ended}
-use Rattle.loom_objects.specs.Effects.{needs_memory}
-use Rattle.loom_operations.specs.Exploring.{is_on}
-use Rattle.loom_operations.specs.Tree.{Tree, Gives, Fails}
-use Rattle.loom_objects.specs.Shown.{Shows}
+use Rattle.std.specs.Prelude.{Bool, true, false, ⊤, Option, Some, None, Result, Ok, Err, ℕ, ◌≡◌, ◌⊎◌}
+use Rattle.loom_views.specs.declared.rt.failure.FailureKind.{FailureKind}
+use Rattle.loom_views.specs.declared.rt.failure.FailureKind.TheVariants.{Deadlock, Misuse, NotDeterministic}
+use Rattle.loom_objects.specs.declared.failure.Stop.{Stop}
+use Rattle.loom_objects.specs.declared.failure.Stop.TheVariants.{Failure, Memory}
+use Rattle.loom_objects.specs.declared.operation.Turn.{Turn}
+use Rattle.loom_objects.specs.declared.operation.Turn.TheVariants.{Reply, Start, Ended}
+use Rattle.loom_objects.specs.declared.operation.Request.{Request}
+use Rattle.loom_objects.specs.declared.operation.Reply.TheVariants.{ReadLocked}
+use Rattle.loom_objects.specs.Rules.Tables.{needs_memory}
+use Rattle.loom_objects.specs.Exploring.{is_on}
+use Rattle.loom_objects.specs.Tree.Tree.{Tree, Gives, Fails}
+use Rattle.loom_objects.specs.Scene.Shown.{Shows}
 use Rattle.loom_objects.specs.World.{World}
 use Rattle.loom_objects.specs.declared.rt.run.Entry.{Entry}
-use Rattle.loom_dependence.specs.Dependence.{Order}
-use Rattle.loom_dependence.specs.declared.rt.dependence.Dependence.{Dependence}
-use Rattle.loom_dependence.specs.Shown.{ShowsOrder}
+use Rattle.loom_objects.specs.Dependence.Order.{Order}
+use Rattle.loom_objects.specs.declared.rt.dependence.Dependence.{Dependence}
+use Rattle.loom_objects.specs.Dependence.Shown.{ShowsOrder}
 use Rattle.loom_engine.specs.declared.rt.execution.Progress.{Progress}
 use Rattle.loom_objects.specs.declared.rt.run.Passed.{Passed}
-use Rattle.loom_objects.specs.Steps.{begins, resumes}
-use Rattle.loom_runs.specs.Courses.{Course, carried, grown_from, unordered_in}
-use Rattle.loom_runs.specs.Machine.{submit}
-use Rattle.loom_path.specs.Routes.{Route, trail, drives, Backtracks, Grows}
+use Rattle.loom_objects.specs.Rules.Steps.{begins, resumes}
+use Rattle.loom_engine.specs.Runs.Course.{Course, carried, grown_from, unordered_in}
+use Rattle.loom_engine.specs.Runs.Machine.{submit}
+use Rattle.loom_engine.specs.Path.Route.{Route, trail, drives, Backtracks, Grows}
+
+-- a run in which no thread can go on ends if all have ended and its path is used up
+abbrev pub may_end : Bool → Bool → Result ⊤ FailureKind
+may_end false is_used_up = Err Deadlock
+may_end true false = Err NotDeterministic
+may_end true true = Ok tt
+
+-- what every further operation is answered: after the end Misuse, after a stop the same stop
+abbrev pub kept_after : {D : Type 0} → Result (Turn D) Stop → Option Stop
+kept_after (Ok (Reply thread reply)) = None
+kept_after (Ok (Start thread)) = None
+kept_after (Ok (Ended value)) = Some (Failure (record { kind = Misuse; location = None }))
+kept_after (Err stop) = Some stop
 
 -- the run so far, and what every further operation is answered once the run is over
 pub record ExecutionState (D : Type 0) : Type 0 where

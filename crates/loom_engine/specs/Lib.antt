@@ -1,3 +1,6 @@
+pub mod Checkpoint
 pub mod Execution
-pub mod Copies
-pub mod Replies
+pub mod Path
+pub mod Runs
+pub mod Trees
+pub mod Walk

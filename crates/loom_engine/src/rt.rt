@@ -1,2 +1,4 @@
-//! The execution of a run.
+//! The execution of a run, and the path of its choices.
+
 pub mod execution;
+pub mod path;

@@ -1,1 +1,4 @@
-pub mod Spin
+pub mod Bodies
+pub mod Measured
+pub mod Rows
+pub mod Scripts

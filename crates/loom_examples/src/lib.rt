@@ -1,5 +1,5 @@
-//! Four bodies to read and to begin with, each in a right form and a wrong one: a spin lock, a ring for one producer and one
-//! consumer, Peterson's lock, and a queue with a condition variable. The first is a thread with states, the others are scripts.
+//! Bodies with a name: scripts, the tables of rows that the program, the tests and the documents use, and the bodies and closures
+//! of the guide.
 #![tactic(auto)]
 
 // The label of an operation that makes an object of this name.
@@ -12,9 +12,10 @@ macro_rules! named {
     };
 }
 
-pub(crate) use named;
+pub mod bodies;
+pub mod closures;
+pub mod measured;
+pub mod rows;
+pub mod scripts;
 
-pub mod peterson;
-pub mod queue;
-pub mod ring;
-pub mod spin;
+pub(crate) use named;

@@ -1,5 +1,8 @@
-pub mod Lists
-pub mod Keyed
-pub mod Showing
-pub mod Offering
-pub mod Finding
+pub mod Cells
+pub mod Dependence
+pub mod Machine
+pub mod Scene
+pub mod Stages
+pub mod Sync
+pub mod Threads
+pub mod Values

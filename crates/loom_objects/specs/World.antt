@@ -1,8 +1,8 @@
 -- The state of the machine.
 use Rattle.std.specs.Prelude.{ℕ, false, List, [], ◌∷◌, Option, Some, None}
-use Rattle.loom_operations.specs.declared.operation.Name.{Name}
-use Rattle.loom_views.specs.Table.{Points, opening as first_points}
-use Rattle.loom_operations.specs.declared.operation.Lazy.{Lazy}
+use Rattle.loom_objects.specs.declared.operation.Name.{Name}
+use Rattle.loom_views.specs.Views.{Points, opening as first_points}
+use Rattle.loom_objects.specs.declared.operation.Lazy.{Lazy}
 use Rattle.loom_objects.specs.declared.rt.object.Object.{Object}
 use Rattle.loom_objects.specs.declared.rt.thread.Thread.{Thread}
 use Rattle.loom_objects.specs.declared.rt.thread.State.TheVariants.{Runnable}

@@ -1,11 +1,16 @@
-//! The scene of threads and objects on which operations work. The rules of the machine stand in `specs/`, a file for each
-//! kind of object: what an operation does when it is handed over, and when its thread is chosen. The scene's methods are the
-//! moves of which effects are made. It uses `loom_parts` for what is small, `loom_dependence` for accesses and `loom_views`
-//! for views; operations, replies and bodies are those of `loom_operations`, which it hands on. The crates of effects
-//! (`loom_cells`, `loom_sync` and `loom_threads`) work on the scene, and all above speak of it.
+//! The machine below a path: operations, replies and bodies (`operation`, `body`), the scene of threads and objects on which
+//! operations work (`rt::scene`), and what each operation does to it. The rules stand in `specs/Rules`, a file for each kind of
+//! object, and the functions that keep them in `rt`, a module for each kind. `rt::dependence` has the order of accesses, and
+//! `rt::machine` chooses among the functions by what is handed over.
 #![tactic(auto)]
 
+pub mod body;
+pub mod choice;
+pub mod data;
+pub mod failure;
+pub mod label;
+pub mod laws;
+pub mod location;
+pub mod operation;
 pub mod rt;
-
-pub use loom_operations::{body, data, failure, operation};
-pub use loom_parts::choice;
+pub mod text;

@@ -1,8 +1,8 @@
 -- An assertion that fails at a reply that a body doesn't know.
 use Rattle.std.specs.Prelude.{Some, None, codes}
-use Rattle.loom_operations.specs.Labels.{Op}
-use Rattle.loom_operations.specs.declared.operation.Request.TheVariants.{Fail}
-use Rattle.loom_parts.specs.Texts.{first_text}
+use Rattle.loom_objects.specs.Operation.Labelled.{Op}
+use Rattle.loom_objects.specs.declared.operation.Request.TheVariants.{Fail}
+use Rattle.loom_objects.specs.Text.{first_text}
 
 -- its label says so
 abbrev pub unexpected : {D S : Type 0} → Op D S

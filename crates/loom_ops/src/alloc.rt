@@ -1,9 +1,9 @@
 //! Tracked values: what a run leaves behind of them is a leak.
 ghost use Rattle.std.specs.Prelude.{◌≡◌, None};
-ghost use Rattle.loom_ops.specs.Tracks.{track_handle};
-ghost use Rattle.loom_operations.specs.Labels.{bare};
+ghost use Rattle.loom_ops.specs.Alloc.{track_handle};
+ghost use Rattle.loom_objects.specs.Operation.Labelled.{bare};
 
-use loom_operations::operation::{Op, Reply, Request, TrackOp};
+use loom_objects::operation::{Op, Reply, Request, TrackOp};
 
 /// A value that the run must drop, or take out, before it ends, else it fails as `LeakTrack` (loom's `alloc.rs`). A handle
 /// that is dropped does nothing.

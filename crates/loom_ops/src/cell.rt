@@ -1,9 +1,9 @@
 //! Cells: data that threads read and write, where accesses that meet fail the run.
 ghost use Rattle.std.specs.Prelude.{◌≡◌, None};
-ghost use Rattle.loom_ops.specs.Cells.{cell_handle, unsafe_cell_handle, reader_handle, reader_taken, writer_handle, writer_taken, written_in};
-ghost use Rattle.loom_operations.specs.Labels.{bare};
+ghost use Rattle.loom_ops.specs.Cell.{cell_handle, unsafe_cell_handle, reader_handle, reader_taken, writer_handle, writer_taken, written_in};
+ghost use Rattle.loom_objects.specs.Operation.Labelled.{bare};
 
-use loom_operations::operation::{CellOp, Op, Reply, Request};
+use loom_objects::operation::{CellOp, Op, Reply, Request};
 
 /// A cell of the run, whose accesses each begin and end by an operation (loom's `cell/unsafe_cell.rs`).
 #[derive(Clone, Copy, Debug)]

@@ -1,12 +1,12 @@
 //! Futures: a thread waits until a waker of its future notifies it. The body polls, in place of a future.
 ghost use Rattle.std.specs.Prelude.{◌≡◌, None};
-ghost use Rattle.loom_ops.specs.Wakers.{block_on_handle, waker_handle};
-ghost use Rattle.loom_operations.specs.Labels.{bare};
+ghost use Rattle.loom_ops.specs.Waker.{block_on_handle, waker_handle};
+ghost use Rattle.loom_objects.specs.Operation.Labelled.{bare};
 
 pub mod atomic_waker;
 
 pub use crate::future::atomic_waker::AtomicWaker;
-use loom_operations::operation::{Op, Reply, Request, WakerOp};
+use loom_objects::operation::{Op, Reply, Request, WakerOp};
 
 /// What drives a future to its end: make it and poll; while the future is pending, wait and poll again; then finish (loom's
 /// `block_on` in `future/mod.rs`).

@@ -1,10 +1,10 @@
 //! Hints to the processor, of which a run makes operations.
 ghost use Rattle.std.specs.Prelude.{◌≡◌, None};
-ghost use Rattle.loom_ops.specs.Threads.{yielding};
-ghost use Rattle.loom_operations.specs.Labels.{bare};
+ghost use Rattle.loom_ops.specs.Thread.{yielding};
+ghost use Rattle.loom_objects.specs.Operation.Labelled.{bare};
 
 use crate::thread;
-use loom_operations::operation::{Op, Request};
+use loom_objects::operation::{Op, Request};
 
 /// The thread yields, as by `thread::yield_now` (loom's `hint.rs`).
 pub fn spin_loop<D, S>() -> Op<D, S>

@@ -1,9 +1,9 @@
 //! Values that are made once a run.
 ghost use Rattle.std.specs.Prelude.{◌≡◌, Some, None, codes};
-ghost use Rattle.loom_operations.specs.Labels.{bare};
+ghost use Rattle.loom_objects.specs.Operation.Labelled.{bare};
 
 pub use crate::thread::{AccessError, yield_now};
-use loom_operations::operation::{LazyOp, Op, Request};
+use loom_objects::operation::{LazyOp, Op, Request};
 use std::fmt;
 
 /// A value that is made once a run, by the first thread that gives it (loom's `lazy_static.rs`). In loom it has a function that

@@ -1,12 +1,12 @@
 //! The handles of a run, under loom's paths: each method makes an operation, and no handle does more. A body makes its
 //! operations by them, and reads a reply by `from_reply`. `sync`, `cell`, `thread`, `future`, `lazy_static`, `alloc` and
-//! `hint` are loom's modules. `answers` says what replies hold for the closures that have asked. It uses the operations of `loom_operations` alone. `loom` hands its modules on, and the bodies of
-//! `loom_row_bodies` and `loom_tests` are written with it.
+//! `hint` are loom's modules. `answers` says what replies hold for the closures that have asked. It uses the operations of
+//! `loom_objects` alone. `loom` hands its modules on, and the bodies of `loom_examples` and `loom_tests` are written with it.
 #![tactic(auto)]
 
 ghost use Rattle.std.specs.Prelude.{◌≡◌, None};
 ghost use Rattle.loom_ops.specs.Failing.{unexpected};
-ghost use Rattle.loom_operations.specs.Labels.{bare};
+ghost use Rattle.loom_objects.specs.Operation.Labelled.{bare};
 
 pub mod alloc;
 pub mod answers;
@@ -17,7 +17,7 @@ pub mod lazy_static;
 pub mod sync;
 pub mod thread;
 
-use loom_operations::operation::{ExploreOp, Op, Request};
+use loom_objects::operation::{ExploreOp, Op, Request};
 
 /// The body's own assertion failed, which ends the run (own).
 pub fn fail<D, S>() -> Op<D, S>

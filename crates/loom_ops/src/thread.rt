@@ -1,15 +1,24 @@
 //! Threads: how they begin and how they end, who they are, how they let others go first, and their own values.
 ghost use Rattle.std.specs.Prelude.{◌≡◌, Some, None, codes};
 ghost use Rattle.std.specs.Option.{option_map};
-ghost use Rattle.loom_ops.specs.Threads.{access_error, join_handle, leave, thread_handle, named};
-ghost use Rattle.loom_operations.specs.Labels.{bare};
-ghost use Rattle.loom_parts.specs.Texts.{first_text, shown};
+ghost use Rattle.loom_objects.specs.Text.{shown, first_text};
+ghost use Rattle.loom_ops.specs.Thread.{access_error, join_handle, leave, thread_handle, named};
+ghost use Rattle.loom_objects.specs.Operation.Labelled.{bare};
 
-use crate::fail;
-use loom_operation_parts::threads;
-use loom_operations::operation::{LocalOp, Name, Op, Reply, Request, ThreadOp};
-use loom_parts::text::Text;
+use crate::{fail, thread};
+use loom_objects::operation::{LocalOp, Name, Op, Reply, Request, ThreadOp};
+use loom_objects::text::Text;
 use std::fmt;
+
+/// What is kept of a thread's name, if it was given one (own).
+pub fn text_of(name: &Option<Name>) -> Option<&str>
+    ensures { option_map (λ name. name.now) result ≡ option_map (λ name. shown name.text) name.now }
+{
+    match name {
+        Some(name) => Some(name.text.as_str()),
+        None => None,
+    }
+}
 
 /// A thread that was spawned, and the notifier that it notifies when it finishes (loom's `thread.rs`).
 #[derive(Clone, Copy, Debug)]
@@ -151,7 +160,7 @@ impl Thread {
     pub fn name(&self) -> Option<&str>
         ensures { option_map (λ name. name.now) result ≡ option_map (λ name. shown name.text) self.now.name }
     {
-        threads::text_of(&self.name)
+        thread::text_of(&self.name)
     }
 
     /// The thread goes on if it is parked, and else has a token, by which it isn't parked the next time; it has one at most

@@ -5,10 +5,10 @@ use crate::machine::Machine;
 use crate::numbers::{cast, changed};
 use crate::state::{Access, Becoming, Kind, Object, Step, Store, Update};
 use crate::stores::{KEPT, Reader, are_orders_equal, is_seen, kept, readable, store_in};
-use loom_operations::operation::{AtomicOp, Reply};
-use loom_parts::choice::Choice;
-use loom_view_parts::rt::failure::FailureKind;
-use loom_view_parts::rt::num::Numbers;
+use loom_objects::choice::Choice;
+use loom_objects::operation::{AtomicOp, Reply};
+use loom_views::rt::failure::FailureKind;
+use loom_views::rt::num::Numbers;
 use std::sync::atomic::Ordering;
 
 // What an access has read.

@@ -2,8 +2,8 @@
 use crate::halt::Told;
 use crate::machine::Machine;
 use crate::state::{Access, Accessed, Kind, Object};
-use loom_operations::operation::{CellOp, Reply};
-use loom_view_parts::rt::failure::FailureKind;
+use loom_objects::operation::{CellOp, Reply};
+use loom_views::rt::failure::FailureKind;
 
 // Whether an access of this kind conflicts with an earlier one of that kind.
 fn conflicts(access: Access, earlier: Access) -> bool {

@@ -3,8 +3,8 @@ use crate::dependence::Action;
 use crate::halt::Told;
 use crate::machine::Machine;
 use crate::state::{Kind, Message, Object, Receiving, State, Step};
-use loom_operations::operation::{ChannelOp, Reply};
-use loom_view_parts::rt::failure::FailureKind;
+use loom_objects::operation::{ChannelOp, Reply};
+use loom_views::rt::failure::FailureKind;
 use std::collections::LinkedList;
 use std::mem;
 

@@ -2,9 +2,9 @@
 use crate::halt::Told;
 use crate::machine::Machine;
 use crate::memory::push;
-use loom_operations::operation::{ExploreOp, Reply};
-use loom_parts::choice::Choice;
-use loom_view_parts::rt::failure::FailureKind;
+use loom_objects::choice::Choice;
+use loom_objects::operation::{ExploreOp, Reply};
+use loom_views::rt::failure::FailureKind;
 
 /// What could be chosen: the default is the first that is there. Where a thread is chosen, the first is the default, and the
 /// option of a thread of this number, if it isn't the default, has the place behind its number.

@@ -3,8 +3,8 @@ use crate::dependence::Action;
 use crate::halt::Told;
 use crate::machine::Machine;
 use crate::state::{Claim, Kind, State, Step};
-use loom_operations::operation::{CondvarOp, Reply};
-use loom_view_parts::rt::failure::FailureKind;
+use loom_objects::operation::{CondvarOp, Reply};
+use loom_views::rt::failure::FailureKind;
 
 impl Machine {
     /// An operation of a condition variable is handed over.

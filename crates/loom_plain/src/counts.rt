@@ -3,8 +3,8 @@ use crate::dependence::Action;
 use crate::halt::Told;
 use crate::machine::Machine;
 use crate::state::{Counting, Kind, Step};
-use loom_operations::operation::{ArcOp, Reply, TrackOp};
-use loom_view_parts::rt::failure::FailureKind;
+use loom_objects::operation::{ArcOp, Reply, TrackOp};
+use loom_views::rt::failure::FailureKind;
 
 impl Machine {
     /// An operation of a counted reference is handed over.

@@ -2,7 +2,7 @@
 use crate::machine::Machine;
 use crate::memory::push;
 use crate::run::Reversal;
-use loom_view_parts::rt::failure::FailureKind;
+use loom_views::rt::failure::FailureKind;
 
 /// What an operation does to its object, as far as others depend on it.
 #[derive(Clone, Copy, PartialEq, Eq)]

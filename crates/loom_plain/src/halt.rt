@@ -1,5 +1,5 @@
 //! Why no runs are found.
-use loom_operations::operation::Reply;
+use loom_objects::operation::Reply;
 
 /// Why no runs are found.
 #[derive(Clone, Copy)]

@@ -3,8 +3,8 @@ use crate::dependence::Action;
 use crate::halt::Told;
 use crate::machine::Machine;
 use crate::state::{Claim, Kind, State, Step};
-use loom_operations::operation::{MutexOp, Reply, RwLockOp};
-use loom_view_parts::rt::failure::FailureKind;
+use loom_objects::operation::{MutexOp, Reply, RwLockOp};
+use loom_views::rt::failure::FailureKind;
 
 impl Claim {
     // Whether who takes the lock so reads.

@@ -6,10 +6,10 @@ use crate::halt::{Halt, Told};
 use crate::memory::push;
 use crate::run::{PlainRun, Settings};
 use crate::state::{Object, Pending, State, Step, Thread};
-use loom_operations::operation::Lazy;
-use loom_parts::choice::Choice;
-use loom_view_parts::rt::failure::FailureKind;
-use loom_view_parts::sequence::Sequence;
+use loom_objects::choice::Choice;
+use loom_objects::operation::Lazy;
+use loom_views::rt::failure::FailureKind;
+use loom_views::sequence::Sequence;
 use std::alloc::Global;
 
 /// What few moves of a run change. It stands apart, since each method of the machine has all fields of that in its meaning.

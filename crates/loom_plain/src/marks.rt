@@ -3,7 +3,7 @@ use crate::choices::Made;
 use crate::halt::Halt;
 use crate::memory::push;
 use crate::run::{PlainRun, Reversal, Settings};
-use loom_parts::choice::Choice;
+use loom_objects::choice::Choice;
 use std::alloc::Global;
 
 impl Made {

@@ -3,9 +3,9 @@ use crate::dependence::Action;
 use crate::halt::Told;
 use crate::machine::Machine;
 use crate::state::{Kind, State, Step};
-use loom_operations::operation::{NotifyOp, Reply};
-use loom_parts::choice::Choice;
-use loom_view_parts::rt::failure::FailureKind;
+use loom_objects::choice::Choice;
+use loom_objects::operation::{NotifyOp, Reply};
+use loom_views::rt::failure::FailureKind;
 
 impl Machine {
     /// An operation of a notifier is handed over.

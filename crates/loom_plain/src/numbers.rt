@@ -1,6 +1,6 @@
 //! What the numbers of atomics are, as 64 bits.
-use loom_view_parts::rt::change::Change;
-use loom_view_parts::rt::num::Numbers;
+use loom_views::rt::num::Numbers;
+use loom_views::rt::num::change::Change;
 
 // Whether the type has negative numbers.
 fn is_signed(numbers: Numbers) -> bool {

@@ -4,8 +4,8 @@ use crate::halt::Told;
 use crate::machine::Machine;
 use crate::memory::push;
 use crate::state::{Kind, Object, State, Step};
-use loom_operations::operation::Reply;
-use loom_view_parts::rt::failure::FailureKind;
+use loom_objects::operation::Reply;
+use loom_views::rt::failure::FailureKind;
 
 impl Object {
     // What is left of it that has to be given back.

@@ -5,11 +5,11 @@ use crate::halt::{Halt, Told};
 use crate::machine::{Machine, Rest};
 use crate::memory::push;
 use crate::state::{Kind, Object, State, Step, Thread};
-use loom_operations::body::Body;
-use loom_operations::operation::{Reply, Request};
-use loom_parts::choice::Choice;
-use loom_view_parts::rt::failure::FailureKind;
-use loom_view_parts::sequence::Sequence;
+use loom_objects::body::Body;
+use loom_objects::choice::Choice;
+use loom_objects::operation::{Reply, Request};
+use loom_views::rt::failure::FailureKind;
+use loom_views::sequence::Sequence;
 use std::alloc::Global;
 use std::mem;
 

@@ -4,8 +4,8 @@ use crate::halt::Halt;
 use crate::marks::{mark_all, push_alternatives};
 use crate::memory::push;
 use crate::run::{Ending, PlainRun, Settings, run};
-use loom_operations::body::Body;
-use loom_parts::choice::Choice;
+use loom_objects::body::Body;
+use loom_objects::choice::Choice;
 use std::alloc::Global;
 
 /// A run of the set.

@@ -1,8 +1,8 @@
 //! What threads and objects are.
 use crate::dependence::Action;
-use loom_operations::operation::Name;
-use loom_view_parts::rt::change::Change;
-use loom_view_parts::rt::num::Numbers;
+use loom_objects::operation::Name;
+use loom_views::rt::num::Numbers;
+use loom_views::rt::num::change::Change;
 use std::alloc::Global;
 use std::collections::LinkedList;
 use std::sync::atomic::Ordering;

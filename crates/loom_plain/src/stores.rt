@@ -2,7 +2,7 @@
 use crate::choices::Options;
 use crate::graph::Graph;
 use crate::state::Store;
-use loom_parts::choice::Choice;
+use loom_objects::choice::Choice;
 use std::sync::atomic::Ordering;
 
 /// How many stores of an atomic are kept: the last ones. The slot of a store is the rest of its number by that.

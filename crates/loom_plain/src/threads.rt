@@ -4,8 +4,8 @@ use crate::halt::Told;
 use crate::machine::Machine;
 use crate::memory::push;
 use crate::state::{Kind, Phase, State, Step, Thread};
-use loom_operations::operation::{Name, Reply, ThreadOp};
-use loom_view_parts::rt::failure::FailureKind;
+use loom_objects::operation::{Name, Reply, ThreadOp};
+use loom_views::rt::failure::FailureKind;
 
 impl Machine {
     /// An operation of threads is handed over.

@@ -2,9 +2,9 @@
 use crate::halt::Told;
 use crate::machine::Machine;
 use crate::state::{Local, Phase};
-use loom_operations::operation::{Keyed, Lazy, LazyOp, LocalOp, Reply};
-use loom_view_parts::rt::failure::FailureKind;
-use loom_view_parts::sequence::Sequence;
+use loom_objects::operation::{Keyed, Lazy, LazyOp, LocalOp, Reply};
+use loom_views::rt::failure::FailureKind;
+use loom_views::sequence::Sequence;
 use std::mem;
 
 impl Machine {

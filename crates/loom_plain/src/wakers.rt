@@ -3,8 +3,8 @@ use crate::dependence::Action;
 use crate::halt::Told;
 use crate::machine::Machine;
 use crate::state::{AfterDrop, Kind, Step};
-use loom_operations::operation::{AtomicWakerOp, Reply, WakerOp};
-use loom_view_parts::rt::failure::FailureKind;
+use loom_objects::operation::{AtomicWakerOp, Reply, WakerOp};
+use loom_views::rt::failure::FailureKind;
 
 // What is told of a waker that was taken out of its place.
 fn waker_reply(waker: Option<usize>) -> Reply<u64> {

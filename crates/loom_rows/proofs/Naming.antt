@@ -3,9 +3,9 @@ use Rattle.std.proofs.Common.{ℕ, ◌≡◌, List, [], ◌∷◌, Bool, true, f
 use Rattle.std.specs.Option.{option_map}
 use Rattle.std.specs.Prelude.{Option, Some, Result, Ok, Err, IfOk}
 use Rattle.std.specs.Str.{bytes_eq}
-use Rattle.loom_row_parts.specs.declared.measured.Measured.{Measured}
-use Rattle.loom_row_parts.specs.Measured.{Named, named}
-use Rattle.loom_row_tables.specs.Measured.{all, body_of}
+use Rattle.loom_examples.specs.declared.measured.Measured.{Measured}
+use Rattle.loom_examples.specs.Measured.Body.{Named, named}
+use Rattle.loom_examples.specs.Measured.Table.{all, body_of}
 use Rattle.loom_rows.specs.Measures.{named_by, PrintedBody, PrintedNamed}
 
 -- what is chosen of two

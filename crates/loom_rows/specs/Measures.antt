@@ -3,13 +3,13 @@ use Rattle.std.specs.Prelude.{ℕ, ◌≡◌, List, ◌++◌, Option, Some, code
 use Rattle.std.specs.Io.KnownBytes.{Appends}
 use Rattle.std.specs.List.{find}
 use Rattle.std.specs.Str.{bytes_eq}
-use Rattle.loom_model.specs.declared.model.Report.{Report}
-use Rattle.loom_row_bodies.specs.Builders.{builder_of}
-use Rattle.loom_row_bodies.specs.Line.{report_text, status_of}
-use Rattle.loom_row_bodies.specs.Rows.{ReportsScript}
-use Rattle.loom_row_parts.specs.Measured.{Named}
-use Rattle.loom_row_tables.specs.Measured.{all, body_of}
-use Rattle.loom_row_parts.specs.declared.measured.Measured.{Measured}
+use Rattle.loom.specs.declared.model.report.Report.{Report}
+use Rattle.loom_examples.specs.Rows.Builder.{builder_of}
+use Rattle.loom_examples.specs.Rows.Line.{report_text, status_of}
+use Rattle.loom_examples.specs.Rows.Printed.{ReportsScript}
+use Rattle.loom_examples.specs.Measured.Body.{Named}
+use Rattle.loom_examples.specs.Measured.Table.{all, body_of}
+use Rattle.loom_examples.specs.declared.measured.Measured.{Measured}
 
 -- the line that is printed: the name, and the text of a report
 abbrev pub line_of : List ℕ → Report → List ℕ

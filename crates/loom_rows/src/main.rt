@@ -1,15 +1,15 @@
 //! The program: it prints what a check of a named row finds, a check with rising bounds, or a run by given choices, and may keep a
 //! checkpoint in a file. The row's name is its first word but for options, and the file the next one, if there is one. The rows,
-//! the words and the printed lines stand in `loom_row_bodies`, and the rows that are closures, which have no file and no options,
-//! in `loom_closures`. Tests stand in `loom_tests` and `loom_runner_tests`. By `--tour` the program takes a first look at a row
+//! the words and the printed lines stand in `loom_examples::rows`, and the rows that are closures, which have no file and no options,
+//! in `loom_examples::closures`. Tests stand in `loom_tests`. By `--tour` the program takes a first look at a row
 //! and at the bodies of `loom_examples`. By `--measure` it checks bodies again and again, and prints how long that took.
 #![tactic(auto)]
 
 mod measuring;
 mod tour;
 
-use loom_closures::rows::{Row, run_row};
-use loom_row_bodies::words;
+use loom_examples::closures::rows::{Row, run_row};
+use loom_examples::rows::words;
 use std::env;
 use std::io::{self, Write};
 use std::process::ExitCode;

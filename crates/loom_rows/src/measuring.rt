@@ -1,21 +1,20 @@
-//! Measures checks: prints what each finds, and on standard error how long it took. `loom_row_tables` lists what is measured, by
-//! name, with its settings. It checks these bodies by `loom_model`, and those of `closures` by `loom::runner`. docs/BENCHMARKS.md has
+//! Measures checks: prints what each finds, and on standard error how long it took. `loom_examples::measured` lists what is measured, by
+//! name, with its settings. It checks these bodies by `loom::model`, and those of `closures` by `loom::runner`. docs/BENCHMARKS.md has
 //! what it found.
 ghost use Rattle.std.specs.Prelude.{◌≡◌, ◌⊎◌, ◌-◌, ◌*◌, ◌/◌, ◌^◌, IfOk, IfSome, min, max};
 ghost use Rattle.std.specs.Duration.{as_nanos};
-ghost use Rattle.loom_row_bodies.specs.Builders.{builder_of};
-ghost use Rattle.loom_row_bodies.specs.Rows.{ReportsScript};
+ghost use Rattle.loom_examples.specs.Rows.Builder.{builder_of};
+ghost use Rattle.loom_examples.specs.Rows.Printed.{ReportsScript};
 ghost use Rattle.loom_rows.specs.Measures.{PrintedBody, PrintedLine, PrintedNamed};
 
 mod closures;
 
 use crate::measuring::closures::{Closures, closures_of};
-use loom_model::model::Report;
-use loom_row_bodies::line::{self, ShownReport};
-use loom_row_bodies::settings::Builds;
-use loom_row_parts::measured::Measured;
-use loom_row_tables::measured::{all_bodies, body_of};
-use loom_scripts::script::Script;
+use loom::model::Report;
+use loom_examples::measured::{Measured, all_bodies, body_of};
+use loom_examples::rows::line::{self, ShownReport};
+use loom_examples::rows::settings::Builds;
+use loom_examples::scripts::script::Script;
 use std::io::{self, Write};
 use std::rt::{Clock, Files};
 use std::sync::Wait;

@@ -1,12 +1,13 @@
 //! A first look: checks of the four bodies of `loom_examples`, each right and wrong. Of a failure the story of the run is printed. The
 //! ring and the queue are checked with few preemptions, since the whole reduced search of them is long.
 use loom::Body;
-use loom::model::{Builder, Report};
+use loom::model::Report;
+use loom::model::builder::Builder;
 use loom::sync::atomic::Ordering::{Relaxed, Release};
-use loom_examples::spin::Spin;
-use loom_examples::{peterson, queue, ring};
-use loom_scripts::script::Script;
-use loom_scripts::step::Step;
+use loom_examples::bodies::spin::Spin;
+use loom_examples::bodies::{peterson, queue, ring};
+use loom_examples::scripts::script::Script;
+use loom_examples::scripts::step::Step;
 use std::io::Write;
 use std::rt::Files;
 

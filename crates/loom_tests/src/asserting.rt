@@ -1,7 +1,7 @@
 //! What a test asserts, and scripts that it has memory for. A call of one of these costs the proof less than an assertion where
 //! it stands.
-use loom_scripts::script::Script;
-use loom_scripts::step::Step;
+use loom_examples::scripts::script::Script;
+use loom_examples::scripts::step::Step;
 use std::process::Abort;
 
 /// The script of these steps.

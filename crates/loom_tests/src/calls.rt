@@ -14,9 +14,9 @@ mod wakers;
 
 use crate::asserting::same;
 use crate::page::Page;
-use loom_model::lazy_static::Lazy;
-use loom_model::sync::Arc;
-use loom_model::thread::{AccessError, LocalKey, ThreadId};
+use loom::lazy_static::Lazy;
+use loom::sync::Arc;
+use loom::thread::{AccessError, LocalKey, ThreadId};
 use loom_views::rt::num::Numeric;
 use std::process::Abort;
 

@@ -2,9 +2,9 @@
 //! compared.
 use crate::asserting::{holds, same};
 use crate::page::Page;
-use loom_checkpoint::error::PathError;
-use loom_checkpoint::text::{from_text, to_text};
-use loom_path::rt::path::{Path, Search};
+use loom_engine::rt::path::checkpoint::error::PathError;
+use loom_engine::rt::path::checkpoint::text::{from_text, to_text};
+use loom_engine::rt::path::{Path, Search};
 use std::alloc::Global;
 use std::process::Abort;
 

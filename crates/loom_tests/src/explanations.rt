@@ -14,11 +14,11 @@ use crate::explanations::bodies::misuses::{
 use crate::explanations::bodies::races::{BESIDE, MUTATED, OPEN, SPIN, THREE, UNRELEASED};
 use crate::explanations::bodies::values::{AFTER_EXIT, AFTER_MAIN, MADE_TWICE};
 use crate::page::Page;
-use loom_model::Choice;
-use loom_model::choices::Choices;
-use loom_model::model::Builder;
-use loom_scripts::script::Script;
-use loom_scripts::step::Step;
+use loom::Choice;
+use loom::choices::Choices;
+use loom::model::builder::Builder;
+use loom_examples::scripts::script::Script;
+use loom_examples::scripts::step::Step;
 use std::alloc::Global;
 use std::process::Abort;
 

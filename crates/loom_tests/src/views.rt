@@ -6,10 +6,10 @@ use crate::views::Call::{
     MarkYield, Raise, Read, Readable, Release, ReleaseFence, ReleaseToStamp, Spawn, Stamp, Store,
     UnsyncLoad, UpdateFail, UpdateRead, UpdateWrite, WithMut, WithMutEnd, Write,
 };
-use loom_views::rt::atomic::Reader::{self, Load as Any, Update};
-use loom_views::rt::change::Change;
+use loom_views::rt::atomic::reader::Reader::{self, Load as Any, Update};
+use loom_views::rt::num::change::Change;
 use loom_views::rt::num::{Numbers, Numeric};
-use loom_views::rt::table::Views;
+use loom_views::rt::views::Views;
 use loom_views::rt::vv::VersionVec;
 use std::process::Abort;
 use std::sync::atomic::Ordering::{self, Relaxed};

@@ -1,14 +1,2 @@
-pub mod Loops
-pub mod SlotNumbers
-pub mod SlotSets
-pub mod Shown
-pub mod Accesses
-pub mod Choices
-pub mod Growth
-pub mod Fences
-pub mod Table
-pub mod Sweeping
-pub mod Rows
-pub mod SomeReadable
-pub mod TableLaws
-pub mod Reaching
+pub mod Atomic
+pub mod Views

@@ -1,12 +1,12 @@
 //! Laws of views, of the vectors that show them, and of the choice of a store: that the definitions mean what one expects of a
 //! memory model. A law is the contract of a function that does nothing; it is stated in `specs/Laws`, `specs/Reaching` or
 //! `specs/Moves`, and what the layers above need too in `specs/Kept`.
-ghost use Rattle.loom_views.specs.Ends.{EndLaw};
-ghost use Rattle.loom_views.specs.Examples.{ExampleLaw};
-ghost use Rattle.loom_views.specs.Kept.{KeepingLaw, SlotsStayLaw};
-ghost use Rattle.loom_views.specs.Reaching.{StayingLaw, BeginningLaw, UnreachedLaw};
-ghost use Rattle.loom_views.specs.Moves.{AddingLaw, RecordedLaw, BesideLaw, OrderLaw};
-ghost use Rattle.loom_views.specs.Laws.{PastLaw, ReachingLaw, CountLaw, ComparingLaw, EqualLaw, StandingLaw, ReadableLaw, OfferingLaw, LoadingLaw, UpdatingLaw, RacingLaw, FencingLaw, MovesAsAcqRel, GlobalLaw};
+ghost use Rattle.loom_views.specs.Laws.Ends.{EndLaw};
+ghost use Rattle.loom_views.specs.Laws.Examples.{ExampleLaw};
+ghost use Rattle.loom_views.specs.Laws.Kept.{KeepingLaw, SlotsStayLaw};
+ghost use Rattle.loom_views.specs.Laws.Reaching.{StayingLaw, BeginningLaw, UnreachedLaw};
+ghost use Rattle.loom_views.specs.Laws.Moves.{AddingLaw, RecordedLaw, BesideLaw, OrderLaw};
+ghost use Rattle.loom_views.specs.Laws.Views.{PastLaw, ReachingLaw, CountLaw, ComparingLaw, EqualLaw, StandingLaw, ReadableLaw, OfferingLaw, LoadingLaw, UpdatingLaw, RacingLaw, FencingLaw, MovesAsAcqRel, GlobalLaw};
 
 /// That a chain of edges leads from one point to another can be found by one sweep from the newest point down (own).
 pub fn past_is_reaching()

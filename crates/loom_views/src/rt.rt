@@ -1,7 +1,15 @@
 //! What a run is made of, as far as it needs no threads.
-pub mod atomic;
-pub mod table;
 
-pub use loom_view_parts::rt::{
-    MAX_ATOMIC_HISTORY, MAX_THREADS, cell, change, failure, num, synchronize, vv,
-};
+pub mod atomic;
+pub mod cell;
+pub mod failure;
+pub mod num;
+pub mod synchronize;
+pub mod views;
+pub mod vv;
+
+/// The most threads that a run may have, main included.
+pub const MAX_THREADS: usize = 5;
+
+/// The most stores of an atomic that are kept.
+pub const MAX_ATOMIC_HISTORY: usize = 7;

@@ -1,18 +1,18 @@
 //! Checks of closures with defaults.
 ghost use Rattle.std.specs.Prelude.{◌≡◌, IfOk};
 ghost use Rattle.std.specs.Fn.{CalledAtMut};
-ghost use Rattle.loom_model.specs.Settings.{defaults};
-ghost use Rattle.loom.specs.Checks.{Reports};
+ghost use Rattle.loom.specs.Model.Settings.{defaults};
+ghost use Rattle.loom.specs.Runner.Check.{Reports};
 
+use crate::model::builder::Builder;
+use crate::model::report::Report;
+use crate::model::visitor::Visitor;
+use crate::runner::checks::check;
 use crate::runner::error::RunnerError;
-use crate::runner::rounds::check;
-use loom_copies::exact::Exact;
-use loom_model::builder::Builder;
-use loom_model::model::Report;
-use loom_model::visitor::Visitor;
-use loom_parts::choice::Choice;
-use loom_runner::handle::Handle;
-use loom_turn_parts::stop::Stop;
+use crate::runner::exact::Exact;
+use crate::runner::handle::Handle;
+use crate::runner::stop::Stop;
+use loom_objects::choice::Choice;
 use std::alloc::{AllocError, Global};
 use std::sync::Wait;
 use std::thread::Threads;

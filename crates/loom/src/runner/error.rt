@@ -1,10 +1,32 @@
-//! Why a check of closures gives no report.
+//! Why a check of closures gives no report, and why a run of them wasn't made.
 ghost use Rattle.std.specs.Prelude.{◌≡◌};
-ghost use Rattle.loom.specs.Errors.{number_of};
+ghost use Rattle.loom.specs.Runner.Errors.{error_by, number_of};
 
-use loom_model::error::CheckError;
-use loom_runner::error::RoundError;
+use crate::model::error::CheckError;
+use crate::runner::stop::Stop;
 use thiserror::Error;
+
+/// Why a run of closures wasn't made (own).
+#[derive(Clone, Copy, Debug, PartialEq, Eq, Error)]
+pub enum RoundError {
+    #[error("the host refused to start a thread")]
+    Refused,
+    #[error("what the closures were told is not the history of the run")]
+    NotSettled,
+    #[error("out of memory")]
+    Memory,
+}
+
+/// The error of a run that stopped so, and not by an event (own).
+pub fn error_by(stop: Stop) -> RoundError
+    ensures { result ≡ error_by stop }
+{
+    match stop {
+        Stop::Failure(_) => RoundError::NotSettled,
+        Stop::Memory => RoundError::Memory,
+        Stop::Refused => RoundError::Refused,
+    }
+}
 
 /// Why a check of closures gives no report (own).
 #[derive(Clone, Copy, Debug, PartialEq, Eq, Error)]
@@ -44,7 +66,7 @@ impl From<CheckError> for RunnerError {
 }
 
 impl From<RoundError> for RunnerError {
-    ghost use Rattle.loom.specs.Errors.{of_round};
+    ghost use Rattle.loom.specs.Runner.Errors.{of_round};
 
     ghost from_gives = { λ why e. e ≡ of_round why };
 

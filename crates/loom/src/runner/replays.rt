@@ -1,23 +1,23 @@
 //! One run of closures, by given choices.
 ghost use Rattle.std.specs.Prelude.{◌≡◌, ◌≤◌, Some, Err, IfErr, IfOk};
 ghost use Rattle.std.specs.Fn.{CalledAtMut};
-ghost use Rattle.loom_model.specs.Settings.{tested};
+ghost use Rattle.loom.specs.Model.Settings.{tested};
 ghost use Rattle.loom.specs.declared.runner.error.RunnerError.TheVariants.{Settings};
-ghost use Rattle.loom_path.specs.Routes.{IsAtStart};
-ghost use Rattle.loom.specs.Replays.{HasKept, Replays, ReplaysAlong};
+ghost use Rattle.loom_engine.specs.Path.Route.{IsAtStart};
+ghost use Rattle.loom.specs.Runner.Replay.{HasKept, Replays, ReplaysAlong};
 
+use crate::model::Replay;
+use crate::model::builder::Builder;
+use crate::model::visitor::Visitor;
+use crate::runner::after::Round;
 use crate::runner::error::RunnerError;
-use loom_copies::exact::Exact;
+use crate::runner::exact::Exact;
+use crate::runner::handle::Handle;
+use crate::runner::run::make_round;
+use crate::runner::stop::Stop;
 use loom_engine::rt::execution::Limits;
-use loom_model::builder::Builder;
-use loom_model::model::Replay;
-use loom_model::visitor::Visitor;
-use loom_parts::choice::Choice;
-use loom_path::rt::path::Path;
-use loom_runner::handle::Handle;
-use loom_runner::round::make_round;
-use loom_turn_parts::rounds::Round;
-use loom_turn_parts::stop::Stop;
+use loom_engine::rt::path::Path;
+use loom_objects::choice::Choice;
 use std::alloc::{AllocError, Global};
 use std::sync::Wait;
 use std::thread::Threads;

@@ -1,29 +1,55 @@
-ghost use Rattle.std.specs.Prelude.{Bool, ◌≡◌, ◌≢◌, ◌≤◌, ◌+◌, ◌<◌, Err, Some, None, true, slice_get, IfOk, OnOk};
+//! The execution of a run, and how it ends.
+ghost use Rattle.std.specs.Prelude.{◌≡◌, None, Bool, ◌≢◌, ◌≤◌, ◌+◌, ◌<◌, Err, Some, true, slice_get, IfOk, OnOk};
+ghost use Rattle.loom_engine.specs.Execution.{may_end, kept_after, Notes, ShowsCourse, IsMarked, Starts, takes_turn, Along, AllNeedMemory, MayBeRefused, Submits, itself};
 ghost use Rattle.std.specs.List.{Contains};
-ghost use Rattle.loom_parts.specs.declared.choice.Choice.{Choice};
-ghost use Rattle.loom_runs.specs.Courses.{Course, opening, used_in};
-ghost use Rattle.loom_engine.specs.Execution.{Notes, ShowsCourse, IsMarked, Starts, takes_turn, Along, AllNeedMemory, MayBeRefused, Submits, itself};
-ghost use Rattle.loom_dependence.specs.Shown.{ShowsOrder};
-ghost use Rattle.loom_objects.specs.Effects.{needs_memory};
-ghost use Rattle.loom_operations.specs.Exploring.{is_on};
-ghost use Rattle.loom_objects.specs.Shown.{Shows};
-ghost use Rattle.loom_objects.specs.Uses.{use_at};
+ghost use Rattle.loom_objects.specs.declared.choice.Choice.{Choice};
+ghost use Rattle.loom_engine.specs.Runs.Course.{Course, opening, used_in};
+ghost use Rattle.loom_objects.specs.Dependence.Shown.{ShowsOrder};
+ghost use Rattle.loom_objects.specs.Rules.Tables.{needs_memory};
+ghost use Rattle.loom_objects.specs.Exploring.{is_on};
+ghost use Rattle.loom_objects.specs.Scene.Shown.{Shows};
+ghost use Rattle.loom_objects.specs.Rules.Uses.{use_at};
 ghost use Rattle.loom_objects.specs.World.{World};
-ghost use Rattle.loom_runs.specs.Machine as machine;
-ghost use Rattle.loom_path.specs.Routes.{Route, IsAtStart, IsSame, IsSameSearch, Says, Switches};
-ghost use Rattle.loom_operations.specs.Asked.{which_store};
+ghost use Rattle.loom_engine.specs.Runs.Machine as machine;
+ghost use Rattle.loom_engine.specs.Path.Route.{Route, IsAtStart, IsSame, IsSameSearch, Says, Switches};
+ghost use Rattle.loom_objects.specs.Tree.Asked.{which_store};
 
-use crate::steps::{begin, end_run, enter_wait, read, resume};
-use loom_dependence::rt::dependence::{Dependence, Use};
+use crate::rt::path::Path;
+use loom_objects::data::Data;
+use loom_objects::failure::{Stop, failed};
+use loom_objects::operation::{ExploreOp, Reply, Request, Turn};
+use loom_objects::rt::dependence::{Dependence, Use};
+use loom_objects::rt::machine::{begin, end_run, enter_wait, read, resume};
 use loom_objects::rt::run::{Entry, Passed, Resumed, RunState};
-use loom_operation_parts::ending::{may_end, record_end};
-use loom_operations::data::Data;
-use loom_operations::failure::{Stop, failed};
-use loom_operations::operation::{ExploreOp, Reply, Request, Turn};
-use loom_path::rt::path::Path;
 use loom_views::rt::failure::FailureKind;
 use std::alloc::{AllocError, Global};
 use std::marker::Model;
+
+/// Whether a run may end in which no thread can go on, or why it fails: a thread hasn't ended, or the path goes on (loom's
+/// `rt/execution.rs`).
+pub fn may_end(all_ended: bool, is_used_up: bool) -> Result<(), FailureKind>
+    ensures { result ≡ may_end all_ended is_used_up }
+{
+    if !all_ended {
+        return Err(FailureKind::Deadlock);
+    }
+    if !is_used_up {
+        return Err(FailureKind::NotDeterministic);
+    }
+    Ok(())
+}
+
+/// Keeps what every operation after this answer is answered, if the run is over by it (own).
+pub fn record_end<D>(over: &mut Option<Stop>, answer: &Result<Turn<D>, Stop>)
+    requires { over.old ≡ None }
+    ensures { over.new ≡ kept_after answer.now }
+{
+    match answer {
+        Ok(Turn::Ended(_)) => *over = Some(failed(FailureKind::Misuse)),
+        Ok(Turn::Reply(..)) | Ok(Turn::Start(_)) => {}
+        Err(stop) => *over = Some(*stop),
+    }
+}
 
 // as many as a path may have nodes: the path refuses the next one before this is used up
 const FURTHER_BRANCHES: u32 = 1_000_000;

@@ -1,12 +1,26 @@
-ghost use Rattle.std.specs.Prelude.{◌≡◌, ◌≤◌, IfOk};
-ghost use Rattle.loom_objects.specs.Shown.{Shows};
+//! Where a run is, and how its operations are counted.
+ghost use Rattle.std.specs.Prelude.{◌≡◌, ◌+◌, nat_lt, true, false, ◌≤◌, IfOk};
+ghost use Rattle.loom_objects.specs.Scene.Shown.{Shows};
 ghost use Rattle.loom_objects.specs.World.{MAX_THREADS, opening};
 
+use crate::data::Data;
+use crate::operation::{AtomicOp, ExploreOp, Reply, Turn};
 use crate::rt::scene::Scene;
-use loom_operations::data::Data;
-use loom_operations::operation::{AtomicOp, ExploreOp, Reply, Turn};
 use loom_views::rt::MAX_ATOMIC_HISTORY;
 use std::alloc::{AllocError, Global};
+
+/// One operation is counted, of so many that are left. False where none is; then nothing changes (own).
+pub fn take_step(left: &mut usize) -> bool
+    ensures result { result ≡ nat_lt 0 left.old }
+    ensures counted { result ≡ true → left.old ≡ left.new + 1 }
+    ensures same { result ≡ false → left.new ≡ left.old }
+{
+    if *left == 0 {
+        return false;
+    }
+    *left -= 1;
+    true
+}
 
 /// What comes of an operation when it is handed over.
 #[derive(Drop)]

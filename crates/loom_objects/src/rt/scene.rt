@@ -1,37 +1,52 @@
+mod lookup;
+pub mod offers;
+pub mod pending;
+pub mod uses;
+pub mod values;
+pub mod views;
+
 ghost use Rattle.std.specs.Prelude.{ℕ, ◌≡◌, ◌++◌, ◌∷◌, [], ◌<◌, ◌≤◌, None, Some, Ok, Err, IfOk, IfSome, OnOk, OnErr, length, map, slice_get};
 ghost use Rattle.std.specs.Borrow.{sem};
-ghost use Rattle.loom_objects.specs.Lookup.{now_of, shown_of};
-ghost use Rattle.loom_objects.specs.Lookup as lookup;
-ghost use Rattle.loom_objects.specs.Moves as moves;
-ghost use Rattle.loom_objects.specs.Scene.{world_of};
-ghost use Rattle.loom_objects.specs.SceneBorrowing.{lends_in_scene};
+ghost use Rattle.loom_objects.specs.Scene.Lookup.{now_of, shown_of};
+ghost use Rattle.loom_objects.specs.Scene.Lookup as lookup;
+ghost use Rattle.loom_objects.specs.Rules.Moves as moves;
+ghost use Rattle.loom_objects.specs.Scene.Stage.{world_of};
+ghost use Rattle.loom_objects.specs.Scene.Lends.{lends_in_scene};
 ghost use Rattle.loom_objects.specs.World.{MAX_THREADS, main_thread, opening};
-ghost use Rattle.loom_views.specs.Table.{Points, ShowsViews, opening as first_points};
-ghost use Rattle.loom_objects.specs.contracts.rt.sync.Atomic as atomic_row;
-ghost use Rattle.loom_objects.specs.contracts.rt.sync.Mutex as mutex_row;
-ghost use Rattle.loom_objects.specs.contracts.rt.sync.RwLock as rwlock_row;
-ghost use Rattle.loom_objects.specs.contracts.rt.sync.Condvar as condvar_row;
-ghost use Rattle.loom_objects.specs.contracts.rt.sync.Notify as notifier_row;
-ghost use Rattle.loom_objects.specs.contracts.rt.sync.Cell as cell_row;
-ghost use Rattle.loom_objects.specs.contracts.rt.sync.Arc as arc_row;
-ghost use Rattle.loom_objects.specs.contracts.rt.sync.Track as track_row;
-ghost use Rattle.loom_objects.specs.contracts.rt.sync.Channel as channel_row;
-ghost use Rattle.loom_objects.specs.contracts.rt.sync.Wakers as wakers_row;
-ghost use Rattle.loom_objects.specs.contracts.rt.sync.AtomicWaker as place_row;
+ghost use Rattle.loom_views.specs.Views.{Points, ShowsViews, opening as first_points};
+ghost use Rattle.loom_objects.specs.contracts.rt.atomic.Atomic as atomic_row;
+ghost use Rattle.loom_objects.specs.contracts.rt.mutex.Mutex as mutex_row;
+ghost use Rattle.loom_objects.specs.contracts.rt.rwlock.RwLock as rwlock_row;
+ghost use Rattle.loom_objects.specs.contracts.rt.condvar.Condvar as condvar_row;
+ghost use Rattle.loom_objects.specs.contracts.rt.notify.Notify as notifier_row;
+ghost use Rattle.loom_objects.specs.contracts.rt.cell.Cell as cell_row;
+ghost use Rattle.loom_objects.specs.contracts.rt.arc.Arc as arc_row;
+ghost use Rattle.loom_objects.specs.contracts.rt.alloc.Track as track_row;
+ghost use Rattle.loom_objects.specs.contracts.rt.mpsc.Channel as channel_row;
+ghost use Rattle.loom_objects.specs.contracts.rt.waker.Wakers as wakers_row;
+ghost use Rattle.loom_objects.specs.contracts.rt.atomic_waker.AtomicWaker as place_row;
 
-use crate::rt::lookup::{
+use crate::operation::{Lazy, Reply, Turn};
+use crate::rt::alloc::Track;
+use crate::rt::arc::Arc;
+use crate::rt::atomic::Atomic;
+use crate::rt::atomic_waker::AtomicWaker;
+use crate::rt::cell::Cell;
+use crate::rt::condvar::Condvar;
+use crate::rt::mpsc::Channel;
+use crate::rt::mutex::Mutex;
+use crate::rt::notify::Notify;
+use crate::rt::object::Object;
+use crate::rt::run::{Passed, Resumed};
+use crate::rt::rwlock::RwLock;
+use crate::rt::scene::lookup::{
     arc_in_mut, atomic_in_mut, cell_in_mut, channel_in_mut, condvar_in_mut, mutex_in_mut,
     notifier_in_mut, place_in_mut, rwlock_in_mut, track_in_mut, wakers_in_mut,
 };
-use crate::rt::object::Object;
-use crate::rt::run::{Passed, Resumed};
-use crate::rt::sync::{
-    Arc, Atomic, AtomicWaker, Cell, Channel, Condvar, Mutex, Notify, RwLock, Track, Wakers,
-};
 use crate::rt::thread::{Phase, State, Task, Thread};
-use loom_operations::operation::{Lazy, Reply, Turn};
+use crate::rt::waker::Wakers;
 use loom_views::rt::failure::FailureKind;
-use loom_views::rt::table::Views;
+use loom_views::rt::views::Views;
 use loom_views::sequence::Sequence;
 use std::alloc::{AllocError, Global};
 use std::marker::Model;
@@ -57,7 +72,7 @@ pub struct Scene<D> {
 
 impl<D> Model for Scene<D> {
     ghost use Rattle.std.specs.Prelude.{◌<◌, ◌≤◌, length};
-    ghost use Rattle.loom_objects.specs.Scene.{Stage};
+    ghost use Rattle.loom_objects.specs.Scene.Stage.{Stage};
     ghost use Rattle.loom_objects.specs.World.{MAX_THREADS};
 
     ghost Value = { Stage D };

@@ -1,9 +1,12 @@
+pub mod life;
+pub mod park;
+
 ghost use Rattle.std.specs.Prelude.{◌≡◌};
 ghost use Rattle.loom_objects.specs.World.{main_thread};
 
-pub use loom_operations::operation::Name;
-use loom_operations::operation::{AtomicOp, Keyed, Message};
-pub use loom_parts::ability::Ability;
+pub use crate::operation::Name;
+use crate::operation::{AtomicOp, Keyed, Message};
+pub use crate::rt::schedule::Ability;
 use loom_views::sequence::Sequence;
 use std::alloc::Global;
 use std::collections::LinkedList;

@@ -1,14 +1,14 @@
 //! What a reply holds for the closure that has asked for it.
 ghost use Rattle.std.specs.Prelude.{◌≡◌, Option};
-ghost use Rattle.loom_operations.specs.declared.operation.Reply.{Reply};
-ghost use Rattle.loom_ops.specs.Held.{done_in, guard_in, tried_in, joined_in, loaded_in, exchanged_in};
-ghost use Rattle.loom_ops.specs.Atomics.{atomic_handle};
-ghost use Rattle.loom_ops.specs.Locks.{mutex_handle};
+ghost use Rattle.loom_objects.specs.declared.operation.Reply.{Reply};
+ghost use Rattle.loom_ops.specs.Answers.{done_in, guard_in, tried_in, joined_in, loaded_in, exchanged_in};
+ghost use Rattle.loom_ops.specs.Atomic.{atomic_handle};
+ghost use Rattle.loom_ops.specs.Mutex.{mutex_handle};
 
 use crate::sync::atomic::Atomic;
-use crate::sync::{Mutex, MutexGuard};
-use loom_operations::operation::Reply;
-use loom_view_parts::rt::num::Numeric;
+use crate::sync::mutex::{Mutex, MutexGuard};
+use loom_objects::operation::Reply;
+use loom_views::rt::num::Numeric;
 
 /// What a closure is answered in place of a reply (own).
 pub trait Answer<D>: Sized {

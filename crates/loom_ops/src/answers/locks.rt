@@ -1,11 +1,12 @@
 //! What the replies to operations of read-write locks and condition variables hold.
 ghost use Rattle.std.specs.Prelude.{◌≡◌};
-ghost use Rattle.loom_ops.specs.Condvars.{condvar_handle};
-ghost use Rattle.loom_ops.specs.RwLocks.{rwlock_handle, read_guard_taken, write_guard_taken};
+ghost use Rattle.loom_ops.specs.Condvar.{condvar_handle};
+ghost use Rattle.loom_ops.specs.RwLock.{rwlock_handle, read_guard_taken, write_guard_taken};
 
 use crate::answers::answer::Answer;
-use crate::sync::{Condvar, RwLock, RwLockReadGuard, RwLockWriteGuard};
-use loom_operations::operation::Reply;
+use crate::sync::condvar::Condvar;
+use crate::sync::rwlock::{RwLock, RwLockReadGuard, RwLockWriteGuard};
+use loom_objects::operation::Reply;
 
 impl<D: Drop> Answer<D> for RwLock {
     ghost held = { rwlock_handle };

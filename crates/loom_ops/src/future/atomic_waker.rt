@@ -1,10 +1,10 @@
 //! Places for wakers: one thread registers its waker, and another takes it out to wake it.
 ghost use Rattle.std.specs.Prelude.{◌≡◌, None};
-ghost use Rattle.loom_ops.specs.Wakers.{place_handle};
-ghost use Rattle.loom_operations.specs.Labels.{bare};
+ghost use Rattle.loom_ops.specs.Waker.{place_handle};
+ghost use Rattle.loom_objects.specs.Operation.Labelled.{bare};
 
 use crate::future::Waker;
-use loom_operations::operation::{AtomicWakerOp, Op, Reply, Request};
+use loom_objects::operation::{AtomicWakerOp, Op, Reply, Request};
 
 /// A place for a waker, with a lock (loom's `future/atomic_waker.rs`).
 #[derive(Clone, Copy, Debug)]

@@ -1,9 +1,9 @@
 //! Counted references.
 ghost use Rattle.std.specs.Prelude.{◌≡◌, ◌==◌, None};
-ghost use Rattle.loom_ops.specs.Counts.{arc_handle};
-ghost use Rattle.loom_operations.specs.Labels.{bare};
+ghost use Rattle.loom_ops.specs.Arc.{arc_handle};
+ghost use Rattle.loom_objects.specs.Operation.Labelled.{bare};
 
-use loom_operations::operation::{ArcOp, Op, Reply, Request};
+use loom_objects::operation::{ArcOp, Op, Reply, Request};
 
 /// A counted reference of the run (loom's `sync/arc.rs`). The references that were made and not dropped are counted, not the
 /// handles: a handle that is copied or dropped does nothing. Where some are left at the run's end, it fails as `LeakArc`.

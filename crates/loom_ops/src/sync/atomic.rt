@@ -1,17 +1,24 @@
 //! Atomics: numbers that threads load and store without waiting for one another.
 ghost use Rattle.std.specs.Prelude.{◌≡◌, None};
+ghost use Rattle.loom_objects.specs.Operation.Labelled.{bare};
 ghost use Rattle.std.specs.Option.{option_map};
-ghost use Rattle.loom_ops.specs.Atomics.{atomic_handle, value_in, exchange, exchanged_in, update, fetched_in};
-ghost use Rattle.loom_ops.specs.Threads.{yielding};
-ghost use Rattle.loom_operations.specs.Labels.{bare};
+ghost use Rattle.loom_ops.specs.Atomic.{atomic_handle, value_in, exchange, exchanged_in, update, fetched_in};
+ghost use Rattle.loom_ops.specs.Thread.{yielding};
 
+use crate::sync::atomic;
 use crate::thread;
-use loom_operation_parts::atomics;
-use loom_operations::operation::{AtomicOp, Exchange, Op, Reply, Request};
-use loom_view_parts::rt::change::Change;
-use loom_view_parts::rt::num::Numeric;
+use loom_objects::operation::{AtomicOp, Exchange, Op, Reply, Request};
+use loom_views::rt::num::Numeric;
+use loom_views::rt::num::change::Change;
 use std::marker::PhantomData;
 pub use std::sync::atomic::Ordering;
+
+/// Ends the thread's mutation of the atomic of this number, which leaves this value (loom's `sync/atomic/int.rs`).
+pub fn with_mut_end<T: Numeric, D, S>(number: usize, value: T) -> Op<D, S>
+    ensures { result ≡ bare (Request.Atomic (AtomicOp.WithMutEnd number (T.number value))) }
+{
+    Op::new(Request::Atomic(AtomicOp::WithMutEnd(number, value.into_u64())))
+}
 
 /// An atomic of the run, which holds a `T` (loom's `sync/atomic/atomic.rs`).
 #[derive(Clone, Copy, Debug)]
@@ -277,7 +284,7 @@ impl<T: Integer> Atomic<T> {
     pub fn with_mut_end<D, S>(self, value: T) -> Op<D, S>
         ensures { result ≡ bare (Request.Atomic (AtomicOp.WithMutEnd self.number (T.number value))) }
     {
-        atomics::with_mut_end(self.number, value)
+        atomic::with_mut_end(self.number, value)
     }
 
     /// Adds, by the lowest bits of the type, and replies the value before (loom's `sync/atomic/int.rs`).

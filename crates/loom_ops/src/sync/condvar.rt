@@ -1,11 +1,19 @@
 //! Condition variables: threads sleep on them until others notify.
 ghost use Rattle.std.specs.Prelude.{◌≡◌, None};
-ghost use Rattle.loom_ops.specs.Condvars.{condvar_handle, timeout_in};
-ghost use Rattle.loom_operations.specs.Labels.{bare};
+ghost use Rattle.loom_objects.specs.Operation.Labelled.{bare};
+ghost use Rattle.loom_ops.specs.Condvar.{condvar_handle, timeout_in};
 
+use crate::sync::condvar;
 use crate::sync::mutex::MutexGuard;
-use loom_operation_parts::condvars;
-use loom_operations::operation::{CondvarOp, Op, Reply, Request};
+use loom_objects::operation::{CondvarOp, Op, Reply, Request};
+
+/// The thread releases the mutex of this number, which holds this data then, and waits on the condition variable (loom's
+/// `sync/condvar.rs`).
+pub fn wait<D, S>(condvar: usize, mutex: usize, value: D) -> Op<D, S>
+    ensures { result ≡ bare (Request.Condvar (CondvarOp.Wait condvar mutex value)) }
+{
+    Op::new(Request::Condvar(CondvarOp::Wait(condvar, mutex, value)))
+}
 
 /// A condition variable of the run (loom's `sync/condvar.rs`).
 #[derive(Clone, Copy, Debug)]
@@ -42,7 +50,7 @@ impl Condvar {
     pub fn wait<D, S>(self, guard: MutexGuard, value: D) -> Op<D, S>
         ensures { result ≡ bare (Request.Condvar (CondvarOp.Wait self.number guard.number value)) }
     {
-        condvars::wait(self.number, guard.number, value)
+        condvar::wait(self.number, guard.number, value)
     }
 
     /// The same, but the reply is `Waited`, which also says that the time didn't run out: it never does, as in loom, and so no

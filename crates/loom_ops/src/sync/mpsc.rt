@@ -1,9 +1,9 @@
 //! Channels: many threads send messages, and one receives them.
 ghost use Rattle.std.specs.Prelude.{◌≡◌, None};
-ghost use Rattle.loom_ops.specs.Channels.{receiver_handle, sender_handle};
-ghost use Rattle.loom_operations.specs.Labels.{bare};
+ghost use Rattle.loom_ops.specs.Mpsc.{receiver_handle, sender_handle};
+ghost use Rattle.loom_objects.specs.Operation.Labelled.{bare};
 
-use loom_operations::operation::{ChannelOp, Op, Reply, Request};
+use loom_objects::operation::{ChannelOp, Op, Reply, Request};
 
 /// A sender of a channel of the run (loom's `sync/mpsc.rs`). The senders that were made and not dropped are counted, not the
 /// handles: a handle that is copied or dropped does nothing.

@@ -1,9 +1,9 @@
 //! Notifiers: one thread waits until others notify.
 ghost use Rattle.std.specs.Prelude.{◌≡◌, None};
-ghost use Rattle.loom_ops.specs.Notifiers.{notify_handle};
-ghost use Rattle.loom_operations.specs.Labels.{bare};
+ghost use Rattle.loom_ops.specs.Notify.{notify_handle};
+ghost use Rattle.loom_objects.specs.Operation.Labelled.{bare};
 
-use loom_operations::operation::{NotifyOp, Op, Reply, Request};
+use loom_objects::operation::{NotifyOp, Op, Reply, Request};
 
 /// A notifier of the run (loom's `sync/notify.rs`).
 #[derive(Clone, Copy, Debug)]

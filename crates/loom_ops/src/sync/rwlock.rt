@@ -1,9 +1,9 @@
 //! Read-write locks: many threads read, or one writes.
 ghost use Rattle.std.specs.Prelude.{◌≡◌, None};
-ghost use Rattle.loom_ops.specs.RwLocks.{rwlock_handle, read_guard_handle, read_guard_taken, write_guard_handle, write_guard_taken};
-ghost use Rattle.loom_operations.specs.Labels.{bare};
+ghost use Rattle.loom_ops.specs.RwLock.{rwlock_handle, read_guard_handle, read_guard_taken, write_guard_handle, write_guard_taken};
+ghost use Rattle.loom_objects.specs.Operation.Labelled.{bare};
 
-use loom_operations::operation::{Op, Reply, Request, RwLockOp};
+use loom_objects::operation::{Op, Reply, Request, RwLockOp};
 
 /// A read-write lock of the run (loom's `sync/rwlock.rs`).
 #[derive(Clone, Copy, Debug)]

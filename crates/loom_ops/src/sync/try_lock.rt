@@ -1,8 +1,8 @@
 //! That a lock wasn't waited for.
 ghost use Rattle.std.specs.Prelude.{◌≡◌, Some, codes};
-ghost use Rattle.loom_ops.specs.Locks.{try_lock_error};
+ghost use Rattle.loom_ops.specs.Mutex.{try_lock_error};
 
-use loom_operations::operation::Reply;
+use loom_objects::operation::Reply;
 use std::fmt;
 
 /// Why `try_lock`, `try_read` or `try_write` has no guard (std's `sync::TryLockError`). A lock is never poisoned here.

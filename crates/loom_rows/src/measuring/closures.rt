@@ -1,7 +1,7 @@
 //! The rows of closures that are measured beside the bodies of the same operations.
-use loom_closures::rows::Row;
-use loom_row_bodies::rows::WHOLE;
-use loom_row_bodies::settings::Settings;
+use loom_examples::closures::rows::Row;
+use loom_examples::rows::WHOLE;
+use loom_examples::rows::settings::Settings;
 
 /// A row of closures, and how it is measured.
 #[derive(Clone, Copy)]

@@ -1,17 +1,17 @@
 //! What a call comes to, as a text: the reply, and behind it each handle and each value that is read off it.
 use crate::page::Page;
-use loom_model::alloc::Track;
-use loom_model::cell::{Cell, ConstPtr, MutPtr, UnsafeCell};
-use loom_model::future::{AtomicWaker, BlockOn, Waker};
-use loom_model::sync::atomic::{Atomic, FetchUpdate};
-use loom_model::sync::mpsc::{Receiver, Sender};
-use loom_model::sync::{
+use loom::alloc::Track;
+use loom::cell::{Cell, ConstPtr, MutPtr, UnsafeCell};
+use loom::future::{AtomicWaker, BlockOn, Waker};
+use loom::sync::atomic::{Atomic, FetchUpdate};
+use loom::sync::mpsc::{Receiver, Sender};
+use loom::sync::{
     Arc, Condvar, Mutex, MutexGuard, Notify, RwLock, RwLockReadGuard, RwLockWriteGuard,
     TryLockError, WaitTimeoutResult,
 };
-use loom_model::thread::{AccessError, JoinHandle, Thread};
-use loom_model::{Numeric, Reply, Turn};
-use loom_operations::failure::Stop;
+use loom::thread::{AccessError, JoinHandle, Thread};
+use loom::{Numeric, Reply, Turn};
+use loom_objects::failure::Stop;
 use std::fmt::Debug;
 
 /// Writes what a call comes to, where atomics hold a `T`: whose turn it is and the reply, or the kind of the failure.

@@ -1,8 +1,8 @@
 //! Atomics and fences.
 use crate::calls::run::{Kind, Row, make};
-use loom_model::Op;
-use loom_model::sync::atomic::Ordering::{Acquire, Release, SeqCst};
-use loom_model::sync::atomic::{Atomic, AtomicBool, AtomicI8, AtomicU8, AtomicU64, fence};
+use loom::Op;
+use loom::sync::atomic::Ordering::{Acquire, Release, SeqCst};
+use loom::sync::atomic::{Atomic, AtomicBool, AtomicI8, AtomicU8, AtomicU64, fence};
 use std::marker::PhantomData;
 use std::process::Abort;
 

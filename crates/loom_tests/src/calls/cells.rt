@@ -1,7 +1,7 @@
 //! Cells.
 use crate::calls::run::{Kind, Row, make};
-use loom_model::Op;
-use loom_model::cell::{Cell, ConstPtr, MutPtr, UnsafeCell};
+use loom::Op;
+use loom::cell::{Cell, ConstPtr, MutPtr, UnsafeCell};
 use std::process::Abort;
 
 /// The calls of these tables, by their numbers there.

@@ -1,7 +1,7 @@
 //! Channels.
 use crate::calls::run::{Kind, Row, make};
-use loom_model::Op;
-use loom_model::sync::mpsc::{Receiver, Sender, channel};
+use loom::Op;
+use loom::sync::mpsc::{Receiver, Sender, channel};
 use std::process::Abort;
 
 const SENDER: Sender = Sender { number: 0 };

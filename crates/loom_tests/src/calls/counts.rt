@@ -1,8 +1,8 @@
 //! Counted references and tracked values.
 use crate::calls::run::{Kind, Row, make};
-use loom_model::Op;
-use loom_model::alloc::Track;
-use loom_model::sync::Arc;
+use loom::Op;
+use loom::alloc::Track;
+use loom::sync::Arc;
 use std::process::Abort;
 
 /// The calls of these tables, by their numbers there.

@@ -1,9 +1,9 @@
 //! Exchanges and updates of atomics, of each type of integers.
 use crate::calls::atomics::first_atomic;
 use crate::calls::run::{Kind, Row, make};
-use loom_model::sync::atomic::Ordering::SeqCst;
-use loom_model::sync::atomic::{Atomic, Integer};
-use loom_model::{Numeric, Op};
+use loom::sync::atomic::Ordering::SeqCst;
+use loom::sync::atomic::{Atomic, Integer};
+use loom::{Numeric, Op};
 use std::fmt::Debug;
 use std::process::Abort;
 

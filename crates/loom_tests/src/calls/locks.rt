@@ -1,9 +1,7 @@
 //! Locks, condition variables and notifiers.
 use crate::calls::run::{Kind, Row, make};
-use loom_model::sync::{
-    Condvar, Mutex, MutexGuard, Notify, RwLock, RwLockReadGuard, RwLockWriteGuard,
-};
-use loom_model::{Op, thread};
+use loom::sync::{Condvar, Mutex, MutexGuard, Notify, RwLock, RwLockReadGuard, RwLockWriteGuard};
+use loom::{Op, thread};
 use std::process::Abort;
 
 /// The calls of these tables, by their numbers there.

@@ -1,8 +1,8 @@
 //! Threads: their names, and those that wait.
 use crate::calls::run::{Kind, Row, make};
-use loom_model::sync::atomic::spin_loop_hint;
-use loom_model::thread::{self, Builder, ThreadId};
-use loom_model::{Op, hint};
+use loom::sync::atomic::spin_loop_hint;
+use loom::thread::{self, Builder, ThreadId};
+use loom::{Op, hint};
 use std::process::Abort;
 
 /// The calls of these tables, by their numbers there.

@@ -1,8 +1,8 @@
 //! Values that threads have for themselves, values that are made once a run, and the exploring switches.
 use crate::calls::run::{Kind, Row, make};
-use loom_model::lazy_static::{self, Lazy};
-use loom_model::thread::{self, LocalKey};
-use loom_model::{Op, explore, skip_branch, stop_exploring};
+use loom::lazy_static::{self, Lazy};
+use loom::thread::{self, LocalKey};
+use loom::{Op, explore, skip_branch, stop_exploring};
 use std::process::Abort;
 
 /// The calls of these tables, by their numbers there.

@@ -1,7 +1,7 @@
 //! Wakers of futures, and places for them.
 use crate::calls::run::{Kind, Row, make};
-use loom_model::Op;
-use loom_model::future::{AtomicWaker, BlockOn, Waker};
+use loom::Op;
+use loom::future::{AtomicWaker, BlockOn, Waker};
 use std::process::Abort;
 
 /// The calls of these tables, by their numbers there.

@@ -1,13 +1,13 @@
 //! Bodies that aren't rows, for what rows leave out: main is the one thread, and mostly spawns the other.
-use loom_model::sync::atomic::Ordering::{AcqRel, Acquire, Relaxed, Release, SeqCst};
-use loom_operations::operation::{
+use loom::sync::atomic::Ordering::{AcqRel, Acquire, Relaxed, Release, SeqCst};
+use loom_examples::rows::{Checked, DEFAULTS, Row};
+use loom_examples::scripts::step::{END, EXIT, Step, Value, YIELD};
+use loom_objects::operation::{
     ArcOp, AtomicOp, CellOp, CondvarOp, Exchange, MutexOp, NotifyOp, Request, RwLockOp, ThreadOp,
     TrackOp,
 };
-use loom_row_bodies::rows::{Checked, DEFAULTS, Row};
-use loom_scripts::step::{END, EXIT, Step, Value, YIELD};
-use loom_views::rt::change::Change::Add;
 use loom_views::rt::num::Numbers;
+use loom_views::rt::num::change::Change::Add;
 
 const FINISH: Step = Step::Do(0, Request::Thread(ThreadOp::Finish(Value::Held(0))));
 

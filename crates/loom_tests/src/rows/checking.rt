@@ -1,11 +1,11 @@
 //! What a check finds, as a list of runs.
-use loom_model::error::CheckError;
-use loom_model::model::Report;
-use loom_model::visitor::Visitor;
-use loom_model::{Body, Choice, MemoryStore, NoClock};
+use loom::model::Report;
+use loom::model::error::CheckError;
+use loom::model::visitor::Visitor;
+use loom::{Body, Choice, MemoryStore, NoClock};
+use loom_examples::rows::settings::{Builds, Settings};
 use loom_plain::run::Ending;
 use loom_plain::search::Found;
-use loom_row_bodies::settings::{Builds, Settings};
 use std::alloc::{AllocError, Global};
 
 /// Keeps each run that it is given.

@@ -1,15 +1,15 @@
 //! Scripts that between them make every operation: with memory enough none fails for want of it.
 use super::finding::{Case, Shows};
-use loom_model::sync::atomic::Ordering::{AcqRel, Release, SeqCst};
-use loom_model::text_literal;
-use loom_operations::operation::{
+use loom::sync::atomic::Ordering::{AcqRel, Release, SeqCst};
+use loom::text_literal;
+use loom_examples::rows::{Checked, DEFAULTS, Row};
+use loom_examples::scripts::step::{END, EXIT, PARK, Step, Value, YIELD};
+use loom_objects::operation::{
     ArcOp, AtomicOp, AtomicWakerOp, CellOp, ChannelOp, CondvarOp, Exchange, ExploreOp, LazyOp,
     LocalOp, MutexOp, Name, NotifyOp, Request, RwLockOp, ThreadOp, TrackOp, WakerOp,
 };
-use loom_row_bodies::rows::{Checked, DEFAULTS, Row};
-use loom_scripts::step::{END, EXIT, PARK, Step, Value, YIELD};
-use loom_views::rt::change::Change::{Add, And, Max, Min, Nand, Or, Sub, Swap, Xor};
 use loom_views::rt::num::Numbers;
+use loom_views::rt::num::change::Change::{Add, And, Max, Min, Nand, Or, Sub, Swap, Xor};
 
 const FINISH: Step = Step::Do(0, Request::Thread(ThreadOp::Finish(Value::Plain(7))));
 

@@ -1,6 +1,6 @@
 //! Runs that don't explore everywhere: what their rows find.
 use super::finding::{Case, Shows};
-use loom_row_bodies::rows::{DEFAULTS, EXPLICIT, WHOLE};
+use loom_examples::rows::{DEFAULTS, EXPLICIT, WHOLE};
 
 // The one run that is made without exploring.
 const DEFAULT_RUN: &str = "complete 1; t0 t1 t1 t- = 7";

@@ -2,10 +2,10 @@
 use super::finding::{Shows, put_found};
 use crate::asserting::{holds, same};
 use crate::page::Page;
-use loom_model::model::Report;
-use loom_row_bodies::guide::Counter;
-use loom_row_bodies::rows::WHOLE;
-use loom_row_bodies::settings::Builds;
+use loom::model::Report;
+use loom_examples::bodies::guide::Counter;
+use loom_examples::rows::WHOLE;
+use loom_examples::rows::settings::Builds;
 
 #[test]
 fn no_thread_is_counted_third(rt: HostRuntime) {

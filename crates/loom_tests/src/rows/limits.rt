@@ -1,7 +1,7 @@
 //! Misuse and limits: what the rows find.
 use super::finding::{Case, Shows, find};
-use loom_row_bodies::rows::{DEFAULTS, LONG_RUNS, THREE_NODES, WHOLE};
-use loom_row_bodies::settings::Settings;
+use loom_examples::rows::settings::Settings;
+use loom_examples::rows::{DEFAULTS, LONG_RUNS, THREE_NODES, WHOLE};
 
 static MANY_FENCES: [Case; 2] = [
     case!("fences", WHOLE, 1, "complete 1; t- = 7"),

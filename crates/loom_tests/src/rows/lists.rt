@@ -1,6 +1,6 @@
 //! The exact runs of small bodies.
 use super::finding::{Case, Shows};
-use loom_row_bodies::rows::WHOLE;
+use loom_examples::rows::WHOLE;
 
 /// The rows of these.
 pub static CASES: [Case; 7] = [

@@ -1,6 +1,6 @@
 //! Locks, condition variables, notifiers and threads that wait: what their rows find.
 use super::finding::{Case, Shows};
-use loom_row_bodies::rows::WHOLE;
+use loom_examples::rows::WHOLE;
 
 /// The rows of these.
 pub static CASES: [Case; 9] = [

@@ -1,14 +1,14 @@
 //! Bodies of other tests that aren't rows: runs as large as they may be, and misuse.
-use loom_model::sync::atomic::Ordering::Relaxed;
-use loom_operations::operation::{
+use loom::sync::atomic::Ordering::Relaxed;
+use loom_examples::rows::tables::atomics::ACQ_REL;
+use loom_examples::rows::tables::limits::MANY_STORES;
+use loom_examples::rows::{Checked, DEFAULTS, Row};
+use loom_examples::scripts::step::{END, EXIT, FAIL, Step, Value};
+use loom_objects::operation::{
     AtomicOp, CellOp, ChannelOp, MutexOp, NotifyOp, Request, RwLockOp, ThreadOp,
 };
-use loom_row_bodies::bodies::atomics::ACQ_REL;
-use loom_row_bodies::bodies::limits::MANY_STORES;
-use loom_row_bodies::rows::{Checked, DEFAULTS, Row};
-use loom_scripts::step::{END, EXIT, FAIL, Step, Value};
-use loom_views::rt::change::Change::Add;
 use loom_views::rt::num::Numbers;
+use loom_views::rt::num::change::Change::Add;
 
 const FINISH: Step = Step::Do(0, Request::Thread(ThreadOp::Finish(Value::Plain(7))));
 

@@ -4,7 +4,7 @@ use super::words::says;
 use crate::asserting::holds;
 use crate::page::Page;
 use crate::rows::pens::{Pen, Printed};
-use loom_row_bodies::rows::{Row, run_row};
+use loom_examples::rows::{Row, run_row};
 use std::alloc::Global;
 use std::process::Abort;
 use std::rt::Files;

@@ -1,7 +1,8 @@
 //! The rows of the program, and the bodies of tests behind them.
 use super::{bodies, each_operation, others, searches, shared};
 use crate::asserting::holds;
-use loom_row_bodies::rows::{Row, all_rows};
+use loom_examples::rows::Row;
+use loom_examples::rows::tables::all_rows;
 use std::process::Abort;
 
 /// The rows of the program.

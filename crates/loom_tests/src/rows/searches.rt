@@ -1,10 +1,10 @@
 //! Small bodies with the runs of their searches, each of which tells a search from one that is a little wrong.
 use super::finding::{Case, Shows, find};
-use loom_model::sync::atomic::Ordering::Relaxed;
-use loom_operations::operation::{ArcOp, AtomicOp, MutexOp, Request, ThreadOp};
-use loom_row_bodies::rows::{Checked, DEFAULTS, Row, WHOLE};
-use loom_row_bodies::settings::Settings;
-use loom_scripts::step::{END, EXIT, PARK, Step, Value, YIELD};
+use loom::sync::atomic::Ordering::Relaxed;
+use loom_examples::rows::settings::Settings;
+use loom_examples::rows::{Checked, DEFAULTS, Row, WHOLE};
+use loom_examples::scripts::step::{END, EXIT, PARK, Step, Value, YIELD};
+use loom_objects::operation::{ArcOp, AtomicOp, MutexOp, Request, ThreadOp};
 use loom_views::rt::num::Numbers;
 
 const NEW: Step = Step::Do(0, Request::Atomic(AtomicOp::New(Numbers::U64, 0)));

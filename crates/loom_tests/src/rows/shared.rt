@@ -1,12 +1,12 @@
 //! Bodies that aren't rows, in which threads meet at channels, at wakers and their places, and at values, and bodies that
 //! explore in parts.
-use loom_model::sync::atomic::Ordering::Relaxed;
-use loom_operations::operation::{
+use loom::sync::atomic::Ordering::Relaxed;
+use loom_examples::rows::{Checked, DEFAULTS, Row};
+use loom_examples::scripts::step::{END, EXIT, Step, Value, YIELD};
+use loom_objects::operation::{
     AtomicOp, AtomicWakerOp, CellOp, ChannelOp, ExploreOp, LazyOp, LocalOp, MutexOp, NotifyOp,
     Request, ThreadOp, WakerOp,
 };
-use loom_row_bodies::rows::{Checked, DEFAULTS, Row};
-use loom_scripts::step::{END, EXIT, Step, Value, YIELD};
 use loom_views::rt::num::Numbers;
 
 const CHANNEL: Step = Step::Do(0, Request::Channel(ChannelOp::New));

@@ -1,6 +1,6 @@
 //! Runs as large as they may be: five threads, three guards of one thread, a path of 1,000 nodes.
 use super::finding::{Case, Shows};
-use loom_row_bodies::rows::WHOLE;
+use loom_examples::rows::WHOLE;
 
 // The last thread is chosen twice, the ends and joins of the others take six choices in one order: 28 ways to join these.
 const FIVE_THREADS_BESIDE: &str = "complete 28\

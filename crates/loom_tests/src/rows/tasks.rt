@@ -3,10 +3,10 @@ use super::printed::long_line;
 use super::rows::rows_of;
 use crate::asserting::holds;
 use crate::rows::pens::{Pen, Printed, is_printed};
-use loom_model::Choice;
-use loom_row_bodies::rows::{DEFAULTS, LONG_RUNS, Row, row_of};
-use loom_row_bodies::settings::Settings;
-use loom_row_bodies::tasks::{Task, do_task};
+use loom::Choice;
+use loom_examples::rows::settings::Settings;
+use loom_examples::rows::tasks::{Task, do_task};
+use loom_examples::rows::{DEFAULTS, LONG_RUNS, Row, row_of};
 use std::process::Abort;
 use std::rt::Files;
 

@@ -1,6 +1,6 @@
 //! Threads' own values, and values that are made once a run: what their rows find.
 use super::finding::{Case, Shows};
-use loom_row_bodies::rows::{DEFAULTS, WHOLE};
+use loom_examples::rows::{DEFAULTS, WHOLE};
 
 /// The rows of these.
 pub static CASES: [Case; 6] = [

@@ -1,7 +1,7 @@
 //! What the program does with words.
 use crate::asserting::holds;
 use crate::rows::pens::{Pen, Printed, is_printed};
-use loom_row_bodies::words::{HELP, run_words};
+use loom_examples::rows::words::{HELP, run_words};
 use std::process::Abort;
 use std::rt::Files;
 

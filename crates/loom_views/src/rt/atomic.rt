@@ -3,28 +3,29 @@
 //! A public call speaks of every scene that the vectors show: a graph, the thread's points in it, and the atomic's whole
 //! history by points. Slots are numbered from 0: the store with number `n` stands in slot `n` modulo `MAX_ATOMIC_HISTORY`.
 //! The thread has raised its version before the call. Where a call fails, the atomic and the thread's views are as before.
+pub mod reader;
 
 ghost use Rattle.std.specs.Prelude.{◌≡◌, ℕ, ◌+◌, ◌<◌, ◌≤◌, ◌==◌, ◌&&◌, not, min, IsTrue, None, slice_index_or, false, MatchResult, OnErr, Ok, Err, length};
 ghost use Rattle.std.specs.List.{list_any};
-ghost use Rattle.loom_view_parts.specs.Limits.{most_stores};
-ghost use Rattle.loom_view_parts.specs.Versions.{join, join_all};
-ghost use Rattle.loom_views.specs.Untouched.{untouched};
-ghost use Rattle.loom_view_parts.specs.declared.rt.failure.FailureKind.TheVariants.{OrdersEqual, TooManyStores};
-ghost use Rattle.loom_views.specs.Slots.{slots, slot_set, has_equal_order_at};
-ghost use Rattle.loom_views.specs.Ring.{is_touch_in, is_version_before, touch_version, store_at, is_passed, drops_slot, is_same_slot, readable_now, fails_now, is_order_seen, orders_seen, state_read, state_made, load_tracked, store_tracked, unsync_load_tracked, unsync_mut_tracked, load_now, store_now, update_read_now, update_write_now, newest_slot, unsync_load_now, mutate_now, mutate_end_now, state_blank};
-ghost use Rattle.loom_view_parts.specs.Graph.{Graph, IsChained, IsPresent};
-ghost use Rattle.loom_view_parts.specs.Threads.{ThreadPoints, ShowsThread};
-ghost use Rattle.loom_views.specs.Fences.{standing_in, scene_at, after_store, acquire_fence_step};
-ghost use Rattle.loom_views.specs.Atomic.{in_slot, Scene, readable, fails_by_orders, load_step, store_step, update_read_step, update_write_step, update_fail_step, unsync_load_step, mutate_step, mutate_end_step, new_step};
-ghost use Rattle.loom_view_parts.specs.declared.rt.reader.Reader.{Reader};
-ghost use Rattle.loom_views.specs.Shown.{ShowsScene, AnswersAs, FinishesAs};
+ghost use Rattle.loom_views.specs.Limits.{most_stores};
+ghost use Rattle.loom_views.specs.Versions.{join, join_all};
+ghost use Rattle.loom_views.specs.Atomic.Untouched.{untouched};
+ghost use Rattle.loom_views.specs.declared.rt.failure.FailureKind.TheVariants.{OrdersEqual, TooManyStores};
+ghost use Rattle.loom_views.specs.Atomic.Slots.{slots, slot_set, has_equal_order_at};
+ghost use Rattle.loom_views.specs.Atomic.Ring.{is_touch_in, is_version_before, touch_version, store_at, is_passed, drops_slot, is_same_slot, readable_now, fails_now, is_order_seen, orders_seen, state_read, state_made, load_tracked, store_tracked, unsync_load_tracked, unsync_mut_tracked, load_now, store_now, update_read_now, update_write_now, newest_slot, unsync_load_now, mutate_now, mutate_end_now, state_blank};
+ghost use Rattle.loom_views.specs.Graph.{Graph, IsChained, IsPresent};
+ghost use Rattle.loom_views.specs.ThreadViews.{ThreadPoints, ShowsThread};
+ghost use Rattle.loom_views.specs.Atomic.Fences.{standing_in, scene_at, after_store, acquire_fence_step};
+ghost use Rattle.loom_views.specs.Atomic.History.{in_slot, Scene, readable, fails_by_orders, load_step, store_step, update_read_step, update_write_step, update_fail_step, unsync_load_step, mutate_step, mutate_end_step, new_step};
+ghost use Rattle.loom_views.specs.declared.rt.atomic.reader.Reader.{Reader};
+ghost use Rattle.loom_views.specs.Atomic.Shown.{ShowsScene, AnswersAs, FinishesAs};
 
-use loom_view_parts::rt::failure::FailureKind;
-pub use loom_view_parts::rt::reader::Reader;
-use loom_view_parts::rt::reader::with_slot;
-use loom_view_parts::rt::synchronize::{Synchronize, ThreadViews};
-use loom_view_parts::rt::vv::VersionVec;
-use loom_view_parts::rt::{MAX_ATOMIC_HISTORY, MAX_THREADS};
+pub use crate::rt::atomic::reader::Reader;
+use crate::rt::atomic::reader::with_slot;
+use crate::rt::failure::FailureKind;
+use crate::rt::synchronize::{Synchronize, ThreadViews};
+use crate::rt::vv::VersionVec;
+use crate::rt::{MAX_ATOMIC_HISTORY, MAX_THREADS};
 use std::sync::atomic::Ordering;
 
 /// For each thread, its own version when it first touched a store (loom's `rt/atomic.rs`).
@@ -197,7 +198,7 @@ impl State {
     }
 
     /// The set of the slots that the reader may choose: those of the stores that no kept store keeps it from. Where two orders
-    /// are equal on the way it is `OrdersEqual`. By law `loom_views::laws::some_slot_is_readable` there is always a slot (loom's
+    /// are equal on the way it is `OrdersEqual`. By law `crate::laws::some_slot_is_readable` there is always a slot (loom's
     /// `rt/atomic.rs`).
     pub fn readable(
         &self,

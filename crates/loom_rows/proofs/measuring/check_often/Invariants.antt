@@ -1,6 +1,6 @@
 use Rattle.std.proofs.Common.{IfSome}
-use Rattle.loom_row_bodies.specs.Builders.{builder_of}
-use Rattle.loom_row_bodies.specs.Rows.{ReportsScript}
+use Rattle.loom_examples.specs.Rows.Builder.{builder_of}
+use Rattle.loom_examples.specs.Rows.Printed.{ReportsScript}
 use Rattle.loom_rows.proofs.measuring.check_often.Given as goal
 
 -- the report kept is of a check of the body

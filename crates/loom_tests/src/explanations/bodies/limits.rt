@@ -1,11 +1,11 @@
 //! Bodies that pass a limit.
-use loom_model::sync::atomic::Ordering::{Relaxed, Release};
-use loom_operations::operation::{AtomicOp, Exchange, MutexOp, Request, ThreadOp};
-use loom_parts::label::Label;
-use loom_parts::text_literal;
-use loom_scripts::step::{END, EXIT, Step, Value};
-use loom_views::rt::change::Change::Add;
+use loom::sync::atomic::Ordering::{Relaxed, Release};
+use loom_examples::scripts::step::{END, EXIT, Step, Value};
+use loom_objects::label::Label;
+use loom_objects::operation::{AtomicOp, Exchange, MutexOp, Request, ThreadOp};
+use loom_objects::text_literal;
 use loom_views::rt::num::Numbers;
+use loom_views::rt::num::change::Change::Add;
 
 const FINISH: Step = Step::Do(0, Request::Thread(ThreadOp::Finish(Value::Plain(0))));
 

@@ -1,12 +1,12 @@
 //! Bodies that come to a deadlock, or leave something.
-use loom_model::sync::atomic::Ordering::{Acquire, Relaxed, Release};
-use loom_operations::operation::{
+use loom::sync::atomic::Ordering::{Acquire, Relaxed, Release};
+use loom_examples::scripts::step::{END, EXIT, Step, Value, YIELD};
+use loom_objects::label::Label;
+use loom_objects::operation::{
     ArcOp, AtomicOp, ChannelOp, CondvarOp, Exchange, MutexOp, Name, NotifyOp, Request, RwLockOp,
     ThreadOp, TrackOp, WakerOp,
 };
-use loom_parts::label::Label;
-use loom_parts::text_literal;
-use loom_scripts::step::{END, EXIT, Step, Value, YIELD};
+use loom_objects::text_literal;
 use loom_views::rt::num::Numbers;
 
 macro_rules! named {

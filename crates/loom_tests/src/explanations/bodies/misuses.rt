@@ -1,10 +1,10 @@
 //! Bodies that use an operation wrongly.
-use loom_model::sync::atomic::Ordering::Relaxed;
-use loom_operations::operation::{ExploreOp, MutexOp, NotifyOp, Request, ThreadOp};
-use loom_parts::label::Label;
-use loom_parts::location::Location;
-use loom_parts::text_literal;
-use loom_scripts::step::{Step, Value};
+use loom::sync::atomic::Ordering::Relaxed;
+use loom_examples::scripts::step::{Step, Value};
+use loom_objects::label::Label;
+use loom_objects::location::Location;
+use loom_objects::operation::{ExploreOp, MutexOp, NotifyOp, Request, ThreadOp};
+use loom_objects::text_literal;
 
 const STATE: Label = Label {
     name: Some(text_literal!(b"state")),

@@ -1,12 +1,12 @@
 //! Bodies that race, and whose cells are open.
-use loom_model::sync::atomic::Ordering::{self, Relaxed, Release};
-use loom_operations::operation::{AtomicOp, CellOp, Exchange, Request, ThreadOp};
-use loom_parts::label::Label;
-use loom_parts::location::Location;
-use loom_parts::text_literal;
-use loom_scripts::step::{END, EXIT, Step, Value, YIELD};
-use loom_views::rt::change::Change;
+use loom::sync::atomic::Ordering::{self, Relaxed, Release};
+use loom_examples::scripts::step::{END, EXIT, Step, Value, YIELD};
+use loom_objects::label::Label;
+use loom_objects::location::Location;
+use loom_objects::operation::{AtomicOp, CellOp, Exchange, Request, ThreadOp};
+use loom_objects::text_literal;
 use loom_views::rt::num::Numbers;
+use loom_views::rt::num::change::Change;
 
 const FLAG: Label = Label {
     name: Some(text_literal!(b"flag")),

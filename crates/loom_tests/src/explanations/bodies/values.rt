@@ -1,6 +1,6 @@
 //! Bodies that use values of their own, and values that are made once a run, wrongly.
-use loom_operations::operation::{LazyOp, LocalOp, Request, ThreadOp};
-use loom_scripts::step::{END, EXIT, Step, Value, YIELD};
+use loom_examples::scripts::step::{END, EXIT, Step, Value, YIELD};
+use loom_objects::operation::{LazyOp, LocalOp, Request, ThreadOp};
 
 const FINISH: Step = Step::Do(0, Request::Thread(ThreadOp::Finish(Value::Plain(0))));
 

@@ -2,11 +2,11 @@
 use super::{Case, DEFAULT_CASE};
 use crate::asserting::same;
 use crate::page::Page;
-use loom_model::env::Env;
-use loom_model::error::CheckError;
-use loom_model::model::Builder;
-use loom_row_bodies::rows::DEFAULTS;
-use loom_row_bodies::settings::Settings;
+use loom::model::builder::Builder;
+use loom::model::env::Env;
+use loom::model::error::CheckError;
+use loom_examples::rows::DEFAULTS;
+use loom_examples::rows::settings::Settings;
 use std::alloc::Global;
 use std::process::Abort;
 

@@ -2,14 +2,14 @@
 use super::lock_beside;
 use crate::asserting::{same, script};
 use crate::page::Page;
-use loom_model::Choice;
-use loom_model::error::CheckError;
-use loom_model::explain::Explanation;
-use loom_operations::operation::{Request, ThreadOp};
-use loom_row_bodies::rows::DEFAULTS;
-use loom_row_bodies::settings::{Builds, Settings};
-use loom_scripts::script::Script;
-use loom_scripts::step::{FAIL, Step};
+use loom::Choice;
+use loom::model::error::CheckError;
+use loom_examples::rows::DEFAULTS;
+use loom_examples::rows::settings::{Builds, Settings};
+use loom_examples::scripts::script::Script;
+use loom_examples::scripts::step::{FAIL, Step};
+use loom_explain::explanation::Explanation;
+use loom_objects::operation::{Request, ThreadOp};
 use std::alloc::Global;
 use std::process::Abort;
 

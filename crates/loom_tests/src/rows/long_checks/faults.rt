@@ -1,6 +1,6 @@
 //! A store that meets a fault ends the check.
 use super::{Case, WHOLE_CASE};
-use loom_row_bodies::rows::TWO_RUNS;
+use loom_examples::rows::TWO_RUNS;
 
 const EACH: Case = Case {
     interval: 1,

@@ -3,7 +3,7 @@ use super::TWO_NODES;
 use crate::asserting::holds;
 use crate::rows::pens::{Pen, Printed, is_printed};
 use crate::rows::rows::program_rows;
-use loom_row_bodies::rows::{self, Row};
+use loom_examples::rows::{self, Row};
 use std::process::Abort;
 use std::rt::Files;
 use std::{fs, io};

@@ -2,10 +2,10 @@
 use super::{Case, WHOLE_CASE, lock_beside};
 use crate::asserting::{same, script};
 use crate::page::Page;
-use loom_model::model::Builder;
-use loom_row_bodies::rows::{TWO_RUNS, WHOLE};
-use loom_row_bodies::settings::Builds;
-use loom_scripts::step::Step;
+use loom::model::builder::Builder;
+use loom_examples::rows::settings::Builds;
+use loom_examples::rows::{TWO_RUNS, WHOLE};
+use loom_examples::scripts::step::Step;
 use std::process::Abort;
 use std::rt::Files;
 use std::time::Duration;

@@ -2,9 +2,8 @@
 use super::limits::check_alone;
 use crate::asserting::same;
 use crate::page::Page;
-use loom_row_bodies::settings::Builds;
-use loom_row_parts::measured::Measured;
-use loom_row_tables::measured::{all_bodies, body_of};
+use loom_examples::measured::{Measured, all_bodies, body_of};
+use loom_examples::rows::settings::Builds;
 use std::process::Abort;
 use std::rt::Files;
 

@@ -1,12 +1,13 @@
 //! A failure has the place of its operation where it is asked for.
 use crate::asserting::{same, script};
 use crate::page::Page;
-use loom_model::error::CheckError;
-use loom_model::model::{Builder, Replay, Report};
-use loom_model::{Choice, Label, Location, text_literal};
-use loom_operations::operation::{MutexOp, Request, ThreadOp};
-use loom_scripts::script::Script;
-use loom_scripts::step::{Step, Value};
+use loom::model::builder::Builder;
+use loom::model::error::CheckError;
+use loom::model::{Replay, Report};
+use loom::{Choice, Label, Location, text_literal};
+use loom_examples::scripts::script::Script;
+use loom_examples::scripts::step::{Step, Value};
+use loom_objects::operation::{MutexOp, Request, ThreadOp};
 use std::alloc::Global;
 use std::process::Abort;
 use std::rt::Files;

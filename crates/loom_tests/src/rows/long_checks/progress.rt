@@ -4,11 +4,11 @@ use crate::asserting::same;
 use crate::page::Page;
 use log::sink::Memory;
 use log::{Level, Log, Logged};
-use loom_model::model::Builder;
-use loom_model::{MemoryStore, NoClock};
-use loom_row_bodies::rows::WHOLE;
-use loom_row_bodies::settings::Builds;
-use loom_scripts::script::Script;
+use loom::model::builder::Builder;
+use loom::{MemoryStore, NoClock};
+use loom_examples::rows::WHOLE;
+use loom_examples::rows::settings::Builds;
+use loom_examples::scripts::script::Script;
 use std::alloc::Global;
 
 const ITERATIONS: &str =

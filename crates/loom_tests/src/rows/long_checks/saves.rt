@@ -4,10 +4,10 @@ use super::{
 };
 use crate::asserting::holds;
 use crate::page::Page;
-use loom_row_bodies::bodies::TWO_MUTEXES_DEADLOCK;
-use loom_row_bodies::rows::WHOLE;
-use loom_row_bodies::settings::{Builds, Settings};
-use loom_scripts::step::Step;
+use loom_examples::rows::WHOLE;
+use loom_examples::rows::settings::{Builds, Settings};
+use loom_examples::rows::tables::first::TWO_MUTEXES_DEADLOCK;
+use loom_examples::scripts::step::Step;
 use std::process::Abort;
 
 pub(super) static EACH: [Case; 1] = [Case {

@@ -1,10 +1,11 @@
 //! What a check makes of a text that it is to begin with.
 use super::{HEAD, Shelf, TWO_NODES, WHOLE_END, gives, lock_beside};
 use crate::page::Page;
-use loom_row_bodies::bodies::{FINISH_ONLY, LOCK_BESIDE, STORE_SEVEN};
-use loom_row_bodies::rows::{DEFAULTS, WHOLE};
-use loom_row_bodies::settings::{Builds, Settings};
-use loom_scripts::step::Step;
+use loom_examples::rows::settings::{Builds, Settings};
+use loom_examples::rows::tables::few_threads::{FINISH_ONLY, LOCK_BESIDE};
+use loom_examples::rows::tables::first::STORE_SEVEN;
+use loom_examples::rows::{DEFAULTS, WHOLE};
+use loom_examples::scripts::step::Step;
 use std::process::Abort;
 
 // A check of the script that begins with the text gives this.

@@ -1,4 +1,4 @@
-use Rattle.loom_views.proofs.Reaching.Missing.{unreached_law}
+use Rattle.loom_views.proofs.Atomic.Reaching.Missing.{unreached_law}
 use Rattle.loom_views.proofs.laws.accesses_race_where_unreached.Goals as goal
 
 pub returns : goal.returns

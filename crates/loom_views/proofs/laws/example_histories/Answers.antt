@@ -1,4 +1,4 @@
-use Rattle.loom_views.proofs.Rows.{examples}
+use Rattle.loom_views.proofs.Atomic.Rows.{examples}
 use Rattle.loom_views.proofs.laws.example_histories.Goals as goal
 
 pub returns : goal.returns

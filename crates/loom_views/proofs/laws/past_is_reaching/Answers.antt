@@ -1,4 +1,4 @@
-use Rattle.loom_views.proofs.Sweeping.{past-is}
+use Rattle.loom_views.proofs.Atomic.Sweeping.{past-is}
 use Rattle.loom_views.proofs.laws.past_is_reaching.Goals as goal
 
 pub returns : goal.returns

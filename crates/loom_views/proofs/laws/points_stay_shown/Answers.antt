@@ -1,4 +1,4 @@
-use Rattle.loom_view_parts.proofs.Views.{shows-old}
+use Rattle.loom_views.proofs.Views.Views.{shows-old}
 use Rattle.loom_views.proofs.laws.points_stay_shown.Goals as goal
 
 pub returns : goal.returns

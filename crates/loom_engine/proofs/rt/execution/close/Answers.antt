@@ -1,7 +1,7 @@
 use Rattle.std.proofs.Common.{◌∙◌, ap, refl, sym}
-use Rattle.loom_objects.specs.Ending.{all_ended}
+use Rattle.loom_objects.specs.Rules.Ending.{all_ended}
 use Rattle.loom_objects.specs.World.{World}
-use Rattle.loom_engine.proofs.Executing.{closes_by, stays_open}
+use Rattle.loom_engine.proofs.Execution.Executing.{closes_by, stays_open}
 use Rattle.loom_engine.proofs.rt.execution.close.Goals as goal
 
 pub returns-in-Err-clause-along : goal.returns-in-Err-clause-along

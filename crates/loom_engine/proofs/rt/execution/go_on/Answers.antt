@@ -1,7 +1,7 @@
 use Rattle.std.proofs.Common.{refl}
 use Rattle.std.specs.Prelude.{Ok, Err}
-use Rattle.loom_engine.proofs.Executing.{load_stops, slot_read, takes_at_once}
-use Rattle.loom_engine.proofs.Growing.{as_refused, copy_refused, load_refused}
+use Rattle.loom_engine.proofs.Execution.Executing.{load_stops, slot_read, takes_at_once}
+use Rattle.loom_engine.proofs.Execution.Growing.{as_refused, copy_refused, load_refused}
 use Rattle.loom_engine.proofs.rt.execution.go_on.Goals as goal
 
 pub returns-in-Err-clause-along : goal.returns-in-Err-clause-along

@@ -1,7 +1,7 @@
 use Rattle.std.proofs.Common.{inr, refl}
-use Rattle.loom_runs.specs.Machine.{further_branches, is_asked, schedule}
-use Rattle.loom_engine.proofs.Executing.{answered_at_once}
-use Rattle.loom_engine.proofs.Growing.{as_refused, begin_refused, event_needs}
+use Rattle.loom_engine.specs.Runs.Machine.{further_branches, is_asked, schedule}
+use Rattle.loom_engine.proofs.Execution.Executing.{answered_at_once}
+use Rattle.loom_engine.proofs.Execution.Growing.{as_refused, begin_refused, event_needs}
 use Rattle.loom_engine.proofs.rt.execution.hand_over.Goals as goal
 
 pub returns-in-Err-clause-growth : goal.returns-in-Err-clause-growth

@@ -1,5 +1,5 @@
 use Rattle.std.proofs.Common.{sym}
-use Rattle.loom_engine.proofs.Executing.{left_unmarked, marked_at}
+use Rattle.loom_engine.proofs.Execution.Executing.{left_unmarked, marked_at}
 use Rattle.loom_engine.proofs.rt.execution.mark.Goals as goal
 
 pub returns-then-not-is_reduced-clause-marks : goal.returns-then-not-is_reduced-clause-marks

@@ -1,6 +1,6 @@
 use Rattle.std.specs.Prelude.{Ok, Err}
-use Rattle.loom_engine.proofs.Executing.{IsSchedule, access_refused, nobody_chosen, noted_by, schedule_refused, thread_chosen}
-use Rattle.loom_engine.proofs.Growing.{thread_needs, thread_refused}
+use Rattle.loom_engine.proofs.Execution.Executing.{IsSchedule, access_refused, nobody_chosen, noted_by, schedule_refused, thread_chosen}
+use Rattle.loom_engine.proofs.Execution.Growing.{thread_needs, thread_refused}
 use Rattle.loom_engine.proofs.rt.execution.pass.Goals as goal
 
 pub access-requires : goal.access-requires

@@ -1,9 +1,9 @@
 use Rattle.std.proofs.Common.{arith}
 use Rattle.std.specs.Prelude.{None, Ok, Err}
-use Rattle.loom_operations.specs.declared.failure.Stop.TheVariants.{Failure}
-use Rattle.loom_view_parts.specs.declared.rt.failure.FailureKind.TheVariants.{Misuse}
-use Rattle.loom_engine.proofs.Executing.{pass_stops, too_many, turn_passed}
-use Rattle.loom_engine.proofs.Growing.{as_refused, left_comes, left_further, left_needs, left_start, pass_needs}
+use Rattle.loom_objects.specs.declared.failure.Stop.TheVariants.{Failure}
+use Rattle.loom_views.specs.declared.rt.failure.FailureKind.TheVariants.{Misuse}
+use Rattle.loom_engine.proofs.Execution.Executing.{pass_stops, too_many, turn_passed}
+use Rattle.loom_engine.proofs.Execution.Growing.{as_refused, left_comes, left_further, left_needs, left_start, pass_needs}
 use Rattle.loom_engine.proofs.rt.execution.schedule.Goals as goal
 
 pub passes-init : goal.passes-init

@@ -1,4 +1,4 @@
-use Rattle.loom_engine.proofs.Growing.{IsLeft}
+use Rattle.loom_engine.proofs.Execution.Growing.{IsLeft}
 use Rattle.loom_engine.proofs.rt.execution.schedule.Given as goal
 
 -- what the schedules that are left come to is what all come to

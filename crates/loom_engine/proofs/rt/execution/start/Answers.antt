@@ -1,5 +1,5 @@
 use Rattle.std.proofs.Common.{◌-◌, ◌∙◌, ap₂, sym}
-use Rattle.loom_engine.proofs.Executing.{refused_so, start_refused}
+use Rattle.loom_engine.proofs.Execution.Executing.{refused_so, start_refused}
 use Rattle.loom_engine.proofs.rt.execution.start.Goals as goal
 
 pub returns-then-is_err-clause-growth : goal.returns-then-is_err-clause-growth

@@ -1,4 +1,4 @@
-use Rattle.loom_engine.proofs.Executing.{switch_fails, switches_so}
+use Rattle.loom_engine.proofs.Execution.Executing.{switch_fails, switches_so}
 use Rattle.loom_engine.proofs.rt.execution.switch.Goals as goal
 
 pub returns-in-Ok-clause-along : goal.returns-in-Ok-clause-along

@@ -1,6 +1,6 @@
 use Rattle.std.proofs.Common.{refl}
-use Rattle.loom_engine.proofs.Executing.{wait_goes, wait_stops, wake_stops}
-use Rattle.loom_engine.proofs.Growing.{wait_needs, wake_refused}
+use Rattle.loom_engine.proofs.Execution.Executing.{wait_goes, wait_stops, wake_stops}
+use Rattle.loom_engine.proofs.Execution.Growing.{wait_needs, wake_refused}
 use Rattle.loom_engine.proofs.rt.execution.wait.Goals as goal
 
 pub returns-in-Err-clause-along : goal.returns-in-Err-clause-along

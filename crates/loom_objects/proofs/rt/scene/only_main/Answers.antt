@@ -1,5 +1,5 @@
 use Rattle.loom_objects.specs.World.{main_thread}
-use Rattle.loom_objects.proofs.Lists.{first-set}
+use Rattle.loom_objects.proofs.Scene.Lists.{first-set}
 use Rattle.loom_objects.proofs.rt.scene.only_main.Goals as goal
 
 pub returns : goal.returns

@@ -1,6 +1,6 @@
 use Rattle.std.proofs.Common.{◌∙◌}
 use Rattle.loom_engine.specs.contracts.rt.execution.Execution.{the_view}
-use Rattle.loom_engine.proofs.Executing.{kept_over, submits_by}
+use Rattle.loom_engine.proofs.Execution.Executing.{kept_over, submits_by}
 use Rattle.loom_engine.proofs.rt.execution.Execution.submit.Goals as goal
 
 pub returns-clause-event : goal.returns-clause-event

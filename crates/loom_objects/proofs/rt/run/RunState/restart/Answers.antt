@@ -1,5 +1,5 @@
 use Rattle.std.proofs.Common.{sym}
-use Rattle.loom_views.specs.Table.{opening as first_points}
+use Rattle.loom_views.specs.Views.{opening as first_points}
 use Rattle.loom_objects.proofs.rt.run.RunState.restart.Goals as goal
 
 pub returns-clause-opens : goal.returns-clause-opens

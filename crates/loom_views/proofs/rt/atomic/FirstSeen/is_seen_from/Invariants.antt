@@ -1,5 +1,5 @@
 use Rattle.std.proofs.Common.{◌≡◌, ℕ, ◌<◌, None, slice_index_or, false, get_or}
-use Rattle.loom_views.specs.Ring.{is_version_seen}
+use Rattle.loom_views.specs.Atomic.Ring.{is_version_seen}
 use Rattle.loom_views.proofs.rt.atomic.FirstSeen.is_seen_from.Given as goal
 
 -- no touch so far has come to the view

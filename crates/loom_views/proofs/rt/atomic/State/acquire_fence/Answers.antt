@@ -1,6 +1,6 @@
 use Rattle.std.proofs.Common.{◌≡◌, ◌+◌, ◌-◌, ◌%◌, ◌<◌, min, ap, length, take, arith}
-use Rattle.loom_views.specs.Fences.{after_stores, kept_stores, standing_in, scene_at}
-use Rattle.loom_views.proofs.Fences.{more-gained}
+use Rattle.loom_views.specs.Atomic.Fences.{after_stores, kept_stores, standing_in, scene_at}
+use Rattle.loom_views.proofs.Atomic.Fences.{more-gained}
 use Rattle.loom_views.proofs.rt.atomic.State.acquire_fence.Goals as goal
 
 pub loop-i-preserved : goal.loop-i-preserved

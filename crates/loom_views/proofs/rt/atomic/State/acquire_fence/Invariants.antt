@@ -1,7 +1,7 @@
 use Rattle.std.proofs.Common.{ℕ, take}
-use Rattle.loom_views.specs.Atomic.{Scene}
-use Rattle.loom_views.specs.Fences.{after_stores, kept_stores, standing_in, scene_at}
-use Rattle.loom_views.specs.Shown.{ShowsScene}
+use Rattle.loom_views.specs.Atomic.History.{Scene}
+use Rattle.loom_views.specs.Atomic.Fences.{after_stores, kept_stores, standing_in, scene_at}
+use Rattle.loom_views.specs.Atomic.Shown.{ShowsScene}
 use Rattle.loom_views.proofs.rt.atomic.State.acquire_fence.Given as goal
 
 -- the thread stands where it has come to by the stores so far

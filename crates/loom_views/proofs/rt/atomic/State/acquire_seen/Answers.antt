@@ -1,9 +1,9 @@
 use Rattle.std.proofs.Common.{◌≡◌, ap, sym, ◌∙◌, get_or, true, false, arith}
 use Rattle.std.proofs.lemmas.List.{get_or_default}
 use Rattle.loom_views.specs.declared.rt.atomic.Store.{Store}
-use Rattle.loom_views.specs.Atomic.{in_slot}
-use Rattle.loom_views.specs.Ring.{store_at, blank_store, is_touch_in}
-use Rattle.loom_views.proofs.Fences.{seen-gained, unseen-gained}
+use Rattle.loom_views.specs.Atomic.History.{in_slot}
+use Rattle.loom_views.specs.Atomic.Ring.{store_at, blank_store, is_touch_in}
+use Rattle.loom_views.proofs.Atomic.Fences.{seen-gained, unseen-gained}
 use Rattle.loom_views.proofs.rt.atomic.State.acquire_seen.Goals as goal
 
 pub returns-then-is_seen_from : goal.returns-then-is_seen_from

@@ -4,13 +4,13 @@ use Rattle.std.specs.Option.{unwrap_or}
 use Rattle.std.specs.declared.sync.atomic.Ordering.{Ordering}
 use Rattle.std.proofs.lemmas.Bool.Decides.{nat_tests}
 use Rattle.std.proofs.lemmas.List.{get_or_default}
-use Rattle.loom_view_parts.specs.declared.rt.reader.Reader.{Reader}
-use Rattle.loom_view_parts.specs.declared.rt.reader.Reader.TheVariants.{Load, Update}
+use Rattle.loom_views.specs.declared.rt.atomic.reader.Reader.{Reader}
+use Rattle.loom_views.specs.declared.rt.atomic.reader.Reader.TheVariants.{Load, Update}
 use Rattle.loom_views.specs.declared.rt.atomic.Store.{Store}
-use Rattle.loom_view_parts.specs.Readers.{load_order}
-use Rattle.loom_view_parts.specs.declared.rt.synchronize.ThreadViews.{ThreadViews}
-use Rattle.loom_views.specs.Ring.{blank_store, drops_store, is_order_below, is_order_same, is_passed, store_at}
-use Rattle.loom_view_parts.specs.Versions.{within}
+use Rattle.loom_views.specs.Atomic.Readers.{load_order}
+use Rattle.loom_views.specs.declared.rt.synchronize.ThreadViews.{ThreadViews}
+use Rattle.loom_views.specs.Atomic.Ring.{blank_store, drops_store, is_order_below, is_order_same, is_passed, store_at}
+use Rattle.loom_views.specs.Versions.{within}
 use Rattle.loom_views.proofs.rt.atomic.State.drops.Goals as goal
 use Rattle.loom_views.proofs.rt.atomic.State.drops.Goals.{then-i-j-via-then-i-j, then-i-j-via-else-i-j+then-not-is_within}
 

@@ -1,8 +1,8 @@
 use Rattle.std.proofs.Common.{◌≡◌, min, rules, arith, sym, ◌∙◌, Err}
-use Rattle.loom_views.specs.Slots.{has_order_of}
-use Rattle.loom_views.specs.Ring.{drops_slot, is_same_slot}
-use Rattle.loom_views.proofs.Loops.{any_upto-hit, any_upto-none}
-use Rattle.loom_views.proofs.SlotSets.{met-equal, met-dropping}
+use Rattle.loom_views.specs.Atomic.Slots.{has_order_of}
+use Rattle.loom_views.specs.Atomic.Ring.{drops_slot, is_same_slot}
+use Rattle.loom_views.proofs.Atomic.Loops.{any_upto-hit, any_upto-none}
+use Rattle.loom_views.proofs.Atomic.SlotSets.{met-equal, met-dropping}
 use Rattle.loom_views.proofs.rt.atomic.State.is_dropped.Goals as goal
 
 pub returns-in_err-drops : goal.returns-in_err-drops

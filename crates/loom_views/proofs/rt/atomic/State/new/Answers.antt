@@ -1,10 +1,10 @@
 use Rattle.std.proofs.Common.{ℕ, List, sym, ◌∙◌, ap, subst}
 use Rattle.std.specs.declared.sync.atomic.Ordering.TheVariants.{Release}
 use Rattle.loom_views.specs.declared.rt.atomic.State.{State}
-use Rattle.loom_views.specs.Atomic.{new_step}
-use Rattle.loom_views.specs.Ring.{state_made, state_blank}
-use Rattle.loom_views.specs.Shown.{ShowsScene}
-use Rattle.loom_views.proofs.Accesses.{new-shown}
+use Rattle.loom_views.specs.Atomic.History.{new_step}
+use Rattle.loom_views.specs.Atomic.Ring.{state_made, state_blank}
+use Rattle.loom_views.specs.Atomic.Shown.{ShowsScene}
+use Rattle.loom_views.proofs.Atomic.Accesses.{new-shown}
 use Rattle.loom_views.proofs.rt.atomic.State.new.Goals as goal
 
 pub returns : goal.returns

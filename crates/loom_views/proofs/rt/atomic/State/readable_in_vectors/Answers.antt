@@ -1,10 +1,10 @@
 use Rattle.std.proofs.Common.{◌≡◌, ◌∙◌, ap, min, not, rules, arith, Err}
 use Rattle.std.proofs.lemmas.List.{length-set}
 use Rattle.std.specs.List.{list_any}
-use Rattle.loom_views.specs.Slots.{slots, has_equal_order_at}
-use Rattle.loom_views.specs.Ring.{drops_slot, is_same_slot}
-use Rattle.loom_views.proofs.Loops.{any_upto-hit, any_upto-none}
-use Rattle.loom_views.proofs.SlotSets.{set-is, told-more, rest-less, none-more}
+use Rattle.loom_views.specs.Atomic.Slots.{slots, has_equal_order_at}
+use Rattle.loom_views.specs.Atomic.Ring.{drops_slot, is_same_slot}
+use Rattle.loom_views.proofs.Atomic.Loops.{any_upto-hit, any_upto-none}
+use Rattle.loom_views.proofs.Atomic.SlotSets.{set-is, told-more, rest-less, none-more}
 use Rattle.loom_views.proofs.rt.atomic.State.readable_in_vectors.Goals as goal
 
 pub returns-in_err-is_dropped : goal.returns-in_err-is_dropped

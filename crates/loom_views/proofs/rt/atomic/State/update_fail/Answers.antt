@@ -1,8 +1,8 @@
 use Rattle.std.proofs.Common.{◌≡◌, get_or, arith}
 use Rattle.std.proofs.lemmas.List.{get_or_default}
-use Rattle.loom_views.specs.Atomic.{in_slot}
-use Rattle.loom_views.specs.Ring.{store_at, blank_store}
-use Rattle.loom_views.proofs.Accesses.{scene_loaded-shown}
+use Rattle.loom_views.specs.Atomic.History.{in_slot}
+use Rattle.loom_views.specs.Atomic.Ring.{store_at, blank_store}
+use Rattle.loom_views.proofs.Atomic.Accesses.{scene_loaded-shown}
 use Rattle.loom_views.proofs.rt.atomic.State.update_fail.Goals as goal
 
 pub returns : goal.returns

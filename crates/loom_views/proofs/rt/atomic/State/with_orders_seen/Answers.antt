@@ -1,9 +1,9 @@
 use Rattle.std.proofs.Common.{List, sym, ◌∙◌, ap, ◌≡◌, ℕ, true, false, get_or, arith}
 use Rattle.std.proofs.lemmas.List.{get_or_default}
-use Rattle.loom_view_parts.specs.Versions.{join}
-use Rattle.loom_views.specs.Ring.{is_order_seen, store_at, blank_store}
+use Rattle.loom_views.specs.Versions.{join}
+use Rattle.loom_views.specs.Atomic.Ring.{is_order_seen, store_at, blank_store}
 use Rattle.loom_views.specs.declared.rt.atomic.Store.{Store}
-use Rattle.loom_views.proofs.Loops.{join_all_more-yes, join_all_more-no}
+use Rattle.loom_views.proofs.Atomic.Loops.{join_all_more-yes, join_all_more-no}
 use Rattle.loom_views.proofs.rt.atomic.State.with_orders_seen.Goals as goal
 use Rattle.loom_views.proofs.rt.atomic.State.with_orders_seen.Goals.{then-is_order_seen, else-is_order_seen}
 

@@ -1,0 +1,3 @@
+pub mod Explaining
+pub mod Story
+pub mod Turning

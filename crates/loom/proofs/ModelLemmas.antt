@@ -1,0 +1,12 @@
+pub mod BoundExample
+pub mod Bounds
+pub mod Called
+pub mod Checking
+pub mod Errors
+pub mod Handing
+pub mod Numbers
+pub mod Paths
+pub mod Reading
+pub mod Replaying
+pub mod Unheard
+pub mod Within

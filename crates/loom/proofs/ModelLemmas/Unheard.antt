@@ -1,0 +1,82 @@
+-- Checks in which nobody is given the runs.
+use Rattle.std.proofs.Common.{◌≡◌, ℕ, inl, inr, List, [], ◌∷◌, refl, ap}
+use Rattle.std.specs.Prelude.{◌≢◌, ◌⊎◌, Option, Some, None, String, Result, Ok, Err, IfOk, IfErr}
+use Rattle.std.specs.declared.alloc.Global.{Global}
+use Rattle.loom_objects.specs.declared.choice.Choice.{Choice}
+use Rattle.loom_objects.specs.Tree.Tree.{Tree}
+use Rattle.loom_engine.specs.declared.rt.path.node.Node.{Node}
+use Rattle.loom.specs.declared.model.builder.Builder.{Builder}
+use Rattle.loom.specs.declared.model.error.CheckError.{CheckError}
+use Rattle.loom.specs.declared.model.error.CheckError.TheVariants.{Store, Memory}
+use Rattle.loom.specs.declared.model.report.Report.{Report}
+use Rattle.loom.specs.declared.model.report.Report.TheVariants.{Complete, Stopped, Failed}
+use Rattle.loom.specs.Model.Fresh.{Given}
+use Rattle.loom.specs.Model.Check.{IsHeld, Reports, ReportsUnheard, Says, gives_file}
+use Rattle.loom.specs.Model.Refusals.{IsNoReport, IsRefusedBy}
+use Rattle.loom.specs.Model.Settings.{defaults, tested}
+
+given_unheard : {D : Type 0} (runs : List (List Choice × D)) → Given {V = Unit {0}} (λ old choices value new. Unit {0}) tt runs tt
+given_unheard [] = refl
+given_unheard (made ∷ runs) = (tt, tt, given_unheard runs)
+
+module _ {D : Type 0} (b : Builder) (tree : Tree D) (holds : Option (List ℕ) → Type 0) (path : List Node) (runs : List (List Choice × D)) where
+  says_unheard : (report : Report) → Says b tree holds path runs report → Says b tree (λ text. Unit {0}) path runs report
+  says_unheard (Complete count) z = z
+  says_unheard (Stopped count limit checkpoint) z = record { last = z.last; reads = z.reads; compact = z.compact; held = tt; goes_on = z.goes_on }
+  says_unheard (Failed count failure choices) z = z
+
+  held_unheard : IsHeld b tree holds path runs → IsHeld b tree (λ text. Unit {0}) path runs
+  held_unheard z = record {
+    text = z.text;
+    held = tt;
+    last = z.last;
+    reads = z.reads;
+    before = z.before;
+    behind = z.behind;
+    splits = z.splits;
+    few = z.few;
+    goes_on = z.goes_on;
+  }
+
+module _ {V D : Type 0} (takes : V → List Choice → D → V → Type 0) (old new : V) (b : Builder) (tree : Tree D) (gives holds : Option (List ℕ) → Type 0) where
+  unheard : (report : Report) → Reports takes old new b tree gives holds (λ time. time ≡ record { secs = 0; nanos = 0 }) report → ReportsUnheard b tree gives report
+  unheard report z = record {
+    text = z.text;
+    gave = z.gave;
+    path = z.path;
+    reads = z.reads;
+    runs = z.runs;
+    given = record { given = given_unheard z.runs; counted = z.given.counted };
+    says = says_unheard b tree holds z.path z.runs report z.says;
+    limits = z.limits;
+    placed = z.placed;
+    held = held_unheard b tree holds z.path z.runs z.held;
+  }
+
+  pub unheard_ok : (answer : Result Report CheckError) → IfOk answer (Reports takes old new b tree gives holds (λ time. time ≡ record { secs = 0; nanos = 0 }))
+      → IfOk answer (ReportsUnheard b tree gives)
+  unheard_ok (Ok report) z = unheard report z
+  unheard_ok (Err e) z = z
+
+pub unheard_errors : {A : Type 0} (b : Builder) (gives : Option (List ℕ) → Type 0) (no_run : Type 0) (answer : Result A CheckError) → IfErr answer (IsNoReport b gives no_run)
+    → IfErr answer (IsNoReport b gives (Unit {0}))
+unheard_errors b gives no_run (Ok report) z = z
+unheard_errors b gives no_run (Err e) (inl z) = inl z
+unheard_errors b gives no_run (Err e) (inr z) = inr (z.0, tt)
+
+-- a file may give anything
+pub file_gives : (name : Option (String Global)) → name ≢ None → (P : (Option (List ℕ) → Type 0) → Type 0) → P (λ text. Unit {0}) → P (gives_file name)
+file_gives None named P z = absurd (named refl)
+file_gives (Some name) named P z = z
+
+-- a check with the defaults has no text to refuse and no store
+pub default_errors : {A : Type 0} (answer : Result A CheckError) → IfErr answer (IsNoReport defaults (gives_file None) (Unit {0})) → answer ≢ Err Store
+    → IfErr answer (λ e. e ≡ Memory)
+default_errors (Ok report) z other = z
+default_errors (Err e) (inl (inl memory)) other = memory
+default_errors (Err e) (inl (inr store)) other = absurd (other (ap Err store))
+default_errors (Err e) (inr z) other = absurd (refused z.0)
+  where
+    refused : (tested defaults ≡ Err e) ⊎ IsRefusedBy defaults (gives_file None) e → ⊥
+    refused (inl is) = (let fails : Ok tt ≡ Err e = is in cc fails)
+    refused (inr r) = (let given : Some r.0 ≡ None = r.2 in cc given)

@@ -1,0 +1,10 @@
+pub mod Alternatives
+pub mod Driving
+pub mod Failing
+pub mod Following
+pub mod Leading
+pub mod Once
+pub mod Paths
+pub mod Remembering
+pub mod Rounds
+pub mod Trying

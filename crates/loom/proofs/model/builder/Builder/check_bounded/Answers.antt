@@ -1,0 +1,10 @@
+use Rattle.loom.specs.Model.Rising.{bounded}
+use Rattle.loom.proofs.ModelLemmas.Bounds.{storeless}
+use Rattle.loom.proofs.model.builder.Builder.check_bounded.Goals as goal
+
+pub returns-clause-reports : goal.returns-clause-reports
+returns-clause-reports g c = rw c.with_bound.ensures at c.check_alone.ensures.reports
+
+pub returns-clause-errors : goal.returns-clause-errors
+returns-clause-errors g c =
+    storeless (bounded c.args.self.now c.args.bound) c.check_alone.result (rw c.with_bound.ensures at c.check_alone.ensures.errors) c.check_alone.ensures.faults

@@ -1,0 +1,15 @@
+use Rattle.std.proofs.Common.{◌∙◌, length}
+use Rattle.loom.proofs.ExplainLemmas.Explaining.{told}
+use Rattle.loom.proofs.model.builder.Builder.explain.Goals as goal
+
+pub returns-clause-explains : goal.returns-clause-explains
+returns-clause-explains g c =
+    let b = c.args.self.now in
+    let e = c.in_ok-explanation.ensures in
+    let z = told b g.B.Body.next c.args.body.now c.args.choices.now c.in_ok-explanation.explanation.choices.items c.in_ok-told.path e.path.0 c.in_ok-told.told.events.items c.in_ok-told.told.end c.in_ok-told.ensures in
+    record {
+      events = e.told.0 ∙ z.events;
+      ends = rw e.told.1 z.ends;
+      options = e.path.1 ∙ z.passed;
+      limits = e.limits;
+    }

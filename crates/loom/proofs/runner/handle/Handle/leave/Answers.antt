@@ -1,0 +1,13 @@
+use Rattle.std.proofs.Common.{◌≡◌, ◌∙◌, Bool, true, false, ap, sym, Result, Ok, Err, OnOk}
+use Rattle.loom.specs.Runner.Handle.{Teller}
+use Rattle.loom.proofs.RunnerLemmas.Remembering.{on_ok}
+use Rattle.loom.proofs.runner.handle.Handle.leave.Goals as goal
+
+pub returns-in-Some-clause-starved : goal.returns-in-Some-clause-starved
+returns-in-Some-clause-starved g c starved = ap Err (c.in-Some.ensures (ap (λ (t : Teller _). t.starved) c.self.view_is ∙ starved))
+
+pub returns-clause-fed : goal.returns-clause-fed
+returns-clause-fed g c = on_ok c.gather.result _ (sym (ap (λ (t : Teller _). t.starved) c.self.view_is) ∙ c.in-None.ensures)
+
+pub returns-clause-starved : goal.returns-clause-starved
+returns-clause-starved g c starved = cc (c.in-None.ensures, ap (λ (t : Teller _). t.starved) c.self.view_is, starved)

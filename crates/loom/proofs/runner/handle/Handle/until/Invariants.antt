@@ -1,0 +1,5 @@
+use Rattle.loom.proofs.runner.handle.Handle.until.Given as goal
+
+-- the closure may be called again
+abbrev pub invariant-loop : goal.invariant-loop
+invariant-loop g l = goal.F-IsAlwaysCallable g l.holds

@@ -1,0 +1,5 @@
+pub mod Bare
+pub mod Ends
+pub mod Explains
+pub mod Story
+pub mod Telling

@@ -1,0 +1,35 @@
+-- A story that is being told.
+use Rattle.std.specs.Prelude.{ℕ, suc, ◌≡◌, List, ◌++◌, Result, Ok, Err}
+use Rattle.loom_objects.specs.declared.failure.Stop.{Stop}
+use Rattle.loom_objects.specs.declared.failure.Stop.TheVariants.{Failure as Because, Memory}
+use Rattle.loom_objects.specs.declared.operation.Reply.{Reply}
+use Rattle.loom_objects.specs.declared.operation.Reply.TheVariants as reply
+use Rattle.loom_objects.specs.declared.operation.Turn.{Turn}
+use Rattle.loom_objects.specs.declared.operation.Turn.TheVariants as turn
+use Rattle.loom_engine.specs.declared.rt.execution.Progress.{Progress}
+use Rattle.loom_engine.specs.Execution.{ShowsCourse}
+use Rattle.loom_engine.specs.Path.Route.{Route, trail}
+use Rattle.loom_engine.specs.Runs.Course.{Course}
+use Rattle.loom_engine.specs.Runs.Body.{Meaning}
+use Rattle.loom_explain.specs.declared.event.Event.{Event}
+use Rattle.loom.specs.Explain.Story.{Story, story}
+
+-- the story with these events before it
+abbrev pub behind : {D : Type 0} → List Event → Story D → Story D
+behind events rest = record { events = events ++ rest.events; comes = rest.comes }
+
+module _ {D S : Type 0} (next : Meaning D S) (whole : Story D) where
+  -- A run under way, of which these events were told: the thread is to be told the reply, and from a course that the code's run
+  -- shows along the path, the rest of the story completes the whole one.
+  pub record IsUnderWay (events : List Event) (bodies : List S) (run : Progress D) (path : Route) (thread : ℕ) (answer : Reply D) : Type 0 where
+    pub course : Course D
+    pub shown : ShowsCourse course run path
+    pub rest : behind events (story path.search next (suc course.world.steps_left) bodies course (trail path) thread answer) ≡ whole
+
+  -- the next turn of such a run, when these events were told
+  abbrev pub ComesToTurn : Result (Turn D) Stop → List Event → List S → Progress D → Route → Type 0
+  ComesToTurn (Ok (turn.Reply thread answer)) events bodies run path = IsUnderWay events bodies run path thread answer
+  ComesToTurn (Ok (turn.Start thread)) events bodies run path = IsUnderWay events bodies run path thread reply.Start
+  ComesToTurn (Ok (turn.Ended value)) events bodies run path = whole ≡ record { events = events; comes = (Ok value, trail path) }
+  ComesToTurn (Err (Because failure)) events bodies run path = whole ≡ record { events = events; comes = (Err failure.kind, trail path) }
+  ComesToTurn (Err Memory) events bodies run path = Unit {0}

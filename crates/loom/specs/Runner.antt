@@ -1,0 +1,14 @@
+pub mod After
+pub mod Asking
+pub mod Calls
+pub mod Chains
+pub mod Check
+pub mod Errors
+pub mod Events
+pub mod Handle
+pub mod Histories
+pub mod Kinds
+pub mod Laws
+pub mod Made
+pub mod Replay
+pub mod Run

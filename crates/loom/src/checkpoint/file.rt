@@ -1,0 +1,89 @@
+//! A checkpoint's text in a file, and the file of a check.
+ghost use Rattle.std.specs.Prelude.{◌≡◌, ◌↔◌, None};
+ghost use Rattle.loom.specs.Model.Stores.{IsCounted};
+
+use crate::checkpoint::store::{CheckpointStore, StoreError};
+use std::alloc::Global;
+use std::fs::{self, File};
+use std::io::{self, ErrorKind, Read};
+use std::rt::Files;
+
+/// Keeps a checkpoint's text in a file. Nothing is known of what a file holds.
+#[derive(Drop)]
+pub struct FileStore<'a, R> {
+    rt: &'a R,
+    path: &'a str,
+    faults: u64,
+}
+
+impl<'a, R: Files> FileStore<'a, R> {
+    /// The file of this name. A missing file gives no text.
+    pub fn new(rt: &'a R, path: &'a str) -> FileStore<'a, R>
+        ensures { result.faults ≡ 0 }
+    {
+        FileStore {
+            rt,
+            path,
+            faults: 0,
+        }
+    }
+
+    /// What an error of the file means here. A fault is counted.
+    fn refused(&mut self, error: io::Error) -> StoreError
+        ensures { IsCounted self.old.faults self.new.faults result }
+    {
+        if error.kind() == ErrorKind::OutOfMemory {
+            return StoreError::Memory;
+        }
+        self.faults = self.faults.saturating_add(1);
+        StoreError::Fault
+    }
+
+    /// The bytes of the file.
+    fn read(&self, alloc: Global) -> io::Result<Vec<u8>> {
+        let mut bytes = Vec::new(alloc);
+        File::open(self.rt, self.path)?.read_to_end(&mut bytes)?;
+        Ok(bytes)
+    }
+}
+
+impl<'a, R: Files> CheckpointStore for FileStore<'a, R> {
+    ghost gives = { λ _ _. Unit {0} };
+
+    ghost holds = { λ _ _. Unit {0} };
+
+    ghost fault_count = { λ store. store.faults };
+
+    fn load(&mut self, alloc: Global) -> Result<Option<Vec<u8>>, StoreError> {
+        match self.read(alloc) {
+            Ok(bytes) => Ok(Some(bytes)),
+            Err(error) => {
+                if error.kind() == ErrorKind::NotFound {
+                    return Ok(None);
+                }
+                Err(self.refused(error))
+            }
+        }
+    }
+
+    fn save(&mut self, text: &str) -> Result<(), StoreError> {
+        match fs::write(self.rt, self.path, text) {
+            Ok(()) => Ok(()),
+            Err(error) => Err(self.refused(error)),
+        }
+    }
+
+    fn faults(&self) -> u64 {
+        self.faults
+    }
+}
+
+/// The store of a check: the file of this name, or none without a name.
+pub fn file_store<'a, R: Files>(rt: &'a R, name: &'a Option<String>) -> Option<FileStore<'a, R>>
+    ensures { (result ≡ None) ↔ (name.now ≡ None) }
+{
+    match name {
+        Some(name) => Some(FileStore::new(rt, name.as_str())),
+        None => None,
+    }
+}

@@ -1,0 +1,73 @@
+ghost use Rattle.std.specs.Prelude.{◌≡◌};
+ghost use Rattle.loom.specs.Model.Environment.{duration_in, number_in, number_or as or_number, option_in};
+
+use crate::model::error::{CheckError, Variable};
+use std::time::Duration;
+
+/// The variables of an environment that say how a check is done (loom reads them by itself).
+#[derive(Debug, Drop)]
+pub struct Env {
+    /// `LOOM_MAX_BRANCHES`, a number.
+    pub max_branches: Option<String>,
+    /// `LOOM_MAX_PERMUTATIONS`, a number.
+    pub max_permutations: Option<String>,
+    /// `LOOM_MAX_DURATION`, a number of seconds.
+    pub max_duration: Option<String>,
+    /// `LOOM_MAX_PREEMPTIONS`, a number.
+    pub max_preemptions: Option<String>,
+    /// `LOOM_CHECKPOINT_FILE`, a file's name.
+    pub checkpoint_file: Option<String>,
+    /// `LOOM_CHECKPOINT_INTERVAL`, a number.
+    pub checkpoint_interval: Option<String>,
+    /// `LOOM_LOCATION`, which counts by being there.
+    pub location: Option<String>,
+    /// `LOOM_LOG`, which counts by being there.
+    pub log: Option<String>,
+}
+
+/// The number that the variable's text says, in decimal digits, of 64 bits.
+fn number(variable: Variable, text: &str) -> Result<usize, CheckError>
+    ensures { result ≡ number_in variable text.now }
+{
+    match text.parse::<usize>() {
+        Ok(number) => Ok(number),
+        Err(_) => Err(CheckError::NotANumber(variable)),
+    }
+}
+
+/// The number that the text says, or this one without a text.
+pub(crate) fn number_or(
+    variable: Variable,
+    text: &Option<String>,
+    without: usize,
+) -> Result<usize, CheckError>
+    ensures { result ≡ or_number variable text.now without }
+{
+    match text {
+        Some(text) => number(variable, text.as_str()),
+        None => Ok(without),
+    }
+}
+
+/// The number that the text says, if there is one.
+pub(crate) fn optional(
+    variable: Variable,
+    text: &Option<String>,
+) -> Result<Option<usize>, CheckError>
+    ensures { result ≡ option_in variable text.now }
+{
+    match text {
+        Some(text) => Ok(Some(number(variable, text.as_str())?)),
+        None => Ok(None),
+    }
+}
+
+/// As many seconds as the text says, if there is one.
+pub(crate) fn seconds(text: &Option<String>) -> Result<Option<Duration>, CheckError>
+    ensures { result ≡ duration_in text.now }
+{
+    match optional(Variable::MaxDuration, text)? {
+        Some(number) => Ok(Some(Duration::from_secs(number as u64))),
+        None => Ok(None),
+    }
+}

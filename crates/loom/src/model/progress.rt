@@ -1,0 +1,17 @@
+//! What a log is told of a check.
+use log::{Log, debug};
+use loom_engine::rt::path::Path;
+use loom_objects::choice::Choice;
+
+/// The threads that became active in the run that the path has passed, one after another.
+pub(crate) fn log_switches<L: Log>(log: &L, path: &Path) {
+    let mut active = 0u8;
+    for node in path.nodes().iter().take(path.position()) {
+        if let Choice::Thread(Some(thread)) = node.choice()
+            && thread != active
+        {
+            active = thread;
+            debug!(log; target: "loom::progress", "thread {}", thread);
+        }
+    }
+}

@@ -1,0 +1,80 @@
+//! What a report says, for a person.
+
+use crate::choices::ShownChoices;
+use crate::model::Limit;
+use loom_objects::choice::Choice;
+use loom_objects::failure::Failure;
+use std::fmt;
+
+/// What a check found. `runs` counts the runs that ended without a failure.
+#[derive(Debug, PartialEq, Eq, Drop)]
+pub enum Report {
+    /// Every run was made that was to be made, and none failed.
+    Complete {
+        runs: u64,
+    },
+    /// A limit was reached.
+    Stopped {
+        runs: u64,
+        limit: Limit,
+        /// The text of the path with which a check goes on.
+        checkpoint: String,
+    },
+    /// A run failed, under these choices.
+    Failed {
+        runs: u64,
+        failure: Failure,
+        choices: Vec<Choice>,
+    },
+}
+
+/// So many runs, as `1 run` and `2 runs`.
+#[derive(Clone, Copy)]
+struct Runs(u64);
+
+impl fmt::Display for Runs {
+    fn fmt<W: fmt::Write>(&self, f: &mut fmt::Formatter<W>) -> fmt::Result {
+        let runs = self.0;
+        if runs == 1 {
+            write!(f, "1 run")
+        } else {
+            write!(f, "{runs} runs")
+        }
+    }
+}
+
+/// The setting that says the limit.
+impl fmt::Display for Limit {
+    fn fmt<W: fmt::Write>(&self, f: &mut fmt::Formatter<W>) -> fmt::Result {
+        match self {
+            Limit::Permutations => write!(f, "max_permutations"),
+            Limit::Duration => write!(f, "max_duration"),
+        }
+    }
+}
+
+/// How the check ended, after how many runs. Of a failure also why the run failed, and on a line of its own the choices that
+/// `Choices::parse` reads, and with which `replay` makes it again.
+impl fmt::Display for Report {
+    fn fmt<W: fmt::Write>(&self, f: &mut fmt::Formatter<W>) -> fmt::Result {
+        match self {
+            Report::Complete { runs } => {
+                let runs = Runs(*runs);
+                write!(f, "complete: {runs}, none failed")
+            }
+            Report::Stopped { runs, limit, .. } => {
+                let runs = Runs(*runs);
+                write!(f, "stopped: `{limit}` was reached after {runs}")
+            }
+            Report::Failed {
+                runs,
+                failure,
+                choices,
+            } => {
+                let runs = Runs(*runs);
+                let choices = ShownChoices(choices.as_slice());
+                write!(f, "failed after {runs}: {failure}\nreplay: {choices}")
+            }
+        }
+    }
+}

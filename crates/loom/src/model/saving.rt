@@ -1,0 +1,108 @@
+//! A check saves its path, before a run and where it stops.
+ghost use Rattle.std.specs.Prelude.{◌≡◌, ◌<◌, ◌+◌, ◌-◌, ◌^◌, IfOk, string_bytes};
+ghost use Rattle.loom.specs.Model.Rounds.{ComesTo};
+ghost use Rattle.loom_engine.specs.Path.Route.{IsAtStart, stored};
+ghost use Rattle.loom.specs.Model.Saving.{IsKept, IsSavedAs};
+ghost use Rattle.loom.specs.Model.Stores.{Counts};
+ghost use Rattle.loom_engine.specs.Trees.Resuming.{AreAtRest, HasDefaults};
+
+use crate::checkpoint::store::{CheckpointStore, StoreError};
+use crate::model::limits::tell_log;
+use crate::model::receiver::Receiver;
+use crate::model::rounds::{Round, run_and_step};
+use crate::model::runs::Runs;
+use log::Log;
+use loom_engine::rt::path::Path;
+use loom_engine::rt::path::checkpoint::text::to_text;
+use loom_objects::failure::Failure;
+use std::alloc::Global;
+
+/// How far a check has come, and when it saves its path.
+#[derive(Drop)]
+pub struct Pace {
+    /// It saves its path before each run whose number is a multiple of this.
+    pub interval: usize,
+    /// How many runs are made.
+    pub runs: u64,
+    /// How many runs are made until the next time.
+    pub until_save: usize,
+}
+
+/// Saves the path where it is time for that, and then makes one run along it, which the receiver is given, and the step to the
+/// next one. So what is saved is never the path of a run that failed.
+pub fn save_and_run<D: Drop, Choices, M, R, S, L>(
+    alloc: Global,
+    runs: &M,
+    room: &mut M::Room,
+    receiver: &mut R,
+    path: &mut Path,
+    store: &mut S,
+    log: &L,
+    pace: &mut Pace,
+) -> Result<Round, StoreError>
+where
+    M: Runs<Result<D, Failure>>,
+    R: Receiver<D, Choices>,
+    S: CheckpointStore,
+    L: Log,
+    requires may { M.may_run runs.now }
+    requires starts { IsAtStart (M.begins_exploring runs.now) path.old }
+    requires rests { AreAtRest (stored path.old.nodes) }
+    requires defaults { HasDefaults (stored path.old.nodes) }
+    requires fits { pace.old.runs < 2 ^ 64 - 1 }
+    requires interval { 0 < pace.old.interval }
+    ensures kept { IfOk result (λ _. IsKept pace.old.interval pace.old.until_save path.old (S.holds store.old) (S.holds store.new) pace.new.until_save) }
+    ensures interval { pace.new.interval ≡ pace.old.interval }
+    ensures runs { pace.new.runs ≡ pace.old.runs }
+    ensures comes { IfOk result (λ round. ComesTo (M.comes runs.now) R.receives path.old receiver.old round path.new receiver.new) }
+    ensures faults { Counts result (S.fault_count store.old) (S.fault_count store.new) }
+{
+    pace.until_save = keep(alloc, path, store, log, pace)?;
+    match run_and_step(alloc, runs, room, receiver, path) {
+        Ok(round) => Ok(round),
+        Err(_) => Err(StoreError::Memory),
+    }
+}
+
+/// Saves the path where it is time for that. Answers how many runs are made until the next time.
+fn keep<S: CheckpointStore, L: Log>(
+    alloc: Global,
+    path: &Path,
+    store: &mut S,
+    log: &L,
+    pace: &Pace,
+) -> Result<usize, StoreError>
+    requires fits { pace.now.runs < 2 ^ 64 - 1 }
+    requires interval { 0 < pace.now.interval }
+    requires rests { AreAtRest (stored path.now.nodes) }
+    requires defaults { HasDefaults (stored path.now.nodes) }
+    ensures kept { IfOk result (λ left. IsKept pace.now.interval pace.now.until_save path.now (S.holds store.old) (S.holds store.new) left) }
+    ensures faults { Counts result (S.fault_count store.old) (S.fault_count store.new) }
+{
+    if pace.until_save > 0 {
+        return Ok(pace.until_save - 1);
+    }
+    save(alloc, path, store)?;
+    tell_log(log, "iteration ", pace.runs + 1, "");
+    Ok(pace.interval - 1)
+}
+
+/// Saves the path, and answers its text.
+pub fn save<S: CheckpointStore>(
+    alloc: Global,
+    path: &Path,
+    store: &mut S,
+) -> Result<String, StoreError>
+    requires rests { AreAtRest (stored path.now.nodes) }
+    requires defaults { HasDefaults (stored path.now.nodes) }
+    ensures saved { IfOk result (λ text. IsSavedAs path.now (S.holds store.new) (string_bytes text)) }
+    ensures faults { Counts result (S.fault_count store.old) (S.fault_count store.new) }
+{
+    path.well_formed_rests();
+    let _nodes = path.nodes();
+    let Ok(text) = to_text(alloc, path) else {
+        return Err(StoreError::Memory);
+    };
+    store.save(text.as_str())?;
+    Ok(text)
+}

@@ -1,0 +1,15 @@
+ghost use Rattle.std.specs.Prelude.{List, OnOk};
+ghost use Rattle.loom_objects.specs.declared.choice.Choice.{Choice};
+
+use loom_objects::choice::Choice;
+use std::alloc::AllocError;
+
+/// Is given each run that ended without a failure, one after another.
+pub trait Visitor<D> {
+    /// What a call does: the visitor before it, the run's choices, main's result, and the visitor after it.
+    ghost takes: { Self → List Choice → D → Self → Type 0 };
+
+    /// It fails only where a growth is refused, which ends the check.
+    fn run(&mut self, choices: &[Choice], value: D) -> Result<(), AllocError>
+        ensures { OnOk result (takes self.old choices.now value self.new) };
+}

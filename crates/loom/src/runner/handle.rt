@@ -1,0 +1,277 @@
+//! By what a thread hands over operations.
+ghost use Rattle.std.specs.Prelude.{◌≡◌, ◌++◌, ◌∷◌, [], IfOk, IfErr, OnOk, MatchOption, Some, Ok, Err, true, false, slice_get};
+ghost use Rattle.loom_objects.specs.declared.operation.Reply.TheVariants as reply;
+ghost use Rattle.loom.specs.Runner.Histories.{entry};
+ghost use Rattle.loom.specs.Runner.Handle.{newcomer, with_open, failing, finishing, handed, spawning, ByStop, Closes, all_answered, is_memory, Leading};
+
+mod arcs;
+pub mod ask;
+mod atomics;
+pub mod calls;
+mod cells;
+mod channels;
+mod entries;
+mod locks;
+mod threads;
+mod waits;
+
+use crate::runner::error::RoundError;
+use crate::runner::exact::Exact;
+use crate::runner::handle::calls::{allowed, last_of};
+use crate::runner::handle::entries::{has_room, note, note_spawn, prepare};
+use crate::runner::history::event::Entry;
+use crate::runner::history::told::Told;
+use crate::runner::job::Job;
+use crate::runner::shared::{self, Children, Shared};
+use crate::runner::stop::Stop;
+use loom_objects::operation::{Reply, Request, ThreadOp};
+use loom_ops::thread::JoinHandle;
+use std::alloc::{AllocError, Global};
+use std::marker::Model;
+use std::sync::{Arc, Wait};
+use std::thread::Threads;
+
+/// By what a thread of a run hands over its operations, and waits for their replies (own). Once a call was answered by a stop,
+/// each later one is.
+#[derive(Drop)]
+pub struct Handle<D, R> {
+    rt: R,
+    alloc: Global,
+    shared: Arc<Shared<D>, Global>,
+    thread: u8,
+    told: Vec<Entry<D>>,
+    stop: Option<Stop>,
+    children: Children<D>,
+}
+
+impl<D, R> Model for Handle<D, R> {
+    ghost use Rattle.loom.specs.Runner.Handle.{Teller, Remembers, is_memory};
+
+    ghost Value = { Teller D };
+
+    ghost view = { λ h. record { thread = h.thread; told = h.told.items; starved = is_memory h.stop } };
+
+    ghost invariant = { λ h. Remembers h.told.items h.stop };
+}
+
+impl<D: Exact + 'static, R: Wait> Handle<D, R> {
+    /// Hands over an operation, and waits for its reply. A spawn, and an operation of a thread's end, fails the run as an
+    /// assertion: for these there are `spawn` and the closure's own end. After a stop each call answers it again (own).
+    pub fn call(&mut self, request: Request<D, ()>) -> Result<Reply<D>, Stop>
+        ensures live { OnOk result (all_answered self.old.told ≡ true) }
+        ensures thread { self.new.thread ≡ self.old.thread }
+        ensures answered { IfOk result (λ reply. self.new.told ≡ self.old.told ++ entry request (Some reply) ∷ []) }
+        ensures stopped { IfErr result (λ stop. ByStop stop (self.new.told ≡ with_open self.old.told (handed request)) (self.new.starved ≡ true)) }
+    {
+        match allowed(request) {
+            Some(op) => self.hand_over(op),
+            None => Err(self.fail()),
+        }
+    }
+
+    /// Hands over `fail`, and answers the stop (own).
+    pub fn fail(&mut self) -> Stop
+        ensures thread { self.new.thread ≡ self.old.thread }
+        ensures stopped { ByStop result (self.new.told ≡ with_open self.old.told failing) (self.new.starved ≡ true) }
+    {
+        if let Some(stop) = self.stop {
+            return stop;
+        }
+        if !has_room(&mut self.told) {
+            return self.give_up(Stop::Memory);
+        }
+        let stop = shared::fail(&self.rt, &self.shared, self.thread);
+        self.told.push_reserved(Entry {
+            op: Request::Fail,
+            reply: None,
+        });
+        self.stop = Some(stop);
+        stop
+    }
+
+    fn hand_over(&mut self, op: Request<D, ()>) -> Result<Reply<D>, Stop>
+        ensures live { OnOk result (all_answered self.old.told ≡ true) }
+        ensures thread { self.new.thread ≡ self.old.thread }
+        ensures answered { IfOk result (λ reply. self.new.told ≡ self.old.told ++ entry op (Some reply) ∷ []) }
+        ensures stopped { IfErr result (λ stop. ByStop stop (self.new.told ≡ with_open self.old.told op) (self.new.starved ≡ true)) }
+    {
+        if let Some(stop) = self.stop {
+            op.let_go();
+            return Err(stop);
+        }
+        let Some(kept) = prepare(&mut self.told, &op) else {
+            op.let_go();
+            return Err(self.give_up(Stop::Memory));
+        };
+        let answer = shared::hand_over(&self.rt, &self.shared, self.thread, op);
+        match note(self.alloc, &mut self.told, kept, answer) {
+            Ok(reply) => Ok(reply),
+            Err(stop) => {
+                self.stop = Some(stop);
+                shared::heed(&self.rt, &self.shared, stop);
+                Err(stop)
+            }
+        }
+    }
+
+    /// Ends the run for want of memory.
+    pub(crate) fn give_up(&mut self, stop: Stop) -> Stop
+        requires { stop ≡ Stop.Memory }
+        ensures thread { self.new.thread ≡ self.old.thread }
+        ensures starved { self.new.starved ≡ true }
+        ensures stop { result ≡ Stop.Memory }
+    {
+        self.stop = Some(stop);
+        shared::give_up(&self.rt, &self.shared, stop);
+        stop
+    }
+}
+
+impl<D: Exact + 'static, R: Threads + Wait + Clone + Send + 'static> Handle<D, R> {
+    /// The handle of a thread that was told nothing yet.
+    pub(crate) fn new(
+        rt: R,
+        alloc: Global,
+        shared: Arc<Shared<D>, Global>,
+        thread: u8,
+    ) -> Handle<D, R>
+        ensures { result ≡ newcomer thread }
+    {
+        Handle {
+            rt,
+            alloc,
+            shared,
+            thread,
+            told: Vec::new(alloc),
+            stop: None,
+            children: Vec::new(alloc),
+        }
+    }
+
+    /// Starts a thread that runs the job, once its turn comes (loom's `thread.rs`). Where the host refuses the thread, the job is
+    /// dropped and the run stops.
+    pub fn spawn_job<J: Job<D, R> + 'static>(&mut self, job: J) -> Result<JoinHandle, Stop>
+        requires { J.ready job }
+        ensures live { OnOk result (all_answered self.old.told ≡ true) }
+        ensures thread { self.new.thread ≡ self.old.thread }
+        ensures answered { IfOk result (λ child. self.new.told ≡ self.old.told ++ entry spawning (Some (reply.Spawned child.thread child.name child.notifier)) ∷ []) }
+        ensures stopped { IfErr result (λ stop. ByStop stop (self.new.told ≡ with_open self.old.told spawning) (self.new.starved ≡ true)) }
+    {
+        if let Some(stop) = self.stop {
+            return Err(stop);
+        }
+        if !has_room(&mut self.told) {
+            return Err(self.give_up(Stop::Memory));
+        }
+        if !has_room(&mut self.children) {
+            return Err(self.give_up(Stop::Memory));
+        }
+        let started = shared::start(&self.rt, self.alloc, &self.shared, self.thread, job);
+        match note_spawn(&mut self.told, &mut self.children, started) {
+            Ok(handle) => Ok(handle),
+            Err(stop) => {
+                self.stop = Some(stop);
+                shared::heed(&self.rt, &self.shared, stop);
+                Err(stop)
+            }
+        }
+    }
+
+    /// Ends the thread by its closure's answer: hands over its result, `exit` and `end`, or for a stop `fail`, unless a call was
+    /// answered by a stop already. Then joins the threads that it started. Answers what they all were told, its own list first
+    /// (own). `Memory` where a call was refused memory, `Refused` where a thread was refused.
+    pub fn close(mut self, answer: Result<D, Stop>) -> Result<Vec<Told<D>>, RoundError>
+        ensures told { IfOk result (λ all. Leading self.thread all.items (Closes self.told answer)) }
+    {
+        match last_of(answer) {
+            Some(last) => self.finish(last),
+            None => {
+                self.fail();
+            }
+        }
+        self.leave()
+    }
+
+    /// Hands over this `finish`, `exit` and `end`, up to the first that is answered by a stop.
+    fn finish(&mut self, last: Request<D, ()>)
+        ensures thread { self.new.thread ≡ self.old.thread }
+        ensures told { (value : D) → last ≡ finishing value → self.new.starved ≡ false → Closes self.old.told (Ok value) self.new.told }
+    {
+        let Ok(reply) = self.hand_over(last) else {
+            return;
+        };
+        reply.let_go();
+        let Ok(reply) = self.hand_over(Request::Thread(ThreadOp::Exit)) else {
+            return;
+        };
+        reply.let_go();
+        shared::end(&self.rt, &self.shared);
+    }
+
+    /// Joins the threads that it started.
+    pub(crate) fn leave(self) -> Result<Vec<Told<D>>, RoundError>
+        ensures told { IfOk result (λ all. Leading self.thread all.items (λ es. es ≡ self.told)) }
+        ensures fed { OnOk result (self.starved ≡ false) }
+        ensures starved { self.starved ≡ true → result ≡ Err RoundError.Memory }
+    {
+        let Handle {
+            rt,
+            alloc,
+            shared,
+            thread,
+            told,
+            stop,
+            children,
+        } = self;
+        let_go_of(shared);
+        let others = shared::join_all(&rt, alloc, children);
+        let first = Told {
+            thread,
+            entries: told,
+        };
+        match refusal(stop) {
+            Some(error) => {
+                let_lists_go(first, others);
+                Err(error)
+            }
+            None => gather(alloc, first, others),
+        }
+    }
+}
+
+/// Lets go of what the threads of a run share. It stands alone, since that is done in many steps.
+fn let_go_of<D: Drop>(_shared: Arc<Shared<D>, Global>) {}
+
+/// Lets the lists go.
+fn let_lists_go<D: Drop>(_first: Told<D>, _others: Result<Vec<Told<D>>, RoundError>) {}
+
+/// The error of a thread that stopped so, unless its run went on or failed.
+fn refusal(stop: Option<Stop>) -> Option<RoundError>
+    ensures { MatchOption result (is_memory stop ≡ false) (λ error. is_memory stop ≡ true → error ≡ RoundError.Memory) }
+{
+    match stop {
+        Some(Stop::Memory) => Some(RoundError::Memory),
+        Some(Stop::Refused) => Some(RoundError::Refused),
+        Some(Stop::Failure(_)) | None => None,
+    }
+}
+
+/// The lists of the threads, this one first, unless a thread that was joined answered an error.
+fn gather<D: Drop>(
+    alloc: Global,
+    first: Told<D>,
+    others: Result<Vec<Told<D>>, RoundError>,
+) -> Result<Vec<Told<D>>, RoundError>
+    ensures { IfOk result (λ all. slice_get all.items 0 ≡ Some first) }
+{
+    let mut all = Vec::new(alloc);
+    if all.push(first).is_err() {
+        return Err(RoundError::Memory);
+    }
+    if all.append(&mut others?).is_err() {
+        return Err(RoundError::Memory);
+    }
+    Ok(all)
+}
+
+// Short forms of `Handle::ask`, by the kind of object.

@@ -1,0 +1,60 @@
+// Short forms for counted references: each makes an operation, and takes its reply apart.
+ghost use Rattle.std.specs.Prelude.{◌≡◌, IfOk, None};
+ghost use Rattle.loom.specs.Runner.Asking.{Tells, done_in, loaded_in, given_in, left_in};
+ghost use Rattle.loom_objects.specs.declared.operation.Request.TheVariants as op;
+ghost use Rattle.loom_objects.specs.declared.operation.ArcOp.TheVariants as arc_op;
+ghost use Rattle.loom_ops.specs.Arc.{arc_handle};
+
+use crate::runner::exact::Exact;
+use crate::runner::handle::Handle;
+use crate::runner::stop::Stop;
+use loom_ops::answers::answer::Loaded;
+use loom_ops::answers::arc::Left;
+use loom_ops::answers::cell::Given;
+use loom_ops::sync::arc::Arc;
+use std::sync::Wait;
+
+impl<D: Exact + 'static, R: Wait> Handle<D, R> {
+    /// A new counted reference to this value, the only one (loom's `sync/arc.rs`).
+    pub fn arc(&mut self, value: D) -> Result<Arc, Stop>
+        ensures thread { self.new.thread ≡ self.old.thread }
+        ensures tells { IfOk result (Tells arc_handle (op.Arc (arc_op.New value)) self.old.told self.new.told) }
+    {
+        self.ask(Arc::new(value).request)
+    }
+
+    /// One reference more, by the same handle (loom's `sync/arc.rs`).
+    pub fn clone_arc(&mut self, arc: &Arc) -> Result<Arc, Stop>
+        ensures thread { self.new.thread ≡ self.old.thread }
+    {
+        let arc = *arc;
+        self.ask::<()>(arc.clone().request)?;
+        Ok(arc)
+    }
+
+    /// One reference fewer: in loom the drop. The last one gives the value (loom's `sync/arc.rs`).
+    pub fn drop_arc(&mut self, arc: Arc) -> Result<Option<D>, Stop>
+        ensures thread { self.new.thread ≡ self.old.thread }
+        ensures tells { IfOk result (λ answer. Tells left_in (op.Arc (arc_op.Drop arc.number)) self.old.told self.new.told (record { 0 = answer })) }
+    {
+        let Left(value) = self.ask(arc.drop().request)?;
+        Ok(value)
+    }
+
+    /// A copy of the value: in loom the `Deref` (loom's `sync/arc.rs`).
+    pub fn deref(&mut self, arc: &Arc) -> Result<D, Stop>
+        ensures thread { self.new.thread ≡ self.old.thread }
+        ensures tells { IfOk result (λ answer. Tells given_in (op.Arc (arc_op.Get arc.now.number)) self.old.told self.new.told (record { 0 = answer })) }
+    {
+        let Given(value) = self.ask(arc.get().request)?;
+        Ok(value)
+    }
+
+    /// How many references there are (loom's `sync/arc.rs`).
+    pub fn strong_count(&mut self, arc: &Arc) -> Result<usize, Stop>
+        ensures thread { self.new.thread ≡ self.old.thread }
+    {
+        let Loaded(count) = self.ask(arc.strong_count().request)?;
+        Ok(count)
+    }
+}

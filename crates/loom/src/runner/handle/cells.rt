@@ -1,0 +1,110 @@
+// Short forms for cells: each makes an operation, or the two of an access, and takes the replies apart.
+ghost use Rattle.std.specs.Prelude.{◌≡◌, IfOk, None};
+ghost use Rattle.loom.specs.Runner.Asking.{Tells, done_in, given_in};
+ghost use Rattle.loom_objects.specs.declared.operation.Request.TheVariants as op;
+ghost use Rattle.loom_objects.specs.declared.operation.CellOp.TheVariants as cell_op;
+ghost use Rattle.loom_ops.specs.Cell.{cell_handle, unsafe_cell_handle, reader_taken, writer_taken};
+
+use crate::runner::exact::Exact;
+use crate::runner::handle::Handle;
+use crate::runner::stop::Stop;
+use loom_ops::answers::cell::Given;
+use loom_ops::cell::{Cell, ConstPtr, MutPtr, UnsafeCell};
+use std::sync::Wait;
+
+impl<D: Exact + 'static, R: Wait> Handle<D, R> {
+    /// A new cell with this data, whose accesses begin and end (loom's `cell/unsafe_cell.rs`).
+    pub fn unsafe_cell(&mut self, value: D) -> Result<UnsafeCell, Stop>
+        ensures thread { self.new.thread ≡ self.old.thread }
+        ensures tells { IfOk result (Tells unsafe_cell_handle (op.Cell (cell_op.New value)) self.old.told self.new.told) }
+    {
+        self.ask(UnsafeCell::new(value).request)
+    }
+
+    /// Reads the cell: the closure looks at the data while the read is open (loom's `cell/unsafe_cell.rs`).
+    pub fn with<T: Drop, F: FnOnce(&D) -> T>(
+        &mut self,
+        cell: &UnsafeCell,
+        look: F,
+    ) -> Result<T, Stop>
+        requires { F.IsAlwaysCallable look }
+        ensures thread { self.new.thread ≡ self.old.thread }
+    {
+        let (pointer, value) = self.get(cell)?;
+        let answer = look(&value);
+        self.end(pointer)?;
+        Ok(answer)
+    }
+
+    /// Writes the cell: the closure changes the data while the write is open (loom's `cell/unsafe_cell.rs`).
+    pub fn with_mut<T: Drop, F: FnOnce(&mut D) -> T>(
+        &mut self,
+        cell: &UnsafeCell,
+        change: F,
+    ) -> Result<T, Stop>
+        requires { F.IsAlwaysCallable change }
+        ensures thread { self.new.thread ≡ self.old.thread }
+    {
+        let (pointer, mut value) = self.get_mut(cell)?;
+        let answer = change(&mut value);
+        self.end_mut(pointer, value)?;
+        Ok(answer)
+    }
+
+    /// Begins to read the cell, and answers a copy of its data (loom's `cell/unsafe_cell.rs`).
+    pub fn get(&mut self, cell: &UnsafeCell) -> Result<(ConstPtr, D), Stop>
+        ensures thread { self.new.thread ≡ self.old.thread }
+        ensures tells { IfOk result (Tells reader_taken (op.Cell (cell_op.Read cell.now.number)) self.old.told self.new.told) }
+    {
+        self.ask(cell.get().request)
+    }
+
+    /// Ends the read: in loom the pointer's drop (loom's `cell/unsafe_cell.rs`).
+    pub fn end(&mut self, pointer: ConstPtr) -> Result<(), Stop>
+        ensures thread { self.new.thread ≡ self.old.thread }
+        ensures tells { IfOk result (Tells done_in (op.Cell (cell_op.ReadEnd pointer.number)) self.old.told self.new.told) }
+    {
+        self.ask(pointer.end().request)
+    }
+
+    /// Begins to write the cell, and answers its data (loom's `cell/unsafe_cell.rs`).
+    pub fn get_mut(&mut self, cell: &UnsafeCell) -> Result<(MutPtr, D), Stop>
+        ensures thread { self.new.thread ≡ self.old.thread }
+        ensures tells { IfOk result (Tells writer_taken (op.Cell (cell_op.Write cell.now.number)) self.old.told self.new.told) }
+    {
+        self.ask(cell.get_mut().request)
+    }
+
+    /// Ends the write, and the cell holds this data: in loom the pointer's drop (loom's `cell/unsafe_cell.rs`).
+    pub fn end_mut(&mut self, pointer: MutPtr, value: D) -> Result<(), Stop>
+        ensures thread { self.new.thread ≡ self.old.thread }
+        ensures tells { IfOk result (Tells done_in (op.Cell (cell_op.WriteEnd pointer.number value)) self.old.told self.new.told) }
+    {
+        self.ask(pointer.end(value).request)
+    }
+
+    /// A new cell with this data, whose accesses end at once (loom's `cell/cell.rs`).
+    pub fn cell(&mut self, value: D) -> Result<Cell, Stop>
+        ensures thread { self.new.thread ≡ self.old.thread }
+        ensures tells { IfOk result (Tells cell_handle (op.Cell (cell_op.New value)) self.old.told self.new.told) }
+    {
+        self.ask(Cell::new(value).request)
+    }
+
+    /// A copy of the cell's data: in loom `get` (loom's `cell/cell.rs`).
+    pub fn copied(&mut self, cell: &Cell) -> Result<D, Stop>
+        ensures thread { self.new.thread ≡ self.old.thread }
+        ensures tells { IfOk result (λ answer. Tells given_in (op.Cell (cell_op.Get cell.now.number)) self.old.told self.new.told (record { 0 = answer })) }
+    {
+        let Given(value) = self.ask(cell.get().request)?;
+        Ok(value)
+    }
+
+    /// Writes the cell's data: in loom `set` (loom's `cell/cell.rs`).
+    pub fn set(&mut self, cell: &Cell, value: D) -> Result<(), Stop>
+        ensures thread { self.new.thread ≡ self.old.thread }
+    {
+        let Given(_) = self.ask(cell.set(value).request)?;
+        Ok(())
+    }
+}

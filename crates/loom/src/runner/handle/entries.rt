@@ -1,0 +1,87 @@
+// What a thread keeps of its operations, and of what it was told.
+ghost use Rattle.std.specs.Prelude.{◌≡◌, ◌++◌, ◌∷◌, ◌<◌, [], IfOk, IfErr, IfSome, OnSome, None, Some, true, vec_len, vec_capacity};
+ghost use Rattle.loom_objects.specs.declared.operation.Reply.TheVariants as reply;
+ghost use Rattle.loom.specs.Runner.Histories.{entry};
+ghost use Rattle.loom.specs.Runner.Handle.{spawning};
+
+use crate::runner::copies::requests::copy_request;
+use crate::runner::exact::Exact;
+use crate::runner::handle::calls::keep;
+use crate::runner::history::event::Entry;
+use crate::runner::shared::{Child, Children};
+use crate::runner::stop::Stop;
+use loom_objects::operation::{Reply, Request, ThreadOp};
+use loom_ops::thread::JoinHandle;
+use std::alloc::Global;
+
+/// Makes room for one more. False where a growth was refused.
+pub(crate) fn has_room<T>(list: &mut Vec<T>) -> bool
+    ensures room { result ≡ true → vec_len list.new < vec_capacity list.new }
+    ensures same { list.new.items ≡ list.old.items }
+{
+    list.reserve(1).is_ok()
+}
+
+/// Makes room for one more, and copies the operation for it. None where a growth was refused.
+pub(crate) fn prepare<D: Exact>(
+    told: &mut Vec<Entry<D>>,
+    op: &Request<D, ()>,
+) -> Option<Request<D, ()>>
+    ensures kept { IfSome result (λ kept. kept ≡ op.now) }
+    ensures room { OnSome result (vec_len told.new < vec_capacity told.new) }
+    ensures same { told.new.items ≡ told.old.items }
+{
+    if !has_room(told) {
+        return None;
+    }
+    match copy_request(op) {
+        Ok(kept) => Some(kept),
+        Err(_) => None,
+    }
+}
+
+/// Adds the operation with its reply, or with none where it was answered by a stop. A reply that can't be copied is such a stop.
+pub(crate) fn note<D: Exact>(
+    alloc: Global,
+    told: &mut Vec<Entry<D>>,
+    op: Request<D, ()>,
+    answer: Result<Reply<D>, Stop>,
+) -> Result<Reply<D>, Stop>
+    requires { vec_len told.old < vec_capacity told.old }
+    ensures answered { IfOk result (λ reply. told.new.items ≡ told.old.items ++ entry op (Some reply) ∷ []) }
+    ensures stopped { IfErr result (λ stop. told.new.items ≡ told.old.items ++ entry op None ∷ []) }
+{
+    let (reply, answer) = keep(alloc, answer);
+    told.push_reserved(Entry { op, reply });
+    answer
+}
+
+/// Adds a spawn, and the thread that it has started.
+pub(crate) fn note_spawn<D: Drop>(
+    told: &mut Vec<Entry<D>>,
+    children: &mut Children<D>,
+    started: Result<(JoinHandle, Child<D>), Stop>,
+) -> Result<JoinHandle, Stop>
+    requires room { vec_len told.old < vec_capacity told.old }
+    requires beside { vec_len children.old < vec_capacity children.old }
+    ensures answered { IfOk result (λ child. told.new.items ≡ told.old.items ++ entry spawning (Some (reply.Spawned child.thread child.name child.notifier)) ∷ []) }
+    ensures stopped { IfErr result (λ stop. told.new.items ≡ told.old.items ++ entry spawning None ∷ []) }
+{
+    match started {
+        Ok((handle, child)) => {
+            told.push_reserved(Entry {
+                op: Request::Thread(ThreadOp::Spawn((), None)),
+                reply: Some(Reply::Spawned(handle.thread, handle.name, handle.notifier)),
+            });
+            children.push_reserved(child);
+            Ok(handle)
+        }
+        Err(stop) => {
+            told.push_reserved(Entry {
+                op: Request::Thread(ThreadOp::Spawn((), None)),
+                reply: None,
+            });
+            Err(stop)
+        }
+    }
+}

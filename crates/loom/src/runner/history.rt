@@ -1,0 +1,172 @@
+//! The events of a run so far, and how one more is added.
+pub mod adding;
+pub mod entry;
+pub mod event;
+mod last;
+pub mod machine;
+pub mod shares;
+pub mod told;
+
+ghost use Rattle.std.specs.Prelude.{◌≡◌, ◌+◌, ◌<◌, ◌==◌, ◌-◌, ◌^◌, ℕ, [], if◌then◌else◌, IfOk, IfNone, OnOk, OnSome, length, vec_len, vec_capacity, slice_index};
+ghost use Rattle.loom.specs.Runner.Events.{IsAdded, IsCounted, made, made_by};
+
+use crate::runner::copies::requests::copy_request;
+use crate::runner::exact::Exact;
+use crate::runner::history::adding::{push, take_turn};
+use crate::runner::history::event::{Event, Outcome};
+use crate::runner::history::machine::Machine;
+use crate::runner::stop::Stop;
+use loom_objects::failure::Failure;
+use loom_objects::operation::{Reply, Request, Turn};
+use loom_views::rt::failure::FailureKind;
+use std::alloc::{AllocError, Global};
+use std::marker::Model;
+
+/// What an operation is answered after the end of a run (own).
+pub const MISUSE: Failure = Failure {
+    kind: FailureKind::Misuse,
+    location: None,
+};
+
+/// The events of a run so far (own). Contracts see their list.
+#[derive(Drop)]
+pub struct History<D> {
+    events: Vec<Event<D>>,
+    // how many operations each thread has handed over
+    counts: Vec<usize>,
+}
+
+impl<D> Model for History<D> {
+    ghost use Rattle.std.specs.Prelude.{List};
+    ghost use Rattle.loom.specs.declared.runner.history.event.Event.{Event};
+    ghost use Rattle.loom.specs.Runner.Events.{IsCounted};
+
+    ghost Value = { List (Event D) };
+
+    ghost view = { λ h. h.events.items };
+
+    ghost invariant = { λ h. IsCounted h.counts.items h.events.items };
+}
+
+impl<D> History<D> {
+    /// No event yet, and main alone (own).
+    pub fn new(alloc: Global) -> Result<History<D>, AllocError>
+        ensures { IfOk result (λ history. history ≡ []) }
+    {
+        let mut counts = Vec::new(alloc);
+        counts.push(0)?;
+        Ok(History {
+            events: Vec::new(alloc),
+            counts,
+        })
+    }
+
+    /// How many threads there are (own).
+    pub fn threads(&self) -> usize
+        ensures { result ≡ 1 + made self.now }
+    {
+        self.counts.len()
+    }
+
+    /// The events, the first one first (own).
+    pub fn events(&self) -> &[Event<D>]
+        ensures { result.now ≡ self.now }
+    {
+        self.events.as_slice()
+    }
+}
+
+impl<D: Exact> History<D> {
+    /// Hands an operation of the thread whose turn it is over to the machine: one event more, or it is said why there is none
+    /// (own).
+    pub fn add<M: Machine<D>>(&mut self, machine: &mut M, op: Request<D, ()>) -> Option<Stop>
+        requires { M.goes_on machine.old }
+        ensures added { IfNone result (IsAdded M.turn M.happens machine.old op machine.new self.old self.new) }
+        ensures stopped { OnSome result (self.new ≡ self.old) }
+    {
+        add_event(machine, &mut self.events, &mut self.counts, op)
+    }
+}
+
+/// Adds the event of the operation, or says why there is none.
+fn add_event<D: Exact, M: Machine<D>>(
+    machine: &mut M,
+    history: &mut Vec<Event<D>>,
+    counts: &mut Vec<usize>,
+    op: Request<D, ()>,
+) -> Option<Stop>
+    requires live { M.goes_on machine.old }
+    requires counted { IsCounted counts.old.items history.old.items }
+    ensures added { IfNone result (IsAdded M.turn M.happens machine.old op machine.new history.old.items history.new.items) }
+    ensures counted { IsCounted counts.new.items history.new.items }
+    ensures stopped { OnSome result (history.new.items ≡ history.old.items) }
+{
+    let by = machine.active();
+    let kept = match prepare(by, history, counts, &op) {
+        Ok(kept) => kept,
+        Err(stop) => {
+            op.let_go();
+            return Some(stop);
+        }
+    };
+    match take_turn(machine, op) {
+        Ok(outcome) => {
+            count(counts, by as usize, &outcome);
+            let event = Event {
+                by,
+                op: kept,
+                outcome,
+            };
+            push(history, event);
+            None
+        }
+        Err(_) => {
+            kept.let_go();
+            Some(Stop::Memory)
+        }
+    }
+}
+
+/// Makes room for an event more, and a count more, and copies the operation. The operation is only lent, so that no way out of
+/// here drops it.
+fn prepare<D: Exact>(
+    by: u8,
+    history: &mut Vec<Event<D>>,
+    counts: &mut Vec<usize>,
+    op: &Request<D, ()>,
+) -> Result<Request<D, ()>, Stop>
+    ensures history { history.new.items ≡ history.old.items }
+    ensures counts { counts.new.items ≡ counts.old.items }
+    ensures by { OnOk result (by < vec_len counts.new) }
+    ensures event { OnOk result (vec_len history.new < vec_capacity history.new) }
+    ensures count { OnOk result (vec_len counts.new < vec_capacity counts.new) }
+    ensures copy { IfOk result (λ kept. kept ≡ op.now) }
+{
+    if by as usize >= counts.len() {
+        return Err(Stop::Failure(MISUSE));
+    }
+    if history.reserve(1).is_err() {
+        return Err(Stop::Memory);
+    }
+    if counts.reserve(1).is_err() {
+        return Err(Stop::Memory);
+    }
+    match copy_request(op) {
+        Ok(kept) => Ok(kept),
+        Err(_) => Err(Stop::Memory),
+    }
+}
+
+/// Counts the operation, and makes a count for a thread that it made.
+fn count<D>(counts: &mut Vec<usize>, by: usize, outcome: &Outcome<D>)
+    requires by { by < vec_len counts.old }
+    requires room { vec_len counts.old < vec_capacity counts.old }
+    requires small { slice_index counts.old.items by < 2 ^ 64 - 1 }
+    ensures length { length counts.new.items ≡ length counts.old.items + made_by outcome.now }
+    ensures counted { (n : ℕ) → slice_index counts.new.items n ≡ slice_index counts.old.items n + (if by == n then 1 else 0) }
+{
+    if let Outcome::Went(Turn::Reply(_, Reply::Spawned(..))) = outcome {
+        counts.push_reserved(0);
+    }
+    counts[by] += 1;
+}

@@ -1,0 +1,133 @@
+//! One run of a closure.
+ghost use Rattle.std.specs.Prelude.{◌≡◌, ◌≤◌, ◌<◌, IfOk, length, slice_get};
+ghost use Rattle.std.specs.Fn.{CalledAtMut};
+ghost use Rattle.loom_engine.specs.Path.Route.{IsAtStart};
+ghost use Rattle.loom.specs.Runner.Run.{Judged, WasCalled, WasMade};
+
+use crate::model::visitor::Visitor;
+use crate::runner::after::{Round, step};
+use crate::runner::closures::ask_closure;
+use crate::runner::error::{RoundError, error_by};
+use crate::runner::exact::Exact;
+use crate::runner::handle::Handle;
+use crate::runner::history::told::Told;
+use crate::runner::shared::{Shared, main_handle, share};
+use crate::runner::stop::Stop;
+use crate::runner::turns::Turns;
+use loom_engine::rt::execution::Limits;
+use loom_engine::rt::path::Path;
+use std::alloc::Global;
+use std::sync::{Arc, Wait};
+use std::thread::Threads;
+
+/// Makes a run of the closure that begins with the path, and gives it to the visitor if it ends without a failure (own). `Memory` and
+/// `Refused` where a growth or a thread was refused, `NotSettled` where what the closures were told isn't the history of the run.
+pub fn make_round<
+    D: Exact + 'static,
+    R: Threads + Wait + Clone + Send + 'static,
+    F: FnMut(&mut Handle<D, R>) -> Result<D, Stop>,
+    V: Visitor<D>,
+>(
+    rt: &R,
+    alloc: Global,
+    limits: Limits,
+    path: &Path,
+    closure: &mut F,
+    visitor: &mut V,
+) -> Result<Round, RoundError>
+    requires some { 1 ≤ limits.max_threads }
+    requires few { limits.max_threads ≤ 5 }
+    requires starts { IsAtStart path.now.explores path.now }
+    requires callable { F.IsAlwaysCallable closure.old }
+    ensures again { F.IsAlwaysCallable closure.new }
+    ensures made { IfOk result (λ round. WasMade (CalledAtMut F.FnMut) V.takes limits closure.old visitor.old path.now round closure.new visitor.new) }
+{
+    let shared = share(alloc, limits, path)?;
+    let told = call_closure(rt, alloc, &shared, closure)?;
+    let turns = shared.turns.lock(rt);
+    judge(limits, path, &*turns, told.as_slice(), visitor)
+}
+
+/// Calls the closure as main, and closes its handle. Answers what the threads were told, main first.
+fn call_closure<
+    D: Exact + 'static,
+    R: Threads + Wait + Clone + Send + 'static,
+    F: FnMut(&mut Handle<D, R>) -> Result<D, Stop>,
+>(
+    rt: &R,
+    alloc: Global,
+    shared: &Arc<Shared<D>, Global>,
+    closure: &mut F,
+) -> Result<Vec<Told<D>>, RoundError>
+    requires callable { F.IsAlwaysCallable closure.old }
+    ensures again { F.IsAlwaysCallable closure.new }
+    ensures called { IfOk result (λ told. WasCalled (CalledAtMut F.FnMut) closure.old closure.new told.items) }
+{
+    let mut handle = main_handle(rt, alloc, shared)?;
+    let answer = ask_closure(closure, &mut handle);
+    let mut told = handle.close(answer)?;
+    put_in_order(&mut told);
+    Ok(told)
+}
+
+/// Puts the lists into the order of their threads. The first one, which is main's, stays.
+fn put_in_order<D>(told: &mut Vec<Told<D>>)
+    ensures { slice_get told.new.items 0 ≡ slice_get told.old.items 0 }
+{
+    for k in 1..told.len() {
+        let place = place_of(told.as_slice(), k);
+        told.swap(k, place);
+    }
+}
+
+/// Where the list of the thread stands, from its own place on; or its own place, where it stands nowhere.
+fn place_of<D>(told: &[Told<D>], thread: usize) -> usize
+    requires { thread < length told.now }
+    ensures from { thread ≤ result }
+    ensures within { result < length told.now }
+{
+    for place in thread..told.len() {
+        let list = &told[place];
+        if list.thread as usize == thread {
+            return place;
+        }
+    }
+    thread
+}
+
+/// Whether the run is settled. If it ended the visitor is given it, and the next path is made.
+fn judge<D: Exact, V: Visitor<D>>(
+    limits: Limits,
+    path: &Path,
+    turns: &Turns<D>,
+    told: &[Told<D>],
+    visitor: &mut V,
+) -> Result<Round, RoundError>
+    ensures { IfOk result (λ round. Judged V.takes limits visitor.old path.now turns.now told.now round visitor.new) }
+{
+    if let Some(stop) = turns.spoiled() {
+        return Err(error_by(stop));
+    }
+    if !turns.settle(path, limits, told) {
+        return Err(RoundError::NotSettled);
+    }
+    let Ok(choices) = turns.choices() else {
+        return Err(RoundError::Memory);
+    };
+    if let Some(failure) = turns.failure() {
+        return Ok(Round::Broke(failure, choices));
+    }
+    let Ok(value) = turns.value() else {
+        return Err(RoundError::Memory);
+    };
+    let Some(value) = value else {
+        return Err(RoundError::NotSettled);
+    };
+    let Ok(next) = turns.path() else {
+        return Err(RoundError::Memory);
+    };
+    if visitor.run(choices.as_slice(), value).is_err() {
+        return Err(RoundError::Memory);
+    }
+    Ok(step(next))
+}

@@ -1,0 +1,216 @@
+//! How a run is opened, what its threads share, and how they take turns.
+ghost use Rattle.std.specs.Prelude.{◌≡◌, ◌≤◌, IfOk};
+ghost use Rattle.loom_engine.specs.Path.Route.{IsAtStart};
+ghost use Rattle.loom.specs.Runner.Handle.{newcomer};
+
+use crate::runner::error::RoundError;
+use crate::runner::exact::Exact;
+use crate::runner::handle::Handle;
+use crate::runner::history::told::Told;
+use crate::runner::job::Job;
+use crate::runner::stop::Stop;
+use crate::runner::turns::Turns;
+use loom_engine::rt::execution::Limits;
+use loom_engine::rt::path::Path;
+use loom_objects::operation::{Reply, Request, ThreadOp};
+use loom_ops::thread::JoinHandle;
+use std::alloc::Global;
+use std::sync::{Arc, Condvar, Mutex, Wait};
+use std::thread::{self, Threads};
+
+/// What the threads of a run share that begins with the path (own). `Memory` where a growth was refused.
+pub fn share<D: Exact + 'static>(
+    alloc: Global,
+    limits: Limits,
+    path: &Path,
+) -> Result<Arc<Shared<D>, Global>, RoundError>
+    requires some { 1 ≤ limits.max_threads }
+    requires few { limits.max_threads ≤ 5 }
+    requires starts { IsAtStart path.now.explores path.now }
+{
+    let Ok(turns) = Turns::new(alloc, path, limits) else {
+        return Err(RoundError::Memory);
+    };
+    let shared = Shared {
+        turns: Mutex::new(turns),
+        turned: Condvar::new(),
+    };
+    match Arc::new(alloc, shared) {
+        Ok(shared) => Ok(shared),
+        Err(_) => Err(RoundError::Memory),
+    }
+}
+
+/// Main's handle, that was told nothing yet (own). `Memory` where a growth was refused.
+pub fn main_handle<D: Exact + 'static, R: Threads + Wait + Clone + Send + 'static>(
+    rt: &R,
+    alloc: Global,
+    shared: &Arc<Shared<D>, Global>,
+) -> Result<Handle<D, R>, RoundError>
+    ensures { IfOk result (λ handle. handle ≡ newcomer 0) }
+{
+    let Ok(mine) = Arc::try_clone(shared) else {
+        return Err(RoundError::Memory);
+    };
+    let Ok(again) = rt.clone() else {
+        return Err(RoundError::Memory);
+    };
+    Ok(Handle::new(again, alloc, mine, 0))
+}
+
+/// What the threads of a run share: the state of the run, and by what they wake each other.
+#[derive(Drop)]
+pub struct Shared<D> {
+    pub turns: Mutex<Turns<D>>,
+    pub turned: Condvar,
+}
+
+/// A thread that was started.
+pub(crate) type Child<D> = thread::JoinHandle<Result<Vec<Told<D>>, RoundError>>;
+
+/// The threads that a handle has started.
+pub(crate) type Children<D> = Vec<Child<D>>;
+
+/// Hands over an operation of the thread whose turn it is, and waits for its reply.
+pub(crate) fn hand_over<D: Exact, R: Wait>(
+    rt: &R,
+    shared: &Shared<D>,
+    me: u8,
+    op: Request<D, ()>,
+) -> Result<Reply<D>, Stop> {
+    let mut turns = shared.turns.lock(rt);
+    turns.submit(op);
+    shared.turned.notify_all();
+    let turns = shared
+        .turned
+        .wait_while(rt, turns, |turns| !turns.is_decided(me));
+    turns.reply(me)
+}
+
+/// Hands over the thread's last operation, and waits for nothing.
+pub(crate) fn end<D: Exact, R: Wait>(rt: &R, shared: &Shared<D>) {
+    let mut turns = shared.turns.lock(rt);
+    turns.submit(Request::Thread(ThreadOp::End));
+    shared.turned.notify_all();
+}
+
+/// The run goes no further.
+pub(crate) fn give_up<D: Exact, R: Wait>(rt: &R, shared: &Shared<D>, stop: Stop) {
+    let mut turns = shared.turns.lock(rt);
+    turns.give_up(stop);
+    shared.turned.notify_all();
+}
+
+/// Hands over `fail`, and answers the stop.
+pub(crate) fn fail<D: Exact, R: Wait>(rt: &R, shared: &Shared<D>, me: u8) -> Stop {
+    match hand_over(rt, shared, me, Request::Fail) {
+        Ok(reply) => {
+            reply.let_go();
+            Stop::Refused
+        }
+        Err(stop) => stop,
+    }
+}
+
+/// A thread was answered by a stop. Where the run hasn't failed it goes no further: the turn is this thread's, which hands nothing
+/// over any more.
+pub(crate) fn heed<D: Exact, R: Wait>(rt: &R, shared: &Shared<D>, stop: Stop) {
+    match stop {
+        Stop::Failure(_) => {}
+        Stop::Memory | Stop::Refused => give_up(rt, shared, stop),
+    }
+}
+
+/// Waits until the thread may start. False if it never may.
+fn is_started<D: Exact, R: Wait>(rt: &R, shared: &Shared<D>, me: u8) -> bool {
+    let turns = shared
+        .turned
+        .wait_while(rt, shared.turns.lock(rt), |turns| !turns.is_decided(me));
+    turns.starts(me)
+}
+
+/// Starts a thread for the job, which waits for its turn.
+pub(crate) fn start<
+    D: Exact + 'static,
+    R: Threads + Wait + Clone + Send + 'static,
+    J: Job<D, R> + 'static,
+>(
+    rt: &R,
+    alloc: Global,
+    shared: &Arc<Shared<D>, Global>,
+    me: u8,
+    job: J,
+) -> Result<(JoinHandle, Child<D>), Stop>
+    requires { J.ready job }
+{
+    let handle = begin(rt, shared, me)?;
+    let thread = handle.thread;
+    let Ok(again) = rt.clone() else {
+        return Err(Stop::Memory);
+    };
+    let Ok(theirs) = Arc::try_clone(shared) else {
+        return Err(Stop::Memory);
+    };
+    let body = move || -> Result<Vec<Told<D>>, RoundError>
+        requires { J.ready job }
+    { run_job(again, alloc, theirs, thread, job) };
+    match thread::spawn(rt, body) {
+        Ok(child) => Ok((handle, child)),
+        Err(_) => Err(Stop::Refused),
+    }
+}
+
+/// Hands over a spawn, and answers the thread that begins.
+fn begin<D: Exact, R: Wait>(rt: &R, shared: &Shared<D>, me: u8) -> Result<JoinHandle, Stop> {
+    let spawn = Request::Thread(ThreadOp::Spawn((), None));
+    let reply = hand_over(rt, shared, me, spawn)?;
+    let handle = JoinHandle::from_reply(&reply);
+    reply.let_go();
+    match handle {
+        Some(handle) => Ok(handle),
+        None => Err(Stop::Refused),
+    }
+}
+
+/// What a started thread does: it waits for its turn, runs the job, and closes its handle.
+fn run_job<D: Exact + 'static, R: Threads + Wait + Clone + Send + 'static, J: Job<D, R> + 'static>(
+    rt: R,
+    alloc: Global,
+    shared: Arc<Shared<D>, Global>,
+    thread: u8,
+    job: J,
+) -> Result<Vec<Told<D>>, RoundError>
+    requires { J.ready job }
+{
+    let is_started = is_started(&rt, &shared, thread);
+    let mut handle: Handle<D, R> = Handle::new(rt, alloc, shared, thread);
+    if !is_started {
+        return handle.leave();
+    }
+    let answer = job.run(&mut handle);
+    handle.close(answer)
+}
+
+/// Joins all threads, also behind an error.
+pub(crate) fn join_all<D: Exact + 'static, R: Threads>(
+    rt: &R,
+    alloc: Global,
+    children: Children<D>,
+) -> Result<Vec<Told<D>>, RoundError> {
+    let mut all = Vec::new(alloc);
+    let mut error = None;
+    for child in children {
+        match child.join(rt) {
+            Ok(mut lists) => {
+                if all.append(&mut lists).is_err() {
+                    error = Some(RoundError::Memory);
+                }
+            }
+            Err(e) => error = Some(e),
+        }
+    }
+    match error {
+        Some(e) => Err(e),
+        None => Ok(all),
+    }
+}

@@ -1,0 +1,190 @@
+//! The state of a run that its threads share.
+ghost use Rattle.std.specs.Prelude.{◌≡◌, ◌↔◌, ◌≤◌, [], IfOk, IfSome, IsTrue, MatchOption, None};
+ghost use Rattle.loom_engine.specs.Path.Route.{IsAtStart, chosen};
+ghost use Rattle.loom.specs.Runner.Histories.{Adds, Settles, IsHistory, last_event, end_in, ended_by, failed_by};
+
+pub mod laws;
+mod moment;
+
+use crate::runner::exact::Exact;
+use crate::runner::history::History;
+use crate::runner::history::shares::are_shares;
+use crate::runner::history::told::Told;
+use crate::runner::stop::Stop;
+use crate::runner::turns::moment::Place;
+use loom_engine::rt::execution::{Execution, Limits};
+use loom_engine::rt::path::Path;
+use loom_objects::choice::Choice;
+use loom_objects::failure::Failure;
+use loom_objects::operation::{Reply, Request};
+use std::alloc::{AllocError, Global};
+use std::marker::Model;
+
+/// A run so far, and how it came there: what its threads share under one lock (own). Unless a call was refused memory or a
+/// thread, the history leads from the run's beginning to the state.
+#[derive(Drop)]
+pub struct Turns<D> {
+    alloc: Global,
+    place: Place<D>,
+    // where the run began
+    began: Path,
+    limits: Limits,
+    history: History<D>,
+    // why the run goes no further, where that is no event of it
+    spoiled: Option<Stop>,
+}
+
+impl<D> Model for Turns<D> {
+    ghost use Rattle.std.specs.Prelude.{◌+◌};
+    ghost use Rattle.loom.specs.Runner.Histories.{Log, Kept, made};
+
+    ghost Value = { Log D };
+
+    ghost view = { λ t. record { began = t.began; limits = t.limits; history = t.history; threads = 1 + made t.history; spoiled = t.spoiled; now = t.place } };
+
+    ghost invariant = { λ t. Kept t.limits t.began t.history t.spoiled t.place };
+}
+
+impl<D: Exact> Turns<D> {
+    /// The state before a run along the path, within these limits (own).
+    pub fn new(alloc: Global, path: &Path, limits: Limits) -> Result<Turns<D>, AllocError>
+        requires some { 1 ≤ limits.max_threads }
+        requires few { limits.max_threads ≤ 5 }
+        requires starts { IsAtStart path.now.explores path.now }
+        ensures began { IfOk result (λ t. t.began ≡ path.now) }
+        ensures limits { IfOk result (λ t. t.limits ≡ limits) }
+        ensures history { IfOk result (λ t. t.history ≡ []) }
+        ensures spoiled { IfOk result (λ t. t.spoiled ≡ None) }
+    {
+        let began = path.try_clone(alloc)?;
+        let path = path.try_clone(alloc)?;
+        let history = History::new(alloc)?;
+        // Last, so that no error drops it.
+        let execution = Execution::new(alloc, limits)?;
+        Ok(Turns {
+            alloc,
+            place: Place { execution, path },
+            began,
+            limits,
+            history,
+            spoiled: None,
+        })
+    }
+
+    /// Hands over an operation of the thread whose turn it is: one event more. Once the run is over, or spoiled, it changes
+    /// nothing. Where memory is refused the run is spoiled (own).
+    pub fn submit(&mut self, op: Request<D, ()>)
+        ensures began { self.new.began ≡ self.old.began }
+        ensures limits { self.new.limits ≡ self.old.limits }
+        ensures over { IfSome (end_in self.old.history) (λ failure. self.new ≡ self.old) }
+        ensures spoiled { IfSome self.old.spoiled (λ stop. self.new ≡ self.old) }
+        ensures adds { self.old.spoiled ≡ None → end_in self.old.history ≡ None → MatchOption self.new.spoiled (Adds self.old op self.new) (λ stop. self.new.history ≡ self.old.history) }
+    {
+        if self.spoiled.is_some() {
+            op.let_go();
+            return;
+        }
+        if self.history.end().is_some() {
+            op.let_go();
+            return;
+        }
+        self.spoiled = self.history.add(&mut self.place, op);
+    }
+
+    /// The run is spoiled, unless it is already (own).
+    pub fn give_up(&mut self, stop: Stop)
+        ensures history { self.new.history ≡ self.old.history }
+    {
+        if self.spoiled.is_none() {
+            self.spoiled = Some(stop);
+        }
+    }
+
+    /// Why the run goes no further, if it doesn't (own).
+    pub fn stopped(&self) -> Option<Stop> {
+        match self.spoiled {
+            Some(stop) => Some(stop),
+            None => match self.history.end() {
+                Some(failure) => Some(Stop::Failure(failure)),
+                None => None,
+            },
+        }
+    }
+
+    /// Whether the thread has nothing to wait for: its turn has come, or the run goes no further (own).
+    pub fn is_decided(&self, thread: u8) -> bool {
+        self.stopped().is_some() || self.history.is_turn_of(thread)
+    }
+
+    /// The reply that the thread was told by the last event (own).
+    pub fn reply(&self, thread: u8) -> Result<Reply<D>, Stop> {
+        match self.stopped() {
+            Some(stop) => Err(stop),
+            None => self.history.reply(self.alloc, thread),
+        }
+    }
+
+    /// Whether the thread may start: the last event has told it so (own).
+    pub fn starts(&self, thread: u8) -> bool {
+        self.stopped().is_none() && self.history.starts(thread)
+    }
+
+    /// Why the run failed, if its last event is a failure (own).
+    pub fn failure(&self) -> Option<Failure>
+        ensures { result ≡ failed_by (last_event self.now.history) }
+    {
+        self.history.failure()
+    }
+
+    /// Main's result, if the last event has ended the run. It fails only where a growth is refused (own).
+    pub fn value(&self) -> Result<Option<D>, AllocError>
+        ensures { IfOk result (λ value. value ≡ ended_by (last_event self.now.history)) }
+    {
+        self.history.value()
+    }
+
+    /// Why the run is spoiled, if it is (own).
+    pub fn spoiled(&self) -> Option<Stop>
+        ensures spoiled { result ≡ self.now.spoiled }
+        ensures leads { self.now.spoiled ≡ None → IsHistory self.now.limits self.now.began self.now.history self.now.now }
+    {
+        self.spoiled
+    }
+
+    /// The choices of the run. It fails only where a growth is refused (own).
+    pub fn choices(&self) -> Result<Vec<Choice>, AllocError>
+        ensures { IfOk result (λ list. list.items ≡ chosen self.now.now.route) }
+    {
+        self.place.path.choices(self.alloc)
+    }
+
+    /// A copy of the run's path. It fails only where a growth is refused (own).
+    pub fn path(&self) -> Result<Path, AllocError>
+        ensures { IfOk result (λ path. path ≡ self.now.now.route) }
+    {
+        self.place.path.try_clone(self.alloc)
+    }
+
+    /// Whether the run began with this path and these limits, and each of its threads was told its part of the history (own).
+    pub fn settle(&self, began: &Path, limits: Limits, told: &[Told<D>]) -> bool
+        ensures { IsTrue result ↔ Settles self.now began.now limits told.now }
+    {
+        is_same_limits(self.limits, limits)
+            && is_same_path(&self.began, began)
+            && are_shares(told, &self.history)
+    }
+}
+
+/// Whether the two are the same limits.
+fn is_same_limits(one: Limits, other: Limits) -> bool
+    ensures { IsTrue result ↔ (one ≡ other) }
+{
+    one.max_threads == other.max_threads && one.max_steps == other.max_steps
+}
+
+/// Whether the two are the same path.
+fn is_same_path(one: &Path, other: &Path) -> bool
+    ensures { IsTrue result ↔ (one.now ≡ other.now) }
+{
+    *one == *other
+}

@@ -1,8 +1,0 @@
-use Rattle.std.proofs.Common.{refl, sym}
-use Rattle.loom_objects.specs.Counts.{decrements, unwraps}
-use Rattle.loom_objects.proofs.Showing.{does_as}
-use Rattle.loom_cells.proofs.counts.unwrap.Goals as goal
-
-pub returns : goal.returns
-returns g c =
-    does_as (unwraps c.args.number) (decrements c.args.number) c.args.scene.now c.decrement.new.scene c.decrement.result (λ p left. rw (sym c.in_ok-arc.ensures, c.if-arc-ne1.false) refl) c.decrement.ensures

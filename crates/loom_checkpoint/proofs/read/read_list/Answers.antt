@@ -1,7 +1,0 @@
-use Rattle.std.proofs.Common.{option_map, sym, ap, ◌∙◌}
-use Rattle.loom_checkpoint.specs.Reading.{list_of}
-use Rattle.loom_checkpoint.proofs.Lists.{list_of_viewed}
-use Rattle.loom_checkpoint.proofs.read.read_list.Goals as goal
-
-pub returns : goal.returns
-returns c = ap (option_map list_of) (sym c.as_array.ensures) ∙ list_of_viewed c.as_array.result

@@ -1,5 +1,0 @@
-use Rattle.std.proofs.Common.{rules}
-use Rattle.loom_checkpoint.proofs.value.is_too_many.Goals as goal
-
-pub returns : goal.returns
-returns c = search rules

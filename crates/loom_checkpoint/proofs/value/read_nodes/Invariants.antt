@@ -1,7 +1,0 @@
-use Rattle.std.proofs.Common.{◌≡◌, map, take, Some}
-use Rattle.serde_json.specs.View.{view}
-use Rattle.loom_checkpoint.specs.Reading.{each, node_of}
-use Rattle.loom_checkpoint.proofs.value.read_nodes.Given as goal
-
-abbrev pub invariant-loop-item : goal.invariant-loop-item
-invariant-loop-item l = each node_of (map view (take l.item-index l.items.items)) ≡ Some l.nodes.items

@@ -1,7 +1,0 @@
-use Rattle.std.proofs.Common.{◌≡◌, map, take}
-use Rattle.serde_json.specs.View.{view}
-use Rattle.loom_checkpoint.specs.Grammar.{status_data}
-use Rattle.loom_checkpoint.proofs.write.write_statuses.Given as goal
-
-abbrev pub invariant-loop-status : goal.invariant-loop-status
-invariant-loop-status l = map view l.items.items ≡ map status_data (take l.status-index l.statuses)

@@ -1,5 +1,0 @@
-use Rattle.std.proofs.Common.{refl}
-use Rattle.loom_dependence.proofs.rt.last.LastAccesses.last_before.Goals as goal
-
-pub returns-in-Read : goal.returns-in-Read
-returns-in-Read c = rw c.in-Read.is refl

@@ -1,4 +1,0 @@
-pub mod Depends
-pub mod Dependence
-pub mod Shown
-pub mod Laws

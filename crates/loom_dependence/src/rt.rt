@@ -1,3 +1,0 @@
-//! What is kept of accesses.
-pub mod dependence;
-pub mod last;

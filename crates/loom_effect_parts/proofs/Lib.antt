@@ -1,3 +1,0 @@
-mod Changing
-pub mod Finding
-pub mod Going

@@ -1,8 +1,0 @@
-use Rattle.std.proofs.Common.{rules}
-use Rattle.loom_effect_parts.proofs.rwlocks.waits.Goals as goal
-
-pub returns-in-Read : goal.returns-in-Read
-returns-in-Read c = search rules
-
-pub returns-in-TryRead : goal.returns-in-TryRead
-returns-in-TryRead c = search rules

@@ -1,0 +1,5 @@
+pub mod Marking
+pub mod Nodes
+pub mod Notes
+pub mod Tallies
+pub mod Ways

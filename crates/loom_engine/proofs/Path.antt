@@ -1,0 +1,4 @@
+pub mod Alike
+pub mod Marking
+pub mod Nodes
+pub mod WellFormed

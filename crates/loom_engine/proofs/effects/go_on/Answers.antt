@@ -1,6 +1,0 @@
-use Rattle.loom_engine.proofs.Replying.{chosen_copy}
-use Rattle.loom_engine.proofs.effects.go_on.Goals as goal
-
-pub returns-in-Ok-clause-growth : goal.returns-in-Ok-clause-growth
-returns-in-Ok-clause-growth g c =
-    chosen_copy c.args.thread c.in-Ok.task c.args.scene.now c.choose.new.self c.take_effect.result c.in-Ok.ensures.does c.take_effect.ensures.growth

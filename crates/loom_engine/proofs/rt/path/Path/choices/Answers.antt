@@ -1,0 +1,15 @@
+use Rattle.std.proofs.Common.{◌≡◌, List, map, take, ap, subst, sym, ◌∙◌}
+use Rattle.std.specs.Prelude.{IfOk}
+use Rattle.loom_objects.specs.declared.choice.Choice.{Choice}
+use Rattle.loom_engine.specs.declared.rt.path.node.Node.{Node}
+use Rattle.loom_engine.specs.Path.Nodes.{seen}
+use Rattle.loom_engine.specs.Path.Route.{chosen}
+use Rattle.loom_engine.proofs.Path.Nodes.Paths.{taken}
+use Rattle.loom_engine.proofs.rt.path.Path.choices.Goals as goal
+
+pub returns-clause-list : goal.returns-clause-list
+returns-clause-list c =
+    let p = c.self.inside in
+    let same : map (λ (n : Node). (seen n).present) (take p.way.position c.deref.result.now) ≡ chosen c.args.self.now =
+    ap (λ l. map (λ (n : Node). (seen n).present) (take p.way.position l)) c.deref.ensures.value ∙ sym (taken p.way.position p.way.nodes.items) ∙ ap chosen c.self.view_is in
+    subst (λ (l : List Choice). IfOk c.choices_at.result (λ list. list.items ≡ l)) same c.choices_at.ensures

@@ -1,0 +1,31 @@
+use Rattle.std.proofs.Common.{◌≡◌, ◌<◌, length, Some, subst, sym, arith}
+use Rattle.std.specs.Prelude.{slice_get}
+use Rattle.loom_engine.specs.declared.rt.path.node.Node.TheVariants as node
+use Rattle.loom_engine.specs.Path.Nodes.{seen}
+use Rattle.loom_engine.specs.Path.Route.{Route}
+use Rattle.loom_engine.specs.Path.Tallies.{passes_to}
+use Rattle.loom_engine.proofs.Nodes.Notes.{passes_length, stored_node, node_within, tally_within, tally_on}
+use Rattle.loom_engine.proofs.rt.path.Path.pass.Goals as goal
+
+pub pass-requires : goal.pass-requires
+pass-requires c =
+    let p = c.self.inside in
+    let here : slice_get p.way.nodes.items p.way.position ≡ Some (node.Schedule c.args.schedule.now) =
+    subst (λ (r : Route). slice_get r.nodes r.position ≡ Some (node.Schedule c.args.schedule.now)) (sym c.self.view_is) c.requires in
+    omega (arith, tally_within p.way.nodes.items p.way.position p.tally c.self.invariant.0 c.self.invariant.4, node_within p.way.nodes.items p.way.position (node.Schedule c.args.schedule.now) here, c.self.invariant.1)
+
+pub invariant_of-self : goal.invariant_of-self
+invariant_of-self c =
+    let p = c.self.inside in
+    let nodes = p.way.nodes.items in
+    let n = node.Schedule c.args.schedule.now in
+    let here : slice_get nodes p.way.position ≡ Some n =
+    subst (λ (r : Route). slice_get r.nodes r.position ≡ Some n) (sym c.self.view_is) c.requires in
+    let within : p.way.position < length nodes = node_within nodes p.way.position n here in (
+      omega arith,
+      c.self.invariant.1,
+      c.self.invariant.2,
+      c.self.invariant.3,
+      tally_on nodes p.way.position (seen n) _ (stored_node nodes p.way.position n here)
+          (c.pass.ensures (passes_to p.way.position nodes) (passes_length p.way.position nodes c.self.invariant.0) c.self.invariant.4),
+    )

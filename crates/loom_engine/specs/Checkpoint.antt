@@ -1,0 +1,4 @@
+pub mod Accepted
+pub mod Grammar
+pub mod Reader
+pub mod Shape

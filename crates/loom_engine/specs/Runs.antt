@@ -1,0 +1,10 @@
+pub mod Body
+pub mod Course
+pub mod Examples
+pub mod Growth
+pub mod Histories
+pub mod Machine
+pub mod Once
+pub mod Received
+pub mod ReducedExamples
+pub mod Sound

@@ -1,0 +1,204 @@
+-- The states that a run may be in between two operations, and what holds of locks in all of them.
+use Rattle.std.specs.Prelude.{ℕ, ◌≡◌, ◌&&◌, Bool, true, not, is_some, List, [], ◌∷◌, ◌++◌, Option, Some, None, ⊤}
+use Rattle.std.specs.List.{list_all, list_any}
+use Rattle.loom_objects.specs.declared.choice.Choice.{Choice}
+use Rattle.loom_objects.specs.declared.operation.CondvarOp.{CondvarOp}
+use Rattle.loom_objects.specs.declared.operation.CondvarOp.TheVariants as condvar_op
+use Rattle.loom_objects.specs.declared.operation.MutexOp.{MutexOp}
+use Rattle.loom_objects.specs.declared.operation.MutexOp.TheVariants as mutex_op
+use Rattle.loom_objects.specs.declared.operation.Request.{Request}
+use Rattle.loom_objects.specs.declared.operation.Request.TheVariants as op
+use Rattle.loom_objects.specs.declared.operation.Reply.{Reply}
+use Rattle.loom_objects.specs.declared.operation.Reply.TheVariants.{Locked, Waited}
+use Rattle.loom_objects.specs.declared.operation.Reply.TheVariants as reply
+use Rattle.loom_objects.specs.declared.operation.Turn.{Turn}
+use Rattle.loom_objects.specs.declared.operation.Turn.TheVariants as turn
+use Rattle.loom_objects.specs.declared.rt.object.Object.{Object}
+use Rattle.loom_objects.specs.declared.rt.object.Object.TheVariants.{Atomic, Mutex, RwLock, Condvar, Notify, Cell, Arc, Track, Channel, Wakers, AtomicWaker}
+use Rattle.loom_objects.specs.Rules.Moves.{is_number}
+use Rattle.loom_objects.specs.Rules.RwLock.{is_unread}
+use Rattle.loom_objects.specs.Schedule.Defaults.{or_else}
+use Rattle.loom_objects.specs.Tree.Tree.{Tree, Gives, Fails, Closes, Asks}
+use Rattle.loom_engine.specs.Runs.Course.{Course, opening}
+use Rattle.loom_engine.specs.Runs.Machine.{submit}
+
+-- by some choices the tree comes to this
+abbrev pub ComesTo : {A : Type 0} → Tree A → A → Type 0
+ComesTo (Gives b) a = b ≡ a
+ComesTo (Fails kind) a = ⊥
+ComesTo (Closes rest) a = ComesTo rest a
+ComesTo (Asks question branches) a = (choice : Choice) × ComesTo (branches choice) a
+
+-- a state in which some history leaves the machine: the opening one, or one that an operation of the active thread leads to
+pub data IsReached {D : Type 0} (max_threads max_steps : ℕ) : Course D → Type 0 where
+  at_first : (explores : Bool) → IsReached max_threads max_steps (opening explores max_threads max_steps)
+  later : (c : Course D) (op : Request D ⊤) (turn : Turn D) (v : Course D) → IsReached max_threads max_steps c → ComesTo (submit op c) (turn, v) → IsReached max_threads max_steps v
+
+module _ {D : Type 0} where
+  -- A mutex that a thread holds keeps no data that another could have; a read-write lock has a writer or readers, and with a
+  -- writer no data.
+  abbrev pub is_exclusive : Object D → Bool
+  is_exclusive (Mutex mutex) = not (is_some mutex.holder && is_some mutex.content.value)
+  is_exclusive (RwLock lock) = not (is_some lock.writer && not (is_unread lock)) && not (is_some lock.writer && is_some lock.content.value)
+  is_exclusive (Atomic atomic) = true
+  is_exclusive (Condvar condvar) = true
+  is_exclusive (Notify notifier) = true
+  is_exclusive (Cell cell) = true
+  is_exclusive (Arc arc) = true
+  is_exclusive (Track track) = true
+  is_exclusive (Channel channel) = true
+  is_exclusive (Wakers wakers) = true
+  is_exclusive (AtomicWaker place) = true
+
+-- over every history a mutex that is held keeps no data, and a read-write lock has one writer or some readers
+abbrev pub LocksLaw : Type 0 → Type 0
+LocksLaw D = (max_threads max_steps : ℕ) (c : Course D) → IsReached max_threads max_steps c → list_all is_exclusive c.world.objects ≡ true
+
+-- ---- at most one thread has the data of a mutex, said of replies
+
+-- an operation that the active thread hands over, and the turn that it comes to
+pub record Event (D : Type 0) : Type 0 where
+  pub op : Request D ⊤
+  pub turn : Turn D
+
+-- these events may follow the turn: after main's result, with which the run is over, there is none
+abbrev pub MayFollow : {D : Type 0} → Turn D → List (Event D) → Type 0
+MayFollow (turn.Reply t reply) events = Unit {0}
+MayFollow (turn.Start t) events = Unit {0}
+MayFollow (turn.Ended value) [] = Unit {0}
+MayFollow (turn.Ended value) (event ∷ events) = ⊥
+
+-- from this state the machine may go on by these events
+abbrev pub IsHistory : {D : Type 0} → Course D → List (Event D) → Type 0
+IsHistory c [] = Unit {0}
+IsHistory {D} c (event ∷ events) = (v : Course D) × (ComesTo (submit event.op c) (event.turn, v) × (MayFollow event.turn events × IsHistory v events))
+
+module _ {D : Type 0} where
+  -- the mutex whose data a lock's or a wait's reply gives out
+  abbrev pub locked_by : Reply D → Option ℕ
+  locked_by (Locked n value) = Some n
+  locked_by (Waited n value timed_out) = Some n
+  locked_by reply.Start = None
+  locked_by reply.Done = None
+  locked_by (reply.Atomic n) = None
+  locked_by (reply.Value number) = None
+  locked_by (reply.Exchanged read) = None
+  locked_by (reply.Data value) = None
+  locked_by (reply.Cell n) = None
+  locked_by (reply.Reading n value) = None
+  locked_by (reply.Writing n value) = None
+  locked_by (reply.Arc n) = None
+  locked_by reply.Shared = None
+  locked_by (reply.Track n) = None
+  locked_by (reply.Mutex n) = None
+  locked_by reply.WouldBlock = None
+  locked_by (reply.RwLock n) = None
+  locked_by (reply.ReadLocked n value) = None
+  locked_by (reply.WriteLocked n value) = None
+  locked_by (reply.Condvar n) = None
+  locked_by (reply.Notify n) = None
+  locked_by (reply.Channel n) = None
+  locked_by reply.Empty = None
+  locked_by reply.RecvError = None
+  locked_by reply.Disconnected = None
+  locked_by (reply.SendError value) = None
+  locked_by (reply.Messages values) = None
+  locked_by (reply.BlockOn c) = None
+  locked_by (reply.Waker c) = None
+  locked_by reply.NoWaker = None
+  locked_by (reply.AtomicWaker p) = None
+  locked_by reply.Absent = None
+  locked_by reply.AccessError = None
+  locked_by (reply.Stood value other) = None
+  locked_by (reply.Locals values) = None
+  locked_by (reply.Lazies values) = None
+  locked_by (reply.Thread t name) = None
+  locked_by (reply.Spawned t name n) = None
+
+  abbrev pub locked_by_turn : Turn D → Option ℕ
+  locked_by_turn (turn.Reply t reply) = locked_by reply
+  locked_by_turn (turn.Start t) = None
+  locked_by_turn (turn.Ended value) = None
+
+  -- the mutex whose data the operation takes out without holding it; it has no branch point, so its own reply has the data
+  abbrev pub opened_by_mutex : MutexOp D → Option ℕ
+  opened_by_mutex (mutex_op.GetMut n) = Some n
+  opened_by_mutex (mutex_op.IntoInner n) = Some n
+  opened_by_mutex (mutex_op.New value) = None
+  opened_by_mutex (mutex_op.Lock n) = None
+  opened_by_mutex (mutex_op.TryLock n) = None
+  opened_by_mutex (mutex_op.Release n value) = None
+  opened_by_mutex (mutex_op.Put n value) = None
+
+  abbrev pub opened_by : Request D ⊤ → Option ℕ
+  opened_by (op.Mutex todo) = opened_by_mutex todo
+  opened_by (op.Atomic todo) = None
+  opened_by (op.Fence order) = None
+  opened_by (op.Cell todo) = None
+  opened_by (op.Arc todo) = None
+  opened_by (op.Track todo) = None
+  opened_by (op.RwLock todo) = None
+  opened_by (op.Condvar todo) = None
+  opened_by (op.Notify todo) = None
+  opened_by (op.Channel todo) = None
+  opened_by (op.Waker todo) = None
+  opened_by (op.AtomicWaker todo) = None
+  opened_by (op.Local todo) = None
+  opened_by (op.Lazy todo) = None
+  opened_by (op.Explore todo) = None
+  opened_by (op.Thread todo) = None
+  opened_by op.Fail = None
+  opened_by op.Unreachable = None
+
+  -- the mutex whose data a thread is given by this event
+  abbrev pub given_out : Event D → Option ℕ
+  given_out event = or_else (locked_by_turn event.turn) (opened_by event.op)
+
+  -- the mutex whose data the operation gives back
+  abbrev pub returned_by_mutex : MutexOp D → Option ℕ
+  returned_by_mutex (mutex_op.Release n value) = Some n
+  returned_by_mutex (mutex_op.Put n value) = Some n
+  returned_by_mutex (mutex_op.New value) = None
+  returned_by_mutex (mutex_op.Lock n) = None
+  returned_by_mutex (mutex_op.TryLock n) = None
+  returned_by_mutex (mutex_op.GetMut n) = None
+  returned_by_mutex (mutex_op.IntoInner n) = None
+
+  abbrev pub returned_by_condvar : CondvarOp D → Option ℕ
+  returned_by_condvar (condvar_op.Wait n m value) = Some m
+  returned_by_condvar (condvar_op.WaitTimeout n m value) = Some m
+  returned_by_condvar condvar_op.New = None
+  returned_by_condvar (condvar_op.NotifyOne n) = None
+  returned_by_condvar (condvar_op.NotifyAll n) = None
+
+  abbrev pub returned_by : Request D ⊤ → Option ℕ
+  returned_by (op.Mutex todo) = returned_by_mutex todo
+  returned_by (op.Condvar todo) = returned_by_condvar todo
+  returned_by (op.Atomic todo) = None
+  returned_by (op.Fence order) = None
+  returned_by (op.Cell todo) = None
+  returned_by (op.Arc todo) = None
+  returned_by (op.Track todo) = None
+  returned_by (op.RwLock todo) = None
+  returned_by (op.Notify todo) = None
+  returned_by (op.Channel todo) = None
+  returned_by (op.Waker todo) = None
+  returned_by (op.AtomicWaker todo) = None
+  returned_by (op.Local todo) = None
+  returned_by (op.Lazy todo) = None
+  returned_by (op.Explore todo) = None
+  returned_by (op.Thread todo) = None
+  returned_by op.Fail = None
+  returned_by op.Unreachable = None
+
+  -- the event begins with an operation that gives the data of mutex n back
+  abbrev pub gives_back : ℕ → Event D → Bool
+  gives_back n event = is_number (returned_by event.op) n
+
+-- Over every history: where two events give the data of one mutex out, an event after the first gives it back, the second at the
+-- latest, since another thread may have its turn by the very operation that gives it back.
+abbrev pub OneHolderLaw : Type 0 → Type 0
+OneHolderLaw D = (explores : Bool) (max_threads max_steps n : ℕ) (before between after : List (Event D)) (first second : Event D)
+    → IsHistory (opening explores max_threads max_steps) (before ++ first ∷ (between ++ second ∷ after))
+    → given_out first ≡ Some n → given_out second ≡ Some n
+    → list_any (gives_back n) (between ++ second ∷ []) ≡ true

@@ -1,0 +1,184 @@
+//! The nodes that a run makes, at their defaults or at a choice that was given, and which options of a new one are to be tried.
+ghost use Rattle.std.specs.Prelude.{◌≡◌, ◌&&◌, not, ◌<◌, ◌↔◌, ℕ, List, Option, Some, IfSome, IsSomeAnd, IsTrue, true, slice_get, map, length};
+ghost use Rattle.loom_engine.specs.Trees.Meeting.{is_below};
+ghost use Rattle.std.specs.List.{Contains};
+ghost use Rattle.std.specs.Option.{option_map};
+ghost use Rattle.loom_objects.specs.Tree.Question.{made_of, AreSoundOffers};
+ghost use Rattle.loom_objects.specs.Tree.Asked.{which_thread, which_store, whether_spurious};
+ghost use Rattle.loom_engine.specs.Walk.Path.{fresh};
+ghost use Rattle.loom_engine.specs.Trees.Drive.{new_node};
+ghost use Rattle.loom_engine.specs.Path.Nodes.{made_status, is_left, seen_schedule, seen_load, seen_spurious, IsWellSchedule, IsWellLoad};
+
+use crate::rt::path::node::{
+    Load, Schedule, Spurious, Status, Tally, count_slots, is_same_thread, with_status,
+};
+use loom_objects::choice::Choice;
+use loom_objects::rt::schedule::{Ability, Offers};
+
+/// Whether each option is to be tried where a run explores: in a search that isn't reduced.
+pub fn explores_each(reduce: bool, exploring: bool) -> bool
+    ensures { result ≡ (not reduce && exploring) }
+{
+    let is_whole = !reduce;
+    is_whole && exploring
+}
+
+/// Whether so many preemptions are below the bound, if there is one.
+pub fn is_below(bound: Option<u8>, preemptions: u32) -> bool
+    ensures { result ≡ is_below bound preemptions }
+{
+    match bound {
+        Some(bound) => preemptions < bound as u32,
+        None => true,
+    }
+}
+
+/// The status, as the node is made, of a thread that is not the choice: each option is to be tried, or none is yet.
+fn made_status(ability: Ability, every: bool) -> Status
+    ensures { result ≡ made_status every ability }
+{
+    match ability {
+        Ability::Able if every => Status::Pending,
+        Ability::Able => Status::Skip,
+        Ability::Yielding => Status::Yield,
+        Ability::Unable => Status::Disabled,
+    }
+}
+
+/// The statuses, as the node is made, while no thread is the choice.
+fn made_statuses(abilities: &[Ability; 5], every: bool) -> [Status; 5]
+    ensures made { result ≡ map (made_status every) abilities.now }
+    ensures size { length abilities.now ≡ 5 }
+{
+    abilities.map(|ability| made_status(ability, every))
+}
+
+/// A new schedule, where these were passed, and the run explores or doesn't: the default thread is the choice, and each other
+/// thread that can go on is to be tried, or none is yet.
+pub(crate) fn schedule(exploring: bool, offers: &Offers, every: bool, passed: &Tally) -> Schedule
+    requires { AreSoundOffers offers.now.default offers.now.abilities }
+    ensures made { (places : List (Option ℕ)) → seen_schedule result ≡ fresh every (made_of (which_thread exploring offers.now places)) }
+    ensures rests { IsWellSchedule result }
+    ensures noted { (result.preemptions ≡ passed.now.preemptions) × (result.switch ≡ passed.now.switch) × (result.nearest ≡ passed.now.nearest) }
+{
+    Schedule {
+        preemptions: passed.preemptions,
+        switch: passed.switch,
+        nearest: passed.nearest,
+        first: offers.default,
+        exploring,
+        statuses: with_status(
+            made_statuses(&offers.abilities, every),
+            offers.default,
+            Status::Active,
+        ),
+    }
+}
+
+/// A new schedule at a choice that was given, or None where that is no option. The default, if it is passed over,
+/// counts as tried.
+pub(crate) fn schedule_at(
+    exploring: bool,
+    offers: &Offers,
+    every: bool,
+    passed: &Tally,
+    choice: Choice,
+) -> Option<Schedule>
+    requires { AreSoundOffers offers.now.default offers.now.abilities }
+    ensures made { (places : List (Option ℕ)) → option_map seen_schedule result
+        ≡ new_node every (made_of (which_thread exploring offers.now places)) (Some choice) }
+    ensures rests { IfSome result IsWellSchedule }
+    ensures noted { IfSome result (λ schedule. (schedule.preemptions ≡ passed.now.preemptions) × (schedule.switch ≡ passed.now.switch) × (schedule.nearest ≡ passed.now.nearest)) }
+{
+    let mut schedule = schedule(exploring, offers, every, passed);
+    let Choice::Thread(thread) = choice else {
+        return None;
+    };
+    if is_same_thread(thread, schedule.first) {
+        return Some(schedule);
+    }
+    let thread = thread?;
+    if !may_choose(&schedule, thread as usize) {
+        return None;
+    }
+    schedule.choose(thread as usize);
+    Some(schedule)
+}
+
+/// Whether a thread of this status can go on, and isn't the choice nor was tried.
+fn is_left(status: Status) -> bool
+    ensures { result ≡ is_left status }
+{
+    matches!(status, Status::Skip | Status::Pending)
+}
+
+/// Whether the thread is there and can go on, and isn't the choice nor was tried.
+fn may_choose(schedule: &Schedule, thread: usize) -> bool
+    ensures { IsTrue result ↔ IsSomeAnd (slice_get schedule.now.statuses thread) (λ status. is_left status ≡ true) }
+{
+    match schedule.statuses.get(thread) {
+        Some(status) => is_left(*status),
+        None => false,
+    }
+}
+
+/// Whether the slot is there, and may be read.
+fn is_readable(readable: &[bool; 7], slot: usize) -> bool
+    ensures readable { IsTrue result ↔ (slice_get readable.now slot ≡ Some true) }
+    ensures within { IsTrue result → slot < 7 }
+{
+    matches!(readable.get(slot), Some(true))
+}
+
+/// A new load, where the run explores or doesn't: the lowest slot is the choice, and each other one that may be read is to
+/// be tried.
+pub(crate) fn load(exploring: bool, readable: &[bool; 7]) -> Load
+    requires some { Contains readable.now true }
+    ensures made { seen_load result ≡ fresh true (made_of (which_store exploring readable.now)) }
+    ensures well { IsWellLoad result }
+{
+    Load {
+        exploring,
+        readable: *readable,
+        position: 0,
+    }
+}
+
+/// A new load at a choice that was given, or None where that is no option. The slots below it count as tried.
+pub(crate) fn load_at(exploring: bool, readable: &[bool; 7], choice: Choice) -> Option<Load>
+    requires some { Contains readable.now true }
+    ensures made { option_map seen_load result ≡ new_node true (made_of (which_store exploring readable.now)) (Some choice) }
+    ensures well { IfSome result IsWellLoad }
+{
+    let Choice::Load(slot) = choice else {
+        return None;
+    };
+    if !is_readable(readable, slot as usize) {
+        return None;
+    }
+    Some(Load {
+        exploring,
+        readable: *readable,
+        position: count_slots(&readable[..slot as usize]) as u8,
+    })
+}
+
+/// A new node, where the run explores or doesn't, at which false is the choice, and true is to be tried.
+pub(crate) fn spurious(exploring: bool) -> Spurious
+    ensures { seen_spurious result ≡ fresh true (made_of (whether_spurious exploring)) }
+{
+    Spurious {
+        exploring,
+        answer: false,
+    }
+}
+
+/// A new node at a choice that was given, or None where that is no option. False counts as tried where true was given.
+pub(crate) fn spurious_at(exploring: bool, choice: Choice) -> Option<Spurious>
+    ensures { option_map seen_spurious result ≡ new_node true (made_of (whether_spurious exploring)) (Some choice) }
+{
+    match choice {
+        Choice::Spurious(answer) => Some(Spurious { exploring, answer }),
+        _ => None,
+    }
+}

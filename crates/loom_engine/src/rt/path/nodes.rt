@@ -1,0 +1,94 @@
+//! The nodes at which a run chooses, and how many of them it has passed.
+ghost use Rattle.std.specs.Prelude.{◌≡◌, ◌≤◌, ◌<◌, ◌↔◌, ◌++◌, ◌∷◌, [], ℕ, List, Option, IfOk, IfErr, IsTrue, length};
+ghost use Rattle.loom_objects.specs.Tree.Asked.{which_thread};
+ghost use Rattle.loom_objects.specs.Tree.Question.{made_of};
+ghost use Rattle.loom_engine.specs.Path.Nearest.{IsNearest, passes_in};
+ghost use Rattle.loom_engine.specs.Path.Nodes.{AreWell};
+ghost use Rattle.loom_engine.specs.Path.Tallies.{AreNoted};
+ghost use Rattle.loom_engine.specs.Path.Steps.{FindsSchedule, Steps};
+
+use crate::rt::path::node::{Node, Schedule};
+use loom_objects::failure::{Stop, failed};
+use loom_objects::rt::schedule::Offers;
+use loom_views::rt::failure::FailureKind;
+use std::alloc::AllocError;
+
+/// The nodes at which runs choose, in order, and how many of them the present run has passed.
+#[derive(Drop)]
+pub struct Way {
+    /// The nodes.
+    pub nodes: Vec<Node>,
+    /// How many of them the run has passed.
+    pub position: usize,
+}
+
+impl Way {
+    /// Makes a node at the end, without passing it. Without memory for it the nodes stay as they were.
+    pub fn push(&mut self, node: Node) -> Result<(), AllocError>
+        ensures made { IfOk result (λ _. self.new.nodes.items ≡ self.old.nodes.items ++ node ∷ []) }
+        ensures same { IfErr result (λ _. self.new.nodes.items ≡ self.old.nodes.items) }
+        ensures position { self.new.position ≡ self.old.position }
+    {
+        self.nodes.push(node)?;
+        Ok(())
+    }
+
+    /// Whether the run has passed as many nodes as there may be.
+    pub fn is_full(&self, max_branches: u32) -> bool
+        ensures { IsTrue result ↔ (max_branches ≤ self.now.position) }
+    {
+        self.position >= max_branches as usize
+    }
+
+    /// The stored schedule that the run passes next. `NotDeterministic` where another node stands there, or another schedule
+    /// than these offers make.
+    pub fn stored_schedule(&self, exploring: bool, offers: &Offers) -> Result<Schedule, Stop>
+        requires { self.now.position < length self.now.nodes.items }
+        ensures { (places : List (Option ℕ)) → FindsSchedule self.now.nodes.items self.now.position (made_of (which_thread exploring offers.now places)) result }
+    {
+        let Node::Schedule(schedule) = self.nodes[self.position] else {
+            return Err(failed(FailureKind::NotDeterministic));
+        };
+        if !schedule.meets(exploring, offers) {
+            return Err(failed(FailureKind::NotDeterministic));
+        }
+        Ok(schedule)
+    }
+}
+
+/// The deepest node that can go on does, and what follows it is dropped. False if none can.
+pub fn step_nodes(nodes: &mut Vec<Node>) -> bool
+    requires well { AreWell nodes.old.items }
+    requires noted { AreNoted nodes.old.items }
+    ensures steps { Steps nodes.old.items result nodes.new.items }
+    ensures well { AreWell nodes.new.items }
+    ensures noted { AreNoted nodes.new.items }
+    ensures fewer { length nodes.new.items ≤ length nodes.old.items }
+{
+    while !nodes.is_empty() {
+        let last = nodes.len() - 1;
+        if nodes[last].advance() {
+            return true;
+        }
+        nodes.truncate(last);
+    }
+    false
+}
+
+/// The place of the nearest of these schedules that explores, from this place down. One that doesn't explore notes which that is.
+pub fn exploring_in(nodes: &[Node], place: usize) -> Option<usize>
+    requires { AreNoted nodes.now }
+    ensures { IsNearest (passes_in nodes.now) place result }
+{
+    let mut left = nodes.len().min(place.saturating_add(1));
+    while left > 0 {
+        left -= 1;
+        if let Node::Schedule(schedule) = &nodes[left] {
+            if schedule.exploring {
+                return Some(left);
+            }
+            return Some(schedule.nearest? as usize);
+        }
+    }
+    None
+}

@@ -1,0 +1,3 @@
+pub mod Guide
+pub mod Spin
+pub mod Updates

@@ -1,0 +1,11 @@
+pub mod Builder
+pub mod FewThreads
+pub mod Line
+pub mod Meanings
+pub mod Printed
+pub mod Scripts
+pub mod Settings
+pub mod Steps
+pub mod Table
+pub mod Tasks
+pub mod Words

@@ -1,0 +1,72 @@
+-- What is printed of a row besides the line of a check.
+use Rattle.std.specs.Prelude.{ℕ, ◌≡◌, ◌++◌, Bool, false, List, Option, codes, decimal}
+use Rattle.std.specs.Io.KnownBytes.{Appends}
+use Rattle.loom_views.specs.Failures.{number_of}
+use Rattle.loom_objects.specs.Tree.Tree.{Tree}
+use Rattle.loom.specs.Model.Fresh.{Replays}
+use Rattle.loom.specs.Model.Check.{ReportsAlone}
+use Rattle.loom.specs.Model.Rising.{RisesTo}
+use Rattle.loom.specs.Model.Settings.{explores}
+use Rattle.loom.specs.declared.model.builder.Builder.{Builder}
+use Rattle.loom.specs.declared.model.Replay.{Replay}
+use Rattle.loom.specs.declared.model.Replay.TheVariants as replay
+use Rattle.loom.specs.declared.model.report.Report.{Report}
+use Rattle.loom.specs.declared.model.rising.Risen.{Risen}
+use Rattle.loom_engine.specs.Runs.Body.{runs as runs_of}
+use Rattle.loom_examples.specs.Scripts.Running.{started}
+use Rattle.loom_examples.specs.Scripts.Script as script
+use Rattle.loom_examples.specs.Rows.Builder.{IsBuilder}
+use Rattle.loom_examples.specs.Rows.Line.{PrintedOf, choices_text, report_text, status_of}
+use Rattle.loom_examples.specs.Bodies.Updates as updates
+use Rattle.loom_examples.specs.declared.rows.Checked.{Checked}
+use Rattle.loom_examples.specs.declared.rows.Checked.TheVariants.{Script, Updater}
+use Rattle.loom_examples.specs.declared.rows.settings.Settings.{Settings}
+use Rattle.loom_examples.specs.declared.rows.tasks.Task.{Task}
+use Rattle.loom_examples.specs.declared.rows.tasks.Task.TheVariants as task
+
+-- ---- lines
+
+abbrev pub risen_text : Risen → List ℕ
+risen_text risen = codes "bound " ++ decimal risen.bound ++ codes " " ++ report_text risen.report
+
+abbrev pub replay_text : Replay ℕ → List ℕ
+replay_text (replay.Ended choices value) = codes "ended" ++ choices_text choices.items
+replay_text (replay.Failed failure choices) = codes "failed " ++ decimal (number_of failure.kind) ++ choices_text choices.items
+
+-- 1 where the run failed
+abbrev pub replay_status : Replay ℕ → ℕ
+replay_status (replay.Ended choices value) = 0
+replay_status (replay.Failed failure choices) = 1
+
+-- just this line was written, and the status is its own
+abbrev pub PrintedRisen : Risen → Option (List ℕ) → Option (List ℕ) → ℕ → Type 0
+PrintedRisen risen old new status = (status ≡ status_of risen.report) × Appends old new (risen_text risen ++ codes "\n")
+
+abbrev pub PrintedReplay : Replay ℕ → Option (List ℕ) → Option (List ℕ) → ℕ → Type 0
+PrintedReplay made old new status = (status ≡ replay_status made) × Appends old new (replay_text made ++ codes "\n")
+
+-- nothing was written behind this, unless a failure is explained
+abbrev pub IsBehind : Bool → Option (List ℕ) → Option (List ℕ) → Type 0
+IsBehind explains mid new = explains ≡ false → new ≡ mid
+
+-- ---- tasks
+
+-- What was written is of a report that a check by this builder promises of the runs of this tree, or of what its checks with bounds
+-- up to 3 find, or of a run by these choices.
+abbrev pub PrintedBy : Task → Bool → Builder → Tree ℕ → Option (List ℕ) → Option (List ℕ) → ℕ → Type 0
+PrintedBy task.Check explains b tree old new status =
+    (report : Report) × ReportsAlone b tree report × ((mid : Option (List ℕ)) × PrintedOf report old mid status × IsBehind explains mid new)
+PrintedBy task.Rise explains b tree old new status =
+    (risen : Risen) × RisesTo b tree 3 risen × ((mid : Option (List ℕ)) × PrintedRisen risen old mid status × IsBehind explains mid new)
+PrintedBy (task.Replay choices) explains b tree old new status =
+    (made : Replay ℕ) × Replays b.max_branches tree choices.now made × ((mid : Option (List ℕ)) × PrintedReplay made old mid status × IsBehind explains mid new)
+
+-- the runs of what is checked
+abbrev pub tree_of : Checked → Builder → Tree ℕ
+tree_of (Script steps) b = runs_of script.next_of (explores b) b.max_threads b.max_steps (started steps.now)
+tree_of (Updater one other) b = runs_of updates.next_of (explores b) b.max_threads b.max_steps (updates.begun one other)
+
+-- the same of what is checked, with these settings and this checkpoint file, if there is one
+abbrev pub PrintedTask : Task → Bool → Checked → Settings → Option (List ℕ) → Option (List ℕ) → Option (List ℕ) → ℕ → Type 0
+PrintedTask task explains checked settings file old new status =
+    (b : Builder) × IsBuilder settings file b × PrintedBy task explains b (tree_of checked b) old new status

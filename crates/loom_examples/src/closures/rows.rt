@@ -1,0 +1,170 @@
+//! The rows of the program that are closures: their names, how each is checked, and what is printed of it.
+ghost use Rattle.std.specs.Prelude.{◌≡◌, ◌⊎◌, IfOk};
+ghost use Rattle.loom.specs.declared.model.report.Report.{Report};
+ghost use Rattle.loom_examples.specs.Rows.Line.{PrintedOf};
+
+use crate::closures::scenes;
+use crate::rows::line::{self, ShownReport};
+use loom::model::Report;
+use loom::model::builder::Builder;
+use loom::runner::{Handle, Nobody, RunnerError, Stop, check};
+use std::alloc::Global;
+use std::io::{self, Write};
+use std::sync::Wait;
+use std::thread::Threads;
+
+/// A row of closures.
+#[derive(Clone, Copy)]
+pub enum Row {
+    /// Two threads lock two mutexes in opposite order.
+    TwoMutexesDeadlock,
+    /// Two threads add to one number.
+    FetchAddAtomic,
+    /// Main locks a mutex beside a thread that does nothing.
+    LockBeside,
+    /// Two threads wait for each other by turns.
+    PingPong,
+    /// Main ends without a release.
+    GuardLeft,
+    /// Main goes on after it was given a stop.
+    Deaf,
+    /// Main stops, and wasn't given a stop.
+    Stops,
+    /// Main does something else in its second run.
+    Changes,
+    /// Two threads store to an atomic each, and load from the other's.
+    StoreBuffering,
+}
+
+/// All rows.
+pub const ROWS: [Row; 9] = [
+    Row::TwoMutexesDeadlock,
+    Row::FetchAddAtomic,
+    Row::LockBeside,
+    Row::PingPong,
+    Row::GuardLeft,
+    Row::Deaf,
+    Row::Stops,
+    Row::Changes,
+    Row::StoreBuffering,
+];
+
+impl Row {
+    /// The word that means the row.
+    pub fn name(self) -> &'static str {
+        match self {
+            Row::TwoMutexesDeadlock => "two_mutexes_deadlock_closures",
+            Row::FetchAddAtomic => "fetch_add_atomic_closures",
+            Row::LockBeside => "lock_beside_closures",
+            Row::PingPong => "runner_ping_pong",
+            Row::GuardLeft => "guard_left_closures",
+            Row::Deaf => "closure_deaf",
+            Row::Stops => "closure_stops",
+            Row::Changes => "closure_changes",
+            Row::StoreBuffering => "store_buffering_closures",
+        }
+    }
+
+    /// The row that the words mean: one word, which is its name. A row of closures has no checkpoint file.
+    pub fn meant_by(words: &[&str]) -> Option<Row> {
+        match words {
+            [name] => named(*name),
+            _ => None,
+        }
+    }
+
+    /// The settings of the row's check.
+    fn builder(self) -> Builder {
+        let mut builder = Builder::new();
+        match self {
+            Row::TwoMutexesDeadlock
+            | Row::FetchAddAtomic
+            | Row::GuardLeft
+            | Row::Deaf
+            | Row::Stops
+            | Row::StoreBuffering => {}
+            Row::LockBeside | Row::Changes => builder.reduce = false,
+            Row::PingPong => builder.max_branches = 200,
+        }
+        builder
+    }
+
+    /// What a check of the row finds, by its own settings.
+    pub fn check<R: Threads + Wait + Clone + Send + 'static>(
+        self,
+        rt: &R,
+        alloc: Global,
+    ) -> Result<Report, RunnerError> {
+        self.check_by(rt, alloc, &self.builder())
+    }
+
+    /// What a check of the row finds, by these settings.
+    pub fn check_by<R: Threads + Wait + Clone + Send + 'static>(
+        self,
+        rt: &R,
+        alloc: Global,
+        builder: &Builder,
+    ) -> Result<Report, RunnerError> {
+        let mut is_first = true;
+        let main = |handle: &mut Handle<u64, R>| -> Result<u64, Stop> {
+            let was_first = is_first;
+            is_first = false;
+            self.run(handle, was_first)
+        };
+        check(rt, alloc, builder, main, &mut Nobody)
+    }
+
+    /// What main does in a run: the first run, or a later one.
+    fn run<R: Threads + Wait + Clone + Send + 'static>(
+        self,
+        handle: &mut Handle<u64, R>,
+        is_first: bool,
+    ) -> Result<u64, Stop> {
+        match self {
+            Row::TwoMutexesDeadlock => scenes::two_mutexes(handle),
+            Row::FetchAddAtomic => scenes::two_adds(handle),
+            Row::LockBeside => scenes::lock_beside(handle),
+            Row::PingPong => scenes::ping_pong(handle),
+            Row::GuardLeft => scenes::guard_left(handle),
+            Row::Deaf => scenes::deaf(handle),
+            Row::Stops => Err(Stop::Refused),
+            Row::Changes if is_first => scenes::lock_beside(handle),
+            Row::Changes => Ok(7),
+            Row::StoreBuffering => scenes::store_buffering(handle),
+        }
+    }
+}
+
+/// The row of this name.
+fn named(name: &str) -> Option<Row> {
+    for row in ROWS {
+        if row.name() == name {
+            return Some(row);
+        }
+    }
+    None
+}
+
+/// Checks the row, prints the line of the report, and answers its status. Where there is no report, it prints which error came, and
+/// the status is 2.
+pub fn run_row<R: AllocGlobal + Threads + Wait + Clone + Send + 'static, O: Write, E: Write>(
+    rt: &R,
+    row: Row,
+    out: &mut O,
+    err: &mut E,
+) -> io::Result<u8>
+    ensures { IfOk result (λ status. (status ≡ 2) ⊎ ((report : Report) × PrintedOf report (O.contents out.old) (O.contents out.new) status)) }
+{
+    match row.check(rt, rt.alloc()) {
+        Ok(report) => {
+            let shown = ShownReport(&report);
+            writeln!(out, "{shown}")?;
+            Ok(line::status_of(&report))
+        }
+        Err(error) => {
+            let number = error.number();
+            writeln!(err, "error {number}")?;
+            Ok(2)
+        }
+    }
+}

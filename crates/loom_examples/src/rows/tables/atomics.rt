@@ -1,0 +1,354 @@
+//! The scripts of the rows about atomics and fences.
+ghost use Rattle.std.specs.Prelude.{◌≡◌, map};
+ghost use Rattle.loom_examples.specs.Rows.Meanings.{named};
+ghost use Rattle.loom_examples.specs.Rows.Table.{fence_rows, function_rows, unsynchronized_rows, update_rows};
+
+use crate::row;
+use crate::rows::{Checked, DEFAULTS, Row, TEN_STEPS};
+use crate::scripts::step::{END, EXIT, FAIL, Step, Value, YIELD};
+use loom_objects::operation::{AtomicOp, Exchange, MutexOp, Request, ThreadOp};
+use loom_views::rt::num::Numbers;
+use loom_views::rt::num::change::Change::{Add, Max, Min, Nand, Xor};
+use std::sync::atomic::Ordering::{Acquire, Relaxed, Release, SeqCst};
+
+/// A number of 64 bits (loom's `tests/atomic_int.rs`).
+pub const NUM_A: u64 = 11641914933775430211;
+
+/// Another one (loom's `tests/atomic_int.rs`).
+pub const NUM_B: u64 = 13209405719799650717;
+
+/// The 64 bits of -99.
+const MINUS_99: u64 = 18446744073709551517;
+
+/// Main asserts what each function of a `u8` replies and leaves.
+pub const U8_FUNCTIONS: &[Step] = &[
+    Step::Do(0, Request::Atomic(AtomicOp::New(Numbers::U8, 67))),
+    Step::Do(0, Request::Atomic(AtomicOp::Update(0, Xor(157), SeqCst))),
+    Step::Unless(0, 67, 33),
+    Step::Do(1, Request::Atomic(AtomicOp::Load(0, SeqCst))),
+    Step::Unless(1, 222, 33),
+    Step::Do(0, Request::Atomic(AtomicOp::New(Numbers::U8, 67))),
+    Step::Do(0, Request::Atomic(AtomicOp::Update(0, Nand(157), SeqCst))),
+    Step::Unless(0, 67, 33),
+    Step::Do(1, Request::Atomic(AtomicOp::Load(0, SeqCst))),
+    Step::Unless(1, 254, 33),
+    Step::Do(0, Request::Atomic(AtomicOp::New(Numbers::U8, 67))),
+    Step::Do(0, Request::Atomic(AtomicOp::Update(0, Max(157), SeqCst))),
+    Step::Unless(0, 67, 33),
+    Step::Do(1, Request::Atomic(AtomicOp::Load(0, SeqCst))),
+    Step::Unless(1, 157, 33),
+    Step::Do(0, Request::Atomic(AtomicOp::New(Numbers::U8, 67))),
+    Step::Do(0, Request::Atomic(AtomicOp::Update(0, Min(157), SeqCst))),
+    Step::Unless(0, 67, 33),
+    Step::Do(1, Request::Atomic(AtomicOp::Load(0, SeqCst))),
+    Step::Unless(1, 67, 33),
+    Step::Do(0, Request::Atomic(AtomicOp::New(Numbers::U8, 67))),
+    Step::Do(0, Request::Atomic(AtomicOp::Update(0, Add(157), SeqCst))),
+    Step::Unless(0, 67, 33),
+    Step::Do(1, Request::Atomic(AtomicOp::Load(0, SeqCst))),
+    Step::Unless(1, 224, 33),
+    Step::Do(0, Request::Atomic(AtomicOp::New(Numbers::U8, 255))),
+    Step::Do(0, Request::Atomic(AtomicOp::Update(0, Add(1), SeqCst))),
+    Step::Unless(0, 255, 33),
+    Step::Do(1, Request::Atomic(AtomicOp::Load(0, SeqCst))),
+    Step::Unless(1, 0, 33),
+    Step::Do(0, Request::Thread(ThreadOp::Finish(Value::Plain(0)))),
+    EXIT,
+    END,
+    FAIL,
+];
+
+/// Main asserts which of 67 and -99 is the larger `i8`, and which the smaller.
+pub const I8_FUNCTIONS: &[Step] = &[
+    Step::Do(0, Request::Atomic(AtomicOp::New(Numbers::I8, 67))),
+    Step::Do(
+        0,
+        Request::Atomic(AtomicOp::Update(0, Max(MINUS_99), SeqCst)),
+    ),
+    Step::Unless(0, 67, 13),
+    Step::Do(1, Request::Atomic(AtomicOp::Load(0, SeqCst))),
+    Step::Unless(1, 67, 13),
+    Step::Do(0, Request::Atomic(AtomicOp::New(Numbers::I8, 67))),
+    Step::Do(
+        0,
+        Request::Atomic(AtomicOp::Update(0, Min(MINUS_99), SeqCst)),
+    ),
+    Step::Unless(0, 67, 13),
+    Step::Do(1, Request::Atomic(AtomicOp::Load(0, SeqCst))),
+    Step::Unless(1, MINUS_99, 13),
+    Step::Do(0, Request::Thread(ThreadOp::Finish(Value::Plain(0)))),
+    EXIT,
+    END,
+    FAIL,
+];
+
+/// Main asserts that the nand of true and true replies true and leaves false.
+pub const BOOL_NAND: &[Step] = &[
+    Step::Do(0, Request::Atomic(AtomicOp::New(Numbers::Bool, 1))),
+    Step::Do(0, Request::Atomic(AtomicOp::Update(0, Nand(1), SeqCst))),
+    Step::Unless(0, 1, 8),
+    Step::Do(1, Request::Atomic(AtomicOp::Load(0, SeqCst))),
+    Step::Unless(1, 0, 8),
+    Step::Do(0, Request::Thread(ThreadOp::Finish(Value::Plain(0)))),
+    EXIT,
+    END,
+    FAIL,
+];
+
+/// Of two exchanges of a number, the first expects another one and fails. Main asserts that, and finishes with what is loaded
+/// after the second (loom's `tests/atomic_int.rs`).
+pub const COMPARE_EXCHANGE: &[Step] = &[
+    Step::Do(0, Request::Atomic(AtomicOp::New(Numbers::U64, NUM_A))),
+    Step::Do(0, Request::Atomic(AtomicOp::CompareExchange(0, FAILS))),
+    Step::Unless(3, NUM_A, 9),
+    Step::Do(1, Request::Atomic(AtomicOp::CompareExchange(0, SUCCEEDS))),
+    Step::Unless(1, NUM_A, 9),
+    Step::Do(2, Request::Atomic(AtomicOp::Load(0, SeqCst))),
+    Step::Do(0, Request::Thread(ThreadOp::Finish(Value::Held(2)))),
+    EXIT,
+    END,
+    FAIL,
+];
+
+const FAILS: Exchange = Exchange {
+    expected: NUM_B,
+    new: NUM_A,
+    success: SeqCst,
+    failure: SeqCst,
+};
+
+const SUCCEEDS: Exchange = Exchange {
+    expected: NUM_A,
+    new: NUM_B,
+    success: SeqCst,
+    failure: SeqCst,
+};
+
+/// A thread loads without synchronizing, beside a store of main (loom's `tests/atomic.rs`).
+pub const UNSYNC_RACE: &[Step] = &[
+    Step::Do(0, Request::Atomic(AtomicOp::New(Numbers::U64, 0))),
+    Step::Do(1, Request::Thread(ThreadOp::Spawn(7, None))),
+    Step::Do(0, Request::Atomic(AtomicOp::Store(0, 1, Relaxed))),
+    Step::Do(0, Request::Thread(ThreadOp::Join(1, 1))),
+    Step::Do(0, Request::Thread(ThreadOp::Finish(Value::Plain(0)))),
+    EXIT,
+    END,
+    Step::Do(0, Request::Atomic(AtomicOp::UnsyncLoad(0))),
+    Step::Do(0, Request::Thread(ThreadOp::Finish(Value::Plain(0)))),
+    EXIT,
+    END,
+];
+
+/// Main loads while its own mutation is open.
+pub const LOAD_IN_WITH_MUT: &[Step] = &[
+    Step::Do(0, Request::Atomic(AtomicOp::New(Numbers::U64, 0))),
+    Step::Do(0, Request::Atomic(AtomicOp::WithMut(0))),
+    Step::Do(0, Request::Atomic(AtomicOp::Load(0, SeqCst))),
+    Step::Do(0, Request::Atomic(AtomicOp::WithMutEnd(0, 0))),
+    Step::Do(0, Request::Thread(ThreadOp::Finish(Value::Plain(0)))),
+    EXIT,
+    END,
+];
+
+/// Main makes a relaxed fence, which fails.
+pub const RELAXED_FENCE: &[Step] = &[
+    Step::Do(0, Request::Fence(Relaxed)),
+    Step::Do(0, Request::Thread(ThreadOp::Finish(Value::Plain(0)))),
+    EXIT,
+    END,
+];
+
+/// Main makes as many fences as a thread may raise its version, and then a relaxed one. It counts them in a mutex.
+pub const FENCES_THEN_RELAXED: &[Step] = &[
+    Step::Do(0, Request::Mutex(MutexOp::New(Value::Plain(0)))),
+    Step::Do(0, Request::Fence(Release)),
+    Step::Do(0, Request::Mutex(MutexOp::GetMut(0))),
+    Step::Do(0, Request::Mutex(MutexOp::Put(0, Value::Next(0)))),
+    Step::Unless(0, 65_533, 1),
+    Step::Do(0, Request::Fence(Relaxed)),
+    Step::Do(0, Request::Thread(ThreadOp::Finish(Value::Plain(0)))),
+    EXIT,
+    END,
+];
+
+/// Main loads without synchronizing, without end.
+pub const UNSYNC_LOAD_FOREVER: &[Step] = &[
+    Step::Do(0, Request::Atomic(AtomicOp::New(Numbers::U64, 0))),
+    Step::Do(0, Request::Atomic(AtomicOp::UnsyncLoad(0))),
+    Step::Jump(1),
+];
+
+/// Two threads set a truth value each, and then load the other's, with a fence between. Main is one of them, and finishes with
+/// ten times what the other thread loaded and what it loaded itself (loom's `tests/fence.rs`).
+pub const SB_FENCES: &[Step] = &[
+    Step::Do(0, Request::Atomic(AtomicOp::New(Numbers::Bool, 0))),
+    Step::Do(1, Request::Atomic(AtomicOp::New(Numbers::Bool, 0))),
+    Step::Do(2, Request::Thread(ThreadOp::Spawn(10, None))),
+    Step::Do(0, Request::Atomic(AtomicOp::Store(1, 1, Relaxed))),
+    Step::Do(0, Request::Fence(SeqCst)),
+    Step::Do(1, Request::Atomic(AtomicOp::Load(0, Relaxed))),
+    Step::Do(0, Request::Thread(ThreadOp::Join(2, 2))),
+    Step::Do(0, Request::Thread(ThreadOp::Finish(Value::Both(0, 1)))),
+    EXIT,
+    END,
+    Step::Do(0, Request::Atomic(AtomicOp::Store(0, 1, Relaxed))),
+    Step::Do(0, Request::Fence(SeqCst)),
+    Step::Do(0, Request::Atomic(AtomicOp::Load(1, Relaxed))),
+    Step::Do(0, Request::Thread(ThreadOp::Finish(Value::Held(0)))),
+    EXIT,
+    END,
+];
+
+/// Two threads add 1 to the same number. Main is one of them, and finishes with ten times what the other thread read and what
+/// it read itself (loom's `tests/atomic.rs`).
+pub const FETCH_ADD_ATOMIC: &[Step] = &[
+    Step::Do(0, Request::Atomic(AtomicOp::New(Numbers::U64, 0))),
+    Step::Do(1, Request::Thread(ThreadOp::Spawn(7, None))),
+    Step::Do(1, Request::Atomic(AtomicOp::Update(0, Add(1), Relaxed))),
+    Step::Do(0, Request::Thread(ThreadOp::Join(1, 1))),
+    Step::Do(0, Request::Thread(ThreadOp::Finish(Value::Both(0, 1)))),
+    EXIT,
+    END,
+    Step::Do(0, Request::Atomic(AtomicOp::Update(0, Add(1), Relaxed))),
+    Step::Do(0, Request::Thread(ThreadOp::Finish(Value::Held(0)))),
+    EXIT,
+    END,
+];
+
+/// Three threads whose stores and loads come to two stores with equal places in the modification order.
+pub const ORDERS_EQUAL: &[Step] = &[
+    Step::Do(0, Request::Atomic(AtomicOp::New(Numbers::U64, 0))),
+    Step::Do(1, Request::Thread(ThreadOp::Spawn(8, None))),
+    Step::Do(0, Request::Atomic(AtomicOp::Store(0, 3, Relaxed))),
+    Step::Do(2, Request::Thread(ThreadOp::Spawn(12, None))),
+    Step::Do(0, Request::Atomic(AtomicOp::Load(0, Relaxed))),
+    Step::Do(0, Request::Thread(ThreadOp::Finish(Value::Plain(0)))),
+    EXIT,
+    END,
+    Step::Do(0, Request::Atomic(AtomicOp::Store(0, 0, Relaxed))),
+    Step::Do(0, Request::Atomic(AtomicOp::Store(0, 0, Relaxed))),
+    Step::Do(0, Request::Atomic(AtomicOp::Update(0, Add(1), Relaxed))),
+    Step::Jump(14),
+    Step::Do(0, Request::Atomic(AtomicOp::Load(0, Relaxed))),
+    Step::Do(0, Request::Atomic(AtomicOp::CompareExchange(0, TWO_BY_TWO))),
+    Step::Do(0, Request::Thread(ThreadOp::Finish(Value::Plain(0)))),
+    EXIT,
+    END,
+];
+
+const TWO_BY_TWO: Exchange = Exchange {
+    expected: 2,
+    new: 2,
+    success: Relaxed,
+    failure: Relaxed,
+};
+
+/// Three threads, of which each adds to one atomic twice. Main is one of them, and joins the others.
+pub const THREE_ADDS: &[Step] = &[
+    Step::Do(0, Request::Atomic(AtomicOp::New(Numbers::U64, 0))),
+    Step::Do(1, Request::Thread(ThreadOp::Spawn(8, None))),
+    Step::Do(2, Request::Thread(ThreadOp::Spawn(8, None))),
+    Step::Do(0, Request::Atomic(AtomicOp::Update(0, Add(1), Relaxed))),
+    Step::Do(0, Request::Atomic(AtomicOp::Update(0, Add(1), Relaxed))),
+    Step::Do(0, Request::Thread(ThreadOp::Join(1, 1))),
+    Step::Do(0, Request::Thread(ThreadOp::Join(2, 2))),
+    Step::Jump(10),
+    Step::Do(0, Request::Atomic(AtomicOp::Update(0, Add(1), Relaxed))),
+    Step::Do(0, Request::Atomic(AtomicOp::Update(0, Add(1), Relaxed))),
+    Step::Do(0, Request::Thread(ThreadOp::Finish(Value::Plain(0)))),
+    EXIT,
+    END,
+];
+
+/// One thread stores to one flag, and another thread to another. Two threads each wait for one of the flags, one for the one
+/// and one for the other, and then finish with what they load from the other flag. Main stores to the first flag, joins the
+/// two, and finishes with ten times what the one loaded and what the other loaded (`acq_rel` of loom's `tests/spec.rs`).
+pub const ACQ_REL: &[Step] = &[
+    Step::Do(0, Request::Atomic(AtomicOp::New(Numbers::Bool, 0))),
+    Step::Do(1, Request::Atomic(AtomicOp::New(Numbers::Bool, 0))),
+    Step::Do(2, Request::Thread(ThreadOp::Spawn(11, None))),
+    Step::Do(3, Request::Thread(ThreadOp::Spawn(15, None))),
+    Step::Do(4, Request::Thread(ThreadOp::Spawn(22, None))),
+    Step::Do(0, Request::Atomic(AtomicOp::Store(0, 1, Release))),
+    Step::Do(0, Request::Thread(ThreadOp::Join(3, 3))),
+    Step::Do(1, Request::Thread(ThreadOp::Join(4, 4))),
+    Step::Do(0, Request::Thread(ThreadOp::Finish(Value::Both(0, 1)))),
+    EXIT,
+    END,
+    Step::Do(0, Request::Atomic(AtomicOp::Store(1, 1, Release))),
+    Step::Do(0, Request::Thread(ThreadOp::Finish(Value::Plain(0)))),
+    EXIT,
+    END,
+    Step::Do(0, Request::Atomic(AtomicOp::Load(0, Acquire))),
+    Step::Unless(0, 1, 20),
+    Step::Do(1, Request::Atomic(AtomicOp::Load(1, Acquire))),
+    Step::Do(0, Request::Thread(ThreadOp::Finish(Value::Held(1)))),
+    Step::Jump(9),
+    YIELD,
+    Step::Jump(15),
+    Step::Do(0, Request::Atomic(AtomicOp::Load(1, Acquire))),
+    Step::Unless(0, 1, 27),
+    Step::Do(1, Request::Atomic(AtomicOp::Load(0, Acquire))),
+    Step::Do(0, Request::Thread(ThreadOp::Finish(Value::Held(1)))),
+    Step::Jump(9),
+    YIELD,
+    Step::Jump(22),
+];
+
+static FUNCTIONS: [Row; 4] = [
+    row!("u8_functions", U8_FUNCTIONS),
+    row!("i8_functions", I8_FUNCTIONS),
+    row!("bool_nand", BOOL_NAND),
+    row!("compare_exchange", COMPARE_EXCHANGE),
+];
+
+/// The rows of what atomics are changed by.
+pub fn functions() -> &'static [Row]
+    ensures { map named result.now ≡ function_rows }
+{
+    &FUNCTIONS
+}
+
+static UNSYNCHRONIZED: [Row; 2] = [
+    row!("unsync_race", UNSYNC_RACE),
+    row!("load_in_with_mut", LOAD_IN_WITH_MUT),
+];
+
+/// The rows of atomics that are accessed beside others.
+pub fn unsynchronized() -> &'static [Row]
+    ensures { map named result.now ≡ unsynchronized_rows }
+{
+    &UNSYNCHRONIZED
+}
+
+static FENCES: [Row; 4] = [
+    row!("relaxed_fence", RELAXED_FENCE),
+    row!("fences_then_relaxed", FENCES_THEN_RELAXED),
+    row!("unsync_load_forever", UNSYNC_LOAD_FOREVER, TEN_STEPS),
+    row!("sb_fences", SB_FENCES),
+];
+
+/// The rows of fences, and of loads without end.
+pub fn fences() -> &'static [Row]
+    ensures { map named result.now ≡ fence_rows }
+{
+    &FENCES
+}
+
+static UPDATES: [Row; 4] = [
+    row!("fetch_add_atomic", FETCH_ADD_ATOMIC),
+    row!("orders_equal", ORDERS_EQUAL),
+    row!("three_adds", THREE_ADDS),
+    Row {
+        name: "fetch_update_once",
+        checked: Checked::Updater(NUM_A, NUM_B),
+        settings: DEFAULTS,
+    },
+];
+
+/// The rows of threads that update one atomic.
+pub fn updates() -> &'static [Row]
+    ensures { map named result.now ≡ update_rows }
+{
+    &UPDATES
+}

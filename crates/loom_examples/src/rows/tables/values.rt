@@ -1,0 +1,90 @@
+//! The scripts of the rows about values that threads have for themselves, and values that are made once a run.
+ghost use Rattle.std.specs.Prelude.{◌≡◌, map};
+ghost use Rattle.loom_examples.specs.Rows.Meanings.{named};
+ghost use Rattle.loom_examples.specs.Rows.Table.{value_rows};
+
+use crate::row;
+use crate::rows::Row;
+use crate::scripts::step::{END, EXIT, FAIL, Step, Value};
+use loom_objects::operation::{LazyOp, LocalOp, Request, ThreadOp};
+
+const FINISH: Step = Step::Do(0, Request::Thread(ThreadOp::Finish(Value::Plain(7))));
+
+/// Main asserts that a value isn't made yet, that it is 5 once it is made so, and that it is given back with its key.
+pub const LAZY_ONCE: &[Step] = &[
+    Step::Do(0, Request::Lazy(LazyOp::Get(1))),
+    Step::Unless(3, 1, 10),
+    Step::Do(0, Request::Lazy(LazyOp::Init(1, Value::Plain(5)))),
+    Step::Unless(0, 5, 10),
+    Step::Do(1, Request::Lazy(LazyOp::Get(1))),
+    Step::Unless(1, 5, 10),
+    Step::Do(2, Request::Thread(ThreadOp::Finish(Value::Held(1)))),
+    Step::Unless(2, 115, 10),
+    EXIT,
+    END,
+    FAIL,
+];
+
+/// A thread that main doesn't join asks for a value that is made once (loom's `tests/atomic.rs`).
+pub const LAZY_LATE: &[Step] = &[
+    Step::Do(0, Request::Thread(ThreadOp::Spawn(4, None))),
+    FINISH,
+    EXIT,
+    END,
+    Step::Do(0, Request::Lazy(LazyOp::Get(1))),
+    FINISH,
+    EXIT,
+    END,
+];
+
+/// Main makes two values of one key.
+pub const LOCAL_TWICE: &[Step] = &[
+    Step::Do(0, Request::Local(LocalOp::Init(1, Value::Plain(5)))),
+    Step::Do(0, Request::Local(LocalOp::Init(1, Value::Plain(6)))),
+];
+
+/// Main asks for a value that it gave back.
+pub const LOCAL_GONE: &[Step] = &[
+    Step::Do(0, Request::Local(LocalOp::Init(1, Value::Plain(5)))),
+    FINISH,
+    EXIT,
+    Step::Do(0, Request::Local(LocalOp::With(1))),
+];
+
+/// The same by the call that may fail, and main asserts that it does.
+pub const LOCAL_ACCESS_ERROR: &[Step] = &[
+    Step::Do(0, Request::Local(LocalOp::Init(1, Value::Plain(5)))),
+    FINISH,
+    EXIT,
+    Step::Do(0, Request::Local(LocalOp::TryWith(1))),
+    Step::Unless(3, 2, 6),
+    END,
+    FAIL,
+];
+
+/// Main makes a value of key 2 and then one of key 1, and asserts that it has them back in this order.
+pub const LOCAL_ORDER: &[Step] = &[
+    Step::Do(0, Request::Local(LocalOp::Init(2, Value::Plain(5)))),
+    Step::Do(0, Request::Local(LocalOp::Init(1, Value::Plain(6)))),
+    FINISH,
+    EXIT,
+    Step::Unless(0, 12_516, 6),
+    END,
+    FAIL,
+];
+
+static VALUE_ROWS: [Row; 6] = [
+    row!("lazy_once", LAZY_ONCE),
+    row!("lazy_late", LAZY_LATE),
+    row!("local_twice", LOCAL_TWICE),
+    row!("local_gone", LOCAL_GONE),
+    row!("local_access_error", LOCAL_ACCESS_ERROR),
+    row!("local_order", LOCAL_ORDER),
+];
+
+/// The rows of these scripts.
+pub fn rows() -> &'static [Row]
+    ensures { map named result.now ≡ value_rows }
+{
+    &VALUE_ROWS
+}

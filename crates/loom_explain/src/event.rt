@@ -1,0 +1,26 @@
+//! An event of a run that is told, and how such a run ends.
+use loom_objects::failure::Failure;
+use loom_objects::operation::{Op, Reply};
+
+/// One event of a run: a thread is told the answer to what it handed over last, and hands over its next operation.
+#[derive(Debug, Drop)]
+pub struct Event {
+    /// Whose event it is; 0 is main.
+    pub thread: u8,
+    /// What the thread was told before: the reply to its last operation, or `Start`. Data stand as `()`.
+    pub told: Reply<()>,
+    /// What it handed over. Data, and what a spawn starts, stand as `()`.
+    pub op: Op<(), ()>,
+    /// How many choices the run had made when this was handed over. Those from here up to the next event's number were made
+    /// at this event.
+    pub choices_before: usize,
+}
+
+/// How a run ended.
+#[derive(Clone, Copy, Debug)]
+pub enum End {
+    /// Main came to its value.
+    Ended,
+    /// It failed.
+    Failed(Failure),
+}

@@ -1,0 +1,7 @@
+//! A run told in words: `explanation` has the events of a run with its choices and its end, and `text` says why it failed and lays
+//! the events out in columns. It knows no rule of the machine, and promises no more of the words than tests compare.
+#![tactic(auto)]
+
+pub mod event;
+pub mod explanation;
+pub mod text;

@@ -1,0 +1,278 @@
+//! What an operation's reply says, and what the operation did to an atomic, a cell, a lock or a count.
+use crate::text::forms::Deed;
+use crate::text::names::Value;
+use crate::text::objects::{Manner, Store};
+use crate::text::page::Page;
+use loom_objects::operation::{AtomicOp, CellOp, Reply};
+use loom_views::rt::num::Numbers;
+use std::sync::atomic::Ordering;
+
+/// What is told of a reply.
+#[derive(Clone, Copy)]
+pub(crate) enum Answer {
+    Nothing,
+    /// It is told in any case.
+    Words(&'static str),
+    /// It is told where the thread waited for it.
+    Late(&'static str),
+    Value(Value),
+    /// The number of the store that was made.
+    Stored(usize),
+    Read(Store, Outcome),
+    Waker(usize),
+    Thread(u8),
+}
+
+/// What came of a read.
+#[derive(Clone, Copy)]
+pub(crate) enum Outcome {
+    Nothing,
+    Value(Value),
+    Exchanged(Value),
+    Kept(Value),
+}
+
+/// What an operation did to its atomic.
+pub(crate) struct Touch {
+    /// Whether it read a store.
+    pub(crate) reads: bool,
+    /// Whether it made one.
+    pub(crate) writes: bool,
+    pub(crate) manner: Manner,
+    /// What it is, as a noun.
+    pub(crate) noun: &'static str,
+}
+
+static LOADS: Touch = Touch {
+    reads: true,
+    writes: false,
+    manner: Manner::Load,
+    noun: "load",
+};
+
+static FAILS: Touch = Touch {
+    reads: true,
+    writes: false,
+    manner: Manner::Load,
+    noun: "exchange that failed",
+};
+
+static STORES: Touch = Touch {
+    reads: false,
+    writes: true,
+    manner: Manner::Store,
+    noun: "store",
+};
+
+static CHANGES: Touch = Touch {
+    reads: true,
+    writes: true,
+    manner: Manner::Store,
+    noun: "read-modify-write",
+};
+
+static EXCHANGES: Touch = Touch {
+    reads: true,
+    writes: true,
+    manner: Manner::Store,
+    noun: "exchange",
+};
+
+static LOADS_UNSYNC: Touch = Touch {
+    reads: false,
+    writes: false,
+    manner: Manner::UnsyncLoad,
+    noun: "unsynchronized load",
+};
+
+static MUTATES: Touch = Touch {
+    reads: false,
+    writes: false,
+    manner: Manner::Mutation,
+    noun: "mutation",
+};
+
+impl Answer {
+    /// Whether it is told: where the thread waited for it, and where it didn't.
+    pub(crate) fn is_told(self, has_waited: bool) -> bool {
+        match self {
+            Answer::Nothing => false,
+            Answer::Late(_) => has_waited,
+            Answer::Words(_)
+            | Answer::Value(_)
+            | Answer::Stored(_)
+            | Answer::Read(..)
+            | Answer::Waker(_)
+            | Answer::Thread(_) => true,
+        }
+    }
+}
+
+impl Page {
+    pub(crate) fn answer(&mut self, answer: Answer) {
+        match answer {
+            Answer::Nothing => {}
+            Answer::Words(words) | Answer::Late(words) => self.words(words),
+            Answer::Value(value) => self.value("", value.numbers, value.bits),
+            Answer::Stored(number) => self.number("store ", number),
+            Answer::Read(_, outcome) => self.outcome(outcome),
+            Answer::Waker(number) => self.number("waker of #", number),
+            Answer::Thread(thread) => self.number("thread ", usize::from(thread)),
+        }
+    }
+
+    fn outcome(&mut self, outcome: Outcome) {
+        match outcome {
+            Outcome::Nothing => {}
+            Outcome::Value(value) => self.value(": ", value.numbers, value.bits),
+            Outcome::Exchanged(value) => {
+                self.value(": Ok(", value.numbers, value.bits);
+                self.words(")");
+            }
+            Outcome::Kept(value) => {
+                self.value(": Err(", value.numbers, value.bits);
+                self.words(")");
+            }
+        }
+    }
+}
+
+/// What a reply says, of an operation that reads no store.
+pub(crate) fn answer_of(told: &Reply<()>) -> Answer {
+    match told {
+        Reply::Data(_) => Answer::Late("has the value"),
+        Reply::Locked(..) | Reply::ReadLocked(..) | Reply::WriteLocked(..) => {
+            Answer::Late("holds it")
+        }
+        Reply::Waited(_, _, true) => Answer::Words("the time ran out, holds the mutex"),
+        Reply::Waited(_, _, false) => Answer::Late("holds the mutex"),
+        Reply::Value(bits) => Answer::Value(Value {
+            numbers: Numbers::U64,
+            bits: *bits,
+        }),
+        Reply::Shared => Answer::Words("others share it"),
+        Reply::WouldBlock => Answer::Words("would block"),
+        Reply::Empty => Answer::Words("no message"),
+        Reply::RecvError | Reply::Disconnected => Answer::Words("no message, and no sender"),
+        Reply::SendError(_) => Answer::Words("no receiver"),
+        Reply::Waker(number) => Answer::Waker(*number),
+        Reply::NoWaker => Answer::Words("no waker"),
+        Reply::Absent => Answer::Words("no value yet"),
+        Reply::AccessError => Answer::Words("was given back"),
+        Reply::Stood(..) => Answer::Words("another value stands"),
+        Reply::Thread(thread, _) => Answer::Thread(*thread),
+        // what was made stands with the operation
+        _ => Answer::Nothing,
+    }
+}
+
+/// What came of a read, by its reply.
+pub(crate) fn outcome_of(told: &Reply<()>, numbers: Numbers) -> Outcome {
+    match told {
+        Reply::Value(bits) => Outcome::Value(Value {
+            numbers,
+            bits: *bits,
+        }),
+        Reply::Exchanged(Ok(bits)) => Outcome::Exchanged(Value {
+            numbers,
+            bits: *bits,
+        }),
+        Reply::Exchanged(Err(bits)) => Outcome::Kept(Value {
+            numbers,
+            bits: *bits,
+        }),
+        _ => Outcome::Nothing,
+    }
+}
+
+/// What the operation does to its atomic, by whether it is an exchange that failed; nothing is done by what makes one.
+pub(crate) fn touch_of(op: AtomicOp, has_failed: bool) -> Option<&'static Touch> {
+    let touch = match op {
+        AtomicOp::New(..) => return None,
+        AtomicOp::Load(..) => &LOADS,
+        AtomicOp::Store(..) => &STORES,
+        AtomicOp::Update(..) => &CHANGES,
+        AtomicOp::CompareExchange(..) | AtomicOp::CompareAndSwap(..) if has_failed => &FAILS,
+        AtomicOp::CompareExchange(..) | AtomicOp::CompareAndSwap(..) => &EXCHANGES,
+        AtomicOp::UnsyncLoad(_) | AtomicOp::IntoInner(_) => &LOADS_UNSYNC,
+        AtomicOp::WithMut(_) | AtomicOp::WithMutEnd(..) => &MUTATES,
+    };
+    Some(touch)
+}
+
+/// By which ordering the operation reads or stores, by whether it is an exchange that failed; Relaxed where it does neither.
+pub(crate) fn order_of(op: AtomicOp, has_failed: bool) -> Ordering {
+    match op {
+        AtomicOp::Load(_, order)
+        | AtomicOp::Store(_, _, order)
+        | AtomicOp::Update(_, _, order)
+        | AtomicOp::CompareAndSwap(_, _, _, order) => order,
+        AtomicOp::CompareExchange(_, exchange) if has_failed => exchange.failure,
+        AtomicOp::CompareExchange(_, exchange) => exchange.success,
+        AtomicOp::New(..)
+        | AtomicOp::UnsyncLoad(_)
+        | AtomicOp::IntoInner(_)
+        | AtomicOp::WithMut(_)
+        | AtomicOp::WithMutEnd(..) => Ordering::Relaxed,
+    }
+}
+
+/// Whether the operation is an exchange that met another value, by its reply.
+pub(crate) fn has_failed(op: AtomicOp, told: &Reply<()>, numbers: Numbers) -> bool {
+    if let AtomicOp::CompareAndSwap(_, expected, ..) = op {
+        return is_another(told, numbers.fit(expected));
+    }
+    matches!(told, Reply::Exchanged(Err(_)))
+}
+
+/// Whether the reply is another number than the one that was expected.
+fn is_another(told: &Reply<()>, expected: u64) -> bool {
+    match told {
+        Reply::Value(bits) => *bits != expected,
+        _ => false,
+    }
+}
+
+/// How the operation accesses its cell, and the cell; a swap also accesses another one.
+pub(crate) fn cell_touch(op: &CellOp<()>) -> Option<(usize, Manner)> {
+    match op {
+        CellOp::Read(cell) | CellOp::Get(cell) => Some((*cell, Manner::CellRead)),
+        CellOp::Write(cell) | CellOp::Replace(cell, _) | CellOp::Swap(cell, _) => {
+            Some((*cell, Manner::CellWrite))
+        }
+        CellOp::New(_)
+        | CellOp::ReadEnd(_)
+        | CellOp::Deref(_)
+        | CellOp::WriteEnd(..)
+        | CellOp::IntoInner(_) => None,
+    }
+}
+
+/// Which object the thread has by this reply.
+pub(crate) fn taken_by(told: &Reply<()>) -> Option<usize> {
+    match told {
+        Reply::Locked(number, _)
+        | Reply::Waited(number, _, _)
+        | Reply::ReadLocked(number, _)
+        | Reply::WriteLocked(number, _)
+        | Reply::Reading(number, _)
+        | Reply::Writing(number, _) => Some(*number),
+        _ => None,
+    }
+}
+
+/// Whether what the operation was to do is done, by its reply.
+pub(crate) fn is_done(deed: Deed, told: &Reply<()>) -> bool {
+    match deed {
+        Deed::Takes => !matches!(told, Reply::Shared),
+        Deed::Sends => matches!(told, Reply::Done),
+        Deed::Receives => matches!(told, Reply::Data(_)),
+        Deed::Nothing
+        | Deed::Makes
+        | Deed::Gives
+        | Deed::Clones
+        | Deed::Drops
+        | Deed::Empties
+        | Deed::TakesApart => true,
+    }
+}

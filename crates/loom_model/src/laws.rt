@@ -1,8 +1,0 @@
-//! Laws of checks that go on where others stopped.
-ghost use Rattle.loom_model.specs.Check.{TogetherLaw};
-
-/// The runs of a check that was stopped and of those that went on, one after another, up to one that is complete, are the
-/// reachable runs, each once.
-pub fn resumed_checks<D>()
-    ensures { TogetherLaw D }
-{}

@@ -1,6 +1,0 @@
-use Rattle.std.proofs.Common.{arith}
-use Rattle.std.proofs.lemmas.Grind.{common_steps}
-use Rattle.loom_nodes.proofs.rt.node.Schedule.meets.Goals as goal
-
-pub returns-then-is_same_thread : goal.returns-then-is_same_thread
-returns-then-is_same_thread c = grind (arith, common_steps)

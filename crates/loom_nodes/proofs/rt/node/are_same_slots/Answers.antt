@@ -1,5 +1,0 @@
-use Rattle.loom_nodes.proofs.Nodes.Slots.{same_flags}
-use Rattle.loom_nodes.proofs.rt.node.are_same_slots.Goals as goal
-
-pub returns : goal.returns
-returns c = same_flags c.args.one.now c.args.other.now c.eq.result c.eq.ensures

@@ -1,7 +1,0 @@
-use Rattle.std.proofs.Common.{◌≡◌, drop, slice_index}
-use Rattle.loom_operations.specs.Question.{slots_from, slots}
-use Rattle.loom_nodes.proofs.rt.node.slot_at.Given as goal
-
--- the slot is among those that are left
-abbrev pub invariant-loop-slot : goal.invariant-loop-slot
-invariant-loop-slot l = slice_index (slots_from l.slot (drop l.slot l.readable)) l.left ≡ slice_index (slots l.readable) l.place

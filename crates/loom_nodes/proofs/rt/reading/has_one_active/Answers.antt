@@ -1,6 +1,0 @@
-use Rattle.std.proofs.Common.{ap}
-use Rattle.std.specs.Prelude.{◌==◌}
-use Rattle.loom_nodes.proofs.rt.reading.has_one_active.Goals as goal
-
-pub returns : goal.returns
-returns c = ap (λ n. n == 1) c.count_active.ensures

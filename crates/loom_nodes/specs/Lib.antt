@@ -1,4 +1,0 @@
-pub mod Nodes
-pub mod Tallies
-pub mod Nearest
-pub mod Ways

@@ -1,0 +1,5 @@
+pub mod Asked
+pub mod Grown
+pub mod Lists
+pub mod Steps
+pub mod Told

@@ -1,0 +1,5 @@
+pub mod Accessing
+pub mod Claiming
+pub mod Rousing
+pub mod Slots
+pub mod Taking

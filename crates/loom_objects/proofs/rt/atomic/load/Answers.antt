@@ -1,0 +1,8 @@
+use Rattle.std.proofs.Common.{rules}
+use Rattle.loom_objects.proofs.rt.atomic.load.Goals as goal
+
+pub returns-in_err-value : goal.returns-in_err-value
+returns-in_err-value g c = search rules
+
+pub returns : goal.returns
+returns g c = search rules

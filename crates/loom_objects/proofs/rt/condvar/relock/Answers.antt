@@ -1,0 +1,8 @@
+use Rattle.std.proofs.Common.{ap, rules}
+use Rattle.loom_objects.specs.Rules.Condvar.{relocks}
+use Rattle.loom_objects.specs.Scene.Stage.{Stage}
+use Rattle.loom_objects.proofs.Scene.Showing.{keeps}
+use Rattle.loom_objects.proofs.rt.condvar.relock.Goals as goal
+
+pub returns : goal.returns
+returns g c = keeps (relocks c.args.locking c.args.mutex) c.args.scene.now c.pend.new.self _ (ap (λ (s : Stage g.row.D.Denot). s.views) c.pend.ensures) (λ p left. search rules)

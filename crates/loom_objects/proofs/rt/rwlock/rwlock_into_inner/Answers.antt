@@ -1,0 +1,7 @@
+use Rattle.std.proofs.Common.{refl, rules}
+use Rattle.loom_objects.specs.Rules.RwLock.{rwlock_into_inner}
+use Rattle.loom_objects.proofs.Scene.Showing.{keeps}
+use Rattle.loom_objects.proofs.rt.rwlock.rwlock_into_inner.Goals as goal
+
+pub returns : goal.returns
+returns g c = keeps (rwlock_into_inner c.args.number) _ _ _ refl (λ p left. search rules)

@@ -1,0 +1,4 @@
+pub mod Depends
+pub mod Laws
+pub mod Order
+pub mod Shown

@@ -1,0 +1,3 @@
+pub mod Accessed
+pub mod Labelled
+pub mod Plain

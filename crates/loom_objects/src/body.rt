@@ -1,0 +1,24 @@
+ghost use Rattle.std.specs.Prelude.{◌≡◌, IfOk};
+ghost use Rattle.loom_objects.specs.Operation.Labelled.{Op};
+ghost use Rattle.loom_objects.specs.declared.operation.Reply.{Reply};
+
+use crate::data::Data;
+use crate::operation::{Op, Reply};
+use std::alloc::AllocError;
+
+/// The code of a model's threads, main's and those that are spawned: it is told the reply to its last operation, and
+/// answers the next one. The first reply of every thread is `Reply::Start`.
+pub trait Body: Drop {
+    type Data: Data;
+
+    /// What it means: from a state and a reply, the next state and operation.
+    ghost next: { Self → Reply Self.Data → Self × Op Self.Data Self };
+
+    /// The next operation. It fails only where a growth is refused.
+    fn resume(&mut self, reply: Reply<Self::Data>) -> Result<Op<Self::Data, Self>, AllocError>
+        ensures { IfOk result (λ op. (self.new, op) ≡ next self.old reply) };
+
+    /// A body in the same state. It fails only where a growth is refused.
+    fn try_clone(&self) -> Result<Self, AllocError>
+        ensures { IfOk result (λ copy. copy ≡ self.now) };
+}

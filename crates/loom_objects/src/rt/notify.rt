@@ -1,0 +1,189 @@
+ghost use Rattle.std.specs.Prelude.{◌≡◌, IfOk, OnErr, true};
+ghost use Rattle.loom_objects.specs.Rules.Notify as rules;
+ghost use Rattle.loom_objects.specs.Scene.Stage.{Does, DoesIfOk};
+
+use crate::operation::{NotifyOp, Reply};
+use crate::rt::object::Object;
+use crate::rt::run::Entry;
+use crate::rt::scene::Scene;
+use crate::rt::thread::Task;
+use loom_views::rt::failure::FailureKind;
+use std::alloc::AllocError;
+
+/// Whether a thread has woken from a notifier without a notification (loom's `rt/notify.rs`).
+#[derive(Clone, Copy)]
+pub enum Spurious {
+    /// None does: it is a notifier that a `join` waits on.
+    Never,
+    /// None has, and one may.
+    NotYet,
+    /// This one is about to be told so.
+    Waking(u8),
+    /// One has, and no other does in this run.
+    Over,
+}
+
+/// A notifier, on which one thread waits at a time (loom's `rt/notify.rs`).
+#[derive(Clone, Copy)]
+pub struct Notify {
+    /// Whether it was notified since a thread last waited.
+    pub notified: bool,
+    /// The thread that waits on it for a notification, or has joined by it.
+    pub waiter: Option<u8>,
+    /// Whether a thread has woken without one.
+    pub spurious: Spurious,
+}
+
+impl Notify {
+    /// Bodies wait on it; a `join` doesn't.
+    pub fn is_for_waits(self) -> bool
+        ensures { result ≡ rules.is_for_waits self.spurious }
+    {
+        !matches!(self.spurious, Spurious::Never)
+    }
+
+    /// A thread may wake from it without a notification.
+    pub fn may_be_spurious(self) -> bool
+        ensures { result ≡ rules.may_be_spurious self.spurious }
+    {
+        matches!(self.spurious, Spurious::NotYet)
+    }
+
+    /// No thread but this one is inside a wait on it.
+    pub fn is_alone(self, thread: u8) -> bool
+        ensures { result ≡ rules.is_alone thread self }
+    {
+        let is_awaited = match self.waiter {
+            Some(waiter) => waiter != thread,
+            None => false,
+        };
+        let is_left = match self.spurious {
+            Spurious::Waking(waker) => waker != thread,
+            _ => false,
+        };
+        !is_awaited && !is_left
+    }
+}
+
+/// The active thread releases and notifies: who waits takes in its view, and is woken. `Misuse` where there is no such notifier.
+pub fn notify_waiter<D: Drop>(scene: &mut Scene<D>, number: usize) -> Result<(), FailureKind>
+    ensures { Does (rules.notify number) scene.old result scene.new }
+{
+    let notify = scene.notifier_mut(number)?;
+    notify.notified = true;
+    let waiter = notify.waiter;
+    scene.release(number);
+    scene.tell_waiter(waiter);
+    scene.wake_pending(number);
+    Ok(())
+}
+
+/// The active thread has woken without a notification, and no thread does so again.
+pub fn wake_early<D: Drop>(scene: &mut Scene<D>, number: usize) -> Result<Reply<D>, FailureKind>
+    ensures { Does (rules.wakes_early number) scene.old result scene.new }
+{
+    scene.notifier_mut(number)?.spurious = Spurious::Over;
+    Ok(Reply::Done)
+}
+
+/// What an operation on a notifier does up to its branch point, or up to the question whether the thread wakes without a
+/// notification. An error of the outer result only where memory is refused.
+pub fn notifier_begins<D: Drop>(
+    scene: &mut Scene<D>,
+    op: NotifyOp,
+) -> Result<Result<Entry<D>, FailureKind>, AllocError>
+    ensures does { IfOk result (λ answer. Does (rules.notifier_begins op) scene.old answer scene.new) }
+    ensures growth { OnErr result (rules.needs_memory op ≡ true) }
+{
+    match op {
+        NotifyOp::New => Ok(Ok(notify_new(scene)?)),
+        NotifyOp::Notify(number) => Ok(notify_begins(scene, number)),
+        NotifyOp::Wait(number) => Ok(wait_begins(scene, number)),
+    }
+}
+
+/// A notifier on which bodies wait.
+fn notify_new<D: Drop>(scene: &mut Scene<D>) -> Result<Entry<D>, AllocError>
+    ensures { DoesIfOk rules.notify_new scene.old result scene.new }
+{
+    let notify = Notify {
+        notified: false,
+        waiter: None,
+        spurious: Spurious::NotYet,
+    };
+    let number = scene.add(Object::Notify(notify))?;
+    Ok(Entry::Answered(Reply::Notify(number)))
+}
+
+fn notify_begins<D: Drop>(scene: &mut Scene<D>, number: usize) -> Result<Entry<D>, FailureKind>
+    ensures { Does (rules.notify_begins number) scene.old result scene.new }
+{
+    let notify = scene.notifier(number)?;
+    if !notify.is_for_waits() {
+        return Err(FailureKind::Misuse);
+    }
+    scene.pend(Task::Notify(number), false);
+    Ok(Entry::AtBranch)
+}
+
+/// The thread comes to a branch point, blocked until it is notified; where it may wake without that, whether it does is to
+/// be chosen first. `Misuse` where it is no notifier on which bodies wait, `SecondWaiter` where another thread is inside a wait.
+pub fn wait_begins<D: Drop>(scene: &mut Scene<D>, number: usize) -> Result<Entry<D>, FailureKind>
+    ensures { Does (rules.wait_begins number) scene.old result scene.new }
+{
+    let notify = scene.notifier(number)?;
+    if !notify.is_for_waits() {
+        return Err(FailureKind::Misuse);
+    }
+    if !notify.is_alone(scene.active()) {
+        return Err(FailureKind::SecondWaiter);
+    }
+    if notify.may_be_spurious() {
+        return Ok(Entry::Spurious(number));
+    }
+    enter_wait(scene, false, number)?;
+    Ok(Entry::AtBranch)
+}
+
+/// It is known now whether the active thread wakes from the notifier without a notification: then it yields, and else it
+/// waits.
+pub fn enter_wait<D: Drop>(
+    scene: &mut Scene<D>,
+    is_spurious: bool,
+    number: usize,
+) -> Result<(), FailureKind>
+    ensures { Does (rules.enters_wait is_spurious number) scene.old result scene.new }
+{
+    let active = scene.active();
+    let notify = scene.notifier_mut(number)?;
+    if is_spurious {
+        notify.spurious = Spurious::Waking(active);
+        return scene.yield_by(Task::Rouse(number));
+    }
+    notify.waiter = Some(active);
+    let is_notified = notify.notified;
+    scene.pend(Task::Await(number), !is_notified);
+    Ok(())
+}
+
+/// The active thread releases and notifies, and is told so.
+pub fn notify_one<D: Drop>(scene: &mut Scene<D>, number: usize) -> Result<Reply<D>, FailureKind>
+    ensures { Does (rules.notifies number) scene.old result scene.new }
+{
+    notify_waiter(scene, number)?;
+    Ok(Reply::Done)
+}
+
+/// The active thread was notified: it acquires, and waits no more.
+pub fn await_notified<D: Drop>(scene: &mut Scene<D>, number: usize) -> Result<Reply<D>, FailureKind>
+    ensures { Does (rules.awaits number) scene.old result scene.new }
+{
+    let notify = scene.notifier_mut(number)?;
+    if !notify.notified {
+        return Err(FailureKind::Misuse);
+    }
+    notify.notified = false;
+    notify.waiter = None;
+    scene.acquire(number);
+    Ok(Reply::Done)
+}

@@ -1,5 +1,0 @@
-use Rattle.std.proofs.Common.{rules}
-use Rattle.loom_operation_parts.proofs.ending.may_end.Goals as goal
-
-pub returns-then-not-all_ended : goal.returns-then-not-all_ended
-returns-then-not-all_ended c = search rules

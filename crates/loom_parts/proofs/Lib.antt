@@ -1,2 +1,0 @@
-pub mod Leaking
-mod Cutting

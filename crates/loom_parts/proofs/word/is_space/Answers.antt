@@ -1,5 +1,0 @@
-use Rattle.std.proofs.Common.{rules}
-use Rattle.loom_parts.proofs.word.is_space.Goals as goal
-
-pub returns-else-byte-eq10 : goal.returns-else-byte-eq10
-returns-else-byte-eq10 c = search rules

@@ -1,4 +1,0 @@
-pub mod Marking
-pub mod Nodes
-pub mod Alike
-pub mod WellFormed

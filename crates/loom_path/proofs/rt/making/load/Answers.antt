@@ -1,9 +1,0 @@
-use Rattle.loom_operations.specs.Question.{slots}
-use Rattle.loom_nodes.proofs.Nodes.Slots.{some_slot, load_fresh}
-use Rattle.loom_path.proofs.rt.making.load.Goals as goal
-
-pub returns-clause-made : goal.returns-clause-made
-returns-clause-made c = load_fresh c.args.exploring (slots c.args.readable.now) (some_slot c.args.readable.now c.requires.some)
-
-pub returns-clause-well : goal.returns-clause-well
-returns-clause-well c = some_slot c.args.readable.now c.requires.some

@@ -1,5 +1,0 @@
-use Rattle.loom_runner.proofs.handle.Handle.until.Given as goal
-
--- the closure may be called again
-abbrev pub invariant-loop : goal.invariant-loop
-invariant-loop g l = goal.F-IsAlwaysCallable g l.holds

@@ -1,4 +1,0 @@
-use Rattle.loom_runner.proofs.turns.Turns.failure.Goals as goal
-
-pub returns : goal.returns
-returns g c = rw (← c.self.view_is) c.failure.ensures

@@ -1,5 +1,0 @@
-use Rattle.loom_runner.proofs.Leading.{kept_spoiled}
-use Rattle.loom_runner.proofs.turns.Turns.give_up.Goals as goal
-
-pub invariant_of-self : goal.invariant_of-self
-invariant_of-self g c = kept_spoiled _ _ _ c.args.stop _

@@ -1,4 +1,0 @@
-use Rattle.loom_runner.proofs.turns.Turns.value.Goals as goal
-
-pub returns : goal.returns
-returns g c = rw (← c.self.view_is) c.value.ensures

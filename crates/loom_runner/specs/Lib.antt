@@ -1,9 +1,0 @@
-pub mod Errors
-pub mod Tellings
-pub mod Asking
-pub mod Answers
-pub mod Histories
-pub mod Chains
-pub mod Laws
-pub mod Made
-pub mod Rounds

@@ -1,5 +1,0 @@
-use Rattle.loom_runs.proofs.Runs.Exclusive.{locks_law}
-use Rattle.loom_runs.proofs.laws.locks.locks_are_exclusive.Goals as goal
-
-pub returns : goal.returns
-returns g c = locks_law

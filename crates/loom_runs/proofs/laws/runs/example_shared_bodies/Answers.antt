@@ -1,5 +1,0 @@
-use Rattle.loom_runs.proofs.Runs.Rows.{shared_rows_law}
-use Rattle.loom_runs.proofs.laws.runs.example_shared_bodies.Goals as goal
-
-pub returns : goal.returns
-returns c = shared_rows_law

@@ -1,5 +1,0 @@
-use Rattle.loom_runs.proofs.Runs.Making.{made_once}
-use Rattle.loom_runs.proofs.laws.runs.lazy_values_are_made_once.Goals as goal
-
-pub returns : goal.returns
-returns g c = made_once

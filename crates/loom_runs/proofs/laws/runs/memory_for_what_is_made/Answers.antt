@@ -1,5 +1,0 @@
-use Rattle.loom_runs.proofs.Runs.Growing.{growth_law}
-use Rattle.loom_runs.proofs.laws.runs.memory_for_what_is_made.Goals as goal
-
-pub returns : goal.returns
-returns g c = growth_law

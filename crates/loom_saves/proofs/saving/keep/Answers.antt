@@ -1,5 +1,0 @@
-use Rattle.std.proofs.Common.{inr, arith}
-use Rattle.loom_saves.proofs.saving.keep.Goals as goal
-
-pub returns-clause-kept : goal.returns-clause-kept
-returns-clause-kept g c = inr (omega (arith, c.requires.interval), (_, c.in_ok-save.ensures.saved))

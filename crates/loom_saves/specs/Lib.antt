@@ -1,3 +1,0 @@
-pub mod Texts
-pub mod Beginning
-pub mod Saving

@@ -1,5 +1,0 @@
-pub mod Rousing
-pub mod Claiming
-mod Taking
-mod Accessing
-mod Slots

@@ -1,8 +1,0 @@
-use Rattle.std.proofs.Common.{ap, rules}
-use Rattle.loom_objects.specs.Condvars.{relocks}
-use Rattle.loom_objects.specs.Scene.{Stage}
-use Rattle.loom_objects.proofs.Showing.{keeps}
-use Rattle.loom_sync.proofs.condvars.relock.Goals as goal
-
-pub returns : goal.returns
-returns g c = keeps (relocks c.args.locking c.args.mutex) c.args.scene.now c.pend.new.self _ (ap (λ (s : Stage g.row.D.Denot). s.views) c.pend.ensures) (λ p left. search rules)

@@ -1,9 +1,0 @@
-use Rattle.std.proofs.Common.{refl, rules}
-use Rattle.loom_views.specs.Table.{points_after_join}
-use Rattle.loom_objects.specs.Condvars.{rouse}
-use Rattle.loom_objects.proofs.Showing.{gives}
-use Rattle.loom_sync.proofs.condvars.rouse.Goals as goal
-
-pub returns : goal.returns
-returns g c =
-    gives (rouse c.args.thread) c.args.scene.now c.tell.new.self tt c.tell.new.self.views (λ p. points_after_join p c.args.thread c.args.scene.now.active) refl (λ p shown. search rules) (λ p left. search rules)

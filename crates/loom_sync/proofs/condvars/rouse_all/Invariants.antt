@@ -1,9 +1,0 @@
-use Rattle.std.proofs.Common.{take}
-use Rattle.std.specs.Prelude.{Ok}
-use Rattle.loom_objects.specs.Condvars.{rouse_all}
-use Rattle.loom_objects.specs.Scene.{Does}
-use Rattle.loom_sync.proofs.condvars.rouse_all.Given as goal
-
--- the first ones were woken
-abbrev pub invariant-loop-i : goal.invariant-loop-i
-invariant-loop-i g l = Does (rouse_all (take l.i l.fn.threads)) l.fn.scene (Ok tt) l.scene

@@ -1,7 +1,0 @@
-use Rattle.std.proofs.Common.{refl, rules}
-use Rattle.loom_objects.specs.Locks.{mutex_into_inner}
-use Rattle.loom_objects.proofs.Showing.{keeps}
-use Rattle.loom_sync.proofs.locks.mutex_into_inner.Goals as goal
-
-pub returns : goal.returns
-returns g c = keeps (mutex_into_inner c.args.number) _ _ _ refl (λ p left. search rules)

@@ -1,0 +1,52 @@
+ghost use Rattle.std.specs.Prelude.{◌≡◌};
+
+mod bodies;
+mod children;
+mod ends;
+mod finding;
+mod forms;
+mod guide;
+mod rows;
+mod turns;
+
+use loom::Choice;
+use loom::runner::exact::Exact;
+use loom_objects::data::Data;
+use std::alloc::AllocError;
+use std::process::Abort;
+
+const NONE: Choice = Choice::Thread(None);
+
+const ZERO: Choice = Choice::Thread(Some(0));
+
+const ONE: Choice = Choice::Thread(Some(1));
+
+const TWO: Choice = Choice::Thread(Some(2));
+
+/// What the closures' objects hold, and what their threads come to.
+#[derive(Clone, Copy, Debug, PartialEq, Eq)]
+struct Count(u64);
+
+impl Data for Count {
+    fn try_clone(&self) -> Result<Count, AllocError> {
+        Ok(*self)
+    }
+}
+
+impl Exact for Count {
+    ghost use Rattle.std.proofs.Common.{rules};
+
+    ghost same = { λ x y e. Prim.search rules };
+}
+
+/// A copy of a value of one's own type is that value.
+#[test]
+fn own_data_is_copied(rt: HostRuntime) {
+    holds(&rt, matches!(Count(3).try_clone(), Ok(Count(3))));
+}
+
+/// Ends the test where this doesn't hold. (An assertion costs the proof seconds wherever it stands, and a call of this next to
+/// nothing.)
+fn holds(rt: &impl Abort, fact: bool) {
+    assert!(rt; fact);
+}

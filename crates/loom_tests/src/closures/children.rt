@@ -1,0 +1,53 @@
+//! What the threads do that main starts, all by one type of job: each type is checked, and built, with all of the runner once more.
+//! (Closures that are spawned stand in `guide` and in `loom_examples::closures`.)
+use crate::closures::finding::Counter;
+use crate::closures::forms::{self, Signals};
+use crate::closures::turns;
+use loom::runner::{Handle, Job, Stop};
+use loom::sync::Mutex;
+use loom::sync::atomic::AtomicU64;
+use loom::thread::JoinHandle;
+use std::sync::{Arc, Wait};
+use std::thread::Threads;
+
+/// What a thread does.
+#[derive(Clone, Copy)]
+pub(super) enum Task {
+    /// Counts that it has started.
+    Start,
+    /// Locks one mutex and then the other, and counts where a call after a stop was answered by a stop.
+    LockBoth(Mutex, Mutex),
+    /// Counts that it has started, and adds 1.
+    Add(AtomicU64),
+    /// Gives each signal.
+    Signal(Signals),
+}
+
+/// A thread that main starts.
+#[derive(Drop)]
+struct Child {
+    task: Task,
+    counter: Counter,
+}
+
+impl<R: Wait> Job<u64, R> for Child {
+    fn run(self, handle: &mut Handle<u64, R>) -> Result<u64, Stop> {
+        let counter = &self.counter;
+        match self.task {
+            Task::Start => Ok(turns::count_start(counter)),
+            Task::LockBoth(outer, inner) => turns::lock_to_stop(handle, &outer, &inner, counter),
+            Task::Add(number) => turns::add_one(handle, &number, counter),
+            Task::Signal(signals) => forms::give_signals(handle, &signals),
+        }
+    }
+}
+
+/// Starts a thread, which counts together with the others.
+pub(super) fn start<R: Threads + Wait + Clone + Send + 'static>(
+    handle: &mut Handle<u64, R>,
+    task: Task,
+    counter: &Counter,
+) -> Result<JoinHandle, Stop> {
+    let counter = handle.allocated(Arc::try_clone(counter))?;
+    handle.spawn_job(Child { task, counter })
+}

@@ -1,0 +1,230 @@
+//! Checks of the mains of these tests, all by one closure.
+use crate::closures::{ends, forms, holds, turns};
+use loom::model::Report;
+use loom::model::builder::Builder;
+use loom::model::visitor::Visitor;
+use loom::runner::{Handle, RunnerError, Stop, check};
+use loom::{Choice, FailureKind};
+use loom_examples::closures::scenes;
+use std::alloc::{AllocError, Global};
+use std::process::Abort;
+use std::sync::atomic::{AtomicU64, Ordering};
+use std::sync::{Arc, Wait};
+use std::test::Fail;
+use std::thread::Threads;
+
+/// What the closures of all threads count together.
+pub(super) type Counter = Arc<AtomicU64, Global>;
+
+/// What main does in the runs of a check.
+#[derive(Clone, Copy)]
+pub(super) enum Main {
+    /// Each read-modify-write of a number.
+    Updates,
+    /// Mutexes and read-write locks.
+    Locks,
+    /// Cells and counted references.
+    Data,
+    /// A channel with two senders.
+    Messages,
+    /// A channel without a sender.
+    NoMessages,
+    /// One thread waits for another.
+    Waits,
+    /// Two threads lock two mutexes in opposite order.
+    TwoMutexes,
+    /// Two threads add to one number.
+    TwoAdds,
+    /// Main locks a mutex beside a thread that does nothing.
+    LockBeside,
+    /// Two threads wait for each other by turns.
+    PingPong,
+    /// Main ends without a release.
+    GuardLeft,
+    /// Main goes on after it was given a stop.
+    Deaf,
+    /// Main stops, and wasn't given a stop.
+    Stops,
+    /// Main does something else in its second run.
+    Changes,
+    /// Main does nothing.
+    Nothing,
+}
+
+impl Main {
+    /// What main does where it is called for the first time, or later.
+    fn run<R: Threads + Wait + Clone + Send + 'static>(
+        self,
+        handle: &mut Handle<u64, R>,
+        counter: &Counter,
+        is_first: bool,
+    ) -> Result<u64, Stop> {
+        match self {
+            Main::Updates => forms::updates(handle),
+            Main::Locks => forms::locks(handle),
+            Main::Data => forms::data(handle),
+            Main::Messages => forms::messages(handle),
+            Main::NoMessages => forms::no_messages(handle),
+            Main::Waits => forms::waits(handle, counter),
+            Main::TwoMutexes => turns::two_mutexes(handle, counter),
+            Main::TwoAdds => turns::two_adds(handle, counter),
+            Main::LockBeside => turns::counted_lock_beside(handle, counter),
+            Main::PingPong => scenes::ping_pong(handle),
+            Main::GuardLeft => scenes::guard_left(handle),
+            Main::Deaf => ends::pass_over_stops(handle, counter),
+            Main::Stops => Err(Stop::Memory),
+            Main::Changes if is_first => turns::lock_beside(handle, counter),
+            Main::Changes => Ok(7),
+            Main::Nothing => Ok(0),
+        }
+    }
+}
+
+/// A run that the visitor was given.
+#[derive(Drop)]
+pub(super) struct Run {
+    choices: Vec<Choice>,
+    value: u64,
+}
+
+impl Run {
+    /// Whether the run came to this value, by these choices.
+    pub(super) fn is(&self, value: u64, choices: &[Choice]) -> bool {
+        self.value == value && self.choices.as_slice() == choices
+    }
+}
+
+/// Keeps each run that it is given.
+#[derive(Drop)]
+struct Keeper {
+    alloc: Global,
+    runs: Vec<Run>,
+}
+
+impl Visitor<u64> for Keeper {
+    ghost takes = { λ old choices value new. Unit {0} };
+
+    fn run(&mut self, choices: &[Choice], value: u64) -> Result<(), AllocError> {
+        let choices = choices.to_vec(self.alloc)?;
+        self.runs.push(Run { choices, value })?;
+        Ok(())
+    }
+}
+
+/// What a check has found.
+#[derive(Drop)]
+pub(super) struct Found {
+    report: Result<Report, RunnerError>,
+    /// The runs that the visitor was given.
+    pub(super) runs: Vec<Run>,
+    /// What the closures have counted.
+    counted: u64,
+    /// How often main was called.
+    calls: u64,
+}
+
+impl Found {
+    /// Whether the check made so many runs, and is complete.
+    fn completes(&self, count: u64) -> bool {
+        matches!(&self.report, Ok(Report::Complete { runs }) if *runs == count)
+    }
+
+    /// Whether the check found this failure after so many runs, under these choices.
+    fn fails(&self, kind: FailureKind, count: u64, list: &[Choice]) -> bool {
+        match &self.report {
+            Ok(
+                Report::Failed {
+                    runs,
+                    failure,
+                    choices,
+                },
+            ) => failure.kind == kind && *runs == count && choices.as_slice() == list,
+            _ => false,
+        }
+    }
+
+    /// Whether main was called so often, and so much was counted.
+    pub(super) fn counts(&self, calls: u64, counted: u64) -> bool {
+        self.calls == calls && self.counted == counted
+    }
+
+    /// Whether the check has come to this.
+    pub(super) fn comes_to(&self, wanted: Wanted) -> bool {
+        match wanted {
+            Wanted::Complete(count) => self.completes(count),
+            Wanted::Fails(kind, count, list) => self.fails(kind, count, list),
+            Wanted::NoSettings => matches!(&self.report, Err(RunnerError::Settings(_))),
+        }
+    }
+}
+
+/// What a check is to come to.
+#[derive(Clone, Copy)]
+pub(super) enum Wanted<'a> {
+    /// It is complete, after so many runs.
+    Complete(u64),
+    /// It finds this failure after so many runs, under these choices.
+    Fails(FailureKind, u64, &'a [Choice]),
+    /// Its settings are refused.
+    NoSettings,
+}
+
+/// A check of main by these settings.
+pub(super) fn find<R: AllocGlobal + Threads + Wait + Clone + Send + 'static>(
+    rt: &R,
+    builder: &Builder,
+    main: Main,
+) -> Result<Found, AllocError> {
+    let alloc: Global = rt.alloc();
+    let counter = Arc::new(alloc, AtomicU64::new(0))?;
+    let mut keeper = Keeper {
+        alloc,
+        runs: Vec::new(alloc),
+    };
+    let mut calls = 0u64;
+    let report = check(
+        rt,
+        alloc,
+        builder,
+        |handle: &mut Handle<u64, R>| {
+            calls = calls.wrapping_add(1);
+            main.run(handle, &counter, calls == 1)
+        },
+        &mut keeper,
+    );
+    let Keeper { alloc: _, runs } = keeper;
+    Ok(Found {
+        report,
+        runs,
+        counted: counter.load(Ordering::SeqCst),
+        calls,
+    })
+}
+
+/// A check of main by the defaults is complete, the visitor is given each run, one at least, and so much is counted in each.
+pub(super) fn passes<R: Abort + AllocGlobal + Threads + Wait + Clone + Send + 'static>(
+    rt: &R,
+    main: Main,
+    counted: u64,
+) -> Result<(), Fail> {
+    let found = find(rt, &Builder::new(), main)?;
+    let runs = found.runs.len() as u64;
+    holds(rt, runs > 0 && found.completes(runs));
+    holds(rt, found.counted == runs.saturating_mul(counted));
+    Ok(())
+}
+
+/// A check of main by these settings comes to this, calls main so often, and so much is counted.
+pub(super) fn comes_to<R: Abort + AllocGlobal + Threads + Wait + Clone + Send + 'static>(
+    rt: &R,
+    builder: &Builder,
+    main: Main,
+    wanted: Wanted,
+    calls: u64,
+    counted: u64,
+) -> Result<(), Fail> {
+    let found = find(rt, builder, main)?;
+    holds(rt, found.comes_to(wanted));
+    holds(rt, found.counts(calls, counted));
+    Ok(())
+}

@@ -1,0 +1,152 @@
+//! Tests that stand in loom's own documents and tests, as closures.
+use crate::closures::holds;
+use loom::model::builder::Builder;
+use loom::model::{Replay, Report};
+use loom::runner::{Handle, RunnerError, Stop, model, replay};
+use loom::sync::Mutex;
+use loom::sync::atomic::AtomicU64;
+use loom::sync::atomic::Ordering::{AcqRel, Acquire, Relaxed, Release};
+use loom::{Choice, Failure, FailureKind};
+use std::sync::Wait;
+use std::test::Fail;
+use std::thread::Threads;
+
+/// The first test of loom's README: two threads load a number, and store one more. One may load what the other has loaded.
+#[test]
+fn buggy_concurrent_inc(rt: HostRuntime) -> Result<(), Fail> {
+    let report = model(&rt, rt.alloc(), |handle: &mut Handle<(), HostRuntime>| {
+        let num = handle.atomic(0u64)?;
+        let first = handle.spawn(move |handle| increment(handle, &num))?;
+        let second = handle.spawn(move |handle| increment(handle, &num))?;
+        handle.join(&first)?;
+        handle.join(&second)?;
+        let total = handle.load(&num, Relaxed)?;
+        handle.assert(total == 2)
+    })?;
+    assert!(rt;
+        matches!(&report, Report::Failed { failure, .. } if failure.kind == FailureKind::Assertion),
+        "{report}"
+    );
+    Ok(())
+}
+
+/// Loads the number, and stores one more.
+fn increment<R: Wait>(handle: &mut Handle<(), R>, num: &AtomicU64) -> Result<(), Stop> {
+    let current = handle.load(num, Acquire)?;
+    handle.store(num, current.wrapping_add(1), Release)
+}
+
+/// A mutex keeps two threads apart: each finds in it what it finds in an atomic.
+#[test]
+fn mutex_enforces_mutual_exclusion(rt: HostRuntime) -> Result<(), Fail> {
+    let report = model(&rt, rt.alloc(), |handle: &mut Handle<u64, HostRuntime>| {
+        let mutex = handle.mutex(0)?;
+        let atomic = handle.atomic(0u64)?;
+        let first = handle.spawn(move |handle| count_up(handle, &mutex, &atomic))?;
+        let second = handle.spawn(move |handle| count_up(handle, &mutex, &atomic))?;
+        handle.join(&first)?;
+        handle.join(&second)?;
+        let count = handle.with_lock(&mutex, |data| *data)?;
+        let total = handle.load(&atomic, Acquire)?;
+        handle.assert(total == 2 && count == 2)?;
+        Ok(count)
+    })?;
+    assert!(rt; report.is_complete(), "{report}");
+    Ok(())
+}
+
+/// Adds one to both, and asserts that they were the same.
+fn count_up<R: Wait>(
+    handle: &mut Handle<u64, R>,
+    mutex: &Mutex,
+    atomic: &AtomicU64,
+) -> Result<u64, Stop> {
+    let (guard, count) = handle.lock(mutex)?;
+    let before = handle.fetch_add(atomic, 1, AcqRel)?;
+    handle.assert(count == before)?;
+    handle.release(guard, count.wrapping_add(1))?;
+    Ok(count)
+}
+
+/// Two threads lock two mutexes in opposite order.
+fn opposite_order<R: Threads + Wait + Clone + Send + 'static>(
+    handle: &mut Handle<(), R>,
+) -> Result<(), Stop> {
+    let one = handle.mutex(())?;
+    let other = handle.mutex(())?;
+    let child = handle.spawn(move |handle| lock_both(handle, &one, &other))?;
+    lock_both(handle, &other, &one)?;
+    handle.join(&child)
+}
+
+/// Holds the one while it locks the other.
+fn lock_both<R: Wait>(
+    handle: &mut Handle<(), R>,
+    outer: &Mutex,
+    inner: &Mutex,
+) -> Result<(), Stop> {
+    let (outer, ()) = handle.lock(outer)?;
+    let (inner, ()) = handle.lock(inner)?;
+    handle.release(inner, ())?;
+    handle.release(outer, ())
+}
+
+/// One run of that by these choices, and then by defaults.
+fn follow<R: AllocGlobal + Threads + Wait + Clone + Send + 'static>(
+    rt: &R,
+    choices: &[Choice],
+) -> Result<Replay<()>, RunnerError> {
+    let main = |handle: &mut Handle<(), R>| opposite_order(handle);
+    replay(rt, rt.alloc(), &Builder::new(), choices, main)
+}
+
+/// Whether the run failed by this kind.
+fn fails_by(run: &Replay<()>, kind: FailureKind) -> bool {
+    matches!(run, Replay::Failed { failure, .. } if failure.kind == kind)
+}
+
+/// Whether the run failed so, under these choices.
+fn is_again(run: &Replay<()>, wanted: &Failure, list: &[Choice]) -> bool {
+    match run {
+        Replay::Failed { failure, choices } => failure == wanted && choices.as_slice() == list,
+        Replay::Ended { .. } => false,
+    }
+}
+
+/// Whether the check has found a failure of this kind, and its choices make it again.
+fn comes_again<R: AllocGlobal + Threads + Wait + Clone + Send + 'static>(
+    rt: &R,
+    report: &Report,
+    kind: FailureKind,
+) -> Result<bool, RunnerError> {
+    match report {
+        Report::Failed {
+            failure,
+            choices,
+            ..
+        } => {
+            let again = follow(rt, choices.as_slice())?;
+            Ok(failure.kind == kind && is_again(&again, failure, choices.as_slice()))
+        }
+        Report::Complete { .. } | Report::Stopped { .. } => Ok(false),
+    }
+}
+
+/// The choices of a failure make it again.
+#[test]
+fn a_failure_comes_again(rt: HostRuntime) -> Result<(), Fail> {
+    let main = |handle: &mut Handle<(), HostRuntime>| opposite_order(handle);
+    let report = model(&rt, rt.alloc(), main)?;
+    holds(&rt, comes_again(&rt, &report, FailureKind::Deadlock)?);
+    Ok(())
+}
+
+/// Without choices the first run is made, which ends here; a choice that is no option ends it otherwise.
+#[test]
+fn choices_that_are_none(rt: HostRuntime) -> Result<(), Fail> {
+    let first = follow(&rt, &[])?;
+    let wrong = follow(&rt, &[Choice::Thread(Some(4))])?;
+    holds(&rt, matches!(first, Replay::Ended { .. }));
+    holds(&rt, fails_by(&wrong, FailureKind::NotDeterministic));
+    Ok(())
+}

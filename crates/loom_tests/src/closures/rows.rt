@@ -1,0 +1,84 @@
+//! What the program prints of the rows that are closures.
+use crate::closures::holds;
+use loom_examples::closures::rows::{ROWS, Row, run_row};
+use std::io;
+use std::process::Abort;
+use std::sync::Wait;
+use std::test::Fail;
+use std::thread::Threads;
+
+/// Each row's line and status.
+static LINES: [(&str, &str, u8); 9] = [
+    (
+        "two_mutexes_deadlock_closures",
+        "failed 2 3 t1 t1 t2 t2 t-\n",
+        1,
+    ),
+    ("fetch_add_atomic_closures", "complete 4\n", 0),
+    ("lock_beside_closures", "complete 3\n", 0),
+    ("runner_ping_pong", "complete 1\n", 0),
+    ("guard_left_closures", "failed 2 0 t0 t1 t-\n", 1),
+    ("closure_deaf", "failed 1 0\n", 1),
+    ("closure_stops", "failed 1 0\n", 1),
+    ("closure_changes", "failed 20 1\n", 1),
+    ("store_buffering_closures", "complete 30\n", 0),
+];
+
+/// Whether the row prints this line and nothing besides, and has this status.
+fn is_printed<R: AllocGlobal + Threads + Wait + Clone + Send + 'static>(
+    rt: &R,
+    row: Row,
+    line: &str,
+    status: u8,
+) -> io::Result<bool> {
+    let mut out = Vec::new(rt.alloc());
+    let mut err = Vec::new(rt.alloc());
+    let answer = run_row(rt, row, &mut out, &mut err)?;
+    Ok(answer == status && out.as_slice() == line.as_bytes() && err.is_empty())
+}
+
+/// The row of this name prints this line and nothing besides, and has this status.
+fn prints<R: Abort + AllocGlobal + Threads + Wait + Clone + Send + 'static>(
+    rt: &R,
+    name: &str,
+    line: &str,
+    status: u8,
+) -> Result<(), Fail> {
+    let Some(row) = Row::meant_by(&[name]) else {
+        panic!(rt; "no row {name}");
+    };
+    let is_printed = is_printed(rt, row, line, status)?;
+    assert!(rt; is_printed, "{name}");
+    Ok(())
+}
+
+/// Each row once.
+fn print_all<R: Abort + AllocGlobal + Threads + Wait + Clone + Send + 'static>(
+    rt: &R,
+) -> Result<(), Fail> {
+    for (name, line, status) in &LINES {
+        prints(rt, *name, *line, *status)?;
+    }
+    Ok(())
+}
+
+/// Each row a hundred times: threads of the host take turns in one order, however the host lets them go on.
+#[test]
+fn rows_print_the_same_a_hundred_times(rt: HostRuntime) -> Result<(), Fail> {
+    holds(&rt, ROWS.len() == LINES.len());
+    for _ in 0..100 {
+        print_all(&rt)?;
+    }
+    Ok(())
+}
+
+/// A row of closures has no checkpoint file, so two words mean none.
+#[test]
+fn words_that_mean_no_row(rt: HostRuntime) {
+    holds(
+        &rt,
+        Row::meant_by(&["lock_beside_closures", "file"]).is_none(),
+    );
+    holds(&rt, Row::meant_by(&["lock_beside"]).is_none());
+    holds(&rt, Row::meant_by(&[]).is_none());
+}

@@ -1,9 +1,0 @@
-pub mod Reaching
-pub mod Counting
-pub mod Views
-pub mod VersionLists
-pub mod Counted
-pub mod ThreadMoves
-pub mod Records
-pub mod Growth
-pub mod Cells

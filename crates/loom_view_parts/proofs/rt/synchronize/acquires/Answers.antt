@@ -1,5 +1,0 @@
-use Rattle.std.proofs.Common.{rules}
-use Rattle.loom_view_parts.proofs.rt.synchronize.acquires.Goals as goal
-
-pub returns-in-Acquire : goal.returns-in-Acquire
-returns-in-Acquire c = search rules

@@ -1,5 +1,0 @@
-use Rattle.std.proofs.Common.{rules}
-use Rattle.loom_view_parts.proofs.rt.vv.VersionVecPartialOrd.partial_cmp.Goals as goal
-
-pub returns-in-false-false : goal.returns-in-false-false
-returns-in-false-false c = search rules

@@ -1,0 +1,14 @@
+pub mod Accesses
+pub mod Choices
+pub mod Fences
+pub mod Growth
+pub mod Loops
+pub mod Reaching
+pub mod Rows
+pub mod Shown
+pub mod SlotNumbers
+pub mod SlotSets
+pub mod SomeReadable
+pub mod Sweeping
+pub mod Table
+pub mod TableLaws

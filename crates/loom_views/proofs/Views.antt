@@ -1,0 +1,9 @@
+pub mod Cells
+pub mod Counted
+pub mod Counting
+pub mod Growth
+pub mod Reaching
+pub mod Records
+pub mod ThreadMoves
+pub mod VersionLists
+pub mod Views

@@ -1,6 +1,0 @@
-use Rattle.loom_views.proofs.Table.Fences.{IsFenced}
-use Rattle.loom_views.proofs.rt.table.Views.acquire_fence.Given as goal
-
--- the fence has come to this object
-abbrev pub invariant-loop-place : goal.invariant-loop-place
-invariant-loop-place l = IsFenced l.self l.thread l.initial.views l.views l.place

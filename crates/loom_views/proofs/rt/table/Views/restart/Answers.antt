@@ -1,5 +1,0 @@
-use Rattle.loom_views.proofs.Table.Spawned.{opening-shown}
-use Rattle.loom_views.proofs.rt.table.Views.restart.Goals as goal
-
-pub returns : goal.returns
-returns c = rw (c.new-threads.ensures, c.clear.ensures, c.clear-2.ensures, c.new-self.ensures) opening-shown

@@ -1,0 +1,6 @@
+use Rattle.std.proofs.Common.{ap, ◌∙◌, Some}
+use Rattle.loom_views.proofs.Atomic.Table.Accesses.{offers-readable}
+use Rattle.loom_views.proofs.rt.views.Views.readable.Goals as goal
+
+pub returns-in-Atomic : goal.returns-in-Atomic
+returns-in-Atomic c = λ p z. offers-readable p c.args.self.now c.args.thread c.args.place c.index-self-thread.result c.in-Atomic.state c.if-thread-self.false c.if-thread-ge-MAX_THREADS.false (c.at.ensures ∙ ap Some c.in-Atomic.is) z c.args.reader c.readable.result c.readable.ensures

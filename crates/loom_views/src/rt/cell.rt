@@ -1,0 +1,59 @@
+//! What is kept of a cell, to find data races. It is a plain value; no call here takes memory.
+//!
+//! A public call speaks of every graph and all accesses that the vectors show. No call moves a thread's views. Where a call
+//! fails, the records are as before.
+
+ghost use Rattle.std.specs.Prelude.{◌≡◌, ℕ, OnErr};
+ghost use Rattle.loom_views.specs.Graph.{Graph, IsChained, Shows};
+ghost use Rattle.loom_views.specs.CellAccesses.{Accesses, new_accesses, read_step, write_step, ShowsAccesses, RecordsAs};
+
+use crate::rt::failure::FailureKind;
+use crate::rt::synchronize::ThreadViews;
+use crate::rt::vv::VersionVec;
+
+/// The joined views of a cell's reads, and those of its writes (loom's `rt/cell.rs`).
+#[derive(Clone, Copy)]
+pub struct AccessRecords {
+    reads: VersionVec,
+    writes: VersionVec,
+}
+
+impl AccessRecords {
+    /// A cell that a thread makes, which counts as a read and a write of it (loom's `rt/cell.rs`).
+    pub fn new(views: &ThreadViews) -> AccessRecords
+        ensures { (g : Graph) (present : ℕ) → Shows g present views.now.present → ShowsAccesses g (new_accesses present) result }
+    {
+        AccessRecords {
+            reads: views.present,
+            writes: views.present,
+        }
+    }
+
+    /// Tests a read of a thread, and records it. It is `Race` with a write that hasn't come to the thread (loom's
+    /// `rt/cell.rs`).
+    pub fn read(&mut self, views: &ThreadViews) -> Result<(), FailureKind>
+        ensures shown { (g : Graph) (present : ℕ) (cell : Accesses) → IsChained g → Shows g present views.now.present → ShowsAccesses g cell self.old →
+            RecordsAs g (read_step g present cell) result self.new }
+        ensures err { OnErr result (self.new ≡ self.old) }
+    {
+        if !self.writes.is_within(&views.present) {
+            return Err(FailureKind::Race);
+        }
+        self.reads.join(&views.present);
+        Ok(())
+    }
+
+    /// Tests a write of a thread, and records it. It is `Race` with a write or a read that hasn't come to the thread (loom's
+    /// `rt/cell.rs`).
+    pub fn write(&mut self, views: &ThreadViews) -> Result<(), FailureKind>
+        ensures shown { (g : Graph) (present : ℕ) (cell : Accesses) → IsChained g → Shows g present views.now.present → ShowsAccesses g cell self.old →
+            RecordsAs g (write_step g present cell) result self.new }
+        ensures err { OnErr result (self.new ≡ self.old) }
+    {
+        if !self.writes.is_within(&views.present) || !self.reads.is_within(&views.present) {
+            return Err(FailureKind::Race);
+        }
+        self.writes.join(&views.present);
+        Ok(())
+    }
+}

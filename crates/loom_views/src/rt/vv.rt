@@ -1,0 +1,145 @@
+//! Version vectors: how often each thread has raised its version, as far as a view reaches. They are plain values; no call
+//! here takes memory.
+
+ghost use Rattle.std.specs.Prelude.{◌≡◌, ℕ, ◌+◌, ◌<◌, ◌≤◌, ◌↔◌, false, IsTrue, slice_index, MatchOption};
+ghost use Rattle.std.specs.Bool.{OnTrue, OnFalse};
+ghost use Rattle.loom_views.specs.Limits.{highest_version};
+ghost use Rattle.loom_views.specs.Versions.{IsCounted, zeros, join, within, raised_at, versions_cmp, versions_eq, IsFirstAhead, IsLeastUpperBound};
+ghost use Rattle.loom_views.specs.VersionOrder.{versions_partial_equiv, versions_equiv, versions_order};
+
+use crate::rt::MAX_THREADS;
+use std::cmp::Ordering;
+use std::marker::Model;
+
+/// The most raises of one thread that a vector counts: 65,534 (own; loom's count overflows).
+pub const MAX_VERSION: u16 = 65_534;
+
+/// How often each thread has raised its version, as far as a view reaches: a count for each thread, none of them above
+/// `MAX_VERSION` (loom's `rt/vv.rs`).
+#[derive(Clone, Copy)]
+pub struct VersionVec {
+    versions: [u16; MAX_THREADS],
+}
+
+impl Model for VersionVec {
+    ghost use Rattle.std.specs.Prelude.{ℕ, List};
+    ghost use Rattle.loom_views.specs.Versions.{IsCounted};
+
+    ghost Value = { List ℕ };
+
+    ghost view = { λ v. v.versions };
+
+    ghost invariant = { λ v. IsCounted v.versions };
+
+    ghost inverse = { λ vs. record { versions = vs } };
+}
+
+impl VersionVec {
+    /// No version raised (loom's `rt/vv.rs`).
+    pub fn new() -> VersionVec
+        ensures { result ≡ zeros }
+    {
+        VersionVec {
+            versions: [0; MAX_THREADS],
+        }
+    }
+
+    /// The counts in the order of the threads, none above `MAX_VERSION` (loom's `rt/vv.rs`).
+    pub fn versions(&self) -> [u16; MAX_THREADS]
+        ensures value { result ≡ self.now }
+        ensures counted { IsCounted result }
+    {
+        let VersionVec { versions } = *self;
+        versions
+    }
+
+    /// A thread's count, at most `MAX_VERSION` (loom's `rt/vv.rs`, where it is an index).
+    pub fn version(&self, thread: usize) -> u16
+        requires { thread < 5 }
+        ensures value { result ≡ slice_index self.now thread }
+        ensures counted { result ≤ highest_version }
+    {
+        self.versions()[thread]
+    }
+
+    /// Raises a thread's version by one. At `MAX_VERSION` it answers false instead, and changes nothing (loom's `rt/vv.rs`;
+    /// the limit is own).
+    pub fn inc(&mut self, thread: usize) -> bool
+        requires { thread < 5 }
+        ensures raised { OnTrue result (self.new ≡ raised_at self.old thread) }
+        ensures full { (result ≡ false) ↔ (slice_index self.old thread ≡ highest_version) }
+        ensures unchanged { OnFalse result (self.new ≡ self.old) }
+        ensures counted { slice_index self.old thread ≤ highest_version }
+    {
+        if self.versions[thread] < MAX_VERSION {
+            self.versions[thread] += 1;
+            true
+        } else {
+            false
+        }
+    }
+
+    /// Takes the larger count of each thread, which is the least vector above both (loom's `rt/vv.rs`).
+    pub fn join(&mut self, other: &VersionVec)
+        ensures joined { self.new ≡ join self.old other.now }
+        ensures bound { IsLeastUpperBound self.old other.now self.new }
+    {
+        for i in 0..MAX_THREADS {
+            self.versions[i] = self.versions[i].max(other.versions[i]);
+        }
+    }
+
+    /// The lowest thread whose count is larger in the other vector, and none exactly if the other one is inside this one
+    /// (loom's `rt/vv.rs`).
+    pub fn ahead(&self, other: &VersionVec) -> Option<usize>
+        ensures { MatchOption result (IsTrue (within other.now self.now)) (IsFirstAhead self.now other.now) }
+    {
+        for i in 0..MAX_THREADS {
+            if self.versions[i] < other.versions[i] {
+                return Some(i);
+            }
+        }
+        None
+    }
+
+    /// Whether no count here is above the other vector's (own; loom writes `<=`).
+    pub fn is_within(&self, other: &VersionVec) -> bool
+        ensures test { result ≡ within self.now other.now }
+        ensures componentwise { IsTrue result ↔ ((t : ℕ) → t < 5 → slice_index self.now t ≤ slice_index other.now t) }
+    {
+        other.ahead(self).is_none()
+    }
+}
+
+/// Two vectors are equal where each is inside the other, which is where they have the same counts: law
+/// `crate::laws::equal_vectors_are_same` (loom's `rt/vv.rs`).
+impl PartialEq for VersionVec {
+    ghost eq = { versions_eq };
+
+    ghost laws = { versions_partial_equiv };
+
+    fn eq(&self, other: &VersionVec) -> bool {
+        self.is_within(other) && other.is_within(self)
+    }
+}
+
+impl Eq for VersionVec {
+    ghost laws = { versions_equiv };
+}
+
+/// The order of each count, which is a partial order: two vectors of which neither is inside the other aren't compared
+/// (loom's `rt/vv.rs`).
+impl PartialOrd for VersionVec {
+    ghost partial_cmp = { versions_cmp };
+
+    ghost laws = { versions_order };
+
+    fn partial_cmp(&self, other: &VersionVec) -> Option<Ordering> {
+        match (self.is_within(other), other.is_within(self)) {
+            (true, true) => Some(Ordering::Equal),
+            (true, false) => Some(Ordering::Less),
+            (false, true) => Some(Ordering::Greater),
+            (false, false) => None,
+        }
+    }
+}

@@ -1,5 +1,0 @@
-use Rattle.loom_walks.proofs.Trees.Replays.{allowed_replay_law}
-use Rattle.loom_walks.proofs.laws.report.allowed_replay.Goals as goal
-
-pub returns : goal.returns
-returns g c = allowed_replay_law

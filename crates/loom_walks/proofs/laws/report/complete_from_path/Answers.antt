@@ -1,5 +1,0 @@
-use Rattle.loom_walks.proofs.Trees.Resuming.{complete_from_law}
-use Rattle.loom_walks.proofs.laws.report.complete_from_path.Goals as goal
-
-pub returns : goal.returns
-returns g c = complete_from_law

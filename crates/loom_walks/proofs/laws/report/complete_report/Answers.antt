@@ -1,5 +1,0 @@
-use Rattle.loom_walks.proofs.Trees.Reporting.{complete_report_law}
-use Rattle.loom_walks.proofs.laws.report.complete_report.Goals as goal
-
-pub returns : goal.returns
-returns g c = complete_report_law

@@ -1,5 +1,0 @@
-use Rattle.loom_walks.proofs.Trees.Resuming.{failed_from_law}
-use Rattle.loom_walks.proofs.laws.report.failed_from_path.Goals as goal
-
-pub returns : goal.returns
-returns g c = failed_from_law

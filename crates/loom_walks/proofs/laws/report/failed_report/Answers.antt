@@ -1,5 +1,0 @@
-use Rattle.loom_walks.proofs.Trees.Reporting.{failed_report_law}
-use Rattle.loom_walks.proofs.laws.report.failed_report.Goals as goal
-
-pub returns : goal.returns
-returns g c = failed_report_law

@@ -1,5 +1,0 @@
-use Rattle.loom_walks.proofs.Trees.Reporting.{search_law}
-use Rattle.loom_walks.proofs.laws.report.marks_search.Goals as goal
-
-pub returns : goal.returns
-returns g c = search_law

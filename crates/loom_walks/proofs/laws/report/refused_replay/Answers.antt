@@ -1,5 +1,0 @@
-use Rattle.loom_walks.proofs.Trees.Replays.{refused_replay_law}
-use Rattle.loom_walks.proofs.laws.report.refused_replay.Goals as goal
-
-pub returns : goal.returns
-returns g c = refused_replay_law

@@ -1,5 +1,0 @@
-use Rattle.loom_walks.proofs.Trees.Replays.{replay_follows_law}
-use Rattle.loom_walks.proofs.laws.report.replay_follows.Goals as goal
-
-pub returns : goal.returns
-returns g c = replay_follows_law

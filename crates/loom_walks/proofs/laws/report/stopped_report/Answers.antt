@@ -1,5 +1,0 @@
-use Rattle.loom_walks.proofs.Trees.Reporting.{stopped_report_law}
-use Rattle.loom_walks.proofs.laws.report.stopped_report.Goals as goal
-
-pub returns : goal.returns
-returns g c = stopped_report_law

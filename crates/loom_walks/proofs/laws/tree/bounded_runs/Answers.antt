@@ -1,5 +1,0 @@
-use Rattle.loom_walks.proofs.Trees.Counting.{bound_law}
-use Rattle.loom_walks.proofs.laws.tree.bounded_runs.Goals as goal
-
-pub returns : goal.returns
-returns g c = bound_law

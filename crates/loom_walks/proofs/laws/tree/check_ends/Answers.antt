@@ -1,5 +1,0 @@
-use Rattle.loom_walks.proofs.Trees.Checking.{end_law}
-use Rattle.loom_walks.proofs.laws.tree.check_ends.Goals as goal
-
-pub returns : goal.returns
-returns g c = end_law

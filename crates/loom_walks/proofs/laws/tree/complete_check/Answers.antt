@@ -1,5 +1,0 @@
-use Rattle.loom_walks.proofs.Trees.Checking.{complete_law}
-use Rattle.loom_walks.proofs.laws.tree.complete_check.Goals as goal
-
-pub returns : goal.returns
-returns g c = complete_law

@@ -1,5 +1,0 @@
-use Rattle.loom_walks.proofs.Trees.Given.{given_law}
-use Rattle.loom_walks.proofs.laws.tree.given_choices.Goals as goal
-
-pub returns : goal.returns
-returns g c = given_law

@@ -1,5 +1,0 @@
-use Rattle.loom_walks.proofs.Trees.Loading.{first_run_law}
-use Rattle.loom_walks.proofs.laws.tree.loaded_path.Goals as goal
-
-pub returns : goal.returns
-returns g c = first_run_law

@@ -1,5 +1,0 @@
-use Rattle.loom_walks.proofs.Trees.Checking.{part_law}
-use Rattle.loom_walks.proofs.laws.tree.part_of_a_check.Goals as goal
-
-pub returns : goal.returns
-returns g c = part_law

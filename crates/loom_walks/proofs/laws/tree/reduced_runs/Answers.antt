@@ -1,5 +1,0 @@
-use Rattle.loom_walks.proofs.Trees.Reducing.{reduced_law}
-use Rattle.loom_walks.proofs.laws.tree.reduced_runs.Goals as goal
-
-pub returns : goal.returns
-returns g c = reduced_law

@@ -1,5 +1,0 @@
-use Rattle.loom_walks.proofs.Trees.Marks.{marking_law}
-use Rattle.loom_walks.proofs.laws.tree.schedules_mark.Goals as goal
-
-pub returns : goal.returns
-returns c = marking_law

@@ -1,5 +1,0 @@
-use Rattle.loom_walks.proofs.Trees.Machines.{machine_law}
-use Rattle.loom_walks.proofs.laws.tree.tree_machine.Goals as goal
-
-pub returns : goal.returns
-returns g c = machine_law

@@ -1,5 +1,0 @@
-use Rattle.loom_walks.proofs.Walk.Driven.{no_skip_law}
-use Rattle.loom_walks.proofs.laws.walk.driven_skips_none.Goals as goal
-
-pub returns : goal.returns
-returns c = no_skip_law

@@ -1,5 +1,0 @@
-use Rattle.loom_walks.proofs.Walk.Round.{fresh_law}
-use Rattle.loom_walks.proofs.laws.walk.fresh_walk.Goals as goal
-
-pub returns : goal.returns
-returns c = fresh_law

@@ -1,5 +1,0 @@
-use Rattle.loom_walks.proofs.Walk.Round.{least_law}
-use Rattle.loom_walks.proofs.laws.walk.least_set.Goals as goal
-
-pub returns : goal.returns
-returns c = least_law

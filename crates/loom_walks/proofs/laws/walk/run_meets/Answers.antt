@@ -1,5 +1,0 @@
-use Rattle.loom_walks.proofs.Walk.UnderWay.{meeting_law}
-use Rattle.loom_walks.proofs.laws.walk.run_meets.Goals as goal
-
-pub returns : goal.returns
-returns c = meeting_law

@@ -1,5 +1,0 @@
-use Rattle.loom_walks.proofs.Walk.Together.{stopped_law}
-use Rattle.loom_walks.proofs.laws.walk.stopped_walk.Goals as goal
-
-pub returns : goal.returns
-returns c = stopped_law

@@ -1,5 +1,0 @@
-use Rattle.loom_walks.proofs.Walk.Order.{order_law}
-use Rattle.loom_walks.proofs.laws.walk.walk_order.Goals as goal
-
-pub returns : goal.returns
-returns c = order_law

@@ -1,5 +1,0 @@
-use Rattle.loom_walks.proofs.Walk.Bound.{bound_law}
-use Rattle.loom_walks.proofs.laws.walk.within_bound.Goals as goal
-
-pub returns : goal.returns
-returns c = bound_law
