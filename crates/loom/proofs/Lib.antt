@@ -3,7 +3,6 @@ pub mod Copies
 pub mod ExplainLemmas
 pub mod History
 pub mod ModelLemmas
-pub mod Rounds
 pub mod RunnerLemmas
 pub mod Saving
 pub mod Turns

@@ -3,8 +3,8 @@ pub mod Driving
 pub mod Failing
 pub mod Following
 pub mod Leading
+pub mod Made
 pub mod Once
 pub mod Paths
 pub mod Remembering
-pub mod Rounds
 pub mod Trying

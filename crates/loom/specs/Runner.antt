@@ -1,4 +1,3 @@
-pub mod After
 pub mod Asking
 pub mod Calls
 pub mod Chains

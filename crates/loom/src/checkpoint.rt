@@ -8,4 +8,3 @@ pub use crate::checkpoint::memory::MemoryStore;
 pub use crate::checkpoint::store::{CheckpointStore, StoreError};
 pub use loom_engine::rt::path::checkpoint::error::PathError;
 pub use loom_engine::rt::path::checkpoint::text::{from_text, to_text};
-pub use loom_engine::rt::path::checkpoint::value::{from_value, to_value};

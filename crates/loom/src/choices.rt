@@ -83,7 +83,7 @@ impl fmt::Display for Choices {
 
 impl Choices {
     /// The choices that a text has, as `t0 t- l1 s0`: words of a letter and a sign, with spaces, tabs or ends of lines between
-    /// them, and before and after. `NotAChoice` where another word stands there, and `Memory` where a growth was refused.
+    /// them, and before and after. `NotAChoice` where there is another word, and `Memory` where a growth was refused.
     pub fn parse(alloc: Global, text: &str) -> Result<Choices, ChoicesError>
         ensures read { IfOk result (λ choices. choices_in text.now ≡ Some choices.0.items) }
         ensures refused { IfErr result (λ e. e ≢ Memory → choices_in text.now ≡ None) }

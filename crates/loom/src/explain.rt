@@ -12,17 +12,16 @@ use crate::explain::events::telling::{Told, tell};
 use crate::model::builder::Builder;
 use crate::model::error::CheckError;
 use crate::model::run::Room;
-use crate::model::runs::{Runs, follow};
 use loom_engine::rt::path::Path;
 pub use loom_explain::event::{End, Event};
 pub use loom_explain::explanation::{Explanation, Options};
-use loom_explain::text;
+use loom_explain::text::text_of;
 use loom_objects::body::Body;
 use loom_objects::choice::Choice;
 use std::alloc::{AllocError, Global};
 
 impl Builder {
-    /// The run that `replay` makes of these choices, told as events: what each thread was told and handed over, in order, where
+    /// The run that `replay` makes of these choices, as its events: what each thread was replied and handed over, in order, where
     /// each choice was made and of what, and how the run ended. A failure has the place of its operation, if that named one.
     /// Errors are those of `replay`.
     pub fn explain<B: Body>(
@@ -41,7 +40,7 @@ impl Builder {
         Ok(explanation)
     }
 
-    /// The run that was told, with the choices of its path, what there was to choose of, and the text.
+    /// The explanation of a run that was made: its events, the choices of its path, what there was to choose of, and the text.
     fn explained(&self, alloc: Global, told: Told, path: &Path) -> Result<Explanation, AllocError>
         ensures told { IfOk result (IsToldBy told) }
         ensures path { IfOk result (IsChosenOn path.now) }
@@ -61,7 +60,7 @@ impl Builder {
         Ok(explanation)
     }
 
-    /// The run that follows these choices and then takes defaults, told, and the path after it.
+    /// The events and the end of the run that follows these choices and then takes defaults, and the path after it.
     fn tell<B: Body>(
         &self,
         alloc: Global,
@@ -74,21 +73,12 @@ impl Builder {
         ensures { IfOk result (λ made. IsToldAlong B.next self.now body.now (record (at_rest (whole_search self.now.max_branches) (explores self.now) []) { given = choices.now }) made.0 made.1) }
     {
         let explores = !self.expect_explicit_explore;
-        let runs = ToldRuns {
-            builder: self,
-            body,
-        };
-        let mut room = Room::new(alloc, self.limits())?;
-        let made = follow(
-            alloc,
-            &runs,
-            &mut room,
-            explores,
-            self.max_branches,
-            choices,
-        );
+        let mut path = Path::following(alloc, explores, self.max_branches as u32, choices)?;
+        let limits = self.limits();
+        let mut room = Room::new(alloc, limits)?;
+        let told = tell(alloc, &mut room, limits, body, &mut path);
         room.leave();
-        made
+        Ok((told?, path))
     }
 }
 
@@ -103,27 +93,6 @@ fn fill(alloc: Global, path: &Path, explanation: &mut Explanation) -> Result<(),
 {
     explanation.choices = path.choices(alloc)?;
     explanation.options = options_at(alloc, path.nodes())?;
-    explanation.text = text::told(alloc, explanation)?;
+    explanation.text = text_of(alloc, explanation)?;
     Ok(())
-}
-
-/// Makes the runs of a body, as a builder asks for them, and tells them.
-#[derive(Drop)]
-struct ToldRuns<'a, B> {
-    builder: &'a Builder,
-    body: &'a B,
-}
-
-impl<'a, B: Body> Runs<Told> for ToldRuns<'a, B> {
-    ghost may_run = { λ runs. (1 ≤ runs.builder.now.max_threads) × (runs.builder.now.max_threads ≤ 5) };
-
-    ghost begins_exploring = { λ runs. explores runs.builder.now };
-
-    ghost comes = { λ runs old told new. IsToldAlong B.next runs.builder.now runs.body.now old told new };
-
-    type Room = Room<B>;
-
-    fn run(&self, alloc: Global, room: &mut Room<B>, path: &mut Path) -> Result<Told, AllocError> {
-        tell(alloc, room, self.builder.limits(), self.body, path)
-    }
 }

@@ -1,6 +1,6 @@
 //! Checks of bodies (`model`) and of closures on threads of the host (`runner`): every run that the memory model allows is made,
-//! or those that a reduced or bounded search has to make. `explain` tells one run, `checkpoint` keeps how far a check came, and
-//! `choices` are the choices of a run as a text.
+//! or those that a reduced or bounded search has to make. `explain` says what happened in one run, `checkpoint` keeps how far a
+//! check came, and `choices` are the choices of a run as a text.
 #![tactic(auto)]
 
 pub mod checkpoint;
@@ -32,10 +32,13 @@ pub use loom_views::rt::MAX_THREADS;
 pub use loom_views::rt::failure::FailureKind;
 pub use loom_views::rt::num::Numeric;
 
-/// The parts of a run, public for their contracts' sake.
+/// The parts of a run (loom's `rt`), public since contracts name them: views, objects and threads with the leak check at a run's
+/// end, its execution, and the path of its choices.
 pub mod rt {
-    pub use loom_engine::rt::execution;
-    pub use loom_engine::rt::path::{self, node};
+    pub use loom_engine::rt::path::node;
+    pub use loom_engine::rt::{execution, path};
+    pub use loom_objects::failure::Stop;
     pub use loom_objects::location;
-    pub use loom_objects::rt::{dependence, run};
+    pub use loom_objects::rt::{dependence, leaks, object, run, thread};
+    pub use loom_views::rt::{synchronize, vv};
 }

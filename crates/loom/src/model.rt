@@ -26,16 +26,17 @@ ghost use Rattle.loom.specs.Model.Refusals.{CountsFaults, IsNoReport};
 ghost use Rattle.loom.specs.Model.Settings.{defaults, explores, tested};
 
 use crate::checkpoint::file::file_store;
+use crate::checkpoint::memory::MemoryStore;
 use crate::checkpoint::store::CheckpointStore;
 pub use crate::model::builder::Builder;
 use crate::model::clock::{Clock, NoClock};
 use crate::model::error::CheckError;
-use crate::model::paths::following;
-use crate::model::receiver::{Listed, NoStore, Nobody, Unlisted};
+use crate::model::receiver::{Listed, NoReceiver, Unlisted};
 pub use crate::model::report::Report;
 use crate::model::run::Ending;
 use crate::model::visitor::Visitor;
 use log::Log;
+use loom_engine::rt::path::Path;
 use loom_objects::body::Body;
 use loom_objects::choice::Choice;
 use loom_objects::failure::Failure;
@@ -80,7 +81,7 @@ impl Builder {
     {
         match file_store(rt, &self.checkpoint_file) {
             Some(mut store) => self.check_alone(alloc, body, &mut store),
-            None => self.check_alone(alloc, body, &mut NoStore),
+            None => self.check_alone(alloc, body, &mut None::<MemoryStore>),
         }
     }
 
@@ -97,10 +98,10 @@ impl Builder {
         ensures faults { CountsFaults result (S.fault_count store.old) (S.fault_count store.new) }
     {
         let log = None::<HostRuntime>;
-        self.search::<B, Unlisted, Nobody, NoClock, S, Option<HostRuntime>>(
+        self.search::<B, Unlisted, NoReceiver, NoClock, S, Option<HostRuntime>>(
             alloc,
             body,
-            &mut Nobody,
+            &mut NoReceiver,
             &mut NoClock,
             store,
             &log,
@@ -147,7 +148,7 @@ impl Builder {
     {
         self.test()?;
         let explores = !self.expect_explicit_explore;
-        let mut path = following(alloc, explores, self.max_branches, choices)?;
+        let mut path = Path::following(alloc, explores, self.max_branches as u32, choices)?;
         let ending = self.run_once(alloc, body, &mut path)?;
         let choices = path.choices(alloc)?;
         match ending {

@@ -1,6 +1,5 @@
 //! Checks of closures, each of which runs on a thread of the host (own): one run after another.
 
-pub mod after;
 pub mod checks;
 pub mod closures;
 pub mod copies;
@@ -12,20 +11,20 @@ pub mod history;
 pub mod job;
 pub mod replays;
 pub mod run;
+pub mod run_end;
 pub mod shared;
 pub mod stop;
 pub mod turns;
 
-pub use crate::runner::error::RoundError;
 pub use crate::runner::exact::Exact;
 pub use crate::runner::handle::Handle;
-pub use crate::runner::history::event::{Entry, Event, Outcome};
+pub use crate::runner::history::event::{Entry, Event};
 pub use crate::runner::history::told::Told;
 pub use crate::runner::job::{Call, Job};
 pub use crate::runner::stop::Stop;
 pub use crate::runner::turns::Turns;
 pub use checks::check;
-pub use defaults::{Nobody, model};
+pub use defaults::{NoVisitor, model};
 pub use error::RunnerError;
 pub use loom_ops::answers::answer::Answer;
 pub use loom_ops::answers::mpsc::TryRecvError;

@@ -2,4 +2,4 @@ pub mod Marking
 pub mod Nodes
 pub mod Notes
 pub mod Tallies
-pub mod Ways
+pub mod Found

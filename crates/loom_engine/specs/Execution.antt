@@ -1,5 +1,4 @@
--- How a run ends.
--- One execution: the run so far, and whether it is over.
+-- The execution of a run: the run so far, whether it is over, and what an operation makes of both.
 use Rattle.std.specs.Prelude.{Bool, true, false, ⊤, Option, Some, None, Result, Ok, Err, ℕ, ◌≡◌, ◌⊎◌}
 use Rattle.loom_views.specs.declared.rt.failure.FailureKind.{FailureKind}
 use Rattle.loom_views.specs.declared.rt.failure.FailureKind.TheVariants.{Deadlock, Misuse, NotDeterministic}
@@ -22,7 +21,7 @@ use Rattle.loom_engine.specs.declared.rt.execution.Progress.{Progress}
 use Rattle.loom_objects.specs.declared.rt.run.Passed.{Passed}
 use Rattle.loom_objects.specs.Rules.Steps.{begins, resumes}
 use Rattle.loom_engine.specs.Runs.Course.{Course, carried, grown_from, unordered_in}
-use Rattle.loom_engine.specs.Runs.Machine.{submit}
+use Rattle.loom_engine.specs.Runs.Machine.{further_branches, schedule, submit}
 use Rattle.loom_engine.specs.Path.Route.{Route, trail, drives, Backtracks, Grows}
 
 -- a run in which no thread can go on ends if all have ended and its path is used up
@@ -32,11 +31,11 @@ may_end true false = Err NotDeterministic
 may_end true true = Ok tt
 
 -- what every further operation is answered: after the end Misuse, after a stop the same stop
-abbrev pub kept_after : {D : Type 0} → Result (Turn D) Stop → Option Stop
-kept_after (Ok (Reply thread reply)) = None
-kept_after (Ok (Start thread)) = None
-kept_after (Ok (Ended value)) = Some (Failure (record { kind = Misuse; location = None }))
-kept_after (Err stop) = Some stop
+abbrev pub over_after : {D : Type 0} → Result (Turn D) Stop → Option Stop
+over_after (Ok (Reply thread reply)) = None
+over_after (Ok (Start thread)) = None
+over_after (Ok (Ended value)) = Some (Failure (record { kind = Misuse; location = None }))
+over_after (Err stop) = Some stop
 
 -- the run so far, and what every further operation is answered once the run is over
 pub record ExecutionState (D : Type 0) : Type 0 where
@@ -105,19 +104,21 @@ module _ {D : Type 0} where
   abbrev pub MayBeRefused : Request D ⊤ → Progress D → Route → Type 0
   MayBeRefused op old path = (needs_memory op ≡ true) ⊎ AllNeedMemory itself (submit op) old path
 
-  -- what every further operation is answered: after the end Misuse, after a stop the same stop
-  abbrev pub over_after : Result (Turn D) Stop → Option Stop
-  over_after (Ok (Reply thread reply)) = None
-  over_after (Ok (Start thread)) = None
-  over_after (Ok (Ended value)) = Some (Failure (record { kind = Misuse; location = None }))
-  over_after (Err stop) = Some stop
+  -- An event of the machine along the path, as the rule says of each course that the execution shows; memory is refused only where
+  -- that may be. Once the run is over it is the same answer again, and nothing changes.
+  abbrev pub HappensAt : Option Stop → (Course D → Tree (Turn D × Course D)) → (Progress D → Route → Type 0) → ExecutionState D → Route → Result (Turn D) Stop → ExecutionState D → Route → Type 0
+  HappensAt None rule refused old path answer new after =
+      Along rule old.run path answer new.run after × (new.over ≡ over_after answer) × (answer ≡ Err Memory → refused old.run path)
+  HappensAt (Some stop) rule refused old path answer new after = (answer ≡ Err stop) × (new ≡ old) × (after ≡ path)
 
   abbrev pub SubmitsAt : Option Stop → ExecutionState D → Request D ⊤ → Route → Result (Turn D) Stop → ExecutionState D → Route → Type 0
-  SubmitsAt None old op path answer new after =
-      Along (submit op) old.run path answer new.run after × (new.over ≡ over_after answer) × (answer ≡ Err Memory → MayBeRefused op old.run path)
-  SubmitsAt (Some stop) old op path answer new after = (answer ≡ Err stop) × (new ≡ old) × (after ≡ path)
+  SubmitsAt over old op path answer new after = HappensAt over (submit op) (MayBeRefused op) old path answer new after
 
-  -- One event of the machine along the path, from each course that the execution shows; memory is refused only where it
-  -- is needed. Once the run is over it is the same answer again, and nothing changes.
+  -- an operation that the active thread hands over, up to the next turn
   abbrev pub Submits : ExecutionState D → Request D ⊤ → Route → Result (Turn D) Stop → ExecutionState D → Route → Type 0
   Submits old op path answer new after = SubmitsAt old.over old op path answer new after
+
+  -- a branch point of the active thread, up to the next turn
+  abbrev pub Schedules : ExecutionState D → Route → Result (Turn D) Stop → ExecutionState D → Route → Type 0
+  Schedules old path answer new after =
+      HappensAt old.over (schedule further_branches) (AllNeedMemory itself (schedule further_branches)) old path answer new after

@@ -9,6 +9,7 @@ pub mod Comparing
 pub mod Drive
 pub mod Check
 pub mod Replays
+pub mod Reported
 pub mod Reports
 pub mod Resuming
 pub mod Example

@@ -1,4 +1,5 @@
 pub mod Builder
+pub mod Changes
 pub mod FewThreads
 pub mod Line
 pub mod Meanings
@@ -9,3 +10,4 @@ pub mod Steps
 pub mod Table
 pub mod Tasks
 pub mod Words
+pub mod Written

@@ -45,8 +45,8 @@ const STORES_APART: &[Step] = &[
     Step::Do(0, Request::Atomic(AtomicOp::New(Numbers::U64, 0))),
     Step::Do(1, Request::Atomic(AtomicOp::New(Numbers::U64, 0))),
     Step::Do(2, Request::Atomic(AtomicOp::New(Numbers::U64, 0))),
-    Step::Do(3, Request::Thread(ThreadOp::Spawn(13, None))),
-    Step::Do(4, Request::Thread(ThreadOp::Spawn(17, None))),
+    Step::SpawnAt(3, "first"),
+    Step::SpawnAt(4, "second"),
     STORE_MAIN,
     STORE_MAIN,
     STORE_MAIN,
@@ -54,14 +54,17 @@ const STORES_APART: &[Step] = &[
     STORE_MAIN,
     Step::Do(0, Request::Thread(ThreadOp::Join(3, 3))),
     Step::Do(0, Request::Thread(ThreadOp::Join(4, 4))),
-    Step::Jump(20),
+    Step::JumpTo("finish"),
+    Step::Label("first"),
     STORE_FIRST,
     STORE_FIRST,
     STORE_FIRST,
-    Step::Jump(20),
+    Step::JumpTo("finish"),
+    Step::Label("second"),
     STORE_SECOND,
     STORE_SECOND,
     STORE_SECOND,
+    Step::Label("finish"),
     FINISH,
     EXIT,
     END,
@@ -94,15 +97,17 @@ pub fn many() -> &'static [Measured]
 const STORE_BUFFERING: &[Step] = &[
     Step::Do(0, Request::Atomic(AtomicOp::New(Numbers::U64, 0))),
     Step::Do(1, Request::Atomic(AtomicOp::New(Numbers::U64, 0))),
-    Step::Do(2, Request::Thread(ThreadOp::Spawn(8, None))),
+    Step::SpawnAt(2, "child"),
     Step::Do(0, Request::Atomic(AtomicOp::Store(1, 1, Ordering::Relaxed))),
     Step::Do(1, Request::Atomic(AtomicOp::Load(0, Ordering::Relaxed))),
     Step::Do(0, Request::Thread(ThreadOp::Join(2, 2))),
     Step::Do(0, Request::Thread(ThreadOp::Finish(Value::Both(0, 1)))),
-    Step::Jump(11),
+    Step::JumpTo("exit"),
+    Step::Label("child"),
     Step::Do(0, Request::Atomic(AtomicOp::Store(0, 1, Ordering::Relaxed))),
     Step::Do(0, Request::Atomic(AtomicOp::Load(1, Ordering::Relaxed))),
     Step::Do(0, Request::Thread(ThreadOp::Finish(Value::Held(0)))),
+    Step::Label("exit"),
     EXIT,
     END,
 ];
@@ -112,22 +117,25 @@ const THREE_THREADS: &[Step] = &[
     Step::Do(0, Request::Atomic(AtomicOp::New(Numbers::U64, 0))),
     Step::Do(1, Request::Atomic(AtomicOp::New(Numbers::U64, 0))),
     Step::Do(2, Request::Atomic(AtomicOp::New(Numbers::U64, 0))),
-    Step::Do(3, Request::Thread(ThreadOp::Spawn(10, None))),
-    Step::Do(4, Request::Thread(ThreadOp::Spawn(15, None))),
+    Step::SpawnAt(3, "first"),
+    Step::SpawnAt(4, "second"),
     Step::Do(0, Request::Atomic(AtomicOp::Load(1, Ordering::Relaxed))),
     Step::Do(1, Request::Atomic(AtomicOp::Load(1, Ordering::Relaxed))),
     Step::Do(0, Request::Atomic(AtomicOp::Store(0, 1, Ordering::Relaxed))),
     Step::Do(0, Request::Atomic(AtomicOp::Store(0, 2, Ordering::Relaxed))),
-    Step::Jump(19),
+    Step::JumpTo("finish"),
+    Step::Label("first"),
     Step::Do(0, Request::Atomic(AtomicOp::Load(2, Ordering::Relaxed))),
     Step::Do(1, Request::Atomic(AtomicOp::Load(2, Ordering::Relaxed))),
     Step::Do(0, Request::Atomic(AtomicOp::Store(1, 1, Ordering::Relaxed))),
     Step::Do(0, Request::Atomic(AtomicOp::Store(1, 2, Ordering::Relaxed))),
-    Step::Jump(19),
+    Step::JumpTo("finish"),
+    Step::Label("second"),
     Step::Do(0, Request::Atomic(AtomicOp::Load(0, Ordering::Relaxed))),
     Step::Do(1, Request::Atomic(AtomicOp::Load(0, Ordering::Relaxed))),
     Step::Do(0, Request::Atomic(AtomicOp::Store(2, 1, Ordering::Relaxed))),
     Step::Do(0, Request::Atomic(AtomicOp::Store(2, 2, Ordering::Relaxed))),
+    Step::Label("finish"),
     FINISH,
     EXIT,
     END,
@@ -137,13 +145,14 @@ const THREE_THREADS: &[Step] = &[
 const LOCKS_IN_TURN: &[Step] = &[
     Step::Do(0, Request::Mutex(MutexOp::New(Value::Plain(0)))),
     Step::Do(1, Request::Mutex(MutexOp::New(Value::Plain(0)))),
-    Step::Do(2, Request::Thread(ThreadOp::Spawn(9, None))),
-    Step::Do(3, Request::Thread(ThreadOp::Spawn(9, None))),
+    Step::SpawnAt(2, "child"),
+    Step::SpawnAt(3, "child"),
     Step::Do(0, Request::Thread(ThreadOp::Join(2, 2))),
     Step::Do(0, Request::Thread(ThreadOp::Join(3, 3))),
     FINISH,
     EXIT,
     END,
+    Step::Label("child"),
     Step::Do(0, Request::Mutex(MutexOp::Lock(0))),
     Step::Do(0, Request::Mutex(MutexOp::Lock(1))),
     Step::Do(0, Request::Mutex(MutexOp::Release(1, Value::Plain(0)))),
@@ -156,8 +165,8 @@ const LOCKS_IN_TURN: &[Step] = &[
 /// Two threads add to what a lock holds, one after the other, beside a main that reads it. Main joins them.
 const WRITERS_BESIDE_A_READER: &[Step] = &[
     Step::Do(0, Request::RwLock(RwLockOp::New(Value::Plain(0)))),
-    Step::Do(1, Request::Thread(ThreadOp::Spawn(10, None))),
-    Step::Do(2, Request::Thread(ThreadOp::Spawn(10, None))),
+    Step::SpawnAt(1, "child"),
+    Step::SpawnAt(2, "child"),
     Step::Do(0, Request::RwLock(RwLockOp::Read(0))),
     Step::Do(0, Request::RwLock(RwLockOp::ReadRelease(0))),
     Step::Do(0, Request::Thread(ThreadOp::Join(1, 1))),
@@ -165,6 +174,7 @@ const WRITERS_BESIDE_A_READER: &[Step] = &[
     FINISH,
     EXIT,
     END,
+    Step::Label("child"),
     Step::Do(0, Request::RwLock(RwLockOp::Write(0))),
     Step::Do(
         1,
@@ -179,15 +189,17 @@ const WRITERS_BESIDE_A_READER: &[Step] = &[
 const WAIT_AND_NOTIFY: &[Step] = &[
     Step::Do(0, Request::Mutex(MutexOp::New(Value::Plain(0)))),
     Step::Do(1, Request::Condvar(CondvarOp::New)),
-    Step::Do(2, Request::Thread(ThreadOp::Spawn(11, None))),
+    Step::SpawnAt(2, "child"),
     Step::Do(0, Request::Mutex(MutexOp::Lock(0))),
-    Step::Unless(0, 0, 6),
+    Step::UnlessTo(0, 0, "release"),
     Step::Do(0, Request::Condvar(CondvarOp::Wait(1, 0, Value::Plain(0)))),
+    Step::Label("release"),
     Step::Do(1, Request::Mutex(MutexOp::Release(0, Value::Held(0)))),
     Step::Do(1, Request::Thread(ThreadOp::Join(2, 2))),
     FINISH,
     EXIT,
     END,
+    Step::Label("child"),
     Step::Do(0, Request::Mutex(MutexOp::Lock(0))),
     Step::Do(0, Request::Mutex(MutexOp::Release(0, Value::Plain(1)))),
     Step::Do(0, Request::Condvar(CondvarOp::NotifyOne(1))),
@@ -199,20 +211,22 @@ const WAIT_AND_NOTIFY: &[Step] = &[
 /// One thread stores 1 into an atomic and loads it, and so on up to 500.
 const LONG_LINE: &[Step] = &[
     Step::Do(0, Request::Atomic(AtomicOp::New(Numbers::U64, 0))),
+    Step::Label("again"),
     Step::Store(0, Value::Next(0), Ordering::Relaxed),
     Step::Do(0, Request::Atomic(AtomicOp::Load(0, Ordering::Relaxed))),
-    Step::Unless(0, 500, 1),
+    Step::UnlessTo(0, 500, "again"),
     FINISH,
     EXIT,
     END,
 ];
 
-/// The same, up to 5,000.
+/// One thread stores 1 into an atomic and loads it, and so on up to 5,000.
 const LONG_LINE_10000: &[Step] = &[
     Step::Do(0, Request::Atomic(AtomicOp::New(Numbers::U64, 0))),
+    Step::Label("again"),
     Step::Store(0, Value::Next(0), Ordering::Relaxed),
     Step::Do(0, Request::Atomic(AtomicOp::Load(0, Ordering::Relaxed))),
-    Step::Unless(0, 5000, 1),
+    Step::UnlessTo(0, 5000, "again"),
     FINISH,
     EXIT,
     END,
@@ -222,18 +236,21 @@ const LONG_LINE_10000: &[Step] = &[
 const LONG_TURN: &[Step] = &[
     Step::Do(0, Request::Mutex(MutexOp::New(Value::Plain(0)))),
     Step::Do(0, Request::Mutex(MutexOp::Lock(0))),
-    Step::Do(1, Request::Thread(ThreadOp::Spawn(11, None))),
+    Step::SpawnAt(1, "child"),
     YIELD,
     Step::Do(0, Request::Mutex(MutexOp::Release(0, Value::Next(0)))),
+    Step::Label("again"),
     Step::Do(0, Request::Mutex(MutexOp::Lock(0))),
     Step::Do(0, Request::Mutex(MutexOp::Release(0, Value::Next(0)))),
-    Step::Unless(0, 1000, 5),
+    Step::UnlessTo(0, 1000, "again"),
+    Step::Label("finish"),
     FINISH,
     EXIT,
     END,
+    Step::Label("child"),
     Step::Do(0, Request::Mutex(MutexOp::Lock(0))),
     Step::Do(0, Request::Mutex(MutexOp::Release(0, Value::Held(0)))),
-    Step::Jump(8),
+    Step::JumpTo("finish"),
 ];
 
 /// A search that isn't reduced, of runs with one preemption at most.
@@ -242,7 +259,7 @@ const WHOLE_1: Settings = Settings {
     ..WHOLE
 };
 
-/// The same with two preemptions at most.
+/// A search that isn't reduced, of runs with two preemptions at most.
 const WHOLE_2: Settings = Settings {
     preemption_bound: Some(2),
     ..WHOLE
@@ -254,7 +271,7 @@ const REDUCED_1: Settings = Settings {
     ..DEFAULTS
 };
 
-/// The same with two preemptions at most.
+/// A reduced search of runs with two preemptions at most.
 const REDUCED_2: Settings = Settings {
     preemption_bound: Some(2),
     ..DEFAULTS

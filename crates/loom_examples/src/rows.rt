@@ -4,10 +4,14 @@ ghost use Rattle.loom_examples.specs.Rows.Words.{file_in, meant_by, row_of};
 ghost use Rattle.loom_examples.specs.Rows.Line.{PrintedOf};
 ghost use Rattle.loom_examples.specs.Rows.Printed.{PrintedChecked, PrintedNamed, PrintedRow};
 
+pub mod changes;
+pub mod json;
 pub mod line;
+pub mod options;
 pub mod settings;
 pub mod tables;
 pub mod tasks;
+mod timed;
 pub mod words;
 
 use crate::rows::line::ShownReport;
@@ -17,6 +21,7 @@ use crate::rows::tasks::{Task, do_task};
 use crate::scripts::step::Step;
 use loom::model::Report;
 use loom::model::error::CheckError;
+use loom_views::rt::MAX_THREADS;
 use std::io::{self, Write};
 use std::rt::Files;
 
@@ -42,7 +47,7 @@ pub struct Row {
 
 /// The settings that a builder begins with.
 pub const DEFAULTS: Settings = Settings {
-    max_threads: 5,
+    max_threads: MAX_THREADS,
     max_branches: 1000,
     max_steps: 1_000_000,
     max_permutations: None,
@@ -51,13 +56,13 @@ pub const DEFAULTS: Settings = Settings {
     expect_explicit_explore: false,
 };
 
-/// The same, but each schedule tries every thread that can go on.
+/// The defaults, but each schedule tries every thread that can go on.
 pub const WHOLE: Settings = Settings {
     reduce: false,
     ..DEFAULTS
 };
 
-/// The same, but two runs are made at most.
+/// Such a whole search, of two runs at most.
 pub const TWO_RUNS: Settings = Settings {
     max_permutations: Some(2),
     ..WHOLE
@@ -174,16 +179,8 @@ fn check_words<R: AllocGlobal + Files, O: Write, E: Write>(
     let (row, file) = meant(rows, words);
     match row {
         Some(row) => check_row(rt, row, file, out, err),
-        None => refuse(err),
+        None => words::refuse_words(rt.alloc(), rows, words, err),
     }
-}
-
-/// The words mean nothing.
-pub(crate) fn refuse<W: Write>(err: &mut W) -> io::Result<u8>
-    ensures { IfOk result (λ status. status ≡ 2) }
-{
-    writeln!(err, "usage: loom_rows NAME [FILE]")?;
-    Ok(2)
 }
 
 /// Checks the row with this checkpoint file, if there is one, prints what the check finds, and answers the exit status.

@@ -1,4 +1,4 @@
-//! A run, told as events.
+//! What happened in a run.
 pub use crate::event::{End, Event};
 use loom_objects::choice::Choice;
 use std::fmt;
@@ -14,10 +14,10 @@ pub enum Options {
     Wakes,
 }
 
-/// A run, told as events.
+/// A run as its events, with its choices and its end.
 #[derive(Debug, Drop)]
 pub struct Explanation {
-    /// What the threads handed over, in order, each with what it was told before.
+    /// What the threads handed over, in order, each with the reply before it.
     pub events: Vec<Event>,
     /// The choices of the run, in order.
     pub choices: Vec<Choice>,

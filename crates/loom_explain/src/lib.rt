@@ -1,5 +1,5 @@
-//! A run told in words: `explanation` has the events of a run with its choices and its end, and `text` says why it failed and lays
-//! the events out in columns. It knows no rule of the machine, and promises no more of the words than tests compare.
+//! What happened in a run, in words: `explanation` has the run's events, its choices and its end, and `text` says why it failed and
+//! lays the events out in columns. It knows no rule of the machine, and promises no more of the words than tests compare.
 #![tactic(auto)]
 
 pub mod event;

@@ -20,7 +20,7 @@ use std::alloc::{AllocError, Global};
 /// The text of an explanation: a line that says how the run ended, one to five lines why, the line `replay:` with its choices,
 /// an empty line, and the events, with the choices in the last column. It is at most 100 columns wide, as far as names allow.
 /// An error where memory is refused.
-pub fn told(alloc: Global, explanation: &Explanation) -> Result<String, AllocError> {
+pub fn text_of(alloc: Global, explanation: &Explanation) -> Result<String, AllocError> {
     let mut world = World::new(alloc);
     let mut lines = Lines::new(alloc);
     lines::tell_events(explanation, &mut world, &mut lines);

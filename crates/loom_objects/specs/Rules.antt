@@ -4,7 +4,6 @@ pub mod Atomic
 pub mod Cell
 pub mod Condvar
 pub mod Ending
-pub mod FirstLeak
 pub mod Leaks
 pub mod Locals
 pub mod Moves

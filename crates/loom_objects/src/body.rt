@@ -1,3 +1,4 @@
+//! What the code of a thread is, as the machine sees it: it is given a reply, and answers its next operation.
 ghost use Rattle.std.specs.Prelude.{◌≡◌, IfOk};
 ghost use Rattle.loom_objects.specs.Operation.Labelled.{Op};
 ghost use Rattle.loom_objects.specs.declared.operation.Reply.{Reply};
@@ -6,7 +7,7 @@ use crate::data::Data;
 use crate::operation::{Op, Reply};
 use std::alloc::AllocError;
 
-/// The code of a model's threads, main's and those that are spawned: it is told the reply to its last operation, and
+/// The code of a model's threads, main's and those that are spawned: it is given the reply to its last operation, and
 /// answers the next one. The first reply of every thread is `Reply::Start`.
 pub trait Body: Drop {
     type Data: Data;

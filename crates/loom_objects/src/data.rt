@@ -1,10 +1,11 @@
+//! The type of what objects hold and threads result in.
 ghost use Rattle.std.specs.Prelude.{◌≡◌, IfOk};
 
 use std::alloc::AllocError;
 
 /// What objects hold and threads answer: values that the machine hands out and takes back, and never looks into.
 pub trait Data: Drop {
-    /// The same value again. It fails only where a growth is refused.
+    /// A copy of the value. An error where memory is refused.
     fn try_clone(&self) -> Result<Self, AllocError>
         ensures { IfOk result (λ copy. copy ≡ self.now) };
 }

@@ -26,7 +26,7 @@ impl fmt::Display for Failure {
 }
 
 impl Failure {
-    /// The same failure, at this place (own).
+    /// The failure, with the place where it came (own).
     pub fn at(self, location: Option<Location>) -> Failure
         ensures { result ≡ record self { location = location } }
     {

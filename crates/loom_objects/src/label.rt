@@ -1,4 +1,4 @@
-//! How a body's author calls an operation.
+//! The label of an operation: its name and its place in the source.
 ghost use Rattle.std.specs.Prelude.{◌≡◌};
 ghost use Rattle.loom_objects.specs.Label as rules;
 

@@ -1,4 +1,4 @@
-//! Laws of the order of accesses. A law is the contract of a function that does nothing; it is stated in `specs/Laws`.
+//! Laws of the order of accesses. A law is the contract of a function that does nothing; it is stated in `specs/Dependence/Laws`.
 
 ghost use Rattle.loom_objects.specs.Dependence.Laws.{VectorLaw};
 

@@ -7,7 +7,7 @@ use crate::text::Text;
 /// A place in a body's source, which its author hands in.
 #[derive(Clone, Copy, Debug, PartialEq, Eq)]
 pub struct Location {
-    /// The file's path, of which the last characters stand here if it has more than 24 bytes.
+    /// The file's path, of which the last characters are kept if it has more than 24 bytes.
     pub file: Text,
     /// The number of the line, from 1.
     pub line: u32,

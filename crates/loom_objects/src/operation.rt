@@ -1,3 +1,4 @@
+//! Operations, as threads ask for them: a request, with the label that its author gave it; and the replies.
 ghost use Rattle.std.specs.Prelude.{◌≡◌};
 ghost use Rattle.loom_objects.specs.Operation.Accessed.{accessed};
 ghost use Rattle.loom_objects.specs.Operation.Plain.{plain, plain_thread, started, started_thread};
@@ -14,12 +15,12 @@ use loom_views::sequence::Sequence;
 use std::collections::LinkedList;
 use std::sync::atomic::Ordering;
 
-/// What is asked for, and how its author calls it.
+/// A request with its label.
 #[derive(Debug, Drop)]
 pub struct Labelled<R> {
     /// What is asked for.
     pub request: R,
-    /// How it is called, if that was said. Nothing else rests on it (own).
+    /// What its author calls it, and where. It changes nothing that the operation does (own).
     pub label: Option<Label>,
 }
 
@@ -152,7 +153,7 @@ pub enum TrackOp<D> {
     Put(usize, D),
     /// Answers the value, which isn't tracked any more.
     IntoInner(usize),
-    /// The same, for a value that is dropped.
+    /// The value is dropped, and isn't tracked any more.
     Drop(usize),
 }
 
@@ -179,13 +180,13 @@ pub enum RwLockOp<D> {
     New(D),
     /// A thread more reads.
     Read(usize),
-    /// The same, without waiting.
+    /// A thread more reads, unless another one writes: it doesn't wait.
     TryRead(usize),
     /// A guard of the thread for reading ends.
     ReadRelease(usize),
     /// The thread alone writes.
     Write(usize),
-    /// The same, without waiting.
+    /// The thread alone writes, unless another one holds the lock: it doesn't wait.
     TryWrite(usize),
     /// The thread writes no more: the lock, and the data that goes back into it.
     WriteRelease(usize, D),
@@ -203,7 +204,7 @@ pub enum CondvarOp<D> {
     New,
     /// The condition variable, the mutex that the thread holds, and the data that goes back into it.
     Wait(usize, usize, D),
-    /// The same, by the call that has a time; no time runs out.
+    /// A wait by the call that has a time; no time runs out.
     WaitTimeout(usize, usize, D),
     NotifyOne(usize),
     NotifyAll(usize),
@@ -226,7 +227,7 @@ pub enum ChannelOp<D> {
     Send(usize, D),
     /// The receiver waits for a message.
     Recv(usize),
-    /// The same, without waiting.
+    /// The receiver takes a message, if there is one: it doesn't wait.
     TryRecv(usize),
     /// One sender more.
     CloneSender(usize),
@@ -261,7 +262,7 @@ pub enum AtomicWakerOp {
     New,
     /// The waker takes the place, where nobody else is about to; else it wakes.
     Register(usize, usize),
-    /// The same of a clone of the waker.
+    /// A clone of the waker takes the place, where nobody else is about to; else it wakes.
     RegisterByRef(usize, usize),
     /// Takes the waker out, and wakes by it.
     Wake(usize),
@@ -276,7 +277,7 @@ pub enum AtomicWakerOp {
 pub enum LocalOp<D> {
     /// A copy of the value, if there is one.
     With(usize),
-    /// The same, where it may have been given back.
+    /// A copy of the value, if there is one. It may have been given back.
     TryWith(usize),
     /// The first value of the key.
     Init(usize, D),
@@ -386,7 +387,7 @@ pub enum Reply<D> {
     Mutex(usize),
     /// A mutex that the thread holds now, and its data.
     Locked(usize, D),
-    /// The same after a wait with a time, and whether the time ran out.
+    /// A mutex that the thread holds again after a wait with a time, its data, and whether the time ran out.
     Waited(usize, D, bool),
     /// The lock is held, and wasn't waited for.
     WouldBlock,
@@ -406,7 +407,7 @@ pub enum Reply<D> {
     Empty,
     /// The channel has no message, and no sender is left.
     RecvError,
-    /// The same, where the thread didn't wait.
+    /// The channel has no message and no sender is left, where the thread didn't wait.
     Disconnected,
     /// The channel has no receiver any more: the message is given back.
     SendError(D),
@@ -439,22 +440,21 @@ pub enum Reply<D> {
 /// Whose turn it is now, or how the run ended.
 #[derive(Debug, Drop)]
 pub enum Turn<D> {
-    /// The thread is told the reply to its last operation.
+    /// The thread has its turn, with the reply to its last operation.
     Reply(u8, Reply<D>),
-    /// The thread is told to start.
+    /// The thread has its turn, and starts.
     Start(u8),
     /// The run is over, with main's result.
     Ended(D),
 }
 
 impl<D: Drop> Request<D, ()> {
-    /// Lets the request go (own). It stands alone, since what a request holds is let go in many ways, and a function that does it
-    /// costs the proof seconds.
+    /// Drops the request, with all that it holds (own).
     pub fn let_go(self) {}
 }
 
 impl<D: Drop> Reply<D> {
-    /// Lets the reply go (own), by itself for the same reason.
+    /// Drops the reply, with all that it holds (own).
     pub fn let_go(self) {}
 }
 
@@ -492,7 +492,7 @@ impl<R> Labelled<R> {
 
 impl<D, S> Labelled<Request<D, S>> {
     /// What the machine is asked for, without the label, and apart from it what a spawn starts.
-    // Inlined, so that a case moves just what it holds.
+    // Inlined: each case moves no more than it holds.
     #[inline(always)]
     pub fn split(self) -> (Request<D, ()>, Option<S>)
         ensures plain { result.0 ≡ plain self }

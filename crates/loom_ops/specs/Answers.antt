@@ -1,5 +1,4 @@
--- What replies hold for closures, by the kind of object.
--- What replies hold for the closures that have asked.
+-- What replies hold for the closures that have made the operations.
 use Rattle.std.specs.Prelude.{Option, Some, None, Result, Ok, Err, ℕ, ⊤}
 use Rattle.loom_objects.specs.declared.operation.Reply.{Reply}
 use Rattle.loom_objects.specs.declared.operation.Reply.TheVariants.{Done, Data, Channel, SendError, RecvError, Empty as IsEmpty, Disconnected as IsDisconnected, Messages, Locked, WouldBlock, Value, Exchanged}
@@ -74,7 +73,7 @@ module _ {D : Type 0} where
   guard_in (Locked number value) = Some (record { number = number }, value)
   guard_in _ = None
 
-  -- the same, or that it is held
+  -- the mutex that the thread holds now, and its data, or that it is held
   abbrev pub tried_in : Reply D → Option (Tried D)
   tried_in (Locked number value) = Some (record { 0 = Some (record { number = number }, value) })
   tried_in WouldBlock = Some (record { 0 = None })

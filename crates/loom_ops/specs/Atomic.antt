@@ -22,13 +22,13 @@ module _ {D : Type 0} where
   value_in (Value number) = Some number
   value_in _ = None
 
-  -- what a compare-exchange has read, as the value that its number stands for: Ok where it was exchanged
+  -- what a compare-exchange has read, as the value of its number: Ok where it was exchanged
   abbrev pub exchanged_in : {T : Type 0} → (ℕ → T) → Reply D → Option (Result T T)
   exchanged_in value (Exchanged (Ok number)) = Some (Ok (value number))
   exchanged_in value (Exchanged (Err number)) = Some (Err (value number))
   exchanged_in value _ = None
 
-  -- how far an update is: what was loaded, or stood in the exchange's way, is what comes next made of
+  -- how far an update is: the next value is made of what was loaded, or of what was there in place of the expected one
   abbrev pub fetched_in : {T : Type 0} → (ℕ → T) → Reply D → Option (Fetched T)
   fetched_in value (Value number) = Some (Read (value number))
   fetched_in value (Exchanged (Err number)) = Some (Read (value number))

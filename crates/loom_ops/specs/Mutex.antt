@@ -1,19 +1,11 @@
--- The mutex that a reply says is held.
 -- The mutexes that replies hold, and that a lock wasn't waited for.
-use Rattle.std.specs.Prelude.{ℕ, Option, Some, None, option_map}
+use Rattle.std.specs.Prelude.{Option, Some, None}
 use Rattle.loom_objects.specs.declared.operation.Reply.{Reply}
 use Rattle.loom_objects.specs.declared.operation.Reply.TheVariants.{Locked, Waited, Mutex as MutexMade, WouldBlock as Blocked}
 use Rattle.loom_ops.specs.declared.sync.mutex.Mutex.{Mutex}
 use Rattle.loom_ops.specs.declared.sync.mutex.MutexGuard.{MutexGuard}
 use Rattle.loom_ops.specs.declared.sync.try_lock.TryLockError.{TryLockError}
 use Rattle.loom_ops.specs.declared.sync.try_lock.TryLockError.TheVariants.{WouldBlock}
-
-module _ {D : Type 0} where
-  -- its number
-  abbrev pub held_in : Reply D → Option ℕ
-  held_in (Locked number value) = Some number
-  held_in (Waited number value timed_out) = Some number
-  held_in _ = None
 
 module _ {D : Type 0} where
   -- the mutex that was made
@@ -23,7 +15,9 @@ module _ {D : Type 0} where
 
   -- the mutex that the thread holds now
   abbrev pub guard_handle : Reply D → Option MutexGuard
-  guard_handle reply = option_map (λ number. record { number = number }) (held_in reply)
+  guard_handle (Locked number value) = Some (record { number = number })
+  guard_handle (Waited number value timed_out) = Some (record { number = number })
+  guard_handle _ = None
 
   -- the mutex that the thread holds now, and its data
   abbrev pub guard_taken : Reply D → Option (MutexGuard × D)

@@ -1,7 +1,7 @@
--- The wakers, their notifiers, and the places for them that replies hold.
+-- The wakers, their notifiers, and the atomic wakers that replies hold.
 use Rattle.std.specs.Prelude.{Option, Some, None}
 use Rattle.loom_objects.specs.declared.operation.Reply.{Reply}
-use Rattle.loom_objects.specs.declared.operation.Reply.TheVariants.{AtomicWaker as PlaceMade, BlockOn as BlockOnMade, Waker as WakerTaken}
+use Rattle.loom_objects.specs.declared.operation.Reply.TheVariants.{AtomicWaker as AtomicWakerMade, BlockOn as BlockOnMade, Waker as WakerTaken}
 use Rattle.loom_ops.specs.declared.future.atomic_waker.AtomicWaker.{AtomicWaker}
 use Rattle.loom_ops.specs.declared.future.BlockOn.{BlockOn}
 use Rattle.loom_ops.specs.declared.future.Waker.{Waker}
@@ -18,7 +18,7 @@ module _ {D : Type 0} where
   waker_handle (WakerTaken number) = Some (record { number = number })
   waker_handle _ = None
 
-  -- the place that was made
-  abbrev pub place_handle : Reply D → Option AtomicWaker
-  place_handle (PlaceMade number) = Some (record { number = number })
-  place_handle _ = None
+  -- the atomic waker that was made
+  abbrev pub atomic_waker_handle : Reply D → Option AtomicWaker
+  atomic_waker_handle (AtomicWakerMade number) = Some (record { number = number })
+  atomic_waker_handle _ = None

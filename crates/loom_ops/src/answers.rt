@@ -1,5 +1,5 @@
-//! What replies hold for the closures that have asked: of each handle and each kind of answer, how it is taken out of a reply. It
-//! knows no thread and no run, and `loom::runner` uses it.
+//! What a closure gets of a reply: a handle, a guard or a value, each taken out of the reply to the closure's operation.
+//! `loom::runner` uses it.
 pub mod answer;
 pub mod arc;
 pub mod cell;

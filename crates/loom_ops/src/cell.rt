@@ -61,7 +61,7 @@ impl UnsafeCell {
         Op::new(Request::Cell(CellOp::Read(self.number)))
     }
 
-    /// The same as `get`: in loom a closure is given what is read, and here the body goes on until `ConstPtr::end` (loom's
+    /// A read as by `get`: in loom a closure is given what is read, and here the body goes on until `ConstPtr::end` (loom's
     /// `cell/unsafe_cell.rs`).
     pub fn with<D, S>(self) -> Op<D, S>
         ensures { result ≡ bare (Request.Cell (CellOp.Read self.number)) }
@@ -77,7 +77,7 @@ impl UnsafeCell {
         Op::new(Request::Cell(CellOp::Write(self.number)))
     }
 
-    /// The same as `get_mut`: in loom a closure is given what is written, and here the body goes on until `MutPtr::end`
+    /// A write as by `get_mut`: in loom a closure is given what is written, and here the body goes on until `MutPtr::end`
     /// (loom's `cell/unsafe_cell.rs`).
     pub fn with_mut<D, S>(self) -> Op<D, S>
         ensures { result ≡ bare (Request.Cell (CellOp.Write self.number)) }
@@ -122,7 +122,7 @@ impl ConstPtr {
         Op::new(Request::Cell(CellOp::Deref(self.number)))
     }
 
-    /// The same as `deref`: what loom's closure does with the data, the body does with the reply (loom's
+    /// A copy as by `deref`: what loom's closure does with the data, the body does with the reply (loom's
     /// `cell/unsafe_cell.rs`).
     pub fn with<D, S>(self) -> Op<D, S>
         ensures { result ≡ bare (Request.Cell (CellOp.Deref self.number)) }
@@ -232,7 +232,7 @@ impl Cell {
         Op::new(Request::Cell(CellOp::Get(self.number)))
     }
 
-    /// The same as `replace`: what stays behind is given, where loom takes the type's default (loom's `cell/cell.rs`).
+    /// Writes as `replace` does: what stays behind is given, where loom takes the type's default (loom's `cell/cell.rs`).
     pub fn take<D, S>(self, left: D) -> Op<D, S>
         ensures { result ≡ bare (Request.Cell (CellOp.Replace self.number left)) }
     {

@@ -1,7 +1,7 @@
 //! The handles of a run, under loom's paths: each method makes an operation, and no handle does more. A body makes its
 //! operations by them, and reads a reply by `from_reply`. `sync`, `cell`, `thread`, `future`, `lazy_static`, `alloc` and
-//! `hint` are loom's modules. `answers` says what replies hold for the closures that have asked. It uses the operations of
-//! `loom_objects` alone. `loom` hands its modules on, and the bodies of `loom_examples` and `loom_tests` are written with it.
+//! `hint` are loom's modules. `answers` has what a closure gets of each reply. `loom` hands these modules on, and the bodies of
+//! `loom_examples` and `loom_tests` are written with them.
 #![tactic(auto)]
 
 ghost use Rattle.std.specs.Prelude.{◌≡◌, None};

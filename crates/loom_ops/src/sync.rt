@@ -1,4 +1,4 @@
-//! Handles of atomics, of the objects by which threads wait for one another, of channels, and of counted references.
+//! loom's `sync`: atomics, locks, condition variables, notifiers, channels, and counted references.
 pub mod arc;
 pub mod atomic;
 pub mod condvar;

@@ -5,20 +5,10 @@ ghost use Rattle.loom_objects.specs.Text.{shown, first_text};
 ghost use Rattle.loom_ops.specs.Thread.{access_error, join_handle, leave, thread_handle, named};
 ghost use Rattle.loom_objects.specs.Operation.Labelled.{bare};
 
-use crate::{fail, thread};
+use crate::fail;
 use loom_objects::operation::{LocalOp, Name, Op, Reply, Request, ThreadOp};
 use loom_objects::text::Text;
 use std::fmt;
-
-/// What is kept of a thread's name, if it was given one (own).
-pub fn text_of(name: &Option<Name>) -> Option<&str>
-    ensures { option_map (λ name. name.now) result ≡ option_map (λ name. shown name.text) name.now }
-{
-    match name {
-        Some(name) => Some(name.text.as_str()),
-        None => None,
-    }
-}
 
 /// A thread that was spawned, and the notifier that it notifies when it finishes (loom's `thread.rs`).
 #[derive(Clone, Copy, Debug)]
@@ -160,7 +150,7 @@ impl Thread {
     pub fn name(&self) -> Option<&str>
         ensures { option_map (λ name. name.now) result ≡ option_map (λ name. shown name.text) self.now.name }
     {
-        thread::text_of(&self.name)
+        Some(self.name.as_ref()?.text.as_str())
     }
 
     /// The thread goes on if it is parked, and else has a token, by which it isn't parked the next time; it has one at most
@@ -181,7 +171,7 @@ impl Builder {
         Builder { name: None }
     }
 
-    /// The same, with this name, of which 24 bytes are kept (loom's `thread.rs`).
+    /// A thread with this name, of which 24 bytes are kept (loom's `thread.rs`).
     pub fn name(self, name: &str) -> Builder
         ensures { result.name ≡ Some (record { text = first_text name.now }) }
     {
@@ -216,7 +206,8 @@ impl LocalKey {
         Op::new(Request::Local(LocalOp::With(self.key)))
     }
 
-    /// The same, but once `exit` has given it back the reply is `AccessError` (loom's `thread.rs`).
+    /// Replies a copy of the thread's own value, or `Absent`. Once `exit` has given it back the reply is `AccessError` (loom's
+    /// `thread.rs`).
     pub fn try_with<D, S>(self) -> Op<D, S>
         ensures { result ≡ bare (Request.Local (LocalOp.TryWith self.key)) }
     {
@@ -241,7 +232,7 @@ impl LocalKey {
 
 impl Leaving {
     /// The next of the three operations, where the thread finishes with this value, and which one comes after it. A thread that
-    /// has ended is told nothing more, so it fails (own).
+    /// has ended gets no more replies, so it fails (own).
     pub fn next<D: Drop, S>(self, value: D) -> (Leaving, Op<D, S>)
         ensures { result ≡ leave value self }
     {

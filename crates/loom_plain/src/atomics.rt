@@ -1,14 +1,15 @@
-//! Atomics and fences.
+//! Atomics and fences: which store a load reads, and what a store leaves.
 use crate::dependence::Action;
-use crate::halt::Told;
+use crate::halt::NextReply;
 use crate::machine::Machine;
 use crate::numbers::{cast, changed};
 use crate::state::{Access, Becoming, Kind, Object, Step, Store, Update};
-use crate::stores::{KEPT, Reader, are_orders_equal, is_seen, kept, readable, store_in};
+use crate::stores::{Reader, are_orders_equal, is_seen, kept, readable, store_in};
 use loom_objects::choice::Choice;
 use loom_objects::operation::{AtomicOp, Reply};
 use loom_views::rt::failure::FailureKind;
 use loom_views::rt::num::Numbers;
+use loom_views::rt::{MAX_ATOMIC_HISTORY, MAX_THREADS};
 use std::sync::atomic::Ordering;
 
 // What an access has read.
@@ -20,17 +21,17 @@ struct Read {
 }
 
 fn acquires(order: Ordering) -> bool {
-    match order {
-        Ordering::Relaxed | Ordering::Release => false,
-        Ordering::Acquire | Ordering::AcqRel | Ordering::SeqCst => true,
-    }
+    matches!(
+        order,
+        Ordering::Acquire | Ordering::AcqRel | Ordering::SeqCst
+    )
 }
 
 fn releases(order: Ordering) -> bool {
-    match order {
-        Ordering::Relaxed | Ordering::Acquire => false,
-        Ordering::Release | Ordering::AcqRel | Ordering::SeqCst => true,
-    }
+    matches!(
+        order,
+        Ordering::Release | Ordering::AcqRel | Ordering::SeqCst
+    )
 }
 
 // The ordering by which a compare-and-swap reads another value than it expects.
@@ -47,7 +48,7 @@ fn becomes(numbers: Numbers, becoming: Becoming, read: u64) -> Option<u64> {
     match becoming {
         Becoming::Changed(change) => Some(changed(numbers, change, read)),
         Becoming::Exchanged(expected, new) if cast(numbers, expected) == read => Some(new),
-        Becoming::Same | Becoming::Exchanged(..) => None,
+        _ => None,
     }
 }
 
@@ -66,7 +67,7 @@ impl Object {
 
 impl Machine {
     /// An operation of an atomic is handed over.
-    pub fn atomic_begins(&mut self, op: AtomicOp) -> Told {
+    pub fn atomic_begins(&mut self, op: AtomicOp) -> NextReply {
         match op {
             AtomicOp::New(numbers, value) => self.atomic_new(numbers, value),
             AtomicOp::Load(number, order) => {
@@ -88,14 +89,14 @@ impl Machine {
                 self.update_begins(number, becoming, order, failing(order), false)
             }
             AtomicOp::UnsyncLoad(number) => {
-                self.tells_newest(number, Access::UnsyncLoad, None, true)
+                self.replies_newest(number, Access::UnsyncLoad, None, true)
             }
             AtomicOp::IntoInner(number) => {
-                self.tells_newest(number, Access::UnsyncLoad, None, false)
+                self.replies_newest(number, Access::UnsyncLoad, None, false)
             }
             AtomicOp::WithMut(number) => {
                 let active = self.active;
-                self.tells_newest(number, Access::Mutation, Some(active), true)
+                self.replies_newest(number, Access::Mutation, Some(active), true)
             }
             AtomicOp::WithMutEnd(number, value) => self.with_mut_end(number, value),
         }
@@ -109,7 +110,7 @@ impl Machine {
         success: Ordering,
         failure: Ordering,
         is_exchange: bool,
-    ) -> Told {
+    ) -> NextReply {
         let (action, load) = match becoming {
             Becoming::Same => (Action::Read, Some(failure)),
             Becoming::Changed(_) | Becoming::Exchanged(..) => (Action::Change, None),
@@ -124,15 +125,15 @@ impl Machine {
         self.comes_to(number, Kind::Atomic, action, step)
     }
 
-    // An access that doesn't synchronize, of which the value of the newest store is told. Which thread has the atomic open
+    // An access that doesn't synchronize, which replies the value of the newest store. Which thread has the atomic open
     // afterwards, and whether it may be used.
-    fn tells_newest(
+    fn replies_newest(
         &mut self,
         number: usize,
         access: Access,
         holder: Option<u8>,
         is_whole: bool,
-    ) -> Told {
+    ) -> NextReply {
         self.object(number, Kind::Atomic);
         self.meets(number, access);
         let atomic = self.at(number);
@@ -148,7 +149,7 @@ impl Machine {
     }
 
     // That the atomic was made counts as a mutation. Its first store releases.
-    fn atomic_new(&mut self, numbers: Numbers, value: u64) -> Told {
+    fn atomic_new(&mut self, numbers: Numbers, value: u64) -> NextReply {
         let number = self.makes(Kind::Atomic, None);
         self.at(number).numbers = numbers;
         self.keeps_access(number, Access::Mutation);
@@ -157,7 +158,7 @@ impl Machine {
     }
 
     // The mutation of the active thread ends: it is closed, the newest store has the value, and the tests are made again.
-    fn with_mut_end(&mut self, number: usize, value: u64) -> Told {
+    fn with_mut_end(&mut self, number: usize, value: u64) -> NextReply {
         let active = self.active;
         let is_open = self.object(number, Kind::Atomic).leaves(active, value);
         self.check(is_open, FailureKind::Misuse);
@@ -166,7 +167,7 @@ impl Machine {
     }
 
     /// The active thread stores.
-    pub fn stores(&mut self, number: usize, value: u64, order: Ordering) -> Told {
+    pub fn stores(&mut self, number: usize, value: u64, order: Ordering) -> NextReply {
         self.raise();
         self.object(number, Kind::Atomic);
         self.meets(number, Access::Store);
@@ -175,7 +176,7 @@ impl Machine {
     }
 
     /// The active thread loads, and stores what is made of the number.
-    pub fn updates(&mut self, number: usize, update: Update) -> Told {
+    pub fn updates(&mut self, number: usize, update: Update) -> NextReply {
         self.raise();
         let numbers = self.object(number, Kind::Atomic).numbers;
         let slot = self.chooses_slot(number, update.load);
@@ -216,7 +217,7 @@ impl Machine {
         self.check(!are_equal, FailureKind::OrdersEqual);
         match self.choose(options, false) {
             Some(Choice::Load(slot)) => slot,
-            Some(Choice::Thread(_) | Choice::Spurious(_)) | None => {
+            _ => {
                 self.expect(false);
                 0
             }
@@ -258,7 +259,7 @@ impl Machine {
             order: self.seen_order(number, present, present),
             sync: self.released_by(start, order),
             is_seq_cst: matches!(order, Ordering::SeqCst),
-            touches: [None; 5],
+            touches: [None; MAX_THREADS],
         };
         store.touched(self.active, raised);
         let has_grown = self.at(number).stores.push(store).is_ok();
@@ -269,14 +270,14 @@ impl Machine {
     fn seen_store(&self, number: usize, place: usize, point: usize) -> Option<Store> {
         match kept(self.read(number).stores.as_slice()).get(place) {
             Some(store) if is_seen(&self.graph, store, point) => Some(*store),
-            Some(_) | None => None,
+            _ => None,
         }
     }
 
     // A point after this one and the orders of all kept stores that are seen from the other point.
     fn seen_order(&mut self, number: usize, here: usize, point: usize) -> usize {
         let mut order = here;
-        for place in 0..KEPT {
+        for place in 0..MAX_ATOMIC_HISTORY {
             if let Some(store) = self.seen_store(number, place, point) {
                 order = self.point(order, store.order);
             }
@@ -304,7 +305,7 @@ impl Machine {
     }
 
     /// A fence.
-    pub fn fence(&mut self, order: Ordering) -> Told {
+    pub fn fence(&mut self, order: Ordering) -> NextReply {
         let is_relaxed = matches!(order, Ordering::Relaxed);
         self.check(!is_relaxed, FailureKind::RelaxedFence);
         self.raise();
@@ -332,7 +333,7 @@ impl Machine {
 
     // Through the atomic's kept stores, from the oldest: the active thread acquires from each that it sees by then.
     fn acquire_seen(&mut self, number: usize) {
-        for place in 0..KEPT {
+        for place in 0..MAX_ATOMIC_HISTORY {
             let present = self.me().present;
             if let Some(store) = self.seen_store(number, place, present) {
                 self.acquire(store.sync);

@@ -1,8 +1,9 @@
 //! Cells, and what they share with atomics: accesses that must not meet.
-use crate::halt::Told;
+use crate::halt::NextReply;
 use crate::machine::Machine;
 use crate::state::{Access, Accessed, Kind, Object};
 use loom_objects::operation::{CellOp, Reply};
+use loom_views::rt::MAX_THREADS;
 use loom_views::rt::failure::FailureKind;
 
 // Whether an access of this kind conflicts with an earlier one of that kind.
@@ -18,7 +19,7 @@ fn conflicts(access: Access, earlier: Access) -> bool {
 impl Object {
     /// Whether a thread has it open, so that another one can't have it, to read or alone.
     pub fn is_open(&self, is_alone: bool) -> bool {
-        self.holder.is_some() || (is_alone && self.readers != [0; 5])
+        self.holder.is_some() || (is_alone && self.readers != [0; MAX_THREADS])
     }
 
     /// The thread opens a read more.
@@ -76,7 +77,7 @@ impl Machine {
     }
 
     /// An operation of a cell.
-    pub fn cell_begins(&mut self, op: CellOp<u64>) -> Told {
+    pub fn cell_begins(&mut self, op: CellOp<u64>) -> NextReply {
         match op {
             // That the cell was made counts as a write.
             CellOp::New(value) => {
@@ -114,7 +115,7 @@ impl Machine {
     }
 
     // The cell is taken apart, unless a thread has it open.
-    fn cell_into_inner(&mut self, number: usize) -> Told {
+    fn cell_into_inner(&mut self, number: usize) -> NextReply {
         let cell = self.object(number, Kind::Cell);
         let (is_open, value) = (cell.is_open(true), cell.value);
         cell.is_whole = false;
@@ -123,7 +124,7 @@ impl Machine {
     }
 
     // Another copy of the data, in a read that the active thread has open and leaves open.
-    fn cell_deref(&mut self, number: usize) -> Told {
+    fn cell_deref(&mut self, number: usize) -> NextReply {
         let active = self.active;
         let cell = self.object(number, Kind::Cell);
         let is_reading = cell.closes(active);

@@ -1,6 +1,6 @@
 //! Channels.
 use crate::dependence::Action;
-use crate::halt::Told;
+use crate::halt::NextReply;
 use crate::machine::Machine;
 use crate::state::{Kind, Message, Object, Receiving, State, Step};
 use loom_objects::operation::{ChannelOp, Reply};
@@ -31,7 +31,7 @@ impl Machine {
     }
 
     /// An operation of a channel is handed over.
-    pub fn channel_begins(&mut self, op: ChannelOp<u64>) -> Told {
+    pub fn channel_begins(&mut self, op: ChannelOp<u64>) -> NextReply {
         match op {
             ChannelOp::New => Some(Reply::Channel(self.makes(Kind::Channel, None))),
             ChannelOp::Send(number, value) => {
@@ -62,7 +62,7 @@ impl Machine {
     }
 
     // One sender fewer; with the last one, who waits for a message goes on.
-    fn drops_sender(&mut self, number: usize) -> Told {
+    fn drops_sender(&mut self, number: usize) -> NextReply {
         let channel = self.sender_of(number);
         channel.count = channel.count.saturating_sub(1);
         if channel.count == 0 {
@@ -73,7 +73,7 @@ impl Machine {
 
     // The active thread drops the receiver: it comes to take the next message, or where none is left it has what it has taken,
     // and the receiver is gone.
-    fn drains(&mut self, number: usize) -> Told {
+    fn drains(&mut self, number: usize) -> NextReply {
         let channel = self.receiver_of(number);
         if !channel.messages.is_empty() {
             let step = Step::Receive(Receiving::Drain);
@@ -85,7 +85,7 @@ impl Machine {
     }
 
     /// The active thread sends, and has the message back where there is no receiver.
-    pub fn sends(&mut self, number: usize, value: u64) -> Told {
+    pub fn sends(&mut self, number: usize, value: u64) -> NextReply {
         let channel = self.sender_of(number);
         if !channel.has_receiver {
             return Some(Reply::SendError(value));
@@ -103,7 +103,7 @@ impl Machine {
     }
 
     /// The active thread receives.
-    pub fn receives(&mut self, number: usize, receiving: Receiving) -> Told {
+    pub fn receives(&mut self, number: usize, receiving: Receiving) -> NextReply {
         match self.receiver_of(number).messages.pop_front() {
             Some(message) => self.takes(number, receiving, message),
             None => match receiving {
@@ -115,7 +115,7 @@ impl Machine {
     }
 
     // The active thread has the message. Where no other is left, who waits to receive is blocked.
-    fn takes(&mut self, number: usize, receiving: Receiving, message: Message) -> Told {
+    fn takes(&mut self, number: usize, receiving: Receiving, message: Message) -> NextReply {
         self.acquire(message.point);
         if self.at(number).is_waited_for() {
             self.set_pending(number, Some(Action::Receive), State::Blocked);

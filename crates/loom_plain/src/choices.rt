@@ -1,14 +1,18 @@
 //! The choices of one run: those that are given, and then defaults.
-use crate::halt::Told;
+use crate::halt::NextReply;
 use crate::machine::Machine;
 use crate::memory::push;
 use loom_objects::choice::Choice;
 use loom_objects::operation::{ExploreOp, Reply};
 use loom_views::rt::failure::FailureKind;
+use loom_views::rt::{MAX_ATOMIC_HISTORY, MAX_THREADS};
+
+/// The most options of a choice: of a load, one for each store that is kept. A choice of a thread has fewer.
+pub const MAX_OPTIONS: usize = MAX_ATOMIC_HISTORY;
 
 /// What could be chosen: the default is the first that is there. Where a thread is chosen, the first is the default, and the
 /// option of a thread of this number, if it isn't the default, has the place behind its number.
-pub type Options = [Option<Choice>; 7];
+pub type Options = [Option<Choice>; MAX_OPTIONS];
 
 /// The default of these options.
 pub fn default_of(options: &Options) -> Option<Choice> {
@@ -20,7 +24,7 @@ pub fn default_of(options: &Options) -> Option<Choice> {
     None
 }
 
-/// What the schedules before a choice come to.
+/// What is known of the schedules before a choice.
 #[derive(Clone, Copy)]
 pub struct Past {
     /// How many preemptions they count.
@@ -43,16 +47,16 @@ pub struct Made {
     /// Whether a thread was chosen.
     pub is_schedule: bool,
     /// Of each thread whether it could neither go on nor yielded.
-    pub disabled: [bool; 5],
+    pub disabled: [bool; MAX_THREADS],
     /// Whether another option may be tried.
     pub is_exploring: bool,
     pub past: Past,
     /// Of each option whether the run calls for it.
-    pub marks: [bool; 7],
+    pub marks: [bool; MAX_OPTIONS],
 }
 
 impl Made {
-    // What the schedules come to with this choice, made at this place, if a thread was chosen. That counts as a preemption
+    // What is known of the schedules with this choice, made at this place, if a thread was chosen. That counts as a preemption
     // where it passes over the default, which is the thread that was chosen before, or there was no schedule before.
     fn and_past(&self, place: usize) -> Past {
         let mut past = self.past;
@@ -107,7 +111,7 @@ impl Machine {
             disabled,
             is_exploring: rest.is_exploring,
             past: rest.past,
-            marks: [false; 7],
+            marks: [false; MAX_OPTIONS],
         };
         rest.past = made.and_past(place);
         push(&mut rest.run.made, made, &mut self.halt);
@@ -115,7 +119,7 @@ impl Machine {
     }
 
     /// Whether other options are tried changes, unless that is settled.
-    pub fn switches(&mut self, op: ExploreOp) -> Told {
+    pub fn switches(&mut self, op: ExploreOp) -> NextReply {
         let explores = matches!(op, ExploreOp::Explore);
         let settles = matches!(op, ExploreOp::SkipBranch);
         let rest = &mut *self.rest;

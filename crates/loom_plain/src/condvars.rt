@@ -1,14 +1,15 @@
 //! Condition variables.
 use crate::dependence::Action;
-use crate::halt::Told;
+use crate::halt::NextReply;
 use crate::machine::Machine;
 use crate::state::{Claim, Kind, State, Step};
 use loom_objects::operation::{CondvarOp, Reply};
+use loom_views::rt::MAX_THREADS;
 use loom_views::rt::failure::FailureKind;
 
 impl Machine {
     /// An operation of a condition variable is handed over.
-    pub fn condvar_begins(&mut self, op: CondvarOp<u64>) -> Told {
+    pub fn condvar_begins(&mut self, op: CondvarOp<u64>) -> NextReply {
         match op {
             CondvarOp::New => Some(Reply::Condvar(self.makes(Kind::Condvar, None))),
             CondvarOp::Wait(number, mutex, value) => {
@@ -21,12 +22,17 @@ impl Machine {
                 self.comes_to(number, Kind::Condvar, Action::Other, Step::WakeUp(1))
             }
             CondvarOp::NotifyAll(number) => {
-                self.comes_to(number, Kind::Condvar, Action::Other, Step::WakeUp(5))
+                self.comes_to(
+                    number,
+                    Kind::Condvar,
+                    Action::Other,
+                    Step::WakeUp(MAX_THREADS as u8),
+                )
             }
         }
     }
 
-    fn wait_on_begins(&mut self, number: usize, mutex: usize, step: Step) -> Told {
+    fn wait_on_begins(&mut self, number: usize, mutex: usize, step: Step) -> NextReply {
         let active = self.active;
         let is_held = self.object(mutex, Kind::Mutex).holder == Some(active);
         self.check(is_held, FailureKind::Misuse);
@@ -34,7 +40,7 @@ impl Machine {
     }
 
     /// The active thread is the last waiter, and releases the mutex.
-    pub fn sleeps(&mut self, number: usize, mutex: usize, value: u64, claim: Claim) -> Told {
+    pub fn sleeps(&mut self, number: usize, mutex: usize, value: u64, claim: Claim) -> NextReply {
         let active = self.active;
         let has_grown = self.at(number).waiters.push_back(active).is_ok();
         self.grows(has_grown);
@@ -44,7 +50,7 @@ impl Machine {
 
     /// So many waiters are woken, the first one first, as far as there are any. A waiter takes in what the active thread has
     /// seen, and is runnable.
-    pub fn wakes_up(&mut self, number: usize, most: u8) -> Told {
+    pub fn wakes_up(&mut self, number: usize, most: u8) -> NextReply {
         for _ in 0..most {
             if let Some(waiter) = self.at(number).waiters.pop_front() {
                 self.tell(waiter);

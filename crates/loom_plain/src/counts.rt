@@ -1,6 +1,6 @@
 //! Counted references and tracked values.
 use crate::dependence::Action;
-use crate::halt::Told;
+use crate::halt::NextReply;
 use crate::machine::Machine;
 use crate::state::{Counting, Kind, Step};
 use loom_objects::operation::{ArcOp, Reply, TrackOp};
@@ -8,10 +8,10 @@ use loom_views::rt::failure::FailureKind;
 
 impl Machine {
     /// An operation of a counted reference is handed over.
-    pub fn arc_begins(&mut self, op: ArcOp<u64>) -> Told {
+    pub fn arc_begins(&mut self, op: ArcOp<u64>) -> NextReply {
         let (number, action, counting) = match op {
             ArcOp::New(value) => return Some(Reply::Arc(self.makes(Kind::Arc, Some(value)))),
-            ArcOp::Get(number) => return self.tells_shared(number),
+            ArcOp::Get(number) => return self.replies_shared(number),
             ArcOp::Put(number, value) => return self.puts(number, Kind::Arc, value),
             ArcOp::Clone(number) => (number, Action::Increment, Counting::Clone),
             ArcOp::Drop(number) => (number, Action::Decrement, Counting::Drop),
@@ -23,7 +23,7 @@ impl Machine {
     }
 
     // A copy of the value, which isn't out.
-    fn tells_shared(&mut self, number: usize) -> Told {
+    fn replies_shared(&mut self, number: usize) -> NextReply {
         let arc = self.object(number, Kind::Arc);
         let (is_out, value) = (arc.lent.is_some(), arc.value);
         self.check(!is_out, FailureKind::Misuse);
@@ -31,7 +31,7 @@ impl Machine {
     }
 
     /// The operation of a counted reference takes effect.
-    pub fn counts(&mut self, number: usize, counting: Counting) -> Told {
+    pub fn counts(&mut self, number: usize, counting: Counting) -> NextReply {
         let arc = self.object(number, Kind::Arc);
         let (is_out, count) = (arc.lent.is_some(), arc.count);
         self.check(!is_out, FailureKind::Misuse);
@@ -70,7 +70,7 @@ impl Machine {
     }
 
     // One reference fewer; who drops the last one has the value.
-    fn drops_arc(&mut self, number: usize) -> Told {
+    fn drops_arc(&mut self, number: usize) -> NextReply {
         if !self.drops_one(number) {
             return Some(Reply::Done);
         }
@@ -79,7 +79,7 @@ impl Machine {
     }
 
     /// An operation of a tracked value.
-    pub fn track_begins(&mut self, op: TrackOp<u64>) -> Told {
+    pub fn track_begins(&mut self, op: TrackOp<u64>) -> NextReply {
         match op {
             TrackOp::New(value) => Some(Reply::Track(self.makes(Kind::Track, Some(value)))),
             TrackOp::GetRef(number) => {

@@ -2,6 +2,7 @@
 use crate::machine::Machine;
 use crate::memory::push;
 use crate::run::Reversal;
+use loom_views::rt::MAX_THREADS;
 use loom_views::rt::failure::FailureKind;
 
 /// What an operation does to its object, as far as others depend on it.
@@ -15,7 +16,7 @@ pub enum Action {
     Increment,
     /// It drops a counted reference, or tests whether it has the one reference alone.
     Decrement,
-    /// It tells how many counted references there are.
+    /// It asks how many counted references there are.
     Inspect,
     /// It sends to a channel.
     Send,
@@ -39,7 +40,7 @@ pub struct Access {
     place: usize,
 }
 
-// Whether an access depends on such an earlier one to the same object.
+// Whether an access depends on an earlier one that does this to its object.
 fn depends(action: Action, earlier: Action) -> bool {
     match action {
         Action::Read => matches!(earlier, Action::Change),
@@ -69,18 +70,16 @@ impl Machine {
     fn unordered(&mut self, number: u8) -> Option<usize> {
         let thread = self.thread(number);
         let (pending, own) = (thread.pending, thread.last);
-        let Some(action) = pending.action else {
-            return None;
-        };
+        let action = pending.action?;
         match self.last_before(pending.number, action) {
             Some(access) if !self.rest.order.reaches(access.point, own) => Some(access.place),
-            Some(_) | None => None,
+            _ => None,
         }
     }
 
     /// Which threads are about to make accesses that depend on ones that they aren't ordered after.
     pub fn finds_reversals(&mut self) {
-        for thread in 0..5u8 {
+        for thread in 0..MAX_THREADS as u8 {
             if let Some(place) = self.unordered(thread) {
                 let reversals = &mut self.rest.run.reversals;
                 push(reversals, Reversal { thread, place }, &mut self.halt);

@@ -12,5 +12,5 @@ pub enum Halt {
     Broken,
 }
 
-/// What the active thread is told, or nothing where it comes to a branch point.
-pub type Told = Option<Reply<u64>>;
+/// The reply that the active thread gets, or nothing where it is at a branch point.
+pub type NextReply = Option<Reply<u64>>;

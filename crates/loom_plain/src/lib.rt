@@ -1,7 +1,7 @@
-//! A slow program that makes the runs of a body by the rules themselves: threads and objects in lists, views as a graph of
-//! points, all stores of an atomic, dependence as a second graph. It has no path and no vectors, and no wrong bodies are
-//! tried on it: what a check finds is compared with what it finds. It uses the scripts of `loom_examples` and the operations
-//! of `loom_objects`, and nothing of the code that it is compared with. `loom_tests` compares.
+//! A slow model checker that makes the runs of a body by the rules themselves: threads and objects in lists, views as a graph of
+//! points, all stores of an atomic, dependence as a second graph. It has no path and no vectors. `loom_tests` compares the runs that
+//! a check finds with those that this one finds. It uses the operations of `loom_objects`, the kinds of failure and the limits of
+//! `loom_views`, and nothing of the code that it is compared with.
 #![tactic(auto)]
 
 pub mod atomics;

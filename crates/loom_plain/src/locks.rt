@@ -1,42 +1,35 @@
 //! Mutexes and read-write locks.
 use crate::dependence::Action;
-use crate::halt::Told;
+use crate::halt::NextReply;
 use crate::machine::Machine;
 use crate::state::{Claim, Kind, State, Step};
 use loom_objects::operation::{MutexOp, Reply, RwLockOp};
+use loom_views::rt::MAX_THREADS;
 use loom_views::rt::failure::FailureKind;
 
 impl Claim {
     // Whether who takes the lock so reads.
     fn is_read(self) -> bool {
-        match self {
-            Claim::Read | Claim::TryRead => true,
-            Claim::Write | Claim::TryWrite | Claim::Lock | Claim::TryLock | Claim::Relock => false,
-        }
+        matches!(self, Claim::Read | Claim::TryRead)
     }
 
     // Whether who takes the lock so doesn't wait for it.
     fn is_try(self) -> bool {
-        match self {
-            Claim::TryRead | Claim::TryWrite | Claim::TryLock => true,
-            Claim::Read | Claim::Write | Claim::Lock | Claim::Relock => false,
-        }
+        matches!(self, Claim::TryRead | Claim::TryWrite | Claim::TryLock)
     }
 
     // What taking the lock so does, as far as others depend on it.
     fn action(self) -> Action {
         match self {
             Claim::Write | Claim::TryWrite => Action::Write,
-            Claim::Read | Claim::TryRead | Claim::Lock | Claim::TryLock | Claim::Relock => {
-                Action::Other
-            }
+            _ => Action::Other,
         }
     }
 }
 
 impl Machine {
     /// An operation of a mutex is handed over.
-    pub fn mutex_begins(&mut self, op: MutexOp<u64>) -> Told {
+    pub fn mutex_begins(&mut self, op: MutexOp<u64>) -> NextReply {
         match op {
             MutexOp::New(value) => Some(Reply::Mutex(self.makes(Kind::Mutex, Some(value)))),
             MutexOp::Lock(number) => self.claim_begins(number, Kind::Mutex, Claim::Lock),
@@ -52,7 +45,7 @@ impl Machine {
     }
 
     /// An operation of a read-write lock is handed over.
-    pub fn rwlock_begins(&mut self, op: RwLockOp<u64>) -> Told {
+    pub fn rwlock_begins(&mut self, op: RwLockOp<u64>) -> NextReply {
         match op {
             RwLockOp::New(value) => Some(Reply::RwLock(self.makes(Kind::RwLock, Some(value)))),
             RwLockOp::Read(number) => self.claim_begins(number, Kind::RwLock, Claim::Read),
@@ -71,14 +64,14 @@ impl Machine {
     }
 
     /// The active thread comes to take the lock. A call that waits is blocked while the lock refuses it.
-    pub fn claim_begins(&mut self, number: usize, kind: Kind, claim: Claim) -> Told {
+    pub fn claim_begins(&mut self, number: usize, kind: Kind, claim: Claim) -> NextReply {
         let is_refused = self.object(number, kind).is_open(!claim.is_read());
         let is_blocked = is_refused && !claim.is_try();
         self.pends(number, claim.action(), Step::Claim(claim), is_blocked)
     }
 
     /// The active thread takes the lock, or finds it taken. Who waits for a taken one isn't chosen.
-    pub fn claims(&mut self, number: usize, claim: Claim) -> Told {
+    pub fn claims(&mut self, number: usize, claim: Claim) -> NextReply {
         let lock = self.at(number);
         let is_usable = lock.is_whole && lock.lent.is_none();
         let is_refused = lock.is_open(!claim.is_read());
@@ -119,11 +112,11 @@ impl Machine {
     }
 
     // The active thread, which has a guard for reading, ends one.
-    fn read_release(&mut self, number: usize) -> Told {
+    fn read_release(&mut self, number: usize) -> NextReply {
         let active = self.active;
         let lock = self.object(number, Kind::RwLock);
         let is_reading = lock.closes(active);
-        let is_free = lock.readers == [0; 5];
+        let is_free = lock.readers == [0; MAX_THREADS];
         self.check(is_reading, FailureKind::Misuse);
         self.releases_to(number);
         if is_free {

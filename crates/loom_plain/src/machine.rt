@@ -2,22 +2,23 @@
 use crate::choices::Past;
 use crate::dependence::{Access, Action};
 use crate::graph::Graph;
-use crate::halt::{Halt, Told};
+use crate::halt::{Halt, NextReply};
 use crate::memory::push;
 use crate::run::{PlainRun, Settings};
 use crate::state::{Object, Pending, State, Step, Thread};
 use loom_objects::choice::Choice;
 use loom_objects::operation::Lazy;
+use loom_views::rt::MAX_THREADS;
 use loom_views::rt::failure::FailureKind;
 use loom_views::sequence::Sequence;
 use std::alloc::Global;
 
-/// What few moves of a run change. It stands apart, since each method of the machine has all fields of that in its meaning.
+/// What few moves of a run change, apart from the rest of its state.
 #[derive(Drop)]
 pub struct Rest {
-    /// Stands for a thread that isn't there, and is never chosen.
+    /// In place of a thread that isn't there. It is never chosen.
     pub nobody: Thread,
-    /// Stands for an object that isn't there.
+    /// In place of an object that isn't there.
     pub nothing: Object,
     /// The points of accesses to objects, and the accesses, from the first one.
     pub order: Graph,
@@ -28,7 +29,7 @@ pub struct Rest {
     pub given: Vec<Choice>,
     /// What was chosen.
     pub run: PlainRun,
-    /// What the schedules that were made come to.
+    /// What is known of the schedules that were made.
     pub past: Past,
     /// Whether other options are tried at the choices that come.
     pub is_exploring: bool,
@@ -94,7 +95,7 @@ impl Machine {
         value.unwrap_or(0)
     }
 
-    /// The thread of this number, or who stands for it.
+    /// The thread of this number, or nobody.
     pub fn thread(&mut self, number: u8) -> &mut Thread {
         self.threads
             .get_mut(usize::from(number))
@@ -151,7 +152,13 @@ impl Machine {
     }
 
     /// The active thread comes to a branch point, where it is to do this to the object.
-    pub fn pends(&mut self, number: usize, action: Action, step: Step, is_blocked: bool) -> Told {
+    pub fn pends(
+        &mut self,
+        number: usize,
+        action: Action,
+        step: Step,
+        is_blocked: bool,
+    ) -> NextReply {
         let me = self.me();
         me.pending = Pending {
             number,
@@ -165,7 +172,7 @@ impl Machine {
     }
 
     /// The active thread comes to a branch point in this state, where others depend on nothing that it does to an object.
-    pub fn steps_back(&mut self, state: State, number: usize, step: Step) -> Told {
+    pub fn steps_back(&mut self, state: State, number: usize, step: Step) -> NextReply {
         let me = self.me();
         me.pending = Pending {
             number,
@@ -178,7 +185,7 @@ impl Machine {
 
     /// Each other thread that is about to do this to the object, or whatever is done to it, comes to this state.
     pub fn set_pending(&mut self, number: usize, action: Option<Action>, state: State) {
-        for other in 0..5u8 {
+        for other in 0..MAX_THREADS as u8 {
             let is_other = other != self.active;
             let thread = self.thread(other);
             let pending = thread.pending;

@@ -1,5 +1,5 @@
 //! Which runs a run calls for: marks and alternatives.
-use crate::choices::Made;
+use crate::choices::{MAX_OPTIONS, Made};
 use crate::halt::Halt;
 use crate::memory::push;
 use crate::run::{PlainRun, Reversal, Settings};
@@ -10,7 +10,8 @@ impl Made {
     // The thread of this number is marked, or each option but the default where it was disabled.
     fn mark(&mut self, number: usize) {
         if self.disabled.get(number).copied().unwrap_or(false) {
-            self.marks = [false, true, true, true, true, true, true];
+            self.marks = [true; MAX_OPTIONS];
+            self.marks[0] = false;
         } else if let Some(mark) = self.marks.get_mut(number.saturating_add(1)) {
             *mark = true;
         }
@@ -113,7 +114,7 @@ pub fn push_alternatives(
         return;
     }
     let tries_each = tries_each(settings, here);
-    for number in (0..7usize).rev() {
+    for number in (0..MAX_OPTIONS).rev() {
         if let Some(option) = here.tried(number, tries_each) {
             push_list(alloc, run.choices.as_slice(), place, option, lists, halt);
         }

@@ -1,15 +1,17 @@
 //! Notifiers.
+use crate::choices::MAX_OPTIONS;
 use crate::dependence::Action;
-use crate::halt::Told;
+use crate::halt::NextReply;
 use crate::machine::Machine;
 use crate::state::{Kind, State, Step};
 use loom_objects::choice::Choice;
 use loom_objects::operation::{NotifyOp, Reply};
+use loom_views::rt::MAX_THREADS;
 use loom_views::rt::failure::FailureKind;
 
 impl Machine {
     /// An operation of a notifier is handed over.
-    pub fn notify_begins(&mut self, op: NotifyOp) -> Told {
+    pub fn notify_begins(&mut self, op: NotifyOp) -> NextReply {
         match op {
             NotifyOp::New => Some(Reply::Notify(self.makes(Kind::Notify, None))),
             NotifyOp::Notify(number) => {
@@ -20,7 +22,7 @@ impl Machine {
     }
 
     /// The active thread comes to wait on the notifier, unless it wakes without a notification.
-    pub fn wait_begins(&mut self, number: usize) -> Told {
+    pub fn wait_begins(&mut self, number: usize) -> NextReply {
         let active = self.active;
         let notify = self.object(number, Kind::Notify);
         let is_second = notify.holder.is_some();
@@ -37,23 +39,17 @@ impl Machine {
 
     // Whether the thread wakes without a notification is chosen.
     fn wakes_early(&mut self) -> bool {
-        let options = [
-            Some(Choice::Spurious(false)),
-            Some(Choice::Spurious(true)),
-            None,
-            None,
-            None,
-            None,
-            None,
-        ];
+        let mut options = [None; MAX_OPTIONS];
+        options[0] = Some(Choice::Spurious(false));
+        options[1] = Some(Choice::Spurious(true));
         match self.choose(options, false) {
             Some(Choice::Spurious(wakes)) => wakes,
-            Some(Choice::Thread(_) | Choice::Load(_)) | None => false,
+            _ => false,
         }
     }
 
-    /// The active thread has woken, by a notification or without one, and is told so.
-    pub fn awaits(&mut self, number: usize, is_notified: bool) -> Told {
+    /// The active thread has woken, by a notification or without one.
+    pub fn awaits(&mut self, number: usize, is_notified: bool) -> NextReply {
         self.at(number).holder = None;
         if is_notified {
             self.acquires_notice(number);
@@ -72,7 +68,7 @@ impl Machine {
     pub fn notifies(&mut self, number: usize) {
         self.releases_to(number);
         self.at(number).is_notified = true;
-        for thread in 0..5u8 {
+        for thread in 0..MAX_THREADS as u8 {
             if thread != self.active {
                 self.tells_waiter(thread, number);
             }

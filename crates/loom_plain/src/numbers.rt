@@ -4,10 +4,10 @@ use loom_views::rt::num::change::Change;
 
 // Whether the type has negative numbers.
 fn is_signed(numbers: Numbers) -> bool {
-    match numbers {
-        Numbers::Bool | Numbers::U8 | Numbers::U16 | Numbers::U32 | Numbers::U64 => false,
-        Numbers::I8 | Numbers::I16 | Numbers::I32 | Numbers::I64 => true,
-    }
+    matches!(
+        numbers,
+        Numbers::I8 | Numbers::I16 | Numbers::I32 | Numbers::I64
+    )
 }
 
 // Ones in the lowest bits, as many as the type has.

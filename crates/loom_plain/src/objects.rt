@@ -1,6 +1,6 @@
 //! The objects of a run, in one list. To use one that isn't there, isn't whole or is of another kind is a misuse.
 use crate::dependence::Action;
-use crate::halt::Told;
+use crate::halt::NextReply;
 use crate::machine::Machine;
 use crate::memory::push;
 use crate::state::{Kind, Object, State, Step};
@@ -11,22 +11,10 @@ impl Object {
     // What is left of it that has to be given back.
     fn leak(&self) -> Option<FailureKind> {
         match self.kind {
-            Kind::Arc | Kind::Wakers if self.is_whole => Some(FailureKind::LeakArc),
+            Kind::Arc | Kind::Waker if self.is_whole => Some(FailureKind::LeakArc),
             Kind::Track if self.is_whole => Some(FailureKind::LeakTrack),
             Kind::Channel if !self.messages.is_empty() => Some(FailureKind::LeakMessages),
-            Kind::Atomic
-            | Kind::Cell
-            | Kind::Arc
-            | Kind::Track
-            | Kind::Mutex
-            | Kind::RwLock
-            | Kind::Condvar
-            | Kind::Notify
-            | Kind::End
-            | Kind::Channel
-            | Kind::Wakers
-            | Kind::Place
-            | Kind::Nothing => None,
+            _ => None,
         }
     }
 }
@@ -43,14 +31,14 @@ impl Machine {
         None
     }
 
-    /// The object of this number, or what stands for it.
+    /// The object of this number, or the one that is nothing.
     pub fn at(&mut self, number: usize) -> &mut Object {
         self.objects
             .get_mut(number)
             .unwrap_or(&mut self.rest.nothing)
     }
 
-    /// The same, to be read.
+    /// The object of this number, or the one that is nothing, to be read.
     pub fn read(&self, number: usize) -> &Object {
         self.objects.get(number).unwrap_or(&self.rest.nothing)
     }
@@ -72,7 +60,7 @@ impl Machine {
     }
 
     /// The active thread comes to a branch point, where it is to do this to the object, which is whole and of this kind.
-    pub fn comes_to(&mut self, number: usize, kind: Kind, action: Action, step: Step) -> Told {
+    pub fn comes_to(&mut self, number: usize, kind: Kind, action: Action, step: Step) -> NextReply {
         self.object(number, kind);
         self.pends(number, action, step, false)
     }
@@ -106,7 +94,7 @@ impl Machine {
     }
 
     /// The value of an object that nobody holds goes out. Whether the object may be used afterwards.
-    pub fn lends(&mut self, number: usize, kind: Kind, is_whole: bool) -> Told {
+    pub fn lends(&mut self, number: usize, kind: Kind, is_whole: bool) -> NextReply {
         let active = self.active;
         let object = self.object(number, kind);
         let is_free = object.lent.is_none() && !object.is_open(true);
@@ -119,7 +107,7 @@ impl Machine {
     }
 
     /// The active thread, which has the value out, puts it back.
-    pub fn puts(&mut self, number: usize, kind: Kind, value: u64) -> Told {
+    pub fn puts(&mut self, number: usize, kind: Kind, value: u64) -> NextReply {
         let active = self.active;
         let object = self.object(number, kind);
         let is_out = object.lent == Some(active);

@@ -1,13 +1,14 @@
 //! One run: the operations of the threads, one after another.
-use crate::choices::{Made, Options, Past};
+use crate::choices::{MAX_OPTIONS, Made, Options, Past};
 use crate::graph::Graph;
-use crate::halt::{Halt, Told};
+use crate::halt::{Halt, NextReply};
 use crate::machine::{Machine, Rest};
 use crate::memory::push;
 use crate::state::{Kind, Object, State, Step, Thread};
 use loom_objects::body::Body;
 use loom_objects::choice::Choice;
 use loom_objects::operation::{Reply, Request};
+use loom_views::rt::MAX_THREADS;
 use loom_views::rt::failure::FailureKind;
 use loom_views::sequence::Sequence;
 use std::alloc::Global;
@@ -48,7 +49,7 @@ pub struct Reversal {
 pub struct PlainRun {
     /// Its choices, in order.
     pub choices: Vec<Choice>,
-    /// The same, with what else could have been chosen.
+    /// Its choices, each with what else could have been chosen.
     pub made: Vec<Made>,
     pub reversals: Vec<Reversal>,
     pub ending: Ending,
@@ -79,7 +80,7 @@ fn makes_run<B: Body<Data = u64>>(machine: &mut Machine, body: &B, steps: usize)
     goes_on(machine, &mut bodies, steps);
 }
 
-// One more body, in the same state as this one.
+// One more body, in the state that this one is in.
 fn push_copy<B: Body<Data = u64>>(bodies: &mut Vec<B>, body: &B, halt: &mut Option<Halt>) {
     match body.try_clone() {
         Ok(copy) => push(bodies, copy, halt),
@@ -140,20 +141,20 @@ fn goes_on<B: Body<Data = u64>>(machine: &mut Machine, bodies: &mut Vec<B>, step
     let mut reply = Reply::Start;
     for _ in 0..steps {
         match step(machine, bodies, reply) {
-            Some(told) => reply = told,
+            Some(next) => reply = next,
             None => return,
         }
     }
     machine.check(false, FailureKind::TooManySteps);
 }
 
-// The thread whose turn it is is told the reply, unless the run has halted, and hands its next operation over. Gives what is told
-// next, or nothing at the run's end.
+// The thread whose turn it is gets the reply, unless the run has halted, and hands its next operation over. Gives the next
+// reply, or nothing at the run's end.
 fn step<B: Body<Data = u64>>(
     machine: &mut Machine,
     bodies: &mut Vec<B>,
     reply: Reply<u64>,
-) -> Told {
+) -> NextReply {
     let place = if machine.has_halted() {
         bodies.len()
     } else {
@@ -183,30 +184,30 @@ impl Machine {
         push(&mut self.threads, main, &mut self.halt);
     }
 
-    // The active thread hands the operation over. Gives what is told to the thread whose turn it is then, or nothing at the
-    // run's end.
-    fn submit(&mut self, request: Request<u64, ()>) -> Told {
+    // The active thread hands the operation over. Gives the reply to the thread whose turn it is then, or nothing at the run's
+    // end.
+    fn submit(&mut self, request: Request<u64, ()>) -> NextReply {
         match self.begins(request) {
-            Some(told) => Some(told),
-            None => self.goes_to_told(),
+            Some(reply) => Some(reply),
+            None => self.goes_to_reply(),
         }
     }
 
-    // Threads are chosen until one is told something, or none is left.
-    fn goes_to_told(&mut self) -> Told {
+    // Threads are chosen until one gets a reply, or none is left.
+    fn goes_to_reply(&mut self) -> NextReply {
         for _ in 0..self.rest.settings.max_branches.saturating_add(1) {
             if !self.schedule() {
                 return None;
             }
-            if let Some(told) = self.takes_effect() {
-                return Some(told);
+            if let Some(reply) = self.takes_effect() {
+                return Some(reply);
             }
         }
         None
     }
 
-    // Nothing is told where the thread comes to a branch point.
-    fn begins(&mut self, request: Request<u64, ()>) -> Told {
+    // There is no reply where the thread is at a branch point.
+    fn begins(&mut self, request: Request<u64, ()>) -> NextReply {
         match request {
             Request::Atomic(op) => self.atomic_begins(op),
             Request::Fence(order) => self.fence(order),
@@ -219,7 +220,7 @@ impl Machine {
             Request::Notify(op) => self.notify_begins(op),
             Request::Channel(op) => self.channel_begins(op),
             Request::Waker(op) => self.waker_begins(op),
-            Request::AtomicWaker(op) => self.place_begins(op),
+            Request::AtomicWaker(op) => self.atomic_waker_begins(op),
             Request::Local(op) => self.local_begins(op),
             Request::Lazy(op) => self.lazy_begins(op),
             Request::Explore(op) => self.switches(op),
@@ -235,8 +236,8 @@ impl Machine {
         }
     }
 
-    // What the chosen thread has pending takes effect. Nothing is told where it comes to another branch point.
-    fn takes_effect(&mut self) -> Told {
+    // What the chosen thread has pending takes effect. There is no reply where it is at another branch point.
+    fn takes_effect(&mut self) -> NextReply {
         let me = self.me();
         let (number, step) = (me.pending.number, me.pending.step);
         me.pending.action = None;
@@ -281,7 +282,7 @@ impl Machine {
         self.active = chosen;
         self.makes_access(place);
         // Each other thread that yields is runnable again.
-        for number in 0..5u8 {
+        for number in 0..MAX_THREADS as u8 {
             let is_other = number != self.active;
             let thread = self.thread(number);
             if is_other && matches!(thread.state, State::Yielding) {
@@ -292,22 +293,22 @@ impl Machine {
     }
 
     /// Of each thread whether it could neither go on nor yielded.
-    pub fn disabled(&mut self) -> [bool; 5] {
-        [
-            self.lateness(0) == u64::MAX,
-            self.lateness(1) == u64::MAX,
-            self.lateness(2) == u64::MAX,
-            self.lateness(3) == u64::MAX,
-            self.lateness(4) == u64::MAX,
-        ]
+    pub fn disabled(&mut self) -> [bool; MAX_THREADS] {
+        let mut disabled = [false; MAX_THREADS];
+        for number in 0..MAX_THREADS as u8 {
+            if let Some(is_disabled) = disabled.get_mut(usize::from(number)) {
+                *is_disabled = self.lateness(number) == u64::MAX;
+            }
+        }
+        disabled
     }
 
     // The default, and each other thread that is runnable.
     fn thread_options(&mut self) -> Options {
         let default = self.default_thread();
-        let mut options = [None; 7];
+        let mut options = [None; MAX_OPTIONS];
         options[0] = Some(Choice::Thread(default));
-        for number in 0..5u8 {
+        for number in 0..MAX_THREADS as u8 {
             if default != Some(number)
                 && matches!(self.thread(number).state, State::Runnable)
                 && let Some(option) = options.get_mut(usize::from(number).saturating_add(1))
@@ -327,7 +328,7 @@ impl Machine {
             State::Runnable if is_active => 0,
             State::Runnable => thread.yields.saturating_add(1),
             State::Yielding => u64::MAX - 1,
-            State::Blocked | State::Parked | State::Sleeping | State::Ended => u64::MAX,
+            _ => u64::MAX,
         }
     }
 
@@ -335,7 +336,7 @@ impl Machine {
     fn default_thread(&mut self) -> Option<u8> {
         let mut first = None;
         let mut least = u64::MAX;
-        for number in 0..5u8 {
+        for number in 0..MAX_THREADS as u8 {
             let late = self.lateness(number);
             if late < least {
                 first = Some(number);

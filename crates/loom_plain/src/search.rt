@@ -114,16 +114,13 @@ impl Search {
             reversals: _,
             ending,
         } = run;
-        self.is_over = match ending {
-            Ending::Failed(_) => self.is_in_order,
-            Ending::Ended(_) => false,
-        };
+        self.is_over = self.is_in_order && matches!(ending, Ending::Failed(_));
         push(&mut self.found, Found { choices, ending }, &mut self.halt);
         push(&mut self.made, made, &mut self.halt);
     }
 }
 
-// The runs of the search, unless it comes to so many.
+// The runs of the search, unless there are so many.
 fn found_by<B: Body<Data = u64>>(
     mut search: Search,
     body: &B,

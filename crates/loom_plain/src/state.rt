@@ -1,6 +1,7 @@
 //! What threads and objects are.
 use crate::dependence::Action;
 use loom_objects::operation::Name;
+use loom_views::rt::MAX_THREADS;
 use loom_views::rt::num::Numbers;
 use loom_views::rt::num::change::Change;
 use std::alloc::Global;
@@ -18,7 +19,7 @@ pub enum State {
     Ended,
 }
 
-/// How far a thread has come to its end.
+/// How near a thread is to its end.
 #[derive(Clone, Copy, PartialEq, Eq)]
 pub enum Phase {
     Working,
@@ -90,7 +91,7 @@ pub struct Update {
     pub failure: Ordering,
     /// The ordering of a load; a read-modify-write has none.
     pub load: Option<Ordering>,
-    /// Whether it is told that something was stored.
+    /// Whether the reply says if something was stored.
     pub is_exchange: bool,
 }
 
@@ -100,7 +101,7 @@ pub enum Step {
     Nothing,
     /// It begins.
     Start,
-    /// It goes on, and is told nothing but that.
+    /// It goes on, and the reply says no more.
     Continue,
     /// It loads from an atomic, and may store.
     Update(Update),
@@ -110,7 +111,7 @@ pub enum Step {
     Claim(Claim),
     /// It falls asleep on the condition variable and releases this mutex, with this value. How it takes that again.
     Sleep(usize, u64, Claim),
-    /// It was woken, and comes to the mutex.
+    /// It was woken, and is to take the mutex again.
     Awake(Claim),
     /// It wakes so many threads that wait on the condition variable, as far as there are any.
     WakeUp(u8),
@@ -192,13 +193,13 @@ pub struct Store {
     /// Its place among all stores of the atomic; the initial one has 0.
     pub number: usize,
     pub value: u64,
-    /// The point by which it stands in the modification order.
+    /// The point of its place in the modification order.
     pub order: usize,
     /// The point that is acquired with it.
     pub sync: usize,
     pub is_seq_cst: bool,
     /// Of each thread that has touched it: the last point that had raised the thread at its first touch, or 0.
-    pub touches: [Option<usize>; 5],
+    pub touches: [Option<usize>; MAX_THREADS],
 }
 
 /// What kind of access to an atomic or a cell was made.
@@ -241,10 +242,10 @@ pub enum Kind {
     End,
     Channel,
     /// The wakers of a future, counted.
-    Wakers,
+    Waker,
     /// A place for a waker, with its lock.
-    Place,
-    /// It stands for an object that isn't there.
+    AtomicWaker,
+    /// In place of an object that isn't there.
     Nothing,
 }
 
@@ -261,7 +262,7 @@ pub struct Object {
     /// The thread that has the value out without holding.
     pub lent: Option<u8>,
     /// How many reads of a cell or a lock each thread has open.
-    pub readers: [u64; 5],
+    pub readers: [u64; MAX_THREADS],
     /// How many references, senders or wakers there are.
     pub count: u64,
     /// The point that is acquired with it.
@@ -282,7 +283,7 @@ pub struct Object {
     pub messages: LinkedList<Message>,
     /// The notifier of wakers.
     pub notifier: usize,
-    /// The waker in a place.
+    /// The waker in an atomic waker.
     pub waker: Option<usize>,
 }
 
@@ -325,7 +326,7 @@ impl Object {
             value,
             holder: None,
             lent: None,
-            readers: [0; 5],
+            readers: [0; MAX_THREADS],
             count: 1,
             point: 0,
             numbers: Numbers::Bool,

@@ -1,12 +1,11 @@
-//! The stores of an atomic: which are seen, which stand below others, and which may be read.
-use crate::choices::Options;
+//! The stores of an atomic: which are seen, which are below others, and which may be read. The last `MAX_ATOMIC_HISTORY` are kept,
+//! each in the slot that is the rest of its number by that.
+use crate::choices::{MAX_OPTIONS, Options};
 use crate::graph::Graph;
 use crate::state::Store;
 use loom_objects::choice::Choice;
+use loom_views::rt::MAX_ATOMIC_HISTORY;
 use std::sync::atomic::Ordering;
-
-/// How many stores of an atomic are kept: the last ones. The slot of a store is the rest of its number by that.
-pub const KEPT: usize = 7;
 
 /// Who looks for a store to read.
 #[derive(Clone, Copy)]
@@ -23,14 +22,14 @@ pub struct Reader {
 /// The stores that are kept, from the oldest.
 pub fn kept(stores: &[Store]) -> &[Store] {
     stores
-        .get(stores.len().saturating_sub(KEPT)..)
+        .get(stores.len().saturating_sub(MAX_ATOMIC_HISTORY)..)
         .unwrap_or(stores)
 }
 
 /// The kept store in the slot.
 pub fn store_in(stores: &[Store], wanted: usize) -> Option<&Store> {
     for store in kept(stores) {
-        if store.number % KEPT == wanted {
+        if store.number % MAX_ATOMIC_HISTORY == wanted {
             return Some(store);
         }
     }
@@ -66,7 +65,7 @@ fn is_before_yield(reader: Reader, store: &Store) -> bool {
         store.touches.get(usize::from(reader.thread)),
     ) {
         (Some(yielded), Some(Some(touch))) => *touch <= yielded,
-        (Some(_), Some(None) | None) | (None, _) => false,
+        _ => false,
     }
 }
 
@@ -97,7 +96,7 @@ fn is_dropped(
     below: usize,
 ) -> bool {
     for other in kept(stores) {
-        if other.number % KEPT < below && drops(graph, reader, other, store) {
+        if other.number % MAX_ATOMIC_HISTORY < below && drops(graph, reader, other, store) {
             return true;
         }
     }
@@ -110,7 +109,13 @@ fn has_equal(graph: &Graph, reader: Reader, stores: &[Store], store: &Store) -> 
         if other.number != store.number
             && graph.is_inside(store.order, other.order)
             && graph.is_inside(other.order, store.order)
-            && !is_dropped(graph, reader, stores, store, other.number % KEPT)
+            && !is_dropped(
+                graph,
+                reader,
+                stores,
+                store,
+                other.number % MAX_ATOMIC_HISTORY,
+            )
         {
             return true;
         }
@@ -118,7 +123,7 @@ fn has_equal(graph: &Graph, reader: Reader, stores: &[Store], store: &Store) -> 
     false
 }
 
-/// Whether the orders of two kept stores are equal, so that it can't be told which may be read.
+/// Whether the orders of two kept stores are equal, so that it isn't known which may be read.
 pub fn are_orders_equal(graph: &Graph, reader: Reader, stores: &[Store]) -> bool {
     for store in kept(stores) {
         if has_equal(graph, reader, stores, store) {
@@ -130,10 +135,10 @@ pub fn are_orders_equal(graph: &Graph, reader: Reader, stores: &[Store]) -> bool
 
 /// The slots that may be read, in rising order.
 pub fn readable(graph: &Graph, reader: Reader, stores: &[Store]) -> Options {
-    let mut slots = [None; 7];
-    for number in 0..7u8 {
+    let mut slots = [None; MAX_OPTIONS];
+    for number in 0..MAX_ATOMIC_HISTORY as u8 {
         if let Some(store) = store_in(stores, usize::from(number))
-            && !is_dropped(graph, reader, stores, store, KEPT)
+            && !is_dropped(graph, reader, stores, store, MAX_ATOMIC_HISTORY)
             && let Some(option) = slots.get_mut(usize::from(number))
         {
             *option = Some(Choice::Load(number));

@@ -1,6 +1,6 @@
 //! Threads: spawns, joins, tokens, yields, ends.
 use crate::dependence::Action;
-use crate::halt::Told;
+use crate::halt::NextReply;
 use crate::machine::Machine;
 use crate::memory::push;
 use crate::state::{Kind, Phase, State, Step, Thread};
@@ -9,7 +9,7 @@ use loom_views::rt::failure::FailureKind;
 
 impl Machine {
     /// An operation of threads is handed over.
-    pub fn thread_begins(&mut self, op: ThreadOp<u64, ()>) -> Told {
+    pub fn thread_begins(&mut self, op: ThreadOp<u64, ()>) -> NextReply {
         match op {
             ThreadOp::Spawn((), name) => self.spawn(name),
             ThreadOp::Join(thread, notifier) => self.join_begins(thread, notifier),
@@ -39,7 +39,7 @@ impl Machine {
         self.check(is_from, FailureKind::Misuse);
     }
 
-    fn spawn(&mut self, name: Option<Name>) -> Told {
+    fn spawn(&mut self, name: Option<Name>) -> NextReply {
         let count = self.threads.len();
         let most = self.rest.settings.max_threads;
         self.check(count < most, FailureKind::TooManyThreads);
@@ -60,7 +60,7 @@ impl Machine {
         Some(Reply::Spawned(number, name, notifier))
     }
 
-    fn join_begins(&mut self, number: u8, notifier: usize) -> Told {
+    fn join_begins(&mut self, number: u8, notifier: usize) -> NextReply {
         let thread = self.thread(number);
         let may_join = thread.notifier == Some(notifier) && !thread.is_joined;
         thread.is_joined = true;
@@ -70,13 +70,13 @@ impl Machine {
     }
 
     /// The active thread has joined this one, which has the notifier.
-    pub fn joins(&mut self, notifier: usize, number: u8) -> Told {
+    pub fn joins(&mut self, notifier: usize, number: u8) -> NextReply {
         self.acquires_notice(notifier);
         let value = self.thread(number).value.take();
         Some(Reply::Data(self.required(value)))
     }
 
-    fn park(&mut self) -> Told {
+    fn park(&mut self) -> NextReply {
         let me = self.me();
         if me.has_token {
             me.has_token = false;
@@ -85,7 +85,7 @@ impl Machine {
         self.steps_back(State::Parked, 0, Step::Continue)
     }
 
-    fn unpark(&mut self, number: u8) -> Told {
+    fn unpark(&mut self, number: u8) -> NextReply {
         let is_there = usize::from(number) < self.threads.len();
         self.check(is_there, FailureKind::Misuse);
         if number != self.active {
@@ -103,14 +103,14 @@ impl Machine {
     }
 
     /// The active thread lets others go on first, and then does this.
-    pub fn yields(&mut self, number: usize, step: Step) -> Told {
+    pub fn yields(&mut self, number: usize, step: Step) -> NextReply {
         let me = self.me();
         me.yielded = Some(me.raised);
         me.yields = me.yields.saturating_add(1);
         self.steps_back(State::Yielding, number, step)
     }
 
-    fn finish_begins(&mut self, value: u64) -> Told {
+    fn finish_begins(&mut self, value: u64) -> NextReply {
         self.moves_on(Phase::Working, Phase::Finished);
         let me = self.me();
         me.value = Some(value);

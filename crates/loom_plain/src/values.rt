@@ -1,5 +1,5 @@
 //! Threads' own values, and values that are made once in a run.
-use crate::halt::Told;
+use crate::halt::NextReply;
 use crate::machine::Machine;
 use crate::state::{Local, Phase};
 use loom_objects::operation::{Keyed, Lazy, LazyOp, LocalOp, Reply};
@@ -22,7 +22,7 @@ impl Machine {
     }
 
     /// An operation of a thread's own values.
-    pub fn local_begins(&mut self, op: LocalOp<u64>) -> Told {
+    pub fn local_begins(&mut self, op: LocalOp<u64>) -> NextReply {
         match op {
             LocalOp::With(key) => self.reads_local(key, true),
             LocalOp::TryWith(key) => self.reads_local(key, false),
@@ -34,8 +34,8 @@ impl Machine {
         }
     }
 
-    // What is told of the value of this key. Whether the run fails where it was given back.
-    fn reads_local(&mut self, key: usize, is_needed: bool) -> Told {
+    // Replies the value of this key. Whether the run fails where it was given back.
+    fn reads_local(&mut self, key: usize, is_needed: bool) -> NextReply {
         match self.local_value(key, None) {
             Some(Some(value)) => Some(Reply::Data(value)),
             Some(None) => {
@@ -47,7 +47,7 @@ impl Machine {
     }
 
     // The first value of the key.
-    fn inits_local(&mut self, key: usize, value: u64) -> Told {
+    fn inits_local(&mut self, key: usize, value: u64) -> NextReply {
         let is_first = self.local_value(key, None).is_none();
         self.check(is_first, FailureKind::KeyTaken);
         let local = Local {
@@ -60,7 +60,7 @@ impl Machine {
     }
 
     /// The active thread gives its own values back.
-    pub fn takes_locals(&mut self) -> Told {
+    pub fn takes_locals(&mut self) -> NextReply {
         let mut given = Sequence::new(self.alloc);
         let mut has_grown = true;
         for local in self.me().locals.iter_mut() {
@@ -81,17 +81,13 @@ impl Machine {
                 made = Some((lazy.value, lazy.stamp));
             }
         }
-        match made {
-            Some((value, point)) => {
-                self.acquire(point);
-                Some(value)
-            }
-            None => None,
-        }
+        let (value, point) = made?;
+        self.acquire(point);
+        Some(value)
     }
 
     /// An operation of values that are made once in a run.
-    pub fn lazy_begins(&mut self, op: LazyOp<u64>) -> Told {
+    pub fn lazy_begins(&mut self, op: LazyOp<u64>) -> NextReply {
         let is_open = matches!(self.thread(0).phase, Phase::Working);
         self.check(is_open, FailureKind::LazyShutdown);
         match op {
@@ -107,7 +103,7 @@ impl Machine {
     }
 
     // The first value of the key.
-    fn inits_lazy(&mut self, key: usize, value: u64) -> Told {
+    fn inits_lazy(&mut self, key: usize, value: u64) -> NextReply {
         let stamp = self.released_to(0);
         let has_grown = self.rest.lazies.push(Lazy { key, value, stamp }).is_ok();
         self.grows(has_grown);
@@ -115,7 +111,7 @@ impl Machine {
     }
 
     /// The values that were made once in the run are given back.
-    pub fn takes_lazies(&mut self) -> Told {
+    pub fn takes_lazies(&mut self) -> NextReply {
         let none = Sequence::new(self.alloc);
         Some(Reply::Lazies(mem::replace(&mut self.rest.lazies, none)))
     }

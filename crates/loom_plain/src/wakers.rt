@@ -1,12 +1,12 @@
-//! Wakers of futures, and places for wakers.
+//! Wakers of futures, and atomic wakers: places for a waker, each with a lock.
 use crate::dependence::Action;
-use crate::halt::Told;
+use crate::halt::NextReply;
 use crate::machine::Machine;
 use crate::state::{AfterDrop, Kind, Step};
 use loom_objects::operation::{AtomicWakerOp, Reply, WakerOp};
 use loom_views::rt::failure::FailureKind;
 
-// What is told of a waker that was taken out of its place.
+// The reply of a waker that was taken out of its place.
 fn waker_reply(waker: Option<usize>) -> Reply<u64> {
     match waker {
         Some(number) => Reply::Waker(number),
@@ -16,26 +16,26 @@ fn waker_reply(waker: Option<usize>) -> Reply<u64> {
 
 impl Machine {
     /// An operation of a future's notifier or of its wakers is handed over.
-    pub fn waker_begins(&mut self, op: WakerOp) -> Told {
+    pub fn waker_begins(&mut self, op: WakerOp) -> NextReply {
         match op {
             // A notifier, and then the count of its wakers.
             WakerOp::New => {
                 let notifier = self.makes(Kind::Notify, None);
-                let number = self.makes(Kind::Wakers, None);
+                let number = self.makes(Kind::Waker, None);
                 self.at(number).notifier = notifier;
                 Some(Reply::BlockOn(number))
             }
             WakerOp::Wait(number) => {
-                let notifier = self.object(number, Kind::Wakers).notifier;
+                let notifier = self.object(number, Kind::Waker).notifier;
                 self.wait_begins(notifier)
             }
             WakerOp::Clone(number) => {
                 let step = Step::CloneWaker(None);
-                self.comes_to(number, Kind::Wakers, Action::Increment, step)
+                self.comes_to(number, Kind::Waker, Action::Increment, step)
             }
             WakerOp::Finish(number) | WakerOp::Drop(number) => {
                 let step = Step::DropWaker(AfterDrop::Nothing);
-                self.comes_to(number, Kind::Wakers, Action::Decrement, step)
+                self.comes_to(number, Kind::Waker, Action::Decrement, step)
             }
             WakerOp::Wake(number) => self.wake_begins(number, Some(AfterDrop::Nothing)),
             WakerOp::WakeByRef(number) => self.wake_begins(number, None),
@@ -43,14 +43,19 @@ impl Machine {
     }
 
     // The active thread comes to wake by the waker.
-    fn wake_begins(&mut self, number: usize, after: Option<AfterDrop>) -> Told {
-        let notifier = self.object(number, Kind::Wakers).notifier;
+    fn wake_begins(&mut self, number: usize, after: Option<AfterDrop>) -> NextReply {
+        let notifier = self.object(number, Kind::Waker).notifier;
         self.pends(notifier, Action::Other, Step::Wake(number, after), false)
     }
 
     /// The active thread wakes by the waker, and may come to drop that.
-    pub fn wakes_by(&mut self, notifier: usize, number: usize, after: Option<AfterDrop>) -> Told {
-        self.object(number, Kind::Wakers);
+    pub fn wakes_by(
+        &mut self,
+        notifier: usize,
+        number: usize,
+        after: Option<AfterDrop>,
+    ) -> NextReply {
+        self.object(number, Kind::Waker);
         self.notifies(notifier);
         match after {
             Some(after) => self.pends(number, Action::Decrement, Step::DropWaker(after), false),
@@ -59,8 +64,8 @@ impl Machine {
     }
 
     /// One waker more, which may be about to take a place.
-    pub fn clones_waker(&mut self, number: usize, place: Option<usize>) -> Told {
-        let wakers = self.object(number, Kind::Wakers);
+    pub fn clones_waker(&mut self, number: usize, place: Option<usize>) -> NextReply {
+        let wakers = self.object(number, Kind::Waker);
         wakers.count = wakers.count.saturating_add(1);
         match place {
             Some(place) => self.pends(place, Action::Other, Step::Register(number), false),
@@ -69,8 +74,8 @@ impl Machine {
     }
 
     /// One waker fewer; who drops the last one acquires.
-    pub fn drops_waker(&mut self, number: usize, after: AfterDrop) -> Told {
-        self.object(number, Kind::Wakers);
+    pub fn drops_waker(&mut self, number: usize, after: AfterDrop) -> NextReply {
+        self.object(number, Kind::Waker);
         self.drops_one(number);
         match after {
             AfterDrop::Nothing => Some(Reply::Done),
@@ -83,34 +88,39 @@ impl Machine {
     }
 
     /// An operation of a place for wakers is handed over.
-    pub fn place_begins(&mut self, op: AtomicWakerOp) -> Told {
+    pub fn atomic_waker_begins(&mut self, op: AtomicWakerOp) -> NextReply {
         match op {
-            AtomicWakerOp::New => Some(Reply::AtomicWaker(self.makes(Kind::Place, None))),
+            AtomicWakerOp::New => Some(Reply::AtomicWaker(self.makes(Kind::AtomicWaker, None))),
             AtomicWakerOp::Register(number, waker) => {
-                self.object(waker, Kind::Wakers);
-                self.comes_to(number, Kind::Place, Action::Other, Step::Register(waker))
+                self.object(waker, Kind::Waker);
+                self.comes_to(
+                    number,
+                    Kind::AtomicWaker,
+                    Action::Other,
+                    Step::Register(waker),
+                )
             }
             AtomicWakerOp::RegisterByRef(number, waker) => {
-                self.object(number, Kind::Place);
+                self.object(number, Kind::AtomicWaker);
                 let step = Step::CloneWaker(Some(number));
-                self.comes_to(waker, Kind::Wakers, Action::Increment, step)
+                self.comes_to(waker, Kind::Waker, Action::Increment, step)
             }
             AtomicWakerOp::Wake(number) => self.take_begins(number, true),
             AtomicWakerOp::TakeWaker(number) => self.take_begins(number, false),
             AtomicWakerOp::Drop(number) => {
-                Some(waker_reply(self.object(number, Kind::Place).waker.take()))
+                Some(waker_reply(self.object(number, Kind::AtomicWaker).waker.take()))
             }
         }
     }
 
     // The active thread comes to take the waker out, and is blocked while the place is held.
-    fn take_begins(&mut self, number: usize, wakes: bool) -> Told {
-        let is_held = self.object(number, Kind::Place).holder.is_some();
+    fn take_begins(&mut self, number: usize, wakes: bool) -> NextReply {
+        let is_held = self.object(number, Kind::AtomicWaker).holder.is_some();
         self.pends(number, Action::Other, Step::TakeWaker(wakes), is_held)
     }
 
     // The active thread holds the place, and leaves this waker there. Gives the old one.
-    fn holds_place(&mut self, number: usize, waker: Option<usize>) -> Option<usize> {
+    fn holds_atomic_waker(&mut self, number: usize, waker: Option<usize>) -> Option<usize> {
         let place = self.at(number);
         let (old, is_held) = (place.waker, place.holder.is_some());
         place.waker = waker;
@@ -121,12 +131,12 @@ impl Machine {
 
     /// The waker takes the place, and an old one is dropped while the place is held; where another thread holds it, the waker
     /// wakes and is dropped, and the active thread yields.
-    pub fn registers(&mut self, number: usize, waker: usize) -> Told {
-        self.object(waker, Kind::Wakers);
+    pub fn registers(&mut self, number: usize, waker: usize) -> NextReply {
+        self.object(waker, Kind::Waker);
         if self.at(number).holder.is_some() {
             return self.wake_begins(waker, Some(AfterDrop::Yield));
         }
-        match self.holds_place(number, Some(waker)) {
+        match self.holds_atomic_waker(number, Some(waker)) {
             Some(old) => {
                 let step = Step::DropWaker(AfterDrop::Free(number));
                 self.pends(old, Action::Decrement, step, false)
@@ -139,13 +149,13 @@ impl Machine {
     }
 
     /// The waker is taken out of the place, and may be about to wake.
-    pub fn takes_waker(&mut self, number: usize, wakes: bool) -> Told {
-        let waker = self.holds_place(number, None);
+    pub fn takes_waker(&mut self, number: usize, wakes: bool) -> NextReply {
+        let waker = self.holds_atomic_waker(number, None);
         self.frees(number);
         match waker {
             Some(waker) if wakes => self.wake_begins(waker, Some(AfterDrop::Nothing)),
             None if wakes => Some(Reply::Done),
-            Some(_) | None => Some(waker_reply(waker)),
+            _ => Some(waker_reply(waker)),
         }
     }
 }

@@ -6,7 +6,7 @@ use Rattle.std.specs.Str.{bytes_eq}
 use Rattle.loom.specs.declared.model.report.Report.{Report}
 use Rattle.loom_examples.specs.Rows.Builder.{builder_of}
 use Rattle.loom_examples.specs.Rows.Line.{report_text, status_of}
-use Rattle.loom_examples.specs.Rows.Printed.{ReportsScript}
+use Rattle.loom_examples.specs.Rows.Printed.{ReportsScript, ReportsWritten}
 use Rattle.loom_examples.specs.Measured.Body.{Named}
 use Rattle.loom_examples.specs.Measured.Table.{all, body_of}
 use Rattle.loom_examples.specs.declared.measured.Measured.{Measured}
@@ -36,5 +36,5 @@ abbrev pub PrintedNamed : List ℕ → Option (List ℕ) → Option (List ℕ) �
 PrintedNamed name old new status =
     (body : Named) × (report : Report)
     × (named_by all name ≡ Some body)
-    × ReportsScript body.steps (builder_of body.settings) report
+    × ReportsWritten body.steps (builder_of body.settings) report
     × PrintedLine name report old new status

@@ -8,7 +8,8 @@
 mod measuring;
 mod tour;
 
-use loom_examples::closures::rows::{Row, run_row};
+use loom_examples::closures::rows::{ClosureRow, run_row};
+use loom_examples::rows::options::{self, Asked};
 use loom_examples::rows::words;
 use std::env;
 use std::io::{self, Write};
@@ -33,30 +34,23 @@ fn run<
         .map(|word| word.as_str())
         .collect::<Vec<_>>(rt.alloc())?;
     let words = words.as_slice();
-    if is_tour(words) {
-        return take_tour(rt, out, err);
+    if let Some(row) = ClosureRow::meant_by(words) {
+        return run_row(rt, row, out, err);
     }
-    if let [option, names @ ..] = words
-        && *option == "--measure"
-    {
-        return Ok(measuring::measure_all(rt, names, out, err));
+    if words::has_option(words) {
+        match options::read(rt.alloc(), words) {
+            Ok(Asked::Tour) => return take_tour(rt, out, err),
+            Ok(Asked::Measure(names)) => {
+                return Ok(measuring::measure_all(rt, names.as_slice(), out, err));
+            }
+            _ => {}
+        }
     }
-    match Row::meant_by(words) {
-        Some(row) => run_row(rt, row, out, err),
-        None => Ok(words::run_words(rt, words, out, err)),
-    }
-}
-
-/// Whether the words ask for the tour.
-fn is_tour(words: &[&str]) -> bool {
-    match words {
-        [word] => *word == "--tour",
-        _ => false,
-    }
+    Ok(words::run_words(rt, words, out, err))
 }
 
 /// Prints the line of a first row, and then what the tour finds.
-fn take_tour<R: AllocGlobal + Files, O: Write, E: Write>(
+fn take_tour<R: AllocGlobal + Clock + Files, O: Write, E: Write>(
     rt: &R,
     out: &mut O,
     err: &mut E,

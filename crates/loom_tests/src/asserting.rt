@@ -1,5 +1,4 @@
-//! What a test asserts, and scripts that it has memory for. A call of one of these costs the proof less than an assertion where
-//! it stands.
+//! What a test asserts, and scripts that it has memory for.
 use loom_examples::scripts::script::Script;
 use loom_examples::scripts::step::Step;
 use std::process::Abort;

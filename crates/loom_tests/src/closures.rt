@@ -45,8 +45,7 @@ fn own_data_is_copied(rt: HostRuntime) {
     holds(&rt, matches!(Count(3).try_clone(), Ok(Count(3))));
 }
 
-/// Ends the test where this doesn't hold. (An assertion costs the proof seconds wherever it stands, and a call of this next to
-/// nothing.)
+/// Ends the test where this doesn't hold.
 fn holds(rt: &impl Abort, fact: bool) {
     assert!(rt; fact);
 }

@@ -36,7 +36,7 @@ impl Page {
         let _ = self.text.push_str(piece);
     }
 
-    /// The same so often.
+    /// Puts this behind the text so often.
     pub fn add_often(&mut self, piece: &str, times: usize) {
         for _ in 0..times {
             self.add(piece);
@@ -55,12 +55,12 @@ impl Page {
         }
     }
 
-    /// The same as a programmer reads it.
+    /// Puts this behind the text, as a programmer reads it.
     pub fn add_debug(&mut self, shown: &impl Debug) {
         let _ = write!(self.text, "{shown:?}");
     }
 
-    /// The same behind what stands there, if there is one.
+    /// Puts this behind the text as a programmer reads it, if there is one, with a semicolon before it.
     pub fn add_some<T: Debug + Drop>(&mut self, shown: Option<T>) {
         if let Some(shown) = shown {
             let _ = write!(self.text, "; {shown:?}");

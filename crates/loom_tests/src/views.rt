@@ -55,8 +55,8 @@ impl Call {
             AddStamp => page.add_debug(&views.add_stamp()),
             Spawn(parent) => page.add_debug(&views.spawn(parent)),
             Raise(thread) => page.add_debug(&views.raise(thread)),
-            Acquire(thread, place) => views.acquire(thread, place),
-            Release(thread, place, order) => views.release(thread, place, order),
+            Acquire(thread, at) => views.acquire(thread, at),
+            Release(thread, at, order) => views.release(thread, at, order),
             Stamp(thread, stamp) => views.stamp(thread, stamp),
             ReleaseToStamp(thread, stamp, order) => views.release_to_stamp(thread, stamp, order),
             AcquireFromStamp(thread, stamp) => views.acquire_from_stamp(thread, stamp),
@@ -64,31 +64,21 @@ impl Call {
             Fence(thread, order) => views.fence(thread, order),
             JoinThread(thread, other) => views.join_thread(thread, other),
             MarkYield(thread) => views.mark_yield(thread),
-            Readable(thread, place, reader) => page.add_debug(&views.readable(
-                thread, place, reader,
+            Readable(thread, at, reader) => page.add_debug(&views.readable(thread, at, reader)),
+            Load(thread, at, slot, order) => page.add_debug(&views.load(thread, at, slot, order)),
+            Store(thread, at, value, order) => page.add_debug(&views.store(
+                thread, at, value, order,
             )),
-            Load(thread, place, slot, order) => page.add_debug(&views.load(
-                thread, place, slot, order,
-            )),
-            Store(thread, place, value, order) => page.add_debug(&views.store(
-                thread, place, value, order,
-            )),
-            UpdateRead(thread, place, slot) => page.add_debug(&views.update_read(
-                thread, place, slot,
-            )),
-            UpdateWrite(thread, place, slot, value, order) => {
-                page.add_debug(&views.update_write(thread, place, slot, value, order))
+            UpdateRead(thread, at, slot) => page.add_debug(&views.update_read(thread, at, slot)),
+            UpdateWrite(thread, at, slot, value, order) => {
+                page.add_debug(&views.update_write(thread, at, slot, value, order))
             }
-            UpdateFail(thread, place, slot, order) => {
-                views.update_fail(thread, place, slot, order)
-            }
-            UnsyncLoad(thread, place) => page.add_debug(&views.unsync_load(thread, place)),
-            WithMut(thread, place) => page.add_debug(&views.with_mut(thread, place)),
-            WithMutEnd(thread, place, value) => page.add_debug(&views.with_mut_end(
-                thread, place, value,
-            )),
-            Read(thread, place) => page.add_debug(&views.read(thread, place)),
-            Write(thread, place) => page.add_debug(&views.write(thread, place)),
+            UpdateFail(thread, at, slot, order) => { views.update_fail(thread, at, slot, order) }
+            UnsyncLoad(thread, at) => page.add_debug(&views.unsync_load(thread, at)),
+            WithMut(thread, at) => page.add_debug(&views.with_mut(thread, at)),
+            WithMutEnd(thread, at, value) => page.add_debug(&views.with_mut_end(thread, at, value)),
+            Read(thread, at) => page.add_debug(&views.read(thread, at)),
+            Write(thread, at) => page.add_debug(&views.write(thread, at)),
         }
     }
 }

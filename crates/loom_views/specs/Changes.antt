@@ -1,4 +1,4 @@
--- What read-modify-writes make of a number that stands as 64 bits.
+-- What read-modify-writes make of a number, which is kept in 64 bits.
 use Rattle.std.specs.Prelude.{ℕ, ◌+◌, ◌-◌, ◌%◌, ◌^◌, ◌==◌, Bool, not, nat_lt, if◌then◌else◌, bit_and, bit_or, bit_xor, int_lt}
 use Rattle.std.specs.Int.{cast_signed, cast_unsigned, w8, w16, w32, w64}
 use Rattle.loom_views.specs.declared.rt.num.change.Change.{Change}

@@ -7,7 +7,7 @@ pub record Point : Type 0 where
   pub after : List ℕ
   pub raises : Option ℕ
 
--- the newest point stands first: a point's number is how many points are older
+-- the newest point first: a point's number is how many points are older
 abbrev pub Graph : Type 0
 Graph = List Point
 
@@ -20,7 +20,7 @@ unfoldable pub reaches : Graph → ℕ → ℕ → Bool
 reaches [] i k = false
 reaches (p ∷ g) i k = elim (k == length g) [ true ↦ (i == k) || list_any (λ j. reaches g i j) p.after | false ↦ reaches g i k ]
 
--- the number stands in the list
+-- the number is in the list
 abbrev pub is_among : ℕ → List ℕ → Bool
 is_among i ks = list_any (λ k. k == i) ks
 
@@ -57,7 +57,7 @@ counts g k = map (version g k) threads
 unfoldable pub inside : Graph → ℕ → ℕ → Bool
 inside g i k = list_all (λ t. list_all (λ x. not (reaches g x i) || reaches g x k) (raised g t)) threads
 
--- each point of the list is reached from those that stand behind it
+-- each point of the list is reached from those behind it
 abbrev pub IsChain : Graph → List ℕ → Type 0
 IsChain g [] = Unit {0}
 IsChain g (x ∷ xs) = AllByRecursion (λ i. IsTrue (reaches g i x)) xs × IsChain g xs
@@ -74,7 +74,7 @@ IsPresent g t k = AllByRecursion (λ i. IsTrue (reaches g i k)) (raised g t)
 abbrev pub moved : Graph → List ℕ → Graph
 moved g js = record { after = js; raises = None } ∷ g
 
--- the same, and it raises thread t
+-- a new point after these, which raises the version of thread t
 abbrev pub moved_raising : Graph → List ℕ → ℕ → Graph
 moved_raising g js t = record { after = js; raises = Some t } ∷ g
 

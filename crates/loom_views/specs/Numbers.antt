@@ -1,4 +1,4 @@
--- Numbers as the `u64` that stands for them.
+-- Numbers as the `u64` in which an atomic keeps them.
 use Rattle.std.specs.Prelude.{ℕ, suc, ◌≡◌, ◌<◌, ◌^◌, ◌%◌, ◌-◌, Bool, true, false, if◌then◌else◌, not, ◌==◌, ℤ, pos, negsuc, FitsSigned}
 use Rattle.std.specs.Int.{cast_signed, cast_unsigned, w8, w16, w32, w64}
 use Rattle.std.proofs.Common.{refl, ap, ◌∙◌, arith, to_z-of_z, mod-eq_of_lt}

@@ -166,7 +166,7 @@ pub record Accessed : Type 0 where
   pub points : Points
   pub value : ℕ
 
--- the same of an access that may fail
+-- the points and the value to which an access of atomic n leads, or its failure
 abbrev pub accessed : Points → ℕ → ℕ → Result Answer FailureKind → Result Accessed FailureKind
 accessed p t n (Ok answer) = Ok (record { points = points_of p t n answer.scene; value = answer.value })
 accessed p t n (Err kind) = Err kind
@@ -363,7 +363,7 @@ abbrev pub MovesAs : Result Points FailureKind → Result (Unit {0}) FailureKind
 MovesAs (Ok after) result v = (result ≡ Ok tt) × ShowsViews after v
 MovesAs (Err kind) result v = result ≡ Err kind
 
--- the same of an access that answers a value, and of one that answers none
+-- an access answers a value, or none, as its rule does, and shows the points that it leads to
 abbrev pub LoadsAs : Result Accessed FailureKind → Result ℕ FailureKind → Views → Type 0
 LoadsAs (Ok after) result v = (result ≡ Ok after.value) × ShowsViews after.points v
 LoadsAs (Err kind) result v = result ≡ Err kind

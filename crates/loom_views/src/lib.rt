@@ -1,7 +1,8 @@
-//! The memory model of the machine: version vectors, views of threads, the accesses of a cell and the last seven stores of an
-//! atomic, the table of all views of a run (`rt::views`), and the 22 kinds of failure (`rt::failure`). Contracts speak of points of
-//! a graph and of whole histories, and the code keeps counts. `laws` says that the definitions mean what one expects of a memory
-//! model. `sequence` is a list that contracts see as a list. It stands on no other crate of the repository.
+//! The memory model: version vectors, the views of threads, the accesses of a cell and the last seven stores of an atomic, all of
+//! these for a whole run (`rt::views`), and the 22 kinds of failure (`rt::failure`). Contracts speak of points of a
+//! happens-before graph and of whole histories, and the code keeps counts. `laws` says that the definitions mean what one expects
+//! of a memory model. `sequence` is a vector that contracts see as the list of its values. No other crate of the repository is
+//! used.
 #![tactic(auto)]
 
 pub mod laws;

@@ -1,4 +1,4 @@
-//! What a run is made of, as far as it needs no threads.
+//! The parts of loom's `rt` that keep the memory model of a run, and the kinds of failure.
 
 pub mod atomic;
 pub mod cell;

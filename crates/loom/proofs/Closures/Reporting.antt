@@ -1,4 +1,4 @@
--- What is known of the rounds of a check once it reports.
+-- What is known of the runs of a check once it reports.
 use Rattle.std.proofs.Common.{◌≡◌, ◌+◌, ◌<◌, ◌∙◌, ℕ, Bool, List, [], ◌∷◌, length, refl, sym, ap, subst, Option, Some, None, Result, arith}
 use Rattle.std.specs.Prelude.{string_bytes, String, Vec}
 use Rattle.std.specs.declared.alloc.Global.{Global}
@@ -21,10 +21,8 @@ use Rattle.loom.specs.Runner.Chains as chains
 use Rattle.loom.proofs.RunnerLemmas.Once.{once_law}
 use Rattle.loom.proofs.RunnerLemmas.Alternatives.{alternatives_law}
 use Rattle.loom.proofs.RunnerLemmas.Failing.{failure_law}
-use Rattle.loom.specs.declared.runner.after.After.TheVariants as comes
-use Rattle.loom.specs.declared.runner.after.Round.{Round}
-use Rattle.loom.specs.declared.runner.after.Round.TheVariants.{Broke, Last, Next}
-use Rattle.loom.specs.Runner.After.{comes_after}
+use Rattle.loom.specs.declared.runner.run_end.RunEnd.{RunEnd}
+use Rattle.loom.specs.declared.runner.run_end.RunEnd.TheVariants.{Failed, Ended}
 use Rattle.loom.specs.Runner.Handle.{Teller}
 use Rattle.loom.specs.Runner.Check.{Made, MadeBy, Given, Rounds, Makes, HasAlternatives, HasFailed, Reports, run_of, runs_of, lists_of, limits_of, fresh_path}
 use Rattle.loom.specs.Runner.Run.{WasMade}
@@ -40,31 +38,6 @@ some_more n = omega arith
 
 one_longer : {A : Type 0} (x : A) (l : List A) (n : ℕ) → length l ≡ n → length (x ∷ l) ≡ n + 1
 one_longer x l n counted = omega (arith, counted)
-
--- what comes after a round is of one kind, and has its own parts
-failed_complete : {X : Type 0} (m n : ℕ) (failure : Failure) (choices : Vec Choice Global) → comes.Failed m failure choices ≡ comes.Complete n → X
-failed_complete m n failure choices is = cc is
-
-failed_next : {X : Type 0} (m : ℕ) (failure : Failure) (choices : Vec Choice Global) (path : Route) → comes.Failed m failure choices ≡ comes.Next path → X
-failed_next m failure choices path is = cc is
-
-complete_next : {X : Type 0} (n : ℕ) (path : Route) → comes.Complete n ≡ comes.Next path → X
-complete_next n path is = cc is
-
-same_count : (m n : ℕ) → comes.Complete m ≡ comes.Complete n → m ≡ n
-same_count m n is = cc is
-
-same_next : (path other : Route) → comes.Next path ≡ comes.Next other → path ≡ other
-same_next path other is = cc is
-
-same_runs : (m n : ℕ) (f g : Failure) (c d : Vec Choice Global) → comes.Failed m f c ≡ comes.Failed n g d → m ≡ n
-same_runs m n f g c d is = cc is
-
-same_failure : (m n : ℕ) (f g : Failure) (c d : Vec Choice Global) → comes.Failed m f c ≡ comes.Failed n g d → f ≡ g
-same_failure m n f g c d is = cc is
-
-same_choices : (m n : ℕ) (f g : Failure) (c d : Vec Choice Global) → comes.Failed m f c ≡ comes.Failed n g d → c ≡ d
-same_choices m n f g c d is = cc is
 
 module _ {D F V : Type 0} (called : F → Teller D → Result D Stop → F → Teller D → Type 0) (takes : V → List Choice → D → V → Type 0) where
   -- The runs that were given so far, so many. The next one begins with this path.
@@ -112,7 +85,7 @@ module _ {D F V : Type 0} (called : F → Teller D → Result D Stop → F → T
           not_first = λ none. law.1 (ap runs_of none);
         }
 
-  -- what one round more makes of them
+  -- what one run more makes of them
   module _ {b : Builder} {f0 : F} {v0 : V} {f : F} {v : V} {path : Route} {count : ℕ} (so : SoFar b f0 v0 f v path count) where
     one_more : (m : Made D) (f' : F) (v' : V) (next : Option Route) → m.began ≡ path → Given called takes (limits_of b) f v m f' v' → chains.GoesTo m.log.now.route next
         → Makes called takes b f0 v0 (m ∷ so.runs) f' v' next
@@ -122,51 +95,49 @@ module _ {D F V : Type 0} (called : F → Teller D → Result D Stop → F → T
     one_counted m = one_longer m so.runs count so.counted
 
     -- it was the last one
-    pub reports_last : (f' : F) (v' : V) (n : ℕ) (round : Round) → WasMade called takes (limits_of b) f v path round f' v' → comes_after count round ≡ comes.Complete n
-        → Reports called takes b f0 v0 v' (report.Complete n)
-    reports_last f' v' n (Broke x c) made is = failed_complete count n x c is
-    reports_last f' v' n (Next p) made is = complete_next n p (sym is)
-    reports_last f' v' n Last (m, began, one, goes) is =
+    last : (f' : F) (v' : V) → WasMade called takes (limits_of b) f v path (Ended None) f' v' → Reports called takes b f0 v0 v' (report.Complete (count + 1))
+    last f' v' (m, began, one, goes) =
         let rounds = one_more m f' v' None began one goes in
-        let counted : count + 1 ≡ n = same_count (count + 1) n is in
         record {
           after = f';
           runs = m ∷ so.runs;
-          counted = one_counted m ∙ counted;
+          counted = one_counted m;
           once = once b f0 v0 (m ∷ so.runs) f' v' None rounds;
-          says = record { given = rounds; some = subst (λ (k : ℕ). 0 < k) counted (some_more count); alternatives = alternatives b f0 v0 (m ∷ so.runs) f' v' rounds };
+          says = record { given = rounds; some = some_more count; alternatives = alternatives b f0 v0 (m ∷ so.runs) f' v' rounds };
         }
+
+    pub reports_last : (f' : F) (v' : V) (end : RunEnd) → WasMade called takes (limits_of b) f v path end f' v' → end ≡ Ended None → Reports called takes b f0 v0 v' (report.Complete (count + 1))
+    reports_last f' v' end made is = last f' v' (subst (λ (e : RunEnd). WasMade called takes (limits_of b) f v path e f' v') is made)
 
     -- the next one begins with this path
-    pub goes_next : (f' : F) (v' : V) (p : Route) (round : Round) → WasMade called takes (limits_of b) f v path round f' v' → comes_after count round ≡ comes.Next p → SoFar b f0 v0 f' v' p (count + 1)
-    goes_next f' v' p (Broke x c) made is = failed_next count x c p is
-    goes_next f' v' p Last made is = complete_next (count + 1) p is
-    goes_next f' v' p (Next q) (m, began, one, goes) is =
-        let same = same_next q p is in
-        record {
-          starts = starts_at p q m.log.now.route.search m.log.now.route.explores (sym same ∙ goes.1);
-          runs = m ∷ so.runs;
-          given = subst (λ (r : Route). Makes called takes b f0 v0 (m ∷ so.runs) f' v' (Some r)) same (one_more m f' v' (Some q) began one goes);
-          counted = one_counted m;
-        }
+    next_one : (f' : F) (v' : V) (next : Route) → WasMade called takes (limits_of b) f v path (Ended (Some next)) f' v' → SoFar b f0 v0 f' v' next (count + 1)
+    next_one f' v' next (m, began, one, goes) = record {
+      starts = starts_at next next m.log.now.route.search m.log.now.route.explores goes.1;
+      runs = m ∷ so.runs;
+      given = one_more m f' v' (Some next) began one goes;
+      counted = one_counted m;
+    }
+
+    pub goes_next : (f' : F) (v' : V) (next : Route) (end : RunEnd) → WasMade called takes (limits_of b) f v path end f' v' → end ≡ Ended (Some next) → SoFar b f0 v0 f' v' next (count + 1)
+    goes_next f' v' next end made is = next_one f' v' next (subst (λ (e : RunEnd). WasMade called takes (limits_of b) f v path e f' v') is made)
 
     -- it has failed
-    pub reports_failed : (f' : F) (v' : V) (n : ℕ) (failure : Failure) (choices : Vec Choice Global) (round : Round) → WasMade called takes (limits_of b) f v path round f' v'
-        → comes_after count round ≡ comes.Failed n failure choices → Reports called takes b f0 v0 v' (report.Failed n failure choices)
-    reports_failed f' v' n failure choices Last made is = failed_complete n (count + 1) failure choices (sym is)
-    reports_failed f' v' n failure choices (Next p) made is = failed_next n failure choices p (sym is)
-    reports_failed f' v' n failure choices (Broke x c) (m, began, one, broken, same) is =
-        let failed = broken.0 ∙ ap Some (same_failure count n x failure c choices is) in
-        let listed = ap (λ (l : Vec Choice Global). l.items) (sym (same_choices count n x failure c choices is)) ∙ broken.1 in
+    one_failed : (f' : F) (v' : V) (failure : Failure) (choices : Vec Choice Global) → WasMade called takes (limits_of b) f v path (Failed failure choices) f' v'
+        → Reports called takes b f0 v0 v' (report.Failed count failure choices)
+    one_failed f' v' failure choices (m, began, one, failed, same) =
         let before : Makes called takes b f0 v0 so.runs f v (Some m.began) = subst (λ (r : Route). Makes called takes b f0 v0 so.runs f v (Some r)) (sym began) so.given in
-        let says = fails b f0 v0 so.runs f v m f' failure choices.items before one failed listed in
+        let says = fails b f0 v0 so.runs f v m f' failure choices.items before one failed.0 failed.1 in
         record {
           after = f';
           runs = so.runs;
-          counted = so.counted ∙ same_runs count n x failure c choices is;
+          counted = so.counted;
           once = once b f0 v0 so.runs f v (Some path) so.given;
           says = subst (λ (w : V). HasFailed called takes b f0 v0 so.runs f' w failure choices.items) (sym same) says;
         }
+
+    pub reports_failed : (f' : F) (v' : V) (failure : Failure) (choices : Vec Choice Global) (end : RunEnd) → WasMade called takes (limits_of b) f v path end f' v' → end ≡ Failed failure choices
+        → Reports called takes b f0 v0 v' (report.Failed count failure choices)
+    reports_failed f' v' failure choices end made is = one_failed f' v' failure choices (subst (λ (e : RunEnd). WasMade called takes (limits_of b) f v path e f' v') is made)
 
     -- no further one is made
     pub reports_stopped : (most : ℕ) (limit : Limit) (checkpoint : String Global) → count ≡ most → most ≡ most_runs b → limit ≡ Permutations → string_bytes checkpoint ≡ []

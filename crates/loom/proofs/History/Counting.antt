@@ -1,10 +1,10 @@
 use Rattle.std.proofs.Common.{◌≡◌, ◌≤◌, ◌+◌, ℕ, zero, suc, Bool, true, false, cond, List, [], ◌∷◌, ◌++◌, ap, sym, ◌∙◌, refl, subst, length, arith, add_assoc, ◌==◌}
 use Rattle.std.specs.Prelude.{slice_index, ⊤, Result}
+use Rattle.loom_objects.specs.declared.failure.Failure.{Failure}
 use Rattle.loom_objects.specs.declared.failure.Stop.{Stop as Halt}
 use Rattle.loom_objects.specs.declared.operation.Request.{Request}
 use Rattle.loom_objects.specs.declared.operation.Turn.{Turn}
 use Rattle.loom.specs.declared.runner.history.event.Event.{Event}
-use Rattle.loom.specs.declared.runner.history.event.Outcome.{Outcome}
 use Rattle.loom.specs.Runner.Events.{answered, calls, made, made_by, IsCounted, IsAdded}
 
 calls_snoc : {D : Type 0} (n : ℕ) (es : List (Event D)) (e : Event D) → calls n (es ++ e ∷ []) ≡ calls n es + cond (e.by == n) 1 0
@@ -48,7 +48,7 @@ pub counted_first : {D : Type 0} (counts : List ℕ) (es : List (Event D)) → c
 counted_first counts es one none = counted_same (0 ∷ []) counts [] es one none (record { threads = refl; counted = zeros })
 
 -- what was added
-pub added_so : {M D : Type 0} (turn : M → ℕ) (happens : M → Request D ⊤ → Result (Turn D) Halt → M → Type 0) (old : M) (op kept : Request D ⊤) (new : M) (before mid after : List (Event D)) (by : ℕ) (out : Outcome D)
+pub added_so : {M D : Type 0} (turn : M → ℕ) (happens : M → Request D ⊤ → Result (Turn D) Halt → M → Type 0) (old : M) (op kept : Request D ⊤) (new : M) (before mid after : List (Event D)) (by : ℕ) (out : Result (Turn D) Failure)
     → by ≡ turn old → kept ≡ op → happens old op (answered out) new → mid ≡ before → after ≡ mid ++ record { by = by; op = kept; outcome = out } ∷ [] → IsAdded turn happens old op new before after
 added_so turn happens old op kept new before mid after by out whose same did rest at = record {
   event = record { by = by; op = kept; outcome = out };

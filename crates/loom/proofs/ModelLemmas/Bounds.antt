@@ -26,7 +26,7 @@ module _ {D : Type 0} (b : Builder) (tree : Tree D) where
   completes_at : (bound count : ℕ) → ReportsAlone (bounded b bound) tree (Complete count) → CompletesAt b tree bound
   completes_at bound count z =
       let fresh : z.path ≡ [] = subst (λ text. ReadsAs (search_of (bounded b bound)) (explores b) text z.path) z.gave z.reads in
-      (z.runs, z.says.fresh fresh)
+      (z.runs, z.says.promise.fresh fresh)
 
   completes_if : (bound : ℕ) (report : Report) → is_complete report ≡ true → ReportsAlone (bounded b bound) tree report → CompletesAt b tree bound
   completes_if bound (Complete count) e z = completes_at bound count z

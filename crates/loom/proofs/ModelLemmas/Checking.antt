@@ -26,7 +26,7 @@ use Rattle.loom.specs.declared.model.Limit.{Limit}
 use Rattle.loom.specs.declared.model.Limit.TheVariants.{Permutations, Duration as Lasting}
 use Rattle.loom.specs.declared.model.report.Report.TheVariants.{Complete, Stopped, Failed}
 use Rattle.loom.specs.Model.Fresh.{Given, WasGiven}
-use Rattle.loom.specs.Model.Check.{IsTextOf, Completes, GoesOn, Fails, IsHeld, ReadsAs, Reports, StopsBy}
+use Rattle.loom.specs.Model.Check.{IsTextOf, CompletesByRounds, GoesOnByRounds, Fails, IsHeld, ReadsAs, Reports, StopsBy}
 use Rattle.loom.specs.declared.model.rounds.Round.TheVariants as round
 use Rattle.loom.specs.Model.Rounds.{ComesTo, HasEnded}
 use Rattle.loom.specs.Model.Begun.{IsBegun}
@@ -85,7 +85,7 @@ module _ {D : Type 0} (b : Builder) (tree : Tree D) (sound : IsRunTree tree) (sh
       rests_well path visitor count z = may_go_on s tree sound start good shut z.runs (stored path.nodes) z.makes
 
       -- where it has come to, it is to go on
-      pub stops_there : (path : Route) (visitor : V) (count : ℕ) (z : IsWalking path visitor count) → GoesOn (search_of b) tree start z.runs path.nodes
+      pub stops_there : (path : Route) (visitor : V) (count : ℕ) (z : IsWalking path visitor count) → GoesOnByRounds (search_of b) tree start z.runs path.nodes
       stops_there path visitor count z = goes_to s tree sound start good z.runs path.nodes z.makes
 
       -- a run that ended, given to the visitor
@@ -115,7 +115,7 @@ module _ {D : Type 0} (b : Builder) (tree : Tree D) (sound : IsRunTree tree) (sh
 
         -- the last run
         pub walking_ends : (later : Route) (new : V) → HasEnded (Comes tree b.location) takes path visitor false later new
-            → (made : List Choice × D) × WasGiven takes old new (z.runs ++ made ∷ []) (count + 1) × Completes (search_of b) tree start (z.runs ++ made ∷ [])
+            → (made : List Choice × D) × WasGiven takes old new (z.runs ++ made ∷ []) (count + 1) × CompletesByRounds (search_of b) tree start (z.runs ++ made ∷ [])
         walking_ends later new h = (
           (choices (stored h.after.nodes), h.value),
           more_given false later new h,
@@ -139,7 +139,7 @@ module _ {D : Type 0} (b : Builder) (tree : Tree D) (sound : IsRunTree tree) (sh
     pub behind : List (List Choice × D)
     pub splits : runs ≡ before ++ behind
     pub few : length behind ≤ most
-    pub goes_on : GoesOn (search_of b) tree start before last
+    pub goes_on : GoesOnByRounds (search_of b) tree start before last
 
   held_by : (start : List Node) (holds : Option (List ℕ) → Type 0) (runs : List (List Choice × D)) (most : ℕ) → most ≤ b.checkpoint_interval → IsBehind start holds runs most
       → IsHeld b tree holds start runs

@@ -1,7 +1,8 @@
 -- Which errors come, and whether the store met a fault.
 use Rattle.std.proofs.Common.{◌≡◌, ℕ, inl, inr, refl, ap, sym, ◌∙◌, subst, arith}
+use Rattle.std.specs.Option.{option_map_or}
 use Rattle.std.specs.Result.{IfErr, IsErrAnd}
-use Rattle.std.specs.Prelude.{◌≢◌, List, Option, Result, Ok, Err}
+use Rattle.std.specs.Prelude.{◌≢◌, List, Option, Some, None, Result, Ok, Err}
 use Rattle.loom_engine.specs.declared.rt.path.checkpoint.error.PathError.{PathError}
 use Rattle.loom_engine.specs.declared.rt.path.checkpoint.error.PathError.TheVariants as why
 use Rattle.loom.specs.declared.checkpoint.store.StoreError.{StoreError}
@@ -69,6 +70,11 @@ faultless result old new none same = (λ store. absurd (none store), λ other. s
 pub no_beginning : (b : Builder) (gives : Option (List ℕ) → Type 0) (no_run : Type 0) (e : CheckError) → no_run → IsNoBeginning b gives e → IsNoReport b gives no_run e
 no_beginning b gives no_run e none (inl z) = inl z
 no_beginning b gives no_run e none (inr z) = inr (inr z, none)
+
+-- a store in memory, or none, counts no fault
+pub no_count : {S : Type 0} (store : Option S) → ◌≡◌ {A = ℕ} (option_map_or {T = S} {U = ℕ} (λ s. 0) store 0) 0
+no_count None = refl
+no_count (Some s) = refl
 
 -- where nothing is counted no fault is reported
 pub no_fault : {A : Type 0} (result : Result A CheckError) → CountsFaults result 0 0 → result ≢ Err Store

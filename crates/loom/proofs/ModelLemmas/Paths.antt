@@ -11,7 +11,7 @@ use Rattle.loom_engine.specs.Trees.Meeting.{Settings, machine_of}
 use Rattle.loom_engine.specs.Trees.Drive.{Trail, drive, at_start}
 use Rattle.loom_engine.specs.Trees.Check.{Makes, MakesAll, FirstRun, told_apart, all_met, fails_early}
 use Rattle.loom_engine.specs.Trees.Marks.{marking}
-use Rattle.loom_engine.specs.Trees.Reports.{IsSearch, AreReachable}
+use Rattle.loom_engine.specs.Trees.Reports.{IsSearch}
 use Rattle.loom_engine.specs.Trees.Resuming.{AreAtRest, HasDefaults, WasStoppedFrom, choices_passed}
 use Rattle.loom_engine.specs.Trees.Sound.{EndsUnchosen}
 use Rattle.loom_engine.specs.declared.rt.path.node.Node.{Node}
@@ -34,8 +34,8 @@ use Rattle.loom_engine.proofs.Trees.Unchosen.{defaults_law}
 use Rattle.loom.specs.declared.model.builder.Builder.{Builder}
 use Rattle.loom.specs.Model.Begun.{IsBegun}
 use Rattle.loom.specs.Model.Settings.{explores, search_of}
-use Rattle.loom.specs.Model.Fresh.{AreAllRuns, IsCompleteReport, IsStoppedReport, IsFailedReport}
-use Rattle.loom.specs.Model.Check.{IsTextOf, Completes, GoesOn, Fails, ReadsAs, AreTogether, ends, goes_on, TogetherLaw}
+use Rattle.loom.specs.Model.Fresh.{IsCompleteReport, IsStoppedReport, IsFailedReport}
+use Rattle.loom.specs.Model.Check.{IsTextOf, CompletesByRounds, GoesOnByRounds, Fails, ReadsAs, AreTogether, ends, goes_on, TogetherLaw}
 
 -- a check may begin with such a path
 pub record MayBegin (s : Settings) (p : List Stored) : Type 0 where
@@ -97,24 +97,11 @@ module _ {D : Type 0} (s : Settings) (tree : Tree D) (sound : IsRunTree tree) wh
   searches : IsSearch s (marking s.bound) tree
   searches = search_law s tree sound.sound
 
-  -- what the laws say of all runs
-  all_runs : (list : List (List Choice)) → AreReachable s (marking s.bound) tree list → AreAllRuns s tree list
-  all_runs list law = record {
-    walk = law.walk;
-    in_order = law.in_order;
-    every_run = λ unreduced unbounded exploring. law.every_run (record { unreduced = unreduced; unbounded = unbounded; exploring = exploring });
-    within_bound = law.within_bound;
-  }
-
   fresh_complete : (runs : List (List Choice × D)) → MakesAll s (marking s.bound) tree [] runs → IsCompleteReport s tree runs
-  fresh_complete runs made =
-      let law = complete_report_law s (marking s.bound) tree runs searches made in
-      record { are_runs = law.are_runs; all_runs = all_runs _ law.all_runs; none_fails = law.none_fails }
+  fresh_complete runs made = complete_report_law s (marking s.bound) tree runs searches made
 
   fresh_stopped : (runs : List (List Choice × D)) (last : List Stored) → Makes s (marking s.bound) tree [] runs last → IsStoppedReport s tree runs
-  fresh_stopped runs last made =
-      let law = stopped_report_law s (marking s.bound) tree runs last searches made in
-      record { are_runs = law.are_runs; more = law.more; unfinished = law.unfinished; all_runs = all_runs _ law.all_runs }
+  fresh_stopped runs last made = stopped_report_law s (marking s.bound) tree runs last searches made
 
   -- a path that a run met from its first to its last node is one of the tree's
   met_by : (p : List Stored) → AreAtRest p → length p ≤ s.max_branches → (value : D) (path : Trail) → drive s (marking s.bound) tree (at_start p) ≡ (Ok value, path)
@@ -130,11 +117,13 @@ module _ {D : Type 0} (s : Settings) (tree : Tree D) (sound : IsRunTree tree) wh
       go (fails_early parts failure e f) = absurd (cc (is_value, e))
 
   pub completes : (start : List Node) (runs : List (List Choice × D)) → AreAtRest (stored start) → length (stored start) ≤ s.max_branches
-      → MakesAll s (marking s.bound) tree (stored start) runs → Completes s tree start runs
+      → MakesAll s (marking s.bound) tree (stored start) runs → CompletesByRounds s tree start runs
   completes start runs rest size made = record {
-    made = made;
-    complete = complete_from_law s (marking s.bound) tree (stored start) runs searches sound.closing rest size made;
-    fresh = λ e. fresh_complete runs (subst (λ (nodes : List Node). MakesAll s (marking s.bound) tree (stored nodes) runs) e made);
+    promise = record {
+      complete = complete_from_law s (marking s.bound) tree (stored start) runs searches sound.closing rest size made;
+      fresh = λ e. fresh_complete runs (subst (λ (nodes : List Node). MakesAll s (marking s.bound) tree (stored nodes) runs) e made);
+    };
+    rounds = made;
   }
 
   module _ (start : List Node) (good : MayBegin s (stored start)) where
@@ -142,11 +131,13 @@ module _ {D : Type 0} (s : Settings) (tree : Tree D) (sound : IsRunTree tree) wh
         → WasStoppedFrom s (marking s.bound) tree (stored start) runs last
     stopped runs last made = stopped_from_law s (marking s.bound) tree (stored start) runs last searches sound.closing good.rest good.size made
 
-    pub goes_to : (runs : List (List Choice × D)) (last : List Node) → Makes s (marking s.bound) tree (stored start) runs (stored last) → GoesOn s tree start runs last
+    pub goes_to : (runs : List (List Choice × D)) (last : List Node) → Makes s (marking s.bound) tree (stored start) runs (stored last) → GoesOnByRounds s tree start runs last
     goes_to runs last made = record {
-      made = made;
-      stopped = stopped runs (stored last) made;
-      fresh = λ e. fresh_stopped runs (stored last) (subst (λ (nodes : List Node). Makes s (marking s.bound) tree (stored nodes) runs (stored last)) e made);
+      promise = record {
+        stopped = stopped runs (stored last) made;
+        fresh = λ e. fresh_stopped runs (stored last) (subst (λ (nodes : List Node). Makes s (marking s.bound) tree (stored nodes) runs (stored last)) e made);
+      };
+      rounds = made;
     }
 
     -- a check may go on where it has come to
@@ -174,15 +165,7 @@ module _ {D : Type 0} (s : Settings) (tree : Tree D) (sound : IsRunTree tree) wh
         let law = failed_report_law s (marking s.bound) tree runs last failure path searches sound.fair first h in
         let d = next_driven s (marking s.bound) tree searches.sound searches.marking last runs (Err failure) path first h in
         subst (IsFailedReport s tree runs failure) (sym (ap choices_passed d.all_passed ∙ ap choices (take-length path.nodes)))
-        (record {
-          are_runs = law.are_runs;
-          more = law.more;
-          all_runs = all_runs _ law.all_runs;
-          reachable = law.reachable;
-          fails = law.fails;
-          own = law.own;
-          replays = law.replays;
-        })
+        law
 
     pub fails_there : (runs : List (List Choice × D)) (last : List Stored) (failure : FailureKind) (path : Trail) → Makes s (marking s.bound) tree (stored start) runs last
         → drive s (marking s.bound) tree (at_start last) ≡ (Err failure, path) → Fails s tree start runs failure (choices_passed path)
@@ -214,9 +197,9 @@ same_stored s explores text nodes others one other =
 
 -- checks one after another are what one makes
 made_together : {D : Type 0} (s : Settings) (tree : Tree D) (path : List Node) (runs : List (List Choice × D)) → AreTogether s tree path runs → MakesAll s (marking s.bound) tree (stored path) runs
-made_together s tree path runs (ends _ _ done) = done.made
+made_together s tree path runs (ends _ _ done) = done.rounds
 made_together s tree path runs (goes_on explores text _ last next first more z one other on) =
-    (joined_law s (marking s.bound) tree (stored path) (stored last) first more z.made).1
+    (joined_law s (marking s.bound) tree (stored path) (stored last) first more z.rounds).1
     (subst (λ (p : List Stored). MakesAll s (marking s.bound) tree p more) (same_stored s explores text next last other one) (made_together s tree next more on))
 
 pub together_law : {D : Type 0} → TogetherLaw D

@@ -11,7 +11,7 @@ use Rattle.loom.specs.declared.model.error.CheckError.TheVariants.{Store, Memory
 use Rattle.loom.specs.declared.model.report.Report.{Report}
 use Rattle.loom.specs.declared.model.report.Report.TheVariants.{Complete, Stopped, Failed}
 use Rattle.loom.specs.Model.Fresh.{Given}
-use Rattle.loom.specs.Model.Check.{IsHeld, Reports, ReportsUnheard, Says, gives_file}
+use Rattle.loom.specs.Model.Check.{IsHeld, Reports, ReportsUnheard, Claims, gives_file}
 use Rattle.loom.specs.Model.Refusals.{IsNoReport, IsRefusedBy}
 use Rattle.loom.specs.Model.Settings.{defaults, tested}
 
@@ -20,7 +20,7 @@ given_unheard [] = refl
 given_unheard (made ∷ runs) = (tt, tt, given_unheard runs)
 
 module _ {D : Type 0} (b : Builder) (tree : Tree D) (holds : Option (List ℕ) → Type 0) (path : List Node) (runs : List (List Choice × D)) where
-  says_unheard : (report : Report) → Says b tree holds path runs report → Says b tree (λ text. Unit {0}) path runs report
+  says_unheard : (report : Report) → Claims b tree holds path runs report → Claims b tree (λ text. Unit {0}) path runs report
   says_unheard (Complete count) z = z
   says_unheard (Stopped count limit checkpoint) z = record { last = z.last; reads = z.reads; compact = z.compact; held = tt; goes_on = z.goes_on }
   says_unheard (Failed count failure choices) z = z

@@ -23,8 +23,6 @@ use Rattle.loom_engine.specs.Path.Route.{Route, IsSameSearch, trail}
 use Rattle.loom_engine.specs.declared.rt.execution.Limits.{Limits}
 use Rattle.loom_engine.specs.Execution.{ShowsCourse}
 use Rattle.loom.specs.declared.runner.history.event.Event.{Event}
-use Rattle.loom.specs.declared.runner.history.event.Outcome.{Outcome}
-use Rattle.loom.specs.declared.runner.history.event.Outcome.TheVariants.{Went, Failed}
 use Rattle.loom.specs.Runner.Histories.{Moment, Happens, Leads, IsHistory, last_event, ended, failing, ended_by, failed_by, first}
 use Rattle.loom.specs.Runner.Chains.{handing}
 
@@ -52,11 +50,11 @@ module _ {D : Type 0} where
 
   -- ---- what a history comes to
 
-  abbrev pub comes_of : Outcome D → Option (Result D FailureKind)
-  comes_of (Went (turn.Reply k answer)) = None
-  comes_of (Went (turn.Start k)) = None
-  comes_of (Went (turn.Ended value)) = Some (Ok value)
-  comes_of (Failed failure) = Some (Err failure.kind)
+  abbrev pub comes_of : Result (Turn D) Failure → Option (Result D FailureKind)
+  comes_of (Ok (turn.Reply k answer)) = None
+  comes_of (Ok (turn.Start k)) = None
+  comes_of (Ok (turn.Ended value)) = Some (Ok value)
+  comes_of (Err failure) = Some (Err failure.kind)
 
   -- its last event comes to this
   abbrev pub EndsBy : List (Event D) → Result D FailureKind → Type 0
@@ -74,15 +72,15 @@ module _ {D : Type 0} where
   ends_by (x ∷ []) e r last comes = let same : x ≡ e = cc last in ap (λ (y : Event D). comes_of y.outcome) same ∙ comes
   ends_by (x ∷ y ∷ es) e r last comes = ends_by (y ∷ es) e r (sym (last_more x y es) ∙ last) comes
 
-  out_ended : (out : Outcome D) (value : D) → ended out ≡ Some value → comes_of out ≡ Some (Ok value)
-  out_ended (Went (turn.Reply k answer)) value h = absurd (cc h)
-  out_ended (Went (turn.Start k)) value h = absurd (cc h)
-  out_ended (Went (turn.Ended v)) value h = cc h
-  out_ended (Failed failure) value h = absurd (cc h)
+  out_ended : (out : Result (Turn D) Failure) (value : D) → ended out ≡ Some value → comes_of out ≡ Some (Ok value)
+  out_ended (Ok (turn.Reply k answer)) value h = absurd (cc h)
+  out_ended (Ok (turn.Start k)) value h = absurd (cc h)
+  out_ended (Ok (turn.Ended v)) value h = cc h
+  out_ended (Err failure) value h = absurd (cc h)
 
-  out_failed : (out : Outcome D) (failure : Failure) → failing out ≡ Some failure → comes_of out ≡ Some (Err failure.kind)
-  out_failed (Went t) failure h = absurd (cc h)
-  out_failed (Failed f) failure h = let same : f ≡ failure = cc h in ap (λ (g : Failure). Some (Err g.kind)) same
+  out_failed : (out : Result (Turn D) Failure) (failure : Failure) → failing out ≡ Some failure → comes_of out ≡ Some (Err failure.kind)
+  out_failed (Ok t) failure h = absurd (cc h)
+  out_failed (Err f) failure h = let same : f ≡ failure = cc h in ap (λ (g : Failure). Some (Err g.kind)) same
 
   pub ends_ended : (es : List (Event D)) (value : D) → ended_by (last_event es) ≡ Some value → EndsBy es (Ok value)
   ends_ended es value h = go (last_event es) refl h
@@ -106,40 +104,40 @@ module _ {D : Type 0} where
   leads_same m n (e ∷ es) (mid, by, h, rest) = let later = leads_same mid n es rest in (later.0 ∙ h.search.0, later.1 ∙ h.search.1, later.2 ∙ h.search.2)
 
   module _ (s : Settings) where
-    last_drives : (op : Request D ⊤) (c : Course D) (m n : Moment D) (out : Outcome D) (r : Result D FailureKind) → m.route.search ≡ s → ShowsCourse c m.state.run m.route
+    last_drives : (op : Request D ⊤) (c : Course D) (m n : Moment D) (out : Result (Turn D) Failure) (r : Result D FailureKind) → m.route.search ≡ s → ShowsCourse c m.state.run m.route
         → Happens m op out n → comes_of out ≡ Some r → drive s (marking s.bound) (handing (op ∷ []) c) (trail m.route) ≡ (r, trail n.route)
     unfolding handing
-    last_drives op c m n (Went (turn.Reply k answer)) r same shown h comes = absurd (cc comes)
-    last_drives op c m n (Went (turn.Start k)) r same shown h comes = absurd (cc comes)
-    last_drives op c m n (Went (turn.Ended value)) r same shown h comes =
+    last_drives op c m n (Ok (turn.Reply k answer)) r same shown h comes = absurd (cc comes)
+    last_drives op c m n (Ok (turn.Start k)) r same shown h comes = absurd (cc comes)
+    last_drives op c m n (Ok (turn.Ended value)) r same shown h comes =
         let z = h.along c shown in
         let is : Ok value ≡ r = cc comes in
         drive_then s (marking s.bound) (submit op c) _ (trail m.route) (trail n.route) (turn.Ended value, z.0)
         (subst (λ (t : Settings). drive t (marking t.bound) (submit op c) (trail m.route) ≡ (Ok (turn.Ended value, z.0), trail n.route)) same z.2)
         ∙ ap (λ (o : Result D FailureKind). (o, trail n.route)) is
-    last_drives op c m n (Failed failure) r same shown h comes =
+    last_drives op c m n (Err failure) r same shown h comes =
         let is : Err failure.kind ≡ r = cc comes in
         drive_fails s (marking s.bound) (submit op c) _ (trail m.route) (trail n.route) failure.kind
         (subst (λ (t : Settings). drive t (marking t.bound) (submit op c) (trail m.route) ≡ (Err failure.kind, trail n.route)) same (h.along c shown))
         ∙ ap (λ (o : Result D FailureKind). (o, trail n.route)) is
 
-    more_drives : (op : Request D ⊤) (ops : List (Request D ⊤)) (c : Course D) (m mid n : Moment D) (out : Outcome D) (r : Result D FailureKind) → m.route.search ≡ s
+    more_drives : (op : Request D ⊤) (ops : List (Request D ⊤)) (c : Course D) (m mid n : Moment D) (out : Result (Turn D) Failure) (r : Result D FailureKind) → m.route.search ≡ s
         → ShowsCourse c m.state.run m.route → Happens m op out mid → mid.state.over ≡ None
         → ((v : Course D) → ShowsCourse v mid.state.run mid.route → drive s (marking s.bound) (handing ops v) (trail mid.route) ≡ (r, trail n.route))
         → drive s (marking s.bound) (handing (op ∷ ops) c) (trail m.route) ≡ (r, trail n.route)
     unfolding handing
-    more_drives op ops c m mid n (Went (turn.Reply k answer)) r same shown h live onward =
+    more_drives op ops c m mid n (Ok (turn.Reply k answer)) r same shown h live onward =
         let z = h.along c shown in
         drive_then s (marking s.bound) (submit op c) _ (trail m.route) (trail mid.route) (turn.Reply k answer, z.0)
         (subst (λ (t : Settings). drive t (marking t.bound) (submit op c) (trail m.route) ≡ (Ok (turn.Reply k answer, z.0), trail mid.route)) same z.2)
         ∙ onward z.0 z.1
-    more_drives op ops c m mid n (Went (turn.Start k)) r same shown h live onward =
+    more_drives op ops c m mid n (Ok (turn.Start k)) r same shown h live onward =
         let z = h.along c shown in
         drive_then s (marking s.bound) (submit op c) _ (trail m.route) (trail mid.route) (turn.Start k, z.0)
         (subst (λ (t : Settings). drive t (marking t.bound) (submit op c) (trail m.route) ≡ (Ok (turn.Start k, z.0), trail mid.route)) same z.2)
         ∙ onward z.0 z.1
-    more_drives op ops c m mid n (Went (turn.Ended value)) r same shown h live onward = absurd (cc (h.over, live))
-    more_drives op ops c m mid n (Failed failure) r same shown h live onward = absurd (cc (h.over, live))
+    more_drives op ops c m mid n (Ok (turn.Ended value)) r same shown h live onward = absurd (cc (h.over, live))
+    more_drives op ops c m mid n (Err failure) r same shown h live onward = absurd (cc (h.over, live))
 
     leads_drives : (es : List (Event D)) (c : Course D) (m n : Moment D) (r : Result D FailureKind) → m.route.search ≡ s → ShowsCourse c m.state.run m.route → Leads m es n → EndsBy es r
         → drive s (marking s.bound) (handing (map (λ (e : Event D). e.op) es) c) (trail m.route) ≡ (r, trail n.route)

@@ -1,9 +1,10 @@
 use Rattle.std.proofs.Common.{◌≡◌, ◌-◌, Bool, true, false, List, [], ◌∷◌, ◌++◌, ap, sym, ◌∙◌, refl, subst, length, arith, Option, None, Some, IfSome, IfNone, OnSome, MatchOption, is_some, length-append}
-use Rattle.std.specs.Prelude.{slice_get, option_map, ⊤}
+use Rattle.std.specs.Prelude.{slice_get, option_map, ⊤, Result, Ok, Err}
 use Rattle.loom_objects.specs.declared.failure.Stop.{Stop as Halt}
 use Rattle.loom_objects.specs.declared.failure.Stop.TheVariants as halt
 use Rattle.loom_objects.specs.declared.failure.Failure.{Failure}
 use Rattle.loom_objects.specs.declared.operation.Request.{Request}
+use Rattle.loom_objects.specs.declared.operation.Turn.{Turn}
 use Rattle.loom_objects.specs.declared.operation.Turn.TheVariants as turn
 use Rattle.loom_engine.specs.Path.Route.{Route}
 use Rattle.loom_engine.specs.Runs.Course.{opening}
@@ -11,8 +12,6 @@ use Rattle.loom_engine.specs.declared.rt.execution.Limits.{Limits}
 use Rattle.loom_engine.specs.Execution.{ExecutionState, ShowsCourse, SubmitsAt, over_after}
 use Rattle.loom.specs.declared.runner.stop.Stop.{Stop}
 use Rattle.loom.specs.declared.runner.history.event.Event.{Event}
-use Rattle.loom.specs.declared.runner.history.event.Outcome.{Outcome}
-use Rattle.loom.specs.declared.runner.history.event.Outcome.TheVariants.{Went, Failed}
 use Rattle.loom.specs.Runner.Events.{IsAdded, last_event, end_after, end_in, outcome_by}
 use Rattle.loom.specs.Runner.Histories.{Moment, moment, first, active_at, answered, Handed, Happens, Leads, Kept, Goes, Log, Adds}
 
@@ -33,11 +32,11 @@ last_snoc es e =
     ap (slice_get (es ++ e ∷ [])) k ∙ get_end es e
 
 -- what each further operation is answered, as the machine says it
-over_is : {D : Type 0} (out : Outcome D) → over_after (answered out) ≡ option_map halt.Failure (end_after out)
-over_is (Went (turn.Reply k reply)) = refl
-over_is (Went (turn.Start k)) = refl
-over_is (Went (turn.Ended value)) = refl
-over_is (Failed failure) = refl
+over_is : {D : Type 0} (out : Result (Turn D) Failure) → over_after (answered out) ≡ option_map halt.Failure (end_after out)
+over_is (Ok (turn.Reply k reply)) = refl
+over_is (Ok (turn.Start k)) = refl
+over_is (Ok (turn.Ended value)) = refl
+over_is (Err failure) = refl
 
 over_snoc : {D : Type 0} (es : List (Event D)) (e : Event D) → over_after (answered e.outcome) ≡ option_map halt.Failure (end_in (es ++ e ∷ []))
 over_snoc es e = over_is e.outcome ∙ ap (λ event. option_map halt.Failure (outcome_by end_after event)) (sym (last_snoc es e))
@@ -83,7 +82,7 @@ pub ends_by : {D : Type 0} (es : List (Event D)) (end : Option Failure) (test : 
 ends_by es end test is by on none = none_is_not end (sym by ∙ on) (is ∙ none)
 
 -- an event of the machine, as a call of it says it
-happens_by : {D : Type 0} (m n : Moment D) (op : Request D ⊤) (out : Outcome D) → m.state.over ≡ None → Handed m op (answered out) n → Happens m op out n
+happens_by : {D : Type 0} (m n : Moment D) (op : Request D ⊤) (out : Result (Turn D) Failure) → m.state.over ≡ None → Handed m op (answered out) n → Happens m op out n
 happens_by m n op out live (s, same) =
     let P : Option Halt → Type 0 = λ o. SubmitsAt o m.state op m.route (answered out) n.state n.route in
     let t = subst P live s in

@@ -1,6 +1,6 @@
 -- What a check promises: what a report says of a body's runs, and of those that the visitor was given, is `Reports`. A check that
 -- begins with a path makes the runs that are left from it (`Left`), and one that is stopped says with which path to go on. Where
--- the store gave no text, a report says besides what `Beginning.antt` says of a check from the beginning (`fresh`).
+-- the store gave no text, a report says besides what `Fresh.antt` says of a check from the beginning (`fresh`).
 use Rattle.std.specs.Prelude.{◌≡◌, ◌≤◌, ◌<◌, ℕ, Bool, false, List, [], ◌++◌, Option, Some, None, String, length, string_bytes}
 use Rattle.std.specs.Duration.{as_nanos}
 use Rattle.std.specs.declared.alloc.Global.{Global}
@@ -40,7 +40,6 @@ module _ {D : Type 0} (s : Settings) (tree : Tree D) where
   -- A check that began with this path is complete. It made just the runs that were left, each once, none of which fails
   -- (`HasCompletedFrom`).
   pub record Completes (path : List Node) (runs : List (List Choice × D)) : Type 0 where
-    pub made : MakesAll s (marking s.bound) tree (stored path) runs
     pub complete : HasCompletedFrom s (marking s.bound) tree (stored path) runs
     -- from the beginning they are the reachable runs
     pub fresh : path ≡ [] → IsCompleteReport s tree runs
@@ -49,7 +48,6 @@ module _ {D : Type 0} (s : Settings) (tree : Tree D) where
   -- the other path; these runs and then those of a check that goes on there and is complete are what was left, each once
   -- (`WasStoppedFrom`).
   pub record GoesOn (path : List Node) (runs : List (List Choice × D)) (last : List Node) : Type 0 where
-    pub made : Makes s (marking s.bound) tree (stored path) runs (stored last)
     pub stopped : WasStoppedFrom s (marking s.bound) tree (stored path) runs (stored last)
     -- from the beginning there are more of the reachable runs
     pub fresh : path ≡ [] → IsStoppedReport s tree runs
@@ -61,19 +59,32 @@ module _ {D : Type 0} (s : Settings) (tree : Tree D) where
     -- from the beginning it is a reachable run
     pub fresh : path ≡ [] → IsFailedReport s tree runs failure failing
 
+  -- ---- the rounds of a check
+
+  -- A complete check has driven the path through the body's runs round after round, each time a step further, until no step was
+  -- left.
+  pub record CompletesByRounds (path : List Node) (runs : List (List Choice × D)) : Type 0 where
+    pub promise : Completes path runs
+    pub rounds : MakesAll s (marking s.bound) tree (stored path) runs
+
+  -- one that is to go on has driven it so up to the other path
+  pub record GoesOnByRounds (path : List Node) (runs : List (List Choice × D)) (last : List Node) : Type 0 where
+    pub promise : GoesOn path runs last
+    pub rounds : Makes s (marking s.bound) tree (stored path) runs (stored last)
+
   -- ---- checks one after another
 
   -- Checks from a path on, each of which but the last was stopped, and each of which went on with a text of the path to which
   -- the one before had come.
   pub data AreTogether : List Node → List (List Choice × D) → Type 0 where
-    ends : (path : List Node) (runs : List (List Choice × D)) → Completes path runs → AreTogether path runs
-    goes_on : (explores : Bool) (text : List ℕ) (path last next : List Node) (runs more : List (List Choice × D)) → GoesOn path runs last
+    ends : (path : List Node) (runs : List (List Choice × D)) → CompletesByRounds path runs → AreTogether path runs
+    goes_on : (explores : Bool) (text : List ℕ) (path last next : List Node) (runs more : List (List Choice × D)) → GoesOnByRounds path runs last
         → IsTextOf s explores text last → IsTextOf s explores text next → AreTogether next more → AreTogether path (runs ++ more)
 
 -- Their runs, one after another, are what one check makes: from the beginning the reachable runs, each once.
 abbrev pub TogetherLaw : Type 0 → Type 0
 TogetherLaw D = (s : Settings) (explores : Bool) (tree : Tree D) (text : Option (List ℕ)) (path : List Node) (runs : List (List Choice × D)) → IsRunTree tree
-    → ReadsAs s explores text path → AreTogether s tree path runs → Completes s tree path runs
+    → ReadsAs s explores text path → AreTogether s tree path runs → CompletesByRounds s tree path runs
 
 -- ---- stores
 
@@ -88,7 +99,7 @@ pub record IsHeld {D : Type 0} (b : Builder) (tree : Tree D) (holds : Option (Li
   pub behind : List (List Choice × D)
   pub splits : runs ≡ before ++ behind
   pub few : length behind ≤ b.checkpoint_interval
-  pub goes_on : GoesOn (search_of b) tree path before last
+  pub goes_on : GoesOnByRounds (search_of b) tree path before last
 
 -- ---- limits
 
@@ -128,13 +139,13 @@ module _ {D : Type 0} (b : Builder) (tree : Tree D) (holds : Option (List ℕ) �
     -- it is the compact text of the path's value
     pub compact : checkpoint ≡ compact_text (path_data (search_of b) (explores b) last)
     pub held : holds (Some checkpoint)
-    pub goes_on : GoesOn (search_of b) tree path runs last
+    pub goes_on : GoesOnByRounds (search_of b) tree path runs last
 
-  -- what a report says of a check that began with this path and gave these runs
-  abbrev pub Says : Report → Type 0
-  Says (Complete count) = Completes (search_of b) tree path runs
-  Says (Stopped count limit checkpoint) = StopsAt (string_bytes checkpoint)
-  Says (Failed count failure choices) = Fails (search_of b) tree path runs failure.kind choices.items
+  -- what a report claims of a check that began with this path and gave these runs
+  abbrev pub Claims : Report → Type 0
+  Claims (Complete count) = CompletesByRounds (search_of b) tree path runs
+  Claims (Stopped count limit checkpoint) = StopsAt (string_bytes checkpoint)
+  Claims (Failed count failure choices) = Fails (search_of b) tree path runs failure.kind choices.items
 
 -- What a report says of the runs of a body, which are this tree, and of what the visitor was given: where the store gave what it
 -- may give, and holds what it may hold, and where the clock has answered so.
@@ -148,7 +159,7 @@ pub record Reports {V D : Type 0} (takes : V → List Choice → D → V → Typ
   -- what the visitor was given
   pub runs : List (List Choice × D)
   pub given : WasGiven takes old new runs (runs_in report)
-  pub says : Says b tree holds path runs report
+  pub says : Claims b tree holds path runs report
   pub limits : StopsBy answered b report
   pub placed : IsPlaced b report
   pub held : IsHeld b tree holds path runs

@@ -2,22 +2,21 @@
 -- which. A run is the list of the choices that it makes, and the machine of a tree says which node a run meets after which
 -- choices. The settings say which runs are made: the one that takes defaults throughout, and with each run those that it calls
 -- for (`Reachable`, `marking`). The runs that the visitor was given (`WasGiven`) are as many as the report counts, and
--- `IsCompleteReport`, `IsStoppedReport` or `IsFailedReport` is what the report says of them. What a replay does is `Replays`.
+-- `IsCompleteReport`, `IsStoppedReport` or `IsFailedReport` is what the report says of them (their records are in
+-- `loom_engine/specs/Trees/Reported.antt`). What a replay does is `Replays`.
 -- None says that reduction or a bound leaves no failure out. `Check.antt` says this of the calls, and of checks that begin with a
 -- path.
-use Rattle.std.specs.Prelude.{◌≡◌, ◌≢◌, ◌≤◌, ℕ, false, List, [], ◌∷◌, ◌++◌, Some, None, Result, Ok, Err, length, ◌↔◌}
+use Rattle.std.specs.Prelude.{◌≡◌, ℕ, List, [], ◌∷◌, Some, Result, Ok, Err, length}
 use Rattle.loom_views.specs.declared.rt.failure.FailureKind.{FailureKind}
-use Rattle.loom_views.specs.declared.rt.failure.FailureKind.TheVariants.{NotDeterministic}
 use Rattle.loom_objects.specs.declared.choice.Choice.{Choice}
 use Rattle.loom_objects.specs.Tree.Tree.{Tree}
 use Rattle.loom_engine.specs.Walk.Machine.{Machine, run}
-use Rattle.loom_engine.specs.Walk.Runs.{Reachable}
-use Rattle.loom_engine.specs.Walk.Lists.{IsWalkList, IsInOrder, IsAllowed}
+use Rattle.loom_engine.specs.Walk.Lists.{IsAllowed}
 use Rattle.loom_engine.specs.Trees.Marks.{marking}
-use Rattle.loom_engine.specs.Trees.Meeting.{Settings, whole_search, count, machine_of}
-use Rattle.loom_engine.specs.Trees.Outcomes.{outcome, passed, AreRuns, choices_made}
+use Rattle.loom_engine.specs.Trees.Meeting.{Settings, whole_search, machine_of}
+use Rattle.loom_engine.specs.Trees.Outcomes.{outcome}
 use Rattle.loom_engine.specs.Trees.Replay.{replayed}
-use Rattle.loom_engine.specs.Trees.Sound.{ExploresTree}
+use Rattle.loom_engine.specs.Trees.Reported.{HasCompleted, WasStopped, HasFailed}
 use Rattle.loom.specs.declared.model.Replay.{Replay}
 use Rattle.loom.specs.declared.model.Replay.TheVariants as replay
 
@@ -28,46 +27,19 @@ module _ {D : Type 0} (s : Settings) (tree : Tree D) where
   abbrev pub machine : Machine
   machine = machine_of s (marking s.bound) tree
 
-  -- these are the reachable runs, all of them
-  pub record AreAllRuns (list : List (List Choice)) : Type 0 where
-    -- each stands there once, and those that share a beginning stand together
-    pub walk : IsWalkList (Reachable machine) list
-    -- without reduction they stand in order, bounded or not
-    pub in_order : s.reduce ≡ false → IsInOrder machine list
-    -- with neither reduction nor a bound, and where no run stops exploring, they are what the tree can come to
-    pub every_run : s.reduce ≡ false → s.bound ≡ None → ExploresTree tree
-        → (x : List Choice) → Reachable machine x ↔ ((o : Result D FailureKind) × (outcome s.max_branches tree x ≡ Some o))
-    -- under a bound none of them counts more preemptions at any of its nodes
-    pub within_bound : (bound : ℕ) → s.bound ≡ Some bound
-        → (x : List Choice) → Reachable machine x → (before rest : List Choice) → x ≡ before ++ rest → count (passed tree before) ≤ bound
+  -- What is known of a check that is complete, with the choices and the value of each run: these are the reachable runs, each
+  -- once, and none of them fails.
+  abbrev pub IsCompleteReport : List (List Choice × D) → Type 0
+  IsCompleteReport runs = HasCompleted s (marking s.bound) tree runs
 
-  -- what is known of a check that is complete, with the choices and the value of each run
-  pub record IsCompleteReport (runs : List (List Choice × D)) : Type 0 where
-    -- each is a run, and comes to its value
-    pub are_runs : AreRuns s.max_branches tree runs
-    pub all_runs : AreAllRuns (choices_made runs)
-    pub none_fails : (x : List Choice) → Reachable machine x → (value : D) × (outcome s.max_branches tree x ≡ Some (Ok value))
+  -- what is known of a check that was stopped before another run: these are the first of the reachable runs, and there are more
+  abbrev pub IsStoppedReport : List (List Choice × D) → Type 0
+  IsStoppedReport runs = WasStopped s (marking s.bound) tree runs
 
-  -- what is known of a check that was stopped before another run
-  pub record IsStoppedReport (runs : List (List Choice × D)) : Type 0 where
-    pub are_runs : AreRuns s.max_branches tree runs
-    -- the reachable runs that it didn't make, of which there are some
-    pub more : List (List Choice)
-    pub unfinished : more ≢ []
-    pub all_runs : AreAllRuns (choices_made runs ++ more)
-
-  -- what is known of a check in which the run with these choices failed, after the others
-  pub record IsFailedReport (runs : List (List Choice × D)) (failure : FailureKind) (failing : List Choice) : Type 0 where
-    pub are_runs : AreRuns s.max_branches tree runs
-    -- the reachable runs that it didn't make
-    pub more : List (List Choice)
-    pub all_runs : AreAllRuns (choices_made runs ++ failing ∷ more)
-    pub reachable : Reachable machine failing
-    pub fails : outcome s.max_branches tree failing ≡ Some (Err failure)
-    -- it isn't that the body isn't deterministic
-    pub own : failure ≢ NotDeterministic
-    -- its choices lead to the failure again
-    pub replays : replayed s.max_branches tree failing ≡ (failing, Err failure)
+  -- what is known of a check in which the run with these choices failed, after the others: it is a reachable run, and its choices
+  -- lead to the failure again
+  abbrev pub IsFailedReport : List (List Choice × D) → FailureKind → List Choice → Type 0
+  IsFailedReport runs failure failing = HasFailed s (marking s.bound) tree runs failure failing
 
 -- ---- the visitor
 

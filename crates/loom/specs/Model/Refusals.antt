@@ -6,8 +6,6 @@ use Rattle.loom_engine.specs.Checkpoint.Accepted.{IsRefusedText}
 use Rattle.loom.specs.declared.checkpoint.store.StoreError.{StoreError}
 use Rattle.loom.specs.declared.checkpoint.store.StoreError.TheVariants as store
 use Rattle.loom.specs.Model.Stores.{HasRisen}
-use Rattle.loom.specs.declared.model.beginning.BeginError.{BeginError}
-use Rattle.loom.specs.declared.model.beginning.BeginError.TheVariants as beginning
 use Rattle.loom.specs.declared.model.builder.Builder.{Builder}
 use Rattle.loom.specs.declared.model.error.CheckError.{CheckError}
 use Rattle.loom.specs.declared.model.error.CheckError.TheVariants.{NotJson, WrongShape, WrongVersion, OtherSettings, TooManyNodes, BadNode, Store, Memory}
@@ -25,10 +23,6 @@ of_path (why.Memory e) = Memory
 abbrev pub of_store : StoreError → CheckError
 of_store store.Fault = Store
 of_store store.Memory = Memory
-
-abbrev pub of_beginning : BeginError → CheckError
-of_beginning (beginning.Text why) = of_path why
-of_beginning (beginning.Store why) = of_store why
 
 -- Error 13 comes exactly where the store's count of faults has risen in this check.
 abbrev pub CountsFaults : {A : Type 0} → Result A CheckError → ℕ → ℕ → Type 0

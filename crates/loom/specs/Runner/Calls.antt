@@ -1,7 +1,7 @@
 -- What calls of a handle hand over.
 use Rattle.std.specs.Prelude.{⊤, Bool, true, false, cond, Option, Some, None, Result, Ok, Err}
 use Rattle.loom_objects.specs.declared.operation.Request.{Request}
-use Rattle.loom_objects.specs.declared.operation.Request.TheVariants.{Atomic, Fence, Cell, Arc, Track, Mutex, RwLock, Condvar, Notify, Channel, Waker, AtomicWaker, Local, Lazy, Explore, Thread, Fail, Unreachable}
+use Rattle.loom_objects.specs.declared.operation.Request.TheVariants.{Thread, Fail}
 use Rattle.loom_objects.specs.declared.operation.ThreadOp.{ThreadOp}
 use Rattle.loom_objects.specs.declared.operation.ThreadOp.TheVariants.{Spawn, Join, Current, Park, Unpark, Yield, Finish, Exit, End}
 use Rattle.loom.specs.declared.runner.stop.Stop.{Stop}
@@ -29,23 +29,7 @@ module _ {D : Type 0} where
   -- spawns and the ends of threads are handed over by the handle's own calls
   abbrev pub is_reserved : Request D ⊤ → Bool
   is_reserved (Thread op) = is_reserved_of_thread op
-  is_reserved (Atomic op) = false
-  is_reserved (Fence order) = false
-  is_reserved (Cell op) = false
-  is_reserved (Arc op) = false
-  is_reserved (Track op) = false
-  is_reserved (Mutex op) = false
-  is_reserved (RwLock op) = false
-  is_reserved (Condvar op) = false
-  is_reserved (Notify op) = false
-  is_reserved (Channel op) = false
-  is_reserved (Waker op) = false
-  is_reserved (AtomicWaker op) = false
-  is_reserved (Local op) = false
-  is_reserved (Lazy op) = false
-  is_reserved (Explore op) = false
-  is_reserved Fail = false
-  is_reserved Unreachable = false
+  is_reserved _ = false
 
   -- a closure that hands such a one to `call` counts as having handed over `fail`
   abbrev pub handed : Request D ⊤ → Request D ⊤

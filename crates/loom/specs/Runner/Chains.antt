@@ -33,7 +33,7 @@ module _ {D : Type 0} where
   abbrev pub choices_of : Run D → List Choice
   choices_of r = chosen r.now.route
 
-  -- The machine is handed these operations, one after another, whatever its threads are told, up to the end of the run. There are
+  -- The machine is handed these operations, one after another, whatever the replies, up to the end of the run. There are
   -- no further ones.
   unfoldable pub handing : List (Request D ⊤) → Course D → Tree D
   handing [] c = Fails TooManySteps

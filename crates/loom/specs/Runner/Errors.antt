@@ -1,18 +1,15 @@
--- The error of a run that was spoiled.
--- The numbers of errors, and the error of a run that wasn't made.
-use Rattle.loom.specs.declared.runner.error.RoundError.{RoundError}
-use Rattle.loom.specs.declared.runner.error.RoundError.TheVariants as round
-use Rattle.loom.specs.declared.runner.stop.Stop.{Stop}
-use Rattle.loom.specs.declared.runner.stop.Stop.TheVariants as stop
+-- The errors of checks of closures: their numbers, and the error of a run that was spoiled.
 use Rattle.std.specs.Prelude.{ℕ}
 use Rattle.loom.specs.declared.runner.error.RunnerError.{RunnerError}
 use Rattle.loom.specs.declared.runner.error.RunnerError.TheVariants as error
+use Rattle.loom.specs.declared.runner.stop.Stop.{Stop}
+use Rattle.loom.specs.declared.runner.stop.Stop.TheVariants as stop
 
--- the error of a run that stopped so, and not by an event
-abbrev pub error_by : Stop → RoundError
-error_by (stop.Failure failure) = round.NotSettled
-error_by stop.Memory = round.Memory
-error_by stop.Refused = round.Refused
+-- the error of a run that stopped so, where its history didn't
+abbrev pub error_by : Stop → RunnerError
+error_by (stop.Failure failure) = error.NotSettled
+error_by stop.Memory = error.Memory
+error_by stop.Refused = error.Refused
 
 -- the number by which the program names an error
 abbrev pub number_of : RunnerError → ℕ
@@ -20,9 +17,3 @@ number_of error.Refused = 1
 number_of error.NotSettled = 2
 number_of error.Memory = 3
 number_of (error.Settings why) = 4
-
--- the error of a check whose run wasn't made
-abbrev pub of_round : RoundError → RunnerError
-of_round round.Refused = error.Refused
-of_round round.NotSettled = error.NotSettled
-of_round round.Memory = error.Memory

@@ -1,12 +1,11 @@
--- The events of a run, and what each thread was told of them.
-use Rattle.std.specs.Prelude.{ℕ, ◌≡◌, ◌<◌, ◌-◌, ◌+◌, ◌==◌, ◌&&◌, ⊤, Bool, true, false, not, cond, List, [], ◌∷◌, ◌++◌, length, Option, Some, None, Result, Ok, Err, slice_index, slice_get}
+-- The events of a run, and the told list of each thread: its operations, with the replies to them.
+use Rattle.std.specs.Prelude.{ℕ, ◌≡◌, ◌<◌, ◌-◌, ◌+◌, ◌==◌, ◌&&◌, ⊤, Bool, true, false, cond, List, [], ◌∷◌, ◌++◌, length, Option, Some, None, Result, Ok, Err, slice_index, slice_get}
 use Rattle.loom_views.specs.declared.rt.failure.FailureKind.TheVariants.{Misuse}
 use Rattle.loom_objects.specs.declared.failure.Failure.{Failure}
 use Rattle.loom_objects.specs.declared.operation.Request.{Request}
 use Rattle.loom_objects.specs.declared.operation.Request.TheVariants as request
 use Rattle.loom_objects.specs.declared.operation.Reply.{Reply}
 use Rattle.loom_objects.specs.declared.operation.Reply.TheVariants.{Spawned}
-use Rattle.loom_objects.specs.declared.operation.ThreadOp.{ThreadOp}
 use Rattle.loom_objects.specs.declared.operation.ThreadOp.TheVariants as thread
 use Rattle.loom_objects.specs.declared.operation.Turn.{Turn}
 use Rattle.loom_objects.specs.declared.operation.Turn.TheVariants as turn
@@ -14,8 +13,6 @@ use Rattle.loom_objects.specs.declared.failure.Stop.{Stop as Halt}
 use Rattle.loom_objects.specs.declared.failure.Stop.TheVariants as halt
 use Rattle.loom.specs.declared.runner.history.event.Event.{Event}
 use Rattle.loom.specs.declared.runner.history.event.Entry.{Entry}
-use Rattle.loom.specs.declared.runner.history.event.Outcome.{Outcome}
-use Rattle.loom.specs.declared.runner.history.event.Outcome.TheVariants.{Went, Failed}
 
 -- what an operation is answered after the end of a run
 abbrev pub misuse : Failure
@@ -29,53 +26,53 @@ module _ {D : Type 0} where
   -- ---- what an outcome says
 
   -- what the machine answers
-  abbrev pub answered : Outcome D → Result (Turn D) Halt
-  answered (Went turn) = Ok turn
-  answered (Failed failure) = Err (halt.Failure failure)
+  abbrev pub answered : Result (Turn D) Failure → Result (Turn D) Halt
+  answered (Ok turn) = Ok turn
+  answered (Err failure) = Err (halt.Failure failure)
 
   -- the reply to the thread
-  abbrev pub replied : ℕ → Outcome D → Option (Reply D)
-  replied n (Went (turn.Reply k reply)) = cond (k == n) (Some reply) None
-  replied n (Went (turn.Start k)) = None
-  replied n (Went (turn.Ended value)) = None
-  replied n (Failed failure) = None
+  abbrev pub replied : ℕ → Result (Turn D) Failure → Option (Reply D)
+  replied n (Ok (turn.Reply k reply)) = cond (k == n) (Some reply) None
+  replied n (Ok (turn.Start k)) = None
+  replied n (Ok (turn.Ended value)) = None
+  replied n (Err failure) = None
 
   -- main's result, where the run has ended
-  abbrev pub ended : Outcome D → Option D
-  ended (Went (turn.Reply k reply)) = None
-  ended (Went (turn.Start k)) = None
-  ended (Went (turn.Ended value)) = Some value
-  ended (Failed failure) = None
+  abbrev pub ended : Result (Turn D) Failure → Option D
+  ended (Ok (turn.Reply k reply)) = None
+  ended (Ok (turn.Start k)) = None
+  ended (Ok (turn.Ended value)) = Some value
+  ended (Err failure) = None
 
   -- why the run failed
-  abbrev pub failing : Outcome D → Option Failure
-  failing (Went turn) = None
-  failing (Failed failure) = Some failure
+  abbrev pub failing : Result (Turn D) Failure → Option Failure
+  failing (Ok turn) = None
+  failing (Err failure) = Some failure
 
   -- what each further operation is answered
-  abbrev pub end_after : Outcome D → Option Failure
-  end_after (Went (turn.Reply k reply)) = None
-  end_after (Went (turn.Start k)) = None
-  end_after (Went (turn.Ended value)) = Some misuse
-  end_after (Failed failure) = Some failure
+  abbrev pub end_after : Result (Turn D) Failure → Option Failure
+  end_after (Ok (turn.Reply k reply)) = None
+  end_after (Ok (turn.Start k)) = None
+  end_after (Ok (turn.Ended value)) = Some misuse
+  end_after (Err failure) = Some failure
 
   abbrev pub made_in : Reply D → ℕ
   made_in (Spawned thread name notifier) = 1
   made_in _ = 0
 
   -- how many threads were made
-  abbrev pub made_by : Outcome D → ℕ
-  made_by (Went (turn.Reply k reply)) = made_in reply
-  made_by (Went (turn.Start k)) = 0
-  made_by (Went (turn.Ended value)) = 0
-  made_by (Failed failure) = 0
+  abbrev pub made_by : Result (Turn D) Failure → ℕ
+  made_by (Ok (turn.Reply k reply)) = made_in reply
+  made_by (Ok (turn.Start k)) = 0
+  made_by (Ok (turn.Ended value)) = 0
+  made_by (Err failure) = 0
 
   -- ---- what a history says
 
   abbrev pub last_event : List (Event D) → Option (Event D)
   last_event es = slice_get es (length es - 1)
 
-  abbrev pub outcome_by : {A : Type 0} → (Outcome D → Option A) → Option (Event D) → Option A
+  abbrev pub outcome_by : {A : Type 0} → (Result (Turn D) Failure → Option A) → Option (Event D) → Option A
   outcome_by of None = None
   outcome_by of (Some e) = of e.outcome
 
@@ -116,48 +113,21 @@ module _ {D : Type 0} where
     pub happens_so : happens old op (answered event.outcome) new
     pub history : after ≡ before ++ event ∷ []
 
-  -- ---- what threads are told
+  -- ---- told lists
 
   -- the first reply to the thread
   abbrev pub answer : ℕ → List (Event D) → Option (Reply D)
   answer n [] = None
   answer n (e ∷ es) = or_else (replied n e.outcome) (answer n es)
 
-  abbrev pub is_end : ThreadOp D ⊤ → Bool
-  is_end (thread.Spawn job name) = false
-  is_end (thread.Join thread notifier) = false
-  is_end thread.Current = false
-  is_end thread.Park = false
-  is_end (thread.Unpark thread) = false
-  is_end thread.Yield = false
-  is_end (thread.Finish value) = false
-  is_end thread.Exit = false
-  is_end thread.End = true
+  -- an entry of a thread's told list: each of its operations but the last one
+  abbrev pub is_listed : Request D ⊤ → Bool
+  is_listed (request.Thread thread.End) = false
+  is_listed _ = true
 
-  -- a thread is told of all that it hands over, but of its last operation
-  abbrev pub is_told : Request D ⊤ → Bool
-  is_told (request.Atomic op) = true
-  is_told (request.Fence order) = true
-  is_told (request.Cell op) = true
-  is_told (request.Arc op) = true
-  is_told (request.Track op) = true
-  is_told (request.Mutex op) = true
-  is_told (request.RwLock op) = true
-  is_told (request.Condvar op) = true
-  is_told (request.Notify op) = true
-  is_told (request.Channel op) = true
-  is_told (request.Waker op) = true
-  is_told (request.AtomicWaker op) = true
-  is_told (request.Local op) = true
-  is_told (request.Lazy op) = true
-  is_told (request.Explore op) = true
-  is_told (request.Thread op) = not (is_end op)
-  is_told request.Fail = true
-  is_told request.Unreachable = true
-
-  -- an operation of the thread, of which it is told
+  -- an operation of the thread, and an entry of its told list
   abbrev pub is_own : ℕ → Event D → Bool
-  is_own n e = (e.by == n) && is_told e.op
+  is_own n e = (e.by == n) && is_listed e.op
 
   abbrev pub entry : Request D ⊤ → Option (Reply D) → Entry D
   entry op reply = record { op = op; reply = reply }
@@ -167,7 +137,7 @@ module _ {D : Type 0} where
   part n [] = []
   part n (e ∷ es) = cond (is_own n e) (entry e.op (answer n (e ∷ es)) ∷ part n es) (part n es)
 
--- what one thread was told
+-- the told list of one thread
 pub record Share (D : Type 0) : Type 0 where
   pub thread : ℕ
   pub entries : List (Entry D)
@@ -175,7 +145,7 @@ pub record Share (D : Type 0) : Type 0 where
 abbrev pub share : {D : Type 0} → ℕ → List (Entry D) → Share D
 share n es = record { thread = n; entries = es }
 
--- each thread was told its part of the history
+-- there is a told list for each thread, its part of the history
 pub record AreShares {D : Type 0} (told : List (Share D)) (history : List (Event D)) : Type 0 where
   pub one_each : length told ≡ 1 + made history
   pub parts : (n : ℕ) → n < 1 + made history → slice_get told n ≡ Some (share n (part n history))

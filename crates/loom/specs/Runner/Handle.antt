@@ -1,4 +1,4 @@
--- What the calls of a handle add to what its thread was told.
+-- What the calls of a handle add to its thread's told list.
 use Rattle.std.specs.Prelude.{ℕ, ◌≡◌, ◌⊎◌, ◌&&◌, ⊤, Bool, true, false, cond, MatchBool, List, [], ◌∷◌, ◌++◌, Option, Some, None, is_some, IfSome, Result, Ok, Err, slice_get}
 use Rattle.loom_objects.specs.declared.operation.Request.{Request}
 use Rattle.loom_objects.specs.declared.operation.Request.TheVariants.{Thread}
@@ -41,14 +41,14 @@ is_memory (Some (Failure f)) = false
 is_memory (Some Refused) = false
 is_memory (Some Memory) = true
 
--- what contracts see of a handle: its thread, what that was told, and whether a call of it was refused memory
+-- what contracts see of a handle: its thread, its told list, and whether a call of it was refused memory
 pub record Teller (D : Type 0) : Type 0 where
   pub thread : ℕ
   pub told : List (Entry D)
   pub starved : Bool
 
 module _ {D : Type 0} where
-  -- the handle of a thread that was told nothing
+  -- a handle with an empty told list
   abbrev pub newcomer : ℕ → Teller D
   newcomer n = record { thread = n; told = []; starved = false }
 

@@ -1,4 +1,4 @@
--- The history of a run that threads make, and what each thread was told of it.
+-- The history of a run that threads make, and the state that they share.
 use Rattle.std.specs.Prelude.{ℕ, ◌≡◌, ◌<◌, ◌++◌, ⊤, List, [], ◌∷◌, length, Option, Some, None, option_map, Result, slice_get}
 use Rattle.loom_objects.specs.declared.failure.Stop.{Stop as Halt}
 use Rattle.loom_objects.specs.declared.failure.Stop.TheVariants as halt
@@ -12,7 +12,7 @@ use Rattle.loom_engine.specs.declared.rt.execution.Progress.{Progress}
 use Rattle.loom_engine.specs.Execution.{ExecutionState, ShowsCourse, Along, Submits, over_after}
 use Rattle.loom.specs.declared.runner.stop.Stop.{Stop}
 use Rattle.loom.specs.declared.runner.history.event.Event.{Event}
-use Rattle.loom.specs.declared.runner.history.event.Outcome.{Outcome}
+use Rattle.loom_objects.specs.declared.failure.Failure.{Failure}
 pub use Rattle.loom.specs.Runner.Events.{answered, end_after, ended, ended_by, end_in, entry, failed_by, failing, last_event, made, outcome_by, part, Share, share}
 
 -- ---- events
@@ -28,7 +28,7 @@ module _ {D : Type 0} where
 
   -- One event of the machine along the path: the operation is handed over, up to the next turn, or the run fails. The run goes
   -- on before it, and is over after it where the machine says so. What the path's search tries stays.
-  pub record Happens (m : Moment D) (op : Request D ⊤) (out : Outcome D) (n : Moment D) : Type 0 where
+  pub record Happens (m : Moment D) (op : Request D ⊤) (out : Result (Turn D) Failure) (n : Moment D) : Type 0 where
     pub live : m.state.over ≡ None
     pub along : Along (submit op) m.state.run m.route (answered out) n.state.run n.route
     pub over : n.state.over ≡ over_after (answered out)
@@ -86,7 +86,7 @@ module _ {D : Type 0} where
     pub goes : Goes log.now op event log'.now
     pub history : log'.history ≡ log.history ++ event ∷ []
 
-  -- the run began so, and each thread was told its part of the history
+  -- the run began so, and the told list of each thread is its part of the history
   pub record Settles (log : Log D) (began : Route) (limits : Limits) (told : List (Share D)) : Type 0 where
     pub began_so : log.began ≡ began
     pub limits_so : log.limits ≡ limits

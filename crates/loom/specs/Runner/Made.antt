@@ -1,5 +1,5 @@
 -- What is promised of one run. It is what a call of the closure and its handle's `close` make under the lock (`MadeBy`). Its history
--- is one of the machine, from the path with which it began, and each thread was told its part of it (`Settled`). If it ended, the
+-- is one of the machine, from the path with which it began, and the told list of each thread is its part of it (`Settled`). If it ended, the
 -- visitor is given it, with its history's choices and result (`Given`).
 use Rattle.std.specs.Prelude.{◌≡◌, List, Some, Result}
 use Rattle.loom_objects.specs.declared.choice.Choice.{Choice}
@@ -9,7 +9,7 @@ use Rattle.loom.specs.declared.runner.stop.Stop.{Stop}
 use Rattle.loom.specs.Runner.Histories.{Log, Share, IsHistory, Settles, last_event, ended_by}
 use Rattle.loom.specs.Runner.Handle.{Teller, Leading, Closes, newcomer}
 
--- a run that was made: where it began, the state at its end, what its threads were told, and main's handle and answer
+-- a run that was made: where it began, the state at its end, its threads' told lists, and main's handle and answer
 pub record Made (D : Type 0) : Type 0 where
   pub began : Route
   pub log : Log D
@@ -17,7 +17,7 @@ pub record Made (D : Type 0) : Type 0 where
   pub handle : Teller D
   pub answer : Result D Stop
 
--- Its history is one of the machine from its beginning, each thread was told its part, and main's part is what its closure and
+-- Its history is one of the machine from its beginning, the told list of each thread is its part, and main's part is what its closure and
 -- `close` left.
 pub record Settled {D : Type 0} (limits : Limits) (m : Made D) : Type 0 where
   pub settles : Settles m.log m.began limits m.told

@@ -82,8 +82,5 @@ impl<'a, R: Files> CheckpointStore for FileStore<'a, R> {
 pub fn file_store<'a, R: Files>(rt: &'a R, name: &'a Option<String>) -> Option<FileStore<'a, R>>
     ensures { (result ≡ None) ↔ (name.now ≡ None) }
 {
-    match name {
-        Some(name) => Some(FileStore::new(rt, name.as_str())),
-        None => None,
-    }
+    name.as_ref().map(|name| FileStore::new(rt, name.as_str()))
 }

@@ -1,3 +1,4 @@
+//! A checkpoint's text in memory.
 ghost use Rattle.std.specs.Prelude.{◌≡◌, None};
 ghost use Rattle.std.specs.Option.{option_map};
 ghost use Rattle.loom.specs.Model.Stores.{text_in};

@@ -1,3 +1,4 @@
+//! Where a check keeps the text of its path.
 ghost use Rattle.std.specs.Prelude.{ℕ, List, Option, Some, ◌≡◌, IfOk, OnOk, OnErr};
 ghost use Rattle.loom.specs.Model.Stores.{Counts, Keeps, text_in};
 
@@ -44,7 +45,7 @@ pub trait CheckpointStore {
         ensures { result ≡ fault_count self.now };
 }
 
-/// `None` stands for no store: it gives no text, and what is saved is let go.
+/// `None` is no store: it gives no text, and what is saved is let go.
 impl<S: CheckpointStore> CheckpointStore for Option<S> {
     ghost use Rattle.std.specs.Prelude.{◌≡◌, None, MatchOption};
     ghost use Rattle.std.specs.Option.{option_map_or};

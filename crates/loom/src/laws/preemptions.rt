@@ -1,6 +1,6 @@
 //! Laws of a bound on preemptions: which runs a search that isn't reduced makes with one, said of each run by itself. So what
 //! complete checks with rising bounds leave out is known. The contract of each function is a law. The definitions stand in
-//! `specs/Called.antt` for any machine, in `specs/Within.antt` for trees of runs, and in `specs/BoundExample.antt`.
+//! `specs/Model/Called.antt` for any machine, in `specs/Model/Within.antt` for trees of runs, and in `specs/Model/BoundExample.antt`.
 ghost use Rattle.loom.specs.Model.Called.{CalledRunsLaw};
 ghost use Rattle.loom.specs.Model.BoundExample.{ExampleLaw};
 ghost use Rattle.loom.specs.Model.Within.{NoFailureLaw, RisingLaw, WithinLaw};
@@ -11,8 +11,8 @@ pub fn called_runs()
     ensures { CalledRunsLaw }
 {}
 
-/// With a bound on preemptions these are the runs in which every choice but a default's stands where the run explores, and
-/// at a schedule only if that counts fewer preemptions than the bound.
+/// With a bound on preemptions these are the runs in which every choice that isn't a default is made where the run explores,
+/// and at a schedule only if that counts fewer preemptions than the bound.
 pub fn runs_within<A>()
     ensures { WithinLaw A }
 {}

@@ -1,55 +1,39 @@
 //! The path with which a check begins.
-ghost use Rattle.std.specs.Prelude.{◌≡◌, IfOk, IfErr};
-ghost use Rattle.loom_engine.specs.Path.Route.{settings};
-ghost use Rattle.loom.specs.Model.Begun.{CountsFaults, IsBegun, IsNoBeginning};
-ghost use Rattle.loom.specs.declared.model.beginning.BeginError.TheVariants.{Store, Text};
+ghost use Rattle.std.specs.Prelude.{◌≤◌, IfOk, IfErr, IfSome};
+ghost use Rattle.loom.specs.Model.Begun.{IsBegun};
+ghost use Rattle.loom.specs.Model.Refusals.{CountsFaults, IsNoBeginning};
+ghost use Rattle.loom.specs.Model.Settings.{explores, search_of};
 
-use crate::checkpoint::store::{CheckpointStore, StoreError};
-use loom_engine::rt::path::checkpoint::error::PathError;
+use crate::checkpoint::store::CheckpointStore;
+use crate::model::builder::Builder;
+use crate::model::error::CheckError;
+use crate::model::paths::path_search;
+use loom_engine::rt::path::Path;
 use loom_engine::rt::path::checkpoint::text::from_text;
-use loom_engine::rt::path::{Path, Search};
 use std::alloc::Global;
-use thiserror::Error;
 
-/// Why a check doesn't begin.
-#[derive(Debug, Drop, Error)]
-pub enum BeginError {
-    /// The store gave no answer.
-    #[error("{0}")]
-    Store(StoreError),
-    /// The store's text is no path of this search.
-    #[error("{0}")]
-    Text(PathError),
-}
-
-impl From<StoreError> for BeginError {
-    ghost from_gives = { λ why e. e ≡ Store why };
-
-    fn from(why: StoreError) -> BeginError {
-        BeginError::Store(why)
-    }
-}
-
-impl From<PathError> for BeginError {
-    ghost from_gives = { λ why e. e ≡ Text why };
-
-    fn from(why: PathError) -> BeginError {
-        BeginError::Text(why)
-    }
-}
-
-/// The path with which a check begins: that of the text in the store, or one without nodes.
-pub fn begin<S: CheckpointStore>(
-    alloc: Global,
-    search: Search,
-    store: &mut S,
-) -> Result<Path, BeginError>
-    ensures begun { IfOk result (IsBegun (settings search) search.explores (S.gives store.old) (S.holds store.new)) }
-    ensures errors { IfErr result (IsNoBeginning (settings search) search.explores (S.gives store.old)) }
-    ensures faults { CountsFaults result (S.fault_count store.old) (S.fault_count store.new) }
-{
-    match store.load(alloc)? {
-        Some(text) => Ok(from_text(alloc, text.as_slice(), search)?),
-        None => Ok(Path::new(alloc, search)),
+impl Builder {
+    /// The path with which a check begins: that of the text in the store, or one without nodes.
+    pub(crate) fn begin<S: CheckpointStore>(
+        &self,
+        alloc: Global,
+        store: &mut S,
+    ) -> Result<Path, CheckError>
+        requires branches { self.now.max_branches ≤ 1000000 }
+        requires bound { IfSome self.now.preemption_bound (λ bound. bound ≤ 255) }
+        ensures begun { IfOk result (IsBegun (search_of self.now) (explores self.now) (S.gives store.old) (S.holds store.new)) }
+        ensures errors { IfErr result (IsNoBeginning self.now (S.gives store.old)) }
+        ensures faults { CountsFaults result (S.fault_count store.old) (S.fault_count store.new) }
+    {
+        let search = path_search(
+            self.reduce,
+            self.preemption_bound,
+            self.max_branches,
+            self.expect_explicit_explore,
+        );
+        match store.load(alloc)? {
+            Some(text) => Ok(from_text(alloc, text.as_slice(), search)?),
+            None => Ok(Path::new(alloc, search)),
+        }
     }
 }

@@ -1,10 +1,11 @@
+//! How a check is done: its settings, their defaults, and which values they may have.
 ghost use Rattle.std.specs.Prelude.{◌≡◌, ◌≤◌, ◌<◌, OnOk, IfOk, IfErr, IfSome, Some, None, String, string_bytes};
 ghost use Rattle.loom.specs.Model.Environment.{numbers_of, of_environment};
 ghost use Rattle.loom.specs.Model.Settings.{defaults, tested, tested_bound};
 
 use crate::model::env::{Env, number_or, optional, seconds};
 use crate::model::error::{CheckError, Variable};
-use crate::model::limits::default_threads;
+use loom_views::rt::MAX_THREADS;
 use std::alloc::{AllocError, Global};
 use std::time::Duration;
 
@@ -35,7 +36,7 @@ pub struct Builder {
     pub expect_explicit_explore: bool,
     /// Whether a failure has the place of its operation.
     pub location: bool,
-    /// Whether the log is told which thread goes on.
+    /// Whether it is logged which thread goes on.
     pub log: bool,
 }
 
@@ -54,7 +55,7 @@ impl Builder {
         ensures { result ≡ defaults }
     {
         Builder {
-            max_threads: default_threads(),
+            max_threads: MAX_THREADS,
             max_branches: 1000,
             max_steps: 1_000_000,
             max_permutations: None,

@@ -1,3 +1,4 @@
+//! The clock by which a check is stopped after some time.
 ghost use Rattle.std.specs.declared.time.Duration.{Duration};
 
 use std::time::Duration;
@@ -12,7 +13,7 @@ pub trait Clock {
         ensures { answered self.new result };
 }
 
-/// A clock that stands still: it always answers zero.
+/// A clock on which no time passes: it always answers zero.
 #[derive(Clone, Copy, Debug)]
 pub struct NoClock;
 

@@ -1,3 +1,4 @@
+//! The variables of an environment, from which a builder is made.
 ghost use Rattle.std.specs.Prelude.{◌≡◌};
 ghost use Rattle.loom.specs.Model.Environment.{duration_in, number_in, number_or as or_number, option_in};
 
@@ -66,8 +67,6 @@ pub(crate) fn optional(
 pub(crate) fn seconds(text: &Option<String>) -> Result<Option<Duration>, CheckError>
     ensures { result ≡ duration_in text.now }
 {
-    match optional(Variable::MaxDuration, text)? {
-        Some(number) => Ok(Some(Duration::from_secs(number as u64))),
-        None => Ok(None),
-    }
+    let number = optional(Variable::MaxDuration, text)?;
+    Ok(number.map(|number| Duration::from_secs(number as u64)))
 }

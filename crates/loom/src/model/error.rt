@@ -1,10 +1,10 @@
+//! Why a check gives no report.
 ghost use Rattle.std.specs.Prelude.{◌≡◌};
 ghost use Rattle.loom.specs.Model.Errors.{number_of};
-ghost use Rattle.loom.specs.Model.Refusals.{of_beginning, of_path, of_store};
+ghost use Rattle.loom.specs.Model.Refusals.{of_path, of_store};
 ghost use Rattle.loom.specs.declared.model.error.CheckError.TheVariants.{Memory};
 
 use crate::checkpoint::store::StoreError;
-use crate::model::beginning::BeginError;
 use loom_engine::rt::path::checkpoint::error::PathError;
 pub use loom_engine::rt::path::checkpoint::error::Setting;
 use std::alloc::AllocError;
@@ -133,17 +133,6 @@ impl From<StoreError> for CheckError {
         match why {
             StoreError::Fault => CheckError::Store,
             StoreError::Memory => CheckError::Memory,
-        }
-    }
-}
-
-impl From<BeginError> for CheckError {
-    ghost from_gives = { λ why e. e ≡ of_beginning why };
-
-    fn from(why: BeginError) -> CheckError {
-        match why {
-            BeginError::Text(why) => CheckError::from(why),
-            BeginError::Store(why) => CheckError::from(why),
         }
     }
 }

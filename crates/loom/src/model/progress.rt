@@ -1,4 +1,4 @@
-//! What a log is told of a check.
+//! What a check logs of a run.
 use log::{Log, debug};
 use loom_engine::rt::path::Path;
 use loom_objects::choice::Choice;

@@ -1,17 +1,16 @@
-//! Who is given the runs of a check, and where its checkpoints go, if anywhere.
+//! Who is given the runs of a check: a visitor, for which the choices of each are listed, or nobody.
 ghost use Rattle.std.specs.Prelude.{List, OnOk};
 ghost use Rattle.loom_engine.specs.Path.Route.{chosen};
 ghost use Rattle.loom_objects.specs.declared.choice.Choice.{Choice};
 
-use crate::checkpoint::store::{CheckpointStore, StoreError};
 use crate::model::visitor::Visitor;
 use loom_engine::rt::path::Path;
 use std::alloc::{AllocError, Global};
 
-/// The choices of a run are listed for a visitor.
+/// The choices of each run are listed.
 pub struct Listed;
 
-/// Nobody takes the choices of a run.
+/// No choices are listed, since nobody takes them.
 pub struct Unlisted;
 
 /// Is given each run that ended without a failure, with the path that has made it. The choices are listed or not.
@@ -33,40 +32,14 @@ impl<D: Drop, V: Visitor<D>> Receiver<D, Listed> for V {
     }
 }
 
-/// A receiver that keeps nothing.
+/// Nobody is given the runs.
 #[derive(Drop)]
-pub struct Nobody;
+pub struct NoReceiver;
 
-impl<D: Drop> Receiver<D, Unlisted> for Nobody {
+impl<D: Drop> Receiver<D, Unlisted> for NoReceiver {
     ghost receives = { λ old choices value new. Unit {0} };
 
     fn receive(&mut self, _alloc: Global, _path: &Path, _value: D) -> Result<(), AllocError> {
         Ok(())
-    }
-}
-
-/// A store that gives no text and keeps none.
-#[derive(Drop)]
-pub struct NoStore;
-
-impl CheckpointStore for NoStore {
-    ghost use Rattle.std.specs.Prelude.{◌≡◌, None};
-
-    ghost gives = { λ _ text. text ≡ None };
-
-    ghost holds = { λ _ _. Unit {0} };
-
-    ghost fault_count = { λ _. 0 };
-
-    fn load(&mut self, _alloc: Global) -> Result<Option<Vec<u8>>, StoreError> {
-        Ok(None)
-    }
-
-    fn save(&mut self, _text: &str) -> Result<(), StoreError> {
-        Ok(())
-    }
-
-    fn faults(&self) -> u64 {
-        0
     }
 }

@@ -1,4 +1,4 @@
-//! What a report says, for a person.
+//! What a check found, and how it is printed.
 
 use crate::choices::ShownChoices;
 use crate::model::Limit;
@@ -30,9 +30,9 @@ pub enum Report {
 
 /// So many runs, as `1 run` and `2 runs`.
 #[derive(Clone, Copy)]
-struct Runs(u64);
+struct RunCount(u64);
 
-impl fmt::Display for Runs {
+impl fmt::Display for RunCount {
     fn fmt<W: fmt::Write>(&self, f: &mut fmt::Formatter<W>) -> fmt::Result {
         let runs = self.0;
         if runs == 1 {
@@ -59,11 +59,11 @@ impl fmt::Display for Report {
     fn fmt<W: fmt::Write>(&self, f: &mut fmt::Formatter<W>) -> fmt::Result {
         match self {
             Report::Complete { runs } => {
-                let runs = Runs(*runs);
+                let runs = RunCount(*runs);
                 write!(f, "complete: {runs}, none failed")
             }
             Report::Stopped { runs, limit, .. } => {
-                let runs = Runs(*runs);
+                let runs = RunCount(*runs);
                 write!(f, "stopped: `{limit}` was reached after {runs}")
             }
             Report::Failed {
@@ -71,7 +71,7 @@ impl fmt::Display for Report {
                 failure,
                 choices,
             } => {
-                let runs = Runs(*runs);
+                let runs = RunCount(*runs);
                 let choices = ShownChoices(choices.as_slice());
                 write!(f, "failed after {runs}: {failure}\nreplay: {choices}")
             }

@@ -5,10 +5,9 @@ ghost use Rattle.loom.specs.Model.Rising.{NoFailureLaw, RisesTo, bounded, is_com
 ghost use Rattle.loom.specs.Model.Check.{ReportsAlone};
 ghost use Rattle.loom.specs.Model.Settings.{explores, tested};
 
+use crate::checkpoint::memory::MemoryStore;
 use crate::model::builder::Builder;
 use crate::model::error::CheckError;
-use crate::model::limits::next_bound;
-use crate::model::receiver::NoStore;
 use crate::model::report::Report;
 use loom_objects::body::Body;
 use std::alloc::Global;
@@ -57,10 +56,10 @@ impl Builder {
         let mut bound = 0;
         loop {
             let report = self.check_bounded(alloc, body, bound)?;
-            match next_bound(bound, up_to) {
-                Some(next) if report.is_complete() => bound = next,
-                _ => return Ok(Risen { bound, report }),
+            if bound >= up_to || !report.is_complete() {
+                return Ok(Risen { bound, report });
             }
+            bound += 1;
         }
     }
 
@@ -75,10 +74,10 @@ impl Builder {
         ensures errors { IfErr result (λ e. (e ≡ CheckError.Memory) ⊎ (tested (bounded self.now bound) ≡ Err e)) }
     {
         self.with_bound(bound)
-            .check_alone(alloc, body, &mut NoStore)
+            .check_alone(alloc, body, &mut None::<MemoryStore>)
     }
 
-    /// The same settings with this bound, and without a file.
+    /// These settings, but with this bound, and without a file.
     fn with_bound(&self, bound: usize) -> Builder
         ensures { result ≡ bounded self.now bound }
     {
@@ -99,8 +98,8 @@ impl Builder {
     }
 }
 
-/// Where a check that isn't reduced is complete with a bound, no run fails in which every choice but a default's stands where the
-/// run explores, and at a schedule only if that counts fewer preemptions than the bound.
+/// Where a check that isn't reduced is complete with a bound, no run fails in which every choice that isn't a default is made where
+/// the run explores, and at a schedule only if that counts fewer preemptions than the bound.
 pub fn none_within_fails<D>()
     ensures { NoFailureLaw D }
 {}

@@ -1,10 +1,10 @@
-//! A run of a check, and what comes after it.
+//! A round of a check: one run, and the step of its path to the next one.
 ghost use Rattle.std.specs.Prelude.{IfOk};
 ghost use Rattle.loom_engine.specs.Path.Route.{IsAtStart};
-ghost use Rattle.loom.specs.Model.Rounds.{ComesTo, HasGone, IsOver};
+ghost use Rattle.loom.specs.Model.Rounds.{ComesTo};
 
 use crate::model::receiver::Receiver;
-use crate::model::runs::Runs;
+use crate::model::runs::RunMaker;
 use loom_engine::rt::path::Path;
 use loom_objects::choice::Choice;
 use loom_objects::failure::Failure;
@@ -30,38 +30,21 @@ pub fn run_and_step<D: Drop, Choices, M, R>(
     path: &mut Path,
 ) -> Result<Round, AllocError>
 where
-    M: Runs<Result<D, Failure>>,
+    M: RunMaker<D>,
     R: Receiver<D, Choices>,
     requires may { M.may_run runs.now }
     requires starts { IsAtStart (M.begins_exploring runs.now) path.old }
     ensures { IfOk result (λ round. ComesTo (M.comes runs.now) R.receives path.old receiver.old round path.new receiver.new) }
 {
-    match runs.run(alloc, room, path)? {
-        Err(failure) => failed(alloc, failure, path),
-        Ok(value) => ended(alloc, value, receiver, path),
+    match runs.run(room, path)? {
+        Err(failure) => Ok(Round::Failed(failure, path.choices(alloc)?)),
+        Ok(value) => {
+            receiver.receive(alloc, path, value)?;
+            if path.step() {
+                Ok(Round::Next)
+            } else {
+                Ok(Round::Last)
+            }
+        }
     }
-}
-
-/// The run along the path ended with this value, which the receiver is given, and the path steps to the next one.
-fn ended<D, Choices, R: Receiver<D, Choices>>(
-    alloc: Global,
-    value: D,
-    receiver: &mut R,
-    path: &mut Path,
-) -> Result<Round, AllocError>
-    ensures { IfOk result (λ round. HasGone R.receives value path.old receiver.old round path.new receiver.new) }
-{
-    receiver.receive(alloc, path, value)?;
-    if path.step() {
-        Ok(Round::Next)
-    } else {
-        Ok(Round::Last)
-    }
-}
-
-/// The run along the path failed so.
-fn failed(alloc: Global, failure: Failure, path: &Path) -> Result<Round, AllocError>
-    ensures { IfOk result (IsOver failure path.now) }
-{
-    Ok(Round::Failed(failure, path.choices(alloc)?))
 }

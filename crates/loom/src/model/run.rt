@@ -48,7 +48,7 @@ impl<B: Body> Room<B> {
         })
     }
 
-    /// Lets the room go. (Whoever owns one where it ends has what all of a run holds let go, kind by kind. So that stands here.)
+    /// Lets the room go.
     pub fn leave(self) {}
 }
 

@@ -2,19 +2,20 @@
 ghost use Rattle.std.specs.Prelude.{◌≡◌, ◌<◌, ◌+◌, ◌-◌, ◌^◌, IfOk, string_bytes};
 ghost use Rattle.loom.specs.Model.Rounds.{ComesTo};
 ghost use Rattle.loom_engine.specs.Path.Route.{IsAtStart, stored};
-ghost use Rattle.loom.specs.Model.Saving.{IsKept, IsSavedAs};
+ghost use Rattle.loom.specs.Model.Saving.{IsKept, IsSavedAs, IsStoppedWith};
 ghost use Rattle.loom.specs.Model.Stores.{Counts};
 ghost use Rattle.loom_engine.specs.Trees.Resuming.{AreAtRest, HasDefaults};
 
 use crate::checkpoint::store::{CheckpointStore, StoreError};
-use crate::model::limits::tell_log;
+use crate::model::Limit;
+use crate::model::limits::log_runs;
 use crate::model::receiver::Receiver;
+use crate::model::report::Report;
 use crate::model::rounds::{Round, run_and_step};
-use crate::model::runs::Runs;
+use crate::model::runs::RunMaker;
 use log::Log;
 use loom_engine::rt::path::Path;
 use loom_engine::rt::path::checkpoint::text::to_text;
-use loom_objects::failure::Failure;
 use std::alloc::Global;
 
 /// How far a check has come, and when it saves its path.
@@ -26,6 +27,22 @@ pub struct Pace {
     pub runs: u64,
     /// How many runs are made until the next time.
     pub until_save: usize,
+}
+
+impl Pace {
+    /// Before the first run.
+    pub fn new(interval: usize) -> Pace
+        requires { 0 < interval }
+        ensures interval { result.interval ≡ interval }
+        ensures runs { result.runs ≡ 0 }
+        ensures until { result.until_save ≡ interval - 1 }
+    {
+        Pace {
+            interval,
+            runs: 0,
+            until_save: interval - 1,
+        }
+    }
 }
 
 /// Saves the path where it is time for that, and then makes one run along it, which the receiver is given, and the step to the
@@ -41,7 +58,7 @@ pub fn save_and_run<D: Drop, Choices, M, R, S, L>(
     pace: &mut Pace,
 ) -> Result<Round, StoreError>
 where
-    M: Runs<Result<D, Failure>>,
+    M: RunMaker<D>,
     R: Receiver<D, Choices>,
     S: CheckpointStore,
     L: Log,
@@ -83,8 +100,28 @@ fn keep<S: CheckpointStore, L: Log>(
         return Ok(pace.until_save - 1);
     }
     save(alloc, path, store)?;
-    tell_log(log, "iteration ", pace.runs + 1, "");
+    log_runs(log, "iteration ", pace.runs + 1, "");
     Ok(pace.interval - 1)
+}
+
+/// A limit was reached after so many runs: the path is saved once more, and the check goes on with its text.
+pub fn stop<S: CheckpointStore>(
+    alloc: Global,
+    path: &Path,
+    store: &mut S,
+    runs: u64,
+    limit: Limit,
+) -> Result<Report, StoreError>
+    requires rests { AreAtRest (stored path.now.nodes) }
+    requires defaults { HasDefaults (stored path.now.nodes) }
+    ensures stopped { IfOk result (IsStoppedWith path.now (S.holds store.new) runs limit) }
+    ensures faults { Counts result (S.fault_count store.old) (S.fault_count store.new) }
+{
+    Ok(Report::Stopped {
+        runs,
+        limit,
+        checkpoint: save(alloc, path, store)?,
+    })
 }
 
 /// Saves the path, and answers its text.

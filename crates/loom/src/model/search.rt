@@ -1,30 +1,28 @@
-//! The loop of a check.
+//! The loop of a check: one round after another, until no run is left, one fails or a limit is reached.
 ghost use Rattle.std.specs.Prelude.{◌≡◌, ◌≤◌, ◌<◌, ◌^◌, ◌-◌, None, Err, IfOk, IfErr, IfSome};
 ghost use Rattle.loom_engine.specs.Path.Route.{IsAtStart, IsSameSearch};
 ghost use Rattle.loom.specs.Model.Run.{IsLocated, RunsAlong};
 ghost use Rattle.loom_engine.specs.Runs.Body.{runs as runs_of};
-ghost use Rattle.loom.specs.Model.Begun.{IsBegun};
 ghost use Rattle.loom.specs.Model.Check.{Reports};
 ghost use Rattle.loom.specs.Model.Loop.{Comes, HasReached};
-ghost use Rattle.loom.specs.Model.Refusals.{CountsFaults, IsNoBeginning, IsNoReport};
-ghost use Rattle.loom.specs.Model.Settings.{explores, search_of, tested};
+ghost use Rattle.loom.specs.Model.Refusals.{CountsFaults, IsNoReport};
+ghost use Rattle.loom.specs.Model.Settings.{explores, tested};
+ghost use Rattle.loom.specs.declared.model.report.Report.TheVariants.{Complete};
 
 use crate::checkpoint::store::CheckpointStore;
 use crate::model::Limit;
-use crate::model::beginning::begin;
 use crate::model::builder::Builder;
 use crate::model::clock::Clock;
 use crate::model::error::CheckError;
-use crate::model::limits::{are_made, complete};
-use crate::model::paths::path_search;
+use crate::model::limits::{log_runs, most_runs};
 use crate::model::places::{LastPlaces, NoPlaces};
 use crate::model::progress::log_switches;
 use crate::model::receiver::Receiver;
 use crate::model::report::Report;
 use crate::model::rounds::Round;
 use crate::model::run::{Ending, Room, run};
-use crate::model::runs::Runs;
-use crate::model::saving::{Pace, save, save_and_run};
+use crate::model::runs::RunMaker;
+use crate::model::saving::{Pace, save_and_run, stop};
 use log::Log;
 use loom_engine::rt::execution::Limits;
 use loom_engine::rt::path::Path;
@@ -56,92 +54,14 @@ impl Builder {
     {
         self.test()?;
         let mut room = Room::new(alloc, self.limits())?;
-        let report = self.search_in(alloc, &mut room, body, receiver, clock, store, log);
+        let runs = BodyRuns {
+            builder: self,
+            body,
+            log,
+        };
+        let report = runs.make_rounds(alloc, &mut room, receiver, clock, store);
         room.leave();
         report
-    }
-
-    /// The same in this room, once the settings were tested.
-    fn search_in<B, Choices, R, C, S, L>(
-        &self,
-        alloc: Global,
-        room: &mut Room<B>,
-        body: &B,
-        receiver: &mut R,
-        clock: &mut C,
-        store: &mut S,
-        log: &L,
-    ) -> Result<Report, CheckError>
-    where
-        B: Body,
-        R: Receiver<B::Data, Choices>,
-        C: Clock,
-        S: CheckpointStore,
-        L: Log,
-        requires some { 1 ≤ self.now.max_threads }
-        requires few { self.now.max_threads ≤ 5 }
-        requires branches { self.now.max_branches ≤ 1000000 }
-        requires bound { IfSome self.now.preemption_bound (λ bound. bound ≤ 255) }
-        requires interval { 0 < self.now.checkpoint_interval }
-        ensures reports { IfOk result (Reports R.receives receiver.old receiver.new self.now (runs_of B.next (explores self.now) self.now.max_threads self.now.max_steps body.now) (S.gives store.old) (S.holds store.new) (C.answered clock.new)) }
-        ensures errors { IfErr result (IsNoReport self.now (S.gives store.old) (receiver.new ≡ receiver.old)) }
-        ensures faults { CountsFaults result (S.fault_count store.old) (S.fault_count store.new) }
-    {
-        let mut path = self.begin(alloc, store)?;
-        let mut pace = Pace {
-            interval: self.checkpoint_interval,
-            runs: 0,
-            until_save: self.checkpoint_interval - 1,
-        };
-        loop {
-            if let Some(limit) = self.reached(pace.runs, clock) {
-                let checkpoint = save(alloc, &path, store)?;
-                return Ok(Report::Stopped {
-                    runs: pace.runs,
-                    limit,
-                    checkpoint,
-                });
-            }
-            let runs = BodyRuns {
-                builder: self,
-                body,
-                log,
-            };
-            match save_and_run(
-                alloc, &runs, room, receiver, &mut path, store, log, &mut pace,
-            )? {
-                Round::Next => pace.runs += 1,
-                Round::Last => {
-                    return Ok(Report::Complete {
-                        runs: complete(log, pace.runs),
-                    });
-                }
-                Round::Failed(failure, choices) => {
-                    return Ok(Report::Failed {
-                        runs: pace.runs,
-                        failure,
-                        choices,
-                    });
-                }
-            }
-        }
-    }
-
-    /// The path with which a check begins: that of the text in the store, or one without nodes.
-    fn begin<S: CheckpointStore>(&self, alloc: Global, store: &mut S) -> Result<Path, CheckError>
-        requires branches { self.now.max_branches ≤ 1000000 }
-        requires bound { IfSome self.now.preemption_bound (λ bound. bound ≤ 255) }
-        ensures begun { IfOk result (IsBegun (search_of self.now) (explores self.now) (S.gives store.old) (S.holds store.new)) }
-        ensures errors { IfErr result (IsNoBeginning self.now (S.gives store.old)) }
-        ensures faults { CountsFaults result (S.fault_count store.old) (S.fault_count store.new) }
-    {
-        let search = path_search(
-            self.reduce,
-            self.preemption_bound,
-            self.max_branches,
-            self.expect_explicit_explore,
-        );
-        Ok(begin(alloc, search, store)?)
     }
 
     /// The limit that a check has reached after so many runs, if any. The clock is asked where a duration is set.
@@ -149,7 +69,7 @@ impl Builder {
         ensures reached { HasReached (C.answered clock.new) self.now runs result }
         ensures fits { result ≡ None → runs < 2 ^ 64 - 1 }
     {
-        if are_made(self.max_permutations, runs) {
+        if runs >= most_runs(self.max_permutations) {
             return Some(Limit::Permutations);
         }
         match self.max_duration {
@@ -180,7 +100,7 @@ impl Builder {
         }
     }
 
-    /// The same in a room of its own.
+    /// One run along the path, from its start, in a room of its own.
     pub(crate) fn run_once<B: Body>(
         &self,
         alloc: Global,
@@ -212,7 +132,7 @@ impl Builder {
     }
 }
 
-/// Makes the runs of a body, as a builder asks for them. The log is told which thread goes on.
+/// Makes the runs of a body, as a builder asks for them, and logs which thread goes on.
 #[derive(Drop)]
 struct BodyRuns<'a, B, L> {
     builder: &'a Builder,
@@ -220,7 +140,57 @@ struct BodyRuns<'a, B, L> {
     log: &'a L,
 }
 
-impl<'a, B: Body, L: Log> Runs<Result<B::Data, Failure>> for BodyRuns<'a, B, L> {
+impl<'a, B: Body, L: Log> BodyRuns<'a, B, L> {
+    /// Makes one round after another in this room, until the check ends. The settings were tested.
+    fn make_rounds<Choices, R: Receiver<B::Data, Choices>, C: Clock, S: CheckpointStore>(
+        &self,
+        alloc: Global,
+        room: &mut Room<B>,
+        receiver: &mut R,
+        clock: &mut C,
+        store: &mut S,
+    ) -> Result<Report, CheckError>
+        requires some { 1 ≤ self.now.builder.now.max_threads }
+        requires few { self.now.builder.now.max_threads ≤ 5 }
+        requires branches { self.now.builder.now.max_branches ≤ 1000000 }
+        requires bound { IfSome self.now.builder.now.preemption_bound (λ bound. bound ≤ 255) }
+        requires interval { 0 < self.now.builder.now.checkpoint_interval }
+        ensures reports { IfOk result (Reports R.receives receiver.old receiver.new self.now.builder.now (runs_of B.next (explores self.now.builder.now) self.now.builder.now.max_threads self.now.builder.now.max_steps self.now.body.now) (S.gives store.old) (S.holds store.new) (C.answered clock.new)) }
+        ensures errors { IfErr result (IsNoReport self.now.builder.now (S.gives store.old) (receiver.new ≡ receiver.old)) }
+        ensures faults { CountsFaults result (S.fault_count store.old) (S.fault_count store.new) }
+    {
+        let mut path = self.builder.begin(alloc, store)?;
+        let mut pace = Pace::new(self.builder.checkpoint_interval);
+        loop {
+            if let Some(limit) = self.builder.reached(pace.runs, clock) {
+                return Ok(stop(alloc, &path, store, pace.runs, limit)?);
+            }
+            match save_and_run(
+                alloc, self, room, receiver, &mut path, store, self.log, &mut pace,
+            )? {
+                Round::Next => pace.runs += 1,
+                Round::Last => return Ok(complete(self.log, pace.runs + 1)),
+                Round::Failed(failure, choices) => {
+                    return Ok(Report::Failed {
+                        runs: pace.runs,
+                        failure,
+                        choices,
+                    });
+                }
+            }
+        }
+    }
+}
+
+/// The check is complete with so many runs, and logs that.
+fn complete<L: Log>(log: &L, runs: u64) -> Report
+    ensures { result ≡ Complete runs }
+{
+    log_runs(log, "completed in ", runs, " iterations");
+    Report::Complete { runs }
+}
+
+impl<'a, B: Body, L: Log> RunMaker<B::Data> for BodyRuns<'a, B, L> {
     ghost may_run = { λ runs. (1 ≤ runs.builder.now.max_threads) × (runs.builder.now.max_threads ≤ 5) };
 
     ghost begins_exploring = { λ runs. explores runs.builder.now };
@@ -231,7 +201,6 @@ impl<'a, B: Body, L: Log> Runs<Result<B::Data, Failure>> for BodyRuns<'a, B, L> 
 
     fn run(
         &self,
-        _alloc: Global,
         room: &mut Room<B>,
         path: &mut Path,
     ) -> Result<Result<B::Data, Failure>, AllocError> {

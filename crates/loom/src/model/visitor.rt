@@ -1,3 +1,4 @@
+//! Who is given the runs of a check.
 ghost use Rattle.std.specs.Prelude.{List, OnOk};
 ghost use Rattle.loom_objects.specs.declared.choice.Choice.{Choice};
 

@@ -1,4 +1,4 @@
-//! Checks of closures.
+//! The check of a closure: one run after another, up to a report.
 ghost use Rattle.std.specs.Prelude.{◌≡◌, ◌≤◌, Err, IfOk, IfErr, IfSome};
 ghost use Rattle.std.specs.Fn.{CalledAtMut};
 ghost use Rattle.loom.specs.Model.Settings.{most_runs, tested};
@@ -10,11 +10,11 @@ use crate::model::builder::Builder;
 use crate::model::paths::path_search;
 use crate::model::report::Report;
 use crate::model::visitor::Visitor;
-use crate::runner::after::{After, comes_after};
 use crate::runner::error::RunnerError;
 use crate::runner::exact::Exact;
 use crate::runner::handle::Handle;
-use crate::runner::run::make_round;
+use crate::runner::run::make_run;
+use crate::runner::run_end::RunEnd;
 use crate::runner::stop::Stop;
 use loom_engine::rt::execution::Limits;
 use loom_engine::rt::path::Path;
@@ -27,7 +27,7 @@ use std::thread::Threads;
 /// closure is main: it is called once for each run, and spawns the run's other threads by its handle.
 ///
 /// A setting out of range is refused before any run, as `Settings`. Besides, an error comes only where a growth or a thread was
-/// refused, as `Memory` and `Refused`, or where what the closures were told isn't the history of the run, as `NotSettled`. A closure
+/// refused, as `Memory` and `Refused`, or where the threads' told lists aren't those of the run's history, as `NotSettled`. A closure
 /// whose runs differ under the same choices may fail as `NotDeterministic`. Saves nothing, and asks no clock.
 pub fn check<
     D: Exact + 'static,
@@ -47,11 +47,12 @@ pub fn check<
 {
     builder.test()?;
     let mut path = fresh_path(alloc, builder);
-    make_rounds(rt, alloc, builder, &mut path, &mut closure, visitor)
+    make_runs(rt, alloc, builder, &mut path, &mut closure, visitor)
 }
 
-/// The same, once the settings were tested. It has several exits and owns nothing, since what a function owns is let go at each.
-fn make_rounds<
+/// Makes one run of the closure after another, by settings in range, from this path on. It has several exits and owns nothing,
+/// since what a function owns is let go at each.
+fn make_runs<
     D: Exact + 'static,
     R: Threads + Wait + Clone + Send + 'static,
     F: FnMut(&mut Handle<D, R>) -> Result<D, Stop>,
@@ -76,21 +77,17 @@ fn make_rounds<
     };
     let most = most_runs(builder);
     for runs in 0..most {
-        let round = make_round(rt, alloc, limits, path, closure, visitor)?;
-        match comes_after(runs, round) {
-            After::Failed {
-                runs,
-                failure,
-                choices,
-            } => {
+        let end = make_run(rt, alloc, limits, path, closure, visitor)?;
+        match end {
+            RunEnd::Failed(failure, choices) => {
                 return Ok(Report::Failed {
                     runs,
                     failure,
                     choices,
                 });
             }
-            After::Complete { runs } => return Ok(Report::Complete { runs }),
-            After::Next(next) => *path = next,
+            RunEnd::Ended(None) => return Ok(Report::Complete { runs: runs + 1 }),
+            RunEnd::Ended(Some(next)) => *path = next,
         }
     }
     Ok(Report::Stopped {

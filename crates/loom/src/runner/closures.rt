@@ -1,5 +1,5 @@
-//! Calls of closures. What they are given is a type of its own here, since the borrow checker doesn't cover a call of a closure that is
-//! given a type with references in it.
+//! Calls of closures. What a closure is given is a type parameter here, since the borrow checker doesn't cover a call of a closure
+//! that is given a type with references in it.
 ghost use Rattle.std.specs.Fn.{CalledAtMut};
 
 /// Calls main's closure (own).

@@ -1,4 +1,4 @@
-//! What is asked and what is answered, without the data: copies, and whether two are the same.
+//! Copies of operations and replies, and whether two are equal.
 mod kinds;
 mod parts;
 pub mod replies;

@@ -1,4 +1,4 @@
-//! Checks of closures with defaults.
+//! The check of a closure by the default settings, and the visitor that looks at no run.
 ghost use Rattle.std.specs.Prelude.{◌≡◌, IfOk};
 ghost use Rattle.std.specs.Fn.{CalledAtMut};
 ghost use Rattle.loom.specs.Model.Settings.{defaults};
@@ -19,9 +19,9 @@ use std::thread::Threads;
 
 /// A visitor that looks at no run (own).
 #[derive(Drop)]
-pub struct Nobody;
+pub struct NoVisitor;
 
-impl<D: Drop> Visitor<D> for Nobody {
+impl<D: Drop> Visitor<D> for NoVisitor {
     ghost takes = { λ old choices value new. Unit {0} };
 
     fn run(&mut self, _choices: &[Choice], _value: D) -> Result<(), AllocError> {
@@ -29,14 +29,14 @@ impl<D: Drop> Visitor<D> for Nobody {
     }
 }
 
-/// A check of the closure by the defaults, in which nobody is given the runs (loom's `model`).
+/// A check of the closure by the defaults, whose runs no visitor is given (loom's `model`).
 pub fn model<
     D: Exact + 'static,
     R: Threads + Wait + Clone + Send + 'static,
     F: FnMut(&mut Handle<D, R>) -> Result<D, Stop>,
 >(rt: &R, alloc: Global, closure: F) -> Result<Report, RunnerError>
     requires { F.IsAlwaysCallable closure }
-    ensures reports { IfOk result (λ report. (v v' : Nobody) × Reports (CalledAtMut F.FnMut) (λ old choices value new. Unit {0}) defaults closure v v' report) }
+    ensures reports { IfOk result (λ report. (v v' : NoVisitor) × Reports (CalledAtMut F.FnMut) (λ old choices value new. Unit {0}) defaults closure v v' report) }
 {
-    check(rt, alloc, &Builder::new(), closure, &mut Nobody)
+    check(rt, alloc, &Builder::new(), closure, &mut NoVisitor)
 }

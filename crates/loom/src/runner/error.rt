@@ -1,32 +1,10 @@
-//! Why a check of closures gives no report, and why a run of them wasn't made.
+//! Why a check of closures gives no report.
 ghost use Rattle.std.specs.Prelude.{◌≡◌};
 ghost use Rattle.loom.specs.Runner.Errors.{error_by, number_of};
 
 use crate::model::error::CheckError;
 use crate::runner::stop::Stop;
 use thiserror::Error;
-
-/// Why a run of closures wasn't made (own).
-#[derive(Clone, Copy, Debug, PartialEq, Eq, Error)]
-pub enum RoundError {
-    #[error("the host refused to start a thread")]
-    Refused,
-    #[error("what the closures were told is not the history of the run")]
-    NotSettled,
-    #[error("out of memory")]
-    Memory,
-}
-
-/// The error of a run that stopped so, and not by an event (own).
-pub fn error_by(stop: Stop) -> RoundError
-    ensures { result ≡ error_by stop }
-{
-    match stop {
-        Stop::Failure(_) => RoundError::NotSettled,
-        Stop::Memory => RoundError::Memory,
-        Stop::Refused => RoundError::Refused,
-    }
-}
 
 /// Why a check of closures gives no report (own).
 #[derive(Clone, Copy, Debug, PartialEq, Eq, Error)]
@@ -55,6 +33,17 @@ impl RunnerError {
     }
 }
 
+/// The error of a run that stopped so, where its history didn't (own).
+pub fn error_by(stop: Stop) -> RunnerError
+    ensures { result ≡ error_by stop }
+{
+    match stop {
+        Stop::Failure(_) => RunnerError::NotSettled,
+        Stop::Memory => RunnerError::Memory,
+        Stop::Refused => RunnerError::Refused,
+    }
+}
+
 impl From<CheckError> for RunnerError {
     ghost use Rattle.loom.specs.declared.runner.error.RunnerError.TheVariants.{Settings};
 
@@ -62,19 +51,5 @@ impl From<CheckError> for RunnerError {
 
     fn from(why: CheckError) -> RunnerError {
         RunnerError::Settings(why)
-    }
-}
-
-impl From<RoundError> for RunnerError {
-    ghost use Rattle.loom.specs.Runner.Errors.{of_round};
-
-    ghost from_gives = { λ why e. e ≡ of_round why };
-
-    fn from(why: RoundError) -> RunnerError {
-        match why {
-            RoundError::Refused => RunnerError::Refused,
-            RoundError::NotSettled => RunnerError::NotSettled,
-            RoundError::Memory => RunnerError::Memory,
-        }
     }
 }

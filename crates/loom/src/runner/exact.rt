@@ -1,4 +1,4 @@
-//! Data of which it can be told whether two values are the same.
+//! Data of closures: two values of it can be compared, and those that are equal are the same value.
 ghost use Rattle.std.specs.Prelude.{◌≡◌, ◌↔◌, IsTrue, true};
 
 use loom_objects::data::Data;

@@ -1,4 +1,4 @@
-//! By what a thread hands over operations.
+//! The handle by which a thread of a run hands over its operations and waits for their replies.
 ghost use Rattle.std.specs.Prelude.{◌≡◌, ◌++◌, ◌∷◌, [], IfOk, IfErr, OnOk, MatchOption, Some, Ok, Err, true, false, slice_get};
 ghost use Rattle.loom_objects.specs.declared.operation.Reply.TheVariants as reply;
 ghost use Rattle.loom.specs.Runner.Histories.{entry};
@@ -15,9 +15,9 @@ mod locks;
 mod threads;
 mod waits;
 
-use crate::runner::error::RoundError;
+use crate::runner::error::RunnerError;
 use crate::runner::exact::Exact;
-use crate::runner::handle::calls::{allowed, last_of};
+use crate::runner::handle::calls::{is_reserved, last_of};
 use crate::runner::handle::entries::{has_room, note, note_spawn, prepare};
 use crate::runner::history::event::Entry;
 use crate::runner::history::told::Told;
@@ -63,10 +63,11 @@ impl<D: Exact + 'static, R: Wait> Handle<D, R> {
         ensures answered { IfOk result (λ reply. self.new.told ≡ self.old.told ++ entry request (Some reply) ∷ []) }
         ensures stopped { IfErr result (λ stop. ByStop stop (self.new.told ≡ with_open self.old.told (handed request)) (self.new.starved ≡ true)) }
     {
-        match allowed(request) {
-            Some(op) => self.hand_over(op),
-            None => Err(self.fail()),
+        if is_reserved(&request) {
+            request.let_go();
+            return Err(self.fail());
         }
+        self.hand_over(request)
     }
 
     /// Hands over `fail`, and answers the stop (own).
@@ -128,7 +129,7 @@ impl<D: Exact + 'static, R: Wait> Handle<D, R> {
 }
 
 impl<D: Exact + 'static, R: Threads + Wait + Clone + Send + 'static> Handle<D, R> {
-    /// The handle of a thread that was told nothing yet.
+    /// The handle of a thread with an empty told list.
     pub(crate) fn new(
         rt: R,
         alloc: Global,
@@ -178,9 +179,9 @@ impl<D: Exact + 'static, R: Threads + Wait + Clone + Send + 'static> Handle<D, R
     }
 
     /// Ends the thread by its closure's answer: hands over its result, `exit` and `end`, or for a stop `fail`, unless a call was
-    /// answered by a stop already. Then joins the threads that it started. Answers what they all were told, its own list first
+    /// answered by a stop already. Then joins the threads that it started. Answers all their told lists, its own first
     /// (own). `Memory` where a call was refused memory, `Refused` where a thread was refused.
-    pub fn close(mut self, answer: Result<D, Stop>) -> Result<Vec<Told<D>>, RoundError>
+    pub fn close(mut self, answer: Result<D, Stop>) -> Result<Vec<Told<D>>, RunnerError>
         ensures told { IfOk result (λ all. Leading self.thread all.items (Closes self.told answer)) }
     {
         match last_of(answer) {
@@ -209,10 +210,10 @@ impl<D: Exact + 'static, R: Threads + Wait + Clone + Send + 'static> Handle<D, R
     }
 
     /// Joins the threads that it started.
-    pub(crate) fn leave(self) -> Result<Vec<Told<D>>, RoundError>
+    pub(crate) fn leave(self) -> Result<Vec<Told<D>>, RunnerError>
         ensures told { IfOk result (λ all. Leading self.thread all.items (λ es. es ≡ self.told)) }
         ensures fed { OnOk result (self.starved ≡ false) }
-        ensures starved { self.starved ≡ true → result ≡ Err RoundError.Memory }
+        ensures starved { self.starved ≡ true → result ≡ Err RunnerError.Memory }
     {
         let Handle {
             rt,
@@ -243,15 +244,15 @@ impl<D: Exact + 'static, R: Threads + Wait + Clone + Send + 'static> Handle<D, R
 fn let_go_of<D: Drop>(_shared: Arc<Shared<D>, Global>) {}
 
 /// Lets the lists go.
-fn let_lists_go<D: Drop>(_first: Told<D>, _others: Result<Vec<Told<D>>, RoundError>) {}
+fn let_lists_go<D: Drop>(_first: Told<D>, _others: Result<Vec<Told<D>>, RunnerError>) {}
 
 /// The error of a thread that stopped so, unless its run went on or failed.
-fn refusal(stop: Option<Stop>) -> Option<RoundError>
-    ensures { MatchOption result (is_memory stop ≡ false) (λ error. is_memory stop ≡ true → error ≡ RoundError.Memory) }
+fn refusal(stop: Option<Stop>) -> Option<RunnerError>
+    ensures { MatchOption result (is_memory stop ≡ false) (λ error. is_memory stop ≡ true → error ≡ RunnerError.Memory) }
 {
     match stop {
-        Some(Stop::Memory) => Some(RoundError::Memory),
-        Some(Stop::Refused) => Some(RoundError::Refused),
+        Some(Stop::Memory) => Some(RunnerError::Memory),
+        Some(Stop::Refused) => Some(RunnerError::Refused),
         Some(Stop::Failure(_)) | None => None,
     }
 }
@@ -260,16 +261,16 @@ fn refusal(stop: Option<Stop>) -> Option<RoundError>
 fn gather<D: Drop>(
     alloc: Global,
     first: Told<D>,
-    others: Result<Vec<Told<D>>, RoundError>,
-) -> Result<Vec<Told<D>>, RoundError>
+    others: Result<Vec<Told<D>>, RunnerError>,
+) -> Result<Vec<Told<D>>, RunnerError>
     ensures { IfOk result (λ all. slice_get all.items 0 ≡ Some first) }
 {
     let mut all = Vec::new(alloc);
     if all.push(first).is_err() {
-        return Err(RoundError::Memory);
+        return Err(RunnerError::Memory);
     }
     if all.append(&mut others?).is_err() {
-        return Err(RoundError::Memory);
+        return Err(RunnerError::Memory);
     }
     Ok(all)
 }

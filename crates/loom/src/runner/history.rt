@@ -12,8 +12,8 @@ ghost use Rattle.loom.specs.Runner.Events.{IsAdded, IsCounted, made, made_by};
 
 use crate::runner::copies::requests::copy_request;
 use crate::runner::exact::Exact;
-use crate::runner::history::adding::{push, take_turn};
-use crate::runner::history::event::{Event, Outcome};
+use crate::runner::history::adding::take_turn;
+use crate::runner::history::event::Event;
 use crate::runner::history::machine::Machine;
 use crate::runner::stop::Stop;
 use loom_objects::failure::Failure;
@@ -84,45 +84,29 @@ impl<D: Exact> History<D> {
         ensures added { IfNone result (IsAdded M.turn M.happens machine.old op machine.new self.old self.new) }
         ensures stopped { OnSome result (self.new ≡ self.old) }
     {
-        add_event(machine, &mut self.events, &mut self.counts, op)
-    }
-}
-
-/// Adds the event of the operation, or says why there is none.
-fn add_event<D: Exact, M: Machine<D>>(
-    machine: &mut M,
-    history: &mut Vec<Event<D>>,
-    counts: &mut Vec<usize>,
-    op: Request<D, ()>,
-) -> Option<Stop>
-    requires live { M.goes_on machine.old }
-    requires counted { IsCounted counts.old.items history.old.items }
-    ensures added { IfNone result (IsAdded M.turn M.happens machine.old op machine.new history.old.items history.new.items) }
-    ensures counted { IsCounted counts.new.items history.new.items }
-    ensures stopped { OnSome result (history.new.items ≡ history.old.items) }
-{
-    let by = machine.active();
-    let kept = match prepare(by, history, counts, &op) {
-        Ok(kept) => kept,
-        Err(stop) => {
-            op.let_go();
-            return Some(stop);
-        }
-    };
-    match take_turn(machine, op) {
-        Ok(outcome) => {
-            count(counts, by as usize, &outcome);
-            let event = Event {
-                by,
-                op: kept,
-                outcome,
-            };
-            push(history, event);
-            None
-        }
-        Err(_) => {
-            kept.let_go();
-            Some(Stop::Memory)
+        let by = machine.active();
+        let kept = match prepare(by, &mut self.events, &mut self.counts, &op) {
+            Ok(kept) => kept,
+            Err(stop) => {
+                op.let_go();
+                return Some(stop);
+            }
+        };
+        match take_turn(machine, op) {
+            Ok(outcome) => {
+                count(&mut self.counts, by as usize, &outcome);
+                let event = Event {
+                    by,
+                    op: kept,
+                    outcome,
+                };
+                self.events.push_reserved(event);
+                None
+            }
+            Err(_) => {
+                kept.let_go();
+                Some(Stop::Memory)
+            }
         }
     }
 }
@@ -158,14 +142,14 @@ fn prepare<D: Exact>(
 }
 
 /// Counts the operation, and makes a count for a thread that it made.
-fn count<D>(counts: &mut Vec<usize>, by: usize, outcome: &Outcome<D>)
+fn count<D>(counts: &mut Vec<usize>, by: usize, outcome: &Result<Turn<D>, Failure>)
     requires by { by < vec_len counts.old }
     requires room { vec_len counts.old < vec_capacity counts.old }
     requires small { slice_index counts.old.items by < 2 ^ 64 - 1 }
     ensures length { length counts.new.items ≡ length counts.old.items + made_by outcome.now }
     ensures counted { (n : ℕ) → slice_index counts.new.items n ≡ slice_index counts.old.items n + (if by == n then 1 else 0) }
 {
-    if let Outcome::Went(Turn::Reply(_, Reply::Spawned(..))) = outcome {
+    if let Ok(Turn::Reply(_, Reply::Spawned(..))) = outcome {
         counts.push_reserved(0);
     }
     counts[by] += 1;

@@ -1,4 +1,4 @@
-//! What the threads of a run do.
+//! What a spawned thread does: a closure, or a type of your own.
 use crate::runner::closures::ask_once;
 use crate::runner::exact::Exact;
 use crate::runner::handle::Handle;

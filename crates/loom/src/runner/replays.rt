@@ -9,11 +9,11 @@ ghost use Rattle.loom.specs.Runner.Replay.{HasKept, Replays, ReplaysAlong};
 use crate::model::Replay;
 use crate::model::builder::Builder;
 use crate::model::visitor::Visitor;
-use crate::runner::after::Round;
 use crate::runner::error::RunnerError;
 use crate::runner::exact::Exact;
 use crate::runner::handle::Handle;
-use crate::runner::run::make_round;
+use crate::runner::run::make_run;
+use crate::runner::run_end::RunEnd;
 use crate::runner::stop::Stop;
 use loom_engine::rt::execution::Limits;
 use loom_engine::rt::path::Path;
@@ -72,7 +72,7 @@ pub fn replay<
     make_replay(rt, alloc, limits, &path, &mut closure, &mut keeper)
 }
 
-/// The same along this path. It has several exits and owns nothing, since what a function owns is let go at each.
+/// One run of the closure along this path. It has several exits and owns nothing, since what a function owns is let go at each.
 fn make_replay<
     D: Exact + 'static,
     R: Threads + Wait + Clone + Send + 'static,
@@ -91,9 +91,9 @@ fn make_replay<
     requires callable { F.IsAlwaysCallable closure.old }
     ensures { IfOk result (ReplaysAlong (CalledAtMut F.FnMut) limits path.now closure.old) }
 {
-    match make_round(rt, alloc, limits, path, closure, keeper)? {
-        Round::Broke(failure, choices) => Ok(Replay::Failed { failure, choices }),
-        Round::Last | Round::Next(_) => match keeper.run.take() {
+    match make_run(rt, alloc, limits, path, closure, keeper)? {
+        RunEnd::Failed(failure, choices) => Ok(Replay::Failed { failure, choices }),
+        RunEnd::Ended(_) => match keeper.run.take() {
             Some((choices, value)) => Ok(Replay::Ended { choices, value }),
             None => Err(RunnerError::NotSettled),
         },

@@ -1,16 +1,16 @@
-//! One run of a closure.
+//! One run of a closure: it is called as main, its handle is closed, and the run is settled by its history.
 ghost use Rattle.std.specs.Prelude.{◌≡◌, ◌≤◌, ◌<◌, IfOk, length, slice_get};
 ghost use Rattle.std.specs.Fn.{CalledAtMut};
 ghost use Rattle.loom_engine.specs.Path.Route.{IsAtStart};
 ghost use Rattle.loom.specs.Runner.Run.{Judged, WasCalled, WasMade};
 
 use crate::model::visitor::Visitor;
-use crate::runner::after::{Round, step};
 use crate::runner::closures::ask_closure;
-use crate::runner::error::{RoundError, error_by};
+use crate::runner::error::{RunnerError, error_by};
 use crate::runner::exact::Exact;
 use crate::runner::handle::Handle;
 use crate::runner::history::told::Told;
+use crate::runner::run_end::{RunEnd, next_path};
 use crate::runner::shared::{Shared, main_handle, share};
 use crate::runner::stop::Stop;
 use crate::runner::turns::Turns;
@@ -21,8 +21,8 @@ use std::sync::{Arc, Wait};
 use std::thread::Threads;
 
 /// Makes a run of the closure that begins with the path, and gives it to the visitor if it ends without a failure (own). `Memory` and
-/// `Refused` where a growth or a thread was refused, `NotSettled` where what the closures were told isn't the history of the run.
-pub fn make_round<
+/// `Refused` where a growth or a thread was refused, `NotSettled` where the threads' told lists aren't those of the run's history.
+pub fn make_run<
     D: Exact + 'static,
     R: Threads + Wait + Clone + Send + 'static,
     F: FnMut(&mut Handle<D, R>) -> Result<D, Stop>,
@@ -34,13 +34,13 @@ pub fn make_round<
     path: &Path,
     closure: &mut F,
     visitor: &mut V,
-) -> Result<Round, RoundError>
+) -> Result<RunEnd, RunnerError>
     requires some { 1 ≤ limits.max_threads }
     requires few { limits.max_threads ≤ 5 }
     requires starts { IsAtStart path.now.explores path.now }
     requires callable { F.IsAlwaysCallable closure.old }
     ensures again { F.IsAlwaysCallable closure.new }
-    ensures made { IfOk result (λ round. WasMade (CalledAtMut F.FnMut) V.takes limits closure.old visitor.old path.now round closure.new visitor.new) }
+    ensures made { IfOk result (λ end. WasMade (CalledAtMut F.FnMut) V.takes limits closure.old visitor.old path.now end closure.new visitor.new) }
 {
     let shared = share(alloc, limits, path)?;
     let told = call_closure(rt, alloc, &shared, closure)?;
@@ -48,7 +48,7 @@ pub fn make_round<
     judge(limits, path, &*turns, told.as_slice(), visitor)
 }
 
-/// Calls the closure as main, and closes its handle. Answers what the threads were told, main first.
+/// Calls the closure as main, and closes its handle. Answers the threads' told lists, main's first.
 fn call_closure<
     D: Exact + 'static,
     R: Threads + Wait + Clone + Send + 'static,
@@ -58,7 +58,7 @@ fn call_closure<
     alloc: Global,
     shared: &Arc<Shared<D>, Global>,
     closure: &mut F,
-) -> Result<Vec<Told<D>>, RoundError>
+) -> Result<Vec<Told<D>>, RunnerError>
     requires callable { F.IsAlwaysCallable closure.old }
     ensures again { F.IsAlwaysCallable closure.new }
     ensures called { IfOk result (λ told. WasCalled (CalledAtMut F.FnMut) closure.old closure.new told.items) }
@@ -102,32 +102,32 @@ fn judge<D: Exact, V: Visitor<D>>(
     turns: &Turns<D>,
     told: &[Told<D>],
     visitor: &mut V,
-) -> Result<Round, RoundError>
-    ensures { IfOk result (λ round. Judged V.takes limits visitor.old path.now turns.now told.now round visitor.new) }
+) -> Result<RunEnd, RunnerError>
+    ensures { IfOk result (λ end. Judged V.takes limits visitor.old path.now turns.now told.now end visitor.new) }
 {
     if let Some(stop) = turns.spoiled() {
         return Err(error_by(stop));
     }
     if !turns.settle(path, limits, told) {
-        return Err(RoundError::NotSettled);
+        return Err(RunnerError::NotSettled);
     }
     let Ok(choices) = turns.choices() else {
-        return Err(RoundError::Memory);
+        return Err(RunnerError::Memory);
     };
     if let Some(failure) = turns.failure() {
-        return Ok(Round::Broke(failure, choices));
+        return Ok(RunEnd::Failed(failure, choices));
     }
     let Ok(value) = turns.value() else {
-        return Err(RoundError::Memory);
+        return Err(RunnerError::Memory);
     };
     let Some(value) = value else {
-        return Err(RoundError::NotSettled);
+        return Err(RunnerError::NotSettled);
     };
     let Ok(next) = turns.path() else {
-        return Err(RoundError::Memory);
+        return Err(RunnerError::Memory);
     };
     if visitor.run(choices.as_slice(), value).is_err() {
-        return Err(RoundError::Memory);
+        return Err(RunnerError::Memory);
     }
-    Ok(step(next))
+    Ok(RunEnd::Ended(next_path(next)))
 }

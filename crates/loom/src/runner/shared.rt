@@ -1,9 +1,10 @@
-//! How a run is opened, what its threads share, and how they take turns.
+//! What the threads of a run share: its state under a lock, and the condition variable by which they wake each other. By it they
+//! hand over their operations, wait for their turns, and start and join each other.
 ghost use Rattle.std.specs.Prelude.{◌≡◌, ◌≤◌, IfOk};
 ghost use Rattle.loom_engine.specs.Path.Route.{IsAtStart};
 ghost use Rattle.loom.specs.Runner.Handle.{newcomer};
 
-use crate::runner::error::RoundError;
+use crate::runner::error::RunnerError;
 use crate::runner::exact::Exact;
 use crate::runner::handle::Handle;
 use crate::runner::history::told::Told;
@@ -23,13 +24,13 @@ pub fn share<D: Exact + 'static>(
     alloc: Global,
     limits: Limits,
     path: &Path,
-) -> Result<Arc<Shared<D>, Global>, RoundError>
+) -> Result<Arc<Shared<D>, Global>, RunnerError>
     requires some { 1 ≤ limits.max_threads }
     requires few { limits.max_threads ≤ 5 }
     requires starts { IsAtStart path.now.explores path.now }
 {
     let Ok(turns) = Turns::new(alloc, path, limits) else {
-        return Err(RoundError::Memory);
+        return Err(RunnerError::Memory);
     };
     let shared = Shared {
         turns: Mutex::new(turns),
@@ -37,23 +38,23 @@ pub fn share<D: Exact + 'static>(
     };
     match Arc::new(alloc, shared) {
         Ok(shared) => Ok(shared),
-        Err(_) => Err(RoundError::Memory),
+        Err(_) => Err(RunnerError::Memory),
     }
 }
 
-/// Main's handle, that was told nothing yet (own). `Memory` where a growth was refused.
+/// Main's handle, with an empty told list (own). `Memory` where a growth was refused.
 pub fn main_handle<D: Exact + 'static, R: Threads + Wait + Clone + Send + 'static>(
     rt: &R,
     alloc: Global,
     shared: &Arc<Shared<D>, Global>,
-) -> Result<Handle<D, R>, RoundError>
+) -> Result<Handle<D, R>, RunnerError>
     ensures { IfOk result (λ handle. handle ≡ newcomer 0) }
 {
     let Ok(mine) = Arc::try_clone(shared) else {
-        return Err(RoundError::Memory);
+        return Err(RunnerError::Memory);
     };
     let Ok(again) = rt.clone() else {
-        return Err(RoundError::Memory);
+        return Err(RunnerError::Memory);
     };
     Ok(Handle::new(again, alloc, mine, 0))
 }
@@ -66,7 +67,7 @@ pub struct Shared<D> {
 }
 
 /// A thread that was started.
-pub(crate) type Child<D> = thread::JoinHandle<Result<Vec<Told<D>>, RoundError>>;
+pub(crate) type Child<D> = thread::JoinHandle<Result<Vec<Told<D>>, RunnerError>>;
 
 /// The threads that a handle has started.
 pub(crate) type Children<D> = Vec<Child<D>>;
@@ -151,7 +152,7 @@ pub(crate) fn start<
     let Ok(theirs) = Arc::try_clone(shared) else {
         return Err(Stop::Memory);
     };
-    let body = move || -> Result<Vec<Told<D>>, RoundError>
+    let body = move || -> Result<Vec<Told<D>>, RunnerError>
         requires { J.ready job }
     { run_job(again, alloc, theirs, thread, job) };
     match thread::spawn(rt, body) {
@@ -179,7 +180,7 @@ fn run_job<D: Exact + 'static, R: Threads + Wait + Clone + Send + 'static, J: Jo
     shared: Arc<Shared<D>, Global>,
     thread: u8,
     job: J,
-) -> Result<Vec<Told<D>>, RoundError>
+) -> Result<Vec<Told<D>>, RunnerError>
     requires { J.ready job }
 {
     let is_started = is_started(&rt, &shared, thread);
@@ -196,14 +197,14 @@ pub(crate) fn join_all<D: Exact + 'static, R: Threads>(
     rt: &R,
     alloc: Global,
     children: Children<D>,
-) -> Result<Vec<Told<D>>, RoundError> {
+) -> Result<Vec<Told<D>>, RunnerError> {
     let mut all = Vec::new(alloc);
     let mut error = None;
     for child in children {
         match child.join(rt) {
             Ok(mut lists) => {
                 if all.append(&mut lists).is_err() {
-                    error = Some(RoundError::Memory);
+                    error = Some(RunnerError::Memory);
                 }
             }
             Err(e) => error = Some(e),

@@ -102,13 +102,7 @@ impl<D: Exact> Turns<D> {
 
     /// Why the run goes no further, if it doesn't (own).
     pub fn stopped(&self) -> Option<Stop> {
-        match self.spoiled {
-            Some(stop) => Some(stop),
-            None => match self.history.end() {
-                Some(failure) => Some(Stop::Failure(failure)),
-                None => None,
-            },
-        }
+        self.spoiled.or(self.history.end().map(Stop::Failure))
     }
 
     /// Whether the thread has nothing to wait for: its turn has come, or the run goes no further (own).
@@ -116,7 +110,7 @@ impl<D: Exact> Turns<D> {
         self.stopped().is_some() || self.history.is_turn_of(thread)
     }
 
-    /// The reply that the thread was told by the last event (own).
+    /// A copy of the reply to the thread in the last event (own).
     pub fn reply(&self, thread: u8) -> Result<Reply<D>, Stop> {
         match self.stopped() {
             Some(stop) => Err(stop),
@@ -124,7 +118,7 @@ impl<D: Exact> Turns<D> {
         }
     }
 
-    /// Whether the thread may start: the last event has told it so (own).
+    /// Whether the thread may start: it does by the last event (own).
     pub fn starts(&self, thread: u8) -> bool {
         self.stopped().is_none() && self.history.starts(thread)
     }
@@ -165,12 +159,12 @@ impl<D: Exact> Turns<D> {
         self.place.path.try_clone(self.alloc)
     }
 
-    /// Whether the run began with this path and these limits, and each of its threads was told its part of the history (own).
+    /// Whether the run began with this path and these limits, and the told list of each thread is its part of the history (own).
     pub fn settle(&self, began: &Path, limits: Limits, told: &[Told<D>]) -> bool
         ensures { IsTrue result ↔ Settles self.now began.now limits told.now }
     {
         is_same_limits(self.limits, limits)
-            && is_same_path(&self.began, began)
+            && self.began == *began
             && are_shares(told, &self.history)
     }
 }
@@ -180,11 +174,4 @@ fn is_same_limits(one: Limits, other: Limits) -> bool
     ensures { IsTrue result ↔ (one ≡ other) }
 {
     one.max_threads == other.max_threads && one.max_steps == other.max_steps
-}
-
-/// Whether the two are the same path.
-fn is_same_path(one: &Path, other: &Path) -> bool
-    ensures { IsTrue result ↔ (one.now ≡ other.now) }
-{
-    *one == *other
 }

@@ -42,10 +42,9 @@ use Rattle.loom_objects.specs.declared.rt.run.RunState.{RunState}
 use Rattle.loom_engine.proofs.Runs.Growing.{made_needs_memory}
 use Rattle.loom_objects.specs.Dependence.Shown.{ShowsOrder}
 use Rattle.loom_objects.specs.Rules.Uses.{use_at, uses}
-use Rattle.loom_engine.specs.Execution.{kept_after, may_end}
 use Rattle.loom_engine.specs.declared.rt.execution.Progress.{Progress}
-use Rattle.loom_engine.specs.Execution.{ExecutionState, Notes, Starts, ShowsCourse, IsMarked, Comes, Along, MayBeRefused, Submits, SubmitsAt, over_after, takes_turn}
-use Rattle.loom_engine.specs.Path.Route.{Route, IsSame, Switches, SwitchesAs, trail, Says, Backtracks, drives}
+use Rattle.loom_engine.specs.Execution.{ExecutionState, Notes, Starts, ShowsCourse, IsMarked, Comes, Along, AllNeedMemory, HappensAt, MayBeRefused, Schedules, Submits, SubmitsAt, itself, may_end, over_after, takes_turn}
+use Rattle.loom_engine.specs.Path.Route.{Route, IsSame, Switches, SwitchesAs, trail, Decides, Backtracks, drives}
 use Rattle.loom_engine.specs.Runs.Course.{Course, carried, grown_from, one_passed, unordered_in, used_in, with_order}
 use Rattle.loom_engine.specs.Runs.Machine.{closes, chooses, goes_by, goes_on, is_asked, passes, turned, further, further_branches, schedule, submit, switches, waits}
 use Rattle.loom_engine.specs.Trees.Meeting.{Settings, count, every_at, front_of}
@@ -213,7 +212,7 @@ module _ {D : Type 0} where
         ap (λ (b : Bool). drives (Asks (which_thread b (offers c.world) (unordered_in c)) (chooses c)) path) (ap is_on (shown.exploring ∙ sym s.same.1))
         ∙ ap (λ (o : Offers). drives (Asks (which_thread (is_on mid.exploring) o (unordered_in c)) (chooses c)) path) (ap (λ w. offers w) shown.world.rest ∙ sym (s.offered_is c.world.points old.state.steps_left))
 
-    pub schedule_refused : (after : Route) (stop : Stop) → ((places : List (Option ℕ)) → Says Thread mid (which_thread (is_on mid.exploring) offered places) (Err stop) after) → Along passes old path (Err stop) old after
+    pub schedule_refused : (after : Route) (stop : Stop) → ((places : List (Option ℕ)) → Decides Thread mid (which_thread (is_on mid.exploring) offered places) (Err stop) after) → Along passes old path (Err stop) old after
     schedule_refused after (Failure failure) says c shown =
         scheduled c shown ∙ refused (asks_of c) (chooses c) path mid (marks_of c shown) s.same.0.0 failure.kind (says (unordered_in c)).0
         ∙ ap (λ (p : Route). (Err failure.kind, trail p)) (sym (says (unordered_in c)).1)
@@ -222,7 +221,7 @@ module _ {D : Type 0} where
     module _ (after : Route) (same : IsSame mid after) where
       -- the path answers whatever isn't ordered
       abbrev pub Chooses : Option ℕ → Type 0
-      Chooses thread = (places : List (Option ℕ)) → Says Thread mid (which_thread (is_on mid.exploring) offered places) (Ok thread) after
+      Chooses thread = (places : List (Option ℕ)) → Decides Thread mid (which_thread (is_on mid.exploring) offered places) (Ok thread) after
 
       chosen_on : (thread : Option ℕ) → Chooses thread → (c : Course D) → ShowsCourse c old path → drives (passes c) path ≡ drives (chooses c (Thread thread)) after
       chosen_on thread says c shown = scheduled c shown ∙ asked (asks_of c) (chooses c) path mid (marks_of c shown) s.same.0.0 after (Thread thread) same.0.0 (says (unordered_in c))
@@ -352,14 +351,14 @@ module _ {D : Type 0} where
     abbrev pub unmarked_load : trail path ≡ backtrack path.search (marking path.search.bound) (trail path) (which_store (is_on path.exploring) load.readable)
     unmarked_load = sym (unmarked path.search (trail path) (which_store (is_on path.exploring) load.readable) (no_pairs (is_on path.exploring) (slots load.readable)))
 
-    pub load_stops : (stop : Stop) → Says Load path (which_store (is_on path.exploring) load.readable) (Err stop) via → Along (takes_turn t) old path (Err stop) mid via
+    pub load_stops : (stop : Stop) → Decides Load path (which_store (is_on path.exploring) load.readable) (Err stop) via → Along (takes_turn t) old path (Err stop) mid via
     load_stops (Failure failure) says c shown =
         read_asks c shown ∙ refused (which_store (is_on path.exploring) load.readable) (reading c (does (is_on c.exploring) c.world shown.world).0) path path unmarked_load refl failure.kind says.0
         ∙ ap (λ (p : Route). (Err failure.kind, trail p)) (sym says.1)
     load_stops Memory says c shown = tt
 
     -- and the access goes on by the slot
-    pub slot_read : (slot : ℕ) → Says Load path (which_store (is_on path.exploring) load.readable) (Ok slot) via → IsSame path via → slice_get load.readable slot ≡ Some true
+    pub slot_read : (slot : ℕ) → Decides Load path (which_store (is_on path.exploring) load.readable) (Ok slot) via → IsSame path via → slice_get load.readable slot ≡ Some true
         → (result : Result (Turn D) Stop) (new : Progress D) → new.dependence ≡ mid.dependence
         → ((w : World D) → Shows w mid.state → KeepsAt w.points (accessed load.access) slot → world_comes (read_by load w (Load slot)) result new.state)
         → Along (takes_turn t) old path (passed_with result) new via
@@ -393,12 +392,12 @@ module _ {D : Type 0} where
     pub asked_so : (c : Course D) → ShowsCourse c old path → drives (is_asked n c) path ≡ drives (Asks (whether_spurious (is_on path.exploring)) (waits n c)) path
     asked_so c shown = ap (λ e. drives (Asks (whether_spurious (is_on e)) (waits n c)) path) shown.exploring
 
-    pub wake_stops : (stop : Stop) (mid : Route) → Says Spurious path (whether_spurious (is_on path.exploring)) (Err stop) mid → Along (is_asked n) old path (Err stop) old mid
+    pub wake_stops : (stop : Stop) (mid : Route) → Decides Spurious path (whether_spurious (is_on path.exploring)) (Err stop) mid → Along (is_asked n) old path (Err stop) old mid
     wake_stops (Failure failure) mid says c shown =
         asked_so c shown ∙ refused (whether_spurious (is_on path.exploring)) (waits n c) path path unmarked_wait refl failure.kind says.0 ∙ ap (λ (p : Route). (Err failure.kind, trail p)) (sym says.1)
     wake_stops Memory mid says c shown = tt
 
-    module _ (is_spurious : Bool) (via : Route) (says : Says Spurious path (whether_spurious (is_on path.exploring)) (Ok is_spurious) via) (same : IsSame path via) where
+    module _ (is_spurious : Bool) (via : Route) (says : Decides Spurious path (whether_spurious (is_on path.exploring)) (Ok is_spurious) via) (same : IsSame path via) where
       pub asked_to_wake : (c : Course D) → ShowsCourse c old path → drives (is_asked n c) path ≡ drives (waits n c (Spurious is_spurious)) via
       asked_to_wake c shown =
           asked_so c shown ∙ asked (whether_spurious (is_on path.exploring)) (waits n c) path path unmarked_wait refl via (Spurious is_spurious) same.0.0 says
@@ -523,13 +522,6 @@ module _ {D : Type 0} where
 
   -- ---- one event
 
-  -- what is kept of an answer is what every further operation is answered
-  pub kept_over : (answer : Result (Turn D) Stop) → kept_after answer ≡ over_after answer
-  kept_over (Ok (turn.Reply thread reply)) = refl
-  kept_over (Ok (turn.Start thread)) = refl
-  kept_over (Ok (turn.Ended value)) = refl
-  kept_over (Err stop) = refl
-
   -- what the code kept of an operation that was begun, and of what it made
   pub started : (op : Request D ⊤) (entry : Entry D) (old : Progress D) (state : RunState D) (kept : Dependence) (parent threads objects : ℕ)
       → ((w : World D) → Shows w old.state → world_comes (begins op w) (Ok entry) state) → parent ≡ old.state.scene.active
@@ -595,3 +587,8 @@ module _ {D : Type 0} where
   pub submits_by : (old new : ExecutionState D) (op : Request D ⊤) (path after : Route) (answer : Result (Turn D) Stop) → old.over ≡ None → Along (submit op) old.run path answer new.run after
       → new.over ≡ over_after answer → (answer ≡ Err Memory → MayBeRefused op old.run path) → Submits old op path answer new after
   submits_by old new op path after answer going along over growth = subst (λ (o : Option Stop). SubmitsAt o old op path answer new after) (sym going) (along, over, growth)
+
+  pub schedules_by : (old new : ExecutionState D) (path after : Route) (answer : Result (Turn D) Stop) → old.over ≡ None → Along (schedule further_branches) old.run path answer new.run after
+      → new.over ≡ over_after answer → (answer ≡ Err Memory → AllNeedMemory itself (schedule further_branches) old.run path) → Schedules old path answer new after
+  schedules_by old new path after answer going along over growth =
+      subst (λ (o : Option Stop). HappensAt o (schedule further_branches) (AllNeedMemory itself (schedule further_branches)) old path answer new after) (sym going) (along, over, growth)

@@ -40,7 +40,7 @@ use Rattle.loom_engine.specs.Execution.{Along, MayBeRefused, NeedsMemory, AllNee
 use Rattle.loom_engine.specs.declared.rt.execution.Progress.{Progress}
 use Rattle.loom_engine.proofs.Execution.Executing.{Chooses, IsSchedule, asked, asked_so, asks_of, chosen_course, first_of, goes_on_by, marked_first, marks_of, read_asks, same_way, scheduled, started_course, unmarked_load, unmarked_wait, waiting}
 use Rattle.loom_engine.specs.Path.Nodes.{seen}
-use Rattle.loom_engine.specs.Path.Route.{Route, IsSame, trail, Says, Grows, drives}
+use Rattle.loom_engine.specs.Path.Route.{Route, IsSame, trail, Decides, Grows, drives}
 
 -- ---- no answer of a path makes it shorter
 
@@ -160,7 +160,7 @@ module _ {D : Type 0} where
   -- memory is refused for the node that answers the first question
   pub refused_first : {A X B : Type 0} (stands : X → Choice) (by_turn : Turn D → A) (question : Question) (branches : Choice → Tree (A × Course D)) (path mid after : Route) (stop : Stop)
       → trail mid ≡ backtrack path.search (marking path.search.bound) (trail path) question → mid.search ≡ path.search
-      → Says stands mid question (Err stop) after → ◌≡◌ {A = Result B Stop} (Err stop) (Err Memory) → NeedsMemory by_turn (Asks question branches) path
+      → Decides stands mid question (Err stop) after → ◌≡◌ {A = Result B Stop} (Err stop) (Err Memory) → NeedsMemory by_turn (Asks question branches) path
   refused_first stands by_turn question branches path mid after (Failure failure) marks same says e = absurd (cc)
   refused_first stands by_turn question branches path mid after Memory marks same says e = inl (asks_grow question branches path mid marks same says.1)
 
@@ -174,7 +174,7 @@ module _ {D : Type 0} where
   -- ---- one schedule
 
   module _ (old : Progress D) (offered : Offers) (path mid : Route) (s : IsSchedule old offered path mid) where
-    pub thread_refused : {B : Type 0} (after : Route) (stop : Stop) → ((places : List (Option ℕ)) → Says Thread mid (which_thread (is_on mid.exploring) offered places) (Err stop) after)
+    pub thread_refused : {B : Type 0} (after : Route) (stop : Stop) → ((places : List (Option ℕ)) → Decides Thread mid (which_thread (is_on mid.exploring) offered places) (Err stop) after)
         → ◌≡◌ {A = Result B Stop} (Err stop) (Err Memory) → AllNeedMemory passed.Turn passes old path
     thread_refused after stop says e c shown =
         needed_on passed.Turn (passes c) (Asks (asks_of old offered path mid s c) (chooses c)) path path (scheduled old offered path mid s c shown) (omega arith)
@@ -192,7 +192,7 @@ module _ {D : Type 0} where
   -- memory is refused for the node of a load
   pub load_refused : {B : Type 0} (t : ℕ) (load : Loading) (old mid : Progress D) (path via : Route) (stop : Stop)
       → ((exploring : Bool) (w : World D) → Shows w old.state → Resumes exploring (resumes exploring t w) (Ok (resumed.Load load)) mid.state) → mid.dependence ≡ old.dependence
-      → Says Load path (which_store (is_on path.exploring) load.readable) (Err stop) via → ◌≡◌ {A = Result B Stop} (Err stop) (Err Memory) → AllNeedMemory passed.Turn (takes_turn t) old path
+      → Decides Load path (which_store (is_on path.exploring) load.readable) (Err stop) via → ◌≡◌ {A = Result B Stop} (Err stop) (Err Memory) → AllNeedMemory passed.Turn (takes_turn t) old path
   load_refused t load old mid path via stop does kept says e c shown =
       needed_on passed.Turn (takes_turn t c) (Asks (which_store (is_on path.exploring) load.readable) _) path path (read_asks t load old mid path via does kept c shown) (omega arith)
       (refused_first Load passed.Turn (which_store (is_on path.exploring) load.readable) _ path path via stop (unmarked_load t load old mid path via does kept) refl says e)
@@ -263,13 +263,13 @@ module _ {D : Type 0} where
   -- ---- a wait, and an operation
 
   -- memory is refused for the node of a spurious wake-up
-  pub wake_refused : {B : Type 0} (n : ℕ) (old : Progress D) (path mid : Route) (stop : Stop) → Says Spurious path (whether_spurious (is_on path.exploring)) (Err stop) mid → ◌≡◌ {A = Result B Stop} (Err stop) (Err Memory)
+  pub wake_refused : {B : Type 0} (n : ℕ) (old : Progress D) (path mid : Route) (stop : Stop) → Decides Spurious path (whether_spurious (is_on path.exploring)) (Err stop) mid → ◌≡◌ {A = Result B Stop} (Err stop) (Err Memory)
       → AllNeedMemory itself (is_asked n) old path
   wake_refused n old path mid stop says e c shown =
       needed_on itself (is_asked n c) (Asks (whether_spurious (is_on path.exploring)) (waits n c)) path path (asked_so n old path c shown) (omega arith)
       (refused_first Spurious itself (whether_spurious (is_on path.exploring)) (waits n c) path path mid stop (unmarked_wait n old path) refl says e)
 
-  pub wait_needs : (n : ℕ) (is_spurious : Bool) (old mid : Progress D) (path via : Route) → (says : Says Spurious path (whether_spurious (is_on path.exploring)) (Ok is_spurious) via) → (same : IsSame path via)
+  pub wait_needs : (n : ℕ) (is_spurious : Bool) (old mid : Progress D) (path via : Route) → (says : Decides Spurious path (whether_spurious (is_on path.exploring)) (Ok is_spurious) via) → (same : IsSame path via)
       → ((w : World D) → Shows w old.state → world_comes (enters_wait is_spurious n w) (Ok tt) mid.state) → mid.dependence ≡ old.dependence
       → AllNeedMemory itself (schedule further_branches) mid via → AllNeedMemory itself (is_asked n) old path
   wait_needs n is_spurious old mid path via says same does kept needs c shown =

@@ -37,7 +37,7 @@ use Rattle.loom_objects.specs.Rules.Tables.{chosen, takes_effect}
 use Rattle.loom_objects.specs.Rules.Ending.{end_of}
 use Rattle.loom_objects.specs.Rules.Leaks.{check_leak, first_leak, is_none_left}
 use Rattle.loom_objects.specs.Rules.Mutex.{frees}
-use Rattle.loom_objects.specs.Rules.Moves.{a_condvar, a_place, acquires, an_arc, an_atomic, raises, takes_result, yields}
+use Rattle.loom_objects.specs.Rules.Moves.{a_condvar, an_atomic_waker, acquires, an_arc, an_atomic, raises, takes_result, yields}
 use Rattle.loom_objects.specs.Rules.Notify.{notify}
 use Rattle.loom_objects.specs.Schedule.Offers.{chooses as chooses_thread}
 use Rattle.loom_objects.specs.Rules.Replied.{gone, replied}
@@ -158,7 +158,7 @@ module _ {D : Type 0} where
   after_drop_goes : (after : AfterDrop) (w : World D) → Answers GoesQuietly (after_drop after w)
   after_drop_goes dropped.Done w = (refl, refl)
   after_drop_goes dropped.Yield w = then_quietly (yields task.Continue w) _ (λ yielded. tt)
-  after_drop_goes (dropped.Free p) w = then_quietly (a_place p w) _ (λ place. (refl, refl))
+  after_drop_goes (dropped.Free p) w = then_quietly (an_atomic_waker p w) _ (λ place. (refl, refl))
 
   pub drops_waker_goes : (c : ℕ) (after : AfterDrop) (w : World D) → Answers GoesQuietly (drops_waker c after w)
   drops_waker_goes c after w = then_quietly (some_wakers c w) _ (λ wakers. after_drop_goes after _)
@@ -172,7 +172,7 @@ module _ {D : Type 0} where
   registers_if_goes false p c place wakers w = tt
 
   pub registers_goes : (p c : ℕ) (w : World D) → Answers GoesQuietly (registers p c w)
-  registers_goes p c w = then_quietly (a_place p w) _ (λ place. then_quietly (some_wakers c w) _ (λ wakers. registers_if_goes (is_none place.holder) p c place wakers w))
+  registers_goes p c w = then_quietly (an_atomic_waker p w) _ (λ place. then_quietly (some_wakers c w) _ (λ wakers. registers_if_goes (is_none place.holder) p c place wakers w))
 
   has_taken_goes : (by : Taking) (waker : Option ℕ) (w : World D) → Answers GoesQuietly (has_taken by waker w)
   has_taken_goes taking.Answer waker w = (refl, waker_reply_quiet D waker)
@@ -180,7 +180,7 @@ module _ {D : Type 0} where
   has_taken_goes taking.Wake (Some c) w = then_quietly (some_wakers c w) _ (λ wakers. tt)
 
   pub takes_waker_goes : (by : Taking) (p : ℕ) (w : World D) → Answers GoesQuietly (takes_waker by p w)
-  takes_waker_goes by p w = then_quietly (a_place p w) _ (λ place. then_quietly (check (is_none place.holder) Misuse) _ (λ u. has_taken_goes by place.waker _))
+  takes_waker_goes by p w = then_quietly (an_atomic_waker p w) _ (λ place. then_quietly (check (is_none place.holder) Misuse) _ (λ u. has_taken_goes by place.waker _))
 
   takes_effect_goes : (todo : Task D) (w : World D) → Answers ResumesOn (takes_effect todo w)
   takes_effect_goes task.Start w = tt

@@ -68,15 +68,15 @@ use Rattle.loom_objects.specs.Rules.Tables.{counted, needs_memory, op_begins}
 use Rattle.loom_objects.specs.Rules.Leaks.{is_none_left}
 use Rattle.loom_objects.specs.Lent.{handed_back, value_in}
 use Rattle.loom_objects.specs.Rules.Mutex.{free_value, frees, mutex_begins, needs_memory as mutex_needs_memory}
-use Rattle.loom_objects.specs.Rules.Moves.{a_cell, a_condvar, a_mutex, a_notifier, a_place, a_rwlock, a_track, active_thread, an_arc, an_atomic, at_phase, changed_at, changes_active, is_number, unparks, with_object, with_points, with_thread, yields}
-use Rattle.loom_objects.specs.Rules.Notify.{comes_to_wait, is_alone, is_for_waits, may_be_spurious, notifier_begins, needs_memory as notifier_needs_memory}
+use Rattle.loom_objects.specs.Rules.Moves.{a_cell, a_condvar, a_mutex, a_notify, an_atomic_waker, a_rwlock, a_track, active_thread, an_arc, an_atomic, at_phase, changed_at, changes_active, is_number, unparks, with_object, with_points, with_thread, yields}
+use Rattle.loom_objects.specs.Rules.Notify.{comes_to_wait, is_alone, is_for_waits, may_be_spurious, notify_begins, needs_memory as notify_needs_memory}
 use Rattle.loom_objects.specs.Operation.Accessed.{accessed}
 use Rattle.loom_objects.specs.Rules.Rule.{◌>>=◌, check, found}
 use Rattle.loom_objects.specs.Rules.RwLock.{claim_begins, guards_of, is_unread as is_unread_lock, rwlock_begins, unlocked_value, wakes_if, with_one_fewer, needs_memory as rwlock_needs_memory}
 use Rattle.loom_objects.specs.Rules.Thread.{finish_as, has_own, is_exited, is_finished, parks_unless, thread_begins, needs_memory as thread_needs_memory}
 use Rattle.loom_objects.specs.Rules.Alloc.{track_begins, track_take, needs_memory as track_needs_memory}
 use Rattle.loom_objects.specs.Rules.Locals.{is_working, lazy_begins, lazy_needs_memory, local_at, local_begins, local_needs_memory, puts_local}
-use Rattle.loom_objects.specs.Rules.Waker.{place_begins, place_needs_memory, some_wakers, take_begins, wake_begins as wake_by_begins, waker_begins, waker_needs_memory, waker_pends}
+use Rattle.loom_objects.specs.Rules.Waker.{atomic_waker_begins, atomic_waker_needs_memory, some_wakers, take_begins, wake_begins as wake_by_begins, waker_begins, waker_needs_memory, waker_pends}
 use Rattle.loom_objects.specs.World.{World}
 use Rattle.loom_engine.specs.Runs.Growth.{GrowthLaw, HasAsMany}
 use Rattle.loom_engine.proofs.Runs.Answering.{Answers, answers_then}
@@ -270,11 +270,11 @@ module _ {D : Type 0} (w : World D) where
   waits_stays true n notifier = stayed
   waits_stays false n notifier = by_thread (with_object n (object.Notify (record notifier { waiter = Some w.active })) w) _ w.active (by_object w n _ stayed)
 
-  notifier_stays : (todo : NotifyOp) → notifier_needs_memory todo ≡ false → Answers Stays (notifier_begins todo w)
+  notifier_stays : (todo : NotifyOp) → notify_needs_memory todo ≡ false → Answers Stays (notify_begins todo w)
   notifier_stays notify_op.New h = absurd (cc h)
-  notifier_stays (notify_op.Notify n) h = onward (a_notifier n w) _ (λ notifier. onward (check (is_for_waits notifier.spurious) Misuse) _ (λ u. by_thread w _ w.active stayed))
+  notifier_stays (notify_op.Notify n) h = onward (a_notify n w) _ (λ notifier. onward (check (is_for_waits notifier.spurious) Misuse) _ (λ u. by_thread w _ w.active stayed))
   notifier_stays (notify_op.Wait n) h =
-      onward (a_notifier n w) _ (λ notifier. onward (check (is_for_waits notifier.spurious) Misuse) _ (λ u. onward (check (is_alone w.active notifier) SecondWaiter) _ (λ v.
+      onward (a_notify n w) _ (λ notifier. onward (check (is_for_waits notifier.spurious) Misuse) _ (λ u. onward (check (is_alone w.active notifier) SecondWaiter) _ (λ v.
       waits_stays (may_be_spurious notifier.spurious) n notifier)))
 
   -- ---- channels, wakers, places for wakers, and values
@@ -318,15 +318,15 @@ module _ {D : Type 0} (w : World D) where
   waker_stays (waker_op.Drop c) h = pends_stays (task.DropWaker c dropped.Done) c
 
   take_waker_stays : (by : Taking) (p : ℕ) → Answers Stays (take_begins by p w)
-  take_waker_stays by p = onward (a_place p w) _ (λ place. by_thread w _ w.active stayed)
+  take_waker_stays by p = onward (an_atomic_waker p w) _ (λ place. by_thread w _ w.active stayed)
 
-  place_stays : (todo : AtomicWakerOp) → place_needs_memory todo ≡ false → Answers Stays (place_begins todo w)
+  place_stays : (todo : AtomicWakerOp) → atomic_waker_needs_memory todo ≡ false → Answers Stays (atomic_waker_begins todo w)
   place_stays place_op.New h = absurd (cc h)
-  place_stays (place_op.Register p c) h = onward (a_place p w) _ (λ place. pends_stays (task.Register p c) c)
-  place_stays (place_op.RegisterByRef p c) h = onward (a_place p w) _ (λ place. pends_stays (task.CloneWaker c (Some p)) c)
+  place_stays (place_op.Register p c) h = onward (an_atomic_waker p w) _ (λ place. pends_stays (task.Register p c) c)
+  place_stays (place_op.RegisterByRef p c) h = onward (an_atomic_waker p w) _ (λ place. pends_stays (task.CloneWaker c (Some p)) c)
   place_stays (place_op.Wake p) h = take_waker_stays taking.Wake p
   place_stays (place_op.TakeWaker p) h = take_waker_stays taking.Answer p
-  place_stays (place_op.Drop p) h = onward (a_place p w) _ (λ place. by_object w p _ stayed)
+  place_stays (place_op.Drop p) h = onward (an_atomic_waker p w) _ (λ place. by_object w p _ stayed)
 
   puts_local_stays : (key : ℕ) (value : D) (local : Option (Keyed D)) → Answers Stays (puts_local key value local w)
   puts_local_stays key value None = tt
@@ -361,7 +361,7 @@ module _ {D : Type 0} (w : World D) where
   thread_stays : (todo : ThreadOp D ⊤) → thread_needs_memory todo ≡ false → Answers Stays (thread_begins todo w)
   thread_stays (thread_op.Spawn body name) h = absurd (cc h)
   thread_stays (thread_op.Join t n) h =
-      onward (check (has_own (slice_get w.threads t) n) Misuse) _ (λ u. onward (a_notifier n w) _ (λ notifier. onward (check (is_none notifier.waiter) Misuse) _ (λ v.
+      onward (check (has_own (slice_get w.threads t) n) Misuse) _ (λ u. onward (a_notify n w) _ (λ notifier. onward (check (is_none notifier.waiter) Misuse) _ (λ v.
       by_thread (with_object n (object.Notify (record notifier { waiter = Some w.active })) w) _ w.active (by_object w n _ stayed))))
   thread_stays thread_op.Current h = onward (active_thread w) _ (λ thread. stayed)
   thread_stays thread_op.Park h = onward (active_thread w) _ (λ thread. parks_stays thread.has_token)

@@ -85,16 +85,16 @@ use Rattle.loom_objects.specs.Rules.Arc.{arc_begins, comes_to, counts, decrement
 use Rattle.loom_objects.specs.Rules.Tables.{op_begins, takes_effect}
 use Rattle.loom_objects.specs.Lent.{value_in}
 use Rattle.loom_objects.specs.Rules.Mutex.{free_value, frees, lock, locks_unless, mutex_begins, try_lock}
-use Rattle.loom_objects.specs.Scene.Lookup.{looked_up, atomic_in, mutex_in, rwlock_in, condvar_in, notifier_in, cell_in, arc_in, track_in, wakers_in, place_in}
-use Rattle.loom_objects.specs.Rules.Moves.{active_thread, at_phase, changed_at, having, in_state, is_number, pending, pending_with, releases, resting, rests, rouses, rouses_all, running, takes_result, target, tells, unparked, unparks, with_new, with_points, with_token, writing_with, written, yielded, yields, pends}
-use Rattle.loom_objects.specs.Rules.Notify.{awaits, comes_to_wait, enters_wait, is_alone, is_for_waits, may_be_spurious, notifier_begins, notifies, notify, wait_begins as notifier_wait_begins, waits_or_rouses, wakes_early, with_notifier}
+use Rattle.loom_objects.specs.Scene.Lookup.{looked_up, atomic_in, mutex_in, rwlock_in, condvar_in, notify_in, cell_in, arc_in, track_in, wakers_in, atomic_waker_in}
+use Rattle.loom_objects.specs.Rules.Moves.{active_thread, at_phase, changed_at, having, in_state, is_number, pending, pending_with, releases, resting, rests, rouses, rouses_all, running, takes_result, target, joins_view, unparked, unparks, with_new, with_points, with_token, writing_with, written, yielded, yields, pends}
+use Rattle.loom_objects.specs.Rules.Notify.{awaits, comes_to_wait, enters_wait, is_alone, is_for_waits, may_be_spurious, notify_begins, notifies, notify, wait_begins as notifier_wait_begins, waits_or_rouses, wakes_early, with_notify}
 use Rattle.loom_objects.specs.Rules.Rule.{◌>>=◌, check, found}
 use Rattle.loom_objects.specs.Rules.RwLock.{claim_begins, claims, guards_of, is_refused, is_unread as is_unread_lock, reads_lock, rwlock_begins, takes_unless, unlocked_value, wakes_if, with_one_fewer, writes_lock}
 use Rattle.loom_objects.specs.Rules.Thread.{child_finish, finish, has_own, is_exited, is_finished, join, parks_unless, thread_begins, without_locals}
 use Rattle.loom_objects.specs.Rules.Alloc.{track_begins, track_take}
 use Rattle.loom_objects.specs.Rules.Replied.{gone, replied}
 use Rattle.loom_objects.specs.Rules.Locals.{is_taken, lazy_begins, local_at, local_begins, local_or, none_there, puts_local, reads_local, with_local}
-use Rattle.loom_objects.specs.Rules.Waker.{acquires_if, after_clone, after_drop, after_wake, clones_waker, drops_waker, frees_place, has_taken, holds_place, place_begins, registers, registers_if, some_wakers, take_begins, takes_place, takes_waker, wake_begins as wake_by_begins, waker_begins, waker_pends, wakes_by}
+use Rattle.loom_objects.specs.Rules.Waker.{acquires_if, after_clone, after_drop, after_wake, clones_waker, drops_waker, frees_place, has_taken, holds_place, atomic_waker_begins, registers, registers_if, some_wakers, take_begins, takes_place, takes_waker, wake_begins as wake_by_begins, waker_begins, waker_pends, wakes_by}
 use Rattle.loom_objects.specs.World.{World, MAX_THREADS, child_thread}
 use Rattle.loom_engine.proofs.Runs.Answering.{Answers, answers_then}
 use Rattle.loom_engine.proofs.Runs.Kept.{doing, IsAway, AwayAt, stated, unparked_same, KeptByMoves, set_away}
@@ -150,7 +150,7 @@ module _ {D : Type 0} (R : World D → Type 0) (k : KeptByMoves R) where
   wakes_so : (n : ℕ) (state : State) (w : World D) → R w → R (record w { threads = map (pending_with n state) w.threads })
   wakes_so n state w s = k.each (pending_with n state) w (λ thread. stated (is_number (target thread.task) n) state thread) s
 
-  tells_so : (t : Option ℕ) (w : World D) → R w → R (tells t w)
+  tells_so : (t : Option ℕ) (w : World D) → R w → R (joins_view t w)
   tells_so t w s = k.points _ w s
 
   releases_so : (n : ℕ) (w : World D) → R w → R (releases n w)
@@ -434,12 +434,12 @@ module _ {D : Type 0} (R : World D → Type 0) (k : KeptByMoves R) where
 
   notifier_wait_moves : (n : ℕ) (w : World D) → R w → Answers (Within R) (notifier_wait_begins n w)
   notifier_wait_moves n w s =
-      away notifier_in (λ c. tt) (slice_get w.objects n) _ (λ notifier there. onward (check (is_for_waits notifier.spurious) Misuse) _ (λ u. onward (check (is_alone w.active notifier) SecondWaiter) _ (λ v.
+      away notify_in (λ c. tt) (slice_get w.objects n) _ (λ notifier there. onward (check (is_for_waits notifier.spurious) Misuse) _ (λ u. onward (check (is_alone w.active notifier) SecondWaiter) _ (λ v.
       waits_moves (may_be_spurious notifier.spurious) n notifier w there s)))
 
-  notifier_moves : (todo : NotifyOp) (w : World D) → R w → Answers (Within R) (notifier_begins todo w)
+  notifier_moves : (todo : NotifyOp) (w : World D) → R w → Answers (Within R) (notify_begins todo w)
   notifier_moves notify_op.New w s = k.points _ _ (k.made _ w tt s)
-  notifier_moves (notify_op.Notify n) w s = away notifier_in (λ c. tt) (slice_get w.objects n) _ (λ notifier there. onward (check (is_for_waits notifier.spurious) Misuse) _ (λ u. pends_so (task.Notify n) false w refl s))
+  notifier_moves (notify_op.Notify n) w s = away notify_in (λ c. tt) (slice_get w.objects n) _ (λ notifier there. onward (check (is_for_waits notifier.spurious) Misuse) _ (λ u. pends_so (task.Notify n) false w refl s))
   notifier_moves (notify_op.Wait n) w s = notifier_wait_moves n w s
 
   waits_or_rouses_moves : (is_spurious : Bool) (n : ℕ) (notifier : Notify) (w : World D) → AwayAt (slice_get w.objects n) → R w → Answers (Within R) (waits_or_rouses is_spurious n notifier w)
@@ -447,22 +447,22 @@ module _ {D : Type 0} (R : World D → Type 0) (k : KeptByMoves R) where
   waits_or_rouses_moves false n notifier w there s = pends_so (task.Await n) (not notifier.notified) _ refl (k.object n _ w there tt s)
 
   pub enters_wait_moves : (is_spurious : Bool) (n : ℕ) (w : World D) → R w → Answers (Within R) (enters_wait is_spurious n w)
-  enters_wait_moves is_spurious n w s = away notifier_in (λ c. tt) (slice_get w.objects n) _ (λ notifier there. waits_or_rouses_moves is_spurious n notifier w there s)
+  enters_wait_moves is_spurious n w s = away notify_in (λ c. tt) (slice_get w.objects n) _ (λ notifier there. waits_or_rouses_moves is_spurious n notifier w there s)
 
   notify_moves : (n : ℕ) (w : World D) → R w → Answers (Within R) (notify n w)
-  notify_moves n w s = away notifier_in (λ c. tt) (slice_get w.objects n) _ (λ notifier there.
-      let noted = with_notifier n (record notifier { notified = true }) w in
+  notify_moves n w s = away notify_in (λ c. tt) (slice_get w.objects n) _ (λ notifier there.
+      let noted = with_notify n (record notifier { notified = true }) w in
       let released = releases n noted in
-      wakes_so n Runnable (tells notifier.waiter released) (tells_so notifier.waiter released (releases_so n noted (k.object n _ w there tt s))))
+      wakes_so n Runnable (joins_view notifier.waiter released) (tells_so notifier.waiter released (releases_so n noted (k.object n _ w there tt s))))
 
   notifies_moves : (n : ℕ) (w : World D) → R w → Answers (Within R) (notifies n w)
   notifies_moves n w s = from_there (notify n w) _ (notify_moves n w s) (λ after r. r)
 
   awaits_moves : (n : ℕ) (w : World D) → R w → Answers (Within R) (awaits n w)
-  awaits_moves n w s = away notifier_in (λ c. tt) (slice_get w.objects n) _ (λ notifier there. onward (check notifier.notified Misuse) _ (λ u. k.points _ _ (k.object n _ w there tt s)))
+  awaits_moves n w s = away notify_in (λ c. tt) (slice_get w.objects n) _ (λ notifier there. onward (check notifier.notified Misuse) _ (λ u. k.points _ _ (k.object n _ w there tt s)))
 
   wakes_early_moves : (n : ℕ) (w : World D) → R w → Answers (Within R) (wakes_early n w)
-  wakes_early_moves n w s = away notifier_in (λ c. tt) (slice_get w.objects n) _ (λ notifier there. k.object n _ w there tt s)
+  wakes_early_moves n w s = away notify_in (λ c. tt) (slice_get w.objects n) _ (λ notifier there. k.object n _ w there tt s)
 
   -- ---- wakers, and places for them
 
@@ -506,15 +506,15 @@ module _ {D : Type 0} (R : World D → Type 0) (k : KeptByMoves R) where
   waker_moves (waker_op.Drop c) w s = waker_pends_moves (task.DropWaker c dropped.Done) c w refl s
 
   take_begins_moves : (by : Taking) (p : ℕ) (w : World D) → R w → Answers (Within R) (take_begins by p w)
-  take_begins_moves by p w s = away place_in (λ c. tt) (slice_get w.objects p) _ (λ place there. pends_so (task.TakeWaker by p) (is_some place.holder) w refl s)
+  take_begins_moves by p w s = away atomic_waker_in (λ c. tt) (slice_get w.objects p) _ (λ place there. pends_so (task.TakeWaker by p) (is_some place.holder) w refl s)
 
-  place_moves : (todo : AtomicWakerOp) (w : World D) → R w → Answers (Within R) (place_begins todo w)
+  place_moves : (todo : AtomicWakerOp) (w : World D) → R w → Answers (Within R) (atomic_waker_begins todo w)
   place_moves place_op.New w s = k.points _ _ (k.made _ w tt s)
-  place_moves (place_op.Register p c) w s = away place_in (λ c. tt) (slice_get w.objects p) _ (λ place there. waker_pends_moves (task.Register p c) c w refl s)
-  place_moves (place_op.RegisterByRef p c) w s = away place_in (λ c. tt) (slice_get w.objects p) _ (λ place there. waker_pends_moves (task.CloneWaker c (Some p)) c w refl s)
+  place_moves (place_op.Register p c) w s = away atomic_waker_in (λ c. tt) (slice_get w.objects p) _ (λ place there. waker_pends_moves (task.Register p c) c w refl s)
+  place_moves (place_op.RegisterByRef p c) w s = away atomic_waker_in (λ c. tt) (slice_get w.objects p) _ (λ place there. waker_pends_moves (task.CloneWaker c (Some p)) c w refl s)
   place_moves (place_op.Wake p) w s = take_begins_moves taking.Wake p w s
   place_moves (place_op.TakeWaker p) w s = take_begins_moves taking.Answer p w s
-  place_moves (place_op.Drop p) w s = away place_in (λ c. tt) (slice_get w.objects p) _ (λ place there. k.object p _ w there tt s)
+  place_moves (place_op.Drop p) w s = away atomic_waker_in (λ c. tt) (slice_get w.objects p) _ (λ place there. k.object p _ w there tt s)
 
   holds_moves : (p : ℕ) (place : AtomicWaker) (w : World D) → AwayAt (slice_get w.objects p) → R w → R (holds_place p place w)
   holds_moves p place w there s = wakes_so p Blocked _ (k.points _ _ (k.object p _ w there tt s))
@@ -540,7 +540,7 @@ module _ {D : Type 0} (R : World D → Type 0) (k : KeptByMoves R) where
   after_drop_moves : (after : AfterDrop) (w : World D) → R w → Answers (Within R) (after_drop after w)
   after_drop_moves dropped.Done w s = s
   after_drop_moves dropped.Yield w s = from_there (yields task.Continue w) _ (yields_so task.Continue w refl s) (λ yielded r. r)
-  after_drop_moves (dropped.Free p) w s = away place_in (λ c. tt) (slice_get w.objects p) _ (λ place there. frees_place_moves p place w there s)
+  after_drop_moves (dropped.Free p) w s = away atomic_waker_in (λ c. tt) (slice_get w.objects p) _ (λ place there. frees_place_moves p place w there s)
 
   acquires_if_moves : (is_last : Bool) (c : ℕ) (w : World D) → R w → R (acquires_if is_last c w)
   acquires_if_moves true c w s = k.points _ w s
@@ -558,7 +558,7 @@ module _ {D : Type 0} (R : World D → Type 0) (k : KeptByMoves R) where
   registers_if_moves false p c place wakers w there s = pends_so (task.WakeBy wakers.notifier c (woken.Drop dropped.Yield)) false w refl s
 
   registers_moves : (p c : ℕ) (w : World D) → R w → Answers (Within R) (registers p c w)
-  registers_moves p c w s = away place_in (λ c. tt) (slice_get w.objects p) _ (λ place there. some_moves c w _ (λ wakers beside. registers_if_moves (is_none place.holder) p c place wakers w there s))
+  registers_moves p c w s = away atomic_waker_in (λ c. tt) (slice_get w.objects p) _ (λ place there. some_moves c w _ (λ wakers beside. registers_if_moves (is_none place.holder) p c place wakers w there s))
 
   has_taken_moves : (by : Taking) (waker : Option ℕ) (w : World D) → R w → Answers (Within R) (has_taken by waker w)
   has_taken_moves taking.Answer waker w s = s
@@ -567,7 +567,7 @@ module _ {D : Type 0} (R : World D → Type 0) (k : KeptByMoves R) where
 
   takes_waker_moves : (by : Taking) (p : ℕ) (w : World D) → R w → Answers (Within R) (takes_waker by p w)
   takes_waker_moves by p w s =
-      away place_in (λ c. tt) (slice_get w.objects p) _ (λ place there. onward (check (is_none place.holder) Misuse) _ (λ u.
+      away atomic_waker_in (λ c. tt) (slice_get w.objects p) _ (λ place there. onward (check (is_none place.holder) Misuse) _ (λ u.
       has_taken_moves by place.waker _ (frees_place_moves p (record place { waker = None }) (holds_place p place w) (set_away w.objects p p _ tt there) (holds_moves p place w there s))))
 
   -- ---- a thread's own values
@@ -606,7 +606,7 @@ module _ {D : Type 0} (R : World D → Type 0) (k : KeptByMoves R) where
 
   join_begins_moves : (t n : ℕ) (w : World D) → R w → Answers (Within R) (thread_begins (thread_op.Join t n) w)
   join_begins_moves t n w s =
-      onward (check (has_own (slice_get w.threads t) n) Misuse) _ (λ u. away notifier_in (λ c. tt) (slice_get w.objects n) _ (λ notifier there. onward (check (is_none notifier.waiter) Misuse) _ (λ v.
+      onward (check (has_own (slice_get w.threads t) n) Misuse) _ (λ u. away notify_in (λ c. tt) (slice_get w.objects n) _ (λ notifier there. onward (check (is_none notifier.waiter) Misuse) _ (λ v.
       pends_so (task.Join t n) (not notifier.notified) _ refl (k.object n _ w there tt s))))
 
   parks_moves : (has_token : Bool) (w : World D) → R w → Answers (Within R) (parks_unless has_token w)
@@ -654,7 +654,7 @@ module _ {D : Type 0} (R : World D → Type 0) (k : KeptByMoves R) where
 
   join_moves : (t n : ℕ) (w : World D) → R w → Answers (Within R) (join t n w)
   join_moves t n w s =
-      away notifier_in (λ c. tt) (slice_get w.objects n) _ (λ notifier there. onward (check notifier.notified Misuse) _ (λ u.
+      away notify_in (λ c. tt) (slice_get w.objects n) _ (λ notifier there. onward (check notifier.notified Misuse) _ (λ u.
       takes_result_moves t w _ s (λ value threads r. k.points _ _ (k.object n _ _ there tt r))))
 
   child_finish_moves : (n : ℕ) (value : D) (w : World D) → R w → Answers (Within R) (child_finish n value w)

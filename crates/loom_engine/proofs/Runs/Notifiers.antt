@@ -8,9 +8,9 @@ use Rattle.loom_objects.specs.declared.rt.notify.Notify.{Notify}
 use Rattle.loom_objects.specs.declared.rt.notify.Spurious.TheVariants.{Waking as AboutToWake}
 use Rattle.loom_objects.specs.declared.rt.thread.Task.{Task}
 use Rattle.loom_objects.specs.declared.rt.thread.Task.TheVariants as task
-use Rattle.loom_objects.specs.Rules.Moves.{a_notifier, yields, yielded}
+use Rattle.loom_objects.specs.Rules.Moves.{a_notify, yields, yielded}
 use Rattle.loom_objects.specs.Rules.Notify as notifiers
-use Rattle.loom_objects.specs.Rules.Notify.{awaits, comes_to_wait, enters_wait, is_alone, is_for_waits, may_be_spurious, notifier_begins, notifies, notify, notify_begins, waits_or_rouses, wakes_early, with_notifier}
+use Rattle.loom_objects.specs.Rules.Notify.{awaits, comes_to_wait, enters_wait, is_alone, is_for_waits, may_be_spurious, notify_begins, notifies, notify, notify_one_begins, waits_or_rouses, wakes_early, with_notify}
 use Rattle.loom_objects.specs.World.{World}
 use Rattle.loom_objects.specs.declared.rt.thread.State.TheVariants.{Runnable}
 use Rattle.loom_engine.proofs.Runs.States.{changed_ready, freed_by, pending_ready, pends_ready}
@@ -18,7 +18,7 @@ use Rattle.loom_engine.proofs.Runs.Ruling.{Keeping, chained, check_keeping, fair
 
 module _ {D : Type 0} where
   pub notify_keeping : (n : ℕ) (w : World D) → Keeping w (notify n w)
-  notify_keeping n w = fair_keeping (a_notifier n w) _ w (notifier_fair n w) (λ notifier out k. pending_ready n Runnable (set_keeping w n _ tt out k))
+  notify_keeping n w = fair_keeping (a_notify n w) _ w (notifier_fair n w) (λ notifier out k. pending_ready n Runnable (set_keeping w n _ tt out k))
 
   comes_to_wait_keeping : (may_be : Bool) (n : ℕ) (notifier : Notify) (w : World D) → Keeping w (comes_to_wait may_be n notifier w)
   comes_to_wait_keeping true n notifier w = λ out k. k
@@ -26,16 +26,16 @@ module _ {D : Type 0} where
 
   pub wait_begins_keeping : (n : ℕ) (w : World D) → Keeping w (notifiers.wait_begins n w)
   wait_begins_keeping n w =
-      fair_keeping (a_notifier n w) _ w (notifier_fair n w) (λ notifier. check_keeping (is_for_waits notifier.spurious) Misuse _ w misuse
+      fair_keeping (a_notify n w) _ w (notifier_fair n w) (λ notifier. check_keeping (is_for_waits notifier.spurious) Misuse _ w misuse
       (λ e. check_keeping (is_alone w.active notifier) SecondWaiter _ w (λ f. cc) (λ f. comes_to_wait_keeping (may_be_spurious notifier.spurious) n notifier w)))
 
-  notify_begins_keeping : (n : ℕ) (w : World D) → Keeping w (notify_begins n w)
-  notify_begins_keeping n w =
-      fair_keeping (a_notifier n w) _ w (notifier_fair n w) (λ notifier. check_keeping (is_for_waits notifier.spurious) Misuse _ w misuse (λ e out k. pends_ready (task.Notify n) false refl k))
+  notify_one_begins_keeping : (n : ℕ) (w : World D) → Keeping w (notify_one_begins n w)
+  notify_one_begins_keeping n w =
+      fair_keeping (a_notify n w) _ w (notifier_fair n w) (λ notifier. check_keeping (is_for_waits notifier.spurious) Misuse _ w misuse (λ e out k. pends_ready (task.Notify n) false refl k))
 
-  pub notifier_begins_keeping : (todo : NotifyOp) (w : World D) → Keeping w (notifier_begins todo w)
+  pub notifier_begins_keeping : (todo : NotifyOp) (w : World D) → Keeping w (notify_begins todo w)
   notifier_begins_keeping notify_op.New w = λ out k. new_keeping w _ tt out k
-  notifier_begins_keeping (notify_op.Notify n) w = notify_begins_keeping n w
+  notifier_begins_keeping (notify_op.Notify n) w = notify_one_begins_keeping n w
   notifier_begins_keeping (notify_op.Wait n) w = wait_begins_keeping n w
 
   pub yields_keeping : (todo : Task D) (w : World D) → freed_by todo ≡ None → Keeping w (yields todo w)
@@ -44,18 +44,18 @@ module _ {D : Type 0} where
 
   waits_or_rouses_keeping : (is_spurious : Bool) (n : ℕ) (notifier : Notify) (w : World D) → Keeping w (waits_or_rouses is_spurious n notifier w)
   waits_or_rouses_keeping true n notifier w =
-      let waking = with_notifier n (record notifier { spurious = AboutToWake w.active }) w in
+      let waking = with_notify n (record notifier { spurious = AboutToWake w.active }) w in
       chained w waking _ (λ out k. set_keeping w n _ tt out k) (yields_keeping (task.Rouse n) waking refl)
   waits_or_rouses_keeping false n notifier w = λ out k. pends_ready (task.Await n) (not notifier.notified) refl (set_keeping w n _ tt out k)
 
   pub enters_wait_keeping : (is_spurious : Bool) (n : ℕ) (w : World D) → Keeping w (enters_wait is_spurious n w)
-  enters_wait_keeping is_spurious n w = fair_keeping (a_notifier n w) _ w (notifier_fair n w) (λ notifier. waits_or_rouses_keeping is_spurious n notifier w)
+  enters_wait_keeping is_spurious n w = fair_keeping (a_notify n w) _ w (notifier_fair n w) (λ notifier. waits_or_rouses_keeping is_spurious n notifier w)
 
   pub notifies_keeping : (n : ℕ) (w : World D) → Keeping w (notifies n w)
   notifies_keeping n w = then_keeping (notify n w) _ w (notify_keeping n w) (λ after out k. k)
 
   pub awaits_keeping : (n : ℕ) (w : World D) → Keeping w (awaits n w)
-  awaits_keeping n w = fair_keeping (a_notifier n w) _ w (notifier_fair n w) (λ notifier. check_keeping notifier.notified Misuse _ w misuse (λ e out k. set_keeping w n _ tt out k))
+  awaits_keeping n w = fair_keeping (a_notify n w) _ w (notifier_fair n w) (λ notifier. check_keeping notifier.notified Misuse _ w misuse (λ e out k. set_keeping w n _ tt out k))
 
   pub wakes_early_keeping : (n : ℕ) (w : World D) → Keeping w (wakes_early n w)
-  wakes_early_keeping n w = fair_keeping (a_notifier n w) _ w (notifier_fair n w) (λ notifier out k. set_keeping w n _ tt out k)
+  wakes_early_keeping n w = fair_keeping (a_notify n w) _ w (notifier_fair n w) (λ notifier out k. set_keeping w n _ tt out k)

@@ -60,13 +60,13 @@ use Rattle.loom_objects.specs.Rules.Mpsc.{by_receiver, by_sender, channel_begins
 use Rattle.loom_objects.specs.Rules.Condvar.{wake_begins, wakes}
 use Rattle.loom_objects.specs.Rules.Arc.{is_free as is_free_arc, arc_begins, comes_to, counts, decrements, drops_last, shared_unless, tries_unwrap, unwraps_if, may_grow, sole_value, with_arc, with_one_fewer}
 use Rattle.loom_objects.specs.Rules.Leaks.{is_none_left}
-use Rattle.loom_objects.specs.Rules.Notify.{awaits, comes_to_wait, notifier_begins, notifies, wait_begins, wakes_early, is_alone, is_for_waits, may_be_spurious, notify}
+use Rattle.loom_objects.specs.Rules.Notify.{awaits, comes_to_wait, notify_begins, notifies, wait_begins, wakes_early, is_alone, is_for_waits, may_be_spurious, notify}
 use Rattle.loom_objects.specs.Rules.Rule.{◌>>=◌, check, found}
 use Rattle.loom_objects.specs.Rules.RwLock.{claim_begins, claims, is_refused, reads_lock, rwlock_begins, takes_unless, writes_lock, guards_of, unlocked_value}
 use Rattle.loom_objects.specs.Rules.Thread.{child_finish, finish_as, join, parks_unless, thread_begins, has_own, is_exited, is_finished}
 use Rattle.loom_objects.specs.Rules.Alloc.{track_begins, track_take}
 use Rattle.loom_objects.specs.Rules.Locals.{are_open, is_taken, is_working, lazy_at, lazy_begins, local_at, local_begins, local_or, makes_lazy, none_there, puts_local, reads_lazy, reads_local}
-use Rattle.loom_objects.specs.Rules.Waker.{place_begins, some_wakers, waker_begins}
+use Rattle.loom_objects.specs.Rules.Waker.{atomic_waker_begins, some_wakers, waker_begins}
 use Rattle.loom_objects.specs.World.{World}
 use Rattle.loom_engine.specs.Runs.Histories.{locked_by, locked_by_turn}
 use Rattle.loom_engine.proofs.Runs.Answering.{Answers, GoesQuietly, answers_then, waker_reply_quiet}
@@ -78,7 +78,7 @@ use Rattle.loom_objects.specs.declared.rt.thread.Phase.TheVariants.{Finished}
 use Rattle.loom_objects.specs.declared.operation.TrackOp.TheVariants.{GetRef}
 use Rattle.loom_views.specs.declared.rt.failure.FailureKind.TheVariants.{KeyTaken, LazyShutdown, Misuse, OpenAccess, RelaxedFence, SecondWaiter, TooManySteps, TooManyThreads}
 use Rattle.loom_views.specs.Limits.{highest_count}
-use Rattle.loom_objects.specs.Rules.Moves.{a_cell, a_condvar, a_notifier, a_place, a_rwlock, a_track, acquires, active_thread, an_arc, an_atomic, at_phase, changes_active, is_number, raises, releases, takes_result, unparks, with_points, yields}
+use Rattle.loom_objects.specs.Rules.Moves.{a_cell, a_condvar, a_notify, an_atomic_waker, a_rwlock, a_track, acquires, active_thread, an_arc, an_atomic, at_phase, changes_active, is_number, raises, releases, takes_result, unparks, with_points, yields}
 use Rattle.loom_objects.specs.Operation.Accessed.{accessed}
 use Rattle.loom_objects.specs.Lent.{kept, value_in}
 use Rattle.loom_views.specs.Views.{points_after_load, points_after_spawn, points_after_store, points_after_unsync_load, points_after_update_read, points_after_with_mut, points_after_with_mut_end}
@@ -214,10 +214,10 @@ module _ {D : Type 0} where
   waits_quiet true n notifier w = tt
   waits_quiet false n notifier w = tt
 
-  pub notifier_quiet : (todo : NotifyOp) (w : World D) → Answers Quiet (notifier_begins todo w)
+  pub notifier_quiet : (todo : NotifyOp) (w : World D) → Answers Quiet (notify_begins todo w)
   notifier_quiet notify_op.New w = refl
-  notifier_quiet (notify_op.Notify n) w = after (a_notifier n w) _ (λ notifier. after (check (is_for_waits notifier.spurious) Misuse) _ (λ u. tt))
-  notifier_quiet (notify_op.Wait n) w = after (a_notifier n w) _ (λ notifier. after (check (is_for_waits notifier.spurious) Misuse) _ (λ u. after (check (is_alone w.active notifier) SecondWaiter) _ (λ v. waits_quiet (may_be_spurious notifier.spurious) n notifier w)))
+  notifier_quiet (notify_op.Notify n) w = after (a_notify n w) _ (λ notifier. after (check (is_for_waits notifier.spurious) Misuse) _ (λ u. tt))
+  notifier_quiet (notify_op.Wait n) w = after (a_notify n w) _ (λ notifier. after (check (is_for_waits notifier.spurious) Misuse) _ (λ u. after (check (is_alone w.active notifier) SecondWaiter) _ (λ v. waits_quiet (may_be_spurious notifier.spurious) n notifier w)))
 
   tries_recv_quiet : (is_empty : Bool) (n : ℕ) (w : World D) → Answers Quiet (tries_recv is_empty n w)
   tries_recv_quiet true n w = refl
@@ -248,13 +248,13 @@ module _ {D : Type 0} where
   waker_quiet (waker_op.WakeByRef c) w = after (some_wakers c w) _ (λ wakers. tt)
   waker_quiet (waker_op.Drop c) w = after (some_wakers c w) _ (λ wakers. tt)
 
-  pub place_quiet : (todo : AtomicWakerOp) (w : World D) → Answers Quiet (place_begins todo w)
+  pub place_quiet : (todo : AtomicWakerOp) (w : World D) → Answers Quiet (atomic_waker_begins todo w)
   place_quiet place_op.New w = refl
-  place_quiet (place_op.Register p c) w = after (a_place p w) _ (λ place. after (some_wakers c w) _ (λ wakers. tt))
-  place_quiet (place_op.RegisterByRef p c) w = after (a_place p w) _ (λ place. after (some_wakers c w) _ (λ wakers. tt))
-  place_quiet (place_op.Wake p) w = after (a_place p w) _ (λ place. tt)
-  place_quiet (place_op.TakeWaker p) w = after (a_place p w) _ (λ place. tt)
-  place_quiet (place_op.Drop p) w = after (a_place p w) _ (λ place. waker_reply_quiet D place.waker)
+  place_quiet (place_op.Register p c) w = after (an_atomic_waker p w) _ (λ place. after (some_wakers c w) _ (λ wakers. tt))
+  place_quiet (place_op.RegisterByRef p c) w = after (an_atomic_waker p w) _ (λ place. after (some_wakers c w) _ (λ wakers. tt))
+  place_quiet (place_op.Wake p) w = after (an_atomic_waker p w) _ (λ place. tt)
+  place_quiet (place_op.TakeWaker p) w = after (an_atomic_waker p w) _ (λ place. tt)
+  place_quiet (place_op.Drop p) w = after (an_atomic_waker p w) _ (λ place. waker_reply_quiet D place.waker)
 
   none_there_quiet : (gone : Result (Entry D × World D) FailureKind) (was_there : Bool) (w : World D) → Answers Quiet gone → Answers Quiet (none_there gone was_there w)
   none_there_quiet gone true w h = h
@@ -299,7 +299,7 @@ module _ {D : Type 0} where
 
   pub thread_quiet : (todo : ThreadOp D ⊤) (w : World D) → Answers Quiet (thread_begins todo w)
   thread_quiet (thread_op.Spawn body name) w = after (check (nat_lt (length w.threads) w.max_threads) TooManyThreads) _ (λ u. after (points_after_spawn w.points w.active) _ (λ points. refl))
-  thread_quiet (thread_op.Join t n) w = after (check (has_own (slice_get w.threads t) n) Misuse) _ (λ u. after (a_notifier n w) _ (λ notifier. after (check (is_none notifier.waiter) Misuse) _ (λ v. tt)))
+  thread_quiet (thread_op.Join t n) w = after (check (has_own (slice_get w.threads t) n) Misuse) _ (λ u. after (a_notify n w) _ (λ notifier. after (check (is_none notifier.waiter) Misuse) _ (λ v. tt)))
   thread_quiet thread_op.Current w = after (active_thread w) _ (λ thread. refl)
   thread_quiet thread_op.Park w = after (active_thread w) _ (λ thread. parks_quiet thread.has_token w)
   thread_quiet (thread_op.Unpark t) w = after (unparks t w) _ (λ given. refl)
@@ -354,10 +354,10 @@ module _ {D : Type 0} where
   notifies_quiet n w = next (notify n w) _ (λ after. refl)
 
   pub awaits_quiet : (n : ℕ) (w : World D) → Answers Unlocked (awaits n w)
-  awaits_quiet n w = next (a_notifier n w) _ (λ notifier. next (check notifier.notified Misuse) _ (λ u. refl))
+  awaits_quiet n w = next (a_notify n w) _ (λ notifier. next (check notifier.notified Misuse) _ (λ u. refl))
 
   pub wakes_early_quiet : (n : ℕ) (w : World D) → Answers Unlocked (wakes_early n w)
-  wakes_early_quiet n w = next (a_notifier n w) _ (λ notifier. refl)
+  wakes_early_quiet n w = next (a_notify n w) _ (λ notifier. refl)
 
   drops_quiet : (value : Option D) (n : ℕ) (w : World D) → Answers Unlocked (drops_last value n w)
   drops_quiet None n w = refl
@@ -378,7 +378,7 @@ module _ {D : Type 0} where
   counts_quiet counting.StrongCount n w = next (an_arc n w) _ (λ arc. next (check (is_free_arc arc) Misuse) _ (λ u. refl))
 
   pub join_quiet : (t n : ℕ) (w : World D) → Answers Unlocked (join t n w)
-  join_quiet t n w = next (a_notifier n w) _ (λ notifier. next (check notifier.notified Misuse) _ (λ u. next (takes_result t w) _ (λ taken. refl)))
+  join_quiet t n w = next (a_notify n w) _ (λ notifier. next (check notifier.notified Misuse) _ (λ u. next (takes_result t w) _ (λ taken. refl)))
 
   pub child_finish_quiet : (n : ℕ) (value : D) (w : World D) → Answers Unlocked (child_finish n value w)
   child_finish_quiet n value w = next (notify n w) _ (λ after. refl)

@@ -14,8 +14,8 @@ use Rattle.loom_objects.specs.declared.rt.run.Passed.{Passed}
 use Rattle.loom_objects.specs.declared.rt.run.Passed.TheVariants as passed
 use Rattle.loom_objects.specs.declared.rt.run.Resumed.{Resumed}
 use Rattle.loom_objects.specs.declared.rt.run.Resumed.TheVariants as resumed
-use Rattle.loom_objects.specs.Scene.Lookup.{looked_up, atomic_in, mutex_in, rwlock_in, condvar_in, notifier_in, cell_in, arc_in, track_in, channel_in, wakers_in, place_in}
-use Rattle.loom_objects.specs.Rules.Moves.{a_mutex, a_rwlock, an_atomic, a_condvar, a_notifier, a_cell, an_arc, a_track, a_channel, a_wakers, a_place, with_new, with_object}
+use Rattle.loom_objects.specs.Scene.Lookup.{looked_up, atomic_in, mutex_in, rwlock_in, condvar_in, notify_in, cell_in, arc_in, track_in, channel_in, wakers_in, atomic_waker_in}
+use Rattle.loom_objects.specs.Rules.Moves.{a_mutex, a_rwlock, an_atomic, a_condvar, a_notify, a_cell, an_arc, a_track, a_channel, a_wakers, an_atomic_waker, with_new, with_object}
 use Rattle.loom_objects.specs.Rules.Rule.{◌>>=◌, check, found}
 use Rattle.loom_objects.specs.World.{World}
 use Rattle.loom_engine.specs.Runs.Histories.{locked_by}
@@ -184,10 +184,10 @@ module _ {D : Type 0} where
       by_object (Some (object.Wakers wakers)) = misuse
       by_object (Some (object.AtomicWaker place)) = misuse
 
-  pub notifier_fair : (n : ℕ) (w : World D) → IsFairResult (a_notifier n w)
+  pub notifier_fair : (n : ℕ) (w : World D) → IsFairResult (a_notify n w)
   notifier_fair n w = by_object (slice_get w.objects n)
     where
-      by_object : (o : Option (Object D)) → IsFairResult (looked_up notifier_in o)
+      by_object : (o : Option (Object D)) → IsFairResult (looked_up notify_in o)
       by_object None = misuse
       by_object (Some (object.Notify notifier)) = tt
       by_object (Some (object.Atomic atomic)) = misuse
@@ -286,10 +286,10 @@ module _ {D : Type 0} where
       by_object (Some (object.Wakers wakers)) = tt
       by_object (Some (object.AtomicWaker place)) = misuse
 
-  pub place_fair : (n : ℕ) (w : World D) → IsFairResult (a_place n w)
+  pub place_fair : (n : ℕ) (w : World D) → IsFairResult (an_atomic_waker n w)
   place_fair n w = by_object (slice_get w.objects n)
     where
-      by_object : (o : Option (Object D)) → IsFairResult (looked_up place_in o)
+      by_object : (o : Option (Object D)) → IsFairResult (looked_up atomic_waker_in o)
       by_object None = misuse
       by_object (Some (object.Atomic atomic)) = misuse
       by_object (Some (object.Mutex mutex)) = misuse

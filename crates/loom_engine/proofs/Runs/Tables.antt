@@ -21,8 +21,7 @@ use Rattle.loom_objects.specs.Rules.Atomic.{accesses, store, opens}
 use Rattle.loom_objects.specs.Rules.Tables.{chosen, counted, op_begins, takes_effect}
 use Rattle.loom_objects.specs.Rules.Condvar.{falls_asleep}
 use Rattle.loom_objects.specs.Rules.Ending.{end_of}
-use Rattle.loom_objects.specs.Rules.Leaks.{check_leak, first_leak, is_none_left, leak_of}
-use Rattle.loom_objects.specs.Rules.FirstLeak.{first_of}
+use Rattle.loom_objects.specs.Rules.Leaks.{check_leak, first_leak, first_of, is_none_left, leak_of}
 use Rattle.loom_objects.specs.Rules.Moves.{takes_result}
 use Rattle.loom_objects.specs.Rules.Rule.{◌>>=◌}
 use Rattle.loom_objects.specs.Schedule.Offers.{chooses}

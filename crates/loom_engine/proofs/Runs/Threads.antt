@@ -8,7 +8,7 @@ use Rattle.loom_objects.specs.declared.operation.ThreadOp.TheVariants as thread_
 use Rattle.loom_objects.specs.declared.operation.Name.{Name}
 use Rattle.loom_objects.specs.declared.rt.thread.Phase.TheVariants.{Finished, Exited, Over}
 use Rattle.loom_objects.specs.declared.rt.thread.Task.TheVariants as task
-use Rattle.loom_objects.specs.Rules.Moves.{a_notifier, at_phase, changes_active, takes_result, unparks, yields, having, with_token, in_state, unparked, unparked_from}
+use Rattle.loom_objects.specs.Rules.Moves.{a_notify, at_phase, changes_active, takes_result, unparks, yields, having, with_token, in_state, unparked, unparked_from}
 use Rattle.loom_objects.specs.Rules.Notify.{notify}
 use Rattle.loom_objects.specs.Rules.Thread.{child_finish, end, exit, finish, finish_as, has_own, is_exited, is_finished, join, join_begins, parks_unless, spawn, thread_begins, unpark, without_locals}
 use Rattle.loom_objects.specs.Rules.Locals.{is_working}
@@ -29,7 +29,7 @@ module _ {D : Type 0} where
 
   join_begins_keeping : (t n : ℕ) (w : World D) → Keeping w (join_begins t n w)
   join_begins_keeping t n w =
-      check_keeping (has_own (slice_get w.threads t) n) Misuse _ w misuse (λ e. fair_keeping (a_notifier n w) _ w (notifier_fair n w)
+      check_keeping (has_own (slice_get w.threads t) n) Misuse _ w misuse (λ e. fair_keeping (a_notify n w) _ w (notifier_fair n w)
       (λ notifier. check_keeping (is_none notifier.waiter) Misuse _ w misuse (λ f out k. pends_ready (task.Join t n) (not notifier.notified) refl (set_keeping w n _ tt out k))))
 
   pub takes_result_keeping : (t : ℕ) (w : World D) → Keeping w (takes_result t w)
@@ -37,7 +37,7 @@ module _ {D : Type 0} where
 
   pub join_keeping : (t n : ℕ) (w : World D) → Keeping w (join t n w)
   join_keeping t n w =
-      fair_keeping (a_notifier n w) _ w (notifier_fair n w) (λ notifier. check_keeping notifier.notified Misuse _ w misuse
+      fair_keeping (a_notify n w) _ w (notifier_fair n w) (λ notifier. check_keeping notifier.notified Misuse _ w misuse
       (λ e. then_keeping (takes_result t w) _ w (takes_result_keeping t w) (λ taken out k. set_keeping taken.1 n _ tt out k)))
 
   finish_as_keeping : (notifier : Option ℕ) (value : D) (w : World D) → Keeping w (finish_as notifier value w)

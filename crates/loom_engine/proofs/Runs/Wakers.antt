@@ -20,9 +20,9 @@ use Rattle.loom_objects.specs.declared.rt.thread.Taking.{Taking}
 use Rattle.loom_objects.specs.declared.rt.thread.Taking.TheVariants as taking
 use Rattle.loom_objects.specs.declared.rt.thread.Task.{Task}
 use Rattle.loom_objects.specs.declared.rt.thread.Task.TheVariants as task
-use Rattle.loom_objects.specs.Rules.Moves.{a_place, a_wakers, releases, with_new, yields}
+use Rattle.loom_objects.specs.Rules.Moves.{an_atomic_waker, a_wakers, releases, with_new, yields}
 use Rattle.loom_objects.specs.Rules.Notify.{notify}
-use Rattle.loom_objects.specs.Rules.Waker.{acquires_if, after_clone, after_drop, after_wake, clones_waker, drops_waker, frees_place, has_taken, holds_place, place_begins, registers, registers_if, some_wakers, take_begins, takes_place, takes_waker, wake_begins, waker_begins, waker_pends, wakes_by, with_wakers}
+use Rattle.loom_objects.specs.Rules.Waker.{acquires_if, after_clone, after_drop, after_wake, clones_waker, drops_waker, frees_place, has_taken, holds_place, atomic_waker_begins, registers, registers_if, some_wakers, take_begins, takes_place, takes_waker, wake_begins, waker_begins, waker_pends, wakes_by, with_wakers}
 use Rattle.loom_objects.specs.World.{World}
 use Rattle.loom_engine.proofs.Runs.Events.{Anything}
 use Rattle.loom_engine.proofs.Runs.Fairness.{IsFairResult}
@@ -56,15 +56,15 @@ module _ {D : Type 0} where
   -- ---- places for wakers
 
   take_begins_keeping : (by : Taking) (p : ℕ) (w : World D) → Keeping w (take_begins by p w)
-  take_begins_keeping by p w = fair_keeping (a_place p w) _ w (place_fair p w) (λ place out k. pends_ready (task.TakeWaker by p) (is_some place.holder) refl k)
+  take_begins_keeping by p w = fair_keeping (an_atomic_waker p w) _ w (place_fair p w) (λ place out k. pends_ready (task.TakeWaker by p) (is_some place.holder) refl k)
 
-  pub place_begins_keeping : (todo : AtomicWakerOp) (w : World D) → Keeping w (place_begins todo w)
+  pub place_begins_keeping : (todo : AtomicWakerOp) (w : World D) → Keeping w (atomic_waker_begins todo w)
   place_begins_keeping place_op.New w = λ out k. new_keeping w _ tt out k
-  place_begins_keeping (place_op.Register p c) w = fair_keeping (a_place p w) _ w (place_fair p w) (λ place. waker_pends_keeping (task.Register p c) c w refl)
-  place_begins_keeping (place_op.RegisterByRef p c) w = fair_keeping (a_place p w) _ w (place_fair p w) (λ place. waker_pends_keeping (task.CloneWaker c (Some p)) c w refl)
+  place_begins_keeping (place_op.Register p c) w = fair_keeping (an_atomic_waker p w) _ w (place_fair p w) (λ place. waker_pends_keeping (task.Register p c) c w refl)
+  place_begins_keeping (place_op.RegisterByRef p c) w = fair_keeping (an_atomic_waker p w) _ w (place_fair p w) (λ place. waker_pends_keeping (task.CloneWaker c (Some p)) c w refl)
   place_begins_keeping (place_op.Wake p) w = take_begins_keeping taking.Wake p w
   place_begins_keeping (place_op.TakeWaker p) w = take_begins_keeping taking.Answer p w
-  place_begins_keeping (place_op.Drop p) w = fair_keeping (a_place p w) _ w (place_fair p w) (λ place out k. set_keeping w p _ tt out k)
+  place_begins_keeping (place_op.Drop p) w = fair_keeping (an_atomic_waker p w) _ w (place_fair p w) (λ place out k. set_keeping w p _ tt out k)
 
   -- ---- once the thread is chosen
 
@@ -94,7 +94,7 @@ module _ {D : Type 0} where
   after_drop_keeping : (after : AfterDrop) (w : World D) → Keeping w (after_drop after w)
   after_drop_keeping dropped.Done w = λ out k. k
   after_drop_keeping dropped.Yield w = then_keeping (yields task.Continue w) _ w (yields_keeping task.Continue w refl) (λ yielded out k. k)
-  after_drop_keeping (dropped.Free p) w = fair_keeping (a_place p w) _ w (place_fair p w) (λ place out k. frees_ready p place w out k)
+  after_drop_keeping (dropped.Free p) w = fair_keeping (an_atomic_waker p w) _ w (place_fair p w) (λ place out k. frees_ready p place w out k)
 
   acquires_if_ready : (is_last : Bool) (c : ℕ) (w : World D) (out : Aim) → Ready out w → Ready out (acquires_if is_last c w)
   acquires_if_ready true c w out k = k
@@ -117,7 +117,7 @@ module _ {D : Type 0} where
 
   pub registers_keeping : (p c : ℕ) (w : World D) → Keeping w (registers p c w)
   registers_keeping p c w =
-      fair_keeping (a_place p w) _ w (place_fair p w) (λ place. fair_keeping (some_wakers c w) _ w (some_fair c w) (λ wakers. registers_if_keeping (is_none place.holder) p c place wakers w))
+      fair_keeping (an_atomic_waker p w) _ w (place_fair p w) (λ place. fair_keeping (some_wakers c w) _ w (some_fair c w) (λ wakers. registers_if_keeping (is_none place.holder) p c place wakers w))
 
   has_taken_keeping : (by : Taking) (waker : Option ℕ) (w : World D) → Keeping w (has_taken by waker w)
   has_taken_keeping taking.Answer waker w = λ out k. k
@@ -127,7 +127,7 @@ module _ {D : Type 0} where
 
   pub takes_waker_keeping : (by : Taking) (p : ℕ) (w : World D) → Keeping w (takes_waker by p w)
   takes_waker_keeping by p w =
-      fair_keeping (a_place p w) _ w (place_fair p w) (λ place. check_keeping (is_none place.holder) Misuse _ w misuse (λ e.
+      fair_keeping (an_atomic_waker p w) _ w (place_fair p w) (λ place. check_keeping (is_none place.holder) Misuse _ w misuse (λ e.
       let held = holds_place p place w in
       let free = frees_place p (record place { waker = None }) held in
       chained w free _ (λ out k. frees_ready p (record place { waker = None }) held out (holds_ready p place w out k)) (has_taken_keeping by place.waker free)))

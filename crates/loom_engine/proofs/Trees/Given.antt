@@ -15,7 +15,7 @@ use Rattle.loom_engine.specs.Trees.Outcomes.{outcome}
 use Rattle.loom_engine.specs.Trees.Sound.{IsSoundTree}
 use Rattle.loom_engine.specs.Trees.Meeting.{Settings, Marking, marked_too, no_marks, machine_of, every_at}
 use Rattle.loom_engine.specs.Trees.Drive.{Trail, passes_of, Answer, lengthen, new_node, made_at, branch_at, branch, is_used_up, drive, drive_on}
-use Rattle.loom_engine.specs.Trees.Check.{Given, all_allowed, refused, fails_before, GivenLaw}
+use Rattle.loom_engine.specs.Trees.Check.{GivenRun, all_allowed, refused, fails_before, GivenLaw}
 use Rattle.loom_engine.specs.Trees.Sound.{IsClosing}
 use Rattle.loom_engine.proofs.Trees.Driving.{Here, here_start, here_on, pick_yes, choices_size}
 use Rattle.loom_engine.proofs.Trees.Replaying.{passed_to, get_end, get_at, at_present, made_by, full_by, backtracked}
@@ -58,13 +58,13 @@ module _ {A : Type 0} (s : Settings) (adds : Marking) (root : Tree A) (c : List 
 
   abbrev Takes : Tree A → Type 0
   Takes sub = (room : ℕ) (nodes : List Stored) (from rest : List Choice) (passes : List (Made × Choice)) (acc : ℕ → Choice → Bool) → Here s adds root room sub from passes acc
-      → choices nodes ≡ from → c ≡ from ++ rest → IsAllowed (machine_of s adds root) from → IsSoundTree sub → IsClosing sub → Given s adds root c (drive s adds sub (passed_to c nodes))
+      → choices nodes ≡ from → c ≡ from ++ rest → IsAllowed (machine_of s adds root) from → IsSoundTree sub → IsClosing sub → GivenRun s adds root c (drive s adds sub (passed_to c nodes))
 
-  all_taken : (from : List Choice) (d : Result A FailureKind × Trail) → c ≡ from ++ [] → IsAllowed (machine_of s adds root) from → Given s adds root c d
+  all_taken : (from : List Choice) (d : Result A FailureKind × Trail) → c ≡ from ++ [] → IsAllowed (machine_of s adds root) from → GivenRun s adds root c d
   all_taken from d given allowed = all_allowed (subst (IsAllowed (machine_of s adds root)) (sym (append-nil from) ∙ sym given) allowed)
 
   before_end : (sub : Tree A) (room : ℕ) (nodes : List Stored) (from : List Choice) (passes : List (Made × Choice)) (acc : ℕ → Choice → Bool) (failure : FailureKind) → Here s adds root room sub from passes acc
-      → choices nodes ≡ from → outcome room sub [] ≡ Some (Err failure) → Given s adds root c (Err failure, passed_to c nodes)
+      → choices nodes ≡ from → outcome room sub [] ≡ Some (Err failure) → GivenRun s adds root c (Err failure, passed_to c nodes)
   before_end sub room nodes from passes acc failure here e f =
       fails_before failure refl (ap (outcome s.max_branches root) (e ∙ sym (append-nil from)) ∙ here.ending [] ∙ f)
 
@@ -74,10 +74,10 @@ module _ {A : Type 0} (s : Settings) (adds : Marking) (root : Tree A) (c : List 
   takes_next : (question : Question) (branches : Choice → Tree A) (room : ℕ) (nodes : List Stored) (from : List Choice) (x : Choice) (rest : List Choice) (passes : List (Made × Choice)) (acc : ℕ → Choice → Bool)
       → Here s adds root room (Asks question branches) from passes acc → choices nodes ≡ from → c ≡ from ++ x ∷ rest → IsAllowed (machine_of s adds root) from → IsSoundTree (Asks question branches)
       → IsClosing (Asks question branches) → ((y : Choice) → Takes (branches y)) → Dec (Among x (made_of question).options)
-      → Given s adds root c (drive_on (λ choice after. drive s adds (branches choice) after) (branch s (passed_to c nodes) question))
+      → GivenRun s adds root c (drive_on (λ choice after. drive s adds (branches choice) after) (branch s (passed_to c nodes) question))
   takes_next question branches zero nodes from x rest passes acc here e given allowed wise shut ih d =
       let full : s.max_branches ≤ length nodes = omega (arith, here.size, ap length e, choices_size nodes) in
-      subst (λ (y : Answer). Given s adds root c (drive_on (λ choice after. drive s adds (branches choice) after) y)) (sym (full_by s c nodes question full))
+      subst (λ (y : Answer). GivenRun s adds root c (drive_on (λ choice after. drive s adds (branches choice) after) y)) (sym (full_by s c nodes question full))
       (before_end (Asks question branches) zero nodes from passes acc TooManyBranches here e refl)
   takes_next question branches (suc room) nodes from x rest passes acc here e given allowed wise shut ih d =
       let within : length nodes < s.max_branches = omega (arith, here.size, ap length e, choices_size nodes) in
@@ -86,9 +86,9 @@ module _ {A : Type 0} (s : Settings) (adds : Marking) (root : Tree A) (c : List 
       go within read d
     where
       go : length nodes < s.max_branches → slice_get c (length nodes) ≡ Some x → Dec (Among x (made_of question).options)
-          → Given s adds root c (drive_on (λ choice after. drive s adds (branches choice) after) (branch s (passed_to c nodes) question))
+          → GivenRun s adds root c (drive_on (λ choice after. drive s adds (branches choice) after) (branch s (passed_to c nodes) question))
       go within read (no f) =
-          subst (λ (y : Answer). Given s adds root c (drive_on (λ choice after. drive s adds (branches choice) after) y)) (sym (refuses nodes question x within read f)) (refused refl)
+          subst (λ (y : Answer). GivenRun s adds root c (drive_on (λ choice after. drive s adds (branches choice) after) y)) (sym (refuses nodes question x within read f)) (refused refl)
       go within read (yes option) =
           let n = made_of question in
           let some : m.node from ≡ Some n = ap m.node (sym (append-nil from)) ∙ here.node [] in
@@ -97,7 +97,7 @@ module _ {A : Type 0} (s : Settings) (adds : Marking) (root : Tree A) (c : List 
           let new : new_node each n (Some x) ≡ Some k = pick_yes (among x n.options) _ _ option in
           let said : branch s (passed_to c nodes) question ≡ (Ok x, passed_to c (nodes ++ k ∷ [])) =
           made_by s c nodes question (Some x) k within read new ∙ ap (λ (y : Choice). (Ok y, passed_to c (nodes ++ k ∷ []))) (at_present each n x) in
-          subst (λ (y : Answer). Given s adds root c (drive_on (λ choice after. drive s adds (branches choice) after) y)) (sym said)
+          subst (λ (y : Answer). GivenRun s adds root c (drive_on (λ choice after. drive s adds (branches choice) after) y)) (sym said)
           (ih x room (nodes ++ k ∷ []) (from ++ x ∷ []) rest (passes ++ (n, x) ∷ []) (marked_too (adds passes question) acc)
           (here_on s adds root room question branches from passes acc x here option)
           (choices_append nodes (k ∷ []) ∙ ap₂ (λ (l : List Choice) (y : Choice). l ++ y ∷ []) e (at_present each n x))
@@ -111,7 +111,7 @@ module _ {A : Type 0} (s : Settings) (adds : Marking) (root : Tree A) (c : List 
       refused (ap (λ (b : Bool). (cond b (drive s adds last (passed_to c nodes)) (Err NotDeterministic, passed_to c nodes)).0) (not_used nodes (shorter nodes from x rest e given)))
   takes (Asks question branches) room nodes from (x ∷ rest) passes acc here e given allowed wise shut =
       let b = backtracked s adds root c nodes question in
-      subst (λ (path : Trail). Given s adds root c (drive_on (λ choice after. drive s adds (branches choice) after) (branch s path question))) (sym b.1)
+      subst (λ (path : Trail). GivenRun s adds root c (drive_on (λ choice after. drive s adds (branches choice) after) (branch s path question))) (sym b.1)
       (takes_next question branches room b.0 from x rest passes acc here (b.2 ∙ e) given allowed wise shut (λ y. takes (branches y)) (among x (made_of question).options))
 
 module _ {A : Type 0} where

@@ -17,7 +17,8 @@ use Rattle.loom_engine.specs.Trees.Meeting.{Settings, Marking, machine_of}
 use Rattle.loom_engine.specs.Trees.Check.{Makes, MakesAll}
 use Rattle.loom_engine.specs.Trees.Drive.{Trail, drive, at_start}
 use Rattle.loom_engine.specs.Trees.Outcomes.{choices_made}
-use Rattle.loom_engine.specs.Trees.Reports.{IsSearch, AreReachable, HasCompleted, WasStopped, HasFailed, SearchLaw, CompleteReportLaw, StoppedReportLaw, FailedReportLaw}
+use Rattle.loom_engine.specs.Trees.Reported.{AreReachable, HasCompleted, WasStopped, HasFailed}
+use Rattle.loom_engine.specs.Trees.Reports.{IsSearch, SearchLaw, CompleteReportLaw, StoppedReportLaw, FailedReportLaw}
 use Rattle.loom_engine.specs.Trees.Sound.{IsFair}
 use Rattle.loom_engine.proofs.Walk.Round.{fresh_law as walk_fresh}
 use Rattle.loom_engine.proofs.Trees.Machines.{machine_law}
@@ -62,7 +63,7 @@ module _ {A : Type 0} (s : Settings) (adds : Marking) (tree : Tree A) (search : 
   are_reachable list walk in_order = record {
     walk = walk;
     in_order = in_order;
-    every_run = λ whole. every_run_law s adds tree search.sound search.marking whole.unreduced whole.unbounded whole.exploring;
+    every_run = λ unreduced unbounded exploring. every_run_law s adds tree search.sound search.marking unreduced unbounded exploring;
     within_bound = λ bound e. bound_law s adds tree bound search.sound search.marking e (search.below bound e);
   }
 

@@ -80,10 +80,10 @@ IsShort old question new = (new ≡ old) × Grows old (branch old.search (trail 
 
 module _ {A : Type 0} (choice : A → Choice) where
   -- The path answers the question by what stands for a choice, and passes the node; or it refuses, and stays as it was.
-  abbrev pub Says : Route → Question → Result A Stop → Route → Type 0
-  Says old question (Ok answer) new = branch old.search (trail old) question ≡ (Ok (choice answer), trail new)
-  Says old question (Err (Failure failure)) new = (branch old.search (trail old) question ≡ (Err failure.kind, trail old)) × (new ≡ old)
-  Says old question (Err Memory) new = IsShort old question new
+  abbrev pub Decides : Route → Question → Result A Stop → Route → Type 0
+  Decides old question (Ok answer) new = branch old.search (trail old) question ≡ (Ok (choice answer), trail new)
+  Decides old question (Err (Failure failure)) new = (branch old.search (trail old) question ≡ (Err failure.kind, trail old)) × (new ≡ old)
+  Decides old question (Err Memory) new = IsShort old question new
 
 -- the choice at the position, if a node stands there
 abbrev pub choice_here : Route → Option Choice

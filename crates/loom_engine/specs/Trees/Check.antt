@@ -102,11 +102,11 @@ FirstRunLaw A = (s : Settings) (adds : Marking) (tree : Tree A) (p : List Stored
 
 -- What a path comes to that is to follow some choices: they are allowed; or one is no option or left over; or the run fails
 -- before they are used up, and the choices that it has passed lead to that failure.
-pub data Given {A : Type 0} (s : Settings) (adds : Marking) (tree : Tree A) (c : List Choice) (d : Result A FailureKind × Trail) : Type 0 where
-  all_allowed : IsAllowed (machine_of s adds tree) c → Given s adds tree c d
-  refused : d.0 ≡ Err NotDeterministic → Given s adds tree c d
-  fails_before : (failure : FailureKind) → d.0 ≡ Err failure → outcome s.max_branches tree (choices d.1.nodes) ≡ Some (Err failure) → Given s adds tree c d
+pub data GivenRun {A : Type 0} (s : Settings) (adds : Marking) (tree : Tree A) (c : List Choice) (d : Result A FailureKind × Trail) : Type 0 where
+  all_allowed : IsAllowed (machine_of s adds tree) c → GivenRun s adds tree c d
+  refused : d.0 ≡ Err NotDeterministic → GivenRun s adds tree c d
+  fails_before : (failure : FailureKind) → d.0 ≡ Err failure → outcome s.max_branches tree (choices d.1.nodes) ≡ Some (Err failure) → GivenRun s adds tree c d
 
 -- A path that is to follow any choices comes to one of these.
 abbrev pub GivenLaw : Type 0 → Type 0
-GivenLaw A = (s : Settings) (adds : Marking) (tree : Tree A) (c : List Choice) → IsSoundTree tree → IsClosing tree → Given s adds tree c (drive s adds tree (following c))
+GivenLaw A = (s : Settings) (adds : Marking) (tree : Tree A) (c : List Choice) → IsSoundTree tree → IsClosing tree → GivenRun s adds tree c (drive s adds tree (following c))

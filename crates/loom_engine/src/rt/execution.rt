@@ -1,6 +1,12 @@
-//! The execution of a run, and how it ends.
+//! The execution of one run, an operation after another: up to its branch point, through the schedule there, and with its effect
+//! (loom's `rt/execution.rs`).
+//!
+//! How far an operation came is answered at each of these. `Entry` says it at its beginning: it is answered at once, or there is
+//! something to be chosen first. `Resumed` says it once the chosen thread has gone on: the effect is there, or a load asks which
+//! store it reads. `Passed` says it of the effect: a turn, or the thread has come to another branch point. `Turn` is what the
+//! caller is answered.
 ghost use Rattle.std.specs.Prelude.{◌≡◌, None, Bool, ◌≢◌, ◌≤◌, ◌+◌, ◌<◌, Err, Some, true, slice_get, IfOk, OnOk};
-ghost use Rattle.loom_engine.specs.Execution.{may_end, kept_after, Notes, ShowsCourse, IsMarked, Starts, takes_turn, Along, AllNeedMemory, MayBeRefused, Submits, itself};
+ghost use Rattle.loom_engine.specs.Execution.{may_end, over_after, Notes, ShowsCourse, IsMarked, Starts, takes_turn, Along, AllNeedMemory, MayBeRefused, Schedules, Submits, itself};
 ghost use Rattle.std.specs.List.{Contains};
 ghost use Rattle.loom_objects.specs.declared.choice.Choice.{Choice};
 ghost use Rattle.loom_engine.specs.Runs.Course.{Course, opening, used_in};
@@ -11,7 +17,7 @@ ghost use Rattle.loom_objects.specs.Scene.Shown.{Shows};
 ghost use Rattle.loom_objects.specs.Rules.Uses.{use_at};
 ghost use Rattle.loom_objects.specs.World.{World};
 ghost use Rattle.loom_engine.specs.Runs.Machine as machine;
-ghost use Rattle.loom_engine.specs.Path.Route.{Route, IsAtStart, IsSame, IsSameSearch, Says, Switches};
+ghost use Rattle.loom_engine.specs.Path.Route.{Route, IsAtStart, IsSame, IsSameSearch, Decides, Switches};
 ghost use Rattle.loom_objects.specs.Tree.Asked.{which_store};
 
 use crate::rt::path::Path;
@@ -39,10 +45,10 @@ pub fn may_end(all_ended: bool, is_used_up: bool) -> Result<(), FailureKind>
     Ok(())
 }
 
-/// Keeps what every operation after this answer is answered, if the run is over by it (own).
+/// Where this answer ends the run, notes what every further operation is answered (own).
 pub fn record_end<D>(over: &mut Option<Stop>, answer: &Result<Turn<D>, Stop>)
     requires { over.old ≡ None }
-    ensures { over.new ≡ kept_after answer.now }
+    ensures { over.new ≡ over_after answer.now }
 {
     match answer {
         Ok(Turn::Ended(_)) => *over = Some(failed(FailureKind::Misuse)),
@@ -124,7 +130,7 @@ impl<D: Data> Execution<D> {
     /// point. It is one event of the machine. `Memory` only where an object, a thread or a node is made, or data is copied.
     /// After a `Stop` each later call answers the same, and after `Turn::Ended` `Misuse` without a location; then nothing
     /// changes.
-    // Inlined, as what it calls, so that no operation is moved on its way.
+    // Inlined, as what it calls, so that no operation is copied from one function to the next.
     #[inline(always)]
     pub fn submit(&mut self, path: &mut Path, op: Request<D, ()>) -> Result<Turn<D>, Stop>
         ensures event { Submits self.old op path.old result self.new path.new }
@@ -140,6 +146,21 @@ impl<D: Data> Execution<D> {
         answer
     }
 
+    /// A branch point of the active thread: the path says who goes on, what that thread has pending takes effect, and so on up to
+    /// the next turn (loom's `rt/execution.rs`). Once the run is over it is the same answer again, and nothing changes.
+    pub fn schedule(&mut self, path: &mut Path) -> Result<Turn<D>, Stop>
+        ensures event { Schedules self.old path.old result self.new path.new }
+        ensures steps { self.new.run.state.steps_left ≡ self.old.run.state.steps_left }
+        ensures same { IsSame path.old path.new }
+    {
+        if let Some(stop) = self.over {
+            return Err(stop);
+        }
+        let answer = schedule(&mut self.run, path, FURTHER_BRANCHES);
+        record_end(&mut self.over, &answer);
+        answer
+    }
+
     /// The thread whose turn it is: whose operation took effect last, or was handed over last.
     pub fn active(&self) -> u8
         ensures { result ≡ self.now.run.state.scene.active }
@@ -148,7 +169,7 @@ impl<D: Data> Execution<D> {
     }
 }
 
-/// An operation up to its branch point, and past it.
+/// An operation up to the next turn: up to its branch point, and on from there.
 #[inline(always)]
 fn hand_over<D: Data>(
     run: &mut Progress<D>,
@@ -192,7 +213,7 @@ fn start<D: Data>(run: &mut Progress<D>, op: Request<D, ()>) -> Result<Entry<D>,
     answer
 }
 
-/// Lets an answer go. It stands alone, since what an answer holds is let go in many ways, and a function that does it costs seconds.
+/// Lets an answer go, with the data that it may hold.
 fn let_go<D: Drop>(_answer: Result<Entry<D>, Stop>) {}
 
 /// The path explores from now on, or doesn't.
@@ -274,7 +295,7 @@ fn pass<D: Data>(run: &mut Progress<D>, path: &mut Path) -> Result<Passed<D>, St
         Err(stop) => Err(stop),
         Ok(Some(thread)) => match access(run, thread, place) {
             Err(stop) => Err(stop),
-            Ok(()) => go_on(run, path, thread),
+            Ok(()) => take_turn(run, path, thread),
         },
         Ok(None) => match close(run, path) {
             Err(stop) => Err(stop),
@@ -321,8 +342,8 @@ fn access<D: Data>(run: &mut Progress<D>, thread: u8, place: usize) -> Result<()
     }
 }
 
-/// The chosen thread goes on. A load asks the path which store it reads.
-fn go_on<D: Data>(run: &mut Progress<D>, path: &mut Path, thread: u8) -> Result<Passed<D>, Stop>
+/// The chosen thread goes on with what it has pending. A load asks the path which store it reads.
+fn take_turn<D: Data>(run: &mut Progress<D>, path: &mut Path, thread: u8) -> Result<Passed<D>, Stop>
     ensures along { Along (takes_turn thread) run.old path.old result run.new path.new }
     ensures growth { result ≡ Err Stop.Memory → AllNeedMemory Passed.Turn (takes_turn thread) run.old path.old }
     ensures steps { run.new.state.steps_left ≡ run.old.state.steps_left }
@@ -344,7 +365,7 @@ fn go_on<D: Data>(run: &mut Progress<D>, path: &mut Path, thread: u8) -> Result<
 /// The path says which of the slots that may be read is.
 fn choose_slot(path: &mut Path, readable: &[bool; 7]) -> Result<u8, Stop>
     requires some { Contains readable.now true }
-    ensures says { Says Choice.Load path.old (which_store (is_on path.old.exploring) readable.now) result path.new }
+    ensures says { Decides Choice.Load path.old (which_store (is_on path.old.exploring) readable.now) result path.new }
     ensures readable { IfOk result (λ slot. slice_get readable.now slot ≡ Some true) }
     ensures same { IsSame path.old path.new }
 {

@@ -4,7 +4,7 @@ pub mod making;
 pub mod node;
 pub mod nodes;
 
-ghost use Rattle.std.specs.Prelude.{◌≡◌, ◌≢◌, ◌≤◌, ◌<◌, ◌+◌, ◌↔◌, ◌&&◌, not, ℕ, List, [], ◌∷◌, ◌++◌, Option, Some, IfOk, IfErr, IfSome, IsTrue, slice_get, map, length, true};
+ghost use Rattle.std.specs.Prelude.{◌≡◌, ◌≢◌, ◌≤◌, ◌<◌, ◌+◌, ◌↔◌, ℕ, List, [], ◌∷◌, ◌++◌, Option, Some, IfOk, IfErr, IfSome, IsTrue, slice_get, map, length, true};
 ghost use Rattle.std.specs.List.{Contains};
 ghost use Rattle.std.specs.Option.{option_map};
 ghost use Rattle.loom_objects.specs.Tree.Question.{made_of, AreSoundOffers};
@@ -13,13 +13,13 @@ ghost use Rattle.loom_objects.specs.Exploring.{is_on};
 ghost use Rattle.loom_engine.specs.Trees.Drive.{is_used_up, new_node, passes_of};
 ghost use Rattle.loom_engine.specs.Trees.Meeting.{every_at, whole_search};
 ghost use Rattle.loom_engine.specs.Path.Nodes.{seen, seen_schedule, seen_load, seen_spurious, AreWell, IsWell, IsWellSchedule, IsWellLoad};
-ghost use Rattle.loom_engine.specs.Path.Route.{Route, settings, at_rest, chosen, stored, trail, IsSame, Says, Pushes, IsAtLoad, PassesLoad, Steps, Switches};
+ghost use Rattle.loom_engine.specs.Path.Route.{Route, settings, at_rest, chosen, stored, trail, IsSame, Decides, Pushes, IsAtLoad, PassesLoad, Steps, Switches};
 ghost use Rattle.loom_engine.specs.Path.Tallies.{Notes, IsNotedAt, AreNoted, IsValueAt};
 ghost use Rattle.loom_engine.specs.Path.WellFormed.{AreAlike, AreAtRest, AreWellFormed, Appends};
 
-use crate::rt::path::making::{explores_each, is_below};
+use crate::rt::path::making::is_below;
 use crate::rt::path::node::{Load, Node, Schedule, Spurious, Tally};
-use crate::rt::path::nodes::{Way, step_nodes};
+use crate::rt::path::nodes::{Nodes, step_nodes};
 use loom_objects::choice::Choice;
 use loom_objects::failure::{Stop, failed};
 use loom_objects::operation::ExploreOp;
@@ -46,7 +46,7 @@ pub struct Search {
 #[derive(Drop)]
 pub struct Path {
     pub(crate) search: Search,
-    pub(crate) way: Way,
+    pub(crate) nodes: Nodes,
     // whether the run explores at the nodes that come
     exploring: Exploring,
     // what the next schedule notes of those among them
@@ -66,14 +66,14 @@ impl Model for Path {
     ghost view = { λ p. record {
       search = settings p.search;
       explores = p.search.explores;
-      nodes = p.way.nodes.items;
-      position = p.way.position;
+      nodes = p.nodes.list.items;
+      position = p.nodes.position;
       exploring = p.exploring;
       given = p.given.items;
     } };
 
-    ghost invariant = { λ p. (p.way.position ≤ length p.way.nodes.items) × (length p.way.nodes.items ≤ p.search.max_branches) × AreWell p.way.nodes.items
-        × AreNoted p.way.nodes.items × IsTally p.way.nodes.items p.way.position p.tally };
+    ghost invariant = { λ p. (p.nodes.position ≤ length p.nodes.list.items) × (length p.nodes.list.items ≤ p.search.max_branches) × AreWell p.nodes.list.items
+        × AreNoted p.nodes.list.items × IsTally p.nodes.list.items p.nodes.position p.tally };
 }
 
 /// Two paths are equal where callers see the same. Nothing is allocated, and each node is compared once at most.
@@ -89,9 +89,9 @@ impl PartialEq for Path {
         ensures { IsTrue result ↔ (self.now ≡ other.now) }
     {
         self.search == other.search
-            && self.way.position == other.way.position
+            && self.nodes.position == other.nodes.position
             && self.exploring == other.exploring
-            && self.way.nodes.as_slice() == other.way.nodes.as_slice()
+            && self.nodes.list.as_slice() == other.nodes.list.as_slice()
             && self.given.as_slice() == other.given.as_slice()
     }
 }
@@ -109,8 +109,8 @@ impl Path {
     {
         Path {
             search,
-            way: Way {
-                nodes: Vec::new(alloc),
+            nodes: Nodes {
+                list: Vec::new(alloc),
                 position: 0,
             },
             exploring: Exploring::new(search.explores),
@@ -150,7 +150,7 @@ impl Path {
         for node in nodes {
             path.append(*node)?;
         }
-        path.way.position = 0;
+        path.nodes.position = 0;
         path.tally = Tally::new();
         Ok(path)
     }
@@ -193,15 +193,15 @@ impl Path {
     pub fn try_clone(&self, alloc: Global) -> Result<Path, AllocError>
         ensures { IfOk result (λ path. path ≡ self.now) }
     {
-        let mut nodes = Vec::new(alloc);
-        nodes.extend_from_slice(&self.way.nodes)?;
+        let mut list = Vec::new(alloc);
+        list.extend_from_slice(&self.nodes.list)?;
         let mut given = Vec::new(alloc);
         given.extend_from_slice(&self.given)?;
         Ok(Path {
             search: self.search,
-            way: Way {
-                nodes,
-                position: self.way.position,
+            nodes: Nodes {
+                list,
+                position: self.nodes.position,
             },
             exploring: self.exploring,
             tally: self.tally,
@@ -222,29 +222,29 @@ impl Path {
         ensures nodes { result.now ≡ self.now.nodes }
         ensures fits { length self.now.nodes ≤ self.now.search.max_branches }
     {
-        &self.way.nodes
+        &self.nodes.list
     }
 
     /// The nodes of a path are well formed where they are at rest, as a walk sees them, and have defaults.
     pub fn well_formed_rests(&self)
         ensures { AreWellFormed self.now.nodes ↔ AreAtRest (stored self.now.nodes) }
     {
-        let _ = &self.way.nodes;
+        let _ = &self.nodes.list;
     }
 
     /// Two paths whose nodes are the same but for their notes have the same nodes.
     pub fn notes_follow(&self, other: &Path)
         ensures { AreAlike self.now.nodes other.now.nodes → self.now.nodes ≡ other.now.nodes }
     {
-        let _ = &self.way.nodes;
-        let _ = &other.way.nodes;
+        let _ = &self.nodes.list;
+        let _ = &other.nodes.list;
     }
 
     /// The choice that was given for the node that is made next.
     fn given_here(&self) -> Option<Choice>
         ensures { result ≡ slice_get self.now.given self.now.position }
     {
-        self.given.get(self.way.position).copied()
+        self.given.get(self.nodes.position).copied()
     }
 
     /// Whether the run explores at the nodes that come.
@@ -258,7 +258,7 @@ impl Path {
     fn is_full(&self) -> bool
         ensures { IsTrue result ↔ (self.now.search.max_branches ≤ self.now.position) }
     {
-        self.way.is_full(self.search.max_branches)
+        self.nodes.position >= self.search.max_branches as usize
     }
 
     /// Makes a node at the end, without passing it. Without memory for it the path stays as it was.
@@ -270,15 +270,8 @@ impl Path {
         ensures made { IfOk result (λ _. self.new ≡ record self.old { nodes = self.old.nodes ++ node ∷ [] }) }
         ensures same { IfErr result (λ _. self.new ≡ self.old) }
     {
-        self.way.push(node)?;
+        self.nodes.push(node)?;
         Ok(())
-    }
-
-    /// Whether the run explores at the nodes that come, in a search that isn't reduced.
-    fn explores_each(&self) -> bool
-        ensures { result ≡ (not self.now.search.reduce && is_on self.now.exploring) }
-    {
-        explores_each(self.search.reduce, self.is_exploring())
     }
 
     /// Whether each option of a schedule that is made next is to be tried: in a search that isn't reduced, where the run explores,
@@ -287,7 +280,9 @@ impl Path {
         ensures { (offers : Offers) (places : List (Option ℕ)) → result
             ≡ every_at self.now.search (passes_of (trail self.now)) (made_of (which_thread (is_on self.now.exploring) offers places)) }
     {
-        self.explores_each() && is_below(self.search.bound, self.tally.preemptions)
+        !self.search.reduce
+            && self.is_exploring()
+            && is_below(self.search.bound, self.tally.preemptions)
     }
 
     /// A new schedule: at the choice that was given for its place, if any, or else at its default.
@@ -311,8 +306,8 @@ impl Path {
         requires { slice_get self.old.nodes self.old.position ≡ Some (Node.Schedule schedule.now) }
         ensures { self.new ≡ record self.old { position = self.old.position + 1 } }
     {
-        self.tally.pass(schedule, self.way.position as u32);
-        self.way.position += 1;
+        self.tally.pass(schedule, self.nodes.position as u32);
+        self.nodes.position += 1;
     }
 
     /// The run passes the node at the position, which is no schedule.
@@ -320,19 +315,19 @@ impl Path {
         requires { IsValueAt self.old.nodes self.old.position }
         ensures { self.new ≡ record self.old { position = self.old.position + 1 } }
     {
-        self.way.position += 1;
+        self.nodes.position += 1;
     }
 
     /// Passes a schedule: follows the stored node, or makes one. Where it fails the path stays as it was.
     pub fn branch_thread(&mut self, offers: &Offers) -> Result<Option<u8>, Stop>
         requires { AreSoundOffers offers.now.default offers.now.abilities }
-        ensures says { (places : List (Option ℕ)) → Says Choice.Thread self.old (which_thread (is_on self.old.exploring) offers.now places) result self.new }
+        ensures says { (places : List (Option ℕ)) → Decides Choice.Thread self.old (which_thread (is_on self.old.exploring) offers.now places) result self.new }
         ensures within { IfOk result (λ chosen. IfSome chosen (λ thread. thread < 5)) }
         ensures same { IsSame self.old self.new }
     {
         let exploring = self.is_exploring();
-        if self.way.position < self.way.nodes.len() {
-            return match self.way.stored_schedule(exploring, offers) {
+        if self.nodes.position < self.nodes.list.len() {
+            return match self.nodes.stored_schedule(exploring, offers) {
                 Ok(schedule) => {
                     self.pass(&schedule);
                     Ok(schedule.active())
@@ -366,8 +361,8 @@ impl Path {
         ensures same { IsSame self.old self.new × (self.new.position ≡ self.old.position) }
     {
         let exploring = self.is_exploring();
-        if self.way.position < self.way.nodes.len() {
-            let Node::Load(load) = self.way.nodes[self.way.position] else {
+        if self.nodes.position < self.nodes.list.len() {
+            let Node::Load(load) = self.nodes.list[self.nodes.position] else {
                 return Err(failed(FailureKind::NotDeterministic));
             };
             if !load.meets(exploring, readable) {
@@ -392,10 +387,10 @@ impl Path {
     pub fn branch_load(&mut self) -> Result<u8, Stop>
         ensures { PassesLoad self.old result self.new }
     {
-        if self.way.position >= self.way.nodes.len() {
+        if self.nodes.position >= self.nodes.list.len() {
             return Err(failed(FailureKind::NotDeterministic));
         }
-        let Node::Load(load) = self.way.nodes[self.way.position] else {
+        let Node::Load(load) = self.nodes.list[self.nodes.position] else {
             return Err(failed(FailureKind::NotDeterministic));
         };
         self.pass_value();
@@ -405,12 +400,12 @@ impl Path {
     /// Passes a spurious wake-up: follows the stored node, or makes one. It answers whether the thread wakes without a
     /// notification. Where it fails the path stays as it was.
     pub fn branch_spurious(&mut self) -> Result<bool, Stop>
-        ensures says { Says Choice.Spurious self.old (whether_spurious (is_on self.old.exploring)) result self.new }
+        ensures says { Decides Choice.Spurious self.old (whether_spurious (is_on self.old.exploring)) result self.new }
         ensures same { IsSame self.old self.new }
     {
         let exploring = self.is_exploring();
-        if self.way.position < self.way.nodes.len() {
-            let Node::Spurious(spurious) = self.way.nodes[self.way.position] else {
+        if self.nodes.position < self.nodes.list.len() {
+            let Node::Spurious(spurious) = self.nodes.list[self.nodes.position] else {
                 return Err(failed(FailureKind::NotDeterministic));
             };
             if !spurious.meets(exploring) {
@@ -463,7 +458,7 @@ impl Path {
     pub fn position(&self) -> usize
         ensures { result ≡ self.now.position }
     {
-        self.way.position
+        self.nodes.position
     }
 
     /// Whether the search is reduced. One that isn't makes no marks.
@@ -477,7 +472,7 @@ impl Path {
     pub fn is_used_up(&self) -> bool
         ensures { result ≡ is_used_up (trail self.now) }
     {
-        self.way.nodes.len() <= self.way.position && self.given.len() <= self.way.position
+        self.nodes.list.len() <= self.nodes.position && self.given.len() <= self.nodes.position
     }
 
     /// The choices at the nodes that the run has passed. An error only where there are some, and memory for them is refused.
@@ -485,10 +480,10 @@ impl Path {
         ensures list { IfOk result (λ list. list.items ≡ chosen self.now) }
         ensures growth { IfErr result (λ _. chosen self.now ≢ []) }
     {
-        if self.way.position == 0 {
+        if self.nodes.position == 0 {
             return Ok(Vec::new(alloc));
         }
-        choices_at(alloc, &self.way.nodes[..self.way.position])
+        choices_at(alloc, &self.nodes.list[..self.nodes.position])
     }
 
     /// After a run, goes on to the next one: the deepest node that has an option left takes it, and what follows it is
@@ -497,11 +492,11 @@ impl Path {
         ensures steps { Steps self.old.nodes result self.new.nodes }
         ensures rest { self.new ≡ at_rest self.old.search self.old.explores self.new.nodes }
     {
-        self.way.position = 0;
+        self.nodes.position = 0;
         self.exploring = Exploring::new(self.search.explores);
         self.tally = Tally::new();
         self.given.clear();
-        step_nodes(&mut self.way.nodes)
+        step_nodes(&mut self.nodes.list)
     }
 }
 

@@ -23,7 +23,7 @@ printed_alone : (checked : Checked) (settings : Settings) (file old new : Option
 printed_alone checked settings file old new status (b, i, (report, r, (mid, p, behind))) =
     (b, i, (report, reports_of checked b report r, subst (λ bytes. PrintedOf report old bytes status) (sym (behind refl)) p))
 
--- the same where the status may be 2, of a result
+-- nothing stands behind the line, where the status may be 2, of a result
 pub checked_alone : {E : Type 0} (checked : Checked) (settings : Settings) (file old new : Option (List ℕ)) (answer : Result ℕ E)
     → IfOk answer (λ status. (status ≡ 2) ⊎ PrintedTask Check false checked settings file old new status)
     → IfOk answer (λ status. (status ≡ 2) ⊎ PrintedChecked checked settings file old new status)

@@ -34,7 +34,7 @@ meant_found rows (name ∷ file ∷ other ∷ words) = refl
 
 -- what a report says
 pub reports_meant : (checked : Checked) (b : Builder) (report : Report) → ReportsOf checked b report → ReportsMeant (meant checked) b report
-reports_meant (Script steps) b report r = r
+reports_meant (Script steps) b report r = (steps.now, refl, r)
 reports_meant (Updater one other) b report r = r
 
 -- what was printed of a row was printed by the table
@@ -43,7 +43,7 @@ pub printed_by : (rows : List Row) (words : List (List ℕ)) (old new : Option (
 printed_by rows words old new status t (row, m, (b, i, (report, r, p))) =
     (map named rows, t, (named row, meant_found rows words ∙ ap (option_map named) m, b, i, (report, reports_meant row.checked b report r, p)))
 
--- the same where the status may be 2
+-- what was printed of a row was printed by the table, where the status may be 2
 pub printed_or_not : (rows items : List Row) (words : List (List ℕ)) (old new : Option (List ℕ)) (status : ℕ) → rows ≡ items
     → IsTable (map named items) → (status ≡ 2) ⊎ PrintedRow rows words old new status → (status ≡ 2) ⊎ PrintedNamed words old new status
 printed_or_not rows items words old new status e t p =

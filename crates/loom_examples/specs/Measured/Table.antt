@@ -2,7 +2,7 @@
 use Rattle.std.specs.Prelude.{ℕ, true, false, List, [], ◌∷◌, ◌++◌, Option, Some, None, codes}
 use Rattle.std.specs.List.{find}
 use Rattle.std.specs.Str.{bytes_eq}
-use Rattle.loom_examples.specs.declared.scripts.step.Step.{Step}
+use Rattle.loom_examples.specs.Rows.Written.{Written}
 use Rattle.loom_examples.specs.Measured.Body.{Named, measured, search, many}
 use Rattle.loom_examples.specs.Rows.Scripts.Atomics.{three_adds, acq_rel}
 use Rattle.loom_examples.specs.Rows.Scripts.First.{two_mutexes_deadlock}
@@ -10,7 +10,7 @@ use Rattle.loom_examples.specs.Rows.Scripts.Measured.{store_buffering, locks_in_
 use Rattle.loom_examples.specs.declared.measured.Measured.{Measured}
 
 -- a body by six searches: not reduced and reduced, without a bound and with the bounds 1 and 2
-abbrev pub six : List ℕ → List Step → ℕ → List Named
+abbrev pub six : List ℕ → List Written → ℕ → List Named
 six name steps checks =
     measured name steps checks (search 1000 false None) ∷
     measured (name ++ codes " bound 1") steps checks (search 1000 false (Some 1)) ∷

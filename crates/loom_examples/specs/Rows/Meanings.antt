@@ -1,18 +1,18 @@
--- What is checked, as lists and numbers.
-use Rattle.std.specs.Prelude.{ℕ, List}
-use Rattle.loom_examples.specs.declared.scripts.step.Step.{Step}
+-- What rows mean, as lists and numbers: without the places in memory of their names, steps and labels.
+use Rattle.std.specs.Prelude.{ℕ, List, map}
 use Rattle.loom_examples.specs.declared.rows.Checked.{Checked}
 use Rattle.loom_examples.specs.declared.rows.Checked.TheVariants.{Script, Updater}
 use Rattle.loom_examples.specs.declared.rows.Row.{Row}
 use Rattle.loom_examples.specs.declared.rows.settings.Settings.{Settings}
+use Rattle.loom_examples.specs.Rows.Written.{Written, written}
 
 -- a script of these steps, or the thread that updates its atomic, with these two numbers
 pub data Meant : Type 0 where
-  Steps : List Step → Meant
+  Steps : List Written → Meant
   Updates : ℕ → ℕ → Meant
 
 abbrev pub meant : Checked → Meant
-meant (Script steps) = Steps steps.now
+meant (Script steps) = Steps (map written steps.now)
 meant (Updater one other) = Updates one other
 
 -- a name, what it means, and how this is checked

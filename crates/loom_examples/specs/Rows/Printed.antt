@@ -1,5 +1,5 @@
 -- What is printed of a check of the row that words mean.
-use Rattle.std.specs.Prelude.{ℕ, ◌≡◌, List, [], ◌∷◌, Option, Some, None}
+use Rattle.std.specs.Prelude.{ℕ, ◌≡◌, List, [], ◌∷◌, Option, Some, None, map}
 use Rattle.std.specs.List.{find}
 use Rattle.std.specs.Str.{bytes_eq}
 use Rattle.loom.specs.Model.Check.{ReportsAlone}
@@ -15,6 +15,7 @@ use Rattle.loom_examples.specs.Rows.Line.{PrintedOf}
 use Rattle.loom_examples.specs.Rows.Meanings.{Meant, Steps, Updates, Named}
 use Rattle.loom_examples.specs.Rows.Table.{IsTable}
 use Rattle.loom_examples.specs.Rows.Words.{file_in, meant_by}
+use Rattle.loom_examples.specs.Rows.Written.{Written, written}
 use Rattle.loom_examples.specs.Bodies.Updates as updates
 use Rattle.loom_examples.specs.declared.rows.Checked.{Checked}
 use Rattle.loom_examples.specs.declared.rows.Checked.TheVariants.{Script, Updater}
@@ -52,9 +53,13 @@ named_by table (name ∷ []) = find (λ row. bytes_eq row.name name) table
 named_by table (name ∷ file ∷ []) = find (λ row. bytes_eq row.name name) table
 named_by table words = None
 
+-- what a report says of the runs of a script that reads so
+abbrev pub ReportsWritten : List Written → Builder → Report → Type 0
+ReportsWritten steps b report = (script : List Step) × (map written script ≡ steps) × ReportsScript script b report
+
 -- what a report says of the runs of what a name means
 abbrev pub ReportsMeant : Meant → Builder → Report → Type 0
-ReportsMeant (Steps steps) b = ReportsScript steps b
+ReportsMeant (Steps steps) b = ReportsWritten steps b
 ReportsMeant (Updates one other) b = ReportsAlone b (runs_of updates.next_of (explores b) b.max_threads b.max_steps (updates.begun one other))
 
 -- the words mean a row of this table, and what was written is of a check of what it means, with the file that they name
@@ -63,6 +68,6 @@ PrintedBy table words old new status =
     (row : Named) × (named_by table words ≡ Some row)
     × (b : Builder) × IsBuilder row.settings (file_in words) b × PrintedSome (ReportsMeant row.means b) old new status
 
--- the same by the table of the program
+-- the words mean a row of the program's table, and what was written is of a check of what it means
 abbrev pub PrintedNamed : List (List ℕ) → Option (List ℕ) → Option (List ℕ) → ℕ → Type 0
 PrintedNamed words old new status = (table : List Named) × IsTable table × PrintedBy table words old new status

@@ -1,6 +1,6 @@
 -- How rows are named: a name, what it means, and the settings by which this is checked.
 use Rattle.std.specs.Prelude.{ℕ, List, Some, None, true, false}
-use Rattle.loom_examples.specs.declared.scripts.step.Step.{Step}
+use Rattle.loom_examples.specs.Rows.Written.{Written}
 use Rattle.loom_examples.specs.Rows.Meanings.{Steps, Updates, Named}
 use Rattle.loom_examples.specs.declared.rows.settings.Settings.{Settings}
 
@@ -16,11 +16,11 @@ defaults = record {
   expect_explicit_explore = false;
 }
 
--- the same, but each schedule tries every thread that can go on
+-- the defaults, but each schedule tries every thread that can go on
 abbrev pub whole_search : Settings
 whole_search = record defaults { reduce = false }
 
--- the same, but two runs are made at most
+-- such a whole search, of two runs at most
 abbrev pub two_runs : Settings
 two_runs = record whole_search { max_permutations = Some 2 }
 
@@ -41,31 +41,31 @@ abbrev pub explicit_search : Settings
 explicit_search = record whole_search { expect_explicit_explore = true }
 
 -- the script of these steps, by the defaults
-abbrev pub script : List ℕ → List Step → Named
+abbrev pub script : List ℕ → List Written → Named
 script name steps = record { name = name; means = Steps steps; settings = defaults }
 
--- the same by a search that isn't reduced
-abbrev pub whole : List ℕ → List Step → Named
+-- the script of these steps, by a search that isn't reduced
+abbrev pub whole : List ℕ → List Written → Named
 whole name steps = record { name = name; means = Steps steps; settings = whole_search }
 
--- the same, of which two runs are made at most
-abbrev pub limited : List ℕ → List Step → Named
+-- the script of these steps, of which two runs are made at most
+abbrev pub limited : List ℕ → List Written → Named
 limited name steps = record { name = name; means = Steps steps; settings = two_runs }
 
--- the same by ten operations at most
-abbrev pub short : List ℕ → List Step → Named
+-- the script of these steps, by ten operations at most
+abbrev pub short : List ℕ → List Written → Named
 short name steps = record { name = name; means = Steps steps; settings = ten_steps }
 
--- the same in runs of 100,000 nodes at most
-abbrev pub long : List ℕ → List Step → Named
+-- the script of these steps, in runs of 100,000 nodes at most
+abbrev pub long : List ℕ → List Written → Named
 long name steps = record { name = name; means = Steps steps; settings = long_runs }
 
--- the same in runs of three nodes at most
-abbrev pub few : List ℕ → List Step → Named
+-- the script of these steps, in runs of three nodes at most
+abbrev pub few : List ℕ → List Written → Named
 few name steps = record { name = name; means = Steps steps; settings = three_nodes }
 
--- the same by a search that isn't reduced, from where a run begins to explore
-abbrev pub explicit : List ℕ → List Step → Named
+-- the script of these steps, by a search that isn't reduced, from where a run begins to explore
+abbrev pub explicit : List ℕ → List Written → Named
 explicit name steps = record { name = name; means = Steps steps; settings = explicit_search }
 
 -- the thread that updates its atomic, with these two numbers, by the defaults

@@ -3,6 +3,7 @@ use Rattle.std.specs.Prelude.{ℕ, ◌≡◌, ◌++◌, Bool, false, List, Optio
 use Rattle.std.specs.Io.KnownBytes.{Appends}
 use Rattle.loom_views.specs.Failures.{number_of}
 use Rattle.loom_objects.specs.Tree.Tree.{Tree}
+use Rattle.loom.specs.Model.ChoicesText.{others_text}
 use Rattle.loom.specs.Model.Fresh.{Replays}
 use Rattle.loom.specs.Model.Check.{ReportsAlone}
 use Rattle.loom.specs.Model.Rising.{RisesTo}
@@ -16,10 +17,12 @@ use Rattle.loom_engine.specs.Runs.Body.{runs as runs_of}
 use Rattle.loom_examples.specs.Scripts.Running.{started}
 use Rattle.loom_examples.specs.Scripts.Script as script
 use Rattle.loom_examples.specs.Rows.Builder.{IsBuilder}
-use Rattle.loom_examples.specs.Rows.Line.{PrintedOf, choices_text, report_text, status_of}
+use Rattle.loom_examples.specs.Rows.Changes.{changed}
+use Rattle.loom_examples.specs.Rows.Line.{PrintedOf, report_text, status_of}
 use Rattle.loom_examples.specs.Bodies.Updates as updates
 use Rattle.loom_examples.specs.declared.rows.Checked.{Checked}
 use Rattle.loom_examples.specs.declared.rows.Checked.TheVariants.{Script, Updater}
+use Rattle.loom_examples.specs.declared.rows.changes.Changes.{Changes}
 use Rattle.loom_examples.specs.declared.rows.settings.Settings.{Settings}
 use Rattle.loom_examples.specs.declared.rows.tasks.Task.{Task}
 use Rattle.loom_examples.specs.declared.rows.tasks.Task.TheVariants as task
@@ -30,8 +33,8 @@ abbrev pub risen_text : Risen → List ℕ
 risen_text risen = codes "bound " ++ decimal risen.bound ++ codes " " ++ report_text risen.report
 
 abbrev pub replay_text : Replay ℕ → List ℕ
-replay_text (replay.Ended choices value) = codes "ended" ++ choices_text choices.items
-replay_text (replay.Failed failure choices) = codes "failed " ++ decimal (number_of failure.kind) ++ choices_text choices.items
+replay_text (replay.Ended choices value) = codes "ended" ++ others_text choices.items
+replay_text (replay.Failed failure choices) = codes "failed " ++ decimal (number_of failure.kind) ++ others_text choices.items
 
 -- 1 where the run failed
 abbrev pub replay_status : Replay ℕ → ℕ
@@ -66,7 +69,12 @@ abbrev pub tree_of : Checked → Builder → Tree ℕ
 tree_of (Script steps) b = runs_of script.next_of (explores b) b.max_threads b.max_steps (started steps.now)
 tree_of (Updater one other) b = runs_of updates.next_of (explores b) b.max_threads b.max_steps (updates.begun one other)
 
--- the same of what is checked, with these settings and this checkpoint file, if there is one
+-- what was written is of this task, done with what is checked, with these settings and this checkpoint file, if there is one
 abbrev pub PrintedTask : Task → Bool → Checked → Settings → Option (List ℕ) → Option (List ℕ) → Option (List ℕ) → ℕ → Type 0
 PrintedTask task explains checked settings file old new status =
     (b : Builder) × IsBuilder settings file b × PrintedBy task explains b (tree_of checked b) old new status
+
+-- what was written is of this task, done by a builder in which the settings that the command line names are changed
+abbrev pub PrintedChanged : Changes → Task → Bool → Checked → Settings → Option (List ℕ) → Option (List ℕ) → Option (List ℕ) → ℕ → Type 0
+PrintedChanged changes task explains checked settings file old new status =
+    (b : Builder) × IsBuilder settings file b × PrintedBy task explains (changed changes b) (tree_of checked (changed changes b)) old new status

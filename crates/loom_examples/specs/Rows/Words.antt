@@ -1,6 +1,5 @@
--- What the words of the program mean.
--- Which words of the program are options.
-use Rattle.std.specs.Prelude.{ℕ, List, [], ◌∷◌, Option, Some, None, ◌||◌, Bool, false, codes}
+-- What the words of the program mean, and which of them are options.
+use Rattle.std.specs.Prelude.{ℕ, List, [], ◌∷◌, ◌==◌, Option, Some, None, Bool, false}
 use Rattle.std.specs.List.{find}
 use Rattle.std.specs.Str.{bytes_eq}
 use Rattle.loom_examples.specs.declared.rows.Row.{Row}
@@ -20,11 +19,7 @@ meant_by rows (name ∷ []) = row_of rows name
 meant_by rows (name ∷ file ∷ []) = row_of rows name
 meant_by rows words = None
 
+-- the word is an option: it begins with `-`
 abbrev pub is_option : List ℕ → Bool
-is_option word =
-    bytes_eq word (codes "--explain") || bytes_eq word (codes "--replay") || bytes_eq word (codes "--rising") || bytes_eq word (codes "--help") || bytes_eq word (codes "--tour") || bytes_eq word (codes "--measure")
-
--- an option stands first
-abbrev pub has_option : List (List ℕ) → Bool
-has_option [] = false
-has_option (first ∷ words) = is_option first
+is_option [] = false
+is_option (sign ∷ rest) = sign == 45

@@ -4,7 +4,7 @@ use Rattle.std.specs.Str.{bytes_eq}
 use Rattle.loom_examples.specs.declared.scripts.state.Handle.TheVariants.{Empty}
 use Rattle.loom_examples.specs.declared.scripts.state.State.{State}
 use Rattle.loom_examples.specs.declared.scripts.step.Step.{Step}
-use Rattle.loom_examples.specs.declared.scripts.step.Step.TheVariants.{Do, Labelled, Store, Jump, Unless, Label, JumpTo, IfTo, UnlessTo, SpawnAt}
+use Rattle.loom_examples.specs.declared.scripts.step.Step.TheVariants.{Do, Labelled, Store, Label, JumpTo, IfTo, UnlessTo, SpawnAt}
 use Rattle.loom_examples.specs.Scripts.Slots.{held}
 
 pub record Running : Type 0 where
@@ -36,8 +36,6 @@ abbrev pub is_label : List ℕ → Step → Bool
 is_label name (Do keep made) = false
 is_label name (Labelled keep made called) = false
 is_label name (Store slot value order) = false
-is_label name (Jump target) = false
-is_label name (Unless register n target) = false
 is_label name (Label label) = bytes_eq label.now name
 is_label name (JumpTo other) = false
 is_label name (IfTo register n other) = false
@@ -52,7 +50,7 @@ abbrev pub or_end : Option ℕ → List Step → ℕ
 or_end None steps = length steps
 or_end (Some place) steps = place
 
--- the same; without one, the steps' end
+-- where the first label of this name stands; without one, the steps' end
 abbrev pub place_of : List Step → List ℕ → ℕ
 place_of steps name = or_end (label_at steps name) steps
 
@@ -61,8 +59,6 @@ abbrev pub goes_on_at : List Step → State → Step → ℕ
 goes_on_at steps s (Do keep made) = s.at
 goes_on_at steps s (Labelled keep made called) = s.at
 goes_on_at steps s (Store slot value order) = s.at
-goes_on_at steps s (Jump target) = target
-goes_on_at steps s (Unless register n target) = cond (held s register == n) (s.at + 1) target
 goes_on_at steps s (Label label) = s.at
 goes_on_at steps s (JumpTo name) = place_of steps name.now
 goes_on_at steps s (IfTo register n name) = cond (held s register == n) (place_of steps name.now) (s.at + 1)
@@ -74,8 +70,6 @@ behind_label place None = place
 behind_label place (Some (Do keep made)) = place
 behind_label place (Some (Labelled keep made called)) = place
 behind_label place (Some (Store slot value order)) = place
-behind_label place (Some (Jump target)) = place
-behind_label place (Some (Unless register n target)) = place
 behind_label place (Some (Label label)) = place + 1
 behind_label place (Some (JumpTo name)) = place
 behind_label place (Some (IfTo register n name)) = place
@@ -99,8 +93,6 @@ abbrev pub keep_of : Step → ℕ
 keep_of (Do keep made) = keep
 keep_of (Labelled keep made called) = keep
 keep_of (Store slot value order) = 0
-keep_of (Jump target) = 0
-keep_of (Unless register n target) = 0
 keep_of (Label label) = 0
 keep_of (JumpTo name) = 0
 keep_of (IfTo register n name) = 0

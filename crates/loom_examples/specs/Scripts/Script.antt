@@ -9,7 +9,7 @@ use Rattle.loom_objects.specs.declared.operation.Reply.{Reply}
 use Rattle.loom_objects.specs.declared.operation.ThreadOp.TheVariants.{Spawn}
 use Rattle.loom_objects.specs.declared.label.Label.{Label as Called}
 use Rattle.loom_examples.specs.declared.scripts.step.Step.{Step}
-use Rattle.loom_examples.specs.declared.scripts.step.Step.TheVariants.{Do, Labelled, Store, Jump, Unless, Label, JumpTo, IfTo, UnlessTo, SpawnAt}
+use Rattle.loom_examples.specs.declared.scripts.step.Step.TheVariants.{Do, Labelled, Store, Label, JumpTo, IfTo, UnlessTo, SpawnAt}
 use Rattle.loom_examples.specs.declared.scripts.step.Value.{Value}
 use Rattle.loom_examples.specs.Scripts.Operations.{atomic_op, cell_op, arc_op, track_op, mutex_op, rwlock_op, condvar_op, notify_op, channel_op, waker_op, place_op, local_op, lazy_op, thread_op}
 use Rattle.loom_examples.specs.Scripts.Running.{Running, fetched, landing, place_of, spawned}
@@ -55,8 +55,6 @@ step_request s None = op.Fail
 step_request s (Some (Do keep made)) = request s made
 step_request s (Some (Labelled keep made called)) = request s made
 step_request s (Some (Store slot value order)) = store s slot value order
-step_request s (Some (Jump target)) = op.Fail
-step_request s (Some (Unless register n target)) = op.Fail
 step_request s (Some (Label label)) = op.Fail
 step_request s (Some (JumpTo name)) = op.Fail
 step_request s (Some (IfTo register n name)) = op.Fail
@@ -69,8 +67,6 @@ label_of None = None
 label_of (Some (Do keep made)) = None
 label_of (Some (Labelled keep made called)) = Some called
 label_of (Some (Store slot value order)) = None
-label_of (Some (Jump target)) = None
-label_of (Some (Unless register n target)) = None
 label_of (Some (Label label)) = None
 label_of (Some (JumpTo name)) = None
 label_of (Some (IfTo register n name)) = None

@@ -7,7 +7,7 @@ use crate::closures::scenes;
 use crate::rows::line::{self, ShownReport};
 use loom::model::Report;
 use loom::model::builder::Builder;
-use loom::runner::{Handle, Nobody, RunnerError, Stop, check};
+use loom::runner::{Handle, NoVisitor, RunnerError, Stop, check};
 use std::alloc::Global;
 use std::io::{self, Write};
 use std::sync::Wait;
@@ -15,7 +15,7 @@ use std::thread::Threads;
 
 /// A row of closures.
 #[derive(Clone, Copy)]
-pub enum Row {
+pub enum ClosureRow {
     /// Two threads lock two mutexes in opposite order.
     TwoMutexesDeadlock,
     /// Two threads add to one number.
@@ -37,36 +37,36 @@ pub enum Row {
 }
 
 /// All rows.
-pub const ROWS: [Row; 9] = [
-    Row::TwoMutexesDeadlock,
-    Row::FetchAddAtomic,
-    Row::LockBeside,
-    Row::PingPong,
-    Row::GuardLeft,
-    Row::Deaf,
-    Row::Stops,
-    Row::Changes,
-    Row::StoreBuffering,
+pub const ROWS: [ClosureRow; 9] = [
+    ClosureRow::TwoMutexesDeadlock,
+    ClosureRow::FetchAddAtomic,
+    ClosureRow::LockBeside,
+    ClosureRow::PingPong,
+    ClosureRow::GuardLeft,
+    ClosureRow::Deaf,
+    ClosureRow::Stops,
+    ClosureRow::Changes,
+    ClosureRow::StoreBuffering,
 ];
 
-impl Row {
+impl ClosureRow {
     /// The word that means the row.
     pub fn name(self) -> &'static str {
         match self {
-            Row::TwoMutexesDeadlock => "two_mutexes_deadlock_closures",
-            Row::FetchAddAtomic => "fetch_add_atomic_closures",
-            Row::LockBeside => "lock_beside_closures",
-            Row::PingPong => "runner_ping_pong",
-            Row::GuardLeft => "guard_left_closures",
-            Row::Deaf => "closure_deaf",
-            Row::Stops => "closure_stops",
-            Row::Changes => "closure_changes",
-            Row::StoreBuffering => "store_buffering_closures",
+            ClosureRow::TwoMutexesDeadlock => "two_mutexes_deadlock_closures",
+            ClosureRow::FetchAddAtomic => "fetch_add_atomic_closures",
+            ClosureRow::LockBeside => "lock_beside_closures",
+            ClosureRow::PingPong => "runner_ping_pong",
+            ClosureRow::GuardLeft => "guard_left_closures",
+            ClosureRow::Deaf => "closure_deaf",
+            ClosureRow::Stops => "closure_stops",
+            ClosureRow::Changes => "closure_changes",
+            ClosureRow::StoreBuffering => "store_buffering_closures",
         }
     }
 
     /// The row that the words mean: one word, which is its name. A row of closures has no checkpoint file.
-    pub fn meant_by(words: &[&str]) -> Option<Row> {
+    pub fn meant_by(words: &[&str]) -> Option<ClosureRow> {
         match words {
             [name] => named(*name),
             _ => None,
@@ -77,14 +77,14 @@ impl Row {
     fn builder(self) -> Builder {
         let mut builder = Builder::new();
         match self {
-            Row::TwoMutexesDeadlock
-            | Row::FetchAddAtomic
-            | Row::GuardLeft
-            | Row::Deaf
-            | Row::Stops
-            | Row::StoreBuffering => {}
-            Row::LockBeside | Row::Changes => builder.reduce = false,
-            Row::PingPong => builder.max_branches = 200,
+            ClosureRow::TwoMutexesDeadlock
+            | ClosureRow::FetchAddAtomic
+            | ClosureRow::GuardLeft
+            | ClosureRow::Deaf
+            | ClosureRow::Stops
+            | ClosureRow::StoreBuffering => {}
+            ClosureRow::LockBeside | ClosureRow::Changes => builder.reduce = false,
+            ClosureRow::PingPong => builder.max_branches = 200,
         }
         builder
     }
@@ -111,7 +111,7 @@ impl Row {
             is_first = false;
             self.run(handle, was_first)
         };
-        check(rt, alloc, builder, main, &mut Nobody)
+        check(rt, alloc, builder, main, &mut NoVisitor)
     }
 
     /// What main does in a run: the first run, or a later one.
@@ -121,22 +121,22 @@ impl Row {
         is_first: bool,
     ) -> Result<u64, Stop> {
         match self {
-            Row::TwoMutexesDeadlock => scenes::two_mutexes(handle),
-            Row::FetchAddAtomic => scenes::two_adds(handle),
-            Row::LockBeside => scenes::lock_beside(handle),
-            Row::PingPong => scenes::ping_pong(handle),
-            Row::GuardLeft => scenes::guard_left(handle),
-            Row::Deaf => scenes::deaf(handle),
-            Row::Stops => Err(Stop::Refused),
-            Row::Changes if is_first => scenes::lock_beside(handle),
-            Row::Changes => Ok(7),
-            Row::StoreBuffering => scenes::store_buffering(handle),
+            ClosureRow::TwoMutexesDeadlock => scenes::two_mutexes(handle),
+            ClosureRow::FetchAddAtomic => scenes::two_adds(handle),
+            ClosureRow::LockBeside => scenes::lock_beside(handle),
+            ClosureRow::PingPong => scenes::ping_pong(handle),
+            ClosureRow::GuardLeft => scenes::guard_left(handle),
+            ClosureRow::Deaf => scenes::deaf(handle),
+            ClosureRow::Stops => Err(Stop::Refused),
+            ClosureRow::Changes if is_first => scenes::lock_beside(handle),
+            ClosureRow::Changes => Ok(7),
+            ClosureRow::StoreBuffering => scenes::store_buffering(handle),
         }
     }
 }
 
 /// The row of this name.
-fn named(name: &str) -> Option<Row> {
+fn named(name: &str) -> Option<ClosureRow> {
     for row in ROWS {
         if row.name() == name {
             return Some(row);
@@ -149,7 +149,7 @@ fn named(name: &str) -> Option<Row> {
 /// the status is 2.
 pub fn run_row<R: AllocGlobal + Threads + Wait + Clone + Send + 'static, O: Write, E: Write>(
     rt: &R,
-    row: Row,
+    row: ClosureRow,
     out: &mut O,
     err: &mut E,
 ) -> io::Result<u8>

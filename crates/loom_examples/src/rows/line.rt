@@ -1,44 +1,27 @@
 //! What the program prints of a report.
 ghost use Rattle.std.specs.Prelude.{◌≡◌, Some};
-ghost use Rattle.loom_examples.specs.Rows.Line.{choice_text, choices_text, report_text, status_of};
+ghost use Rattle.loom.specs.Model.ChoicesText.{others_text};
+ghost use Rattle.loom_examples.specs.Rows.Line.{report_text, status_of};
 
 use loom::Choice;
 use loom::model::Report;
 use std::fmt;
 
-/// A choice as the program prints it: `t0` to `t4` or `t-`, `l0` to `l6`, `s0` or `s1`.
+/// Choices, each after a space: they stand at the end of a line.
 #[derive(Clone, Copy)]
-pub struct ShownChoice(pub Choice);
-
-/// Choices, each after a space.
-#[derive(Clone, Copy)]
-pub struct ShownChoices<'a>(pub &'a [Choice]);
+pub struct SpacedChoices<'a>(pub &'a [Choice]);
 
 /// A report: how the check ended, the number of runs, and where it failed the failure's number and the run's choices.
 #[derive(Clone, Copy)]
 pub struct ShownReport<'a>(pub &'a Report);
 
-impl fmt::Display for ShownChoice {
-    ghost output = { λ shown. Some (choice_text shown.0) };
-
-    fn fmt<W: fmt::Write>(&self, f: &mut fmt::Formatter<W>) -> fmt::Result {
-        match self.0 {
-            Choice::Thread(None) => write!(f, "t-"),
-            Choice::Thread(Some(thread)) => write!(f, "t{thread}"),
-            Choice::Load(slot) => write!(f, "l{slot}"),
-            Choice::Spurious(false) => write!(f, "s0"),
-            Choice::Spurious(true) => write!(f, "s1"),
-        }
-    }
-}
-
-impl fmt::Display for ShownChoices<'_> {
-    ghost output = { λ shown. Some (choices_text shown.0.now) };
+impl fmt::Display for SpacedChoices<'_> {
+    ghost output = { λ shown. Some (others_text shown.0.now) };
 
     fn fmt<W: fmt::Write>(&self, f: &mut fmt::Formatter<W>) -> fmt::Result {
         for choice in self.0 {
-            let shown = ShownChoice(*choice);
-            write!(f, " {shown}")?;
+            let choice = *choice;
+            write!(f, " {choice}")?;
         }
         Ok(())
     }
@@ -57,7 +40,7 @@ impl fmt::Display for ShownReport<'_> {
                 choices,
             } => {
                 let kind = failure.kind.number();
-                let choices = ShownChoices(choices.as_slice());
+                let choices = SpacedChoices(choices.as_slice());
                 write!(f, "failed {kind} {runs}{choices}")
             }
         }

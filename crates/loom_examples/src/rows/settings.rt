@@ -29,7 +29,7 @@ pub trait Builds {
     /// The builder of these settings.
     fn builder(self) -> Builder;
 
-    /// The same with the checkpoint file of this name, if one is given.
+    /// The builder of these settings, with the checkpoint file of this name, if one is given.
     fn builder_with(self, alloc: Global, file: Option<&str>) -> Result<Builder, AllocError>;
 }
 

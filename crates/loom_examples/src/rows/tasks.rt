@@ -3,10 +3,11 @@
 ghost use Rattle.std.specs.Prelude.{◌≡◌, ◌⊎◌, Some, IfOk, OnOk, false, option_copied};
 ghost use Rattle.loom_engine.specs.Runs.Body.{runs as runs_of};
 ghost use Rattle.loom.specs.Model.Settings.{explores};
-ghost use Rattle.loom_examples.specs.Rows.Tasks.{PrintedBy, PrintedReplay, PrintedRisen, PrintedTask, replay_status, replay_text, risen_text, tree_of};
+ghost use Rattle.loom_examples.specs.Rows.Tasks.{PrintedBy, PrintedChanged, PrintedReplay, PrintedRisen, PrintedTask, replay_status, replay_text, risen_text, tree_of};
 
 use crate::bodies::updates::Updater;
-use crate::rows::line::{self, ShownChoices, ShownReport};
+use crate::rows::changes::Changes;
+use crate::rows::line::{self, ShownReport, SpacedChoices};
 use crate::rows::settings::Builds;
 use crate::rows::{Checked, Row, print_report, refuse_check};
 use crate::scripts::script::Script;
@@ -56,12 +57,12 @@ impl fmt::Display for ShownReplay<'_> {
     fn fmt<W: fmt::Write>(&self, f: &mut fmt::Formatter<W>) -> fmt::Result {
         match self.0 {
             Replay::Ended { choices, .. } => {
-                let choices = ShownChoices(choices.as_slice());
+                let choices = SpacedChoices(choices.as_slice());
                 write!(f, "ended{choices}")
             }
             Replay::Failed { failure, choices } => {
                 let kind = failure.kind.number();
-                let choices = ShownChoices(choices.as_slice());
+                let choices = SpacedChoices(choices.as_slice());
                 write!(f, "failed {kind}{choices}")
             }
         }
@@ -85,7 +86,24 @@ pub fn do_task<R: AllocGlobal + Files, O: Write, E: Write>(
     with_builder(rt, &builder, row.checked, task, explains, out, err)
 }
 
-/// The same with the builder that is made of the row's settings.
+/// `do_task` with a builder in which these settings take the place of the row's own.
+pub fn do_changed<R: AllocGlobal + Files, O: Write, E: Write>(
+    rt: &R,
+    row: &Row,
+    changes: Changes,
+    task: Task,
+    explains: bool,
+    file: Option<&str>,
+    out: &mut O,
+    err: &mut E,
+) -> io::Result<u8>
+    ensures { IfOk result (λ status. (status ≡ 2) ⊎ PrintedChanged changes task.entry explains row.now.checked row.now.settings (option_copied file.entry) (O.contents out.old) (O.contents out.new) status) }
+{
+    let builder = changes.change(row.settings.builder_with(rt.alloc(), file)?);
+    with_builder(rt, &builder, row.checked, task, explains, out, err)
+}
+
+/// Does this with what is checked, by this builder.
 fn with_builder<R: AllocGlobal + Files, O: Write, E: Write>(
     rt: &R,
     builder: &Builder,
@@ -214,7 +232,7 @@ fn status_of_replay(replay: &Replay<u64>) -> u8
 }
 
 /// Explains the report, where a run failed and that is asked for.
-fn explain_report<R: AllocGlobal, B: Body<Data = u64>, O: Write>(
+pub(crate) fn explain_report<R: AllocGlobal, B: Body<Data = u64>, O: Write>(
     rt: &R,
     builder: &Builder,
     body: &B,
@@ -230,7 +248,7 @@ fn explain_report<R: AllocGlobal, B: Body<Data = u64>, O: Write>(
     Ok(())
 }
 
-/// The same of a run by given choices.
+/// Explains the run by given choices, where it failed and that is asked for.
 fn explain_replay<R: AllocGlobal, B: Body<Data = u64>, O: Write>(
     rt: &R,
     builder: &Builder,

@@ -1,36 +1,29 @@
-//! What the words of the program ask for, where options stand before the name.
-ghost use Rattle.std.specs.Prelude.{◌≡◌, ◌⊎◌, false, map};
+//! What the program does with the words of its command line.
+ghost use Rattle.std.specs.Prelude.{◌≡◌, ◌⊎◌, IfOk, false, map};
+ghost use Rattle.std.specs.List.{list_any};
 ghost use Rattle.loom_examples.specs.Rows.Printed.{PrintedNamed};
-ghost use Rattle.loom_examples.specs.Rows.Words.{has_option, is_option};
+ghost use Rattle.loom_examples.specs.Rows.Words.{is_option};
 
-use crate::rows::tasks::{Task, do_task};
-use crate::rows::{self, refuse, row_of};
+use crate::closures::rows::ROWS;
+use crate::rows::options::{Asked, RowAsked, read};
+use crate::rows::tasks::{Task, do_changed};
+use crate::rows::{self, Row, json, row_of, timed};
+use clap::Error;
 use loom::Choices;
+use std::alloc::{AllocError, Global};
 use std::io::{self, Write};
-use std::rt::Files;
-
-/// What `--help` prints.
-pub const HELP: &str = "usage: loom_rows NAME [FILE]
-
-One of these may stand before NAME, and `--explain` before `--replay` or `--rising`:
-  --explain           where a run failed, explain it behind the line
-  --replay CHOICES    make one run by choices as \"t0 l0 t1\", and then by defaults
-  --rising            check with at most 0 preemptions, then 1, 2 and 3, up to a failure
-  --help              print this
-These stand alone:
-  --tour              check four bodies, right and wrong, and explain what fails
-  --measure [NAME..]  print how long checks take, of bodies of these names or of some
-";
+use std::rt::{Clock, Files};
 
 /// Does what the words ask for by the table of the program, prints what comes of it, and answers the exit status. Without an
-/// option before the name that is `run_named`. It is 2 where the words mean nothing, and where memory or a writer fails.
-pub fn run_words<R: AllocGlobal + Files, O: Write, E: Write>(
+/// option that is `run_named`. It is 2 where the words mean nothing, and where memory or a writer fails. The tour and the
+/// measuring are the program's own.
+pub fn run_words<R: AllocGlobal + Clock + Files, O: Write, E: Write>(
     rt: &R,
     words: &[&str],
     out: &mut O,
     err: &mut E,
 ) -> u8
-    ensures { has_option (map (λ word. word.now) words.now) ≡ false → (result ≡ 2) ⊎ PrintedNamed (map (λ word. word.now) words.now) (O.contents out.old) (O.contents out.new) result }
+    ensures { list_any (λ word. is_option word.now) words.now ≡ false → (result ≡ 2) ⊎ PrintedNamed (map (λ word. word.now) words.now) (O.contents out.old) (O.contents out.new) result }
 {
     if has_option(words) {
         run_options(rt, words, out, err).unwrap_or(2)
@@ -39,88 +32,77 @@ pub fn run_words<R: AllocGlobal + Files, O: Write, E: Write>(
     }
 }
 
-/// Whether an option stands first.
-fn has_option(words: &[&str]) -> bool
-    ensures { result ≡ has_option (map (λ word. word.now) words.now) }
+/// Whether one of the words is an option.
+pub fn has_option(words: &[&str]) -> bool
+    ensures { result ≡ list_any (λ word. is_option word.now) words.now }
 {
-    match words {
-        [] => false,
-        [first, ..] => is_option(first),
-    }
+    words.iter().any(|word| is_option(word))
 }
 
-/// Whether the word is an option of the program.
+// Whether the word begins as an option does.
 fn is_option(word: &str) -> bool
     ensures { result ≡ is_option word.now }
 {
-    word == "--explain"
-        || word == "--replay"
-        || word == "--rising"
-        || word == "--help"
-        || word == "--tour"
-        || word == "--measure"
+    match word.as_bytes() {
+        [] => false,
+        [first, ..] => *first == b'-',
+    }
 }
 
-fn run_options<R: AllocGlobal + Files, O: Write, E: Write>(
+fn run_options<R: AllocGlobal + Clock + Files, O: Write, E: Write>(
     rt: &R,
     words: &[&str],
     out: &mut O,
     err: &mut E,
 ) -> io::Result<u8> {
-    match words {
-        [option] if *option == "--help" => help(out),
-        [option, rest @ ..] if *option == "--explain" => run_task(rt, rest, true, out, err),
-        _ => run_task(rt, words, false, out, err),
+    match read(rt.alloc(), words) {
+        Ok(Asked::List) => list(rt, out),
+        Ok(Asked::Row(asked)) => run_asked(rt, asked, out, err),
+        Ok(Asked::Tour | Asked::Measure(_)) => refuse(err, "error: this is no row"),
+        Err(error) => help_or_refuse(rt.alloc(), &error, out, err),
     }
 }
 
-fn help<O: Write>(out: &mut O) -> io::Result<u8> {
-    write!(out, "{HELP}")?;
+// The help that was asked for, or why the words are wrong.
+fn help_or_refuse<O: Write, E: Write>(
+    alloc: Global,
+    error: &Error,
+    out: &mut O,
+    err: &mut E,
+) -> io::Result<u8> {
+    if error.use_stderr() {
+        return refuse_by(alloc, err, error);
+    }
+    write!(out, "{error}")?;
     Ok(0)
 }
 
-fn run_task<R: AllocGlobal + Files, O: Write, E: Write>(
+// A line for each row.
+fn list<R: AllocGlobal, O: Write>(rt: &R, out: &mut O) -> io::Result<u8> {
+    let rows = rows::all_rows(rt.alloc())?;
+    for row in rows.as_slice() {
+        let name = row.name;
+        writeln!(out, "{name}")?;
+    }
+    for row in ROWS {
+        let name = row.name();
+        writeln!(out, "{name}")?;
+    }
+    Ok(0)
+}
+
+fn run_asked<R: AllocGlobal + Clock + Files, O: Write, E: Write>(
     rt: &R,
-    words: &[&str],
-    explains: bool,
+    asked: RowAsked,
     out: &mut O,
     err: &mut E,
 ) -> io::Result<u8> {
-    if let [option, choices, name] = words
-        && *option == "--replay"
-    {
-        return run_replay(rt, choices, explains, name, out, err);
-    }
-    match task_of(words, explains) {
-        Some((task, name, file)) => run_named_task(rt, task, explains, name, file, out, err),
-        None => refuse(err),
-    }
-}
-
-// What these words ask for, beside a run by given choices: what is done, with which row, and with which checkpoint file. Whether
-// an explanation is asked for too.
-fn task_of<'a>(words: &[&'a str], explains: bool) -> Option<(Task<'a>, &'a str, Option<&'a str>)> {
-    match words {
-        [option, name] if *option == "--rising" => Some((Task::Rise, *name, None)),
-        [name] if explains => Some((Task::Check, *name, None)),
-        [name, file] if explains => Some((Task::Check, *name, Some(*file))),
-        _ => None,
-    }
-}
-
-fn run_replay<R: AllocGlobal + Files, O: Write, E: Write>(
-    rt: &R,
-    choices: &str,
-    explains: bool,
-    name: &str,
-    out: &mut O,
-    err: &mut E,
-) -> io::Result<u8> {
-    match Choices::parse(rt.alloc(), choices) {
-        Ok(choices) => {
-            let task = Task::Replay(choices.as_slice());
-            run_named_task(rt, task, explains, name, None, out, err)
-        }
+    let Some(replay) = asked.replay else {
+        let task = if asked.rises { Task::Rise } else { Task::Check };
+        return run_task(rt, task, asked, out, err);
+    };
+    match Choices::parse(rt.alloc(), replay) {
+        Ok(choices) => run_task(rt, Task::Replay(choices.as_slice()), asked, out, err),
         Err(error) => {
             writeln!(err, "{error}")?;
             Ok(2)
@@ -128,18 +110,100 @@ fn run_replay<R: AllocGlobal + Files, O: Write, E: Write>(
     }
 }
 
-fn run_named_task<R: AllocGlobal + Files, O: Write, E: Write>(
+fn run_task<R: AllocGlobal + Clock + Files, O: Write, E: Write>(
     rt: &R,
     task: Task,
-    explains: bool,
-    name: &str,
-    file: Option<&str>,
+    asked: RowAsked,
     out: &mut O,
     err: &mut E,
 ) -> io::Result<u8> {
     let rows = rows::all_rows(rt.alloc())?;
-    match row_of(rows.as_slice(), name) {
-        Some(row) => do_task(rt, row, task, explains, file, out, err),
-        None => refuse(err),
+    let Some(row) = row_of(rows.as_slice(), asked.name) else {
+        return refuse_name(rt.alloc(), rows.as_slice(), asked.name, err);
+    };
+    let RowAsked {
+        changes,
+        explains,
+        file,
+        ..
+    } = asked;
+    if asked.json {
+        json::do_task(rt, row, changes, task, file, out, err)
+    } else if changes.max_duration.is_some() {
+        timed::check_row(rt, row, changes, explains, file, out, err)
+    } else {
+        do_changed(rt, row, changes, task, explains, file, out, err)
     }
+}
+
+/// The words mean nothing: the usage and the cause, with the nearest name or option.
+pub(crate) fn refuse_words<E: Write>(
+    alloc: Global,
+    rows: &[Row],
+    words: &[&str],
+    err: &mut E,
+) -> io::Result<u8>
+    ensures { IfOk result (λ status. status ≡ 2) }
+{
+    match read(alloc, words) {
+        Ok(Asked::Row(asked)) => refuse_name(alloc, rows, asked.name, err),
+        Ok(Asked::List | Asked::Tour | Asked::Measure(_)) => refuse(err, ""),
+        Err(error) => refuse_by(alloc, err, &error),
+    }
+}
+
+// No row that takes options, or none at all, has this name.
+fn refuse_name<E: Write>(alloc: Global, rows: &[Row], name: &str, err: &mut E) -> io::Result<u8>
+    ensures { IfOk result (λ status. status ≡ 2) }
+{
+    let nearest = nearest(alloc, rows, name)?;
+    let cause = if nearest == name {
+        format!(in alloc; "error: '{name}' is a row of closures, which has no file and no options")?
+    } else {
+        format!(in alloc;
+            "error: no row is called '{name}'\n\n  tip: the nearest name is '{nearest}'"
+        )?
+    };
+    refuse(err, cause.as_str())
+}
+
+// The row's name that is reached from this word by the fewest changes of a letter.
+fn nearest<'a>(alloc: Global, rows: &'a [Row], word: &str) -> Result<&'a str, AllocError> {
+    let mut nearest = "";
+    let mut least = usize::MAX;
+    for row in rows {
+        let distance = strsim::levenshtein(alloc, row.name, word)?;
+        if distance < least {
+            nearest = row.name;
+            least = distance;
+        }
+    }
+    for row in ROWS {
+        let distance = strsim::levenshtein(alloc, row.name(), word)?;
+        if distance < least {
+            nearest = row.name();
+            least = distance;
+        }
+    }
+    Ok(nearest)
+}
+
+// The words are wrong, as clap says. Its text ends with the usage, which stands above already.
+fn refuse_by<E: Write>(alloc: Global, err: &mut E, error: &Error) -> io::Result<u8>
+    ensures { IfOk result (λ status. status ≡ 2) }
+{
+    let text = format!(in alloc; "{error}")?;
+    match text.as_str().split_once("\n\nUsage: ") {
+        Some((cause, _)) => refuse(err, cause),
+        None => refuse(err, text.as_str().trim_end()),
+    }
+}
+
+// Prints the usage and the cause.
+fn refuse<E: Write>(err: &mut E, cause: &str) -> io::Result<u8>
+    ensures { IfOk result (λ status. status ≡ 2) }
+{
+    writeln!(err, "usage: loom_rows NAME [FILE]")?;
+    writeln!(err, "{cause}")?;
+    Ok(2)
 }

@@ -132,8 +132,6 @@ fn label_of(step: Option<&Step>) -> Option<&Label>
         Some(
             Step::Do(..)
             | Step::Store(..)
-            | Step::Jump(_)
-            | Step::Unless(..)
             | Step::Label(_)
             | Step::JumpTo(_)
             | Step::IfTo(..)
@@ -195,15 +193,8 @@ impl Body for Script {
                 Ok(request) => return bare(request),
                 Err(refusal) => return refused(refusal),
             },
-            Some(
-                Step::Jump(_)
-                | Step::Unless(..)
-                | Step::Label(_)
-                | Step::JumpTo(_)
-                | Step::IfTo(..)
-                | Step::UnlessTo(..),
-            )
-            | None => return bare(Request::Fail),
+            Some(Step::Label(_) | Step::JumpTo(_) | Step::IfTo(..) | Step::UnlessTo(..)) | None =>
+                return bare(Request::Fail),
         };
         let request = match self.request(asked) {
             Ok(request) => request,

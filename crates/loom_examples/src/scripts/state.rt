@@ -1,30 +1,11 @@
 //! How far a thread of a script is, and what it and its registers keep.
-ghost use Rattle.std.specs.Prelude.{◌≡◌, ◌==◌, slice_index, ◌<◌, length, option_copied, slice_get};
+ghost use Rattle.std.specs.Prelude.{◌≡◌, ◌==◌, ◌<◌, length, option_copied, slice_get};
 ghost use Rattle.loom_examples.specs.Scripts.Running.{at_first, behind, child, fetched, goes_on_at, is_label, keep_of, label_at, landing, past_label, place_of};
 ghost use Rattle.loom_examples.specs.Scripts.Slots.{digits, handle_at, held, kept, lazy_digits, local_digits, name_number, notifier, number_of, object, put_handle, put_number, thread, told_by, with_digit};
 
-use crate::scripts::state;
 use crate::scripts::step::{Step, Value};
 use loom_objects::operation::{Keyed, Lazy, Name, Reply};
 use std::collections::LinkedList;
-
-/// What the register holds, or 0 where there is none. Own.
-pub fn held(registers: &[u64], register: usize) -> u64
-    ensures { result ≡ slice_index registers.now register }
-{
-    if register < registers.len() {
-        registers[register]
-    } else {
-        0
-    }
-}
-
-/// Whether the register holds this number. Own.
-pub fn has(registers: &[u64], register: usize, number: u64) -> bool
-    ensures { result ≡ (slice_index registers.now register == number) }
-{
-    held(registers, register) == number
-}
 
 // The last register.
 const LAST: usize = 3;
@@ -51,7 +32,7 @@ pub enum Told {
     Number(u64),
     /// A number, for the last register: of what the operation wanted, and didn't get.
     Instead(u64),
-    /// The same of an exchange that failed, where the register that the step names is cleared.
+    /// A number for the last register, of an exchange that failed, where the register that the step names is cleared.
     Found(u64),
     /// A handle, for the slot that the step names.
     Handle(Handle),
@@ -127,14 +108,18 @@ impl State {
     fn held(&self, register: usize) -> u64
         ensures { result ≡ held self.now register }
     {
-        state::held(&self.registers, register)
+        if register < self.registers.len() {
+            self.registers[register]
+        } else {
+            0
+        }
     }
 
     /// Whether the register holds this number.
     fn has(&self, register: usize, number: u64) -> bool
         ensures { result ≡ (held self.now register == number) }
     {
-        state::has(&self.registers, register, number)
+        self.held(register) == number
     }
 
     /// The number that the value stands for.
@@ -200,15 +185,7 @@ impl State {
         ensures { result ≡ goes_on_at steps.now self.now step.now }
     {
         match step {
-            Step::Jump(target) => *target,
             Step::JumpTo(name) => place_of(steps, name),
-            Step::Unless(register, number, target) => {
-                if self.has(*register, *number) {
-                    self.at + 1
-                } else {
-                    *target
-                }
-            }
             Step::IfTo(register, number, name) => {
                 if self.has(*register, *number) {
                     place_of(steps, name)
@@ -248,12 +225,7 @@ impl State {
                 Some(step)
             }
             Step::Store(..) => self.pass(steps, self.at),
-            Step::Jump(_)
-            | Step::Unless(..)
-            | Step::Label(_)
-            | Step::JumpTo(_)
-            | Step::IfTo(..)
-            | Step::UnlessTo(..) => {
+            Step::Label(_) | Step::JumpTo(_) | Step::IfTo(..) | Step::UnlessTo(..) => {
                 let place = self.goes_on_at(steps, step);
                 self.pass(steps, past_label(steps, place))
             }
@@ -295,8 +267,6 @@ fn is_label(step: &Step, name: &str) -> bool
         Step::Do(..)
         | Step::Labelled(..)
         | Step::Store(..)
-        | Step::Jump(_)
-        | Step::Unless(..)
         | Step::JumpTo(_)
         | Step::IfTo(..)
         | Step::UnlessTo(..)
@@ -311,7 +281,7 @@ fn label_at(steps: &[Step], name: &str) -> Option<usize>
     steps.iter().position(|step| is_label(step, name))
 }
 
-/// The same; without one, the steps' end.
+/// Where the first label of this name stands; without one, the steps' end.
 pub(crate) fn place_of(steps: &[Step], name: &str) -> usize
     ensures { result ≡ place_of steps.now name.now }
 {
@@ -333,8 +303,6 @@ fn past_label(steps: &[Step], place: usize) -> usize
         Step::Do(..)
         | Step::Labelled(..)
         | Step::Store(..)
-        | Step::Jump(_)
-        | Step::Unless(..)
         | Step::JumpTo(_)
         | Step::IfTo(..)
         | Step::UnlessTo(..)
@@ -367,7 +335,7 @@ fn local_digits(locals: &[Keyed<u64>]) -> u64
     })
 }
 
-/// The same of values that are made once a run.
+/// A 1, and behind it the key and the number of each value that is made once a run.
 fn lazy_digits(lazies: &[Lazy<u64>]) -> u64
     ensures { result ≡ lazy_digits lazies.now }
 {
@@ -441,12 +409,7 @@ fn keep_of(step: &Step) -> usize
 {
     match step {
         Step::Do(keep, _) | Step::Labelled(keep, ..) | Step::SpawnAt(keep, _) => *keep,
-        Step::Store(..)
-        | Step::Jump(_)
-        | Step::Unless(..)
-        | Step::Label(_)
-        | Step::JumpTo(_)
-        | Step::IfTo(..)
-        | Step::UnlessTo(..) => 0,
+        Step::Store(..) | Step::Label(_) | Step::JumpTo(_) | Step::IfTo(..) | Step::UnlessTo(..) =>
+            0,
     }
 }

@@ -27,14 +27,10 @@ pub enum Step {
     /// others share or have what was asked for or there is none yet, and 2 where there will be none. An exchange that fails
     /// clears its own register: it gets 0.
     Do(usize, Request<Value, usize>),
-    /// The same, and how the script's author calls it.
+    /// `Do`, and how the script's author calls the operation.
     Labelled(usize, Request<Value, usize>, Label),
     /// Stores the value into the atomic in the slot. (An operation of an atomic holds its number, and no value.)
     Store(usize, Value, Ordering),
-    /// Goes on at this step, which is no jump itself.
-    Jump(usize),
-    /// Goes on at this step if the register holds another number, and else at the next one. Neither is a jump itself.
-    Unless(usize, u64, usize),
     /// The name of the place behind it, where a step stands that is no jump and no name of a place. It makes no operation.
     Label(&'static str),
     /// Goes on behind the first label of this name, and without one at the script's end.

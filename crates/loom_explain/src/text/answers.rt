@@ -7,13 +7,13 @@ use loom_objects::operation::{AtomicOp, CellOp, Reply};
 use loom_views::rt::num::Numbers;
 use std::sync::atomic::Ordering;
 
-/// What is told of a reply.
+/// What is shown of a reply.
 #[derive(Clone, Copy)]
 pub(crate) enum Answer {
     Nothing,
-    /// It is told in any case.
+    /// It is shown in any case.
     Words(&'static str),
-    /// It is told where the thread waited for it.
+    /// It is shown where the thread waited for it.
     Late(&'static str),
     Value(Value),
     /// The number of the store that was made.
@@ -93,17 +93,12 @@ static MUTATES: Touch = Touch {
 };
 
 impl Answer {
-    /// Whether it is told: where the thread waited for it, and where it didn't.
-    pub(crate) fn is_told(self, has_waited: bool) -> bool {
+    /// Whether it is shown, by whether the thread waited for it.
+    pub(crate) fn is_shown(self, has_waited: bool) -> bool {
         match self {
             Answer::Nothing => false,
             Answer::Late(_) => has_waited,
-            Answer::Words(_)
-            | Answer::Value(_)
-            | Answer::Stored(_)
-            | Answer::Read(..)
-            | Answer::Waker(_)
-            | Answer::Thread(_) => true,
+            _ => true,
         }
     }
 }
@@ -138,8 +133,8 @@ impl Page {
 }
 
 /// What a reply says, of an operation that reads no store.
-pub(crate) fn answer_of(told: &Reply<()>) -> Answer {
-    match told {
+pub(crate) fn answer_of(reply: &Reply<()>) -> Answer {
+    match reply {
         Reply::Data(_) => Answer::Late("has the value"),
         Reply::Locked(..) | Reply::ReadLocked(..) | Reply::WriteLocked(..) => {
             Answer::Late("holds it")
@@ -161,14 +156,14 @@ pub(crate) fn answer_of(told: &Reply<()>) -> Answer {
         Reply::AccessError => Answer::Words("was given back"),
         Reply::Stood(..) => Answer::Words("another value stands"),
         Reply::Thread(thread, _) => Answer::Thread(*thread),
-        // what was made stands with the operation
+        // what was made is shown with the operation
         _ => Answer::Nothing,
     }
 }
 
 /// What came of a read, by its reply.
-pub(crate) fn outcome_of(told: &Reply<()>, numbers: Numbers) -> Outcome {
-    match told {
+pub(crate) fn outcome_of(reply: &Reply<()>, numbers: Numbers) -> Outcome {
+    match reply {
         Reply::Value(bits) => Outcome::Value(Value {
             numbers,
             bits: *bits,
@@ -209,25 +204,21 @@ pub(crate) fn order_of(op: AtomicOp, has_failed: bool) -> Ordering {
         | AtomicOp::CompareAndSwap(_, _, _, order) => order,
         AtomicOp::CompareExchange(_, exchange) if has_failed => exchange.failure,
         AtomicOp::CompareExchange(_, exchange) => exchange.success,
-        AtomicOp::New(..)
-        | AtomicOp::UnsyncLoad(_)
-        | AtomicOp::IntoInner(_)
-        | AtomicOp::WithMut(_)
-        | AtomicOp::WithMutEnd(..) => Ordering::Relaxed,
+        _ => Ordering::Relaxed,
     }
 }
 
 /// Whether the operation is an exchange that met another value, by its reply.
-pub(crate) fn has_failed(op: AtomicOp, told: &Reply<()>, numbers: Numbers) -> bool {
+pub(crate) fn has_failed(op: AtomicOp, reply: &Reply<()>, numbers: Numbers) -> bool {
     if let AtomicOp::CompareAndSwap(_, expected, ..) = op {
-        return is_another(told, numbers.fit(expected));
+        return is_another(reply, numbers.fit(expected));
     }
-    matches!(told, Reply::Exchanged(Err(_)))
+    matches!(reply, Reply::Exchanged(Err(_)))
 }
 
 /// Whether the reply is another number than the one that was expected.
-fn is_another(told: &Reply<()>, expected: u64) -> bool {
-    match told {
+fn is_another(reply: &Reply<()>, expected: u64) -> bool {
+    match reply {
         Reply::Value(bits) => *bits != expected,
         _ => false,
     }
@@ -240,17 +231,13 @@ pub(crate) fn cell_touch(op: &CellOp<()>) -> Option<(usize, Manner)> {
         CellOp::Write(cell) | CellOp::Replace(cell, _) | CellOp::Swap(cell, _) => {
             Some((*cell, Manner::CellWrite))
         }
-        CellOp::New(_)
-        | CellOp::ReadEnd(_)
-        | CellOp::Deref(_)
-        | CellOp::WriteEnd(..)
-        | CellOp::IntoInner(_) => None,
+        _ => None,
     }
 }
 
 /// Which object the thread has by this reply.
-pub(crate) fn taken_by(told: &Reply<()>) -> Option<usize> {
-    match told {
+pub(crate) fn taken_by(reply: &Reply<()>) -> Option<usize> {
+    match reply {
         Reply::Locked(number, _)
         | Reply::Waited(number, _, _)
         | Reply::ReadLocked(number, _)
@@ -262,17 +249,11 @@ pub(crate) fn taken_by(told: &Reply<()>) -> Option<usize> {
 }
 
 /// Whether what the operation was to do is done, by its reply.
-pub(crate) fn is_done(deed: Deed, told: &Reply<()>) -> bool {
+pub(crate) fn is_done(deed: Deed, reply: &Reply<()>) -> bool {
     match deed {
-        Deed::Takes => !matches!(told, Reply::Shared),
-        Deed::Sends => matches!(told, Reply::Done),
-        Deed::Receives => matches!(told, Reply::Data(_)),
-        Deed::Nothing
-        | Deed::Makes
-        | Deed::Gives
-        | Deed::Clones
-        | Deed::Drops
-        | Deed::Empties
-        | Deed::TakesApart => true,
+        Deed::Takes => !matches!(reply, Reply::Shared),
+        Deed::Sends => matches!(reply, Reply::Done),
+        Deed::Receives => matches!(reply, Reply::Data(_)),
+        _ => true,
     }
 }

@@ -24,7 +24,7 @@ impl Call {
     pub(crate) fn object(self) -> Option<usize> {
         match self.form.on {
             On::Object => Some(self.number),
-            On::Nothing | On::Local | On::Lazy | On::Thread => None,
+            _ => None,
         }
     }
 
@@ -55,7 +55,7 @@ impl Page {
         self.arguments(request, world);
     }
 
-    /// What stands in a call's parentheses, and the name of a thread that it makes.
+    /// The arguments of a call, in parentheses, and the name of a thread that it makes.
     fn arguments(&mut self, request: &Request<(), ()>, world: &World) {
         if let Request::Atomic(op) = request {
             self.values(*op, world.numbers_of(*op));
@@ -115,7 +115,7 @@ impl Page {
     }
 }
 
-/// The object that stands in the operation's parentheses, if one does.
+/// The object that is the operation's argument, if it has one.
 pub(crate) fn argument_of(request: &Request<(), ()>) -> Option<usize> {
     if let Request::Cell(CellOp::Swap(_, other)) = request {
         return Some(*other);
@@ -149,7 +149,7 @@ pub(crate) fn call_of(request: &Request<(), ()>, world: &World) -> Call {
         Request::Notify(op) => notify_form(*op),
         Request::Channel(op) => channel_form(op),
         Request::Waker(op) => waker_form(*op),
-        Request::AtomicWaker(op) => place_form(*op),
+        Request::AtomicWaker(op) => atomic_waker_form(*op),
         Request::Local(op) => local_form(op),
         Request::Lazy(op) => lazy_form(op),
         Request::Explore(op) => (0, explore_form(*op)),
@@ -327,14 +327,14 @@ fn waker_form(op: WakerOp) -> (usize, &'static Form) {
     }
 }
 
-fn place_form(op: AtomicWakerOp) -> (usize, &'static Form) {
+fn atomic_waker_form(op: AtomicWakerOp) -> (usize, &'static Form) {
     match op {
-        AtomicWakerOp::New => (0, &forms::PLACE_NEW),
-        AtomicWakerOp::Register(place, _) => (place, &forms::PLACE_REGISTER),
-        AtomicWakerOp::RegisterByRef(place, _) => (place, &forms::PLACE_REGISTER_BY_REF),
-        AtomicWakerOp::Wake(place) => (place, &forms::PLACE_WAKE),
-        AtomicWakerOp::TakeWaker(place) => (place, &forms::PLACE_TAKE_WAKER),
-        AtomicWakerOp::Drop(place) => (place, &forms::PLACE_DROP),
+        AtomicWakerOp::New => (0, &forms::ATOMIC_WAKER_NEW),
+        AtomicWakerOp::Register(place, _) => (place, &forms::ATOMIC_WAKER_REGISTER),
+        AtomicWakerOp::RegisterByRef(place, _) => (place, &forms::ATOMIC_WAKER_REGISTER_BY_REF),
+        AtomicWakerOp::Wake(place) => (place, &forms::ATOMIC_WAKER_WAKE),
+        AtomicWakerOp::TakeWaker(place) => (place, &forms::ATOMIC_WAKER_TAKE_WAKER),
+        AtomicWakerOp::Drop(place) => (place, &forms::ATOMIC_WAKER_DROP),
     }
 }
 

@@ -66,7 +66,7 @@ pub(crate) enum On {
     Object,
     Local,
     Lazy,
-    /// A thread, which stands after the words.
+    /// A thread, whose number follows the words.
     Thread,
 }
 
@@ -377,12 +377,12 @@ pub(crate) static CONDVAR_NOTIFY_ALL: Form = on!(
     CONDVAR_THERE
 );
 
-pub(crate) static NOTIFY_NEW: Form = makes!(Kind::Notifier, "Notify::new", OWN);
+pub(crate) static NOTIFY_NEW: Form = makes!(Kind::Notify, "Notify::new", OWN);
 
-pub(crate) static NOTIFY_NOTIFY: Form = on!(Kind::Notifier, ".notify()", Nothing, OWN);
+pub(crate) static NOTIFY_NOTIFY: Form = on!(Kind::Notify, ".notify()", Nothing, OWN);
 
 pub(crate) static NOTIFY_WAIT: Form =
-    on!(Kind::Notifier, ".wait()", Nothing, OWN, waits "waits for a notification of");
+    on!(Kind::Notify, ".wait()", Nothing, OWN, waits "waits for a notification of");
 
 pub(crate) static CHANNEL_NEW: Form = makes!(Kind::Channel, "channel", SENDER);
 
@@ -425,24 +425,29 @@ pub(crate) static WAKER_WAKE_BY_REF: Form = on!(
 
 pub(crate) static WAKER_DROP: Form = on!(Kind::Wakers, ".waker.drop()", Drops, A_WAKER);
 
-pub(crate) static PLACE_NEW: Form = makes!(Kind::Place, "AtomicWaker::new", A_WAKER);
+pub(crate) static ATOMIC_WAKER_NEW: Form = makes!(Kind::AtomicWaker, "AtomicWaker::new", A_WAKER);
 
-pub(crate) static PLACE_REGISTER: Form = on!(Kind::Place, ".register", Nothing, A_WAKER);
+pub(crate) static ATOMIC_WAKER_REGISTER: Form = on!(
+    Kind::AtomicWaker,
+    ".register",
+    Nothing,
+    A_WAKER
+);
 
-pub(crate) static PLACE_REGISTER_BY_REF: Form = on!(
-    Kind::Place,
+pub(crate) static ATOMIC_WAKER_REGISTER_BY_REF: Form = on!(
+    Kind::AtomicWaker,
     ".register_by_ref",
     Nothing,
     A_WAKER
 );
 
-pub(crate) static PLACE_WAKE: Form =
-    on!(Kind::Place, ".wake()", Nothing, A_WAKER, waits "waits for");
+pub(crate) static ATOMIC_WAKER_WAKE: Form =
+    on!(Kind::AtomicWaker, ".wake()", Nothing, A_WAKER, waits "waits for");
 
-pub(crate) static PLACE_TAKE_WAKER: Form =
-    on!(Kind::Place, ".take_waker()", Nothing, A_WAKER, waits "waits for");
+pub(crate) static ATOMIC_WAKER_TAKE_WAKER: Form =
+    on!(Kind::AtomicWaker, ".take_waker()", Nothing, A_WAKER, waits "waits for");
 
-pub(crate) static PLACE_DROP: Form = on!(Kind::Place, ".drop()", Nothing, A_WAKER);
+pub(crate) static ATOMIC_WAKER_DROP: Form = on!(Kind::AtomicWaker, ".drop()", Nothing, A_WAKER);
 
 pub(crate) static LOCAL_WITH: Form = other!(Local, ".with()", OF_ITS_KEY);
 

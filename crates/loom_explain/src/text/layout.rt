@@ -5,7 +5,7 @@ use crate::text::reasons::Scene;
 use crate::text::world::World;
 use std::alloc::Global;
 
-/// How many lines a turn may have that is told once where it is repeated.
+/// How many lines a turn may have that is shown once where it is repeated.
 const LONGEST_TURN: usize = 12;
 
 /// Where the columns begin.
@@ -53,7 +53,7 @@ impl Frame {
     }
 }
 
-/// The table of the lines, in which turns that are repeated are told once.
+/// The lines in columns. A turn that is repeated is shown once.
 pub(crate) fn put_rows(alloc: Global, out: &mut Page, scene: &Scene<'_>, lines: &[Line]) {
     let events = scene.explanation.events.len();
     let frame = Frame::new(events, scene.world.threads.len());
@@ -93,10 +93,10 @@ fn put_turns(out: &mut Page, row: &mut Page, frame: Frame, scene: &Scene<'_>, li
         if place >= next {
             let (turn, times) = turn_at(scene, lines, place);
             next = place.saturating_add(turn);
-            let told = lines.get(place..next).unwrap_or(&[]);
-            put_turn(out, row, frame, scene, told);
+            let shown = lines.get(place..next).unwrap_or(&[]);
+            put_turn(out, row, frame, scene, shown);
             if times > 1 {
-                put_same(row, frame, told, times);
+                put_same(row, frame, shown, times);
                 out.page(row);
                 row.clear();
                 next = next.saturating_add(turn.saturating_mul(times));
@@ -123,7 +123,7 @@ fn turn_at(scene: &Scene<'_>, lines: &[Line], place: usize) -> (usize, usize) {
     (1, 0)
 }
 
-/// How many lines from this place on are like the one that stands so many lines after it.
+/// How many lines from this place on are like the line so many lines after it.
 fn same_from(scene: &Scene<'_>, lines: &[Line], place: usize, turn: usize) -> usize {
     let mut count = 0usize;
     for here in place..lines.len() {
@@ -206,7 +206,7 @@ fn digits_of(event: usize) -> usize {
     }
 }
 
-/// What stands in front of a line's text.
+/// What is before a line's text.
 fn start_row(row: &mut Page, frame: Frame, scene: &Scene<'_>, line: &Line) {
     let mark = frame.mark(line.thread);
     if let Some(event) = line.event {

@@ -18,7 +18,7 @@ pub(crate) struct Line {
     pub(crate) event: Option<usize>,
     pub(crate) thread: usize,
     pub(crate) text: Page,
-    /// What stands after the text where there is room.
+    /// What follows the text where there is room.
     pub(crate) tail: Page,
     /// A choice, and of what, or nothing.
     pub(crate) choice: Page,
@@ -52,7 +52,7 @@ impl Lines {
         }
     }
 
-    /// A line on which nothing stands yet.
+    /// A line without text.
     fn line(&self, event: Option<usize>, thread: usize) -> Line {
         Line {
             event,
@@ -201,13 +201,13 @@ fn tell_reply(
         let answer = world.settle(pending.at, pending.op, &event.told, slot);
         if let Answer::Read(store, _) = answer {
             tell_read(explanation, place, &pending, store, answer, lines);
-        } else if answer.is_told(pending.before.is_some()) {
+        } else if answer.is_shown(pending.before.is_some()) {
             tell_answer(&pending, answer, lines);
         }
     }
 }
 
-/// What stands in front of what came of an operation: its event, if its line isn't the one above.
+/// The event of an operation before what came of it, if its line isn't the one above.
 fn put_before(page: &mut Page, before: Option<usize>, sign: &str) {
     page.words("  ");
     if let Some(event) = before {
@@ -396,7 +396,7 @@ fn tell_stage(
     }
 }
 
-/// What a stage of the operation comes to.
+/// What the thread does by a stage of its operation.
 fn stage_words(op: &Op<(), ()>, passes: &'static str, stage: u8) -> &'static str {
     if !matches!(op.request, Request::Condvar(..)) {
         passes

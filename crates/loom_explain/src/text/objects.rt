@@ -15,7 +15,7 @@ pub(crate) enum Kind {
     Mutex,
     RwLock,
     Condvar,
-    Notifier,
+    Notify,
     /// By which a thread is joined.
     Joining,
     Channel,
@@ -23,8 +23,7 @@ pub(crate) enum Kind {
     Waking,
     /// The count of a future's wakers.
     Wakers,
-    /// A place for a waker.
-    Place,
+    AtomicWaker,
 }
 
 /// An object of the run. Its number is its place in the order in which objects were made.
@@ -122,12 +121,12 @@ impl Kind {
             Kind::Mutex => "mutex",
             Kind::RwLock => "RwLock",
             Kind::Condvar => "condvar",
-            Kind::Notifier => "notifier",
+            Kind::Notify => "notifier",
             Kind::Joining => "a thread's notifier",
             Kind::Channel => "channel",
             Kind::Waking => "a future's notifier",
             Kind::Wakers => "future",
-            Kind::Place => "place for a waker",
+            Kind::AtomicWaker => "place for a waker",
         }
     }
 
@@ -140,15 +139,7 @@ impl Kind {
     pub(crate) fn first_count(self) -> usize {
         match self {
             Kind::Atomic(_) | Kind::Arc | Kind::Track | Kind::Wakers => 1,
-            Kind::Cell
-            | Kind::Mutex
-            | Kind::RwLock
-            | Kind::Condvar
-            | Kind::Notifier
-            | Kind::Joining
-            | Kind::Channel
-            | Kind::Waking
-            | Kind::Place => 0,
+            _ => 0,
         }
     }
 

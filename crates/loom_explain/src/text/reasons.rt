@@ -116,7 +116,7 @@ impl<'a> Scene<'a> {
         last
     }
 
-    /// What stands after the operation by which the run failed.
+    /// What follows the operation by which the run failed.
     pub(crate) fn put_end(&self, row: &mut Page) {
         if let Some(kind) = self.kind {
             row.words(": ");
@@ -190,38 +190,20 @@ fn chosen_last(explanation: &Explanation, from: usize) -> Option<usize> {
             last = *thread;
         }
     }
-    match last {
-        Some(thread) => Some(usize::from(thread)),
-        None => None,
-    }
+    last.map(|thread| usize::from(thread))
 }
 
 /// Whether a run fails so where an operation takes effect.
 fn is_of_the_chosen(kind: FailureKind) -> bool {
-    match kind {
+    matches!(
+        kind,
         FailureKind::Race
-        | FailureKind::OpenAccess
-        | FailureKind::TooManyVersions
-        | FailureKind::TooManyStores
-        | FailureKind::OrdersEqual
-        | FailureKind::Misuse => true,
-        FailureKind::Assertion
-        | FailureKind::Deadlock
-        | FailureKind::LeakArc
-        | FailureKind::LeakTrack
-        | FailureKind::LeakMessages
-        | FailureKind::TooManyThreads
-        | FailureKind::TooManyBranches
-        | FailureKind::TooManySteps
-        | FailureKind::Unreachable
-        | FailureKind::RelaxedFence
-        | FailureKind::LazyShutdown
-        | FailureKind::LocalGone
-        | FailureKind::ExploreSwitch
-        | FailureKind::NotDeterministic
-        | FailureKind::SecondWaiter
-        | FailureKind::KeyTaken => false,
-    }
+            | FailureKind::OpenAccess
+            | FailureKind::TooManyVersions
+            | FailureKind::TooManyStores
+            | FailureKind::OrdersEqual
+            | FailureKind::Misuse
+    )
 }
 
 /// Whether a run fails so where it is over, and not by an operation.

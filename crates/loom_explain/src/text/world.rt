@@ -102,12 +102,9 @@ impl World {
         last
     }
 
-    /// The same, of the object that the call is on.
+    /// The store in a slot of the atomic that the call is on.
     pub(crate) fn store_of(&self, call: Call, slot: u8) -> Option<Store> {
-        match call.object() {
-            Some(atomic) => self.store_in(atomic, slot),
-            None => None,
-        }
+        self.store_in(call.object()?, slot)
     }
 
     /// The thread has this operation pending from now on, on a line; what it makes is made.
@@ -128,16 +125,7 @@ impl World {
             Kind::Wakers => self.make_object(at, Kind::Waking, None),
             Kind::Joining => self.make_thread(spawned_name(&op.request)),
             Kind::Atomic(_) => self.make_store(at, number, 0, None),
-            Kind::Cell
-            | Kind::Arc
-            | Kind::Track
-            | Kind::Mutex
-            | Kind::RwLock
-            | Kind::Condvar
-            | Kind::Notifier
-            | Kind::Channel
-            | Kind::Waking
-            | Kind::Place => {}
+            _ => {}
         }
         self.make_object(at, kind, op.label);
     }
@@ -212,19 +200,19 @@ impl World {
         &mut self,
         at: At,
         op: &Op<(), ()>,
-        told: &Reply<()>,
+        reply: &Reply<()>,
         slot: Option<u8>,
     ) -> Answer {
         let call = call_of(&op.request, self);
-        self.hold(at, call, told);
-        if is_done(call.form.deed, told) {
+        self.hold(at, call, reply);
+        if is_done(call.form.deed, reply) {
             self.count(at, call.number, call.form.deed);
         }
         if let Some(member) = self.threads.get_mut(at.thread) {
             member.pending = 0;
         }
         if let Request::Atomic(op) = &op.request {
-            return self.settle_atomic(at, *op, told, slot);
+            return self.settle_atomic(at, *op, reply, slot);
         }
         if let Request::Cell(op) = &op.request {
             self.settle_cell(at, op);
@@ -232,7 +220,7 @@ impl World {
         if let Request::AtomicWaker(AtomicWakerOp::RegisterByRef(_, wakers)) = &op.request {
             self.count(at, *wakers, Deed::Clones);
         }
-        answer_of(told)
+        answer_of(reply)
     }
 
     fn settle_cell(&mut self, at: At, op: &CellOp<()>) {
@@ -248,11 +236,11 @@ impl World {
         &mut self,
         at: At,
         op: AtomicOp,
-        told: &Reply<()>,
+        reply: &Reply<()>,
         slot: Option<u8>,
     ) -> Answer {
         let numbers = self.numbers_of(op);
-        let has_failed = has_failed(op, told, numbers);
+        let has_failed = has_failed(op, reply, numbers);
         let Some(touch) = touch_of(op, has_failed) else {
             return Answer::Nothing;
         };
@@ -270,9 +258,9 @@ impl World {
             None
         };
         match (read, number) {
-            (Some(store), _) => Answer::Read(store, outcome_of(told, numbers)),
+            (Some(store), _) => Answer::Read(store, outcome_of(reply, numbers)),
             (None, Some(number)) => Answer::Stored(number),
-            (None, None) => answer_of(told),
+            (None, None) => answer_of(reply),
         }
     }
 
@@ -307,12 +295,12 @@ impl World {
         Some(number)
     }
 
-    fn hold(&mut self, at: At, call: Call, told: &Reply<()>) {
-        if let Some(number) = taken_by(told) {
+    fn hold(&mut self, at: At, call: Call, reply: &Reply<()>) {
+        if let Some(number) = taken_by(reply) {
             self.take(at, number);
         } else if let Deed::Gives = call.form.deed {
             self.give(at.thread, call.number);
-        } else if matches!(call.form.deed, Deed::Takes) && is_done(call.form.deed, told) {
+        } else if matches!(call.form.deed, Deed::Takes) && is_done(call.form.deed, reply) {
             self.take(at, call.number);
         }
     }

@@ -41,35 +41,12 @@ module _ {D S : Type 0} where
 
   abbrev pub started_thread : ThreadOp D S → Option S
   started_thread (Spawn body name) = Some body
-  started_thread (Join thread notifier) = None
-  started_thread Current = None
-  started_thread Park = None
-  started_thread (Unpark thread) = None
-  started_thread Yield = None
-  started_thread (Finish value) = None
-  started_thread Exit = None
-  started_thread End = None
+  started_thread _ = None
 
   -- what a spawn starts
   abbrev pub started_request : Request D S → Option S
-  started_request (Atomic op) = None
-  started_request (Fence order) = None
-  started_request (Cell op) = None
-  started_request (Arc op) = None
-  started_request (Track op) = None
-  started_request (Mutex op) = None
-  started_request (RwLock op) = None
-  started_request (Condvar op) = None
-  started_request (Notify op) = None
-  started_request (Channel op) = None
-  started_request (Waker op) = None
-  started_request (AtomicWaker op) = None
-  started_request (Local op) = None
-  started_request (Lazy op) = None
-  started_request (Explore op) = None
   started_request (Thread op) = started_thread op
-  started_request Fail = None
-  started_request Unreachable = None
+  started_request _ = None
 
   -- what the machine is asked for: the operation without its label and what it starts
   abbrev pub plain : Op D S → Request D ⊤

@@ -62,7 +62,4 @@ module _ {D : Type 0} where
   abbrev pub needs_memory : TrackOp D → Bool
   needs_memory (New value) = true
   needs_memory (GetRef n) = true
-  needs_memory (GetMut n) = false
-  needs_memory (Put n value) = false
-  needs_memory (IntoInner n) = false
-  needs_memory (Drop n) = false
+  needs_memory _ = false

@@ -157,9 +157,4 @@ module _ {D : Type 0} where
   abbrev pub needs_memory : ArcOp D → Bool
   needs_memory (New value) = true
   needs_memory (Get n) = true
-  needs_memory (Clone n) = false
-  needs_memory (Drop n) = false
-  needs_memory (GetMut n) = false
-  needs_memory (Put n value) = false
-  needs_memory (TryUnwrap n) = false
-  needs_memory (StrongCount n) = false
+  needs_memory _ = false

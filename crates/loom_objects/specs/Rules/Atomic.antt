@@ -190,12 +190,7 @@ module _ {D : Type 0} where
   reads (Update n change order) w slot = updates n change order slot w
   reads (CompareExchange n exchange) w slot = exchanges n exchange slot w >>= tells_exchanged
   reads (CompareAndSwap n expected new order) w slot = exchanges n (swap_of expected new order) slot w >>= tells_read
-  reads (New numbers value) w slot = Err Misuse
-  reads (Store n value order) w slot = Err Misuse
-  reads (UnsyncLoad n) w slot = Err Misuse
-  reads (IntoInner n) w slot = Err Misuse
-  reads (WithMut n) w slot = Err Misuse
-  reads (WithMutEnd n value) w slot = Err Misuse
+  reads _ w slot = Err Misuse
 
   -- an access takes effect, one that reads up to the choice of the store that it reads
   abbrev pub accesses : AtomicOp → World D → Result (Resumed D × World D) FailureKind
@@ -204,21 +199,9 @@ module _ {D : Type 0} where
   accesses (Update n change order) w = opens n reader.Update (Update n change order) w
   accesses (CompareExchange n exchange) w = opens n reader.Update (CompareExchange n exchange) w
   accesses (CompareAndSwap n expected new order) w = opens n reader.Update (CompareAndSwap n expected new order) w
-  accesses (New numbers value) w = Err Misuse
-  accesses (UnsyncLoad n) w = Err Misuse
-  accesses (IntoInner n) w = Err Misuse
-  accesses (WithMut n) w = Err Misuse
-  accesses (WithMutEnd n value) w = Err Misuse
+  accesses _ w = Err Misuse
 
 -- memory may be refused where an atomic is made
 abbrev pub needs_memory : AtomicOp → Bool
 needs_memory (New numbers value) = true
-needs_memory (Load n order) = false
-needs_memory (Store n value order) = false
-needs_memory (Update n change order) = false
-needs_memory (CompareExchange n exchange) = false
-needs_memory (CompareAndSwap n expected new order) = false
-needs_memory (UnsyncLoad n) = false
-needs_memory (IntoInner n) = false
-needs_memory (WithMut n) = false
-needs_memory (WithMutEnd n value) = false
+needs_memory _ = false

@@ -210,9 +210,4 @@ module _ {D : Type 0} where
   needs_memory (Read n) = true
   needs_memory (Deref n) = true
   needs_memory (Get n) = true
-  needs_memory (ReadEnd n) = false
-  needs_memory (Write n) = false
-  needs_memory (WriteEnd n value) = false
-  needs_memory (IntoInner n) = false
-  needs_memory (Replace n new) = false
-  needs_memory (Swap n m) = false
+  needs_memory _ = false

@@ -105,7 +105,4 @@ module _ {D : Type 0} where
   -- memory may be refused where a condition variable is made
   abbrev pub needs_memory : CondvarOp D → Bool
   needs_memory New = true
-  needs_memory (Wait n m value) = false
-  needs_memory (WaitTimeout n m value) = false
-  needs_memory (NotifyOne n) = false
-  needs_memory (NotifyAll n) = false
+  needs_memory _ = false

@@ -5,7 +5,7 @@ use Rattle.loom_views.specs.declared.rt.failure.FailureKind.{FailureKind}
 use Rattle.loom_objects.specs.declared.operation.Turn.{Turn}
 use Rattle.loom_objects.specs.declared.operation.Turn.TheVariants.{Ended as TurnEnded}
 use Rattle.loom_objects.specs.declared.rt.thread.State.{State}
-use Rattle.loom_objects.specs.declared.rt.thread.State.TheVariants.{Runnable, Blocked, Parked, Sleeping, Yielding, Ended}
+use Rattle.loom_objects.specs.declared.rt.thread.State.TheVariants.{Ended}
 use Rattle.loom_objects.specs.declared.rt.thread.Thread.{Thread}
 use Rattle.loom_objects.specs.Rules.Leaks.{check_leak, first_leak}
 use Rattle.loom_objects.specs.Rules.Moves.{takes_result}
@@ -13,12 +13,8 @@ use Rattle.loom_objects.specs.Rules.Rule.{◌>>=◌}
 use Rattle.loom_objects.specs.World.{World}
 
 abbrev pub is_ended : State → Bool
-is_ended Runnable = false
-is_ended Blocked = false
-is_ended Parked = false
-is_ended Sleeping = false
-is_ended Yielding = false
 is_ended Ended = true
+is_ended _ = false
 
 module _ {D : Type 0} where
   abbrev pub has_ended : Thread D → Bool

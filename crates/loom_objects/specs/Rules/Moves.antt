@@ -22,10 +22,10 @@ use Rattle.loom_objects.specs.declared.rt.thread.Thread.{Thread}
 use Rattle.loom_objects.specs.declared.rt.thread.State.{State}
 use Rattle.loom_objects.specs.declared.rt.thread.State.TheVariants.{Runnable, Blocked, Parked, Sleeping, Yielding, Ended}
 use Rattle.loom_objects.specs.declared.rt.thread.Phase.{Phase}
-use Rattle.loom_objects.specs.declared.rt.thread.Claim.TheVariants.{Read, TryRead, Write, TryWrite}
+use Rattle.loom_objects.specs.declared.rt.thread.Claim.TheVariants.{Write, TryWrite}
 use Rattle.loom_objects.specs.declared.rt.thread.Task.{Task}
 use Rattle.loom_objects.specs.declared.rt.thread.Task.TheVariants as task
-use Rattle.loom_objects.specs.Scene.Lookup.{atomic_at, mutex_at, rwlock_at, condvar_at, notifier_at, cell_at, arc_at, track_at, channel_at, wakers_at, place_at}
+use Rattle.loom_objects.specs.Scene.Lookup.{atomic_at, mutex_at, rwlock_at, condvar_at, notify_at, cell_at, arc_at, track_at, channel_at, wakers_at, atomic_waker_at}
 use Rattle.loom_objects.specs.Rules.Uses.{use_of}
 use Rattle.loom_objects.specs.Rules.Rule.{◌>>=◌, check, found}
 use Rattle.loom_objects.specs.World.{World}
@@ -37,9 +37,9 @@ blocked_if true state = Blocked
 blocked_if false state = state
 
 -- the first thread, if there is one, takes in the view of the other
-abbrev pub told_points : Option ℕ → ℕ → Points → Points
-told_points None active p = p
-told_points (Some t) active p = points_after_join p t active
+abbrev pub joined_points : Option ℕ → ℕ → Points → Points
+joined_points None active p = p
+joined_points (Some t) active p = points_after_join p t active
 
 -- ---- a list of threads
 
@@ -110,62 +110,15 @@ module _ {D : Type 0} where
 
   -- the read-write lock that it is about to take for writing
   abbrev pub written : Task D → Option ℕ
-  written task.Start = None
-  written task.Body = None
-  written (task.Access access) = None
-  written task.Continue = None
-  written (task.Lock locking n) = None
-  written (task.TryLock n) = None
-  written (task.Claim Read n) = None
-  written (task.Claim TryRead n) = None
   written (task.Claim Write n) = Some n
   written (task.Claim TryWrite n) = Some n
-  written (task.Wait locking n m value) = None
-  written (task.Relock locking m) = None
-  written (task.Wake waking n) = None
-  written (task.Notify n) = None
-  written (task.Await n) = None
-  written (task.Rouse n) = None
-  written (task.Count counting n) = None
-  written (task.TryUnwrap n) = None
-  written (task.Join t n) = None
-  written (task.Finish n value) = None
-  written (task.Send n sent) = None
-  written (task.Receive receiving n) = None
-  written (task.Drain n taken) = None
-  written (task.WakeBy n c after) = None
-  written (task.CloneWaker c place) = None
-  written (task.DropWaker c after) = None
-  written (task.Register p c) = None
-  written (task.TakeWaker taking p) = None
+  written _ = None
 
   -- the channel that it is about to receive from
   abbrev pub received_from : Task D → Option ℕ
   received_from (task.Receive receiving n) = Some n
   received_from (task.Drain n taken) = Some n
-  received_from task.Start = None
-  received_from task.Body = None
-  received_from (task.Access access) = None
-  received_from task.Continue = None
-  received_from (task.Lock locking n) = None
-  received_from (task.TryLock n) = None
-  received_from (task.Claim claim n) = None
-  received_from (task.Wait locking n m value) = None
-  received_from (task.Relock locking m) = None
-  received_from (task.Wake waking n) = None
-  received_from (task.Notify n) = None
-  received_from (task.Await n) = None
-  received_from (task.Rouse n) = None
-  received_from (task.Count counting n) = None
-  received_from (task.TryUnwrap n) = None
-  received_from (task.Join t n) = None
-  received_from (task.Finish n value) = None
-  received_from (task.Send n sent) = None
-  received_from (task.WakeBy n c after) = None
-  received_from (task.CloneWaker c place) = None
-  received_from (task.DropWaker c after) = None
-  received_from (task.Register p c) = None
-  received_from (task.TakeWaker taking p) = None
+  received_from _ = None
 
   abbrev pub receiving_with : ℕ → State → Thread D → Thread D
   receiving_with n state thread = cond (is_number (received_from thread.task) n) (record thread { state = state }) thread
@@ -210,8 +163,8 @@ module _ {D : Type 0} where
   releases n w = with_points (points_after_release w.points w.active n Release) w
 
   -- the thread of this number, if there is one, takes in the active thread's view
-  abbrev pub tells : Option ℕ → World D → World D
-  tells thread w = with_points (told_points thread w.active w.points) w
+  abbrev pub joins_view : Option ℕ → World D → World D
+  joins_view thread w = with_points (joined_points thread w.active w.points) w
 
   -- the thread whose turn it is
   abbrev pub active_thread : World D → Result (Thread D) FailureKind
@@ -238,8 +191,8 @@ module _ {D : Type 0} where
   abbrev pub a_condvar : ℕ → World D → Result Condvar FailureKind
   a_condvar n w = condvar_at n w.objects
 
-  abbrev pub a_notifier : ℕ → World D → Result Notify FailureKind
-  a_notifier n w = notifier_at n w.objects
+  abbrev pub a_notify : ℕ → World D → Result Notify FailureKind
+  a_notify n w = notify_at n w.objects
 
   abbrev pub a_cell : ℕ → World D → Result (Cell D) FailureKind
   a_cell n w = cell_at n w.objects
@@ -256,8 +209,8 @@ module _ {D : Type 0} where
   abbrev pub a_wakers : ℕ → World D → Result Wakers FailureKind
   a_wakers n w = wakers_at n w.objects
 
-  abbrev pub a_place : ℕ → World D → Result AtomicWaker FailureKind
-  a_place n w = place_at n w.objects
+  abbrev pub an_atomic_waker : ℕ → World D → Result AtomicWaker FailureKind
+  an_atomic_waker n w = atomic_waker_at n w.objects
 
   -- the object of this number is now so
   abbrev pub with_object : ℕ → Object D → World D → World D
@@ -305,7 +258,7 @@ module _ {D : Type 0} where
 
   -- the thread of this number takes in the active thread's view, and can go on
   abbrev pub rouses : ℕ → World D → World D
-  rouses t w = tells (Some t) (record w { threads = with_thread running t w.threads })
+  rouses t w = joins_view (Some t) (record w { threads = with_thread running t w.threads })
 
   -- these threads, one after the other
   abbrev pub rouses_all : List ℕ → World D → World D

@@ -181,8 +181,4 @@ module _ {D : Type 0} where
   abbrev pub needs_memory : ChannelOp D → Bool
   needs_memory New = true
   needs_memory (Send n value) = true
-  needs_memory (Recv n) = false
-  needs_memory (TryRecv n) = false
-  needs_memory (CloneSender n) = false
-  needs_memory (DropSender n) = false
-  needs_memory (DropReceiver n) = false
+  needs_memory _ = false

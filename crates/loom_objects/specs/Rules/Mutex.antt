@@ -109,9 +109,4 @@ module _ {D : Type 0} where
   -- memory may be refused where a mutex is made
   abbrev pub needs_memory : MutexOp D → Bool
   needs_memory (New value) = true
-  needs_memory (Lock n) = false
-  needs_memory (TryLock n) = false
-  needs_memory (Release n value) = false
-  needs_memory (GetMut n) = false
-  needs_memory (Put n value) = false
-  needs_memory (IntoInner n) = false
+  needs_memory _ = false

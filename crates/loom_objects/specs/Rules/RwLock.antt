@@ -212,12 +212,4 @@ module _ {D : Type 0} where
   -- memory may be refused where a read-write lock is made
   abbrev pub needs_memory : RwLockOp D → Bool
   needs_memory (lock_op.New value) = true
-  needs_memory (lock_op.Read n) = false
-  needs_memory (lock_op.TryRead n) = false
-  needs_memory (lock_op.ReadRelease n) = false
-  needs_memory (lock_op.Write n) = false
-  needs_memory (lock_op.TryWrite n) = false
-  needs_memory (lock_op.WriteRelease n value) = false
-  needs_memory (lock_op.GetMut n) = false
-  needs_memory (lock_op.Put n value) = false
-  needs_memory (lock_op.IntoInner n) = false
+  needs_memory _ = false

@@ -20,13 +20,13 @@ use Rattle.loom_objects.specs.Rules.Mpsc.{channel_begins, drains, receives, send
 use Rattle.loom_objects.specs.Rules.Condvar.{condvar_begins, falls_asleep, relocks, wakes, needs_memory as condvar_needs_memory}
 use Rattle.loom_objects.specs.Rules.Arc.{arc_begins, counts, tries_unwrap, needs_memory as arc_needs_memory}
 use Rattle.loom_objects.specs.Rules.Mutex.{mutex_begins, lock, try_lock, needs_memory as mutex_needs_memory}
-use Rattle.loom_objects.specs.Rules.Notify.{notifier_begins, notifies, awaits, wakes_early, needs_memory as notifier_needs_memory}
+use Rattle.loom_objects.specs.Rules.Notify.{notify_begins, notifies, awaits, wakes_early, needs_memory as notify_needs_memory}
 use Rattle.loom_objects.specs.Rules.RwLock.{rwlock_begins, claims, needs_memory as rwlock_needs_memory}
 use Rattle.loom_objects.specs.Schedule.Offers.{chooses}
 use Rattle.loom_objects.specs.Rules.Thread.{thread_begins, join, child_finish, needs_memory as thread_needs_memory}
 use Rattle.loom_objects.specs.Rules.Alloc.{track_begins, needs_memory as track_needs_memory}
 use Rattle.loom_objects.specs.Rules.Locals.{lazy_begins, lazy_needs_memory, local_begins, local_needs_memory}
-use Rattle.loom_objects.specs.Rules.Waker.{clones_waker, drops_waker, place_begins, place_needs_memory, registers, takes_waker, waker_begins, waker_needs_memory, wakes_by}
+use Rattle.loom_objects.specs.Rules.Waker.{clones_waker, drops_waker, atomic_waker_begins, atomic_waker_needs_memory, registers, takes_waker, waker_begins, waker_needs_memory, wakes_by}
 use Rattle.loom_objects.specs.Rules.Replied.{replied, gone}
 use Rattle.loom_objects.specs.World.{World}
 
@@ -41,10 +41,10 @@ module _ {D : Type 0} where
   op_begins (op.Mutex todo) w = mutex_begins todo w
   op_begins (op.RwLock todo) w = rwlock_begins todo w
   op_begins (op.Condvar todo) w = condvar_begins todo w
-  op_begins (op.Notify todo) w = notifier_begins todo w
+  op_begins (op.Notify todo) w = notify_begins todo w
   op_begins (op.Channel todo) w = channel_begins todo w
   op_begins (op.Waker todo) w = waker_begins todo w
-  op_begins (op.AtomicWaker todo) w = place_begins todo w
+  op_begins (op.AtomicWaker todo) w = atomic_waker_begins todo w
   op_begins (op.Local todo) w = local_begins todo w
   op_begins (op.Lazy todo) w = lazy_begins todo w
   op_begins (op.Explore todo) w = Ok (Explores todo, w)
@@ -61,10 +61,10 @@ module _ {D : Type 0} where
   needs_memory (op.Mutex todo) = mutex_needs_memory todo
   needs_memory (op.RwLock todo) = rwlock_needs_memory todo
   needs_memory (op.Condvar todo) = condvar_needs_memory todo
-  needs_memory (op.Notify todo) = notifier_needs_memory todo
+  needs_memory (op.Notify todo) = notify_needs_memory todo
   needs_memory (op.Channel todo) = channel_needs_memory todo
   needs_memory (op.Waker todo) = waker_needs_memory todo
-  needs_memory (op.AtomicWaker todo) = place_needs_memory todo
+  needs_memory (op.AtomicWaker todo) = atomic_waker_needs_memory todo
   needs_memory (op.Local todo) = local_needs_memory todo
   needs_memory (op.Lazy todo) = lazy_needs_memory todo
   needs_memory (op.Explore todo) = false

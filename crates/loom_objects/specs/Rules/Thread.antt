@@ -19,8 +19,8 @@ use Rattle.loom_objects.specs.Rules.Rule.{◌>>=◌, check}
 use Rattle.loom_objects.specs.Rules.Locals.{is_working}
 use Rattle.loom_objects.specs.World.{World, child_thread}
 use Rattle.loom_objects.specs.declared.operation.Name.{Name}
-use Rattle.loom_objects.specs.Rules.Moves.{a_notifier, active_thread, at_phase, changes_active, having, in_state, rests, takes_result, unparks, with_token, with_points, acquires, is_number, tells, with_new, pends, yields}
-use Rattle.loom_objects.specs.Rules.Notify.{notify, with_notifier}
+use Rattle.loom_objects.specs.Rules.Moves.{a_notify, active_thread, at_phase, changes_active, having, in_state, rests, takes_result, unparks, with_token, with_points, acquires, is_number, joins_view, with_new, pends, yields}
+use Rattle.loom_objects.specs.Rules.Notify.{notify, with_notify}
 use Rattle.loom_objects.specs.declared.rt.notify.Spurious.TheVariants.{Never}
 
 abbrev pub is_finished : Phase → Bool
@@ -59,17 +59,17 @@ module _ {D : Type 0} where
   abbrev pub join_begins : ℕ → ℕ → World D → Result (Entry D × World D) FailureKind
   join_begins t n w = do
     _ ← check (has_own (slice_get w.threads t) n) Misuse
-    notifier ← a_notifier n w
+    notifier ← a_notify n w
     _ ← check (is_none notifier.waiter) Misuse
-    Ok (AtBranch, pends (task.Join t n) (not notifier.notified) (with_notifier n (record notifier { waiter = Some w.active }) w))
+    Ok (AtBranch, pends (task.Join t n) (not notifier.notified) (with_notify n (record notifier { waiter = Some w.active }) w))
 
   -- the active thread acquires, and has the joined thread's result
   abbrev pub join : ℕ → ℕ → World D → Result (Reply D × World D) FailureKind
   join t n w = do
-    notifier ← a_notifier n w
+    notifier ← a_notify n w
     _ ← check notifier.notified Misuse
     (value, taken) ← takes_result t w
-    Ok (reply.Data value, acquires n (with_notifier n (record notifier { notified = false }) taken))
+    Ok (reply.Data value, acquires n (with_notify n (record notifier { notified = false }) taken))
 
   -- main has its result at once, and gives the values back that were made once; another thread comes to a branch point, at which
   -- it is to notify
@@ -128,7 +128,7 @@ module _ {D : Type 0} where
   abbrev pub unpark : ℕ → World D → Result (Entry D × World D) FailureKind
   unpark t w = do
     given ← unparks t w
-    Ok (Answered reply.Done, tells (if_other w.active t) given.1)
+    Ok (Answered reply.Done, joins_view (if_other w.active t) given.1)
 
   -- the thread yields before the branch point that it comes to
   abbrev pub yield_now : World D → Result (Entry D × World D) FailureKind
@@ -150,11 +150,4 @@ module _ {D : Type 0} where
   -- memory may be refused where a thread is made
   abbrev pub needs_memory : ThreadOp D ⊤ → Bool
   needs_memory (Spawn body name) = true
-  needs_memory (Join t n) = false
-  needs_memory Current = false
-  needs_memory Park = false
-  needs_memory (Unpark t) = false
-  needs_memory Yield = false
-  needs_memory (Finish value) = false
-  needs_memory Exit = false
-  needs_memory End = false
+  needs_memory _ = false

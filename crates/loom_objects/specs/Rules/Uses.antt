@@ -16,16 +16,8 @@ use Rattle.loom_objects.specs.World.{World}
 
 -- an access to an atomic changes it, or may, unless it is a load
 abbrev pub atomic_action : AtomicOp → Action
-atomic_action (atomic.New numbers value) = Change
 atomic_action (atomic.Load n order) = Read
-atomic_action (atomic.Store n value order) = Change
-atomic_action (atomic.Update n change order) = Change
-atomic_action (atomic.CompareExchange n exchange) = Change
-atomic_action (atomic.CompareAndSwap n expected new order) = Change
-atomic_action (atomic.UnsyncLoad n) = Change
-atomic_action (atomic.IntoInner n) = Change
-atomic_action (atomic.WithMut n) = Change
-atomic_action (atomic.WithMutEnd n value) = Change
+atomic_action _ = Change
 
 -- to take the value out, or to be the one reference alone, counts as a drop
 abbrev pub counting_action : Counting → Action

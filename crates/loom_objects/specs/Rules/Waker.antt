@@ -29,7 +29,7 @@ use Rattle.loom_objects.specs.declared.rt.thread.Task.TheVariants as task
 use Rattle.loom_objects.specs.Rules.Notify.{notify, wait_begins}
 use Rattle.loom_objects.specs.Rules.Rule.{◌>>=◌, check}
 use Rattle.loom_objects.specs.World.{World}
-use Rattle.loom_objects.specs.Rules.Moves.{a_place, a_wakers, acquires, blocks_pending, pends, releases, wakes_pending, with_new, with_object, yields}
+use Rattle.loom_objects.specs.Rules.Moves.{an_atomic_waker, a_wakers, acquires, blocks_pending, pends, releases, wakes_pending, with_new, with_object, yields}
 
 module _ {D : Type 0} where
   -- the wakers of this number, of which there is one at least
@@ -42,8 +42,8 @@ module _ {D : Type 0} where
   abbrev pub with_wakers : ℕ → Wakers → World D → World D
   with_wakers c wakers w = with_object c (object.Wakers wakers) w
 
-  abbrev pub with_place : ℕ → AtomicWaker → World D → World D
-  with_place p place w = with_object p (object.AtomicWaker place) w
+  abbrev pub with_atomic_waker : ℕ → AtomicWaker → World D → World D
+  with_atomic_waker p place w = with_object p (object.AtomicWaker place) w
 
   -- the operation has passed with this reply
   abbrev pub answered : Reply D → World D → Result (Passed D × World D) FailureKind
@@ -89,24 +89,24 @@ module _ {D : Type 0} where
 
   -- ---- places for wakers
 
-  abbrev pub place_new : World D → Result (Entry D × World D) FailureKind
-  place_new w = Ok (Answered (reply.AtomicWaker (length w.objects)), with_new (object.AtomicWaker (record { holder = None; waker = None })) w)
+  abbrev pub atomic_waker_new : World D → Result (Entry D × World D) FailureKind
+  atomic_waker_new w = Ok (Answered (reply.AtomicWaker (length w.objects)), with_new (object.AtomicWaker (record { holder = None; waker = None })) w)
 
   abbrev pub register_begins : ℕ → ℕ → World D → Result (Entry D × World D) FailureKind
   register_begins p c w = do
-    _ ← a_place p w
+    _ ← an_atomic_waker p w
     waker_pends (task.Register p c) c w
 
   -- a clone of the waker is made first
   abbrev pub register_by_ref_begins : ℕ → ℕ → World D → Result (Entry D × World D) FailureKind
   register_by_ref_begins p c w = do
-    _ ← a_place p w
+    _ ← an_atomic_waker p w
     waker_pends (task.CloneWaker c (Some p)) c w
 
   -- the thread is blocked while another one holds the lock
   abbrev pub take_begins : Taking → ℕ → World D → Result (Entry D × World D) FailureKind
   take_begins by p w = do
-    place ← a_place p w
+    place ← an_atomic_waker p w
     Ok (AtBranch, pends (task.TakeWaker by p) (is_some place.holder) w)
 
   abbrev pub waker_reply : Option ℕ → Reply D
@@ -114,27 +114,27 @@ module _ {D : Type 0} where
   waker_reply (Some c) = reply.Waker c
 
   -- the waker that is left comes back
-  abbrev pub place_drop : ℕ → World D → Result (Entry D × World D) FailureKind
-  place_drop p w = do
-    place ← a_place p w
-    Ok (Answered (waker_reply place.waker), with_place p (record place { waker = None }) w)
+  abbrev pub atomic_waker_drop : ℕ → World D → Result (Entry D × World D) FailureKind
+  atomic_waker_drop p w = do
+    place ← an_atomic_waker p w
+    Ok (Answered (waker_reply place.waker), with_atomic_waker p (record place { waker = None }) w)
 
-  abbrev pub place_begins : AtomicWakerOp → World D → Result (Entry D × World D) FailureKind
-  place_begins place_op.New w = place_new w
-  place_begins (place_op.Register p c) w = register_begins p c w
-  place_begins (place_op.RegisterByRef p c) w = register_by_ref_begins p c w
-  place_begins (place_op.Wake p) w = take_begins taking.Wake p w
-  place_begins (place_op.TakeWaker p) w = take_begins taking.Answer p w
-  place_begins (place_op.Drop p) w = place_drop p w
+  abbrev pub atomic_waker_begins : AtomicWakerOp → World D → Result (Entry D × World D) FailureKind
+  atomic_waker_begins place_op.New w = atomic_waker_new w
+  atomic_waker_begins (place_op.Register p c) w = register_begins p c w
+  atomic_waker_begins (place_op.RegisterByRef p c) w = register_by_ref_begins p c w
+  atomic_waker_begins (place_op.Wake p) w = take_begins taking.Wake p w
+  atomic_waker_begins (place_op.TakeWaker p) w = take_begins taking.Answer p w
+  atomic_waker_begins (place_op.Drop p) w = atomic_waker_drop p w
 
   -- ---- once the thread is chosen
 
   -- the lock is held from now on, and given free
   abbrev pub holds_place : ℕ → AtomicWaker → World D → World D
-  holds_place p place w = blocks_pending p (acquires p (with_place p (record place { holder = Some w.active }) w))
+  holds_place p place w = blocks_pending p (acquires p (with_atomic_waker p (record place { holder = Some w.active }) w))
 
   abbrev pub frees_place : ℕ → AtomicWaker → World D → World D
-  frees_place p place w = wakes_pending p (releases p (with_place p (record place { holder = None }) w))
+  frees_place p place w = wakes_pending p (releases p (with_atomic_waker p (record place { holder = None }) w))
 
   -- a waker wakes: it notifies, and then may be dropped
   abbrev pub after_wake : AfterWake → ℕ → World D → Result (Passed D × World D) FailureKind
@@ -165,7 +165,7 @@ module _ {D : Type 0} where
     yielded ← yields task.Continue w
     Ok (passed.AtBranch, yielded.1)
   after_drop (dropped.Free p) w = do
-    place ← a_place p w
+    place ← an_atomic_waker p w
     answered reply.Done (frees_place p place w)
 
   -- who drops the last one acquires
@@ -191,7 +191,7 @@ module _ {D : Type 0} where
 
   abbrev pub registers : ℕ → ℕ → World D → Result (Passed D × World D) FailureKind
   registers p c w = do
-    place ← a_place p w
+    place ← an_atomic_waker p w
     wakers ← some_wakers c w
     registers_if (is_none place.holder) p c place wakers w
 
@@ -206,25 +206,16 @@ module _ {D : Type 0} where
   -- the lock is taken, the waker is taken out, and the lock is given free
   abbrev pub takes_waker : Taking → ℕ → World D → Result (Passed D × World D) FailureKind
   takes_waker by p w = do
-    place ← a_place p w
+    place ← an_atomic_waker p w
     _ ← check (is_none place.holder) Misuse
     has_taken by place.waker (frees_place p (record place { waker = None }) (holds_place p place w))
 
 -- memory may be refused where a notifier and its count are made
 abbrev pub waker_needs_memory : WakerOp → Bool
 waker_needs_memory waker_op.New = true
-waker_needs_memory (waker_op.Wait c) = false
-waker_needs_memory (waker_op.Finish c) = false
-waker_needs_memory (waker_op.Clone c) = false
-waker_needs_memory (waker_op.Wake c) = false
-waker_needs_memory (waker_op.WakeByRef c) = false
-waker_needs_memory (waker_op.Drop c) = false
+waker_needs_memory _ = false
 
 -- or a place for wakers
-abbrev pub place_needs_memory : AtomicWakerOp → Bool
-place_needs_memory place_op.New = true
-place_needs_memory (place_op.Register p c) = false
-place_needs_memory (place_op.RegisterByRef p c) = false
-place_needs_memory (place_op.Wake p) = false
-place_needs_memory (place_op.TakeWaker p) = false
-place_needs_memory (place_op.Drop p) = false
+abbrev pub atomic_waker_needs_memory : AtomicWakerOp → Bool
+atomic_waker_needs_memory place_op.New = true
+atomic_waker_needs_memory _ = false

@@ -36,8 +36,8 @@ module _ {D : Type 0} where
   abbrev pub AreKept : Loading → World D → Type 0
   AreKept load w = (slot : ℕ) → slice_get load.readable slot ≡ Some true → KeepsAt w.points (accessed load.access) slot
 
-  -- The same of a thread that was chosen: it came to a turn or to another branch point, or to the question which store an
-  -- access reads.
+  -- what the code came to for a thread that was chosen is what the tree says: a turn, another branch point, or the question which
+  -- store an access reads
   abbrev pub Resumes : Bool → Tree (Passed D × World D) → Result (Resumed D) Stop → RunState D → Type 0
   Resumes exploring tree (Ok (resumed.Passed passed)) new = Comes tree (Ok passed) new
   Resumes exploring tree (Ok (resumed.Load load)) new =

@@ -9,7 +9,7 @@ use Rattle.loom_objects.specs.declared.rt.run.Passed.TheVariants as passed
 use Rattle.loom_objects.specs.declared.rt.run.Resumed.{Resumed}
 use Rattle.loom_objects.specs.declared.rt.run.Resumed.TheVariants as resumed
 use Rattle.loom_objects.specs.declared.rt.thread.Task.{Task}
-use Rattle.loom_objects.specs.declared.rt.thread.Task.TheVariants.{Start, Body, Continue, Access, Lock, TryLock, Claim, Wait, Relock, Wake, Notify, Await, Rouse, Count, TryUnwrap, Join, Finish, Send, Receive, Drain, WakeBy, CloneWaker, DropWaker, Register, TakeWaker}
+use Rattle.loom_objects.specs.declared.rt.thread.Task.TheVariants.{Claim}
 use Rattle.loom_objects.specs.declared.rt.thread.Thread.{Thread}
 use Rattle.loom_objects.specs.Rules.RwLock.{is_reading}
 use Rattle.loom_objects.specs.Scene.Stage.{Stage, world_of}
@@ -31,32 +31,9 @@ module _ {D : Type 0} where
   -- what is pending reads a lock's data
   abbrev pub reads : Task D → Bool
   reads (Claim claim n) = is_reading claim
-  reads Start = false
-  reads Body = false
-  reads Continue = false
-  reads (Access access) = false
-  reads (Lock locking n) = false
-  reads (TryLock n) = false
-  reads (Wait locking n m value) = false
-  reads (Relock locking m) = false
-  reads (Wake waking n) = false
-  reads (Notify n) = false
-  reads (Await n) = false
-  reads (Rouse n) = false
-  reads (Count todo n) = false
-  reads (TryUnwrap n) = false
-  reads (Join t n) = false
-  reads (Finish n value) = false
-  reads (Send n sent) = false
-  reads (Receive by n) = false
-  reads (Drain n taken) = false
-  reads (WakeBy n c after) = false
-  reads (CloneWaker c place) = false
-  reads (DropWaker c after) = false
-  reads (Register p c) = false
-  reads (TakeWaker by p) = false
+  reads _ = false
 
-  -- the same of a thread, if there is one
+  -- what a thread has pending, if there is one, reads a lock's data
   abbrev pub reads_at : Option (Thread D) → Bool
   reads_at None = false
   reads_at (Some thread) = reads thread.task

@@ -9,7 +9,7 @@ use Rattle.loom_objects.specs.Scene.Lookup.{wakers_at}
 use Rattle.loom_objects.specs.Rules.Rule.{◌>>=◌, check}
 use Rattle.loom_objects.specs.declared.rt.run.Passed.{Passed}
 use Rattle.loom_objects.specs.declared.rt.atomic_waker.AtomicWaker.{AtomicWaker}
-use Rattle.loom_objects.specs.Rules.Moves.{a_place, releases}
+use Rattle.loom_objects.specs.Rules.Moves.{an_atomic_waker, releases}
 use Rattle.loom_objects.specs.Rules.Waker.{acquires_if, frees_place, holds_place, some_wakers, takes_place as place_taken, with_wakers}
 use Rattle.loom_objects.specs.World.{World}
 
@@ -31,16 +31,16 @@ module _ {D : Type 0} where
   -- the place is there, and its lock is held from now on, or given free
   abbrev pub holds : ℕ → AtomicWaker → World D → Result (⊤ × World D) FailureKind
   holds p place w = do
-    _ ← a_place p w
+    _ ← an_atomic_waker p w
     Ok (tt, holds_place p place w)
 
   abbrev pub frees : ℕ → AtomicWaker → World D → Result (⊤ × World D) FailureKind
   frees p place w = do
-    _ ← a_place p w
+    _ ← an_atomic_waker p w
     Ok (tt, frees_place p place w)
 
   -- the waker takes the place, which is there
   abbrev pub takes_place : ℕ → ℕ → AtomicWaker → World D → Result (Passed D × World D) FailureKind
   takes_place p c place w = do
-    _ ← a_place p w
+    _ ← an_atomic_waker p w
     place_taken p c place place.waker w

@@ -1,4 +1,4 @@
-//! What is kept of the accesses to one object. They are plain values; no call here takes memory.
+//! The last accesses to an object, by what later ones depend on (loom's `rt/access.rs`).
 
 ghost use Rattle.std.specs.Prelude.{◌≡◌, cond, Some};
 ghost use Rattle.loom_objects.specs.declared.rt.dependence.Action.{Action};
@@ -25,7 +25,7 @@ pub struct LastAccesses {
     pub latest: Option<LastAccess>,
     /// The last that may have stored to an atomic.
     pub change: Option<LastAccess>,
-    /// The last that told how many references there are.
+    /// The last that read how many references there are.
     pub inspection: Option<LastAccess>,
     /// The last that dropped a reference, or tested for the one alone.
     pub decrement: Option<LastAccess>,

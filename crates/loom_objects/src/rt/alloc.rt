@@ -1,3 +1,10 @@
+//! Tracked values, which leak where they are left: their state, and what the operations of `Track` do to it (loom's
+//! `rt/alloc.rs`).
+ghost use Rattle.std.specs.Borrow.{sem};
+ghost use Rattle.loom_objects.specs.Scene.Lends.{lends_in_scene, lends_kind};
+ghost use Rattle.loom_objects.specs.Scene.Lookup.{now_of, shown_of};
+ghost use Rattle.loom_objects.specs.Scene.Lookup as lookup;
+ghost use Rattle.loom_objects.specs.contracts.rt.alloc.Track as track_row;
 ghost use Rattle.std.specs.Prelude.{◌≡◌, IfOk, OnErr, true};
 ghost use Rattle.loom_objects.specs.Stages.Memory.{memory_outside as outside};
 ghost use Rattle.loom_objects.specs.Rules.Alloc as rules;
@@ -18,6 +25,39 @@ use std::alloc::AllocError;
 pub struct Track<D> {
     /// The value, which is taken apart where it is given back.
     pub content: Lent<D>,
+}
+
+impl<D> Object<D> {
+    /// The tracked value that it is, to change. Misuse where it is none.
+    fn as_track_mut(&mut self) -> Result<&mut Track<D>, FailureKind>
+        ensures* writes_back { sem 𝓛 (lends_kind D.row (track_row.the_row D.row) Object.Track self.entry result) }
+        ensures value { now_of result ≡ lookup.track_in self.old }
+    {
+        match self {
+            Object::Track(track) => Ok(track),
+            _ => Err(FailureKind::Misuse),
+        }
+    }
+}
+
+impl<D: Drop> Scene<D> {
+    /// The tracked value of this number, to read. Misuse where there is none.
+    pub fn track(&self, number: usize) -> Result<&Track<D>, FailureKind>
+        ensures { shown_of result ≡ lookup.track_at number self.now.objects }
+    {
+        match self.object(number)? {
+            Object::Track(track) => Ok(track),
+            _ => Err(FailureKind::Misuse),
+        }
+    }
+
+    /// The tracked value of this number, to change. Misuse where there is none.
+    pub fn track_mut(&mut self, number: usize) -> Result<&mut Track<D>, FailureKind>
+        ensures* writes_back { sem 𝓛 (lends_in_scene D.row (track_row.the_row D.row) Object.Track self.entry number result) }
+        ensures value { now_of result ≡ lookup.track_at number self.old.objects }
+    {
+        self.object_mut(number)?.as_track_mut()
+    }
 }
 
 /// What an operation on a tracked value does, which has no branch point. An error only where memory is refused.

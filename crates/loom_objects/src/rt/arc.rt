@@ -1,3 +1,9 @@
+//! Counted references: their state, and what the operations of `Arc` do to it (loom's `rt/arc.rs`).
+ghost use Rattle.std.specs.Borrow.{sem};
+ghost use Rattle.loom_objects.specs.Scene.Lends.{lends_in_scene, lends_kind};
+ghost use Rattle.loom_objects.specs.Scene.Lookup.{now_of, shown_of};
+ghost use Rattle.loom_objects.specs.Scene.Lookup as lookup;
+ghost use Rattle.loom_objects.specs.contracts.rt.arc.Arc as arc_row;
 ghost use Rattle.std.specs.Prelude.{◌≡◌, ◌+◌, OnOk, OnErr, false, IfOk, true};
 ghost use Rattle.loom_objects.specs.Rules.Arc.{is_free, may_grow, sole_value, with_one_fewer, lent_alone};
 ghost use Rattle.loom_objects.specs.Rules.Moves.{pending, with_thread};
@@ -78,6 +84,39 @@ impl<D: Drop> Arc<D> {
             return Ok(None);
         }
         Ok(self.content.lend(thread))
+    }
+}
+
+impl<D> Object<D> {
+    /// The counted reference that it is, to change. Misuse where it is none.
+    fn as_arc_mut(&mut self) -> Result<&mut Arc<D>, FailureKind>
+        ensures* writes_back { sem 𝓛 (lends_kind D.row (arc_row.the_row D.row) Object.Arc self.entry result) }
+        ensures value { now_of result ≡ lookup.arc_in self.old }
+    {
+        match self {
+            Object::Arc(arc) => Ok(arc),
+            _ => Err(FailureKind::Misuse),
+        }
+    }
+}
+
+impl<D: Drop> Scene<D> {
+    /// The counted reference of this number, to read. Misuse where there is none.
+    pub fn arc(&self, number: usize) -> Result<&Arc<D>, FailureKind>
+        ensures { shown_of result ≡ lookup.arc_at number self.now.objects }
+    {
+        match self.object(number)? {
+            Object::Arc(arc) => Ok(arc),
+            _ => Err(FailureKind::Misuse),
+        }
+    }
+
+    /// The counted reference of this number, to change. Misuse where there is none.
+    pub fn arc_mut(&mut self, number: usize) -> Result<&mut Arc<D>, FailureKind>
+        ensures* writes_back { sem 𝓛 (lends_in_scene D.row (arc_row.the_row D.row) Object.Arc self.entry number result) }
+        ensures value { now_of result ≡ lookup.arc_at number self.old.objects }
+    {
+        self.object_mut(number)?.as_arc_mut()
     }
 }
 
@@ -255,7 +294,7 @@ fn unwrap<D: Drop>(scene: &mut Scene<D>, number: usize) -> Result<Reply<D>, Fail
     decrement(scene, number)
 }
 
-/// The thread acquires, and is told how many references there are.
+/// The thread acquires, and is answered how many references there are.
 fn tell_count<D: Drop>(scene: &mut Scene<D>, number: usize) -> Result<Reply<D>, FailureKind>
     ensures { Does (rules.tells_count number) scene.old result scene.new }
 {

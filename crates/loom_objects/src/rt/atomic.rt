@@ -1,3 +1,9 @@
+//! Atomics: loads, stores, read-modify-writes and fences (loom's `rt/atomic.rs`).
+ghost use Rattle.std.specs.Borrow.{sem};
+ghost use Rattle.loom_objects.specs.Scene.Lends.{lends_in_scene, lends_kind};
+ghost use Rattle.loom_objects.specs.Scene.Lookup.{now_of, shown_of};
+ghost use Rattle.loom_objects.specs.Scene.Lookup as lookup;
+ghost use Rattle.loom_objects.specs.contracts.rt.atomic.Atomic as atomic_row;
 ghost use Rattle.std.specs.Prelude.{◌≡◌, slice_get, IfOk, OnErr, Some, true};
 ghost use Rattle.loom_objects.specs.Stages.Reader as parts;
 ghost use Rattle.loom_objects.specs.Rules.Atomic as rules;
@@ -6,6 +12,7 @@ ghost use Rattle.loom_views.specs.Views.{Points, ShowsViews, IsSlotKept, points_
 ghost use Rattle.loom_objects.specs.Operation.Accessed.{accessed};
 
 use crate::operation::{AtomicOp, Exchange, Reply};
+use crate::rt::object::Object;
 use crate::rt::run::{Entry, Loading, Resumed};
 use crate::rt::scene::Scene;
 use crate::rt::thread::Task;
@@ -25,6 +32,39 @@ pub struct Atomic {
     pub is_taken: bool,
     /// The thread that has a mutation of it open.
     pub opened: Option<u8>,
+}
+
+impl<D> Object<D> {
+    /// The atomic that it is, to change, unless it was taken apart. Misuse where it is none.
+    fn as_atomic_mut(&mut self) -> Result<&mut Atomic, FailureKind>
+        ensures* writes_back { sem 𝓛 (lends_kind D.row (atomic_row.the_row) Object.Atomic self.entry result) }
+        ensures value { now_of result ≡ lookup.atomic_in self.old }
+    {
+        match self {
+            Object::Atomic(atomic) if !atomic.is_taken => Ok(atomic),
+            _ => Err(FailureKind::Misuse),
+        }
+    }
+}
+
+impl<D: Drop> Scene<D> {
+    /// The atomic of this number, to read. Misuse where there is none, or it was taken apart.
+    pub fn atomic(&self, number: usize) -> Result<&Atomic, FailureKind>
+        ensures { shown_of result ≡ lookup.atomic_at number self.now.objects }
+    {
+        match self.object(number)? {
+            Object::Atomic(atomic) if !atomic.is_taken => Ok(atomic),
+            _ => Err(FailureKind::Misuse),
+        }
+    }
+
+    /// The atomic of this number, to change. Misuse where there is none, or it was taken apart.
+    pub fn atomic_mut(&mut self, number: usize) -> Result<&mut Atomic, FailureKind>
+        ensures* writes_back { sem 𝓛 (lends_in_scene D.row (atomic_row.the_row) Object.Atomic self.entry number result) }
+        ensures value { now_of result ≡ lookup.atomic_at number self.old.objects }
+    {
+        self.object_mut(number)?.as_atomic_mut()
+    }
 }
 
 fn is_relaxed(order: Ordering) -> bool
@@ -225,17 +265,13 @@ pub fn access<D: Drop>(scene: &mut Scene<D>, access: AtomicOp) -> Result<Resumed
     match access {
         AtomicOp::Store(number, value, order) => {
             let reply = store(scene, number, value, order)?;
-            Ok(scene.told(reply))
+            Ok(scene.reply(reply))
         }
         AtomicOp::Load(number, _)
         | AtomicOp::Update(number, ..)
         | AtomicOp::CompareExchange(number, _)
         | AtomicOp::CompareAndSwap(number, ..) => open(scene, number, reader_of(access), access),
-        AtomicOp::New(..)
-        | AtomicOp::UnsyncLoad(_)
-        | AtomicOp::IntoInner(_)
-        | AtomicOp::WithMut(_)
-        | AtomicOp::WithMutEnd(..) => Err(FailureKind::Misuse),
+        _ => Err(FailureKind::Misuse),
     }
 }
 
@@ -295,12 +331,7 @@ pub fn read<D: Drop>(
             let answer = exchange(scene, number, swap_of(expected, new, order), slot)?;
             Ok(Reply::Value(either_way(answer)))
         }
-        AtomicOp::New(..)
-        | AtomicOp::Store(..)
-        | AtomicOp::UnsyncLoad(_)
-        | AtomicOp::IntoInner(_)
-        | AtomicOp::WithMut(_)
-        | AtomicOp::WithMutEnd(..) => Err(FailureKind::Misuse),
+        _ => Err(FailureKind::Misuse),
     }
 }
 

@@ -1,3 +1,9 @@
+//! Places for the waker of a future, with the lock round each (loom's `future/atomic_waker.rs`).
+ghost use Rattle.std.specs.Borrow.{sem};
+ghost use Rattle.loom_objects.specs.Scene.Lends.{lends_in_scene, lends_kind};
+ghost use Rattle.loom_objects.specs.Scene.Lookup.{now_of, shown_of};
+ghost use Rattle.loom_objects.specs.Scene.Lookup as lookup;
+ghost use Rattle.loom_objects.specs.contracts.rt.atomic_waker.AtomicWaker as atomic_waker_row;
 ghost use Rattle.std.specs.Prelude.{◌≡◌, IfOk, OnErr, true};
 ghost use Rattle.loom_objects.specs.Scene.Stage.{Does, DoesIfOk};
 ghost use Rattle.loom_objects.specs.Rules.Waker as rules;
@@ -22,30 +28,63 @@ pub struct AtomicWaker {
     pub waker: Option<usize>,
 }
 
+impl<D> Object<D> {
+    /// The place for a waker that it is, to change. Misuse where it is none.
+    fn as_atomic_waker_mut(&mut self) -> Result<&mut AtomicWaker, FailureKind>
+        ensures* writes_back { sem 𝓛 (lends_kind D.row (atomic_waker_row.the_row) Object.AtomicWaker self.entry result) }
+        ensures value { now_of result ≡ lookup.atomic_waker_in self.old }
+    {
+        match self {
+            Object::AtomicWaker(place) => Ok(place),
+            _ => Err(FailureKind::Misuse),
+        }
+    }
+}
+
+impl<D: Drop> Scene<D> {
+    /// The place for a waker of this number, to read. Misuse where there is none.
+    pub fn atomic_waker(&self, number: usize) -> Result<&AtomicWaker, FailureKind>
+        ensures { shown_of result ≡ lookup.atomic_waker_at number self.now.objects }
+    {
+        match self.object(number)? {
+            Object::AtomicWaker(place) => Ok(place),
+            _ => Err(FailureKind::Misuse),
+        }
+    }
+
+    /// The place for a waker of this number, to change. Misuse where there is none.
+    pub fn atomic_waker_mut(&mut self, number: usize) -> Result<&mut AtomicWaker, FailureKind>
+        ensures* writes_back { sem 𝓛 (lends_in_scene D.row (atomic_waker_row.the_row) Object.AtomicWaker self.entry number result) }
+        ensures value { now_of result ≡ lookup.atomic_waker_at number self.old.objects }
+    {
+        self.object_mut(number)?.as_atomic_waker_mut()
+    }
+}
+
 /// What an operation on a place for a waker does up to its branch point, or all of it. An error of the outer result only where
 /// memory is refused (loom's `future/atomic_waker.rs`).
-pub fn place_begins<D: Drop>(
+pub fn atomic_waker_begins<D: Drop>(
     scene: &mut Scene<D>,
     op: AtomicWakerOp,
 ) -> Result<Result<Entry<D>, FailureKind>, AllocError>
-    ensures does { IfOk result (λ answer. Does (rules.place_begins op) scene.old answer scene.new) }
-    ensures growth { OnErr result (rules.place_needs_memory op ≡ true) }
+    ensures does { IfOk result (λ answer. Does (rules.atomic_waker_begins op) scene.old answer scene.new) }
+    ensures growth { OnErr result (rules.atomic_waker_needs_memory op ≡ true) }
 {
     match op {
-        AtomicWakerOp::New => Ok(Ok(place_new(scene)?)),
+        AtomicWakerOp::New => Ok(Ok(atomic_waker_new(scene)?)),
         AtomicWakerOp::Register(number, wakers) => Ok(register_begins(scene, number, wakers)),
         AtomicWakerOp::RegisterByRef(number, wakers) => {
             Ok(register_by_ref_begins(scene, number, wakers))
         }
         AtomicWakerOp::Wake(number) => Ok(take_begins(scene, Taking::Wake, number)),
         AtomicWakerOp::TakeWaker(number) => Ok(take_begins(scene, Taking::Answer, number)),
-        AtomicWakerOp::Drop(number) => Ok(place_drop(scene, number)),
+        AtomicWakerOp::Drop(number) => Ok(atomic_waker_drop(scene, number)),
     }
 }
 
 /// A place without a waker.
-fn place_new<D: Drop>(scene: &mut Scene<D>) -> Result<Entry<D>, AllocError>
-    ensures { DoesIfOk rules.place_new scene.old result scene.new }
+fn atomic_waker_new<D: Drop>(scene: &mut Scene<D>) -> Result<Entry<D>, AllocError>
+    ensures { DoesIfOk rules.atomic_waker_new scene.old result scene.new }
 {
     let place = AtomicWaker {
         holder: None,
@@ -63,7 +102,7 @@ fn register_begins<D: Drop>(
 ) -> Result<Entry<D>, FailureKind>
     ensures { Does (rules.register_begins number wakers) scene.old result scene.new }
 {
-    scene.place(number)?;
+    scene.atomic_waker(number)?;
     waker_pends(scene, Task::Register(number, wakers), wakers)
 }
 
@@ -75,7 +114,7 @@ fn register_by_ref_begins<D: Drop>(
 ) -> Result<Entry<D>, FailureKind>
     ensures { Does (rules.register_by_ref_begins number wakers) scene.old result scene.new }
 {
-    scene.place(number)?;
+    scene.atomic_waker(number)?;
     waker_pends(scene, Task::CloneWaker(wakers, Some(number)), wakers)
 }
 
@@ -87,7 +126,7 @@ fn take_begins<D: Drop>(
 ) -> Result<Entry<D>, FailureKind>
     ensures { Does (rules.take_begins taking number) scene.old result scene.new }
 {
-    let is_held = scene.place(number)?.holder.is_some();
+    let is_held = scene.atomic_waker(number)?.holder.is_some();
     scene.pend(Task::TakeWaker(taking, number), is_held);
     Ok(Entry::AtBranch)
 }
@@ -103,10 +142,10 @@ fn waker_reply<D>(waker: Option<usize>) -> Reply<D>
 }
 
 /// The waker that is left comes back.
-fn place_drop<D: Drop>(scene: &mut Scene<D>, number: usize) -> Result<Entry<D>, FailureKind>
-    ensures { Does (rules.place_drop number) scene.old result scene.new }
+fn atomic_waker_drop<D: Drop>(scene: &mut Scene<D>, number: usize) -> Result<Entry<D>, FailureKind>
+    ensures { Does (rules.atomic_waker_drop number) scene.old result scene.new }
 {
-    let place = scene.place_mut(number)?;
+    let place = scene.atomic_waker_mut(number)?;
     let waker = place.waker;
     place.waker = None;
     Ok(Entry::Answered(waker_reply(waker)))
@@ -121,7 +160,7 @@ fn hold_place<D: Drop>(
     ensures { Does (stages.holds number place) scene.old result scene.new }
 {
     let active = scene.active();
-    *scene.place_mut(number)? = AtomicWaker {
+    *scene.atomic_waker_mut(number)? = AtomicWaker {
         holder: Some(active),
         waker: place.waker,
     };
@@ -138,7 +177,7 @@ pub(crate) fn free_place<D: Drop>(
 ) -> Result<(), FailureKind>
     ensures { Does (stages.frees number place) scene.old result scene.new }
 {
-    *scene.place_mut(number)? = AtomicWaker {
+    *scene.atomic_waker_mut(number)? = AtomicWaker {
         holder: None,
         waker: place.waker,
     };
@@ -155,7 +194,7 @@ pub fn register<D: Drop>(
 ) -> Result<Passed<D>, FailureKind>
     ensures { Does (rules.registers number wakers) scene.old result scene.new }
 {
-    let place = *scene.place(number)?;
+    let place = *scene.atomic_waker(number)?;
     let own = some_wakers(scene, wakers)?;
     if place.holder.is_some() {
         let after = AfterWake::Drop(AfterDrop::Yield);
@@ -198,7 +237,7 @@ pub fn take_waker<D: Drop>(
 ) -> Result<Passed<D>, FailureKind>
     ensures { Does (rules.takes_waker taking number) scene.old result scene.new }
 {
-    let place = *scene.place(number)?;
+    let place = *scene.atomic_waker(number)?;
     if place.holder.is_some() {
         return Err(FailureKind::Misuse);
     }

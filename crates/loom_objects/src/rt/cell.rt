@@ -1,3 +1,9 @@
+//! Cells: which reads and writes of them are open, and what the operations of `UnsafeCell` and `Cell` do (loom's `rt/cell.rs`).
+ghost use Rattle.std.specs.Borrow.{sem};
+ghost use Rattle.loom_objects.specs.Scene.Lends.{lends_in_scene, lends_kind};
+ghost use Rattle.loom_objects.specs.Scene.Lookup.{now_of, shown_of};
+ghost use Rattle.loom_objects.specs.Scene.Lookup as lookup;
+ghost use Rattle.loom_objects.specs.contracts.rt.cell.Cell as cell_row;
 ghost use Rattle.std.specs.Prelude.{◌≡◌, OnOk, OnErr, slice_set, Ok, ◌≢◌, IfOk, true};
 ghost use Rattle.loom_objects.specs.Rules.Cell as rules;
 ghost use Rattle.loom_objects.specs.Lent.{taken_apart};
@@ -90,6 +96,39 @@ impl<D: Drop> Cell<D> {
             return Err(FailureKind::OpenAccess);
         }
         self.content.take_apart().ok_or(FailureKind::Misuse)
+    }
+}
+
+impl<D> Object<D> {
+    /// The cell that it is, to change, unless it was taken apart. Misuse where it is none.
+    fn as_cell_mut(&mut self) -> Result<&mut Cell<D>, FailureKind>
+        ensures* writes_back { sem 𝓛 (lends_kind D.row (cell_row.the_row D.row) Object.Cell self.entry result) }
+        ensures value { now_of result ≡ lookup.cell_in self.old }
+    {
+        match self {
+            Object::Cell(cell) if !cell.content.is_taken => Ok(cell),
+            _ => Err(FailureKind::Misuse),
+        }
+    }
+}
+
+impl<D: Drop> Scene<D> {
+    /// The cell of this number, to read. Misuse where there is none, or it was taken apart.
+    pub fn cell(&self, number: usize) -> Result<&Cell<D>, FailureKind>
+        ensures { shown_of result ≡ lookup.cell_at number self.now.objects }
+    {
+        match self.object(number)? {
+            Object::Cell(cell) if !cell.content.is_taken => Ok(cell),
+            _ => Err(FailureKind::Misuse),
+        }
+    }
+
+    /// The cell of this number, to change. Misuse where there is none, or it was taken apart.
+    pub fn cell_mut(&mut self, number: usize) -> Result<&mut Cell<D>, FailureKind>
+        ensures* writes_back { sem 𝓛 (lends_in_scene D.row (cell_row.the_row D.row) Object.Cell self.entry number result) }
+        ensures value { now_of result ≡ lookup.cell_at number self.old.objects }
+    {
+        self.object_mut(number)?.as_cell_mut()
     }
 }
 
@@ -245,7 +284,7 @@ fn cell_get<D: Data>(
     }
 }
 
-/// Lets an answer go. It stands alone, since what an answer holds is let go in many ways, and a function that does it costs seconds.
+/// Drops an answer that isn't given.
 fn let_go<D: Drop>(_entry: Result<Entry<D>, AllocError>) {}
 
 /// A write that begins and ends.

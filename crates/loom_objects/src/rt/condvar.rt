@@ -1,3 +1,9 @@
+//! Condition variables: who sleeps on them, and what the operations of `Condvar` do (loom's `rt/condvar.rs`).
+ghost use Rattle.std.specs.Borrow.{sem};
+ghost use Rattle.loom_objects.specs.Scene.Lends.{lends_in_scene, lends_kind};
+ghost use Rattle.loom_objects.specs.Scene.Lookup.{now_of, shown_of};
+ghost use Rattle.loom_objects.specs.Scene.Lookup as lookup;
+ghost use Rattle.loom_objects.specs.contracts.rt.condvar.Condvar as condvar_row;
 ghost use Rattle.std.specs.Prelude.{false, ◌≡◌, ◌++◌, ◌∷◌, [], nat_lt, length, true, IfOk, Ok, OnErr};
 ghost use Rattle.loom_objects.specs.Rules.Condvar.{woken_by, left_by};
 ghost use Rattle.loom_objects.specs.Rules.Moves.{resting, with_thread};
@@ -52,7 +58,40 @@ impl Condvar {
     }
 }
 
-/// The active thread sleeps, and comes to the mutex once it is woken.
+impl<D> Object<D> {
+    /// The condition variable that it is, to change. Misuse where it is none.
+    fn as_condvar_mut(&mut self) -> Result<&mut Condvar, FailureKind>
+        ensures* writes_back { sem 𝓛 (lends_kind D.row (condvar_row.the_row) Object.Condvar self.entry result) }
+        ensures value { now_of result ≡ lookup.condvar_in self.old }
+    {
+        match self {
+            Object::Condvar(condvar) => Ok(condvar),
+            _ => Err(FailureKind::Misuse),
+        }
+    }
+}
+
+impl<D: Drop> Scene<D> {
+    /// The condition variable of this number, to read. Misuse where there is none.
+    pub fn condvar(&self, number: usize) -> Result<&Condvar, FailureKind>
+        ensures { shown_of result ≡ lookup.condvar_at number self.now.objects }
+    {
+        match self.object(number)? {
+            Object::Condvar(condvar) => Ok(condvar),
+            _ => Err(FailureKind::Misuse),
+        }
+    }
+
+    /// The condition variable of this number, to change. Misuse where there is none.
+    pub fn condvar_mut(&mut self, number: usize) -> Result<&mut Condvar, FailureKind>
+        ensures* writes_back { sem 𝓛 (lends_in_scene D.row (condvar_row.the_row) Object.Condvar self.entry number result) }
+        ensures value { now_of result ≡ lookup.condvar_at number self.old.objects }
+    {
+        self.object_mut(number)?.as_condvar_mut()
+    }
+}
+
+/// The active thread sleeps, and takes the mutex again once it is woken.
 pub fn sleep<D: Drop>(scene: &mut Scene<D>, locking: Locking, mutex: usize)
     ensures { scene.new ≡ record scene.old { threads = with_thread (resting State.Sleeping (Task.Relock locking mutex)) scene.old.active scene.old.threads } }
 {
@@ -122,7 +161,7 @@ fn wake_begins<D: Drop>(
     Ok(Entry::AtBranch)
 }
 
-/// The second stage: the active thread was woken, and comes to the mutex as one that locks it.
+/// The second stage: the active thread was woken, and waits for the mutex as one that locks it.
 pub fn relock<D: Drop>(scene: &mut Scene<D>, locking: Locking, mutex: usize) -> Passed<D>
     ensures { Does (rules.relocks locking mutex) scene.old (Ok result) scene.new }
 {
@@ -160,7 +199,7 @@ fn rouse<D: Drop>(scene: &mut Scene<D>, thread: u8)
     ensures { Does (rules.rouse thread) scene.old (Ok tt) scene.new }
 {
     scene.run_on(thread);
-    scene.tell(thread);
+    scene.join_view(thread);
 }
 
 /// These threads, one after the other.

@@ -23,7 +23,7 @@ pub enum Action {
     Increment,
     /// It drops a counted reference, or tests whether it has the one reference alone.
     Decrement,
-    /// It tells how many counted references there are.
+    /// It reads how many counted references there are.
     Inspect,
     /// It sends to a channel.
     Send,
@@ -127,7 +127,8 @@ impl Dependence {
         places
     }
 
-    /// The same of one thread.
+    /// For this thread, by what it is about to do, the place of the last access that this depends on, where the thread isn't
+    /// ordered after that access.
     fn unordered_by(&self, thread: usize, used: Option<Use>) -> Option<usize>
         ensures { (o : Order) → ShowsOrder o self.now → result ≡ unordered_by o thread used }
     {

@@ -1,4 +1,4 @@
-//! Whether the search explores at the nodes that a run meets.
+//! The switch that `explore`, `stop_exploring` and `skip_branch` turn.
 ghost use Rattle.std.specs.Prelude.{◌≡◌};
 ghost use Rattle.loom_objects.specs.Exploring as rules;
 

@@ -1,4 +1,4 @@
-//! Data that objects hand out and take back.
+//! What a mutex, a lock, a cell or another object holds: it is in it, out with a thread, or was taken apart.
 ghost use Rattle.loom_objects.specs.Lent as lending;
 ghost use Rattle.loom_objects.specs.Lent.{is_number};
 ghost use Rattle.std.specs.Prelude.{false, option_copied, ◌≡◌, OnSome, IfNone, true};

@@ -1,3 +1,4 @@
+//! Operations on a thread's own values and on values that are made once a run (loom's `thread_local!` and `lazy_static!`).
 ghost use Rattle.std.specs.Prelude.{◌≡◌, IfOk, None, OnErr, true};
 ghost use Rattle.loom_objects.specs.Scene.Stage.{Does, DoesIfOk};
 ghost use Rattle.loom_objects.specs.Rules.Locals as rules;
@@ -107,7 +108,7 @@ pub fn lazy_begins<D: Data>(
     }
 }
 
-/// A copy of the value that stands, once its maker's view was acquired. `LazyShutdown` where main has finished.
+/// A copy of the value that was made, once its maker's view was acquired. `LazyShutdown` where main has finished.
 fn lazy_get<D: Data>(
     scene: &mut Scene<D>,
     key: usize,
@@ -128,7 +129,7 @@ fn lazy_get<D: Data>(
     }
 }
 
-/// The value, unless one stands: then that one is copied, and the value comes back. `LazyShutdown` where main has finished.
+/// The value, unless one was made before: then that one is copied, and the value comes back. `LazyShutdown` where main has finished.
 fn lazy_init<D: Data>(
     scene: &mut Scene<D>,
     key: usize,

@@ -1,4 +1,4 @@
-//! The steps of a run. Here failures of effects, and memory that is refused, stop it.
+//! The steps of a run: an operation begins, a thread is chosen, a load reads, the run ends.
 mod effects;
 
 ghost use Rattle.std.specs.Prelude.{◌≡◌, ◌≢◌, Bool, Err, ◌+◌, slice_get, true, IfOk, OnOk};
@@ -15,7 +15,7 @@ use crate::data::Data;
 use crate::failure::{Stop, failed};
 use crate::operation::{Request, Turn};
 use crate::rt::machine::effects::{begin_op, go_on};
-use crate::rt::run::{Entry, Loading, Resumed, RunState, take_step};
+use crate::rt::run::{Entry, Loading, Resumed, RunState};
 use crate::rt::{atomic, notify};
 use loom_views::rt::failure::FailureKind;
 
@@ -27,10 +27,11 @@ pub fn begin<D: Data>(run: &mut RunState<D>, op: Request<D, ()>) -> Result<Entry
     ensures steps { OnOk result (run.old.steps_left ≡ run.new.steps_left + 1) }
     ensures growth { result ≡ Err Stop.Memory → effects.needs_memory op ≡ true }
 {
-    if !take_step(&mut run.steps_left) {
+    if run.steps_left == 0 {
         op.let_go();
         return Err(failed(FailureKind::TooManySteps));
     }
+    run.steps_left -= 1;
     match begin_op(&mut run.scene, op) {
         Ok(answer) => answer.map_err(failed),
         Err(_) => Err(Stop::Memory),

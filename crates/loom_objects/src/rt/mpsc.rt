@@ -1,3 +1,9 @@
+//! Channels: their messages, senders and receiver, and what the operations of `mpsc` do to them (loom's `rt/mpsc.rs`).
+ghost use Rattle.std.specs.Borrow.{sem};
+ghost use Rattle.loom_objects.specs.Scene.Lends.{lends_in_scene, lends_kind};
+ghost use Rattle.loom_objects.specs.Scene.Lookup.{now_of, shown_of};
+ghost use Rattle.loom_objects.specs.Scene.Lookup as lookup;
+ghost use Rattle.loom_objects.specs.contracts.rt.mpsc.Channel as channel_row;
 ghost use Rattle.std.specs.Prelude.{◌≡◌, ◌++◌, ◌&&◌, drop, nat_lt, OnOk, OnErr, IfOk, true};
 ghost use Rattle.loom_objects.specs.Rules.Mpsc.{first_of, fits_behind};
 ghost use Rattle.loom_objects.specs.Rules.Leaks.{is_none_left};
@@ -46,20 +52,29 @@ impl<D> Channel<D> {
     }
 }
 
+/// More values go behind those of the list. `TooManySteps` where these are 2^63 in all; then nothing changes.
+fn append<T: Drop>(list: &mut LinkedList<T>, mut more: LinkedList<T>) -> Result<(), FailureKind>
+    ensures result { result ≡ check (fits_behind list.old more) TooManySteps }
+    ensures ok { OnOk result (list.new ≡ list.old ++ more) }
+    ensures err { OnErr result (list.new ≡ list.old) }
+{
+    if list.len() + more.len() >= LIST_LIMIT {
+        return Err(FailureKind::TooManySteps);
+    }
+    if list.append(&mut more).is_err() {
+        return Err(FailureKind::TooManySteps);
+    }
+    Ok(())
+}
+
 impl<D: Drop> Channel<D> {
     /// The messages go behind those that it has. `TooManySteps` where these are 2^63 in all; then nothing changes.
-    pub fn put(&mut self, mut sent: LinkedList<Message<D>>) -> Result<(), FailureKind>
+    pub fn put(&mut self, sent: LinkedList<Message<D>>) -> Result<(), FailureKind>
         ensures result { result ≡ check (fits_behind self.old.messages sent) TooManySteps }
         ensures ok { OnOk result (self.new ≡ record self.old { messages = self.old.messages ++ sent }) }
         ensures err { OnErr result (self.new ≡ self.old) }
     {
-        if self.messages.len() + sent.len() >= LIST_LIMIT {
-            return Err(FailureKind::TooManySteps);
-        }
-        if self.messages.append(&mut sent).is_err() {
-            return Err(FailureKind::TooManySteps);
-        }
-        Ok(())
+        append(&mut self.messages, sent)
     }
 
     /// The message that was sent first leaves. None where there is none; then nothing changes.
@@ -68,6 +83,39 @@ impl<D: Drop> Channel<D> {
         ensures rest { self.new ≡ record self.old { messages = drop 1 self.old.messages } }
     {
         self.messages.pop_front()
+    }
+}
+
+impl<D> Object<D> {
+    /// The channel that it is, to change. Misuse where it is none.
+    fn as_channel_mut(&mut self) -> Result<&mut Channel<D>, FailureKind>
+        ensures* writes_back { sem 𝓛 (lends_kind D.row (channel_row.the_row D.row) Object.Channel self.entry result) }
+        ensures value { now_of result ≡ lookup.channel_in self.old }
+    {
+        match self {
+            Object::Channel(channel) => Ok(channel),
+            _ => Err(FailureKind::Misuse),
+        }
+    }
+}
+
+impl<D: Drop> Scene<D> {
+    /// The channel of this number, to read. Misuse where there is none.
+    pub fn channel(&self, number: usize) -> Result<&Channel<D>, FailureKind>
+        ensures { shown_of result ≡ lookup.channel_at number self.now.objects }
+    {
+        match self.object(number)? {
+            Object::Channel(channel) => Ok(channel),
+            _ => Err(FailureKind::Misuse),
+        }
+    }
+
+    /// The channel of this number, to change. Misuse where there is none.
+    pub fn channel_mut(&mut self, number: usize) -> Result<&mut Channel<D>, FailureKind>
+        ensures* writes_back { sem 𝓛 (lends_in_scene D.row (channel_row.the_row D.row) Object.Channel self.entry number result) }
+        ensures value { now_of result ≡ lookup.channel_at number self.old.objects }
+    {
+        self.object_mut(number)?.as_channel_mut()
     }
 }
 
@@ -103,14 +151,8 @@ pub fn gather<D: Drop>(
 ) -> Result<LinkedList<D>, FailureKind>
     ensures { result ≡ stages.gathers taken message }
 {
-    let Some(mut message) = message else {
-        return Ok(taken);
-    };
-    if taken.len() + message.value.len() >= LIST_LIMIT {
-        return Err(FailureKind::TooManySteps);
-    }
-    if taken.append(&mut message.value).is_err() {
-        return Err(FailureKind::TooManySteps);
+    if let Some(message) = message {
+        append(&mut taken, message.value)?;
     }
     Ok(taken)
 }
@@ -194,7 +236,7 @@ fn recv_begins<D: Drop>(scene: &mut Scene<D>, number: usize) -> Result<Entry<D>,
     Ok(Entry::AtBranch)
 }
 
-/// Without a message the thread is told so at once.
+/// Without a message the thread is answered at once.
 fn try_recv_begins<D: Drop>(scene: &mut Scene<D>, number: usize) -> Result<Entry<D>, FailureKind>
     ensures { Does (rules.try_recv_begins number) scene.old result scene.new }
 {
@@ -319,7 +361,7 @@ fn none_left<D>(receiving: Receiving) -> Reply<D>
     }
 }
 
-/// The active thread has the first message, or is told that none comes.
+/// The active thread has the first message, or the answer that none comes.
 pub fn receive<D: Drop>(
     scene: &mut Scene<D>,
     receiving: Receiving,

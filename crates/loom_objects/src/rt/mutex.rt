@@ -1,3 +1,9 @@
+//! Mutexes: who holds them, and what the operations of `Mutex` do (loom's `rt/mutex.rs`).
+ghost use Rattle.std.specs.Borrow.{sem};
+ghost use Rattle.loom_objects.specs.Scene.Lends.{lends_in_scene, lends_kind};
+ghost use Rattle.loom_objects.specs.Scene.Lookup.{now_of, shown_of};
+ghost use Rattle.loom_objects.specs.Scene.Lookup as lookup;
+ghost use Rattle.loom_objects.specs.contracts.rt.mutex.Mutex as mutex_row;
 ghost use Rattle.loom_objects.specs.Lent.{handed_out, lent_to, taken_apart};
 ghost use Rattle.loom_objects.specs.Rules.Mutex.{free_value};
 ghost use Rattle.std.specs.Prelude.{◌≡◌, OnSome, IfNone, None, Some, IfOk, OnErr, true};
@@ -64,7 +70,40 @@ impl<D: Drop> Mutex<D> {
     }
 }
 
-/// What a thread that holds the mutex now is told: no time of a wait runs out.
+impl<D> Object<D> {
+    /// The mutex that it is, to change, unless it was taken apart. Misuse where it is none.
+    fn as_mutex_mut(&mut self) -> Result<&mut Mutex<D>, FailureKind>
+        ensures* writes_back { sem 𝓛 (lends_kind D.row (mutex_row.the_row D.row) Object.Mutex self.entry result) }
+        ensures value { now_of result ≡ lookup.mutex_in self.old }
+    {
+        match self {
+            Object::Mutex(mutex) if !mutex.content.is_taken => Ok(mutex),
+            _ => Err(FailureKind::Misuse),
+        }
+    }
+}
+
+impl<D: Drop> Scene<D> {
+    /// The mutex of this number, to read. Misuse where there is none, or it was taken apart.
+    pub fn mutex(&self, number: usize) -> Result<&Mutex<D>, FailureKind>
+        ensures { shown_of result ≡ lookup.mutex_at number self.now.objects }
+    {
+        match self.object(number)? {
+            Object::Mutex(mutex) if !mutex.content.is_taken => Ok(mutex),
+            _ => Err(FailureKind::Misuse),
+        }
+    }
+
+    /// The mutex of this number, to change. Misuse where there is none, or it was taken apart.
+    pub fn mutex_mut(&mut self, number: usize) -> Result<&mut Mutex<D>, FailureKind>
+        ensures* writes_back { sem 𝓛 (lends_in_scene D.row (mutex_row.the_row D.row) Object.Mutex self.entry number result) }
+        ensures value { now_of result ≡ lookup.mutex_at number self.old.objects }
+    {
+        self.object_mut(number)?.as_mutex_mut()
+    }
+}
+
+/// The reply to a thread that holds the mutex from now on: no time of a wait runs out.
 fn locked_reply<D>(locking: Locking, number: usize, value: D) -> Reply<D>
     ensures { result ≡ rules.locked_reply locking number value }
 {

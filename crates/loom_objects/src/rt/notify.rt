@@ -1,3 +1,9 @@
+//! Notifiers, on which threads wait, and by which `join` and `block_on` do (loom's `rt/notify.rs`).
+ghost use Rattle.std.specs.Borrow.{sem};
+ghost use Rattle.loom_objects.specs.Scene.Lends.{lends_in_scene, lends_kind};
+ghost use Rattle.loom_objects.specs.Scene.Lookup.{now_of, shown_of};
+ghost use Rattle.loom_objects.specs.Scene.Lookup as lookup;
+ghost use Rattle.loom_objects.specs.contracts.rt.notify.Notify as notify_row;
 ghost use Rattle.std.specs.Prelude.{◌≡◌, IfOk, OnErr, true};
 ghost use Rattle.loom_objects.specs.Rules.Notify as rules;
 ghost use Rattle.loom_objects.specs.Scene.Stage.{Does, DoesIfOk};
@@ -17,7 +23,7 @@ pub enum Spurious {
     Never,
     /// None has, and one may.
     NotYet,
-    /// This one is about to be told so.
+    /// This one has, and hasn't its reply yet.
     Waking(u8),
     /// One has, and no other does in this run.
     Over,
@@ -65,15 +71,48 @@ impl Notify {
     }
 }
 
+impl<D> Object<D> {
+    /// The notifier that it is, to change. Misuse where it is none.
+    fn as_notify_mut(&mut self) -> Result<&mut Notify, FailureKind>
+        ensures* writes_back { sem 𝓛 (lends_kind D.row (notify_row.the_row) Object.Notify self.entry result) }
+        ensures value { now_of result ≡ lookup.notify_in self.old }
+    {
+        match self {
+            Object::Notify(notify) => Ok(notify),
+            _ => Err(FailureKind::Misuse),
+        }
+    }
+}
+
+impl<D: Drop> Scene<D> {
+    /// The notifier of this number, to read. Misuse where there is none.
+    pub fn notify(&self, number: usize) -> Result<&Notify, FailureKind>
+        ensures { shown_of result ≡ lookup.notify_at number self.now.objects }
+    {
+        match self.object(number)? {
+            Object::Notify(notify) => Ok(notify),
+            _ => Err(FailureKind::Misuse),
+        }
+    }
+
+    /// The notifier of this number, to change. Misuse where there is none.
+    pub fn notify_mut(&mut self, number: usize) -> Result<&mut Notify, FailureKind>
+        ensures* writes_back { sem 𝓛 (lends_in_scene D.row (notify_row.the_row) Object.Notify self.entry number result) }
+        ensures value { now_of result ≡ lookup.notify_at number self.old.objects }
+    {
+        self.object_mut(number)?.as_notify_mut()
+    }
+}
+
 /// The active thread releases and notifies: who waits takes in its view, and is woken. `Misuse` where there is no such notifier.
 pub fn notify_waiter<D: Drop>(scene: &mut Scene<D>, number: usize) -> Result<(), FailureKind>
     ensures { Does (rules.notify number) scene.old result scene.new }
 {
-    let notify = scene.notifier_mut(number)?;
+    let notify = scene.notify_mut(number)?;
     notify.notified = true;
     let waiter = notify.waiter;
     scene.release(number);
-    scene.tell_waiter(waiter);
+    scene.join_waiters_view(waiter);
     scene.wake_pending(number);
     Ok(())
 }
@@ -82,22 +121,22 @@ pub fn notify_waiter<D: Drop>(scene: &mut Scene<D>, number: usize) -> Result<(),
 pub fn wake_early<D: Drop>(scene: &mut Scene<D>, number: usize) -> Result<Reply<D>, FailureKind>
     ensures { Does (rules.wakes_early number) scene.old result scene.new }
 {
-    scene.notifier_mut(number)?.spurious = Spurious::Over;
+    scene.notify_mut(number)?.spurious = Spurious::Over;
     Ok(Reply::Done)
 }
 
 /// What an operation on a notifier does up to its branch point, or up to the question whether the thread wakes without a
 /// notification. An error of the outer result only where memory is refused.
-pub fn notifier_begins<D: Drop>(
+pub fn notify_begins<D: Drop>(
     scene: &mut Scene<D>,
     op: NotifyOp,
 ) -> Result<Result<Entry<D>, FailureKind>, AllocError>
-    ensures does { IfOk result (λ answer. Does (rules.notifier_begins op) scene.old answer scene.new) }
+    ensures does { IfOk result (λ answer. Does (rules.notify_begins op) scene.old answer scene.new) }
     ensures growth { OnErr result (rules.needs_memory op ≡ true) }
 {
     match op {
         NotifyOp::New => Ok(Ok(notify_new(scene)?)),
-        NotifyOp::Notify(number) => Ok(notify_begins(scene, number)),
+        NotifyOp::Notify(number) => Ok(notify_one_begins(scene, number)),
         NotifyOp::Wait(number) => Ok(wait_begins(scene, number)),
     }
 }
@@ -115,10 +154,10 @@ fn notify_new<D: Drop>(scene: &mut Scene<D>) -> Result<Entry<D>, AllocError>
     Ok(Entry::Answered(Reply::Notify(number)))
 }
 
-fn notify_begins<D: Drop>(scene: &mut Scene<D>, number: usize) -> Result<Entry<D>, FailureKind>
-    ensures { Does (rules.notify_begins number) scene.old result scene.new }
+fn notify_one_begins<D: Drop>(scene: &mut Scene<D>, number: usize) -> Result<Entry<D>, FailureKind>
+    ensures { Does (rules.notify_one_begins number) scene.old result scene.new }
 {
-    let notify = scene.notifier(number)?;
+    let notify = scene.notify(number)?;
     if !notify.is_for_waits() {
         return Err(FailureKind::Misuse);
     }
@@ -131,7 +170,7 @@ fn notify_begins<D: Drop>(scene: &mut Scene<D>, number: usize) -> Result<Entry<D
 pub fn wait_begins<D: Drop>(scene: &mut Scene<D>, number: usize) -> Result<Entry<D>, FailureKind>
     ensures { Does (rules.wait_begins number) scene.old result scene.new }
 {
-    let notify = scene.notifier(number)?;
+    let notify = scene.notify(number)?;
     if !notify.is_for_waits() {
         return Err(FailureKind::Misuse);
     }
@@ -155,7 +194,7 @@ pub fn enter_wait<D: Drop>(
     ensures { Does (rules.enters_wait is_spurious number) scene.old result scene.new }
 {
     let active = scene.active();
-    let notify = scene.notifier_mut(number)?;
+    let notify = scene.notify_mut(number)?;
     if is_spurious {
         notify.spurious = Spurious::Waking(active);
         return scene.yield_by(Task::Rouse(number));
@@ -166,7 +205,7 @@ pub fn enter_wait<D: Drop>(
     Ok(())
 }
 
-/// The active thread releases and notifies, and is told so.
+/// The active thread releases and notifies, and is answered.
 pub fn notify_one<D: Drop>(scene: &mut Scene<D>, number: usize) -> Result<Reply<D>, FailureKind>
     ensures { Does (rules.notifies number) scene.old result scene.new }
 {
@@ -178,7 +217,7 @@ pub fn notify_one<D: Drop>(scene: &mut Scene<D>, number: usize) -> Result<Reply<
 pub fn await_notified<D: Drop>(scene: &mut Scene<D>, number: usize) -> Result<Reply<D>, FailureKind>
     ensures { Does (rules.awaits number) scene.old result scene.new }
 {
-    let notify = scene.notifier_mut(number)?;
+    let notify = scene.notify_mut(number)?;
     if !notify.notified {
         return Err(FailureKind::Misuse);
     }

@@ -1,5 +1,5 @@
-//! Where a run is, and how its operations are counted.
-ghost use Rattle.std.specs.Prelude.{◌≡◌, ◌+◌, nat_lt, true, false, ◌≤◌, IfOk};
+//! The state of a run, and what comes of an operation at its beginning and once its thread was chosen.
+ghost use Rattle.std.specs.Prelude.{◌≡◌, ◌≤◌, IfOk};
 ghost use Rattle.loom_objects.specs.Scene.Shown.{Shows};
 ghost use Rattle.loom_objects.specs.World.{MAX_THREADS, opening};
 
@@ -8,19 +8,6 @@ use crate::operation::{AtomicOp, ExploreOp, Reply, Turn};
 use crate::rt::scene::Scene;
 use loom_views::rt::MAX_ATOMIC_HISTORY;
 use std::alloc::{AllocError, Global};
-
-/// One operation is counted, of so many that are left. False where none is; then nothing changes (own).
-pub fn take_step(left: &mut usize) -> bool
-    ensures result { result ≡ nat_lt 0 left.old }
-    ensures counted { result ≡ true → left.old ≡ left.new + 1 }
-    ensures same { result ≡ false → left.new ≡ left.old }
-{
-    if *left == 0 {
-        return false;
-    }
-    *left -= 1;
-    true
-}
 
 /// What comes of an operation when it is handed over.
 #[derive(Drop)]
@@ -88,9 +75,7 @@ impl<D: Drop> RunState<D> {
             steps_left: max_steps,
         })
     }
-}
 
-impl<D: Drop> RunState<D> {
     /// A run once more, in which main is about to hand over its first operation. It takes no memory.
     pub fn restart(&mut self, max_threads: usize, max_steps: usize)
         requires some { 1 ≤ max_threads }

@@ -1,3 +1,9 @@
+//! Read-write locks: their readers and their writer, and what the operations of `RwLock` do to them (loom's `rt/rwlock.rs`).
+ghost use Rattle.std.specs.Borrow.{sem};
+ghost use Rattle.loom_objects.specs.Scene.Lends.{lends_in_scene, lends_kind};
+ghost use Rattle.loom_objects.specs.Scene.Lookup.{now_of, shown_of};
+ghost use Rattle.loom_objects.specs.Scene.Lookup as lookup;
+ghost use Rattle.loom_objects.specs.contracts.rt.rwlock.RwLock as rwlock_row;
 ghost use Rattle.std.specs.Prelude.{◌≡◌, OnSome, IfNone, None, Some, IfOk, OnErr, true};
 ghost use Rattle.loom_objects.specs.Lent.{handed_out, lent_to, taken_apart, value_in};
 ghost use Rattle.loom_objects.specs.Rules.RwLock as rules;
@@ -121,6 +127,39 @@ impl<D: Drop> RwLock<D> {
     }
 }
 
+impl<D> Object<D> {
+    /// The read-write lock that it is, to change, unless it was taken apart. Misuse where it is none.
+    fn as_rwlock_mut(&mut self) -> Result<&mut RwLock<D>, FailureKind>
+        ensures* writes_back { sem 𝓛 (lends_kind D.row (rwlock_row.the_row D.row) Object.RwLock self.entry result) }
+        ensures value { now_of result ≡ lookup.rwlock_in self.old }
+    {
+        match self {
+            Object::RwLock(lock) if !lock.content.is_taken => Ok(lock),
+            _ => Err(FailureKind::Misuse),
+        }
+    }
+}
+
+impl<D: Drop> Scene<D> {
+    /// The read-write lock of this number, to read. Misuse where there is none, or it was taken apart.
+    pub fn rwlock(&self, number: usize) -> Result<&RwLock<D>, FailureKind>
+        ensures { shown_of result ≡ lookup.rwlock_at number self.now.objects }
+    {
+        match self.object(number)? {
+            Object::RwLock(lock) if !lock.content.is_taken => Ok(lock),
+            _ => Err(FailureKind::Misuse),
+        }
+    }
+
+    /// The read-write lock of this number, to change. Misuse where there is none, or it was taken apart.
+    pub fn rwlock_mut(&mut self, number: usize) -> Result<&mut RwLock<D>, FailureKind>
+        ensures* writes_back { sem 𝓛 (lends_in_scene D.row (rwlock_row.the_row D.row) Object.RwLock self.entry number result) }
+        ensures value { now_of result ≡ lookup.rwlock_at number self.old.objects }
+    {
+        self.object_mut(number)?.as_rwlock_mut()
+    }
+}
+
 /// Whether a thread that takes a lock so waits for it.
 pub fn waits(claim: Claim) -> bool
     ensures { result ≡ rules.waits claim }
@@ -155,7 +194,7 @@ fn is_reading(claim: Claim) -> bool
     }
 }
 
-/// What a thread is told that takes a lock so, where it can't have it now. Who waits isn't chosen then.
+/// The reply to a claim of a lock that can't be had now. Who waits isn't chosen then.
 fn refuse<D>(claim: Claim) -> Result<Reply<D>, FailureKind>
     ensures { result ≡ rules.refusal claim }
 {

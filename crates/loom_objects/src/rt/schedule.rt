@@ -1,4 +1,4 @@
-//! What a run offers where it asks which thread goes on, and which thread goes on by itself.
+//! The choice of the default thread: the one that goes on where the search chooses none.
 ghost use Rattle.std.specs.Prelude.{◌≡◌, None, Some, ◌<◌, IfSome};
 ghost use Rattle.std.specs.List.{position_from};
 ghost use Rattle.loom_objects.specs.Schedule.Defaults as rules;
@@ -64,7 +64,7 @@ fn yielding_place(standings: &[(Ability, u64); MAX_THREADS]) -> Option<usize>
 }
 
 /// The active thread if it can go on, or else the one with the fewest yields that can, or else the first that has yielded. Each
-/// thread stands there by what it offers and how often it has yielded (loom's `rt/execution.rs`).
+/// thread is given by what it offers and how often it has yielded (loom's `rt/execution.rs`).
 pub fn default_thread(active: u8, standings: &[(Ability, u64); MAX_THREADS]) -> Option<u8>
     ensures { result ≡ rules.default_thread active standings.now }
 {

@@ -1,4 +1,4 @@
-//! What comes once a stage of an operation has passed.
+//! How one stage of an operation that takes several ends: by its reply, or at the branch point of the next stage.
 ghost use Rattle.std.specs.Prelude.{Ok, false, ◌≡◌};
 ghost use Rattle.loom_objects.specs.Scene.Stage.{Does};
 ghost use Rattle.loom_objects.specs.Rules.Waker as rules;
@@ -11,7 +11,7 @@ use crate::rt::thread::Task;
 use loom_views::rt::failure::FailureKind;
 use std::alloc::AllocError;
 
-/// The active thread is told the reply.
+/// The active thread has this reply to its operation.
 pub fn answered<D: Drop>(scene: &Scene<D>, reply: Reply<D>) -> Passed<D>
     ensures { Does (rules.answered reply) scene.now (Ok result) scene.now }
 {

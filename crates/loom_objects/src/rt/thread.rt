@@ -1,3 +1,4 @@
+//! Threads: their states, and what each has pending (loom's `rt/thread.rs`).
 pub mod life;
 pub mod park;
 
@@ -46,7 +47,7 @@ pub enum Counting {
     GetMut,
     /// It drops the one reference that there is, and has the value.
     Unwrap,
-    /// It tells how many references there are.
+    /// It reads how many references there are.
     StrongCount,
 }
 
@@ -134,7 +135,7 @@ pub enum Task<D> {
     Claim(Claim, usize),
     /// It waits on the condition variable of this number, and releases the mutex of that one with this data.
     Wait(Locking, usize, usize, D),
-    /// It was woken by a condition variable, and comes to the mutex of this number.
+    /// It was woken by a condition variable, and is to take the mutex of this number again.
     Relock(Locking, usize),
     /// It wakes waiters of the condition variable of this number.
     Wake(Waking, usize),

@@ -1,3 +1,9 @@
+//! Wakers of a future, which are counted as references are (loom's `rt/waker.rs`).
+ghost use Rattle.std.specs.Borrow.{sem};
+ghost use Rattle.loom_objects.specs.Scene.Lends.{lends_in_scene, lends_kind};
+ghost use Rattle.loom_objects.specs.Scene.Lookup.{now_of, shown_of};
+ghost use Rattle.loom_objects.specs.Scene.Lookup as lookup;
+ghost use Rattle.loom_objects.specs.contracts.rt.waker.Wakers as wakers_row;
 ghost use Rattle.std.specs.Prelude.{◌≡◌, Ok, IfOk, OnErr, true};
 ghost use Rattle.loom_objects.specs.Stages.Waker.{wakers_left};
 ghost use Rattle.loom_objects.specs.Scene.Stage.{Does, DoesIfOk};
@@ -22,6 +28,39 @@ pub struct Wakers {
     pub notifier: usize,
     /// How many there are, the future's own one included.
     pub count: u64,
+}
+
+impl<D> Object<D> {
+    /// The count of wakers that it is, to change. Misuse where it is none.
+    fn as_wakers_mut(&mut self) -> Result<&mut Wakers, FailureKind>
+        ensures* writes_back { sem 𝓛 (lends_kind D.row (wakers_row.the_row) Object.Wakers self.entry result) }
+        ensures value { now_of result ≡ lookup.wakers_in self.old }
+    {
+        match self {
+            Object::Wakers(wakers) => Ok(wakers),
+            _ => Err(FailureKind::Misuse),
+        }
+    }
+}
+
+impl<D: Drop> Scene<D> {
+    /// The count of wakers of this number, to read. Misuse where there is none.
+    pub fn wakers(&self, number: usize) -> Result<&Wakers, FailureKind>
+        ensures { shown_of result ≡ lookup.wakers_at number self.now.objects }
+    {
+        match self.object(number)? {
+            Object::Wakers(wakers) => Ok(wakers),
+            _ => Err(FailureKind::Misuse),
+        }
+    }
+
+    /// The count of wakers of this number, to change. Misuse where there is none.
+    pub fn wakers_mut(&mut self, number: usize) -> Result<&mut Wakers, FailureKind>
+        ensures* writes_back { sem 𝓛 (lends_in_scene D.row (wakers_row.the_row) Object.Wakers self.entry number result) }
+        ensures value { now_of result ≡ lookup.wakers_at number self.old.objects }
+    {
+        self.object_mut(number)?.as_wakers_mut()
+    }
 }
 
 /// The wakers of this number. `Misuse` where there are none.
@@ -205,7 +244,7 @@ fn after_drop<D: Drop>(scene: &mut Scene<D>, after: AfterDrop) -> Result<Passed<
             Ok(Passed::AtBranch)
         }
         AfterDrop::Free(number) => {
-            let place = *scene.place(number)?;
+            let place = *scene.atomic_waker(number)?;
             free_place(scene, number, place)?;
             Ok(answered(scene, Reply::Done))
         }

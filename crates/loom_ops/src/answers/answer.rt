@@ -1,4 +1,4 @@
-//! What a reply holds for the closure that has asked for it.
+//! What a closure gets of a reply: the trait, and the answers of mutexes, atomics and joins.
 ghost use Rattle.std.specs.Prelude.{◌≡◌, Option};
 ghost use Rattle.loom_objects.specs.declared.operation.Reply.{Reply};
 ghost use Rattle.loom_ops.specs.Answers.{done_in, guard_in, tried_in, joined_in, loaded_in, exchanged_in};

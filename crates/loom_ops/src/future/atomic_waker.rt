@@ -1,6 +1,6 @@
-//! Places for wakers: one thread registers its waker, and another takes it out to wake it.
+//! Atomic wakers: a place where one thread registers its waker, and another takes it out to wake it.
 ghost use Rattle.std.specs.Prelude.{◌≡◌, None};
-ghost use Rattle.loom_ops.specs.Waker.{place_handle};
+ghost use Rattle.loom_ops.specs.Waker.{atomic_waker_handle};
 ghost use Rattle.loom_objects.specs.Operation.Labelled.{bare};
 
 use crate::future::Waker;
@@ -24,7 +24,7 @@ impl AtomicWaker {
 
     /// The place that was made, if that is what the reply says (own).
     pub fn from_reply<D>(reply: &Reply<D>) -> Option<AtomicWaker>
-        ensures { result ≡ place_handle reply.now }
+        ensures { result ≡ atomic_waker_handle reply.now }
     {
         match reply {
             Reply::AtomicWaker(number) => Some(AtomicWaker { number: *number }),
@@ -40,7 +40,7 @@ impl AtomicWaker {
         Op::new(Request::AtomicWaker(AtomicWakerOp::Register(self.number, waker.number)))
     }
 
-    /// The same of a clone of the waker, which is made first (loom's `future/atomic_waker.rs`).
+    /// Registers a clone of the waker, which is made first (loom's `future/atomic_waker.rs`).
     pub fn register_by_ref<D, S>(self, waker: &Waker) -> Op<D, S>
         ensures { result ≡ bare (Request.AtomicWaker (AtomicWakerOp.RegisterByRef self.number waker.now.number)) }
     {

@@ -5,20 +5,12 @@ ghost use Rattle.std.specs.Option.{option_map};
 ghost use Rattle.loom_ops.specs.Atomic.{atomic_handle, value_in, exchange, exchanged_in, update, fetched_in};
 ghost use Rattle.loom_ops.specs.Thread.{yielding};
 
-use crate::sync::atomic;
 use crate::thread;
 use loom_objects::operation::{AtomicOp, Exchange, Op, Reply, Request};
 use loom_views::rt::num::Numeric;
 use loom_views::rt::num::change::Change;
 use std::marker::PhantomData;
 pub use std::sync::atomic::Ordering;
-
-/// Ends the thread's mutation of the atomic of this number, which leaves this value (loom's `sync/atomic/int.rs`).
-pub fn with_mut_end<T: Numeric, D, S>(number: usize, value: T) -> Op<D, S>
-    ensures { result ≡ bare (Request.Atomic (AtomicOp.WithMutEnd number (T.number value))) }
-{
-    Op::new(Request::Atomic(AtomicOp::WithMutEnd(number, value.into_u64())))
-}
 
 /// An atomic of the run, which holds a `T` (loom's `sync/atomic/atomic.rs`).
 #[derive(Clone, Copy, Debug)]
@@ -210,7 +202,7 @@ impl<T: Numeric> Atomic<T> {
         Op::new(Request::Atomic(AtomicOp::CompareExchange(self.number, exchange)))
     }
 
-    /// The same as `compare_exchange`: it fails only where another value is read (loom's `sync/atomic/int.rs` and `bool.rs`).
+    /// An exchange as by `compare_exchange`: it fails only where another value is read (loom's `sync/atomic/int.rs` and `bool.rs`).
     pub fn compare_exchange_weak<D, S>(
         self,
         current: T,
@@ -284,7 +276,7 @@ impl<T: Integer> Atomic<T> {
     pub fn with_mut_end<D, S>(self, value: T) -> Op<D, S>
         ensures { result ≡ bare (Request.Atomic (AtomicOp.WithMutEnd self.number (T.number value))) }
     {
-        atomic::with_mut_end(self.number, value)
+        Op::new(Request::Atomic(AtomicOp::WithMutEnd(self.number, value.into_u64())))
     }
 
     /// Adds, by the lowest bits of the type, and replies the value before (loom's `sync/atomic/int.rs`).

@@ -3,17 +3,8 @@ ghost use Rattle.std.specs.Prelude.{◌≡◌, None};
 ghost use Rattle.loom_objects.specs.Operation.Labelled.{bare};
 ghost use Rattle.loom_ops.specs.Condvar.{condvar_handle, timeout_in};
 
-use crate::sync::condvar;
 use crate::sync::mutex::MutexGuard;
 use loom_objects::operation::{CondvarOp, Op, Reply, Request};
-
-/// The thread releases the mutex of this number, which holds this data then, and waits on the condition variable (loom's
-/// `sync/condvar.rs`).
-pub fn wait<D, S>(condvar: usize, mutex: usize, value: D) -> Op<D, S>
-    ensures { result ≡ bare (Request.Condvar (CondvarOp.Wait condvar mutex value)) }
-{
-    Op::new(Request::Condvar(CondvarOp::Wait(condvar, mutex, value)))
-}
 
 /// A condition variable of the run (loom's `sync/condvar.rs`).
 #[derive(Clone, Copy, Debug)]
@@ -50,11 +41,11 @@ impl Condvar {
     pub fn wait<D, S>(self, guard: MutexGuard, value: D) -> Op<D, S>
         ensures { result ≡ bare (Request.Condvar (CondvarOp.Wait self.number guard.number value)) }
     {
-        condvar::wait(self.number, guard.number, value)
+        Op::new(Request::Condvar(CondvarOp::Wait(self.number, guard.number, value)))
     }
 
-    /// The same, but the reply is `Waited`, which also says that the time didn't run out: it never does, as in loom, and so no
-    /// time is given (loom's `sync/condvar.rs`).
+    /// Waits as `wait` does, but the reply is `Waited`, which also says that the time didn't run out: it never does, as in loom,
+    /// and so no time is given (loom's `sync/condvar.rs`).
     pub fn wait_timeout<D, S>(self, guard: MutexGuard, value: D) -> Op<D, S>
         ensures { result ≡ bare (Request.Condvar (CondvarOp.WaitTimeout self.number guard.number value)) }
     {
@@ -77,7 +68,7 @@ impl Condvar {
 }
 
 impl WaitTimeoutResult {
-    /// What a wait with a time came to, if that is what the reply says (own).
+    /// How a wait with a time ended, if that is what the reply says (own).
     pub fn from_reply<D>(reply: &Reply<D>) -> Option<WaitTimeoutResult>
         ensures { result ≡ timeout_in reply.now }
     {

@@ -82,7 +82,7 @@ impl Receiver {
         Op::new(Request::Channel(ChannelOp::Recv(self.number)))
     }
 
-    /// The same, where there is a message. Where there is none it replies `Empty`, also without senders, and doesn't wait;
+    /// Receives where there is a message. Where there is none it replies `Empty`, also without senders, and doesn't wait;
     /// where another thread has taken it since, and no sender is left, `Disconnected` (loom's `sync/mpsc.rs`).
     pub fn try_recv<D, S>(self) -> Op<D, S>
         ensures { result ≡ bare (Request.Channel (ChannelOp.TryRecv self.number)) }

@@ -1,28 +1,9 @@
-//! Mutexes.
+//! Mutexes: one thread at a time holds a mutex, and has its data meanwhile.
 ghost use Rattle.std.specs.Prelude.{◌≡◌, None};
 ghost use Rattle.loom_objects.specs.Operation.Labelled.{bare};
-ghost use Rattle.loom_ops.specs.Mutex.{held_in, mutex_handle, guard_handle, guard_taken};
+ghost use Rattle.loom_ops.specs.Mutex.{mutex_handle, guard_handle, guard_taken};
 
-use crate::sync::mutex;
 use loom_objects::operation::{MutexOp, Op, Reply, Request};
-
-/// The thread holds the mutex of this number from its reply on (loom's `sync/mutex.rs`).
-pub fn lock<D, S>(number: usize) -> Op<D, S>
-    ensures { result ≡ bare (Request.Mutex (MutexOp.Lock number)) }
-{
-    Op::new(Request::Mutex(MutexOp::Lock(number)))
-}
-
-/// The mutex that the thread holds now, by its number, if that is what the reply says: of a lock, or of a wait with a time (own).
-pub fn held<D>(reply: &Reply<D>) -> Option<usize>
-    ensures { result ≡ held_in reply.now }
-{
-    match reply {
-        Reply::Locked(number, _) => Some(*number),
-        Reply::Waited(number, ..) => Some(*number),
-        _ => None,
-    }
-}
 
 /// A mutex of the run (loom's `sync/mutex.rs`).
 #[derive(Clone, Copy, Debug)]
@@ -62,10 +43,10 @@ impl Mutex {
     pub fn lock<D, S>(self) -> Op<D, S>
         ensures { result ≡ bare (Request.Mutex (MutexOp.Lock self.number)) }
     {
-        mutex::lock(self.number)
+        Op::new(Request::Mutex(MutexOp::Lock(self.number)))
     }
 
-    /// The same, where nobody holds the mutex. Where a thread does, this one as well, it replies `WouldBlock` and doesn't wait
+    /// Locks the mutex where nobody holds it. Where a thread does, this one as well, it replies `WouldBlock` and doesn't wait
     /// (loom's `sync/mutex.rs`).
     pub fn try_lock<D, S>(self) -> Op<D, S>
         ensures { result ≡ bare (Request.Mutex (MutexOp.TryLock self.number)) }
@@ -102,9 +83,10 @@ impl MutexGuard {
     pub fn from_reply<D>(reply: &Reply<D>) -> Option<MutexGuard>
         ensures { result ≡ guard_handle reply.now }
     {
-        match mutex::held(reply) {
-            Some(number) => Some(MutexGuard { number }),
-            None => None,
+        match reply {
+            Reply::Locked(number, _) => Some(MutexGuard { number: *number }),
+            Reply::Waited(number, ..) => Some(MutexGuard { number: *number }),
+            _ => None,
         }
     }
 

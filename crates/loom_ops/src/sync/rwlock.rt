@@ -54,7 +54,7 @@ impl RwLock {
         Op::new(Request::RwLock(RwLockOp::Read(self.number)))
     }
 
-    /// The same, where no thread writes. Where one does, it replies `WouldBlock` and doesn't wait (loom's `sync/rwlock.rs`).
+    /// Reads where no thread writes. Where one does, it replies `WouldBlock` and doesn't wait (loom's `sync/rwlock.rs`).
     pub fn try_read<D, S>(self) -> Op<D, S>
         ensures { result ≡ bare (Request.RwLock (RwLockOp.TryRead self.number)) }
     {
@@ -69,7 +69,7 @@ impl RwLock {
         Op::new(Request::RwLock(RwLockOp::Write(self.number)))
     }
 
-    /// The same, where no thread reads or writes. Where one does, this one as well, it replies `WouldBlock` and doesn't wait
+    /// Writes where no thread reads or writes. Where one does, this one as well, it replies `WouldBlock` and doesn't wait
     /// (loom's `sync/rwlock.rs`).
     pub fn try_write<D, S>(self) -> Op<D, S>
         ensures { result ≡ bare (Request.RwLock (RwLockOp.TryWrite self.number)) }

@@ -1,4 +1,4 @@
-//! That a lock wasn't waited for.
+//! Why a lock that was tried has no guard.
 ghost use Rattle.std.specs.Prelude.{◌≡◌, Some, codes};
 ghost use Rattle.loom_ops.specs.Mutex.{try_lock_error};
 

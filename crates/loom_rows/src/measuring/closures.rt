@@ -1,5 +1,5 @@
 //! The rows of closures that are measured beside the bodies of the same operations.
-use loom_examples::closures::rows::Row;
+use loom_examples::closures::rows::ClosureRow;
 use loom_examples::rows::WHOLE;
 use loom_examples::rows::settings::Settings;
 
@@ -9,7 +9,7 @@ pub(crate) struct Closures {
     /// The name of the body with the same operations, and `closures`.
     pub name: &'static str,
     /// What is checked.
-    pub row: Row,
+    pub row: ClosureRow,
     /// How often it is checked.
     pub checks: u64,
     /// How it is checked.
@@ -21,14 +21,14 @@ pub(crate) struct Closures {
 static ALL: [Closures; 2] = [
     Closures {
         name: "store_buffering closures",
-        row: Row::StoreBuffering,
+        row: ClosureRow::StoreBuffering,
         checks: 20,
         settings: WHOLE,
         threads: 1,
     },
     Closures {
         name: "locks_crosswise closures",
-        row: Row::TwoMutexesDeadlock,
+        row: ClosureRow::TwoMutexesDeadlock,
         checks: 20,
         settings: WHOLE,
         threads: 2,

@@ -41,8 +41,7 @@ pub enum Kind {
 }
 
 impl Kind {
-    // The call of this number, where atomics hold a `T`. (An arm of such a match costs the proof some 0.2 seconds, and a function
-    // that makes an operation some 2.5. An operation costs 0.5 where it is handed on in place, or stands in an array.)
+    // The call of this number, where atomics hold a `T`.
     fn call<T: Numeric>(self, number: usize) -> Op<u64, ()> {
         match self {
             Kind::Atomics => atomics::call(number),
@@ -67,7 +66,7 @@ pub fn make<T: Numeric + Debug + Drop, R: Abort + AllocGlobal>(rt: &R, kind: Kin
     }
 }
 
-// The same in this run.
+// Makes the calls of these rows in this run.
 fn make_in<T: Numeric + Debug + Drop, R: Abort + AllocGlobal>(
     rt: &R,
     execution: &mut Execution<u64>,

@@ -3,7 +3,7 @@
 use loom::FailureKind;
 use loom::model::Report;
 use loom::model::builder::Builder;
-use loom::runner::{Handle, Nobody, RunnerError, Stop, check};
+use loom::runner::{Handle, NoVisitor, RunnerError, Stop, check};
 use loom_examples::bodies::spin::Spin;
 use loom_examples::bodies::{peterson, queue, ring};
 use loom_examples::closures::peterson::petersons_lock;
@@ -49,7 +49,7 @@ impl Closures {
         builder: &Builder,
     ) -> Result<Report, RunnerError> {
         let main = |handle: &mut Handle<u64, R>| self.run(handle);
-        check(rt, rt.alloc(), builder, main, &mut Nobody)
+        check(rt, rt.alloc(), builder, main, &mut NoVisitor)
     }
 }
 
@@ -84,7 +84,7 @@ fn agree<R: Abort>(rt: &R, closures: &Report, bodies: &Report, kind: Option<Fail
     );
 }
 
-/// The same, where the body is a script.
+/// The checks of a body, which is a script.
 fn finds_as_script<R: Abort + AllocGlobal + Files + Threads + Wait + Clone + Send + 'static>(
     rt: &R,
     builder: &Builder,
@@ -97,7 +97,7 @@ fn finds_as_script<R: Abort + AllocGlobal + Files + Threads + Wait + Clone + Sen
     both_find(rt, builder, closures, &bodies, kind)
 }
 
-/// The same, where the body is a spin lock.
+/// The checks of a body, which is a spin lock.
 fn finds_as_spin<R: Abort + AllocGlobal + Files + Threads + Wait + Clone + Send + 'static>(
     rt: &R,
     release: Ordering,

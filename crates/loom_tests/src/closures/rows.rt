@@ -1,6 +1,6 @@
 //! What the program prints of the rows that are closures.
 use crate::closures::holds;
-use loom_examples::closures::rows::{ROWS, Row, run_row};
+use loom_examples::closures::rows::{ClosureRow, ROWS, run_row};
 use std::io;
 use std::process::Abort;
 use std::sync::Wait;
@@ -27,7 +27,7 @@ static LINES: [(&str, &str, u8); 9] = [
 /// Whether the row prints this line and nothing besides, and has this status.
 fn is_printed<R: AllocGlobal + Threads + Wait + Clone + Send + 'static>(
     rt: &R,
-    row: Row,
+    row: ClosureRow,
     line: &str,
     status: u8,
 ) -> io::Result<bool> {
@@ -44,7 +44,7 @@ fn prints<R: Abort + AllocGlobal + Threads + Wait + Clone + Send + 'static>(
     line: &str,
     status: u8,
 ) -> Result<(), Fail> {
-    let Some(row) = Row::meant_by(&[name]) else {
+    let Some(row) = ClosureRow::meant_by(&[name]) else {
         panic!(rt; "no row {name}");
     };
     let is_printed = is_printed(rt, row, line, status)?;
@@ -77,8 +77,8 @@ fn rows_print_the_same_a_hundred_times(rt: HostRuntime) -> Result<(), Fail> {
 fn words_that_mean_no_row(rt: HostRuntime) {
     holds(
         &rt,
-        Row::meant_by(&["lock_beside_closures", "file"]).is_none(),
+        ClosureRow::meant_by(&["lock_beside_closures", "file"]).is_none(),
     );
-    holds(&rt, Row::meant_by(&["lock_beside"]).is_none());
-    holds(&rt, Row::meant_by(&[]).is_none());
+    holds(&rt, ClosureRow::meant_by(&["lock_beside"]).is_none());
+    holds(&rt, ClosureRow::meant_by(&[]).is_none());
 }

@@ -88,7 +88,7 @@ pub(super) fn counted_lock_beside<R: Threads + Wait + Clone + Send + 'static>(
     lock_beside(handle, starts)
 }
 
-/// The same, where the thread alone counts its start.
+/// The one before, where the thread alone counts its start.
 pub(super) fn lock_beside<R: Threads + Wait + Clone + Send + 'static>(
     handle: &mut Handle<u64, R>,
     starts: &Counter,

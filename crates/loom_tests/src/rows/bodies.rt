@@ -23,35 +23,39 @@ const REPLACE: Step = Step::Do(0, Request::Cell(CellOp::Replace(1, Value::Plain(
 const FENCES_HAND_ON: &[Step] = &[
     NEW,
     NEW_CELL,
-    Step::Do(2, Request::Thread(ThreadOp::Spawn(10, None))),
+    Step::SpawnAt(2, "child"),
     Step::Do(0, Request::Atomic(AtomicOp::Load(0, Relaxed))),
-    Step::Unless(0, 1, 7),
+    Step::UnlessTo(0, 1, "finish"),
     Step::Do(0, Request::Fence(Acquire)),
     GET,
+    Step::Label("finish"),
     FINISH,
     EXIT,
     END,
+    Step::Label("child"),
     REPLACE,
     Step::Do(0, Request::Fence(Release)),
     Step::Do(0, Request::Atomic(AtomicOp::Store(0, 1, Relaxed))),
-    Step::Jump(7),
+    Step::JumpTo("finish"),
 ];
 
 /// A thread writes a cell and releases a number, to which main adds. Main reads the cell where it acquires the sum.
 const UPDATES_PASS_ON: &[Step] = &[
     NEW,
     NEW_CELL,
-    Step::Do(2, Request::Thread(ThreadOp::Spawn(10, None))),
+    Step::SpawnAt(2, "child"),
     Step::Do(1, Request::Atomic(AtomicOp::Update(0, Add(1), Relaxed))),
     Step::Do(0, Request::Atomic(AtomicOp::Load(0, Acquire))),
-    Step::Unless(0, 2, 7),
+    Step::UnlessTo(0, 2, "finish"),
     GET,
+    Step::Label("finish"),
     FINISH,
     EXIT,
     END,
+    Step::Label("child"),
     REPLACE,
     Step::Do(0, Request::Atomic(AtomicOp::Store(0, 1, Release))),
-    Step::Jump(7),
+    Step::JumpTo("finish"),
 ];
 
 /// A thread writes a cell and releases a number. Main finds the number by an exchange that fails and acquires, and reads the
@@ -59,16 +63,18 @@ const UPDATES_PASS_ON: &[Step] = &[
 const FAILING_ACQUIRES: &[Step] = &[
     NEW,
     NEW_CELL,
-    Step::Do(2, Request::Thread(ThreadOp::Spawn(9, None))),
+    Step::SpawnAt(2, "child"),
     Step::Do(0, Request::Atomic(AtomicOp::CompareExchange(0, FIVE))),
-    Step::Unless(3, 1, 6),
+    Step::UnlessTo(3, 1, "finish"),
     GET,
+    Step::Label("finish"),
     FINISH,
     EXIT,
     END,
+    Step::Label("child"),
     REPLACE,
     Step::Do(0, Request::Atomic(AtomicOp::Store(0, 1, Release))),
-    Step::Jump(6),
+    Step::JumpTo("finish"),
 ];
 
 const FIVE: Exchange = Exchange {
@@ -81,43 +87,49 @@ const FIVE: Exchange = Exchange {
 /// Main yields between two loads, beside two stores.
 const YIELD_BETWEEN_LOADS: &[Step] = &[
     NEW,
-    Step::Do(1, Request::Thread(ThreadOp::Spawn(8, None))),
+    Step::SpawnAt(1, "child"),
     Step::Do(1, Request::Atomic(AtomicOp::Load(0, Relaxed))),
     YIELD,
     Step::Do(0, Request::Atomic(AtomicOp::Load(0, Relaxed))),
+    Step::Label("finish"),
     FINISH,
     EXIT,
     END,
+    Step::Label("child"),
     Step::Do(0, Request::Atomic(AtomicOp::Store(0, 1, Relaxed))),
     Step::Do(0, Request::Atomic(AtomicOp::Store(0, 2, Relaxed))),
-    Step::Jump(5),
+    Step::JumpTo("finish"),
 ];
 
 /// Two threads each store and load, all sequentially consistent.
 const SEQ_CST_BUFFERING: &[Step] = &[
     NEW,
     Step::Do(1, Request::Atomic(AtomicOp::New(Numbers::U64, 0))),
-    Step::Do(2, Request::Thread(ThreadOp::Spawn(10, None))),
+    Step::SpawnAt(2, "child"),
     Step::Do(0, Request::Atomic(AtomicOp::Store(1, 1, SeqCst))),
     Step::Do(1, Request::Atomic(AtomicOp::Load(0, SeqCst))),
     Step::Do(0, Request::Thread(ThreadOp::Join(2, 2))),
     Step::Do(0, Request::Thread(ThreadOp::Finish(Value::Both(0, 1)))),
+    Step::Label("finish"),
     FINISH,
     EXIT,
     END,
+    Step::Label("child"),
     Step::Do(0, Request::Atomic(AtomicOp::Store(0, 1, SeqCst))),
     Step::Do(0, Request::Atomic(AtomicOp::Load(1, SeqCst))),
-    Step::Jump(7),
+    Step::JumpTo("finish"),
 ];
 
 /// Main loads twice beside a thread that stores eight times, so that slots are used again.
 const STORES_WRAP: &[Step] = &[
     NEW,
-    Step::Do(1, Request::Thread(ThreadOp::Spawn(6, None))),
+    Step::SpawnAt(1, "child"),
     Step::Do(0, Request::Atomic(AtomicOp::Load(0, Relaxed))),
+    Step::Label("finish"),
     FINISH,
     EXIT,
     END,
+    Step::Label("child"),
     Step::Do(0, Request::Atomic(AtomicOp::Store(0, 1, Relaxed))),
     Step::Do(0, Request::Atomic(AtomicOp::Store(0, 2, Relaxed))),
     Step::Do(0, Request::Atomic(AtomicOp::Store(0, 3, Relaxed))),
@@ -126,13 +138,13 @@ const STORES_WRAP: &[Step] = &[
     Step::Do(0, Request::Atomic(AtomicOp::Store(0, 6, Relaxed))),
     Step::Do(0, Request::Atomic(AtomicOp::Store(0, 7, Relaxed))),
     Step::Do(0, Request::Atomic(AtomicOp::Store(0, 8, Relaxed))),
-    Step::Jump(3),
+    Step::JumpTo("finish"),
 ];
 
 /// Two threads swap where they find 0. Main joins the other, opens a mutation and ends it, and takes the atomic apart.
 const SWAPS_THEN_MUTATION: &[Step] = &[
     NEW,
-    Step::Do(1, Request::Thread(ThreadOp::Spawn(10, None))),
+    Step::SpawnAt(1, "child"),
     Step::Do(
         1,
         Request::Atomic(AtomicOp::CompareAndSwap(0, 0, 1, AcqRel)),
@@ -141,72 +153,81 @@ const SWAPS_THEN_MUTATION: &[Step] = &[
     Step::Do(1, Request::Atomic(AtomicOp::WithMut(0))),
     Step::Do(0, Request::Atomic(AtomicOp::WithMutEnd(0, 9))),
     Step::Do(0, Request::Atomic(AtomicOp::IntoInner(0))),
+    Step::Label("finish"),
     FINISH,
     EXIT,
     END,
+    Step::Label("child"),
     Step::Do(
         0,
         Request::Atomic(AtomicOp::CompareAndSwap(0, 0, 2, Relaxed)),
     ),
-    Step::Jump(7),
+    Step::JumpTo("finish"),
 ];
 
 /// Main tries a mutex that the other thread locks, and takes it apart in the end.
 const TRIES_LOCK: &[Step] = &[
     Step::Do(0, Request::Mutex(MutexOp::New(Value::Plain(0)))),
-    Step::Do(1, Request::Thread(ThreadOp::Spawn(11, None))),
+    Step::SpawnAt(1, "child"),
     Step::Do(0, Request::Mutex(MutexOp::TryLock(0))),
-    Step::Unless(3, 0, 5),
+    Step::UnlessTo(3, 0, "join"),
     Step::Do(0, Request::Mutex(MutexOp::Release(0, Value::Next(0)))),
+    Step::Label("join"),
     Step::Do(1, Request::Thread(ThreadOp::Join(1, 1))),
     Step::Do(0, Request::Mutex(MutexOp::GetMut(0))),
     Step::Do(0, Request::Mutex(MutexOp::Put(0, Value::Held(0)))),
+    Step::Label("finish"),
     FINISH,
     EXIT,
     END,
+    Step::Label("child"),
     Step::Do(0, Request::Mutex(MutexOp::Lock(0))),
     Step::Do(0, Request::Mutex(MutexOp::Release(0, Value::Next(0)))),
-    Step::Jump(8),
+    Step::JumpTo("finish"),
 ];
 
 /// Main reads a lock that the other thread tries to write, and takes the lock apart in the end.
 const TRIES_WRITE: &[Step] = &[
     Step::Do(0, Request::RwLock(RwLockOp::New(Value::Plain(0)))),
-    Step::Do(1, Request::Thread(ThreadOp::Spawn(10, None))),
+    Step::SpawnAt(1, "child"),
     Step::Do(0, Request::RwLock(RwLockOp::Read(0))),
     YIELD,
     Step::Do(0, Request::RwLock(RwLockOp::ReadRelease(0))),
     Step::Do(1, Request::Thread(ThreadOp::Join(1, 1))),
     Step::Do(0, Request::RwLock(RwLockOp::IntoInner(0))),
+    Step::Label("finish"),
     FINISH,
     EXIT,
     END,
+    Step::Label("child"),
     Step::Do(0, Request::RwLock(RwLockOp::TryWrite(0))),
-    Step::Unless(3, 0, 7),
+    Step::UnlessTo(3, 0, "finish"),
     Step::Do(
         0,
         Request::RwLock(RwLockOp::WriteRelease(0, Value::Plain(4))),
     ),
-    Step::Jump(7),
+    Step::JumpTo("finish"),
 ];
 
 /// Main writes a lock that the other thread tries to read.
 const TRIES_READ: &[Step] = &[
     Step::Do(0, Request::RwLock(RwLockOp::New(Value::Plain(0)))),
-    Step::Do(1, Request::Thread(ThreadOp::Spawn(8, None))),
+    Step::SpawnAt(1, "child"),
     Step::Do(0, Request::RwLock(RwLockOp::Write(0))),
     YIELD,
     Step::Do(
         0,
         Request::RwLock(RwLockOp::WriteRelease(0, Value::Plain(5))),
     ),
+    Step::Label("finish"),
     FINISH,
     EXIT,
     END,
+    Step::Label("child"),
     Step::Do(0, Request::RwLock(RwLockOp::TryRead(0))),
-    Step::Unless(3, 0, 5),
+    Step::UnlessTo(3, 0, "finish"),
     Step::Do(0, Request::RwLock(RwLockOp::ReadRelease(0))),
-    Step::Jump(5),
+    Step::JumpTo("finish"),
 ];
 
 /// Main waits for a notification with a time, by which a thread hands over a cell that it wrote under the mutex.
@@ -215,66 +236,75 @@ const WAITS_WITH_TIME: &[Step] = &[
     NEW_CELL,
     Step::Do(2, Request::Condvar(CondvarOp::New)),
     Step::Do(0, Request::Mutex(MutexOp::Lock(0))),
-    Step::Do(3, Request::Thread(ThreadOp::Spawn(11, None))),
+    Step::SpawnAt(3, "child"),
     Step::Do(
         0,
         Request::Condvar(CondvarOp::WaitTimeout(2, 0, Value::Plain(1))),
     ),
     GET,
     Step::Do(1, Request::Mutex(MutexOp::Release(0, Value::Plain(0)))),
+    Step::Label("finish"),
     FINISH,
     EXIT,
     END,
+    Step::Label("child"),
     Step::Do(0, Request::Mutex(MutexOp::Lock(0))),
     REPLACE,
     Step::Do(0, Request::Mutex(MutexOp::Release(0, Value::Plain(0)))),
     Step::Do(0, Request::Condvar(CondvarOp::NotifyAll(2))),
-    Step::Jump(8),
+    Step::JumpTo("finish"),
 ];
 
 /// Main waits on a notifier, by which a thread hands over a cell. Where it wakes without a notification it is a race.
 const NOTIFIER_HANDS_ON: &[Step] = &[
     Step::Do(0, Request::Notify(NotifyOp::New)),
     NEW_CELL,
-    Step::Do(2, Request::Thread(ThreadOp::Spawn(8, None))),
+    Step::SpawnAt(2, "child"),
     Step::Do(0, Request::Notify(NotifyOp::Wait(0))),
     GET,
+    Step::Label("finish"),
     FINISH,
     EXIT,
     END,
+    Step::Label("child"),
     REPLACE,
     Step::Do(0, Request::Notify(NotifyOp::Notify(0))),
-    Step::Jump(5),
+    Step::JumpTo("finish"),
 ];
 
 /// Main waits on a notifier beside a thread that notifies it.
 const WAKES_EARLY: &[Step] = &[
     Step::Do(0, Request::Notify(NotifyOp::New)),
-    Step::Do(1, Request::Thread(ThreadOp::Spawn(6, None))),
+    Step::SpawnAt(1, "child"),
     Step::Do(0, Request::Notify(NotifyOp::Wait(0))),
+    Step::Label("finish"),
     FINISH,
     EXIT,
     END,
+    Step::Label("child"),
     Step::Do(0, Request::Notify(NotifyOp::Notify(0))),
-    Step::Jump(3),
+    Step::JumpTo("finish"),
 ];
 
 /// Two threads share a counted reference. Main takes the value apart if it is alone, and else out for a moment, and drops it.
 const SHARED_COUNT: &[Step] = &[
     Step::Do(0, Request::Arc(ArcOp::New(Value::Plain(8)))),
     Step::Do(0, Request::Arc(ArcOp::Clone(0))),
-    Step::Do(1, Request::Thread(ThreadOp::Spawn(12, None))),
+    Step::SpawnAt(1, "child"),
     Step::Do(0, Request::Arc(ArcOp::TryUnwrap(0))),
-    Step::Unless(3, 1, 9),
+    Step::UnlessTo(3, 1, "finish"),
     Step::Do(1, Request::Arc(ArcOp::GetMut(0))),
-    Step::Unless(1, 8, 8),
+    Step::UnlessTo(1, 8, "drop"),
     Step::Do(0, Request::Arc(ArcOp::Put(0, Value::Plain(6)))),
+    Step::Label("drop"),
     Step::Do(0, Request::Arc(ArcOp::Drop(0))),
+    Step::Label("finish"),
     FINISH,
     EXIT,
     END,
+    Step::Label("child"),
     Step::Do(0, Request::Arc(ArcOp::Drop(0))),
-    Step::Jump(9),
+    Step::JumpTo("finish"),
 ];
 
 /// Main looks at a tracked value and takes it out and back, before it gives the value back.
@@ -289,7 +319,6 @@ const TRACKED: &[Step] = &[
     END,
 ];
 
-// A long table costs the proof more than two short ones.
 static ATOMIC_ROWS: [Row; 4] = [
     row!("fences hand on", FENCES_HAND_ON),
     row!("updates pass on", UPDATES_PASS_ON),

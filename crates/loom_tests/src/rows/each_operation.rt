@@ -132,25 +132,28 @@ const WAITS: &[Step] = &[
     Step::Do(0, Request::Mutex(MutexOp::New(FIVE))),
     Step::Do(1, Request::Condvar(CondvarOp::New)),
     Step::Do(0, Request::Mutex(MutexOp::Lock(0))),
-    Step::Do(2, Request::Thread(ThreadOp::Spawn(14, None))),
+    Step::SpawnAt(2, "first"),
     Step::Do(0, Request::Condvar(CondvarOp::Wait(1, 0, FIVE))),
-    Step::Do(3, Request::Thread(ThreadOp::Spawn(18, None))),
+    Step::SpawnAt(3, "second"),
     Step::Do(0, Request::Condvar(CondvarOp::WaitTimeout(1, 0, FIVE))),
     Step::Do(0, Request::Mutex(MutexOp::Release(0, FIVE))),
     Step::Do(4, Request::Notify(NotifyOp::New)),
     Step::Do(0, Request::Notify(NotifyOp::Notify(4))),
     Step::Do(0, Request::Notify(NotifyOp::Wait(4))),
+    Step::Label("finish"),
     FINISH,
     EXIT,
     END,
+    Step::Label("first"),
     Step::Do(0, Request::Mutex(MutexOp::Lock(0))),
     Step::Do(0, Request::Mutex(MutexOp::Release(0, FIVE))),
     Step::Do(0, Request::Condvar(CondvarOp::NotifyOne(1))),
-    Step::Jump(11),
+    Step::JumpTo("finish"),
+    Step::Label("second"),
     Step::Do(0, Request::Mutex(MutexOp::Lock(0))),
     Step::Do(0, Request::Mutex(MutexOp::Release(0, FIVE))),
     Step::Do(0, Request::Condvar(CondvarOp::NotifyAll(1))),
-    Step::Jump(11),
+    Step::JumpTo("finish"),
 ];
 
 const CHANNELS: &[Step] = &[
@@ -216,7 +219,6 @@ const THREADS: &[Step] = &[
     END,
 ];
 
-// A long table costs the proof more than two short ones.
 static OBJECT_ROWS: [Row; 4] = [
     row!("atomics", ATOMICS),
     row!("cells", CELLS),

@@ -8,7 +8,7 @@ use loom::model::builder::Builder;
 use loom::model::error::CheckError;
 use loom::{Body, Choice, FailureKind};
 use loom_examples::bodies::updates::Updater;
-use loom_examples::rows::line::ShownChoices;
+use loom_examples::rows::line::SpacedChoices;
 use loom_examples::rows::settings::{Builds, Settings};
 use loom_examples::rows::{Checked, Row, row_of};
 use loom_plain::run::Ending;
@@ -121,7 +121,7 @@ fn put_choices(page: &mut Page, choices: &[Choice]) {
         page.add_number(" ", choices.len() as u64);
         page.add(" choices");
     } else {
-        page.add_shown(&ShownChoices(choices));
+        page.add_shown(&SpacedChoices(choices));
     }
 }
 

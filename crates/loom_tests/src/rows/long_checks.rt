@@ -23,7 +23,7 @@ use loom::model::builder::Builder;
 use loom::model::error::CheckError;
 use loom::model::visitor::Visitor;
 use loom::{CheckpointStore, Choice, Clock, MemoryStore, StoreError};
-use loom_examples::rows::line::{ShownChoices, ShownReport};
+use loom_examples::rows::line::{ShownReport, SpacedChoices};
 use loom_examples::rows::settings::{Builds, Settings};
 use loom_examples::rows::tables::few_threads::LOCK_BESIDE;
 use loom_examples::rows::{DEFAULTS, WHOLE};
@@ -37,11 +37,11 @@ use std::time::Duration;
 const TWO_NODES: &str =
     "{\"exploring\":true,\"nodes\":[{\"exploring\":true,\"first\":0,\"schedule\":[\"Visited\",\"Active\",\"Disabled\",\"Disabled\",\"Disabled\"]},{\"exploring\":true,\"first\":1,\"schedule\":[\"Active\",\"Visited\",\"Disabled\",\"Disabled\",\"Disabled\"]}],\"preemption_bound\":null,\"reduce\":false,\"version\":1}";
 
-// The same after its first run.
+// The text with which such a check goes on after its first run.
 const ONE_NODE: &str =
     "{\"exploring\":true,\"nodes\":[{\"exploring\":true,\"first\":0,\"schedule\":[\"Visited\",\"Active\",\"Disabled\",\"Disabled\",\"Disabled\"]}],\"preemption_bound\":null,\"reduce\":false,\"version\":1}";
 
-// The same before any run.
+// The text with which such a check goes on before any run.
 const NO_NODES: &str =
     "{\"exploring\":true,\"nodes\":[],\"preemption_bound\":null,\"reduce\":false,\"version\":1}";
 
@@ -81,7 +81,7 @@ impl Page {
         }
     }
 
-    // The same, or the number of the error.
+    // Puts what a check found, or the number of the error.
     fn put_found(&mut self, found: &Result<Report, CheckError>) {
         match found {
             Ok(report) => self.put_report(report),
@@ -94,7 +94,7 @@ impl Visitor<u64> for Page {
     ghost takes = { λ old choices value new. Unit {0} };
 
     fn run(&mut self, choices: &[Choice], _value: u64) -> Result<(), AllocError> {
-        self.put("", &ShownChoices(choices));
+        self.put("", &SpacedChoices(choices));
         Ok(())
     }
 }

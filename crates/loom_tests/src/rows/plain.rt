@@ -106,7 +106,7 @@ fn is_same(one: &Found, other: &Found) -> bool {
     is_run(one, other.choices.as_slice(), other.ending)
 }
 
-// The same runs in the same order.
+// Whether these are the same runs in the same order.
 fn are_in_order(plain: &[Found], found: &[Found]) -> bool {
     for (one, other) in plain.iter().zip(found) {
         if !is_same(one, other) {
@@ -164,7 +164,7 @@ fn is_as_plain<B: Body<Data = u64>>(alloc: Global, settings: Settings, body: &B)
     }
 }
 
-// The same by each of these searches, none of which is limited.
+// Whether each of these searches, none of which is limited, finds what the plain program does.
 fn are_as_plain<B: Body<Data = u64>>(
     alloc: Global,
     settings: Settings,

@@ -7,12 +7,12 @@ use crate::rows::pens::{Pen, Printed};
 use loom_examples::rows::{Row, run_row};
 use std::alloc::Global;
 use std::process::Abort;
-use std::rt::Files;
+use std::rt::{Clock, Files};
 
 // A row, its line and its status.
 type Line = (&'static str, &'static str, u8);
 
-// Each row but those of runs as long as they may be. A long table costs the proof more than two short ones.
+// Each row but those of runs as long as they may be.
 static FIRST: [Line; 16] = [
     ("finish_only", "complete 1\n", 0),
     ("spawn_only", "complete 1\n", 0),
@@ -163,13 +163,13 @@ static FENCES: [Line; 2] = [
 ];
 
 // The rows print these lines, and nothing on standard error.
-fn print(rt: &(impl Abort + AllocGlobal + Files), lines: &'static [Line]) {
+fn print(rt: &(impl Abort + AllocGlobal + Clock + Files), lines: &'static [Line]) {
     for (name, line, status) in lines {
         prints(rt, *name, *line, *status);
     }
 }
 
-fn prints(rt: &(impl Abort + AllocGlobal + Files), name: &str, line: &str, status: u8) {
+fn prints(rt: &(impl Abort + AllocGlobal + Clock + Files), name: &str, line: &str, status: u8) {
     let printed = Printed {
         out: line,
         goes_on: false,
@@ -202,7 +202,7 @@ pub fn long_line(alloc: Global, begins: &str, main: usize, other: usize, ends: &
 
 // The row fails, and prints so many choices of main and of the other thread.
 fn fails_late(
-    rt: &(impl Abort + AllocGlobal + Files),
+    rt: &(impl Abort + AllocGlobal + Clock + Files),
     name: &str,
     begins: &str,
     main: usize,
@@ -219,7 +219,12 @@ fn accesses_and_stores_are_counted(rt: HostRuntime) {
 }
 
 // Whether the status is 2 where a pen takes nothing that the row is to print, and the other one was given nothing.
-fn is_refused(rt: &(impl AllocGlobal + Files), rows: &[Row], name: &str, breaks_out: bool) -> bool {
+fn is_refused(
+    rt: &(impl AllocGlobal + Clock + Files),
+    rows: &[Row],
+    name: &str,
+    breaks_out: bool,
+) -> bool {
     let mut out = Pen::new(rt.alloc());
     let mut err = Pen::new(rt.alloc());
     out.is_broken = breaks_out;
@@ -228,7 +233,7 @@ fn is_refused(rt: &(impl AllocGlobal + Files), rows: &[Row], name: &str, breaks_
     status == 2 && out.text.is_empty() && err.text.is_empty()
 }
 
-fn are_refused(rt: &(impl Abort + AllocGlobal + Files), rows: &[Row]) {
+fn are_refused(rt: &(impl Abort + AllocGlobal + Clock + Files), rows: &[Row]) {
     holds(rt, is_refused(rt, rows, "lock_beside", true), "lock_beside");
     holds(
         rt,

@@ -18,86 +18,99 @@ const FINISH: Step = Step::Do(0, Request::Thread(ThreadOp::Finish(Value::Plain(7
 // Main stores beside a thread that stores.
 const STORES: &[Step] = &[
     NEW,
-    Step::Do(1, Request::Thread(ThreadOp::Spawn(6, None))),
+    Step::SpawnAt(1, "child"),
     STORE,
+    Step::Label("finish"),
     FINISH,
     EXIT,
     END,
+    Step::Label("child"),
     STORE,
-    Step::Jump(3),
+    Step::JumpTo("finish"),
 ];
 
 /// Main loads beside a thread that loads.
 const LOADS: &[Step] = &[
     NEW,
-    Step::Do(1, Request::Thread(ThreadOp::Spawn(6, None))),
+    Step::SpawnAt(1, "child"),
     LOAD,
+    Step::Label("finish"),
     FINISH,
     EXIT,
     END,
+    Step::Label("child"),
     LOAD,
-    Step::Jump(3),
+    Step::JumpTo("finish"),
 ];
 
 /// Main stores and then makes a thread that stores, beside one that does nothing but end.
 const STORE_THEN_SPAWN: &[Step] = &[
     NEW,
-    Step::Do(1, Request::Thread(ThreadOp::Spawn(4, None))),
+    Step::SpawnAt(1, "first"),
     STORE,
-    Step::Do(2, Request::Thread(ThreadOp::Spawn(7, None))),
+    Step::SpawnAt(2, "second"),
+    Step::Label("first"),
     FINISH,
     EXIT,
     END,
+    Step::Label("second"),
     STORE,
-    Step::Jump(4),
+    Step::JumpTo("first"),
 ];
 
 /// Main locks and then unparks a thread that locks too, beside one that does nothing but end.
 const UNPARK_AFTER_LOCK: &[Step] = &[
     Step::Do(0, Request::Mutex(MutexOp::New(Value::Plain(0)))),
-    Step::Do(1, Request::Thread(ThreadOp::Spawn(10, None))),
+    Step::SpawnAt(1, "second"),
     YIELD,
-    Step::Do(2, Request::Thread(ThreadOp::Spawn(7, None))),
+    Step::SpawnAt(2, "first"),
     Step::Do(0, Request::Mutex(MutexOp::Lock(0))),
     Step::Do(0, Request::Mutex(MutexOp::Release(0, Value::Plain(0)))),
     Step::Do(1, Request::Thread(ThreadOp::Unpark(1))),
+    Step::Label("first"),
     FINISH,
     EXIT,
     END,
+    Step::Label("second"),
     PARK,
     Step::Do(0, Request::Mutex(MutexOp::Lock(0))),
     Step::Do(0, Request::Mutex(MutexOp::Release(0, Value::Plain(0)))),
-    Step::Jump(7),
+    Step::JumpTo("first"),
 ];
 
 /// Main stores beside a thread that yields and then stores, and one that yields.
 const YIELD_THEN_STORE: &[Step] = &[
     NEW,
-    Step::Do(1, Request::Thread(ThreadOp::Spawn(7, None))),
-    Step::Do(2, Request::Thread(ThreadOp::Spawn(10, None))),
+    Step::SpawnAt(1, "first"),
+    Step::SpawnAt(2, "second"),
     STORE,
+    Step::Label("finish"),
     FINISH,
     EXIT,
     END,
+    Step::Label("first"),
     YIELD,
     STORE,
-    Step::Jump(4),
+    Step::JumpTo("finish"),
+    Step::Label("second"),
     YIELD,
-    Step::Jump(4),
+    Step::JumpTo("finish"),
 ];
 
 /// Main loads from one atomic and stores into another, beside a thread that stores into that one.
 const LOAD_THEN_STORE: &[Step] = &[
     NEW,
     Step::Do(1, Request::Atomic(AtomicOp::New(Numbers::U64, 0))),
-    Step::Do(2, Request::Thread(ThreadOp::Spawn(8, None))),
+    Step::SpawnAt(2, "child"),
     Step::Do(1, Request::Atomic(AtomicOp::Load(1, Relaxed))),
     STORE,
+    Step::Label("finish"),
     FINISH,
     EXIT,
     END,
+    Step::Label("child"),
     STORE,
-    Step::Jump(5),
+    Step::JumpTo("finish"),
 ];
 
 const MAKE: Step = Step::Do(0, Request::Arc(ArcOp::New(Value::Plain(0))));
@@ -111,59 +124,67 @@ const CLONES_AND_DROPS: &[Step] = &[
     MAKE,
     CLONE,
     CLONE,
-    Step::Do(1, Request::Thread(ThreadOp::Spawn(9, None))),
+    Step::SpawnAt(1, "child"),
     DROP,
     DROP,
+    Step::Label("finish"),
     FINISH,
     EXIT,
     END,
+    Step::Label("child"),
     CLONE,
     DROP,
     DROP,
-    Step::Jump(6),
+    Step::JumpTo("finish"),
 ];
 
 /// Main counts two references and drops one, beside such a thread.
 const COUNT_AND_DROPS: &[Step] = &[
     MAKE,
     CLONE,
-    Step::Do(1, Request::Thread(ThreadOp::Spawn(8, None))),
+    Step::SpawnAt(1, "child"),
     Step::Do(0, Request::Arc(ArcOp::StrongCount(0))),
     DROP,
+    Step::Label("finish"),
     FINISH,
     EXIT,
     END,
+    Step::Label("child"),
     CLONE,
     DROP,
     DROP,
-    Step::Jump(5),
+    Step::JumpTo("finish"),
 ];
 
 /// Main and two threads each store.
 const THREE_STORES: &[Step] = &[
     NEW,
-    Step::Do(1, Request::Thread(ThreadOp::Spawn(7, None))),
-    Step::Do(2, Request::Thread(ThreadOp::Spawn(7, None))),
+    Step::SpawnAt(1, "child"),
+    Step::SpawnAt(2, "child"),
     STORE,
+    Step::Label("finish"),
     FINISH,
     EXIT,
     END,
+    Step::Label("child"),
     STORE,
-    Step::Jump(4),
+    Step::JumpTo("finish"),
 ];
 
 /// Main joins a thread that stores, and then stores, beside a thread that does nothing but end.
 const JOINED: &[Step] = &[
     NEW,
-    Step::Do(1, Request::Thread(ThreadOp::Spawn(8, None))),
-    Step::Do(2, Request::Thread(ThreadOp::Spawn(5, None))),
+    Step::SpawnAt(1, "second"),
+    Step::SpawnAt(2, "first"),
     Step::Do(0, Request::Thread(ThreadOp::Join(1, 1))),
     STORE,
+    Step::Label("first"),
     FINISH,
     EXIT,
     END,
+    Step::Label("second"),
     STORE,
-    Step::Jump(5),
+    Step::JumpTo("first"),
 ];
 
 static ROWS: [Row; 10] = [

@@ -1,9 +1,9 @@
 //! What the program does with words.
 use crate::asserting::holds;
 use crate::rows::pens::{Pen, Printed, is_printed};
-use loom_examples::rows::words::{HELP, run_words};
+use loom_examples::rows::words::run_words;
 use std::process::Abort;
-use std::rt::Files;
+use std::rt::{Clock, Files};
 
 // Words of the program, and what they print.
 struct Said {
@@ -26,15 +26,38 @@ macro_rules! said {
     };
 }
 
-const USAGE: &str = "usage: loom_rows NAME [FILE]\n";
+// What standard output begins with, and the status.
+macro_rules! begins {
+    ($words:expr, $out:expr, $status:expr) => {
+        Said {
+            words: $words,
+            printed: Printed {
+                out: $out,
+                goes_on: true,
+                err: "",
+                status: $status,
+            },
+        }
+    };
+}
+
+// What is printed on standard error where the words are wrong.
+macro_rules! usage {
+    ($cause:expr) => {
+        concat!("usage: loom_rows NAME [FILE]\nerror: ", $cause, "\n")
+    };
+}
+
+const NO_NAME: &str = usage!("the following required arguments were not provided:\n  <NAME>");
+
+const NO_SUCH_ROW: &str = usage!(
+    "no row is called 'lock_besides'\n\n  tip: the nearest name is 'lock_beside'"
+);
 
 const REFUSED: &str =
     "word 1 is no choice: a choice is `t0` to `t4` or `t-`, `l0` to `l6`, `s0` or `s1`, with a space between two\n";
 
-static WORDS: [Said; 13] = [
-    said!(&[], "", USAGE, 2),
-    said!(&["no_such_row"], "", USAGE, 2),
-    said!(&["no_such_row", "lock_beside", "lock_beside"], "", USAGE, 2),
+static WORDS: [Said; 8] = [
     // Few preemptions come first.
     said!(
         &["--rising", "two_mutexes_deadlock"],
@@ -43,23 +66,175 @@ static WORDS: [Said; 13] = [
         1
     ),
     said!(&["--rising", "lock_beside"], "bound 3 complete 3\n", "", 0),
-    said!(&["--rising"], "", USAGE, 2),
-    said!(&["--rising", "no_such_row"], "", USAGE, 2),
     // A failure is explained behind its line.
     said!(&["--explain", "lock_beside"], "complete 3\n", "", 0),
-    Said {
-        words: &["--explain", "two_mutexes_deadlock"],
-        printed: Printed {
-            out: "failed 2 3 t1 t1 t2 t2 t-\n",
-            goes_on: true,
-            err: "",
-            status: 1,
-        },
-    },
-    said!(&["--explain", "--help"], "", USAGE, 2),
-    said!(&["--other", "lock_beside"], "", USAGE, 2),
-    said!(&["--help"], HELP, "", 0),
+    begins!(
+        &["--explain", "two_mutexes_deadlock"],
+        "failed 2 3 t1 t1 t2 t2 t-\n",
+        1
+    ),
     said!(&["--replay", "x", "finish_only"], "", REFUSED, 2),
+    begins!(&["--help"], "Checks the body that is called NAME", 0),
+    begins!(
+        &["--explain", "--help"],
+        "Checks the body that is called NAME",
+        0
+    ),
+    begins!(&["--list"], "finish_only\nspawn_only\nlock_beside\n", 0),
+];
+
+// Wrong words, and why they are refused.
+static WRONG: [Said; 12] = [
+    said!(&[], "", NO_NAME, 2),
+    said!(&["lock_besides"], "", NO_SUCH_ROW, 2),
+    said!(
+        &["no_such_row", "lock_beside", "lock_beside"],
+        "",
+        usage!("unexpected argument 'lock_beside' found"),
+        2
+    ),
+    said!(&["--rising"], "", NO_NAME, 2),
+    said!(&["--rising", "lock_besides"], "", NO_SUCH_ROW, 2),
+    said!(
+        &["--rising", "lock_beside", "file"],
+        "",
+        usage!("the argument '--rising' cannot be used with '[FILE]'"),
+        2
+    ),
+    said!(
+        &["--other", "lock_beside"],
+        "",
+        usage!(
+            "unexpected argument '--other' found\n\n  tip: to pass '--other' as a value, use '-- --other'"
+        ),
+        2
+    ),
+    said!(
+        &["--no-reduc", "lock_beside"],
+        "",
+        usage!(
+            "unexpected argument '--no-reduc' found\n\n  tip: a similar argument exists: '--no-reduce'"
+        ),
+        2
+    ),
+    said!(
+        &["--max-steps", "x", "lock_beside"],
+        "",
+        usage!(
+            "invalid value 'x' for '--max-steps <N>': invalid digit found in string\n\nFor more information, try '--help'."
+        ),
+        2
+    ),
+    said!(
+        &["--json", "--explain", "lock_beside"],
+        "",
+        usage!("the argument '--json' cannot be used with '--explain'"),
+        2
+    ),
+    said!(
+        &["--list", "lock_beside"],
+        "",
+        usage!(
+            "the argument '--list' cannot be used with one or more of the other specified arguments"
+        ),
+        2
+    ),
+    said!(
+        &["--json", "two_mutexes_deadlock_closures"],
+        "",
+        usage!(
+            "'two_mutexes_deadlock_closures' is a row of closures, which has no file and no options"
+        ),
+        2
+    ),
+];
+
+// A setting of the command line takes the place of the row's own.
+static SETTINGS: [Said; 11] = [
+    said!(
+        &["--no-reduce", "lock_beside_reduced"],
+        "complete 3\n",
+        "",
+        0
+    ),
+    said!(&["lock_beside", "--reduce"], "complete 1\n", "", 0),
+    said!(
+        &["--preemption-bound", "1", "store_buffering"],
+        "complete 8\n",
+        "",
+        0
+    ),
+    said!(
+        &["--max-branches", "3", "lock_beside"],
+        "failed 9 0 t0 t1 t1\n",
+        "",
+        1
+    ),
+    said!(
+        &["--max-permutations=2", "lock_beside"],
+        "stopped 2\n",
+        "",
+        0
+    ),
+    said!(
+        &["--max-threads", "1", "lock_beside"],
+        "failed 8 0\n",
+        "",
+        1
+    ),
+    said!(&["--max-steps", "2", "lock_beside"], "failed 12 0\n", "", 1),
+    said!(
+        &["--checkpoint-interval", "0", "lock_beside"],
+        "",
+        "error 4\n",
+        2
+    ),
+    said!(
+        &["--max-duration", "0", "lock_beside"],
+        "stopped 0\n",
+        "",
+        0
+    ),
+    said!(
+        &["--max-duration", "1000", "two_mutexes_deadlock"],
+        "failed 2 3 t1 t1 t2 t2 t-\n",
+        "",
+        1
+    ),
+    said!(
+        &["--explicit-explore", "lock_beside"],
+        "complete 1\n",
+        "",
+        0
+    ),
+];
+
+// A report as one JSON object.
+static OBJECTS: [Said; 4] = [
+    said!(
+        &["--json", "lock_beside"],
+        "{\"result\":\"complete\",\"row\":\"lock_beside\",\"runs\":3}\n",
+        "",
+        0
+    ),
+    said!(
+        &["--json", "lock_beside_two"],
+        "{\"limit\":\"max_permutations\",\"result\":\"stopped\",\"row\":\"lock_beside_two\",\"runs\":2}\n",
+        "",
+        0
+    ),
+    said!(
+        &["--json", "--rising", "two_mutexes_deadlock"],
+        "{\"bound\":1,\"cause\":\"no thread can run, and some have not ended: see what each of these waits for, and who was to let it go on\",\"choices\":\"t1 t1 t2 t2 t-\",\"failure\":2,\"result\":\"failed\",\"row\":\"two_mutexes_deadlock\",\"runs\":2}\n",
+        "",
+        1
+    ),
+    said!(
+        &["--json", "--replay", "", "finish_only"],
+        "{\"choices\":\"t-\",\"result\":\"ended\",\"row\":\"finish_only\",\"value\":7}\n",
+        "",
+        0
+    ),
 ];
 
 // Choices are replayed. Where no run makes one, or it is left over at the end, the run fails behind those before it.
@@ -106,7 +281,7 @@ fn name_of<'a>(words: &[&'a str]) -> &'a str {
 }
 
 /// The words print this.
-pub fn says(rt: &(impl Abort + AllocGlobal + Files), words: &[&str], printed: &Printed) {
+pub fn says(rt: &(impl Abort + AllocGlobal + Clock + Files), words: &[&str], printed: &Printed) {
     let mut out = Pen::new(rt.alloc());
     let mut err = Pen::new(rt.alloc());
     let status = run_words(rt, words, &mut out, &mut err);
@@ -114,7 +289,7 @@ pub fn says(rt: &(impl Abort + AllocGlobal + Files), words: &[&str], printed: &P
     holds(rt, is_so, name_of(words));
 }
 
-fn say(rt: &(impl Abort + AllocGlobal + Files), table: &'static [Said]) {
+fn say(rt: &(impl Abort + AllocGlobal + Clock + Files), table: &'static [Said]) {
     for said in table {
         says(rt, said.words, &said.printed);
     }
@@ -124,4 +299,15 @@ fn say(rt: &(impl Abort + AllocGlobal + Files), table: &'static [Said]) {
 fn words_print_these_texts(rt: HostRuntime) {
     say(&rt, &WORDS);
     say(&rt, &REPLAYS);
+}
+
+#[test]
+fn wrong_words_are_refused_with_the_nearest_name(rt: HostRuntime) {
+    say(&rt, &WRONG);
+}
+
+#[test]
+fn options_set_what_they_name(rt: HostRuntime) {
+    say(&rt, &SETTINGS);
+    say(&rt, &OBJECTS);
 }

@@ -55,11 +55,11 @@ seven_are set q e h = ext_get_or false set (map q (0 ∷ 1 ∷ 2 ∷ 3 ∷ 4 ∷
 
 -- tests of the numbers below a bound, and none beyond it
 pub set-is : (set : List Bool) (p : ℕ → Bool) (n : ℕ) → n ≤ 7 → length set ≡ 7 → ((i : ℕ) → i < n → get_or set i false ≡ p i) → ((i : ℕ) → n ≤ i → get_or set i false ≡ false) → set ≡ slot_set (filter p (upto n))
-set-is set p n m e told rest = seven_are set (has_slot (filter p (upto n))) e (λ i l. ⊎_elim (λ b. told i b ∙ sym (has-below p n i b)) (λ b. rest i b ∙ sym (has-beyond p n i b)) (cases_lt i n))
+set-is set p n m e found rest = seven_are set (has_slot (filter p (upto n))) e (λ i l. ⊎_elim (λ b. found i b ∙ sym (has-below p n i b)) (λ b. rest i b ∙ sym (has-beyond p n i b)) (cases_lt i n))
 
 -- a walk over the slots answers one more
-pub told-more : (answers : List Bool) (p : ℕ → Bool) (i : ℕ) (b : Bool) → i < length answers → b ≡ p i → ((k : ℕ) → k < i → get_or answers k false ≡ p k) → (k : ℕ) → k < i + 1 → get_or (set answers i b) k false ≡ p k
-told-more answers p i b l e h k m = ⊎_elim same other (cases_eq k i)
+pub found-more : (answers : List Bool) (p : ℕ → Bool) (i : ℕ) (b : Bool) → i < length answers → b ≡ p i → ((k : ℕ) → k < i → get_or answers k false ≡ p k) → (k : ℕ) → k < i + 1 → get_or (set answers i b) k false ≡ p k
+found-more answers p i b l e h k m = ⊎_elim same other (cases_eq k i)
   where
     same : k ≡ i → get_or (set answers i b) k false ≡ p k
     same q = rw q (get_or-set_same answers i b false l ∙ e)

@@ -4,7 +4,7 @@ use Rattle.loom_views.specs.Graph.{Graph}
 use Rattle.loom_views.specs.ThreadViews.{ThreadPoints, with_present, graph_after_acquire}
 use Rattle.loom_views.specs.Atomic.History.{StorePoints, Scene, is_seen}
 
--- where a thread stands: the graph, and the thread's points in it
+-- the graph, and a thread's points in it
 pub record Standing : Type 0 where
   pub graph : Graph
   pub thread : ThreadPoints
@@ -22,11 +22,11 @@ after_stores s (store ∷ stores) = after_stores (after_store s store) stores
 abbrev pub kept_stores : List StorePoints → List StorePoints
 kept_stores stores = drop (length stores - 7) stores
 
--- where the thread of a scene stands
+-- the graph of a scene, and the points of its thread
 abbrev pub standing_in : Scene → Standing
 standing_in s = record { graph = s.graph; thread = s.thread }
 
--- the scene once its thread stands elsewhere
+-- the scene with another graph, and with other points of its thread
 abbrev pub scene_at : Scene → Standing → Scene
 scene_at s new = record s { graph = new.graph; thread = new.thread }
 

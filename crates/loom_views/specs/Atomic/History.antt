@@ -33,7 +33,7 @@ pub record History : Type 0 where
   pub mutations : List ℕ
   pub mutating : Bool
 
--- stands where there is no store
+-- in place of a store, where there is none
 abbrev pub blank : StorePoints
 blank = record { value = 0; order = 0; sync = 0; seq_cst = false; touched = [] }
 
@@ -77,11 +77,11 @@ unfoldable pub drops : Graph → ℕ → ThreadPoints → Reader → StorePoints
 drops g t p Update i j = is_below g i j
 drops g t p (Load order) i j = is_below g i j && (is_seen g j p.present || is_touch_before g t (touch_of i t) p.yielded || (is_seq_cst order && (i.seq_cst && j.seq_cst)))
 
--- the slots that a reader may choose, and whether it fails because orders are equal
+-- the store in slot j keeps a reader of thread t from reading the one in slot i
 abbrev pub drops_in_slot : Graph → ℕ → ThreadPoints → Reader → List StorePoints → ℕ → ℕ → Bool
 drops_in_slot g t p reader stores i j = drops g t p reader (in_slot stores i) (in_slot stores j)
 
--- the same of the stores in two slots
+-- the stores in two slots have equal orders
 abbrev pub has_same_order_in_slot : Graph → List StorePoints → ℕ → ℕ → Bool
 has_same_order_in_slot g stores i j = has_same_order g (in_slot stores i) (in_slot stores j)
 
@@ -131,7 +131,7 @@ graph_after_make g stores p copied order =
     let started = graph_with_start (graph_with_order g stores p) copied in
     graph_after_store started p (length (graph_with_order g stores p)) order
 
--- the new store stands last, and its author has touched it
+-- the new store is the last one, and its author has touched it
 abbrev pub stores_after_make : Graph → ℕ → List StorePoints → ThreadPoints → ℕ → Option ℕ → Ordering → List StorePoints
 stores_after_make g t stores p value copied order = stores ++ record { value = value; order = length g; sync = length (graph_with_start (graph_with_order g stores p) copied); seq_cst = is_seq_cst order; touched = touch untouched t p.present } ∷ []
 

@@ -32,7 +32,7 @@ is_version_before None at = false
 is_version_before (Some m) None = false
 is_version_before (Some m) (Some n) = nat_le m n
 
--- stands where there is no store
+-- in place of a store, where there is none
 abbrev pub blank_store : Store
 blank_store = record { value = 0; order = []; sync = []; first_seen = record { versions = [] }; seq_cst = false }
 
@@ -57,7 +57,7 @@ abbrev pub drops_store : ℕ → ThreadViews → Reader → Store → Store → 
 drops_store t views Update i j = is_order_below i j
 drops_store t views (Load order) i j = is_order_below i j && is_passed t views order i j
 
--- the same of the stores in two slots
+-- the store in slot j keeps a reader of thread t from reading the one in slot i
 abbrev pub drops_slot : State → ℕ → ThreadViews → Reader → ℕ → ℕ → Bool
 drops_slot state t views reader i j = drops_store t views reader (store_at state.stores i) (store_at state.stores j)
 

@@ -49,7 +49,7 @@ abbrev pub AnswersAs : ℕ → Result Answer FailureKind → Result ℕ FailureK
 AnswersAs t (Ok answer) result views state = (result ≡ Ok answer.value) × ShowsScene t answer.scene views state
 AnswersAs t (Err kind) result views state = result ≡ Err kind
 
--- the same of an access that answers no value
+-- an access that answers no value ends as the scene's step does, and shows the scene that it leads to
 abbrev pub FinishesAs : ℕ → Result Answer FailureKind → Result (Unit {0}) FailureKind → ThreadViews → State → Type 0
 FinishesAs t (Ok answer) result views state = (result ≡ Ok tt) × ShowsScene t answer.scene views state
 FinishesAs t (Err kind) result views state = result ≡ Err kind

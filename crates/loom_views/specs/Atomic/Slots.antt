@@ -7,7 +7,7 @@ abbrev pub upto : ℕ → List ℕ
 upto zero = []
 upto (suc n) = upto n ++ n ∷ []
 
--- the slots in which the last seven of n stores stand
+-- the slots in which the last seven of n stores are kept
 abbrev pub slots : ℕ → List ℕ
 slots n = upto (min n 7)
 

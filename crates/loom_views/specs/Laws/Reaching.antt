@@ -1,4 +1,4 @@
--- Where view containment is reaching: at the points that raise a version, in each graph that a run comes to.
+-- Where view containment is reaching: at the points that raise a version, in each graph of a run.
 use Rattle.std.specs.Prelude.{ℕ, ◌≡◌, ◌≤◌, ◌↔◌, ◌⊎◌, Bool, false, if◌then◌else◌, IsTrue, IfOk, List, [], ◌∷◌, ◌++◌, length, slice_get, Option, Some, None, Ok, Err}
 use Rattle.std.specs.List.{Any, list_any}
 use Rattle.std.specs.declared.sync.atomic.Ordering.{Ordering}

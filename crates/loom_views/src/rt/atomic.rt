@@ -1,7 +1,7 @@
-//! The stores of an atomic that are kept, and its accesses. They are plain values; no call here takes memory.
+//! An atomic: its last stores, and the accesses that may race with later ones. They are plain values; no call here takes memory.
 //!
 //! A public call speaks of every scene that the vectors show: a graph, the thread's points in it, and the atomic's whole
-//! history by points. Slots are numbered from 0: the store with number `n` stands in slot `n` modulo `MAX_ATOMIC_HISTORY`.
+//! history by points. Slots are numbered from 0: the store with number `n` is kept in slot `n` modulo `MAX_ATOMIC_HISTORY`.
 //! The thread has raised its version before the call. Where a call fails, the atomic and the thread's views are as before.
 pub mod reader;
 
@@ -21,7 +21,6 @@ ghost use Rattle.loom_views.specs.declared.rt.atomic.reader.Reader.{Reader};
 ghost use Rattle.loom_views.specs.Atomic.Shown.{ShowsScene, AnswersAs, FinishesAs};
 
 pub use crate::rt::atomic::reader::Reader;
-use crate::rt::atomic::reader::with_slot;
 use crate::rt::failure::FailureKind;
 use crate::rt::synchronize::{Synchronize, ThreadViews};
 use crate::rt::vv::VersionVec;
@@ -177,26 +176,6 @@ impl State {
         Ok(false)
     }
 
-    /// The set of the slots that the reader may choose.
-    fn readable_in_vectors(
-        &self,
-        thread: usize,
-        views: &ThreadViews,
-        reader: Reader,
-    ) -> Result<[bool; MAX_ATOMIC_HISTORY], FailureKind>
-        requires { thread < 5 }
-        ensures { MatchResult result (λ set. (set ≡ slot_set (readable_now self.now thread views.now reader)) × (fails_now self.now thread views.now reader ≡ false))
-            (λ kind. (kind ≡ OrdersEqual) × IsTrue (fails_now self.now thread views.now reader)) }
-    {
-        let mut set = [false; MAX_ATOMIC_HISTORY];
-        for i in 0..self.kept() {
-            let is_dropped = self.is_dropped(thread, views, reader, i)?;
-            let told = with_slot(set, i, !is_dropped);
-            set = told;
-        }
-        Ok(set)
-    }
-
     /// The set of the slots that the reader may choose: those of the stores that no kept store keeps it from. Where two orders
     /// are equal on the way it is `OrdersEqual`. By law `crate::laws::some_slot_is_readable` there is always a slot (loom's
     /// `rt/atomic.rs`).
@@ -211,7 +190,12 @@ impl State {
             MatchResult result (λ set. (set ≡ slot_set (readable s.graph thread s.thread reader s.history.stores)) × (fails_by_orders s.graph thread s.thread reader s.history.stores ≡ false))
             (λ kind. (kind ≡ OrdersEqual) × IsTrue (fails_by_orders s.graph thread s.thread reader s.history.stores)) }
     {
-        self.readable_in_vectors(thread, views, reader)
+        let mut set = [false; MAX_ATOMIC_HISTORY];
+        for i in 0..self.kept() {
+            let is_dropped = self.is_dropped(thread, views, reader, i)?;
+            set[i] = !is_dropped;
+        }
+        Ok(set)
     }
 
     /// Whether the store in a slot is seen in a view, and the slot isn't left out.
@@ -219,11 +203,7 @@ impl State {
         requires { i < 7 }
         ensures { result ≡ is_order_seen self.now.stores view.now left_out i }
     {
-        let is_left_out = match left_out {
-            Some(slot) => i == slot,
-            None => false,
-        };
-        !is_left_out && self.stores[i].first_seen.is_seen_from(view)
+        left_out != Some(i) && self.stores[i].first_seen.is_seen_from(view)
     }
 
     /// An order with those of the kept stores that are seen in a view, but for a slot that is left out.
@@ -371,131 +351,12 @@ impl State {
         Ok(())
     }
 
-    /// A load, in vectors.
-    fn load_in_vectors(
-        &mut self,
-        thread: usize,
-        views: &mut ThreadViews,
-        slot: usize,
-        order: Ordering,
-    ) -> Result<u64, FailureKind>
-        requires thread_in { thread < 5 }
-        requires slot_in { slot < 7 }
-        ensures answer { MatchResult result (λ value. load_now self.old thread views.old slot order ≡ Ok (record { state = self.new; views = views.new; value = value }))
-            (λ kind. load_now self.old thread views.old slot order ≡ Err kind) }
-        ensures err { OnErr result (self.new ≡ self.old) }
-        ensures err_views { OnErr result (views.new ≡ views.old) }
-    {
-        self.track_load(views)?;
-        let value = self.read(thread, views, slot);
-        self.stores[slot].sync.sync_load(views, order);
-        Ok(value)
-    }
-
-    /// A store, in vectors.
-    fn store_in_vectors(
-        &mut self,
-        thread: usize,
-        views: &ThreadViews,
-        value: u64,
-        order: Ordering,
-    ) -> Result<(), FailureKind>
-        requires { thread < 5 }
-        ensures answer { MatchResult result (λ _. store_now self.old thread views.now value order ≡ Ok (record { state = self.new; views = views.now; value = value }))
-            (λ kind. store_now self.old thread views.now value order ≡ Err kind) }
-        ensures err { OnErr result (self.new ≡ self.old) }
-    {
-        self.test_store(views)?;
-        self.make(thread, views, Synchronize::new(), value, order)?;
-        self.stored_at.join(&views.present);
-        Ok(())
-    }
-
-    /// What a read-modify-write reads, in vectors.
-    fn update_read_in_vectors(
-        &mut self,
-        thread: usize,
-        views: &ThreadViews,
-        slot: usize,
-    ) -> Result<u64, FailureKind>
-        requires thread_in { thread < 5 }
-        requires slot_in { slot < 7 }
-        ensures answer { MatchResult result (λ value. update_read_now self.old thread views.now slot ≡ Ok (record { state = self.new; views = views.now; value = value }))
-            (λ kind. update_read_now self.old thread views.now slot ≡ Err kind) }
-        ensures err { OnErr result (self.new ≡ self.old) }
-    {
-        self.track_load(views)?;
-        Ok(self.read(thread, views, slot))
-    }
-
-    /// What a read-modify-write writes, in vectors.
-    fn update_write_in_vectors(
-        &mut self,
-        thread: usize,
-        views: &mut ThreadViews,
-        slot: usize,
-        value: u64,
-        success: Ordering,
-    ) -> Result<(), FailureKind>
-        requires thread_in { thread < 5 }
-        requires slot_in { slot < 7 }
-        ensures answer { MatchResult result (λ _. update_write_now self.old thread views.old slot value success ≡ Ok (record { state = self.new; views = views.new; value = value }))
-            (λ kind. update_write_now self.old thread views.old slot value success ≡ Err kind) }
-        ensures err { OnErr result (self.new ≡ self.old) }
-        ensures err_views { OnErr result (views.new ≡ views.old) }
-    {
-        self.test_store(views)?;
-        let sync = self.stores[slot].sync;
-        let mut loaded = *views;
-        sync.sync_load(&mut loaded, success);
-        self.make(thread, &loaded, sync, value, success)?;
-        self.stored_at.join(&views.present);
-        *views = loaded;
-        Ok(())
-    }
-
     /// The slot of the newest store.
     fn newest(&self) -> usize
         ensures slot { result ≡ newest_slot self.now }
         ensures slot_in { result < 7 }
     {
         (usize::from(self.count) + MAX_ATOMIC_HISTORY - 1) % MAX_ATOMIC_HISTORY
-    }
-
-    /// A load that doesn't synchronize, in vectors.
-    fn unsync_load_in_vectors(&mut self, views: &ThreadViews) -> Result<u64, FailureKind>
-        ensures answer { MatchResult result (λ value. unsync_load_now self.old views.now ≡ Ok (record { state = self.new; views = views.now; value = value }))
-            (λ kind. unsync_load_now self.old views.now ≡ Err kind) }
-        ensures err { OnErr result (self.new ≡ self.old) }
-    {
-        self.track_unsync_load(views)?;
-        Ok(self.stores[self.newest()].value)
-    }
-
-    /// A mutation opens, in vectors.
-    fn mutate_in_vectors(&mut self, views: &ThreadViews) -> Result<u64, FailureKind>
-        ensures answer { MatchResult result (λ value. mutate_now self.old views.now ≡ Ok (record { state = self.new; views = views.now; value = value }))
-            (λ kind. mutate_now self.old views.now ≡ Err kind) }
-        ensures err { OnErr result (self.new ≡ self.old) }
-    {
-        self.track_unsync_mut(views)?;
-        self.is_mutating = true;
-        Ok(self.stores[self.newest()].value)
-    }
-
-    /// A mutation closes, in vectors.
-    fn mutate_end_in_vectors(&mut self, views: &ThreadViews, value: u64) -> Result<(), FailureKind>
-        ensures answer { MatchResult result (λ _. mutate_end_now self.old views.now value ≡ Ok (record { state = self.new; views = views.now; value = value }))
-            (λ kind. mutate_end_now self.old views.now value ≡ Err kind) }
-        ensures err { OnErr result (self.new ≡ self.old) }
-    {
-        let newest = self.newest();
-        let mut closed = *self;
-        closed.is_mutating = false;
-        closed.stores[newest].value = value;
-        closed.track_unsync_mut(views)?;
-        *self = closed;
-        Ok(())
     }
 
     /// Loads from the store in a slot: its value, and its view where the ordering acquires. It is `OpenAccess` while a mutation
@@ -514,7 +375,10 @@ impl State {
         ensures err { OnErr result (self.new ≡ self.old) }
         ensures err_views { OnErr result (views.new ≡ views.old) }
     {
-        self.load_in_vectors(thread, views, slot, order)
+        self.track_load(views)?;
+        let value = self.read(thread, views, slot);
+        self.stores[slot].sync.sync_load(views, order);
+        Ok(value)
     }
 
     /// Stores a value. It is `OpenAccess` while a mutation is open, `Race` with a mutation or a load that doesn't synchronize
@@ -530,7 +394,10 @@ impl State {
         ensures shown { (s : Scene) → ShowsScene thread s views.now self.old → FinishesAs thread (store_step thread s value order) result views.now self.new }
         ensures err { OnErr result (self.new ≡ self.old) }
     {
-        self.store_in_vectors(thread, views, value, order)
+        self.test_store(views)?;
+        self.make(thread, views, Synchronize::new(), value, order)?;
+        self.stored_at.join(&views.present);
+        Ok(())
     }
 
     /// Reads for a read-modify-write from the store in a slot. It fails as a load does (loom's `rt/atomic.rs`).
@@ -546,7 +413,8 @@ impl State {
             AnswersAs thread (update_read_step thread s slot) result views.now self.new }
         ensures err { OnErr result (self.new ≡ self.old) }
     {
-        self.update_read_in_vectors(thread, views, slot)
+        self.track_load(views)?;
+        Ok(self.read(thread, views, slot))
     }
 
     /// Writes for a read-modify-write that has read the store in a slot and succeeds: the new store goes on releasing what that
@@ -566,7 +434,14 @@ impl State {
         ensures err { OnErr result (self.new ≡ self.old) }
         ensures err_views { OnErr result (views.new ≡ views.old) }
     {
-        self.update_write_in_vectors(thread, views, slot, value, success)
+        self.test_store(views)?;
+        let sync = self.stores[slot].sync;
+        let mut loaded = *views;
+        sync.sync_load(&mut loaded, success);
+        self.make(thread, &loaded, sync, value, success)?;
+        self.stored_at.join(&views.present);
+        *views = loaded;
+        Ok(())
     }
 
     /// Ends a read-modify-write that has read the store in a slot and fails: a load by the failure ordering (loom's
@@ -586,7 +461,8 @@ impl State {
             AnswersAs t (unsync_load_step s) result views.now self.new }
         ensures err { OnErr result (self.new ≡ self.old) }
     {
-        self.unsync_load_in_vectors(views)
+        self.track_unsync_load(views)?;
+        Ok(self.stores[self.newest()].value)
     }
 
     /// Opens a mutation, and gives the newest value. It is `OpenAccess` while another is open, and `Race` with any access that
@@ -596,7 +472,9 @@ impl State {
             AnswersAs t (mutate_step s) result views.now self.new }
         ensures err { OnErr result (self.new ≡ self.old) }
     {
-        self.mutate_in_vectors(views)
+        self.track_unsync_mut(views)?;
+        self.is_mutating = true;
+        Ok(self.stores[self.newest()].value)
     }
 
     /// Closes a mutation, with the value that it leaves. It is `Race` with any access that hasn't come to the thread (loom's
@@ -606,7 +484,13 @@ impl State {
             FinishesAs t (mutate_end_step s value) result views.now self.new }
         ensures err { OnErr result (self.new ≡ self.old) }
     {
-        self.mutate_end_in_vectors(views, value)
+        let newest = self.newest();
+        let mut closed = *self;
+        closed.is_mutating = false;
+        closed.stores[newest].value = value;
+        closed.track_unsync_mut(views)?;
+        *self = closed;
+        Ok(())
     }
 
     /// A thread acquires from the store in a slot, where it has seen the store.

@@ -1,4 +1,4 @@
-//! What is kept of a cell, to find data races. It is a plain value; no call here takes memory.
+//! The accesses of a cell, to find data races: the joined views of its reads and of its writes. They are a plain value; no call here takes memory.
 //!
 //! A public call speaks of every graph and all accesses that the vectors show. No call moves a thread's views. Where a call
 //! fails, the records are as before.

@@ -1,4 +1,4 @@
-//! Values that an atomic keeps as `u64`. No call here takes memory.
+//! The integers and `bool` as the `u64` in which an atomic keeps them. No call here takes memory.
 pub mod change;
 
 ghost use Rattle.std.specs.Prelude.{◌≡◌, ℕ, if◌then◌else◌, ◌==◌, not, ◌^◌, ◌%◌, ◌<◌, FitsSigned};

@@ -1,4 +1,4 @@
-//! Views of threads, and the places at which threads synchronize. They are plain values; no call here takes memory.
+//! The views of a thread, and of an object at which threads synchronize. They are plain values; no call here takes memory.
 
 ghost use Rattle.std.specs.Prelude.{◌≡◌, ℕ, ◌<◌, ◌≤◌, ◌↔◌, ◌⊎◌, false, if◌then◌else◌, None, [], length, slice_index};
 ghost use Rattle.std.specs.Option.{IsNone, IfSome};

@@ -1,4 +1,4 @@
-//! The views of a run: of its threads, and of its objects by number.
+//! The views of a run: those of its threads, and what each of its objects keeps of them.
 //!
 //! A thread or an object that isn't there is no error of these calls' own making: a move that only carries views then does
 //! nothing, and one that answers something answers `Misuse`. Source: loom's `rt/execution.rs` and `rt/object.rs`, where each
@@ -284,15 +284,13 @@ impl Views {
             return Err(FailureKind::TooManyThreads);
         }
         let mut views = self.threads[parent];
-        match views.spawn(parent, child) {
-            Some(child_views) => {
-                self.threads[parent] = views;
-                self.threads[child] = child_views;
-                self.count = child + 1;
-                Ok(())
-            }
-            None => Err(FailureKind::TooManyVersions),
-        }
+        let Some(child_views) = views.spawn(parent, child) else {
+            return Err(FailureKind::TooManyVersions);
+        };
+        self.threads[parent] = views;
+        self.threads[child] = child_views;
+        self.count = child + 1;
+        Ok(())
     }
 
     /// A thread takes in another one's present view, as at a join (loom's `rt/execution.rs`).

@@ -1,4 +1,4 @@
-// What the lists of a reply consist of.
+// The lists that a reply holds: messages, and values by their keys.
 ghost use Rattle.std.specs.Prelude.{◌≡◌, ◌↔◌, IfOk, IsTrue};
 
 use crate::runner::exact::{Exact, is_same_value};
@@ -7,7 +7,7 @@ use loom_views::sequence::Sequence;
 use std::alloc::{AllocError, Global};
 use std::collections::LinkedList;
 
-/// The same value with its key again.
+/// A copy of a value with its key.
 fn copy_keyed<D: Exact>(keyed: &Keyed<D>) -> Result<Keyed<D>, AllocError>
     ensures { IfOk result (λ copy. copy ≡ keyed.now) }
 {
@@ -59,7 +59,7 @@ pub(crate) fn are_same_locals<D: Exact>(one: &[Keyed<D>], other: &[Keyed<D>]) ->
     left.is_empty()
 }
 
-/// The same value that was made once again.
+/// A copy of a value that is made once.
 fn copy_lazy_value<D: Exact>(lazy: &Lazy<D>) -> Result<Lazy<D>, AllocError>
     ensures { IfOk result (λ copy. copy ≡ lazy.now) }
 {

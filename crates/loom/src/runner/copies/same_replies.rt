@@ -1,6 +1,6 @@
 //! Whether two replies are the same.
 ghost use Rattle.std.specs.Prelude.{◌≡◌, ◌↔◌, IsTrue, true};
-ghost use Rattle.loom.specs.Runner.Kinds.{is_handle, is_told};
+ghost use Rattle.loom.specs.Runner.Kinds.{holds_result, is_handle};
 
 use crate::runner::copies::kinds::is_kind;
 use crate::runner::copies::parts::{are_same_lazies, are_same_locals, are_same_messages};
@@ -49,11 +49,11 @@ pub fn is_same_reply<D: Exact>(one: &Reply<D>, other: &Reply<D>) -> bool
         | Reply::Locals(_)
         | Reply::Lazies(_)
         | Reply::Thread(..)
-        | Reply::Spawned(..) => is_same_told(one, other),
+        | Reply::Spawned(..) => is_same_result(one, other),
     }
 }
 
-/// The same where the second one is the number of an object. (Three matches of fewer arms cost the proof half of one with all.)
+/// Whether the two are the same reply, where the second one is the number of an object.
 fn is_same_handle<D: Exact>(one: &Reply<D>, other: &Reply<D>) -> bool
     requires { is_handle other.now ≡ true }
     ensures { IsTrue result ↔ (one.now ≡ other.now) }
@@ -100,9 +100,9 @@ fn is_same_handle<D: Exact>(one: &Reply<D>, other: &Reply<D>) -> bool
     }
 }
 
-/// The same where the second one tells something else.
-fn is_same_told<D: Exact>(one: &Reply<D>, other: &Reply<D>) -> bool
-    requires { is_told other.now ≡ true }
+/// Whether the two are the same reply, where the second one holds something else.
+fn is_same_result<D: Exact>(one: &Reply<D>, other: &Reply<D>) -> bool
+    requires { holds_result other.now ≡ true }
     ensures { IsTrue result ↔ (one.now ≡ other.now) }
 {
     match other {

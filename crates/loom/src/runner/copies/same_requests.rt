@@ -36,8 +36,7 @@ pub fn is_same_request<D: Exact>(one: &Request<D, ()>, other: &Request<D, ()>) -
     }
 }
 
-/// The same where the second one is of an object that has data, or of a value by its key. (Two matches of ten arms cost the
-/// proof a quarter of one of eighteen.)
+/// Whether the two ask for the same, where the second one is of an object that has data, or of a value by its key.
 fn is_same_of_data<D: Exact>(one: &Request<D, ()>, other: &Request<D, ()>) -> bool
     requires { is_of_data other.now ≡ true }
     ensures { IsTrue result ↔ (one.now ≡ other.now) }

@@ -76,7 +76,7 @@ impl<D: Exact + 'static, R: Wait> Handle<D, R> {
         Ok(read_by(outcome))
     }
 
-    /// The same as `compare_exchange`: it fails only where another value is read (loom's `sync/atomic/int.rs` and `bool.rs`).
+    /// As `compare_exchange`: it fails only where another value is read (loom's `sync/atomic/int.rs` and `bool.rs`).
     pub fn compare_exchange_weak<T: Numeric>(
         &mut self,
         atomic: &Atomic<T>,

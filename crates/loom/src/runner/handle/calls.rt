@@ -1,5 +1,5 @@
-//! What is handed over by a call and by a closure's end, and what is kept of an answer.
-ghost use Rattle.std.specs.Prelude.{◌≡◌, IfErr, IfNone, IfOk, IfSome, None, Some, false, true};
+//! Which operations a closure hands over by a call, by which its work ends, and what its handle keeps of an answer.
+ghost use Rattle.std.specs.Prelude.{◌≡◌, IfErr, IfOk, None, Some};
 ghost use Rattle.loom.specs.Runner.Calls.{is_reserved, is_reserved_of_thread, last_of};
 
 use crate::runner::copies::replies::copy_reply;
@@ -8,43 +8,14 @@ use crate::runner::stop::Stop;
 use loom_objects::operation::{Reply, Request, ThreadOp};
 use std::alloc::Global;
 
-/// The operation, unless it is one that no closure hands over by `call`: a spawn, and each of a thread's end. In place of these
-/// the call hands over `fail` (own).
-pub fn allowed<D: Drop>(request: Request<D, ()>) -> Option<Request<D, ()>>
-    ensures own { IfSome result (λ op. op ≡ request) }
-    ensures free { IfSome result (λ op. is_reserved request ≡ false) }
-    ensures reserved { IfNone result (is_reserved request ≡ true) }
-{
-    if is_reserved(&request) {
-        request.let_go();
-        None
-    } else {
-        Some(request)
-    }
-}
-
-fn is_reserved<D>(op: &Request<D, ()>) -> bool
+/// Whether it is an operation that no closure hands over by `call`: a spawn, and each of a thread's end. In place of these the
+/// call hands over `fail` (own).
+pub fn is_reserved<D>(op: &Request<D, ()>) -> bool
     ensures { result ≡ is_reserved op.now }
 {
     match op {
         Request::Thread(op) => is_reserved_of_thread(op),
-        Request::Atomic(_)
-        | Request::Fence(_)
-        | Request::Cell(_)
-        | Request::Arc(_)
-        | Request::Track(_)
-        | Request::Mutex(_)
-        | Request::RwLock(_)
-        | Request::Condvar(_)
-        | Request::Notify(_)
-        | Request::Channel(_)
-        | Request::Waker(_)
-        | Request::AtomicWaker(_)
-        | Request::Local(_)
-        | Request::Lazy(_)
-        | Request::Explore(_)
-        | Request::Fail
-        | Request::Unreachable => false,
+        _ => false,
     }
 }
 

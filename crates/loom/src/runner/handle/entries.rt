@@ -1,4 +1,4 @@
-// What a thread keeps of its operations, and of what it was told.
+// How a thread's told list grows: by an operation, with its reply if there is one.
 ghost use Rattle.std.specs.Prelude.{◌≡◌, ◌++◌, ◌∷◌, ◌<◌, [], IfOk, IfErr, IfSome, OnSome, None, Some, true, vec_len, vec_capacity};
 ghost use Rattle.loom_objects.specs.declared.operation.Reply.TheVariants as reply;
 ghost use Rattle.loom.specs.Runner.Histories.{entry};

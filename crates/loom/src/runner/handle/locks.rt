@@ -32,7 +32,7 @@ impl<D: Exact + 'static, R: Wait> Handle<D, R> {
         self.ask(mutex.lock().request)
     }
 
-    /// The same, unless the mutex is held (loom's `sync/mutex.rs`).
+    /// Locks the mutex, unless it is held (loom's `sync/mutex.rs`).
     pub fn try_lock(&mut self, mutex: &Mutex) -> Result<Option<(MutexGuard, D)>, Stop>
         ensures thread { self.new.thread ≡ self.old.thread }
         ensures tells { IfOk result (λ answer. Tells tried_in (op.Mutex (mutex_op.TryLock mutex.now.number)) self.old.told self.new.told (record { 0 = answer })) }

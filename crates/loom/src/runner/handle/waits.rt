@@ -37,7 +37,7 @@ impl<D: Exact + 'static, R: Wait> Handle<D, R> {
         self.ask(condvar.wait(guard, value).request)
     }
 
-    /// The same, again and again while the closure says so of the data (std's `Condvar::wait_while`).
+    /// Waits again and again, while the closure says so of the data (std's `Condvar::wait_while`).
     pub fn wait_while<F: FnMut(&D) -> bool>(
         &mut self,
         condvar: &Condvar,

@@ -1,21 +1,22 @@
-//! Whether an entry is an event of a history.
+//! Whether an entry of a told list is that of an event: its operation, with the reply to it.
 ghost use Rattle.std.specs.Prelude.{◌≡◌, ◌↔◌, IsTrue, MatchOption, None, Some};
 ghost use Rattle.loom.specs.Runner.Events.{answer, entry, replied};
 
 use crate::runner::copies::same_replies::is_same_reply;
 use crate::runner::copies::same_requests::is_same_request;
 use crate::runner::exact::Exact;
-use crate::runner::history::event::{Entry, Event, Outcome};
+use crate::runner::history::event::{Entry, Event};
+use loom_objects::failure::Failure;
 use loom_objects::operation::{Reply, Request, Turn};
 
 /// The reply to the thread, if the outcome is one (own).
-pub fn reply_to<D>(outcome: &Outcome<D>, thread: u8) -> Option<&Reply<D>>
+pub fn reply_to<D>(outcome: &Result<Turn<D>, Failure>, thread: u8) -> Option<&Reply<D>>
     ensures { MatchOption result (replied thread outcome.now ≡ None) (λ r. replied thread outcome.now ≡ Some r.now) }
 {
     match outcome {
-        Outcome::Went(Turn::Reply(next, reply)) if *next == thread => Some(reply),
-        Outcome::Went(Turn::Reply(..)) | Outcome::Went(Turn::Start(_)) => None,
-        Outcome::Went(Turn::Ended(_)) | Outcome::Failed(_) => None,
+        Ok(Turn::Reply(next, reply)) if *next == thread => Some(reply),
+        Ok(Turn::Reply(..)) | Ok(Turn::Start(_)) => None,
+        Ok(Turn::Ended(_)) | Err(_) => None,
     }
 }
 

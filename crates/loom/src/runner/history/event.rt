@@ -1,13 +1,6 @@
-//! The events of a run.
+//! An event of a run, and an entry of a thread's told list.
 use loom_objects::failure::Failure;
 use loom_objects::operation::{Reply, Request, Turn};
-
-/// How an operation ends: by the next turn, or the run fails (own).
-#[derive(Drop)]
-pub enum Outcome<D> {
-    Went(Turn<D>),
-    Failed(Failure),
-}
 
 /// An operation of the thread whose turn it is, up to the next turn (own).
 #[derive(Drop)]
@@ -16,8 +9,8 @@ pub struct Event<D> {
     pub by: u8,
     /// What it handed over.
     pub op: Request<D, ()>,
-    /// What came of it.
-    pub outcome: Outcome<D>,
+    /// The next turn, or why the run fails by it.
+    pub outcome: Result<Turn<D>, Failure>,
 }
 
 /// An operation that a thread handed over, and the reply to it, if there was one (own).
@@ -25,6 +18,6 @@ pub struct Event<D> {
 pub struct Entry<D> {
     /// What it handed over.
     pub op: Request<D, ()>,
-    /// What it was told.
+    /// The reply, unless the run stopped before it.
     pub reply: Option<Reply<D>>,
 }

@@ -5,7 +5,7 @@ ghost use Rattle.loom.specs.Runner.Events.{last_event, end_in, ended_by, failed_
 use crate::runner::copies::replies::copy_reply;
 use crate::runner::exact::Exact;
 use crate::runner::history::entry::reply_to;
-use crate::runner::history::event::{Event, Outcome};
+use crate::runner::history::event::Event;
 use crate::runner::history::{History, MISUSE};
 use crate::runner::stop::Stop;
 use loom_objects::failure::Failure;
@@ -27,28 +27,24 @@ impl<D> History<D> {
         failure_in(self.events())
     }
 
-    /// Whether the last event has told the thread its turn (own).
+    /// Whether it is the thread's turn by the last event (own).
     pub fn is_turn_of(&self, thread: u8) -> bool {
-        match self.events().last() {
-            Some(event) => is_told_turn(&event.outcome, thread),
-            None => false,
-        }
+        self.events()
+            .last()
+            .is_some_and(|event| is_turn(&event.outcome, thread))
     }
 
-    /// Whether the last event has told the thread that it may start (own).
+    /// Whether the thread starts by the last event (own).
     pub fn starts(&self, thread: u8) -> bool {
-        match self.events().last() {
-            Some(event) => is_start(&event.outcome, thread),
-            None => false,
-        }
+        self.events()
+            .last()
+            .is_some_and(|event| is_start(&event.outcome, thread))
     }
 
-    /// The reply that the last event has told the thread.
+    /// The reply to the thread in the last event.
     fn last_reply(&self, thread: u8) -> Option<&Reply<D>> {
-        match self.events().last() {
-            Some(event) => reply_to(&event.outcome, thread),
-            None => None,
-        }
+        let event = self.events().last()?;
+        reply_to(&event.outcome, thread)
     }
 }
 
@@ -60,13 +56,10 @@ impl<D: Exact> History<D> {
         value_in(self.events())
     }
 
-    /// A copy of the reply that the last event has told the thread (own).
+    /// A copy of the reply to the thread in the last event (own).
     pub fn reply(&self, alloc: Global, thread: u8) -> Result<Reply<D>, Stop> {
         match self.last_reply(thread) {
-            Some(reply) => match copy_reply(alloc, reply) {
-                Ok(copy) => Ok(copy),
-                Err(_) => Err(Stop::Memory),
-            },
+            Some(reply) => copy_reply(alloc, reply).map_err(|_| Stop::Memory),
             None => Err(Stop::Failure(MISUSE)),
         }
     }
@@ -76,13 +69,11 @@ impl<D: Exact> History<D> {
 fn end_of<D>(history: &[Event<D>]) -> Option<Failure>
     ensures { result ≡ end_in history.now }
 {
-    match history.last() {
-        Some(event) => match &event.outcome {
-            Outcome::Failed(failure) => Some(*failure),
-            Outcome::Went(Turn::Ended(_)) => Some(MISUSE),
-            Outcome::Went(Turn::Reply(..)) | Outcome::Went(Turn::Start(_)) => None,
-        },
-        None => None,
+    let event = history.last()?;
+    match &event.outcome {
+        Err(failure) => Some(*failure),
+        Ok(Turn::Ended(_)) => Some(MISUSE),
+        Ok(Turn::Reply(..)) | Ok(Turn::Start(_)) => None,
     }
 }
 
@@ -90,12 +81,10 @@ fn end_of<D>(history: &[Event<D>]) -> Option<Failure>
 fn failure_in<D>(history: &[Event<D>]) -> Option<Failure>
     ensures { result ≡ failed_by (last_event history.now) }
 {
-    match history.last() {
-        Some(event) => match &event.outcome {
-            Outcome::Failed(failure) => Some(*failure),
-            Outcome::Went(_) => None,
-        },
-        None => None,
+    let event = history.last()?;
+    match &event.outcome {
+        Err(failure) => Some(*failure),
+        Ok(_) => None,
     }
 }
 
@@ -103,14 +92,12 @@ fn failure_in<D>(history: &[Event<D>]) -> Option<Failure>
 fn ended_in<D>(history: &[Event<D>]) -> Option<&D>
     ensures { MatchOption result (ended_by (last_event history.now) ≡ None) (λ value. ended_by (last_event history.now) ≡ Some value.now) }
 {
-    match history.last() {
-        Some(event) => match &event.outcome {
-            Outcome::Went(Turn::Ended(value)) => Some(value),
-            Outcome::Went(Turn::Reply(..)) => None,
-            Outcome::Went(Turn::Start(_)) => None,
-            Outcome::Failed(_) => None,
-        },
-        None => None,
+    let event = history.last()?;
+    match &event.outcome {
+        Ok(Turn::Ended(value)) => Some(value),
+        Ok(Turn::Reply(..)) => None,
+        Ok(Turn::Start(_)) => None,
+        Err(_) => None,
     }
 }
 
@@ -118,28 +105,24 @@ fn ended_in<D>(history: &[Event<D>]) -> Option<&D>
 fn value_in<D: Exact>(history: &[Event<D>]) -> Result<Option<D>, AllocError>
     ensures { IfOk result (λ value. value ≡ ended_by (last_event history.now)) }
 {
-    match ended_in(history) {
-        Some(value) => match value.try_clone() {
-            Ok(copy) => Ok(Some(copy)),
-            Err(error) => Err(error),
-        },
-        None => Ok(None),
+    let Some(value) = ended_in(history) else {
+        return Ok(None);
+    };
+    Ok(Some(value.try_clone()?))
+}
+
+/// Whether the next turn is the thread's.
+fn is_turn<D>(outcome: &Result<Turn<D>, Failure>, thread: u8) -> bool {
+    match outcome {
+        Ok(Turn::Reply(next, _)) | Ok(Turn::Start(next)) => *next == thread,
+        Ok(Turn::Ended(_)) | Err(_) => false,
     }
 }
 
-/// Whether the outcome tells the thread its turn.
-fn is_told_turn<D>(outcome: &Outcome<D>, thread: u8) -> bool {
+/// Whether the next turn is the thread's first one.
+fn is_start<D>(outcome: &Result<Turn<D>, Failure>, thread: u8) -> bool {
     match outcome {
-        Outcome::Went(Turn::Reply(next, _)) | Outcome::Went(Turn::Start(next)) => *next == thread,
-        Outcome::Went(Turn::Ended(_)) | Outcome::Failed(_) => false,
-    }
-}
-
-/// Whether the outcome tells the thread that it may start.
-fn is_start<D>(outcome: &Outcome<D>, thread: u8) -> bool {
-    match outcome {
-        Outcome::Went(Turn::Start(next)) => *next == thread,
-        Outcome::Went(Turn::Reply(..)) | Outcome::Went(Turn::Ended(_)) | Outcome::Failed(_) =>
-            false,
+        Ok(Turn::Start(next)) => *next == thread,
+        Ok(Turn::Reply(..)) | Ok(Turn::Ended(_)) | Err(_) => false,
     }
 }

@@ -1,4 +1,4 @@
-//! What takes the turns of threads.
+//! A machine to which threads hand over operations, each in its turn.
 ghost use Rattle.std.specs.Prelude.{◌≡◌, ℕ, ⊤, Result};
 ghost use Rattle.loom_objects.specs.declared.failure.Stop.{Stop};
 ghost use Rattle.loom_objects.specs.declared.operation.Request.{Request};

@@ -1,6 +1,6 @@
-//! Whether lists are what threads were told by a history.
+//! Whether told lists are those of a history.
 ghost use Rattle.std.specs.Prelude.{◌≡◌, ◌↔◌, IsTrue};
-ghost use Rattle.loom.specs.Runner.Events.{AreShares, part, is_end, is_told, is_own, share};
+ghost use Rattle.loom.specs.Runner.Events.{AreShares, part, is_listed, is_own, share};
 
 use crate::runner::exact::Exact;
 use crate::runner::history::History;
@@ -9,54 +9,21 @@ use crate::runner::history::event::{Entry, Event};
 use crate::runner::history::told::Told;
 use loom_objects::operation::{Request, ThreadOp};
 
-/// Whether the operation is a thread's last one.
-fn is_end<D>(op: &ThreadOp<D, ()>) -> bool
-    ensures { result ≡ is_end op.now }
+/// Whether the operation is an entry of its thread's told list: each is but the thread's last one.
+fn is_listed<D>(op: &Request<D, ()>) -> bool
+    ensures { result ≡ is_listed op.now }
 {
     match op {
-        ThreadOp::End => true,
-        ThreadOp::Spawn(..)
-        | ThreadOp::Join(..)
-        | ThreadOp::Current
-        | ThreadOp::Park
-        | ThreadOp::Unpark(_)
-        | ThreadOp::Yield
-        | ThreadOp::Finish(_)
-        | ThreadOp::Exit => false,
+        Request::Thread(ThreadOp::End) => false,
+        _ => true,
     }
 }
 
-/// Whether a thread is told of the operation: of each but its last one.
-fn is_told<D>(op: &Request<D, ()>) -> bool
-    ensures { result ≡ is_told op.now }
-{
-    match op {
-        Request::Thread(op) => !is_end(op),
-        Request::Atomic(_)
-        | Request::Fence(_)
-        | Request::Cell(_)
-        | Request::Arc(_)
-        | Request::Track(_)
-        | Request::Mutex(_)
-        | Request::RwLock(_)
-        | Request::Condvar(_)
-        | Request::Notify(_)
-        | Request::Channel(_)
-        | Request::Waker(_)
-        | Request::AtomicWaker(_)
-        | Request::Local(_)
-        | Request::Lazy(_)
-        | Request::Explore(_)
-        | Request::Fail
-        | Request::Unreachable => true,
-    }
-}
-
-/// Whether the event is an operation of the thread, of which it is told.
+/// Whether the event is an operation of the thread, and an entry of its told list.
 fn is_own_event<D>(event: &Event<D>, thread: u8) -> bool
     ensures { result ≡ is_own thread event.now }
 {
-    event.by == thread && is_told(&event.op)
+    event.by == thread && is_listed(&event.op)
 }
 
 /// Whether the entries are the thread's part of the history.
@@ -80,14 +47,14 @@ fn is_part<D: Exact>(history: &[Event<D>], thread: u8, entries: &[Entry<D>]) -> 
     left.is_empty()
 }
 
-/// Whether the list is what the thread with this number was told by the history.
+/// Whether the list is the told list of the thread with this number.
 fn is_share<D: Exact>(list: &Told<D>, thread: usize, history: &[Event<D>]) -> bool
     ensures { IsTrue result ↔ (list.now ≡ share thread (part thread history.now)) }
 {
     list.thread as usize == thread && is_part(history, list.thread, list.entries.as_slice())
 }
 
-/// Whether each thread was told its part of the history (own).
+/// Whether there is a told list for each thread, with its part of the history (own).
 pub fn are_shares<D: Exact>(told: &[Told<D>], history: &History<D>) -> bool
     ensures { IsTrue result ↔ AreShares told.now history.now }
 {

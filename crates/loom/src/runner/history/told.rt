@@ -1,8 +1,8 @@
-//! What the threads of a run were told.
+//! The told list of a thread: the operations that it handed over, each with its reply.
 use crate::runner::history::event::Entry;
 use std::marker::Model;
 
-/// What one thread handed over, and was told (own).
+/// The told list of a thread: what it handed over, and the replies (own).
 #[derive(Drop)]
 pub struct Told<D> {
     /// Which thread; 0 is main.

@@ -1,4 +1,4 @@
-// Where a run is.
+// A run's execution and its path: the machine to which its threads hand over their operations.
 ghost use Rattle.std.specs.Prelude.{◌≡◌, None};
 
 use crate::runner::exact::Exact;
@@ -9,7 +9,7 @@ use loom_objects::failure::Stop;
 use loom_objects::operation::{Request, Turn};
 use std::marker::Model;
 
-/// The execution of a run, and its path.
+/// Where a run is: its execution, and the path that this follows.
 #[derive(Drop)]
 pub(crate) struct Place<D> {
     pub(crate) execution: Execution<D>,

@@ -13,7 +13,7 @@ use Rattle.loom_engine.specs.Trees.Meeting.{Settings, every_at}
 use Rattle.loom_engine.specs.Trees.Drive.{Trail, Answer, passes_of, branch, branch_at, lengthen, new_node}
 use Rattle.loom_engine.specs.declared.rt.path.node.Node.{Node}
 use Rattle.loom_engine.specs.Path.Nodes.{seen, IsWell, AreWell}
-use Rattle.loom_engine.specs.Path.Route.{Route, stored, trail, choice_here, passed, Grows, Says}
+use Rattle.loom_engine.specs.Path.Route.{Route, stored, trail, choice_here, passed, Grows, Decides}
 use Rattle.loom_engine.proofs.Nodes.Notes.{node_within}
 use Rattle.loom_engine.proofs.Nodes.Nodes.Picks.{pick_yes, pick_no}
 
@@ -191,5 +191,5 @@ passes_one s path question = go (slice_get path.nodes path.position)
     go (Some n) = pick_cases (PassesOne path) (same_made n.made (made_of question)) (Ok n.present, record path { position = path.position + 1 }) (Err NotDeterministic, path) refl tt
 
 -- the path has passed one node more
-pub says_position : {A : Type 0} (choice : A → Choice) (old : Route) (question : Question) (answer : A) (new : Route) → Says choice old question (Ok answer) new → new.position ≡ old.position + 1
+pub says_position : {A : Type 0} (choice : A → Choice) (old : Route) (question : Question) (answer : A) (new : Route) → Decides choice old question (Ok answer) new → new.position ≡ old.position + 1
 says_position choice old question answer new h = subst (PassesOne (trail old)) h (passes_one old.search (trail old) question)

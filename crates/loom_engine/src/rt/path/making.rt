@@ -1,5 +1,5 @@
-//! The nodes that a run makes, at their defaults or at a choice that was given, and which options of a new one are to be tried.
-ghost use Rattle.std.specs.Prelude.{◌≡◌, ◌&&◌, not, ◌<◌, ◌↔◌, ℕ, List, Option, Some, IfSome, IsSomeAnd, IsTrue, true, slice_get, map, length};
+//! Making the nodes of a path: each at its default or at a choice that was given, with the options that are to be tried.
+ghost use Rattle.std.specs.Prelude.{◌≡◌, ◌<◌, ◌↔◌, ℕ, List, Option, Some, IfSome, IsSomeAnd, IsTrue, true, slice_get, map, length};
 ghost use Rattle.loom_engine.specs.Trees.Meeting.{is_below};
 ghost use Rattle.std.specs.List.{Contains};
 ghost use Rattle.std.specs.Option.{option_map};
@@ -14,14 +14,6 @@ use crate::rt::path::node::{
 };
 use loom_objects::choice::Choice;
 use loom_objects::rt::schedule::{Ability, Offers};
-
-/// Whether each option is to be tried where a run explores: in a search that isn't reduced.
-pub fn explores_each(reduce: bool, exploring: bool) -> bool
-    ensures { result ≡ (not reduce && exploring) }
-{
-    let is_whole = !reduce;
-    is_whole && exploring
-}
 
 /// Whether so many preemptions are below the bound, if there is one.
 pub fn is_below(bound: Option<u8>, preemptions: u32) -> bool

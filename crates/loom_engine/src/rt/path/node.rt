@@ -125,7 +125,7 @@ impl Status {
     }
 
     /// Whether the thread is the choice.
-    fn is_active(self) -> bool
+    pub fn is_active(self) -> bool
         ensures { result ≡ is_active self }
     {
         matches!(self, Status::Active)
@@ -156,10 +156,8 @@ impl Schedule {
         ensures present { Choice.Thread result ≡ (seen_schedule self.now).present }
         ensures within { IfSome result (λ thread. thread < 5) }
     {
-        match self.active_place() {
-            Some(thread) => Some(thread as u8),
-            None => None,
-        }
+        let thread = self.active_place()?;
+        Some(thread as u8)
     }
 
     /// The place of the thread that is the choice.

@@ -1,5 +1,5 @@
-//! The nodes at which a run chooses, and how many of them it has passed.
-ghost use Rattle.std.specs.Prelude.{◌≡◌, ◌≤◌, ◌<◌, ◌↔◌, ◌++◌, ◌∷◌, [], ℕ, List, Option, IfOk, IfErr, IsTrue, length};
+//! The nodes of a path, and the position of the present run among them.
+ghost use Rattle.std.specs.Prelude.{◌≡◌, ◌≤◌, ◌<◌, ◌++◌, ◌∷◌, [], ℕ, List, Option, IfOk, IfErr, length};
 ghost use Rattle.loom_objects.specs.Tree.Asked.{which_thread};
 ghost use Rattle.loom_objects.specs.Tree.Question.{made_of};
 ghost use Rattle.loom_engine.specs.Path.Nearest.{IsNearest, passes_in};
@@ -15,38 +15,31 @@ use std::alloc::AllocError;
 
 /// The nodes at which runs choose, in order, and how many of them the present run has passed.
 #[derive(Drop)]
-pub struct Way {
+pub struct Nodes {
     /// The nodes.
-    pub nodes: Vec<Node>,
+    pub list: Vec<Node>,
     /// How many of them the run has passed.
     pub position: usize,
 }
 
-impl Way {
+impl Nodes {
     /// Makes a node at the end, without passing it. Without memory for it the nodes stay as they were.
     pub fn push(&mut self, node: Node) -> Result<(), AllocError>
-        ensures made { IfOk result (λ _. self.new.nodes.items ≡ self.old.nodes.items ++ node ∷ []) }
-        ensures same { IfErr result (λ _. self.new.nodes.items ≡ self.old.nodes.items) }
+        ensures made { IfOk result (λ _. self.new.list.items ≡ self.old.list.items ++ node ∷ []) }
+        ensures same { IfErr result (λ _. self.new.list.items ≡ self.old.list.items) }
         ensures position { self.new.position ≡ self.old.position }
     {
-        self.nodes.push(node)?;
+        self.list.push(node)?;
         Ok(())
-    }
-
-    /// Whether the run has passed as many nodes as there may be.
-    pub fn is_full(&self, max_branches: u32) -> bool
-        ensures { IsTrue result ↔ (max_branches ≤ self.now.position) }
-    {
-        self.position >= max_branches as usize
     }
 
     /// The stored schedule that the run passes next. `NotDeterministic` where another node stands there, or another schedule
     /// than these offers make.
     pub fn stored_schedule(&self, exploring: bool, offers: &Offers) -> Result<Schedule, Stop>
-        requires { self.now.position < length self.now.nodes.items }
-        ensures { (places : List (Option ℕ)) → FindsSchedule self.now.nodes.items self.now.position (made_of (which_thread exploring offers.now places)) result }
+        requires { self.now.position < length self.now.list.items }
+        ensures { (places : List (Option ℕ)) → FindsSchedule self.now.list.items self.now.position (made_of (which_thread exploring offers.now places)) result }
     {
-        let Node::Schedule(schedule) = self.nodes[self.position] else {
+        let Node::Schedule(schedule) = self.list[self.position] else {
             return Err(failed(FailureKind::NotDeterministic));
         };
         if !schedule.meets(exploring, offers) {

@@ -1,5 +1,5 @@
 -- The scripts of the rows about wakers of futures, and places for them.
-use Rattle.std.specs.Prelude.{List, [], ◌∷◌, None}
+use Rattle.std.specs.Prelude.{List, [], ◌∷◌, codes}
 use Rattle.std.specs.declared.sync.atomic.Ordering.TheVariants.{Release, Acquire}
 use Rattle.loom_views.specs.declared.rt.num.Numbers.TheVariants as numbers
 use Rattle.loom_objects.specs.declared.operation.AtomicOp.TheVariants as atomic
@@ -7,27 +7,26 @@ use Rattle.loom_objects.specs.declared.operation.AtomicWakerOp.TheVariants as pl
 use Rattle.loom_objects.specs.declared.operation.ThreadOp.TheVariants as threads
 use Rattle.loom_objects.specs.declared.operation.WakerOp.TheVariants as waker
 use Rattle.loom_objects.specs.declared.operation.Request.TheVariants as op
-use Rattle.loom_examples.specs.declared.scripts.step.Step.{Step}
-use Rattle.loom_examples.specs.declared.scripts.step.Step.TheVariants.{Do, Jump, Unless}
+use Rattle.loom_examples.specs.Rows.Written.{Written, Do, Label, JumpTo, UnlessTo, SpawnAt}
 use Rattle.loom_examples.specs.declared.scripts.step.Value.TheVariants.{Plain}
 use Rattle.loom_examples.specs.Rows.Steps.{exit, end, fail}
 
-abbrev pub finish : Step
+abbrev pub finish : Written
 finish = Do 0 (op.Thread (threads.Finish (Plain 7)))
 
 -- A future is ready at its first poll.
-abbrev pub ready_at_once : List Step
+abbrev pub ready_at_once : List Written
 ready_at_once =
     Do 0 (op.Waker waker.New) ∷ Do 0 (op.Waker (waker.Finish 0)) ∷ finish ∷ exit ∷ end ∷ []
 
--- The same, but a clone of the waker is left.
-abbrev pub waker_leak : List Step
+-- `spurious_poll`, but a clone of the waker is left.
+abbrev pub waker_leak : List Written
 waker_leak =
     Do 0 (op.Waker waker.New) ∷ Do 0 (op.Waker (waker.Clone 0)) ∷ Do 0 (op.Waker (waker.Finish 0)) ∷ finish ∷
     exit ∷ end ∷ []
 
 -- Main registers a clone of the waker in a place, and wakes by the place.
-abbrev pub waker_round : List Step
+abbrev pub waker_round : List Written
 waker_round =
     Do 0 (op.AtomicWaker place.New) ∷ Do 1 (op.Waker waker.New) ∷ Do 0 (op.Waker (waker.Clone 1)) ∷
     Do 0 (op.AtomicWaker (place.Register 0 1)) ∷ Do 0 (op.AtomicWaker (place.Wake 0)) ∷
@@ -35,14 +34,16 @@ waker_round =
 
 -- Main polls until it finds a gate open. At the first poll it makes a thread that opens the gate and wakes main. Main
 -- finishes with the number of its polls, and asserts that they are three at most (loom's `tests/futures.rs`).
-abbrev pub spurious_poll : List Step
+abbrev pub spurious_poll : List Written
 spurious_poll =
-    Do 0 (op.Atomic (atomic.New numbers.Bool 0)) ∷ Do 1 (op.Waker waker.New) ∷
-    Do 0 (op.Waker (waker.Clone 1)) ∷ Do 2 (op.Thread (threads.Spawn 23 None)) ∷
-    Do 0 (op.Atomic (atomic.Load 0 Acquire)) ∷ Unless 0 1 9 ∷ Do 0 (op.Waker (waker.Finish 1)) ∷
-    Do 0 (op.Thread (threads.Finish (Plain 1))) ∷ Jump 20 ∷ Do 0 (op.Waker (waker.Wait 1)) ∷
-    Do 0 (op.Atomic (atomic.Load 0 Acquire)) ∷ Unless 0 1 15 ∷ Do 0 (op.Waker (waker.Finish 1)) ∷
-    Do 0 (op.Thread (threads.Finish (Plain 2))) ∷ Jump 20 ∷ Do 0 (op.Waker (waker.Wait 1)) ∷
-    Do 0 (op.Atomic (atomic.Load 0 Acquire)) ∷ Unless 0 1 22 ∷ Do 0 (op.Waker (waker.Finish 1)) ∷
-    Do 0 (op.Thread (threads.Finish (Plain 3))) ∷ exit ∷ end ∷ fail ∷ Do 0 (op.Atomic (atomic.Store 0 1 Release)) ∷
-    Do 0 (op.Waker (waker.Wake 1)) ∷ finish ∷ Jump 20 ∷ []
+    Do 0 (op.Atomic (atomic.New numbers.Bool 0)) ∷ Do 1 (op.Waker waker.New) ∷ Do 0 (op.Waker (waker.Clone 1)) ∷
+    SpawnAt 2 (codes "child") ∷ Do 0 (op.Atomic (atomic.Load 0 Acquire)) ∷ UnlessTo 0 1 (codes "main wait") ∷
+    Do 0 (op.Waker (waker.Finish 1)) ∷ Do 0 (op.Thread (threads.Finish (Plain 1))) ∷ JumpTo (codes "exit") ∷
+    Label (codes "main wait") ∷ Do 0 (op.Waker (waker.Wait 1)) ∷ Do 0 (op.Atomic (atomic.Load 0 Acquire)) ∷
+    UnlessTo 0 1 (codes "wait") ∷ Do 0 (op.Waker (waker.Finish 1)) ∷
+    Do 0 (op.Thread (threads.Finish (Plain 2))) ∷ JumpTo (codes "exit") ∷ Label (codes "wait") ∷
+    Do 0 (op.Waker (waker.Wait 1)) ∷ Do 0 (op.Atomic (atomic.Load 0 Acquire)) ∷ UnlessTo 0 1 (codes "wrong") ∷
+    Do 0 (op.Waker (waker.Finish 1)) ∷ Do 0 (op.Thread (threads.Finish (Plain 3))) ∷ Label (codes "exit") ∷
+    exit ∷ end ∷ Label (codes "wrong") ∷ fail ∷ Label (codes "child") ∷
+    Do 0 (op.Atomic (atomic.Store 0 1 Release)) ∷ Do 0 (op.Waker (waker.Wake 1)) ∷ finish ∷
+    JumpTo (codes "exit") ∷ []

@@ -17,10 +17,11 @@ pub const FINISH_ONLY: &[Step] = &[
 
 /// Main spawns a thread, which does nothing but end.
 pub const SPAWN_ONLY: &[Step] = &[
-    Step::Do(0, Request::Thread(ThreadOp::Spawn(4, None))),
+    Step::SpawnAt(0, "child"),
     Step::Do(0, Request::Thread(ThreadOp::Finish(Value::Plain(7)))),
     EXIT,
     END,
+    Step::Label("child"),
     Step::Do(0, Request::Thread(ThreadOp::Finish(Value::Plain(3)))),
     EXIT,
     END,
@@ -29,12 +30,13 @@ pub const SPAWN_ONLY: &[Step] = &[
 /// Main locks a mutex beside a thread that does nothing but end.
 pub const LOCK_BESIDE: &[Step] = &[
     Step::Do(0, Request::Mutex(MutexOp::New(Value::Plain(0)))),
-    Step::Do(1, Request::Thread(ThreadOp::Spawn(7, None))),
+    Step::SpawnAt(1, "child"),
     Step::Do(0, Request::Mutex(MutexOp::Lock(0))),
     Step::Do(0, Request::Mutex(MutexOp::Release(0, Value::Plain(0)))),
     Step::Do(0, Request::Thread(ThreadOp::Finish(Value::Plain(7)))),
     EXIT,
     END,
+    Step::Label("child"),
     Step::Do(0, Request::Thread(ThreadOp::Finish(Value::Plain(3)))),
     EXIT,
     END,
@@ -42,8 +44,9 @@ pub const LOCK_BESIDE: &[Step] = &[
 
 /// Main makes mutexes without end.
 pub const MUTEX_FOREVER: &[Step] = &[
+    Step::Label("again"),
     Step::Do(0, Request::Mutex(MutexOp::New(Value::Plain(0)))),
-    Step::Jump(0),
+    Step::JumpTo("again"),
 ];
 
 static FEW_THREADS: [Row; 6] = [

@@ -13,27 +13,29 @@ use std::sync::atomic::Ordering::{Relaxed, Release};
 const FINISH: Step = Step::Do(0, Request::Thread(ThreadOp::Finish(Value::Plain(7))));
 
 /// Main yields without end.
-pub const SPIN_ALONE: &[Step] = &[YIELD, Step::Jump(0)];
+pub const SPIN_ALONE: &[Step] = &[Step::Label("again"), YIELD, Step::JumpTo("again")];
 
 /// Main makes 65,534 fences, which is as often as a thread may use objects. It counts that in a mutex that nobody locks.
 pub const FENCES: &[Step] = &[
     Step::Do(0, Request::Mutex(MutexOp::New(Value::Plain(0)))),
+    Step::Label("again"),
     Step::Do(0, Request::Fence(Release)),
     Step::Do(0, Request::Mutex(MutexOp::GetMut(0))),
     Step::Do(0, Request::Mutex(MutexOp::Put(0, Value::Next(0)))),
-    Step::Unless(0, 65_533, 1),
+    Step::UnlessTo(0, 65_533, "again"),
     FINISH,
     EXIT,
     END,
 ];
 
-/// The same, once more.
+/// The one before, with one more.
 pub const TOO_MANY_FENCES: &[Step] = &[
     Step::Do(0, Request::Mutex(MutexOp::New(Value::Plain(0)))),
+    Step::Label("again"),
     Step::Do(0, Request::Fence(Release)),
     Step::Do(0, Request::Mutex(MutexOp::GetMut(0))),
     Step::Do(0, Request::Mutex(MutexOp::Put(0, Value::Next(0)))),
-    Step::Unless(0, 65_534, 1),
+    Step::UnlessTo(0, 65_534, "again"),
     FINISH,
     EXIT,
     END,
@@ -44,41 +46,47 @@ pub const TOO_MANY_FENCES: &[Step] = &[
 pub const MANY_STORES: &[Step] = &[
     Step::Do(0, Request::Atomic(AtomicOp::New(Numbers::U64, 0))),
     Step::Do(1, Request::Mutex(MutexOp::New(Value::Plain(0)))),
-    Step::Do(2, Request::Thread(ThreadOp::Spawn(10, None))),
+    Step::SpawnAt(2, "child"),
+    Step::Label("main again"),
     Step::Do(0, Request::Atomic(AtomicOp::Store(0, 1, Relaxed))),
     Step::Do(0, Request::Mutex(MutexOp::GetMut(1))),
     Step::Do(0, Request::Mutex(MutexOp::Put(1, Value::Next(0)))),
-    Step::Unless(0, 39_999, 3),
+    Step::UnlessTo(0, 39_999, "main again"),
     FINISH,
     EXIT,
     END,
+    Step::Label("child"),
     Step::Do(1, Request::Mutex(MutexOp::New(Value::Plain(0)))),
+    Step::Label("again"),
     Step::Do(0, Request::Atomic(AtomicOp::Store(0, 2, Relaxed))),
     Step::Do(0, Request::Mutex(MutexOp::GetMut(1))),
     Step::Do(0, Request::Mutex(MutexOp::Put(1, Value::Next(0)))),
-    Step::Unless(0, 25_533, 11),
+    Step::UnlessTo(0, 25_533, "again"),
     FINISH,
     EXIT,
     END,
 ];
 
-/// The same, once more.
+/// The one before, with one more.
 pub const TOO_MANY_STORES: &[Step] = &[
     Step::Do(0, Request::Atomic(AtomicOp::New(Numbers::U64, 0))),
     Step::Do(1, Request::Mutex(MutexOp::New(Value::Plain(0)))),
-    Step::Do(2, Request::Thread(ThreadOp::Spawn(10, None))),
+    Step::SpawnAt(2, "child"),
+    Step::Label("main again"),
     Step::Do(0, Request::Atomic(AtomicOp::Store(0, 1, Relaxed))),
     Step::Do(0, Request::Mutex(MutexOp::GetMut(1))),
     Step::Do(0, Request::Mutex(MutexOp::Put(1, Value::Next(0)))),
-    Step::Unless(0, 39_999, 3),
+    Step::UnlessTo(0, 39_999, "main again"),
     FINISH,
     EXIT,
     END,
+    Step::Label("child"),
     Step::Do(1, Request::Mutex(MutexOp::New(Value::Plain(0)))),
+    Step::Label("again"),
     Step::Do(0, Request::Atomic(AtomicOp::Store(0, 2, Relaxed))),
     Step::Do(0, Request::Mutex(MutexOp::GetMut(1))),
     Step::Do(0, Request::Mutex(MutexOp::Put(1, Value::Next(0)))),
-    Step::Unless(0, 25_534, 11),
+    Step::UnlessTo(0, 25_534, "again"),
     FINISH,
     EXIT,
     END,
@@ -96,11 +104,12 @@ pub const PUT_ABSENT: &[Step] = &[Step::Do(0, Request::Local(LocalOp::Put(1, Val
 /// Main locks a mutex, which a thread locks and releases, and ends without a release.
 pub const GUARD_LEFT: &[Step] = &[
     Step::Do(0, Request::Mutex(MutexOp::New(Value::Plain(0)))),
-    Step::Do(1, Request::Thread(ThreadOp::Spawn(6, None))),
+    Step::SpawnAt(1, "child"),
     Step::Do(0, Request::Mutex(MutexOp::Lock(0))),
     FINISH,
     EXIT,
     END,
+    Step::Label("child"),
     Step::Do(0, Request::Mutex(MutexOp::Lock(0))),
     Step::Do(0, Request::Mutex(MutexOp::Release(0, Value::Plain(0)))),
     FINISH,

@@ -36,16 +36,18 @@ pub const LOCK_WHILE_OUT: &[Step] = &[
 /// `tests/mutex.rs`).
 pub const MUTEX_INTO_INNER: &[Step] = &[
     Step::Do(0, Request::Mutex(MutexOp::New(Value::Plain(0)))),
-    Step::Do(1, Request::Thread(ThreadOp::Spawn(11, None))),
-    Step::Do(2, Request::Thread(ThreadOp::Spawn(11, None))),
+    Step::SpawnAt(1, "child"),
+    Step::SpawnAt(2, "child"),
     Step::Do(1, Request::Thread(ThreadOp::Join(1, 1))),
     Step::Do(1, Request::Thread(ThreadOp::Join(2, 2))),
     Step::Do(0, Request::Mutex(MutexOp::IntoInner(0))),
-    Step::Unless(0, 2, 10),
+    Step::UnlessTo(0, 2, "wrong"),
     Step::Do(0, Request::Thread(ThreadOp::Finish(Value::Held(0)))),
     EXIT,
     END,
+    Step::Label("wrong"),
     FAIL,
+    Step::Label("child"),
     Step::Do(0, Request::Mutex(MutexOp::Lock(0))),
     Step::Do(0, Request::Mutex(MutexOp::Release(0, Value::Next(0)))),
     FINISH,
@@ -56,20 +58,22 @@ pub const MUTEX_INTO_INNER: &[Step] = &[
 /// Main locks and releases a mutex 65,534 times, which is as often as a thread may use objects. It counts that in the mutex.
 pub const MANY_LOCKS: &[Step] = &[
     Step::Do(0, Request::Mutex(MutexOp::New(Value::Plain(0)))),
+    Step::Label("again"),
     Step::Do(0, Request::Mutex(MutexOp::Lock(0))),
     Step::Do(0, Request::Mutex(MutexOp::Release(0, Value::Next(0)))),
-    Step::Unless(0, 65_533, 1),
+    Step::UnlessTo(0, 65_533, "again"),
     FINISH,
     EXIT,
     END,
 ];
 
-/// The same, once more.
+/// Main locks and releases a mutex 65,535 times, which is once too often.
 pub const TOO_MANY_LOCKS: &[Step] = &[
     Step::Do(0, Request::Mutex(MutexOp::New(Value::Plain(0)))),
+    Step::Label("again"),
     Step::Do(0, Request::Mutex(MutexOp::Lock(0))),
     Step::Do(0, Request::Mutex(MutexOp::Release(0, Value::Next(0)))),
-    Step::Unless(0, 65_534, 1),
+    Step::UnlessTo(0, 65_534, "again"),
     FINISH,
     EXIT,
     END,
@@ -92,7 +96,7 @@ pub const RWLOCK_WRITE_THEN_TRY_WRITE: &[Step] = &[
     Step::Do(0, Request::RwLock(RwLockOp::New(Value::Plain(1)))),
     Step::Do(0, Request::RwLock(RwLockOp::Write(0))),
     Step::Do(0, Request::RwLock(RwLockOp::TryWrite(0))),
-    Step::Unless(3, 1, 8),
+    Step::UnlessTo(3, 1, "wrong"),
     Step::Do(
         0,
         Request::RwLock(RwLockOp::WriteRelease(0, Value::Held(0))),
@@ -100,6 +104,7 @@ pub const RWLOCK_WRITE_THEN_TRY_WRITE: &[Step] = &[
     FINISH,
     EXIT,
     END,
+    Step::Label("wrong"),
     FAIL,
 ];
 
@@ -107,8 +112,9 @@ pub const RWLOCK_WRITE_THEN_TRY_WRITE: &[Step] = &[
 pub const READ_GUARD_OF_ANOTHER: &[Step] = &[
     Step::Do(0, Request::RwLock(RwLockOp::New(Value::Plain(0)))),
     Step::Do(0, Request::RwLock(RwLockOp::Read(0))),
-    Step::Do(1, Request::Thread(ThreadOp::Spawn(4, None))),
+    Step::SpawnAt(1, "child"),
     Step::Do(0, Request::Thread(ThreadOp::Join(1, 1))),
+    Step::Label("child"),
     Step::Do(0, Request::RwLock(RwLockOp::ReadRelease(0))),
 ];
 
@@ -117,8 +123,8 @@ pub const READ_GUARD_OF_ANOTHER: &[Step] = &[
 pub const RWLOCK_WRITER_AND_READERS: &[Step] = &[
     Step::Do(0, Request::RwLock(RwLockOp::New(Value::Plain(0)))),
     Step::Do(1, Request::Atomic(AtomicOp::New(Numbers::U64, 0))),
-    Step::Do(2, Request::Thread(ThreadOp::Spawn(11, None))),
-    Step::Do(3, Request::Thread(ThreadOp::Spawn(11, None))),
+    Step::SpawnAt(2, "child"),
+    Step::SpawnAt(3, "child"),
     Step::Do(0, Request::RwLock(RwLockOp::Write(0))),
     Step::Do(0, Request::Atomic(AtomicOp::Store(1, 1, Relaxed))),
     Step::Do(
@@ -128,17 +134,20 @@ pub const RWLOCK_WRITER_AND_READERS: &[Step] = &[
     FINISH,
     EXIT,
     END,
+    Step::Label("wrong"),
     FAIL,
+    Step::Label("child"),
     Step::Do(0, Request::RwLock(RwLockOp::Read(0))),
     Step::Do(1, Request::Atomic(AtomicOp::Load(1, Relaxed))),
-    Step::Unless(1, 1, 19),
+    Step::UnlessTo(1, 1, "read release"),
     Step::Do(2, Request::RwLock(RwLockOp::ReadRelease(0))),
-    Step::Unless(0, 1, 10),
+    Step::UnlessTo(0, 1, "wrong"),
     FINISH,
     EXIT,
     END,
+    Step::Label("read release"),
     Step::Do(2, Request::RwLock(RwLockOp::ReadRelease(0))),
-    Step::Unless(0, 0, 10),
+    Step::UnlessTo(0, 0, "wrong"),
     FINISH,
     EXIT,
     END,
@@ -152,7 +161,7 @@ pub const CONDVAR_ALONE: &[Step] = &[
     Step::Do(0, Request::Condvar(CondvarOp::Wait(1, 0, Value::Plain(0)))),
 ];
 
-/// The same, where main has a token: that is for `park` alone.
+/// The one before, where main has a token: that is for `park` alone.
 pub const CONDVAR_WITH_TOKEN: &[Step] = &[
     Step::Do(0, Request::Thread(ThreadOp::Current)),
     Step::Do(0, Request::Thread(ThreadOp::Unpark(0))),
@@ -166,17 +175,20 @@ pub const CONDVAR_WITH_TOKEN: &[Step] = &[
 pub const CONDVAR_HANDS_OVER: &[Step] = &[
     Step::Do(0, Request::Mutex(MutexOp::New(Value::Plain(0)))),
     Step::Do(1, Request::Condvar(CondvarOp::New)),
-    Step::Do(2, Request::Thread(ThreadOp::Spawn(13, None))),
+    Step::SpawnAt(2, "child"),
     Step::Do(0, Request::Mutex(MutexOp::Lock(0))),
-    Step::Unless(0, 0, 6),
+    Step::UnlessTo(0, 0, "release"),
     Step::Do(0, Request::Condvar(CondvarOp::Wait(1, 0, Value::Plain(0)))),
+    Step::Label("release"),
     Step::Do(1, Request::Mutex(MutexOp::Release(0, Value::Held(0)))),
     Step::Do(1, Request::Thread(ThreadOp::Join(2, 2))),
-    Step::Unless(0, 7, 12),
+    Step::UnlessTo(0, 7, "wrong"),
     Step::Do(0, Request::Thread(ThreadOp::Finish(Value::Held(0)))),
     EXIT,
     END,
+    Step::Label("wrong"),
     FAIL,
+    Step::Label("child"),
     Step::Do(0, Request::Mutex(MutexOp::Lock(0))),
     Step::Do(0, Request::Mutex(MutexOp::Release(0, Value::Plain(7)))),
     Step::Do(0, Request::Condvar(CondvarOp::NotifyOne(1))),
@@ -190,17 +202,21 @@ pub const CONDVAR_HANDS_OVER: &[Step] = &[
 pub const NOTIFY_ALL: &[Step] = &[
     Step::Do(0, Request::Mutex(MutexOp::New(Value::Plain(0)))),
     Step::Do(1, Request::Condvar(CondvarOp::New)),
-    Step::Do(2, Request::Thread(ThreadOp::Spawn(4, None))),
-    Step::Do(3, Request::Thread(ThreadOp::Spawn(13, None))),
+    Step::SpawnAt(2, "first"),
+    Step::SpawnAt(3, "second"),
+    Step::Label("first"),
     Step::Do(0, Request::Mutex(MutexOp::Lock(0))),
-    Step::Unless(0, 0, 7),
+    Step::UnlessTo(0, 0, "release"),
     Step::Do(0, Request::Condvar(CondvarOp::Wait(1, 0, Value::Plain(0)))),
+    Step::Label("release"),
     Step::Do(1, Request::Mutex(MutexOp::Release(0, Value::Held(0)))),
-    Step::Unless(0, 7, 12),
+    Step::UnlessTo(0, 7, "wrong"),
     Step::Do(0, Request::Thread(ThreadOp::Finish(Value::Held(0)))),
     EXIT,
     END,
+    Step::Label("wrong"),
     FAIL,
+    Step::Label("second"),
     Step::Do(0, Request::Mutex(MutexOp::Lock(0))),
     Step::Do(0, Request::Mutex(MutexOp::Release(0, Value::Plain(7)))),
     Step::Do(0, Request::Condvar(CondvarOp::NotifyAll(1))),
@@ -222,8 +238,9 @@ pub const NOTIFY_WAIT: &[Step] = &[
 /// Main and a thread wait on one notifier.
 pub const SECOND_WAITER: &[Step] = &[
     Step::Do(0, Request::Notify(NotifyOp::New)),
-    Step::Do(1, Request::Thread(ThreadOp::Spawn(3, None))),
+    Step::SpawnAt(1, "child"),
     Step::Do(0, Request::Notify(NotifyOp::Wait(0))),
+    Step::Label("child"),
     Step::Do(0, Request::Notify(NotifyOp::Wait(0))),
 ];
 
@@ -244,15 +261,17 @@ pub const PARK_ALONE: &[Step] = &[PARK];
 pub const UNPARK_WAKES: &[Step] = &[
     Step::Do(0, Request::Atomic(AtomicOp::New(Numbers::U64, 0))),
     Step::Do(1, Request::Thread(ThreadOp::Current)),
-    Step::Do(2, Request::Thread(ThreadOp::Spawn(11, None))),
+    Step::SpawnAt(2, "child"),
     Step::Do(1, Request::Atomic(AtomicOp::Load(0, Relaxed))),
     PARK,
     Step::Do(0, Request::Atomic(AtomicOp::Load(0, Relaxed))),
-    Step::Unless(0, 7, 10),
+    Step::UnlessTo(0, 7, "wrong"),
     Step::Do(0, Request::Thread(ThreadOp::Finish(Value::Held(0)))),
     EXIT,
     END,
+    Step::Label("wrong"),
     FAIL,
+    Step::Label("child"),
     Step::Do(0, Request::Atomic(AtomicOp::Store(0, 7, Relaxed))),
     Step::Do(0, Request::Thread(ThreadOp::Unpark(1))),
     FINISH,
@@ -262,11 +281,12 @@ pub const UNPARK_WAKES: &[Step] = &[
 
 /// Main yields beside a thread that does nothing but end.
 pub const YIELD_BESIDE: &[Step] = &[
-    Step::Do(0, Request::Thread(ThreadOp::Spawn(5, None))),
+    Step::SpawnAt(0, "child"),
     YIELD,
     FINISH,
     EXIT,
     END,
+    Step::Label("child"),
     FINISH,
     EXIT,
     END,

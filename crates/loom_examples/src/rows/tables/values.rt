@@ -13,24 +13,26 @@ const FINISH: Step = Step::Do(0, Request::Thread(ThreadOp::Finish(Value::Plain(7
 /// Main asserts that a value isn't made yet, that it is 5 once it is made so, and that it is given back with its key.
 pub const LAZY_ONCE: &[Step] = &[
     Step::Do(0, Request::Lazy(LazyOp::Get(1))),
-    Step::Unless(3, 1, 10),
+    Step::UnlessTo(3, 1, "wrong"),
     Step::Do(0, Request::Lazy(LazyOp::Init(1, Value::Plain(5)))),
-    Step::Unless(0, 5, 10),
+    Step::UnlessTo(0, 5, "wrong"),
     Step::Do(1, Request::Lazy(LazyOp::Get(1))),
-    Step::Unless(1, 5, 10),
+    Step::UnlessTo(1, 5, "wrong"),
     Step::Do(2, Request::Thread(ThreadOp::Finish(Value::Held(1)))),
-    Step::Unless(2, 115, 10),
+    Step::UnlessTo(2, 115, "wrong"),
     EXIT,
     END,
+    Step::Label("wrong"),
     FAIL,
 ];
 
 /// A thread that main doesn't join asks for a value that is made once (loom's `tests/atomic.rs`).
 pub const LAZY_LATE: &[Step] = &[
-    Step::Do(0, Request::Thread(ThreadOp::Spawn(4, None))),
+    Step::SpawnAt(0, "child"),
     FINISH,
     EXIT,
     END,
+    Step::Label("child"),
     Step::Do(0, Request::Lazy(LazyOp::Get(1))),
     FINISH,
     EXIT,
@@ -51,14 +53,15 @@ pub const LOCAL_GONE: &[Step] = &[
     Step::Do(0, Request::Local(LocalOp::With(1))),
 ];
 
-/// The same by the call that may fail, and main asserts that it does.
+/// The one before by the call that may fail, and main asserts that it does.
 pub const LOCAL_ACCESS_ERROR: &[Step] = &[
     Step::Do(0, Request::Local(LocalOp::Init(1, Value::Plain(5)))),
     FINISH,
     EXIT,
     Step::Do(0, Request::Local(LocalOp::TryWith(1))),
-    Step::Unless(3, 2, 6),
+    Step::UnlessTo(3, 2, "wrong"),
     END,
+    Step::Label("wrong"),
     FAIL,
 ];
 
@@ -68,8 +71,9 @@ pub const LOCAL_ORDER: &[Step] = &[
     Step::Do(0, Request::Local(LocalOp::Init(1, Value::Plain(6)))),
     FINISH,
     EXIT,
-    Step::Unless(0, 12_516, 6),
+    Step::UnlessTo(0, 12_516, "wrong"),
     END,
+    Step::Label("wrong"),
     FAIL,
 ];
 

@@ -21,7 +21,7 @@ pub const READY_AT_ONCE: &[Step] = &[
     END,
 ];
 
-/// The same, but a clone of the waker is left.
+/// `spurious_poll`, but a clone of the waker is left.
 pub const WAKER_LEAK: &[Step] = &[
     Step::Do(0, Request::Waker(WakerOp::New)),
     Step::Do(0, Request::Waker(WakerOp::Clone(0))),
@@ -50,30 +50,35 @@ pub const SPURIOUS_POLL: &[Step] = &[
     Step::Do(0, Request::Atomic(AtomicOp::New(Numbers::Bool, 0))),
     Step::Do(1, Request::Waker(WakerOp::New)),
     Step::Do(0, Request::Waker(WakerOp::Clone(1))),
-    Step::Do(2, Request::Thread(ThreadOp::Spawn(23, None))),
+    Step::SpawnAt(2, "child"),
     Step::Do(0, Request::Atomic(AtomicOp::Load(0, Acquire))),
-    Step::Unless(0, 1, 9),
+    Step::UnlessTo(0, 1, "main wait"),
     Step::Do(0, Request::Waker(WakerOp::Finish(1))),
     Step::Do(0, Request::Thread(ThreadOp::Finish(Value::Plain(1)))),
-    Step::Jump(20),
+    Step::JumpTo("exit"),
+    Step::Label("main wait"),
     Step::Do(0, Request::Waker(WakerOp::Wait(1))),
     Step::Do(0, Request::Atomic(AtomicOp::Load(0, Acquire))),
-    Step::Unless(0, 1, 15),
+    Step::UnlessTo(0, 1, "wait"),
     Step::Do(0, Request::Waker(WakerOp::Finish(1))),
     Step::Do(0, Request::Thread(ThreadOp::Finish(Value::Plain(2)))),
-    Step::Jump(20),
+    Step::JumpTo("exit"),
+    Step::Label("wait"),
     Step::Do(0, Request::Waker(WakerOp::Wait(1))),
     Step::Do(0, Request::Atomic(AtomicOp::Load(0, Acquire))),
-    Step::Unless(0, 1, 22),
+    Step::UnlessTo(0, 1, "wrong"),
     Step::Do(0, Request::Waker(WakerOp::Finish(1))),
     Step::Do(0, Request::Thread(ThreadOp::Finish(Value::Plain(3)))),
+    Step::Label("exit"),
     EXIT,
     END,
+    Step::Label("wrong"),
     FAIL,
+    Step::Label("child"),
     Step::Do(0, Request::Atomic(AtomicOp::Store(0, 1, Release))),
     Step::Do(0, Request::Waker(WakerOp::Wake(1))),
     FINISH,
-    Step::Jump(20),
+    Step::JumpTo("exit"),
 ];
 
 static WAKER_ROWS: [Row; 4] = [

@@ -55,11 +55,7 @@ fn put_waited_for(out: &mut Page, world: &World, call: Call) {
 
 /// Who has the object, if there is one and a thread has it, and the line's end.
 fn put_holder(out: &mut Page, world: &World, thread: usize, object: Option<usize>) {
-    let holder = match object {
-        Some(object) => world.holder(object),
-        None => None,
-    };
-    match holder {
+    match object.and_then(|object| world.holder(object)) {
         Some(hold) if hold.thread == thread => {
             out.between("; it holds it itself since event ", hold.event, "\n");
         }

@@ -34,16 +34,10 @@ fn cell_targets(op: &CellOp<()>) -> Option<(usize, usize, Manner)> {
         CellOp::ReadEnd(cell) => (*cell, *cell, Manner::CellRead),
         CellOp::WriteEnd(cell, _) => (*cell, *cell, Manner::CellWrite),
         CellOp::Swap(cell, other) => (*cell, *other, Manner::CellWrite),
-        CellOp::New(_)
-        | CellOp::Read(_)
-        | CellOp::Deref(_)
-        | CellOp::Write(_)
-        | CellOp::IntoInner(_)
-        | CellOp::Get(_)
-        | CellOp::Replace(..) => match cell_touch(op) {
-            Some((cell, manner)) => (cell, cell, manner),
-            None => return None,
-        },
+        _ => {
+            let (cell, manner) = cell_touch(op)?;
+            (cell, cell, manner)
+        }
     };
     Some(targets)
 }
@@ -260,10 +254,8 @@ fn put_store(out: &mut Page, world: &World, reading: &Reading) {
 
 /// Who has the object open.
 fn open_by(scene: &Scene<'_>) -> Option<Hold> {
-    match targets(scene.request) {
-        Some((one, other, _)) => last_hold(scene.world, one, other),
-        None => None,
-    }
+    let (one, other, _) = targets(scene.request)?;
+    last_hold(scene.world, one, other)
 }
 
 /// The last hold of one of the two objects.

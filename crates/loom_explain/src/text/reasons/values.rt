@@ -7,7 +7,7 @@ use loom_objects::operation::{LazyOp, LocalOp, NotifyOp, Request, WakerOp};
 struct Said {
     /// With the thread and the key.
     words: &'static str,
-    /// What stands before an earlier event, if there is one.
+    /// What comes before an earlier event, if there is one.
     earlier: &'static str,
     /// What helps.
     helps: &'static str,

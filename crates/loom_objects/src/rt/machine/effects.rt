@@ -1,4 +1,4 @@
-//! The tables of the machine: which effect an operation has when it begins, and which one what a thread has pending.
+//! What operations do, by their kind: at their beginning, and once their thread was chosen.
 ghost use Rattle.std.specs.Prelude.{◌≡◌, slice_get, true, IfOk, OnErr};
 ghost use Rattle.loom_objects.specs.Stages.ChosenCopy.{TellsCopy, reads, reads_at};
 ghost use Rattle.loom_objects.specs.Rules.Replied.{replied_by, passed_by};
@@ -8,6 +8,7 @@ ghost use Rattle.loom_views.specs.Views.{Points, ShowsViews};
 
 use crate::data::Data;
 use crate::operation::{Reply, Request, Turn};
+use crate::rt::atomic_waker::{register, take_waker};
 use crate::rt::run::{Entry, Passed, Resumed};
 use crate::rt::scene::Scene;
 use crate::rt::thread::{Task, life};
@@ -19,7 +20,7 @@ use std::alloc::AllocError;
 
 /// What the active thread's operation does up to its branch point, or all of it, where it has none. An outer error only where
 /// memory is refused.
-// Inlined, so that no operation is moved once more.
+// Inlined: the operation is moved no further.
 #[inline(always)]
 pub(crate) fn begin_op<D: Data>(
     scene: &mut Scene<D>,
@@ -37,10 +38,10 @@ pub(crate) fn begin_op<D: Data>(
         Request::Mutex(op) => mutex::mutex_begins(scene, op),
         Request::RwLock(op) => rwlock::rwlock_begins(scene, op),
         Request::Condvar(op) => condvar::condvar_begins(scene, op),
-        Request::Notify(op) => notify::notifier_begins(scene, op),
+        Request::Notify(op) => notify::notify_begins(scene, op),
         Request::Channel(op) => mpsc::channel_begins(scene, op),
         Request::Waker(op) => waker::waker_begins(scene, op),
-        Request::AtomicWaker(op) => atomic_waker::place_begins(scene, op),
+        Request::AtomicWaker(op) => atomic_waker::atomic_waker_begins(scene, op),
         Request::Local(op) => locals::local_begins(scene, op),
         Request::Lazy(op) => locals::lazy_begins(scene, op),
         Request::Explore(op) => Ok(Ok(Entry::Explores(op))),
@@ -50,23 +51,22 @@ pub(crate) fn begin_op<D: Data>(
     }
 }
 
-/// The active thread is told the reply of an effect.
-fn told<D: Drop>(
+/// The active thread has the reply of an effect.
+fn replied<D: Drop>(
     answer: Result<Reply<D>, FailureKind>,
     scene: &Scene<D>,
 ) -> Result<Resumed<D>, FailureKind>
     ensures { result ≡ replied_by scene.now.active answer }
 {
     let reply = answer?;
-    Ok(scene.told(reply))
+    Ok(scene.reply(reply))
 }
 
-/// It has passed as an effect says.
-fn gone<D>(answer: Result<Passed<D>, FailureKind>) -> Result<Resumed<D>, FailureKind>
+/// The chosen thread has its turn, or is at another branch point, as an effect answers.
+fn passed<D>(answer: Result<Passed<D>, FailureKind>) -> Result<Resumed<D>, FailureKind>
     ensures { result ≡ passed_by answer }
 {
-    let passed = answer?;
-    Ok(Resumed::Passed(passed))
+    Ok(Resumed::Passed(answer?))
 }
 
 /// The thread is chosen, and what it has pending takes effect; an access that reads from an atomic up to the choice of
@@ -99,7 +99,7 @@ fn take_effect<D: Data>(
     ensures reads { OnErr result (reads task ≡ true) }
 {
     let answer = match task {
-        Task::Start => return Ok(gone(Ok(Passed::Turn(Turn::Start(scene.active()))))),
+        Task::Start => return Ok(passed(Ok(Passed::Turn(Turn::Start(scene.active()))))),
         Task::Body => Err(FailureKind::Misuse),
         Task::Continue => Ok(Reply::Done),
         Task::Access(access) => return Ok(atomic::access(scene, access)),
@@ -107,36 +107,31 @@ fn take_effect<D: Data>(
         Task::TryLock(mutex) => mutex::try_lock(scene, mutex),
         Task::Claim(claim, lock) => rwlock::claim(scene, claim, lock)?,
         Task::Wait(locking, condvar, mutex, value) => {
-            let answer = condvar::fall_asleep(scene, locking, condvar, mutex, value);
-            return Ok(gone(answer));
+            return Ok(passed(condvar::fall_asleep(scene, locking, condvar, mutex, value)));
         }
         Task::Relock(locking, mutex) => {
-            return Ok(gone(Ok(condvar::relock(scene, locking, mutex))));
+            return Ok(passed(Ok(condvar::relock(scene, locking, mutex))));
         }
         Task::Wake(waking, condvar) => condvar::wake(scene, waking, condvar),
         Task::Notify(notifier) => notify::notify_one(scene, notifier),
         Task::Await(notifier) => notify::await_notified(scene, notifier),
         Task::Rouse(notifier) => notify::wake_early(scene, notifier),
         Task::Count(counting, arc) => arc::count(scene, counting, arc),
-        Task::TryUnwrap(arc) => return Ok(gone(arc::try_unwrap(scene, arc))),
+        Task::TryUnwrap(arc) => return Ok(passed(arc::try_unwrap(scene, arc))),
         Task::Join(thread, notifier) => life::join(scene, thread, notifier),
         Task::Finish(notifier, value) => life::child_finish(scene, notifier, value),
         Task::Send(channel, sent) => mpsc::send(scene, channel, sent),
         Task::Receive(receiving, channel) => mpsc::receive(scene, receiving, channel),
-        Task::Drain(channel, taken) => return Ok(gone(mpsc::drain(scene, channel, taken))),
+        Task::Drain(channel, taken) => return Ok(passed(mpsc::drain(scene, channel, taken))),
         Task::WakeBy(notifier, waker, after) => {
-            return Ok(gone(waker::wake_by(scene, notifier, waker, after)));
+            return Ok(passed(waker::wake_by(scene, notifier, waker, after)));
         }
         Task::CloneWaker(waker, place) => {
-            return Ok(gone(waker::clone_waker(scene, waker, place)));
+            return Ok(passed(waker::clone_waker(scene, waker, place)));
         }
-        Task::DropWaker(waker, after) => return Ok(gone(waker::drop_waker(scene, waker, after))),
-        Task::Register(place, waker) => return Ok(gone(atomic_waker::register(
-            scene, place, waker,
-        ))),
-        Task::TakeWaker(taking, place) => return Ok(gone(atomic_waker::take_waker(
-            scene, taking, place,
-        ))),
+        Task::DropWaker(waker, after) => return Ok(passed(waker::drop_waker(scene, waker, after))),
+        Task::Register(place, waker) => return Ok(passed(register(scene, place, waker))),
+        Task::TakeWaker(taking, place) => return Ok(passed(take_waker(scene, taking, place))),
     };
-    Ok(told(answer, scene))
+    Ok(replied(answer, scene))
 }

@@ -1,16 +1,15 @@
-ghost use Rattle.std.specs.Prelude.{ℕ, ◌≡◌, Some, map, option_map, slice_get, IfOk};
+//! What the threads of a run offer to a schedule.
+ghost use Rattle.std.specs.Prelude.{ℕ, ◌≡◌, map};
 ghost use Rattle.loom_objects.specs.Tree.Question.{AreSoundOffers};
 ghost use Rattle.loom_objects.specs.Schedule.Offers as rules;
-ghost use Rattle.loom_objects.specs.Scene.Stage.{world_of, Does};
+ghost use Rattle.loom_objects.specs.Scene.Stage.{world_of};
 ghost use Rattle.loom_views.specs.Views.{Points};
 
 use crate::rt::scene::Scene;
 use crate::rt::schedule::{Ability, Offers, default_thread};
-use crate::rt::thread::{State, Task, Thread};
+use crate::rt::thread::{State, Thread};
 use loom_views::rt::MAX_THREADS;
-use loom_views::rt::failure::FailureKind;
 use loom_views::sequence::Sequence;
-use std::mem;
 
 fn ability_of(state: State) -> Ability
     ensures { result ≡ rules.ability_of state }
@@ -57,24 +56,6 @@ fn with_able(mut abilities: [Ability; MAX_THREADS], thread: Option<u8>) -> [Abil
     abilities
 }
 
-/// A thread that has yielded can go on again.
-fn run_again<D>(thread: &mut Thread<D>)
-    ensures { thread.new ≡ rules.runs_again thread.old }
-{
-    if matches!(thread.state, State::Yielding) {
-        thread.state = State::Runnable;
-    }
-}
-
-/// Each thread that has yielded can go on again.
-fn run_all_again<D>(threads: &mut Sequence<Thread<D>>)
-    ensures { threads.new ≡ map rules.runs_again threads.old }
-{
-    for i in 0..threads.len() {
-        run_again(threads.at_mut(i));
-    }
-}
-
 impl<D: Drop> Scene<D> {
     /// The five threads, as a schedule sees them.
     fn standings(&self) -> [(Ability, u64); MAX_THREADS]
@@ -100,21 +81,5 @@ impl<D: Drop> Scene<D> {
             default,
             abilities: with_able(abilities(&standings), default),
         }
-    }
-    /// The thread of this number is chosen: it is active, and each other one that has yielded can go on again. It has nothing
-    /// pending any more; answers what it had. Misuse where there is no such thread.
-    pub fn choose(&mut self, thread: u8) -> Result<Task<D>, FailureKind>
-        ensures does { Does (rules.chooses thread) self.old result self.new }
-        ensures had { IfOk result (λ task. option_map (λ chosen. chosen.task) (slice_get self.old.threads thread) ≡ Some task) }
-    {
-        if thread as usize >= self.threads.len() {
-            return Err(FailureKind::Misuse);
-        }
-        self.active = thread;
-        let state = self.threads.at(thread as usize).state;
-        run_all_again(&mut self.threads);
-        let chosen = self.threads.at_mut(thread as usize);
-        chosen.state = state;
-        Ok(mem::replace(&mut chosen.task, Task::Body))
     }
 }

@@ -1,3 +1,4 @@
+//! Which threads are blocked and woken, by what they have pending.
 ghost use Rattle.std.specs.Prelude.{◌≡◌, map};
 ghost use Rattle.loom_objects.specs.Scene.Stage.{Does};
 ghost use Rattle.loom_objects.specs.Rules.Moves as moves;
@@ -54,16 +55,7 @@ fn is_writing<D>(task: &Task<D>, number: usize) -> bool
 {
     match task {
         Task::Claim(Claim::Write | Claim::TryWrite, target) => *target == number,
-        Task::Claim(Claim::Read | Claim::TryRead, _) => false,
-        Task::Start | Task::Body | Task::Continue | Task::Access(_) => false,
-        Task::Lock(_, _) | Task::TryLock(_) | Task::Relock(_, _) => false,
-        Task::Wait(_, _, _, _) | Task::Wake(_, _) => false,
-        Task::Notify(_) | Task::Await(_) | Task::Rouse(_) => false,
-        Task::Count(_, _) | Task::TryUnwrap(_) => false,
-        Task::Join(_, _) | Task::Finish(_, _) => false,
-        Task::Send(_, _) | Task::Receive(_, _) | Task::Drain(_, _) => false,
-        Task::WakeBy(_, _, _) | Task::CloneWaker(_, _) | Task::DropWaker(_, _) => false,
-        Task::Register(_, _) | Task::TakeWaker(_, _) => false,
+        _ => false,
     }
 }
 
@@ -73,14 +65,7 @@ fn is_receiving<D>(task: &Task<D>, number: usize) -> bool
 {
     match task {
         Task::Receive(_, target) | Task::Drain(target, _) => *target == number,
-        Task::Start | Task::Body | Task::Continue | Task::Access(_) => false,
-        Task::Lock(_, _) | Task::TryLock(_) | Task::Relock(_, _) | Task::Claim(_, _) => false,
-        Task::Wait(_, _, _, _) | Task::Wake(_, _) => false,
-        Task::Notify(_) | Task::Await(_) | Task::Rouse(_) => false,
-        Task::Count(_, _) | Task::TryUnwrap(_) => false,
-        Task::Join(_, _) | Task::Finish(_, _) | Task::Send(_, _) => false,
-        Task::WakeBy(_, _, _) | Task::CloneWaker(_, _) | Task::DropWaker(_, _) => false,
-        Task::Register(_, _) | Task::TakeWaker(_, _) => false,
+        _ => false,
     }
 }
 

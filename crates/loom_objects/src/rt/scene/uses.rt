@@ -1,5 +1,5 @@
 //! What the pending operation of each thread does to its object (loom's `rt/thread.rs`, `rt/object.rs`).
-ghost use Rattle.std.specs.Prelude.{ℕ, ◌≡◌, length, option_map};
+ghost use Rattle.std.specs.Prelude.{ℕ, ◌≡◌, option_map};
 ghost use Rattle.loom_objects.specs.Operation.Accessed.{accessed};
 ghost use Rattle.loom_objects.specs.Scene.Stage.{world_of};
 ghost use Rattle.loom_objects.specs.Rules.Uses as rules;
@@ -18,15 +18,7 @@ fn atomic_action(access: AtomicOp) -> Action
 {
     match access {
         AtomicOp::Load(..) => Action::Read,
-        AtomicOp::New(..)
-        | AtomicOp::Store(..)
-        | AtomicOp::Update(..)
-        | AtomicOp::CompareExchange(..)
-        | AtomicOp::CompareAndSwap(..)
-        | AtomicOp::UnsyncLoad(_)
-        | AtomicOp::IntoInner(_)
-        | AtomicOp::WithMut(_)
-        | AtomicOp::WithMutEnd(..) => Action::Change,
+        _ => Action::Change,
     }
 }
 
@@ -113,12 +105,5 @@ impl<D: Drop> Scene<D> {
             use_at(&self.threads, 3),
             use_at(&self.threads, 4),
         ]
-    }
-
-    /// How many objects there are.
-    pub fn object_count(&self) -> usize
-        ensures { result ≡ length self.now.objects }
-    {
-        self.objects.len()
     }
 }

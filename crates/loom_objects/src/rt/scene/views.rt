@@ -1,9 +1,8 @@
 //! What the active thread does to the views of a run, and to its threads and objects where these grow.
-ghost use Rattle.loom_views.specs.Views.{Points, ShowsViews, points_after_join, MovesAs, LoadsAs, StoresAs, OffersAs, IsSlotKept};
+ghost use Rattle.loom_views.specs.Views.{Points, ShowsViews, MovesAs, LoadsAs, StoresAs, OffersAs, IsSlotKept};
 ghost use Rattle.std.specs.Prelude.{◌≡◌, ◌++◌, ◌∷◌, [], ◌<◌, ◌≤◌, Ok, Err, OnOk, OnErr, length, slice_get};
 ghost use Rattle.std.specs.declared.sync.atomic.Ordering.TheVariants.{AcqRel, Release};
-ghost use Rattle.loom_objects.specs.Rules.Moves.{told_points};
-ghost use Rattle.loom_objects.specs.World.{MAX_THREADS};
+ghost use Rattle.loom_objects.specs.Rules.Moves.{joined_points};
 ghost use Rattle.loom_views.specs.Views as table;
 ghost use Rattle.loom_views.specs.declared.rt.failure.FailureKind.TheVariants.{Misuse};
 
@@ -11,20 +10,11 @@ use crate::rt::atomic::Atomic;
 use crate::rt::cell::Cell;
 use crate::rt::object::Object;
 use crate::rt::scene::Scene;
-use crate::rt::thread::Thread;
 use loom_views::rt::MAX_ATOMIC_HISTORY;
 use loom_views::rt::atomic::reader::Reader;
 use loom_views::rt::failure::FailureKind;
-use loom_views::rt::views::Views;
 use std::alloc::AllocError;
 use std::sync::atomic::Ordering;
-
-/// The thread of this number takes in the active thread's view.
-pub fn tell(views: &mut Views, thread: u8, active: u8)
-    ensures { (p : Points) → ShowsViews p views.old → ShowsViews (points_after_join p thread active) views.new }
-{
-    views.join_thread(thread as usize, active as usize);
-}
 
 impl<D: Drop> Scene<D> {
     /// A new object, at which no thread has synchronized. It answers its number.
@@ -71,30 +61,6 @@ impl<D: Drop> Scene<D> {
         ensures err { OnErr result (self.new ≡ self.old) }
     {
         self.views.spawn(self.active as usize)
-    }
-
-    /// How many threads there are, those that have ended counted.
-    pub fn thread_count(&self) -> usize
-        ensures count { result ≡ length self.now.threads }
-        ensures few { result ≤ self.now.max_threads }
-        ensures bound { self.now.max_threads ≤ MAX_THREADS }
-    {
-        self.threads.len()
-    }
-
-    /// How many threads there may be.
-    pub fn max_threads(&self) -> usize
-        ensures { result ≡ self.now.max_threads }
-    {
-        self.max_threads
-    }
-
-    /// A thread more.
-    pub fn add_thread(&mut self, thread: Thread<D>) -> Result<(), AllocError>
-        requires { length self.old.threads < self.old.max_threads }
-        ensures { OnOk result (self.new ≡ record self.old { threads = self.old.threads ++ thread ∷ [] }) }
-    {
-        self.threads.push(thread)
     }
 
     /// The active thread raises its version. `TooManyVersions` where it has 65,534 times; then nothing changes.
@@ -174,20 +140,21 @@ impl<D: Drop> Scene<D> {
     }
 
     /// The thread of this number takes in the active thread's view.
-    pub fn tell(&mut self, thread: u8)
+    pub fn join_view(&mut self, thread: u8)
         ensures views { (p : Points) → ShowsViews p self.old.views → ShowsViews (table.points_after_join p thread self.old.active) self.new.views }
         ensures rest { self.new ≡ record self.old { views = self.new.views } }
     {
-        tell(&mut self.views, thread, self.active);
+        self.views
+            .join_thread(thread as usize, self.active as usize);
     }
 
     /// Who waits, if any thread does, takes in the active thread's view.
-    pub fn tell_waiter(&mut self, waiter: Option<u8>)
-        ensures views { (p : Points) → ShowsViews p self.old.views → ShowsViews (told_points waiter self.old.active p) self.new.views }
+    pub fn join_waiters_view(&mut self, waiter: Option<u8>)
+        ensures views { (p : Points) → ShowsViews p self.old.views → ShowsViews (joined_points waiter self.old.active p) self.new.views }
         ensures rest { self.new ≡ record self.old { views = self.new.views } }
     {
         if let Some(waiter) = waiter {
-            self.tell(waiter);
+            self.join_view(waiter);
         }
     }
 

@@ -1,3 +1,4 @@
+//! How threads are spawned, joined and ended (loom's `thread.rs`).
 ghost use Rattle.std.specs.Prelude.{◌≡◌, IfOk, OnErr, true};
 ghost use Rattle.loom_objects.specs.Scene.Stage.{Does};
 ghost use Rattle.loom_objects.specs.Rules.Thread as rules;
@@ -100,7 +101,7 @@ fn join_begins<D: Drop>(
         return Err(FailureKind::Misuse);
     }
     let active = scene.active();
-    let notify = scene.notifier_mut(notifier)?;
+    let notify = scene.notify_mut(notifier)?;
     if notify.waiter.is_some() {
         return Err(FailureKind::Misuse);
     }
@@ -118,7 +119,7 @@ pub fn join<D: Drop>(
 ) -> Result<Reply<D>, FailureKind>
     ensures { Does (rules.join thread notifier) scene.old result scene.new }
 {
-    let notify = scene.notifier_mut(notifier)?;
+    let notify = scene.notify_mut(notifier)?;
     if !notify.notified {
         return Err(FailureKind::Misuse);
     }

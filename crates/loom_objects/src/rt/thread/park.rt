@@ -1,3 +1,4 @@
+//! `park`, `unpark` and `yield_now` (loom's `rt.rs`).
 ghost use Rattle.std.specs.Prelude.{◌≡◌, Ok};
 ghost use Rattle.loom_objects.specs.Scene.Stage.{Does};
 ghost use Rattle.loom_objects.specs.Rules.Thread as rules;
@@ -44,6 +45,6 @@ pub(crate) fn unpark<D: Drop>(scene: &mut Scene<D>, thread: u8) -> Result<Entry<
     if thread == scene.active() {
         return Ok(Entry::Answered(Reply::Done));
     }
-    scene.tell(thread);
+    scene.join_view(thread);
     Ok(Entry::Answered(Reply::Done))
 }

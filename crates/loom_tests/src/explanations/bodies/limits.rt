@@ -16,27 +16,34 @@ const HITS: Label = Label {
 
 /// Main spawns three threads.
 pub const THREE_SPAWNED: &[Step] = &[
-    Step::Do(0, Request::Thread(ThreadOp::Spawn(3, None))),
-    Step::Do(0, Request::Thread(ThreadOp::Spawn(3, None))),
-    Step::Do(0, Request::Thread(ThreadOp::Spawn(3, None))),
+    Step::SpawnAt(0, "child"),
+    Step::SpawnAt(0, "child"),
+    Step::SpawnAt(0, "child"),
+    Step::Label("child"),
     FINISH,
 ];
 
 /// Main makes fences without end.
-pub const FENCES: &[Step] = &[Step::Do(0, Request::Fence(Release)), Step::Jump(0)];
+pub const FENCES: &[Step] = &[
+    Step::Label("again"),
+    Step::Do(0, Request::Fence(Release)),
+    Step::JumpTo("again"),
+];
 
 /// Main stores 40,000 times into an atomic, and then a thread does without end.
 pub const STORES: &[Step] = &[
     Step::Labelled(0, Request::Atomic(AtomicOp::New(Numbers::U64, 0)), HITS),
     Step::Do(1, Request::Mutex(MutexOp::New(Value::Plain(0)))),
-    Step::Do(2, Request::Thread(ThreadOp::Spawn(8, None))),
+    Step::SpawnAt(2, "child"),
+    Step::Label("again"),
     Step::Do(0, Request::Atomic(AtomicOp::Store(0, 1, Relaxed))),
     Step::Do(0, Request::Mutex(MutexOp::GetMut(1))),
     Step::Do(0, Request::Mutex(MutexOp::Put(1, Value::Next(0)))),
-    Step::Unless(0, 39_999, 3),
+    Step::UnlessTo(0, 39_999, "again"),
     Step::Do(0, Request::Thread(ThreadOp::Join(2, 2))),
+    Step::Label("child"),
     Step::Do(0, Request::Atomic(AtomicOp::Store(0, 2, Relaxed))),
-    Step::Jump(8),
+    Step::JumpTo("child"),
 ];
 
 const TWO_BY_TWO: Exchange = Exchange {
@@ -49,19 +56,22 @@ const TWO_BY_TWO: Exchange = Exchange {
 /// Three threads whose stores and loads come to two stores with equal places in the modification order.
 pub const ORDERS_EQUAL: &[Step] = &[
     Step::Labelled(0, Request::Atomic(AtomicOp::New(Numbers::U64, 0)), HITS),
-    Step::Do(1, Request::Thread(ThreadOp::Spawn(8, None))),
+    Step::SpawnAt(1, "first"),
     Step::Do(0, Request::Atomic(AtomicOp::Store(0, 3, Relaxed))),
-    Step::Do(2, Request::Thread(ThreadOp::Spawn(12, None))),
+    Step::SpawnAt(2, "second"),
     Step::Do(0, Request::Atomic(AtomicOp::Load(0, Relaxed))),
     FINISH,
     EXIT,
     END,
+    Step::Label("first"),
     Step::Do(0, Request::Atomic(AtomicOp::Store(0, 0, Relaxed))),
     Step::Do(0, Request::Atomic(AtomicOp::Store(0, 0, Relaxed))),
     Step::Do(0, Request::Atomic(AtomicOp::Update(0, Add(1), Relaxed))),
-    Step::Jump(14),
+    Step::JumpTo("finish"),
+    Step::Label("second"),
     Step::Do(0, Request::Atomic(AtomicOp::Load(0, Relaxed))),
     Step::Do(0, Request::Atomic(AtomicOp::CompareExchange(0, TWO_BY_TWO))),
+    Step::Label("finish"),
     FINISH,
     EXIT,
     END,

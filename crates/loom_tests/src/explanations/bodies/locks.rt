@@ -32,10 +32,11 @@ pub const CROSSED: &[Step] = &[
         Request::Mutex(MutexOp::New(Value::Plain(0))),
         named!(b"right"),
     ),
-    Step::Do(2, Request::Thread(ThreadOp::Spawn(6, None))),
+    Step::SpawnAt(2, "child"),
     Step::Do(0, Request::Mutex(MutexOp::Lock(0))),
     Step::Do(0, Request::Mutex(MutexOp::Lock(1))),
     Step::Do(0, Request::Thread(ThreadOp::Join(2, 2))),
+    Step::Label("child"),
     Step::Do(0, Request::Mutex(MutexOp::Lock(1))),
     Step::Do(0, Request::Mutex(MutexOp::Lock(0))),
 ];
@@ -98,14 +99,18 @@ pub const ALL_WAIT: &[Step] = &[
     Step::Do(3, Request::RwLock(RwLockOp::New(Value::Plain(0)))),
     Step::Do(0, Request::RwLock(RwLockOp::Read(0))),
     Step::Do(0, Request::RwLock(RwLockOp::Write(3))),
-    Step::Do(4, Request::Thread(ThreadOp::Spawn(11, None))),
-    Step::Do(4, Request::Thread(ThreadOp::Spawn(12, None))),
-    Step::Do(4, Request::Thread(ThreadOp::Spawn(13, None))),
-    Step::Do(4, Request::Thread(ThreadOp::Spawn(14, None))),
+    Step::SpawnAt(4, "first"),
+    Step::SpawnAt(4, "second"),
+    Step::SpawnAt(4, "third"),
+    Step::SpawnAt(4, "fourth"),
     Step::Do(0, Request::Channel(ChannelOp::Recv(1))),
+    Step::Label("first"),
     Step::Do(0, Request::RwLock(RwLockOp::Write(0))),
+    Step::Label("second"),
     Step::Do(0, Request::RwLock(RwLockOp::Read(3))),
+    Step::Label("third"),
     Step::Do(0, Request::Thread(ThreadOp::Park)),
+    Step::Label("fourth"),
     Step::Do(0, Request::Notify(NotifyOp::Wait(2))),
 ];
 
@@ -123,18 +128,20 @@ pub const LOST_UPDATE: &[Step] = &[
         Request::Atomic(AtomicOp::New(Numbers::U64, 0)),
         named!(b"count"),
     ),
-    Step::Do(1, Request::Thread(ThreadOp::Spawn(8, None))),
+    Step::SpawnAt(1, "child"),
     Step::Do(0, Request::Atomic(AtomicOp::Load(0, Acquire))),
     Step::Store(0, Value::Next(0), Release),
     Step::Do(0, Request::Thread(ThreadOp::Join(1, 1))),
     Step::Do(0, Request::Atomic(AtomicOp::Load(0, Acquire))),
-    Step::Unless(0, 2, 13),
+    Step::UnlessTo(0, 2, "fail"),
     FINISH,
+    Step::Label("child"),
     Step::Do(0, Request::Atomic(AtomicOp::Load(0, Acquire))),
     Step::Store(0, Value::Next(0), Release),
     FINISH,
     EXIT,
     END,
+    Step::Label("fail"),
     Step::Labelled(0, Request::Fail, named!(b"the count is 2")),
 ];
 
@@ -145,24 +152,26 @@ pub const SPINS: &[Step] = &[
         Request::Atomic(AtomicOp::New(Numbers::Bool, 1)),
         named!(b"locked"),
     ),
-    Step::Do(1, Request::Thread(ThreadOp::Spawn(3, None))),
+    Step::SpawnAt(1, "child"),
     Step::Do(0, Request::Thread(ThreadOp::Join(1, 1))),
+    Step::Label("child"),
     Step::Do(0, Request::Atomic(AtomicOp::CompareExchange(0, TO_ONE))),
-    Step::Jump(3),
+    Step::JumpTo("child"),
 ];
 
-/// The same, with a yield in each turn.
+/// The one before, with a yield in each turn.
 pub const SPINS_AND_YIELDS: &[Step] = &[
     Step::Labelled(
         0,
         Request::Atomic(AtomicOp::New(Numbers::Bool, 1)),
         named!(b"locked"),
     ),
-    Step::Do(1, Request::Thread(ThreadOp::Spawn(3, None))),
+    Step::SpawnAt(1, "child"),
     Step::Do(0, Request::Thread(ThreadOp::Join(1, 1))),
+    Step::Label("child"),
     Step::Do(0, Request::Atomic(AtomicOp::CompareExchange(0, TO_ONE))),
     YIELD,
-    Step::Jump(3),
+    Step::JumpTo("child"),
 ];
 
 /// A clone of a counted reference isn't dropped.

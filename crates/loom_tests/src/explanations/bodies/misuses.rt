@@ -24,9 +24,10 @@ const NEW_MUTEX: Step = Step::Labelled(0, Request::Mutex(MutexOp::New(Value::Pla
 /// Main releases a mutex that the child holds.
 pub const RELEASED_BY_MAIN: &[Step] = &[
     NEW_MUTEX,
-    Step::Do(1, Request::Thread(ThreadOp::Spawn(4, None))),
+    Step::SpawnAt(1, "child"),
     Step::Do(0, Request::Thread(ThreadOp::Yield)),
     Step::Do(0, Request::Mutex(MutexOp::Release(0, Value::Plain(0)))),
+    Step::Label("child"),
     Step::Do(0, Request::Mutex(MutexOp::Lock(0))),
     Step::Do(0, Request::Thread(ThreadOp::Yield)),
 ];
@@ -60,6 +61,7 @@ pub const STOPPED_TWICE: &[Step] = &[
 /// Main and the child wait on one notifier.
 pub const TWO_WAIT: &[Step] = &[
     Step::Labelled(0, Request::Notify(NotifyOp::New), STATE),
-    Step::Do(1, Request::Thread(ThreadOp::Spawn(2, None))),
+    Step::SpawnAt(1, "child"),
+    Step::Label("child"),
     Step::Do(0, Request::Notify(NotifyOp::Wait(0))),
 ];

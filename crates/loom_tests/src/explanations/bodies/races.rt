@@ -49,12 +49,13 @@ const FREE: Step = Step::Do(0, Request::Atomic(AtomicOp::Store(0, 0, Relaxed)));
 pub const SPIN: &[Step] = &[
     Step::Labelled(0, Request::Atomic(AtomicOp::New(Numbers::Bool, 0)), FLAG),
     NEW_CELL,
-    Step::Do(2, Request::Thread(ThreadOp::Spawn(8, None))),
+    Step::SpawnAt(2, "child"),
     TAKE,
     WRITE,
     WRITE_END,
     FREE,
     Step::Do(0, Request::Thread(ThreadOp::Join(2, 2))),
+    Step::Label("child"),
     TAKE,
     WRITE,
     WRITE_END,
@@ -67,9 +68,10 @@ pub const SPIN: &[Step] = &[
 /// A thread that is spawned writes a cell beside main, and nothing orders the two.
 pub const BESIDE: &[Step] = &[
     NEW_CELL,
-    Step::Do(0, Request::Thread(ThreadOp::Spawn(4, None))),
+    Step::SpawnAt(0, "child"),
     WRITE,
     WRITE_END,
+    Step::Label("child"),
     Step::Do(0, Request::Cell(CellOp::Read(1))),
     Step::Do(0, Request::Cell(CellOp::ReadEnd(1))),
     FINISH,
@@ -87,11 +89,12 @@ const ADD: Request<Value, usize> = Request::Atomic(AtomicOp::Update(
 pub const UNRELEASED: &[Step] = &[
     Step::Labelled(0, Request::Atomic(AtomicOp::New(Numbers::I32, 0)), FLAG),
     NEW_CELL,
-    Step::Do(2, Request::Thread(ThreadOp::Spawn(7, None))),
+    Step::SpawnAt(2, "child"),
     WRITE,
     WRITE_END,
     Step::Do(0, Request::Atomic(AtomicOp::Store(0, 0xffff_ffff, Relaxed))),
     YIELD,
+    Step::Label("child"),
     Step::Do(0, ADD),
     Step::Do(0, Request::Cell(CellOp::Get(1))),
 ];
@@ -99,19 +102,21 @@ pub const UNRELEASED: &[Step] = &[
 /// The child reads a cell that main has open.
 pub const OPEN: &[Step] = &[
     NEW_CELL,
-    Step::Do(2, Request::Thread(ThreadOp::Spawn(4, None))),
+    Step::SpawnAt(2, "child"),
     WRITE,
     YIELD,
+    Step::Label("child"),
     Step::Do(0, Request::Cell(CellOp::Read(1))),
 ];
 
 /// An atomic is mutated beside a store to it.
 pub const MUTATED: &[Step] = &[
     Step::Labelled(0, Request::Atomic(AtomicOp::New(Numbers::U8, 7)), FLAG),
-    Step::Do(2, Request::Thread(ThreadOp::Spawn(5, None))),
+    Step::SpawnAt(2, "child"),
     Step::Do(0, Request::Atomic(AtomicOp::WithMut(0))),
     Step::Do(0, Request::Atomic(AtomicOp::WithMutEnd(0, 9))),
     YIELD,
+    Step::Label("child"),
     Step::Do(0, Request::Atomic(AtomicOp::Store(0, 300, Release))),
 ];
 
@@ -120,10 +125,12 @@ pub const THREE: &[Step] = &[
     NEW_CELL,
     WRITE,
     WRITE_END,
-    Step::Do(2, Request::Thread(ThreadOp::Spawn(6, None))),
-    Step::Do(3, Request::Thread(ThreadOp::Spawn(8, None))),
+    Step::SpawnAt(2, "first"),
+    Step::SpawnAt(3, "second"),
     YIELD,
+    Step::Label("first"),
     Step::Do(0, Request::Cell(CellOp::Get(1))),
     YIELD,
+    Step::Label("second"),
     WRITE,
 ];

@@ -7,10 +7,11 @@ const FINISH: Step = Step::Do(0, Request::Thread(ThreadOp::Finish(Value::Plain(0
 /// The child uses a value that main has given back.
 pub const AFTER_MAIN: &[Step] = &[
     Step::Do(0, Request::Lazy(LazyOp::Init(3, Value::Plain(7)))),
-    Step::Do(1, Request::Thread(ThreadOp::Spawn(5, None))),
+    Step::SpawnAt(1, "child"),
     FINISH,
     EXIT,
     END,
+    Step::Label("child"),
     YIELD,
     Step::Do(0, Request::Lazy(LazyOp::Get(3))),
 ];

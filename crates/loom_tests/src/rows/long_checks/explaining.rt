@@ -15,8 +15,9 @@ use std::process::Abort;
 
 // Main waits for a thread, which fails.
 const CHILD_FAILS: &[Step] = &[
-    Step::Do(0, Request::Thread(ThreadOp::Spawn(2, None))),
+    Step::SpawnAt(0, "child"),
     Step::Do(0, Request::Thread(ThreadOp::Join(0, 0))),
+    Step::Label("child"),
     FAIL,
 ];
 
@@ -28,7 +29,7 @@ fn put_told(told: &Explanation, page: &mut Page) {
     page.put_debug(&told.options);
 }
 
-// The same of the run that follows the choices, or the error.
+// Puts the events of the run that follows the choices, or the error.
 fn put_run(alloc: Global, settings: Settings, body: &Script, choices: &[Choice], page: &mut Page) {
     let told = settings.builder().explain(alloc, body, choices);
     put_answer(&told, page);

@@ -21,7 +21,7 @@ static CALLS: [Call; 9] = [
     (
         &["lock_beside_two", FILE, FILE],
         "",
-        "usage: loom_rows NAME [FILE]\n",
+        "usage: loom_rows NAME [FILE]\nerror: unexpected argument 'loom_tests.json' found\n",
         2,
     ),
     (&["lock_beside_two", "."], "", "error 13\n", 2),

@@ -236,7 +236,7 @@ fn finds_sound(alloc: Global, body: &Script, text: &[u8], most: u64) -> bool {
     is_sound(&found, keeper.found.len() as u64, most)
 }
 
-// The same of the script with these steps.
+// Whether a check of the script with these steps is sound from this text.
 fn is_sound_from(alloc: Global, steps: &'static [Step], text: &[u8], most: u64) -> bool {
     match &Script::new(alloc, steps) {
         Ok(body) => finds_sound(alloc, body, text, most),

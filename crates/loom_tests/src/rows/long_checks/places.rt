@@ -46,7 +46,7 @@ const RELEASE_UNLOCKED: &[Step] = &[
     ),
 ];
 
-// The same, but the release has no place.
+// The one before, but the release has no place.
 const RELEASE_NOWHERE: &[Step] = &[
     Step::Labelled(0, Request::Mutex(MutexOp::New(Value::Plain(0))), LINE_3),
     Step::Do(0, Request::Mutex(MutexOp::Release(0, Value::Plain(0)))),
@@ -149,7 +149,7 @@ fn fails(
     same(rt, page.text.as_str(), text, "a failure");
 }
 
-// The same where places are asked for, and where they aren't.
+// The steps fail with these texts, where places are asked for, and where they aren't.
 fn fail_both(
     rt: &(impl Abort + AllocGlobal + Files),
     steps: &'static [Step],

@@ -155,7 +155,7 @@ fn changed_texts(rt: &(impl Abort + AllocGlobal)) {
 pub(super) const ZERO: &str =
     "{\"exploring\":true,\"first\":0,\"schedule\":[\"Active\",\"Disabled\",\"Disabled\",\"Disabled\",\"Disabled\"]}";
 
-// The same, before other nodes.
+// Such a schedule, before other nodes.
 const FIRST: &str =
     "{\"exploring\":true,\"first\":0,\"schedule\":[\"Active\",\"Disabled\",\"Disabled\",\"Disabled\",\"Disabled\"]},";
 

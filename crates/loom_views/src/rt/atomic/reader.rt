@@ -1,9 +1,8 @@
-//! Who reads from an atomic, and the set of the slots that it may choose. They are plain values; no call here takes memory.
+//! Who reads from an atomic: a load or a read-modify-write.
 
-ghost use Rattle.std.specs.Prelude.{◌≡◌, ◌<◌, slice_set};
+ghost use Rattle.std.specs.Prelude.{◌≡◌};
 ghost use Rattle.loom_views.specs.Atomic.Readers.{load_order};
 
-use crate::rt::MAX_ATOMIC_HISTORY;
 use std::sync::atomic::Ordering;
 
 /// Who reads (own; loom has two functions, in `rt/atomic.rs`).
@@ -26,18 +25,4 @@ impl Reader {
             Reader::Update => None,
         }
     }
-}
-
-/// The set of slots, once it is known of one more whether the reader may choose it (own).
-pub fn with_slot(
-    set: [bool; MAX_ATOMIC_HISTORY],
-    slot: usize,
-    is_readable: bool,
-) -> [bool; MAX_ATOMIC_HISTORY]
-    requires { slot < 7 }
-    ensures { result ≡ slice_set set slot is_readable }
-{
-    let mut slots = set;
-    slots[slot] = is_readable;
-    slots
 }

@@ -1,4 +1,4 @@
-//! What read-modify-writes make of the number that they read. No call here takes memory.
+//! What a read-modify-write makes of the number that it reads. No call here takes memory.
 
 ghost use Rattle.std.specs.Prelude.{◌≡◌};
 ghost use Rattle.loom_views.specs.Changes.{fit, complement, is_less, larger, smaller, changed};

@@ -1,9 +1,9 @@
 use Rattle.std.proofs.Common.{◌∙◌, sym, subst, List, rules}
 use Rattle.loom_objects.specs.declared.choice.Choice.{Choice}
 use Rattle.loom_engine.specs.Path.Route.{Route}
-use Rattle.loom.specs.Runner.After.{StepsBy}
+use Rattle.loom.specs.Runner.Chains.{GoesTo}
 use Rattle.loom.specs.Runner.Run.{Checked}
-use Rattle.loom.proofs.RunnerLemmas.Rounds.{checked, ok_gives, judged_step}
+use Rattle.loom.proofs.RunnerLemmas.Made.{checked, ok_gives}
 use Rattle.loom.proofs.runner.run.judge.Goals as goal
 
 pub returns : goal.returns
@@ -14,6 +14,4 @@ returns g c =
     ok_gives c.run.result (g.V.Visitor.takes c.args.visitor.now c.as_slice.result.now c.in-Some-value.value c.run.new.self) c.run.ensures (sym c.if-is_err.ensures.value) in
     let taken =
     subst (λ (l : List Choice). g.V.Visitor.takes c.args.visitor.now l c.in-Some-value.value c.run.new.self) (c.as_slice.ensures.value ∙ c.in-Ok.ensures) ran in
-    judged_step g.V.Visitor.takes c.args.limits c.args.visitor.now c.run.new.self c.args.path.now c.args.turns.now c.args.told.now c.step.result settled
-    (record { value = c.in-Some-value.value; ended = sym c.in-Ok-value.ensures ∙ c.in-Some-value.is; taken = taken })
-    (subst (λ (r : Route). StepsBy r c.step.result) c.in-Ok-path.ensures c.step.ensures)
+    (settled, record { value = c.in-Some-value.value; ended = sym c.in-Ok-value.ensures ∙ c.in-Some-value.is; taken = taken }, subst (λ (r : Route). GoesTo r c.next_path.result) c.in-Ok-path.ensures c.next_path.ensures)

@@ -1,5 +1,5 @@
 use Rattle.std.proofs.Common.{◌<◌, ◌∙◌, arith}
-use Rattle.loom.proofs.RunnerLemmas.Rounds.{first_stays}
+use Rattle.loom.proofs.RunnerLemmas.Made.{first_stays}
 use Rattle.loom.proofs.runner.run.put_in_order.Goals as goal
 
 pub loop-k-preserved : goal.loop-k-preserved

@@ -29,7 +29,7 @@ returns-in-Ok-clause-along g c =
     let says = rw c.in-Ok-Some.field-0-is at c.in-Ok-Some.ensures.says in
     thread_chosen c.args.run.now c.offers.result c.args.path.now c.mark.new.path s c.branch_thread.new.self c.branch_thread.ensures.same c.in-Ok-Some.thread says c.access.new.run
     (noted_by c.args.run.now c.args.path.now c.in-Ok-Some.thread c.position-place.result (Ok tt) c.access.new.run.dependence c.position-place.ensures c.in-Ok.ensures.notes)
-    c.access.ensures.state c.go_on.result c.go_on.new.run c.go_on.new.path c.go_on.ensures.along
+    c.access.ensures.state c.take_turn.result c.take_turn.new.run c.take_turn.new.path c.take_turn.ensures.along
 
 pub returns-in-Ok-clause-growth : goal.returns-in-Ok-clause-growth
 returns-in-Ok-clause-growth g c = λ e.
@@ -37,7 +37,7 @@ returns-in-Ok-clause-growth g c = λ e.
     let says = rw c.in-Ok-Some.field-0-is at c.in-Ok-Some.ensures.says in
     thread_needs c.args.run.now c.offers.result c.args.path.now c.mark.new.path s c.in-Ok-Some.thread c.branch_thread.new.self c.branch_thread.ensures.same says c.access.new.run
     (noted_by c.args.run.now c.args.path.now c.in-Ok-Some.thread c.position-place.result (Ok tt) c.access.new.run.dependence c.position-place.ensures c.in-Ok.ensures.notes)
-    c.access.ensures.state (c.go_on.ensures.growth e)
+    c.access.ensures.state (c.take_turn.ensures.growth e)
 
 pub returns-in-Err-close-clause-along : goal.returns-in-Err-close-clause-along
 returns-in-Err-close-clause-along g c =

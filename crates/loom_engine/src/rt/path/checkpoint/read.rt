@@ -1,32 +1,21 @@
 //! Reading the parts of a path.
-ghost use Rattle.std.specs.Prelude.{◌≡◌, ◌==◌, ◌↔◌, IsTrue, count_by, ◌≤◌, Some, None, Option, List, ℕ, option_map, option_and_then, map, codes, length, drop};
+ghost use Rattle.std.specs.Prelude.{◌≡◌, ◌==◌, ◌↔◌, IsTrue, count_by, Some, option_map, map, drop};
 ghost use Rattle.loom_engine.specs.Path.Nodes.{is_active};
-ghost use Rattle.loom_objects.specs.Tree.Question.{slots};
 ghost use Rattle.loom_engine.specs.Path.WellFormed.{is_tried, is_marked, is_at, is_well_formed_schedule, is_well_formed_load, is_well_formed_spurious};
 ghost use Rattle.serde_json.specs.Find.{as_bool};
 ghost use Rattle.serde_json.specs.View.{view, members_view};
 ghost use Rattle.loom_engine.specs.Checkpoint.Accepted.{version_of};
 ghost use Rattle.loom_engine.specs.Checkpoint.Reader.{as_whole, as_list, as_whole_or_null, taken, expected, ends, status_named, status_of, statuses_of, marks_of, list_of, is_number, begins_with, schedule_of, load_of, spurious_of, node_of, shape_of};
 
-use crate::rt::path::node::{Load, Node, Schedule, Spurious, Status};
+use crate::rt::path::node::{Load, Node, Schedule, Spurious, Status, count_slots};
 use serde_json::{Map, Value};
 use std::collections::btree_map::Iter;
 
-/// Whether the thread is the one that goes on.
-pub fn is_active(status: Status) -> bool
-    ensures { result ≡ is_active status }
-{
-    match status {
-        Status::Active => true,
-        Status::Disabled | Status::Skip | Status::Yield | Status::Pending | Status::Visited =>
-            false,
-    }
-}
-
+/// How many threads are the choice.
 fn count_active(statuses: &[Status; 5]) -> usize
     ensures { result ≡ count_by is_active statuses.now }
 {
-    statuses.iter().filter(|status| is_active(**status)).count()
+    statuses.iter().filter(|status| status.is_active()).count()
 }
 
 /// Whether one thread alone is active.
@@ -52,25 +41,19 @@ fn expect_member<'v>(members: &mut Iter<'v, String, Value>, key: &str) -> Option
     ensures { expected key.now (members_view members.old)
         ≡ option_map (λ v. (view v.now, members_view members.new)) result }
 {
-    match members.next() {
-        Some((name, value)) => {
-            if name.as_str() == key {
-                Some(value)
-            } else {
-                None
-            }
-        }
-        None => None,
+    let (name, value) = members.next()?;
+    if name.as_str() == key {
+        Some(value)
+    } else {
+        None
     }
 }
 
+/// Whether no member is left.
 fn is_end(members: &mut Iter<'_, String, Value>) -> bool
     ensures { result ≡ ends (members_view members.old) }
 {
-    match members.next() {
-        Some(_) => false,
-        None => true,
-    }
+    members.next().is_none()
 }
 
 #[tactic(auto, unfolding(crate::specs::Checkpoint::Reader::taken))]
@@ -100,10 +83,7 @@ fn read_bound(value: &Value) -> Option<Option<u64>>
 {
     match value {
         Value::Null => Some(None),
-        Value::Number(number) => match number.as_u64() {
-            Some(number) => Some(Some(number)),
-            None => None,
-        },
+        Value::Number(number) => Some(Some(number.as_u64()?)),
         _ => None,
     }
 }
@@ -226,7 +206,7 @@ fn is_active_at(statuses: &[Status; 5], thread: u8) -> bool
     ensures { result ≡ is_at is_active thread statuses.now }
 {
     match statuses.get(thread as usize) {
-        Some(status) => is_active(*status),
+        Some(status) => status.is_active(),
         None => false,
     }
 }
@@ -238,18 +218,6 @@ fn is_tried_at(statuses: &[Status; 5], thread: u8) -> bool
         Some(status) => is_tried(*status),
         None => false,
     }
-}
-
-fn count_of(readable: &[bool; 7]) -> usize
-    ensures { result ≡ count_by (λ b. b) readable.now }
-{
-    readable.iter().filter(|is_readable| **is_readable).count()
-}
-
-fn count_slots(readable: &[bool; 7]) -> usize
-    ensures { result ≡ length (slots readable.now) }
-{
-    count_of(readable)
 }
 
 fn is_well_formed_schedule(first: u8, exploring: bool, statuses: &[Status; 5]) -> bool

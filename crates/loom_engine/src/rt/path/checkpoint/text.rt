@@ -7,7 +7,6 @@ ghost use Rattle.loom_engine.specs.Checkpoint.Grammar.{path_data};
 ghost use Rattle.loom_engine.specs.Checkpoint.Accepted.{IsPathOf, OfText, IsRefusedText};
 
 use crate::rt::path::checkpoint::error::PathError;
-use crate::rt::path::checkpoint::value::{from_value, to_value};
 use crate::rt::path::{Path, Search};
 use serde_json::Value;
 use std::alloc::{AllocError, Global};
@@ -17,7 +16,7 @@ pub fn to_text(alloc: Global, path: &Path) -> Result<String, AllocError>
     ensures text { IfOk result (λ text. string_bytes text ≡ compact_text (path_data path.now.search path.now.explores path.now.nodes)) }
     ensures reads_back { IfOk result (λ text. read (string_bytes text) ≡ Some (path_data path.now.search path.now.explores path.now.nodes)) }
 {
-    to_value(alloc, path)?.to_string(alloc)
+    path.to_value(alloc)?.to_string(alloc)
 }
 
 /// The path that a text holds, of such a search.
@@ -35,5 +34,5 @@ pub fn from_text(alloc: Global, text: &[u8], search: Search) -> Result<Path, Pat
             return Err(PathError::NotJson);
         }
     };
-    from_value(alloc, &value, search)
+    Path::from_value(alloc, &value, search)
 }

@@ -16,15 +16,29 @@ use crate::rt::path::{Path, Search};
 use serde_json::Value;
 use std::alloc::{AllocError, Global};
 
-/// The JSON value of a path between two runs.
-#[tactic(auto, unfolding(crate::specs::Checkpoint::Grammar::path_data))]
-pub fn to_value(alloc: Global, path: &Path) -> Result<Value, AllocError>
-    ensures value { IfOk result (λ value. view value ≡ path_data path.now.search path.now.explores path.now.nodes) }
-    ensures fits { IfOk result (λ _. length path.now.nodes ≤ path.now.search.max_branches) }
-{
-    let search = path.search();
-    let nodes = write_nodes(alloc, path.nodes())?;
-    write_shape(alloc, nodes, search)
+impl Path {
+    /// The JSON value of a path between two runs.
+    #[tactic(auto, unfolding(crate::specs::Checkpoint::Grammar::path_data))]
+    pub fn to_value(&self, alloc: Global) -> Result<Value, AllocError>
+        ensures value { IfOk result (λ value. view value ≡ path_data self.now.search self.now.explores self.now.nodes) }
+        ensures fits { IfOk result (λ _. length self.now.nodes ≤ self.now.search.max_branches) }
+    {
+        let search = self.search();
+        let nodes = write_nodes(alloc, self.nodes())?;
+        write_shape(alloc, nodes, search)
+    }
+
+    /// The path that a JSON value is, of such a search. It is accepted exactly if it is the value of well-formed nodes that the
+    /// search may have.
+    pub fn from_value(alloc: Global, value: &Value, search: Search) -> Result<Path, PathError>
+        ensures ok { IfOk result (λ path. (path ≡ at_rest (settings search) search.explores path.nodes)
+            × IsPathOf (settings search) search.explores (view value.now) path.nodes) }
+        ensures err { IfErr result (IsRefused (settings search) search.explores (view value.now)) }
+        ensures exact { IfErr result (λ error. ¬ IsMemory error
+            → (nodes : List Node) → ¬ IsPathOf (settings search) search.explores (view value.now) nodes) }
+    {
+        find_path(alloc, value, search)
+    }
 }
 
 /// The value of a path tells its nodes, but for their notes, which follow from the rest.
@@ -32,29 +46,17 @@ pub fn value_tells_nodes()
     ensures { ValueLaw }
 {}
 
-/// The path that a JSON value is, of such a search. It is accepted exactly if it is the value of well-formed nodes that the
-/// search may have.
-pub fn from_value(alloc: Global, value: &Value, search: Search) -> Result<Path, PathError>
-    ensures ok { IfOk result (λ path. (path ≡ at_rest (settings search) search.explores path.nodes)
-        × IsPathOf (settings search) search.explores (view value.now) path.nodes) }
-    ensures err { IfErr result (IsRefused (settings search) search.explores (view value.now)) }
-    ensures exact { IfErr result (λ error. ¬ IsMemory error
-        → (nodes : List Node) → ¬ IsPathOf (settings search) search.explores (view value.now) nodes) }
-{
-    find_path(alloc, value, search)
-}
-
 /// A path between two runs is read from its value as it was written.
 pub fn reread(alloc: Global, path: &Path) -> Result<Path, PathError>
     requires { AreWellFormed path.now.nodes }
     ensures same { IfOk result (λ read. read ≡ at_rest path.now.search path.now.explores path.now.nodes) }
     ensures err { IfErr result IsMemory }
 {
-    let value = match to_value(alloc, path) {
+    let value = match path.to_value(alloc) {
         Ok(value) => value,
         Err(refused) => return Err(PathError::Memory(refused)),
     };
-    match from_value(alloc, &value, path.search()) {
+    match Path::from_value(alloc, &value, path.search()) {
         Ok(read) => {
             read.notes_follow(path);
             Ok(read)

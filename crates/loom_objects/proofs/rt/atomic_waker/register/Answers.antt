@@ -7,7 +7,7 @@ use Rattle.loom_objects.specs.declared.rt.atomic_waker.AtomicWaker.{AtomicWaker}
 use Rattle.loom_objects.specs.declared.rt.thread.AfterDrop.TheVariants as dropped
 use Rattle.loom_objects.specs.declared.rt.thread.AfterWake.TheVariants as woken
 use Rattle.loom_objects.specs.declared.rt.thread.Task.TheVariants as task
-use Rattle.loom_objects.specs.Scene.Lookup.{place_at}
+use Rattle.loom_objects.specs.Scene.Lookup.{atomic_waker_at}
 use Rattle.loom_objects.specs.Rules.Rule.{◌>>=◌}
 use Rattle.loom_objects.specs.Scene.Stage.{world_of}
 use Rattle.loom_objects.specs.Rules.Waker.{pends_next, registers, registers_if, takes_place as place_taken}
@@ -20,7 +20,7 @@ returns-then-is_some g c =
     let scene = c.args.scene.now in
     let place = c.in_ok-place.field-0.now in
     let own = c.in_ok-own.own in
-    let at : place_at c.args.number scene.objects ≡ Ok place = search rules in
+    let at : atomic_waker_at c.args.number scene.objects ≡ Ok place = search rules in
     let left_one : wakers_left c.args.wakers scene.objects ≡ Ok own = sym c.some_wakers.ensures ∙ c.in_ok-own.was in
     let is_held : is_none place.holder ≡ false = search rules in
     does_as (registers c.args.number c.args.wakers) (pends_next (task.WakeBy own.notifier c.args.wakers (woken.Drop dropped.Yield)) false) scene c.pend_next.new.scene (Ok c.pend_next.result)
@@ -33,7 +33,7 @@ returns g c =
     let scene = c.args.scene.now in
     let place = c.in_ok-place.field-0.now in
     let own = c.in_ok-own.own in
-    let at : place_at c.args.number scene.objects ≡ Ok place = search rules in
+    let at : atomic_waker_at c.args.number scene.objects ≡ Ok place = search rules in
     let left_one : wakers_left c.args.wakers scene.objects ≡ Ok own = sym c.some_wakers.ensures ∙ c.in_ok-own.was in
     let is_free : is_none place.holder ≡ true = search rules in
     does_as (registers c.args.number c.args.wakers) (takes_place c.args.number c.args.wakers place) scene c.take_place.new.scene c.take_place.result

@@ -3,9 +3,9 @@ use Rattle.std.specs.Prelude.{List, ℕ, Option, String, IfOk, IfErr}
 use Rattle.std.specs.declared.alloc.Global.{Global}
 use Rattle.loom_engine.specs.Runs.Body.{runs}
 use Rattle.loom.specs.Model.Check.{ReportsUnheard, gives_file}
-use Rattle.loom.specs.Model.Refusals.{IsNoReport}
+use Rattle.loom.specs.Model.Refusals.{CountsFaults, IsNoReport}
 use Rattle.loom.specs.Model.Settings.{explores}
-use Rattle.loom.proofs.ModelLemmas.Errors.{no_fault}
+use Rattle.loom.proofs.ModelLemmas.Errors.{no_count, no_fault}
 use Rattle.loom.proofs.ModelLemmas.Unheard.{file_gives}
 use Rattle.loom.proofs.model.builder.Builder.check.Goals as goal
 
@@ -36,4 +36,5 @@ returns-in-None-clause-errors g c =
     c.check_alone-in-None.ensures.errors
 
 pub returns-in-None-clause-no_store : goal.returns-in-None-clause-no_store
-returns-in-None-clause-no_store g c = λ _. no_fault c.check_alone-in-None.result c.check_alone-in-None.ensures.faults
+returns-in-None-clause-no_store g c = λ _.
+    no_fault c.check_alone-in-None.result (subst (λ (n : ℕ). CountsFaults c.check_alone-in-None.result 0 n) (no_count c.check_alone-in-None.new.store) c.check_alone-in-None.ensures.faults)

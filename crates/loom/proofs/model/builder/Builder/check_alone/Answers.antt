@@ -1,13 +1,13 @@
 use Rattle.loom_engine.specs.Runs.Body.{runs}
 use Rattle.loom.specs.Model.Settings.{explores}
-use Rattle.loom.specs.declared.model.receiver.Nobody.{Nobody}
+use Rattle.loom.specs.declared.model.receiver.NoReceiver.{NoReceiver}
 use Rattle.loom.proofs.ModelLemmas.Unheard.{unheard_ok, unheard_errors}
 use Rattle.loom.proofs.model.builder.Builder.check_alone.Goals as goal
 
 pub returns-clause-reports : goal.returns-clause-reports
 returns-clause-reports g c =
     let tree = runs g.B.Body.next (explores c.args.self.now) c.args.self.now.max_threads c.args.self.now.max_steps c.args.body.now in
-    unheard_ok {V = Nobody} (λ old choices value new. Unit {0}) (record {}) c.search.new.receiver c.args.self.now tree (g.S.CheckpointStore.gives c.args.store.now)
+    unheard_ok {V = NoReceiver} (λ old choices value new. Unit {0}) (record {}) c.search.new.receiver c.args.self.now tree (g.S.CheckpointStore.gives c.args.store.now)
     (g.S.CheckpointStore.holds c.search.new.store) c.search.result c.search.ensures.reports
 
 pub returns-clause-errors : goal.returns-clause-errors

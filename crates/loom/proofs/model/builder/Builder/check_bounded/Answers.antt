@@ -1,5 +1,8 @@
+use Rattle.std.proofs.Common.{ℕ, subst}
+use Rattle.loom.specs.Model.Refusals.{CountsFaults}
 use Rattle.loom.specs.Model.Rising.{bounded}
 use Rattle.loom.proofs.ModelLemmas.Bounds.{storeless}
+use Rattle.loom.proofs.ModelLemmas.Errors.{no_count}
 use Rattle.loom.proofs.model.builder.Builder.check_bounded.Goals as goal
 
 pub returns-clause-reports : goal.returns-clause-reports
@@ -7,4 +10,5 @@ returns-clause-reports g c = rw c.with_bound.ensures at c.check_alone.ensures.re
 
 pub returns-clause-errors : goal.returns-clause-errors
 returns-clause-errors g c =
-    storeless (bounded c.args.self.now c.args.bound) c.check_alone.result (rw c.with_bound.ensures at c.check_alone.ensures.errors) c.check_alone.ensures.faults
+    let faults = subst (λ (n : ℕ). CountsFaults c.check_alone.result 0 n) (no_count c.check_alone.new.store) c.check_alone.ensures.faults in
+    storeless (bounded c.args.self.now c.args.bound) c.check_alone.result (rw c.with_bound.ensures at c.check_alone.ensures.errors) faults

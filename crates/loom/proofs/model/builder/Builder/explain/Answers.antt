@@ -1,4 +1,4 @@
-use Rattle.std.proofs.Common.{◌∙◌, length}
+use Rattle.std.proofs.Common.{◌∙◌}
 use Rattle.loom.proofs.ExplainLemmas.Explaining.{told}
 use Rattle.loom.proofs.model.builder.Builder.explain.Goals as goal
 

@@ -1,10 +1,9 @@
-use Rattle.std.proofs.Common.{◌∙◌}
 use Rattle.loom_engine.specs.contracts.rt.execution.Execution.{the_view}
-use Rattle.loom_engine.proofs.Execution.Executing.{kept_over, submits_by}
+use Rattle.loom_engine.proofs.Execution.Executing.{submits_by}
 use Rattle.loom_engine.proofs.rt.execution.Execution.submit.Goals as goal
 
 pub returns-clause-event : goal.returns-clause-event
 returns-clause-event g c =
     rw (← c.self.view_is)
     (submits_by (the_view g.row.D c.self.inside) _ c.args.op c.args.path.now c.hand_over-answer.new.path c.hand_over-answer.result c.in_default.is c.hand_over-answer.ensures.along
-    (c.record_end.ensures ∙ kept_over c.hand_over-answer.result) c.hand_over-answer.ensures.growth)
+    c.record_end.ensures c.hand_over-answer.ensures.growth)

@@ -10,22 +10,22 @@ use Rattle.loom_engine.proofs.rt.path.Path.pass.Goals as goal
 pub pass-requires : goal.pass-requires
 pass-requires c =
     let p = c.self.inside in
-    let here : slice_get p.way.nodes.items p.way.position ≡ Some (node.Schedule c.args.schedule.now) =
+    let here : slice_get p.nodes.list.items p.nodes.position ≡ Some (node.Schedule c.args.schedule.now) =
     subst (λ (r : Route). slice_get r.nodes r.position ≡ Some (node.Schedule c.args.schedule.now)) (sym c.self.view_is) c.requires in
-    omega (arith, tally_within p.way.nodes.items p.way.position p.tally c.self.invariant.0 c.self.invariant.4, node_within p.way.nodes.items p.way.position (node.Schedule c.args.schedule.now) here, c.self.invariant.1)
+    omega (arith, tally_within p.nodes.list.items p.nodes.position p.tally c.self.invariant.0 c.self.invariant.4, node_within p.nodes.list.items p.nodes.position (node.Schedule c.args.schedule.now) here, c.self.invariant.1)
 
 pub invariant_of-self : goal.invariant_of-self
 invariant_of-self c =
     let p = c.self.inside in
-    let nodes = p.way.nodes.items in
+    let nodes = p.nodes.list.items in
     let n = node.Schedule c.args.schedule.now in
-    let here : slice_get nodes p.way.position ≡ Some n =
+    let here : slice_get nodes p.nodes.position ≡ Some n =
     subst (λ (r : Route). slice_get r.nodes r.position ≡ Some n) (sym c.self.view_is) c.requires in
-    let within : p.way.position < length nodes = node_within nodes p.way.position n here in (
+    let within : p.nodes.position < length nodes = node_within nodes p.nodes.position n here in (
       omega arith,
       c.self.invariant.1,
       c.self.invariant.2,
       c.self.invariant.3,
-      tally_on nodes p.way.position (seen n) _ (stored_node nodes p.way.position n here)
-          (c.pass.ensures (passes_to p.way.position nodes) (passes_length p.way.position nodes c.self.invariant.0) c.self.invariant.4),
+      tally_on nodes p.nodes.position (seen n) _ (stored_node nodes p.nodes.position n here)
+          (c.pass.ensures (passes_to p.nodes.position nodes) (passes_length p.nodes.position nodes c.self.invariant.0) c.self.invariant.4),
     )

@@ -7,12 +7,12 @@ use Rattle.loom_engine.proofs.rt.path.Path.pass_value.Goals as goal
 pub invariant_of-self : goal.invariant_of-self
 invariant_of-self c =
     let p = c.self.inside in
-    let nodes = p.way.nodes.items in
-    let value : IsValueAt nodes p.way.position = subst (λ (r : Route). IsValueAt r.nodes r.position) (sym c.self.view_is) c.requires in
-    let within : p.way.position < length nodes = value_within nodes p.way.position value in (
+    let nodes = p.nodes.list.items in
+    let value : IsValueAt nodes p.nodes.position = subst (λ (r : Route). IsValueAt r.nodes r.position) (sym c.self.view_is) c.requires in
+    let within : p.nodes.position < length nodes = value_within nodes p.nodes.position value in (
       omega arith,
       c.self.invariant.1,
       c.self.invariant.2,
       c.self.invariant.3,
-      tally_value nodes p.way.position p.tally c.self.invariant.0 value c.self.invariant.4,
+      tally_value nodes p.nodes.position p.tally c.self.invariant.0 value c.self.invariant.4,
     )

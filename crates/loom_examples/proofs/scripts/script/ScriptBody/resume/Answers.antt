@@ -1,12 +1,10 @@
 use Rattle.std.proofs.Common.{rules}
 use Rattle.loom_examples.proofs.ScriptLemmas.Going.{spawns}
 use Rattle.loom_examples.proofs.scripts.script.ScriptBody.resume.Goals as goal
-use Rattle.loom_examples.proofs.scripts.script.ScriptBody.resume.Goals.{in-Some+in-Jump-1, in-Some+in-Unless-1, in-Some+in-Label-1, in-Some+in-JumpTo-1, in-Some+in-IfTo-1, in-Some+in-UnlessTo-1, in-None-1}
+use Rattle.loom_examples.proofs.scripts.script.ScriptBody.resume.Goals.{in-Some+in-Label-1, in-Some+in-JumpTo-1, in-Some+in-IfTo-1, in-Some+in-UnlessTo-1, in-None-1}
 
-pub returns-in-Some-Jump : goal.returns-in-Some-Jump
-returns-in-Some-Jump c = elim c.in-Some-Jump-1.branch [
-  | in-Some+in-Jump-1 w ↦ search rules
-  | in-Some+in-Unless-1 w ↦ search rules
+pub returns-in-Some-Label : goal.returns-in-Some-Label
+returns-in-Some-Label c = elim c.in-Some-Label-1.branch [
   | in-Some+in-Label-1 w ↦ search rules
   | in-Some+in-JumpTo-1 w ↦ search rules
   | in-Some+in-IfTo-1 w ↦ search rules

@@ -12,28 +12,28 @@ use Rattle.loom_objects.proofs.rt.machine.effects.take_effect.Goals as goal
 use Rattle.loom_objects.proofs.rt.machine.effects.take_effect.Goals.{in-Body, in-Continue, in-Claim+in_ok-answer-in-Claim, in-Lock, in-TryLock, in-Wake, in-Notify, in-Await, in-Rouse, in-Count, in-Join, in-Finish, in-Send, in-Receive}
 
 pub returns-in-Wait-clause-does : goal.returns-in-Wait-clause-does
-returns-in-Wait-clause-does g c = rw (c.in-Wait.is, c.gone-in-Wait.ensures) (passes (falls_asleep c.in-Wait.locking c.in-Wait.condvar c.in-Wait.mutex c.in-Wait.value) c.args.scene.now c.fall_asleep-answer.new.scene c.fall_asleep-answer.result c.fall_asleep-answer.ensures)
+returns-in-Wait-clause-does g c = rw (c.in-Wait.is, c.passed-in-Wait.ensures) (passes (falls_asleep c.in-Wait.locking c.in-Wait.condvar c.in-Wait.mutex c.in-Wait.value) c.args.scene.now c.fall_asleep.new.scene c.fall_asleep.result c.fall_asleep.ensures)
 
 pub returns-in-TryUnwrap-clause-does : goal.returns-in-TryUnwrap-clause-does
-returns-in-TryUnwrap-clause-does g c = rw (c.in-TryUnwrap.is, c.gone-in-TryUnwrap.ensures) (passes (tries_unwrap c.in-TryUnwrap.arc) c.args.scene.now c.try_unwrap.new.scene c.try_unwrap.result c.try_unwrap.ensures)
+returns-in-TryUnwrap-clause-does g c = rw (c.in-TryUnwrap.is, c.passed-in-TryUnwrap.ensures) (passes (tries_unwrap c.in-TryUnwrap.arc) c.args.scene.now c.try_unwrap.new.scene c.try_unwrap.result c.try_unwrap.ensures)
 
 pub returns-in-Drain-clause-does : goal.returns-in-Drain-clause-does
-returns-in-Drain-clause-does g c = rw (c.in-Drain.is, c.gone-in-Drain.ensures) (passes (drains c.in-Drain.channel c.in-Drain.taken) c.args.scene.now c.drain.new.scene c.drain.result c.drain.ensures)
+returns-in-Drain-clause-does g c = rw (c.in-Drain.is, c.passed-in-Drain.ensures) (passes (drains c.in-Drain.channel c.in-Drain.taken) c.args.scene.now c.drain.new.scene c.drain.result c.drain.ensures)
 
 pub returns-in-WakeBy-clause-does : goal.returns-in-WakeBy-clause-does
-returns-in-WakeBy-clause-does g c = rw (c.in-WakeBy.is, c.gone-in-WakeBy.ensures) (passes (wakes_by c.in-WakeBy.notifier c.in-WakeBy.waker c.in-WakeBy.after) c.args.scene.now c.wake_by.new.scene c.wake_by.result c.wake_by.ensures)
+returns-in-WakeBy-clause-does g c = rw (c.in-WakeBy.is, c.passed-in-WakeBy.ensures) (passes (wakes_by c.in-WakeBy.notifier c.in-WakeBy.waker c.in-WakeBy.after) c.args.scene.now c.wake_by.new.scene c.wake_by.result c.wake_by.ensures)
 
 pub returns-in-CloneWaker-clause-does : goal.returns-in-CloneWaker-clause-does
-returns-in-CloneWaker-clause-does g c = rw (c.in-CloneWaker.is, c.gone-in-CloneWaker.ensures) (passes (clones_waker c.in-CloneWaker.waker c.in-CloneWaker.place) c.args.scene.now c.clone_waker.new.scene c.clone_waker.result c.clone_waker.ensures)
+returns-in-CloneWaker-clause-does g c = rw (c.in-CloneWaker.is, c.passed-in-CloneWaker.ensures) (passes (clones_waker c.in-CloneWaker.waker c.in-CloneWaker.place) c.args.scene.now c.clone_waker.new.scene c.clone_waker.result c.clone_waker.ensures)
 
 pub returns-in-DropWaker-clause-does : goal.returns-in-DropWaker-clause-does
-returns-in-DropWaker-clause-does g c = rw (c.in-DropWaker.is, c.gone-in-DropWaker.ensures) (passes (drops_waker c.in-DropWaker.waker c.in-DropWaker.after) c.args.scene.now c.drop_waker.new.scene c.drop_waker.result c.drop_waker.ensures)
+returns-in-DropWaker-clause-does g c = rw (c.in-DropWaker.is, c.passed-in-DropWaker.ensures) (passes (drops_waker c.in-DropWaker.waker c.in-DropWaker.after) c.args.scene.now c.drop_waker.new.scene c.drop_waker.result c.drop_waker.ensures)
 
 pub returns-in-Register-clause-does : goal.returns-in-Register-clause-does
-returns-in-Register-clause-does g c = rw (c.in-Register.is, c.gone-in-Register.ensures) (passes (registers c.in-Register.place c.in-Register.waker) c.args.scene.now c.register.new.scene c.register.result c.register.ensures)
+returns-in-Register-clause-does g c = rw (c.in-Register.is, c.passed-in-Register.ensures) (passes (registers c.in-Register.place c.in-Register.waker) c.args.scene.now c.register.new.scene c.register.result c.register.ensures)
 
 pub returns-in-TakeWaker-clause-does : goal.returns-in-TakeWaker-clause-does
-returns-in-TakeWaker-clause-does g c = rw (c.in-TakeWaker.is, c.gone-in-TakeWaker.ensures) (passes (takes_waker c.in-TakeWaker.taking c.in-TakeWaker.place) c.args.scene.now c.take_waker.new.scene c.take_waker.result c.take_waker.ensures)
+returns-in-TakeWaker-clause-does g c = rw (c.in-TakeWaker.is, c.passed-in-TakeWaker.ensures) (passes (takes_waker c.in-TakeWaker.taking c.in-TakeWaker.place) c.args.scene.now c.take_waker.new.scene c.take_waker.result c.take_waker.ensures)
 
 pub returns-in_err-answer-in-Claim-clause-growth : goal.returns-in_err-answer-in-Claim-clause-growth
 returns-in_err-answer-in-Claim-clause-growth g c =
@@ -41,7 +41,7 @@ returns-in_err-answer-in-Claim-clause-growth g c =
 
 pub returns-clause-does : goal.returns-clause-does
 returns-clause-does g c =
-    rw c.told.ensures (elim c.match-task.branch [
+    rw c.replied.ensures (elim c.match-task.branch [
       | in-Body w ↦ rw (w.in-Body.is, w.answer-is) (λ p left shown. refl)
       | in-Continue w ↦ rw (w.in-Continue.is, w.answer-is, w.scene-is) (λ p left shown. (refl, shown))
       | in-Claim+in_ok-answer-in-Claim w ↦ rw (w.in-Claim.is, w.answer-is, w.scene-is) (tells (claims w.in-Claim.claim w.in-Claim.lock) c.args.scene.now w.claim.new.scene _ w.in_ok-answer-in-Claim.ensures.does)
@@ -59,7 +59,7 @@ returns-clause-does g c =
     ])
 
 pub returns-clause-slot : goal.returns-clause-slot
-returns-clause-slot g c = rw c.told.ensures (told_slot _ _)
+returns-clause-slot g c = rw c.replied.ensures (told_slot _ _)
 
 pub returns-clause-kept : goal.returns-clause-kept
-returns-clause-kept g c = λ p shown. rw c.told.ensures (told_kept p _ _)
+returns-clause-kept g c = λ p shown. rw c.replied.ensures (told_kept p _ _)

@@ -1,4 +1,0 @@
-use Rattle.loom.proofs.runner.after.step.Goals as goal
-
-pub returns-then-step : goal.returns-then-step
-returns-then-step c = (rw c.if-step.true at c.step.ensures.steps, c.step.ensures.rest)
