@@ -19,7 +19,7 @@ from pathlib import Path
 
 CRATES = Path(__file__).resolve().parent.parent / "crates"
 # where to begin, and how many lines there may be to read
-BEGINNING = ["loom/specs/Model/Fresh.antt", "loom_engine/specs/Runs/Body.antt"], 1500
+BEGINNING = ["loom/specs/Model/Fresh.antt", "loom_engine/specs/Runs/Body.antt"], 1400
 WITH_A_PATH = ["loom/specs/Model/Check.antt"], 2000
 # what each operation does to the state of the machine, and that state
 RULES = {

@@ -1,3 +1,4 @@
 pub mod Explaining
+pub mod Keeping
 pub mod Story
 pub mod Turning

@@ -7,8 +7,8 @@ pub mod ChoicesText
 pub mod Environment
 pub mod Errors
 pub mod Fresh
+pub mod Listening
 pub mod Loop
-pub mod Places
 pub mod Refusals
 pub mod Rising
 pub mod Rounds
@@ -17,4 +17,5 @@ pub mod Saving
 pub mod Settings
 pub mod StoredText
 pub mod Stores
+pub mod Turns
 pub mod Within

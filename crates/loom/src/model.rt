@@ -5,8 +5,8 @@ pub mod clock;
 pub mod env;
 pub mod error;
 pub mod limits;
+pub mod listener;
 pub mod paths;
-pub mod places;
 mod progress;
 pub mod receiver;
 pub mod report;
@@ -79,7 +79,7 @@ impl Builder {
         ensures errors { IfErr result (IsNoReport self.now (gives_file self.now.checkpoint_file) (Unit {0})) }
         ensures no_store { self.now.checkpoint_file ≡ None → result ≢ Err CheckError.Store }
     {
-        match file_store(rt, &self.checkpoint_file) {
+        match file_store(rt, alloc, &self.checkpoint_file) {
             Some(mut store) => self.check_alone(alloc, body, &mut store),
             None => self.check_alone(alloc, body, &mut None::<MemoryStore>),
         }

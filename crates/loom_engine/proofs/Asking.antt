@@ -4,7 +4,7 @@ use Rattle.std.specs.Prelude.{slice_get}
 use Rattle.loom_objects.specs.declared.rt.schedule.Ability.{Ability}
 use Rattle.loom_objects.specs.declared.rt.schedule.Ability.TheVariants.{Able}
 use Rattle.loom_objects.specs.declared.rt.schedule.Offers.{Offers}
-use Rattle.loom_objects.specs.Tree.Question.{IsSound, IsSoundDefault, AreSoundOffers}
+use Rattle.loom_objects.specs.Tree.Sound.{IsSound, IsSoundDefault, AreSoundOffers}
 use Rattle.loom_objects.specs.Tree.Asked.{which_thread}
 
 pub default_is_able : (default : Option ℕ) (abilities : List Ability) → AreSoundOffers default abilities → IsSoundDefault default abilities

@@ -4,6 +4,7 @@ pub mod Meeting
 pub mod Marks
 pub mod Replay
 pub mod Sound
+pub mod Exploring
 pub mod Machines
 pub mod Comparing
 pub mod Drive

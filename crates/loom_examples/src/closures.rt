@@ -1,4 +1,4 @@
-//! The same as closures, and the rows that are closures.
+//! The bodies of the other folder, and those of the guide, as closures, and the rows that are closures.
 pub mod peterson;
 pub mod queue;
 pub mod ring;

@@ -283,7 +283,7 @@ const LONG_RUNS_0: Settings = Settings {
     ..LONG_RUNS
 };
 
-/// The same with one preemption at most.
+/// The defaults with one preemption at most, but a run may have 100,000 nodes.
 const LONG_RUNS_1: Settings = Settings {
     preemption_bound: Some(1),
     ..LONG_RUNS

@@ -1,5 +1,6 @@
 //! Bodies that are lists of steps.
 mod operations;
+mod program;
 pub mod script;
 pub mod state;
 pub mod step;

@@ -1,3 +1,4 @@
 pub mod Accessed
 pub mod Labelled
+pub mod Relabelled
 pub mod Plain

@@ -1,3 +1,5 @@
 pub mod Asked
 pub mod Question
+pub mod Sound
+pub mod Stores
 pub mod Tree

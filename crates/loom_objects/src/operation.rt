@@ -2,7 +2,7 @@
 ghost use Rattle.std.specs.Prelude.{◌≡◌};
 ghost use Rattle.loom_objects.specs.Operation.Accessed.{accessed};
 ghost use Rattle.loom_objects.specs.Operation.Plain.{plain, plain_thread, started, started_thread};
-ghost use Rattle.loom_objects.specs.Operation.Labelled as labels;
+ghost use Rattle.loom_objects.specs.Operation.Relabelled as labels;
 ghost use Rattle.loom_objects.specs.Operation.Labelled.{bare};
 ghost use Rattle.loom_objects.specs.Text.{first_text};
 

@@ -4,17 +4,17 @@ use Rattle.loom_objects.specs.declared.operation.Reply.{Reply}
 use Rattle.loom_objects.specs.declared.operation.Reply.TheVariants.{Done, Data, Channel, SendError, RecvError, Empty as IsEmpty, Disconnected as IsDisconnected, Messages, Locked, WouldBlock, Value, Exchanged}
 use Rattle.loom_ops.specs.declared.sync.mpsc.Receiver.{Receiver}
 use Rattle.loom_ops.specs.declared.sync.mpsc.Sender.{Sender}
-use Rattle.loom_ops.specs.declared.answers.cell.Given.{Given}
-use Rattle.loom_ops.specs.declared.answers.mpsc.Drained.{Drained}
-use Rattle.loom_ops.specs.declared.answers.mpsc.Received.{Received}
-use Rattle.loom_ops.specs.declared.answers.mpsc.Sent.{Sent}
-use Rattle.loom_ops.specs.declared.answers.mpsc.TriedReceive.{TriedReceive}
-use Rattle.loom_ops.specs.declared.answers.mpsc.TryRecvError.TheVariants.{Empty, Disconnected}
-use Rattle.loom_ops.specs.declared.answers.arc.Left.{Left}
-use Rattle.loom_ops.specs.declared.answers.answer.Loaded.{Loaded}
+use Rattle.loom_ops.specs.declared.cell.Given.{Given}
+use Rattle.loom_ops.specs.declared.sync.mpsc.Drained.{Drained}
+use Rattle.loom_ops.specs.declared.sync.mpsc.Received.{Received}
+use Rattle.loom_ops.specs.declared.sync.mpsc.Sent.{Sent}
+use Rattle.loom_ops.specs.declared.sync.mpsc.TriedReceive.{TriedReceive}
+use Rattle.loom_ops.specs.declared.sync.mpsc.TryRecvError.TheVariants.{Empty, Disconnected}
+use Rattle.loom_ops.specs.declared.sync.arc.Left.{Left}
+use Rattle.loom_ops.specs.declared.sync.atomic.Loaded.{Loaded}
 use Rattle.loom_ops.specs.declared.sync.mutex.MutexGuard.{MutexGuard}
-use Rattle.loom_ops.specs.declared.answers.answer.Joined.{Joined}
-use Rattle.loom_ops.specs.declared.answers.answer.Tried.{Tried}
+use Rattle.loom_ops.specs.declared.thread.Joined.{Joined}
+use Rattle.loom_ops.specs.declared.sync.mutex.Tried.{Tried}
 
 -- what a compare-exchange has read, as its reply holds it
 abbrev pub as_loaded : {T : Type 0} → Result T T → Result (Loaded T) (Loaded T)

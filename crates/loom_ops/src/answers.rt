@@ -1,8 +1,6 @@
-//! What a closure gets of a reply: a handle, a guard or a value, each taken out of the reply to the closure's operation.
-//! `loom::runner` uses it.
+//! What a closure gets of a reply: a handle, a guard or a value, each taken out of the reply to the closure's operation. What the
+//! operations of one kind of object reply stands beside its handle, and is named here too. `loom::runner` uses it.
 pub mod answer;
-pub mod arc;
-pub mod cell;
-pub mod locks;
-pub mod mpsc;
-pub mod thread;
+
+pub use crate::cell;
+pub use crate::sync::{arc, mpsc};

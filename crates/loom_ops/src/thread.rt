@@ -4,7 +4,9 @@ ghost use Rattle.std.specs.Option.{option_map};
 ghost use Rattle.loom_objects.specs.Text.{shown, first_text};
 ghost use Rattle.loom_ops.specs.Thread.{access_error, join_handle, leave, thread_handle, named};
 ghost use Rattle.loom_objects.specs.Operation.Labelled.{bare};
+ghost use Rattle.loom_ops.specs.Answers.{joined_in};
 
+use crate::answers::answer::Answer;
 use crate::fail;
 use loom_objects::operation::{LocalOp, Name, Op, Reply, Request, ThreadOp};
 use loom_objects::text::Text;
@@ -65,6 +67,9 @@ pub struct LocalKey {
 /// The thread has given its own value back (loom's `rt/thread.rs`).
 #[derive(Clone, Copy)]
 pub struct AccessError;
+
+/// The result of a thread that was joined (own).
+pub struct Joined<D>(pub D);
 
 impl fmt::Debug for LocalKey {
     ghost debug_output = { λ _. Some (codes "LocalKey { .. }") };
@@ -304,4 +309,32 @@ pub fn end<D, S>() -> Op<D, S>
     ensures { result ≡ bare (Request.Thread ThreadOp.End) }
 {
     Op::new(Request::Thread(ThreadOp::End))
+}
+
+impl<D: Drop> Answer<D> for Thread {
+    ghost held = { thread_handle };
+
+    fn from_reply(reply: Reply<D>) -> Option<Thread>
+        ensures { result ≡ thread_handle reply }
+    {
+        let thread = Thread::from_reply(&reply);
+        reply.let_go();
+        thread
+    }
+}
+
+impl<D: Drop> Answer<D> for Joined<D> {
+    ghost held = { joined_in };
+
+    fn from_reply(reply: Reply<D>) -> Option<Joined<D>>
+        ensures { result ≡ joined_in reply }
+    {
+        match reply {
+            Reply::Data(value) => Some(Joined(value)),
+            other => {
+                other.let_go();
+                None
+            }
+        }
+    }
 }

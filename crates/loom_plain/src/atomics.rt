@@ -1,16 +1,42 @@
 //! Atomics and fences: which store a load reads, and what a store leaves.
 use crate::dependence::Action;
 use crate::halt::NextReply;
+use crate::kinds::{Kind, Step};
 use crate::machine::Machine;
 use crate::numbers::{cast, changed};
-use crate::state::{Access, Becoming, Kind, Object, Step, Store, Update};
+use crate::state::{Access, Object, Store};
 use crate::stores::{Reader, are_orders_equal, is_seen, kept, readable, store_in};
 use loom_objects::choice::Choice;
 use loom_objects::operation::{AtomicOp, Reply};
 use loom_views::rt::failure::FailureKind;
 use loom_views::rt::num::Numbers;
+use loom_views::rt::num::change::Change;
 use loom_views::rt::{MAX_ATOMIC_HISTORY, MAX_THREADS};
 use std::sync::atomic::Ordering;
+
+/// What a load or a read-modify-write makes of the number that it reads.
+#[derive(Clone, Copy)]
+pub enum Becoming {
+    /// Nothing: a load.
+    Same,
+    Changed(Change),
+    /// The second number where the first was read, and else nothing.
+    Exchanged(u64, u64),
+}
+
+/// A load or a read-modify-write.
+#[derive(Clone, Copy)]
+pub struct Update {
+    pub becoming: Becoming,
+    /// The ordering where something is stored.
+    pub success: Ordering,
+    /// The ordering where nothing is.
+    pub failure: Ordering,
+    /// The ordering of a load; a read-modify-write has none.
+    pub load: Option<Ordering>,
+    /// Whether the reply says if something was stored.
+    pub is_exchange: bool,
+}
 
 // What an access has read.
 #[derive(Clone, Copy)]

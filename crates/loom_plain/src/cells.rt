@@ -1,7 +1,8 @@
 //! Cells, and what they share with atomics: accesses that must not meet.
 use crate::halt::NextReply;
+use crate::kinds::Kind;
 use crate::machine::Machine;
-use crate::state::{Access, Accessed, Kind, Object};
+use crate::state::{Access, Accessed, Object};
 use loom_objects::operation::{CellOp, Reply};
 use loom_views::rt::MAX_THREADS;
 use loom_views::rt::failure::FailureKind;

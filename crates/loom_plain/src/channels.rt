@@ -1,12 +1,22 @@
 //! Channels.
 use crate::dependence::Action;
 use crate::halt::NextReply;
+use crate::kinds::{Kind, Step};
 use crate::machine::Machine;
-use crate::state::{Kind, Message, Object, Receiving, State, Step};
+use crate::state::{Message, Object, State};
 use loom_objects::operation::{ChannelOp, Reply};
 use loom_views::rt::failure::FailureKind;
 use std::collections::LinkedList;
 use std::mem;
+
+/// How a message is received.
+#[derive(Clone, Copy)]
+pub enum Receiving {
+    Recv,
+    TryRecv,
+    /// The receiver is dropped, and takes what is left.
+    Drain,
+}
 
 impl Object {
     // Whether who receives has to wait.

@@ -16,12 +16,7 @@ pub type Options = [Option<Choice>; MAX_OPTIONS];
 
 /// The default of these options.
 pub fn default_of(options: &Options) -> Option<Choice> {
-    for option in options {
-        if option.is_some() {
-            return *option;
-        }
-    }
-    None
+    options.iter().find_map(|option| *option)
 }
 
 /// What is known of the schedules before a choice.

@@ -1,8 +1,10 @@
 //! Condition variables.
 use crate::dependence::Action;
 use crate::halt::NextReply;
+use crate::kinds::{Kind, Step};
+use crate::locks::Claim;
 use crate::machine::Machine;
-use crate::state::{Claim, Kind, State, Step};
+use crate::state::State;
 use loom_objects::operation::{CondvarOp, Reply};
 use loom_views::rt::MAX_THREADS;
 use loom_views::rt::failure::FailureKind;

@@ -1,10 +1,21 @@
 //! Counted references and tracked values.
 use crate::dependence::Action;
 use crate::halt::NextReply;
+use crate::kinds::{Kind, Step};
 use crate::machine::Machine;
-use crate::state::{Counting, Kind, Step};
 use loom_objects::operation::{ArcOp, Reply, TrackOp};
 use loom_views::rt::failure::FailureKind;
+
+/// What a branch point of a counted reference is for.
+#[derive(Clone, Copy)]
+pub enum Counting {
+    Clone,
+    Drop,
+    GetMut,
+    TryUnwrap,
+    Unwrap,
+    StrongCount,
+}
 
 impl Machine {
     /// An operation of a counted reference is handed over.

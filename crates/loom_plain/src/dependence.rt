@@ -56,13 +56,10 @@ fn depends(action: Action, earlier: Action) -> bool {
 impl Machine {
     // The last access that one depends on which does this to the object.
     fn last_before(&self, object: usize, action: Action) -> Option<Access> {
-        let mut last = None;
-        for access in &self.rest.accesses {
-            if access.object == object && depends(action, access.action) {
-                last = Some(*access);
-            }
-        }
-        last
+        let mut accesses = self.rest.accesses.iter().rev();
+        accesses
+            .find(|access| access.object == object && depends(action, access.action))
+            .copied()
     }
 
     // Where the thread is about to make an access that depends on one from which no chain of edges leads to the thread: the place

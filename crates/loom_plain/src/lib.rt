@@ -13,6 +13,7 @@ pub mod counts;
 pub mod dependence;
 pub mod graph;
 pub mod halt;
+pub mod kinds;
 pub mod locks;
 pub mod machine;
 pub mod marks;

@@ -1,11 +1,26 @@
 //! Mutexes and read-write locks.
 use crate::dependence::Action;
 use crate::halt::NextReply;
+use crate::kinds::{Kind, Step};
 use crate::machine::Machine;
-use crate::state::{Claim, Kind, State, Step};
+use crate::state::State;
 use loom_objects::operation::{MutexOp, Reply, RwLockOp};
 use loom_views::rt::MAX_THREADS;
 use loom_views::rt::failure::FailureKind;
+
+/// How a mutex or a read-write lock is taken.
+#[derive(Clone, Copy)]
+pub enum Claim {
+    Read,
+    TryRead,
+    Write,
+    TryWrite,
+    /// A mutex.
+    Lock,
+    TryLock,
+    /// A mutex, after a wait that has a time.
+    Relock,
+}
 
 impl Claim {
     // Whether who takes the lock so reads.
@@ -67,6 +82,12 @@ impl Machine {
     pub fn claim_begins(&mut self, number: usize, kind: Kind, claim: Claim) -> NextReply {
         let is_refused = self.object(number, kind).is_open(!claim.is_read());
         let is_blocked = is_refused && !claim.is_try();
+        self.pends(number, claim.action(), Step::Claim(claim), is_blocked)
+    }
+
+    /// A thread that was woken is to take the mutex again. That the mutex is there is tested when it takes it.
+    pub fn awakes(&mut self, number: usize, claim: Claim) -> NextReply {
+        let is_blocked = self.at(number).is_open(true);
         self.pends(number, claim.action(), Step::Claim(claim), is_blocked)
     }
 

@@ -2,8 +2,9 @@
 use crate::choices::MAX_OPTIONS;
 use crate::dependence::Action;
 use crate::halt::NextReply;
+use crate::kinds::{Kind, Step};
 use crate::machine::Machine;
-use crate::state::{Kind, State, Step};
+use crate::state::State;
 use loom_objects::choice::Choice;
 use loom_objects::operation::{NotifyOp, Reply};
 use loom_views::rt::MAX_THREADS;
@@ -17,12 +18,13 @@ impl Machine {
             NotifyOp::Notify(number) => {
                 self.comes_to(number, Kind::Notify, Action::Other, Step::Notify)
             }
-            NotifyOp::Wait(number) => self.wait_begins(number),
+            NotifyOp::Wait(number) => self.wait_begins(number, None),
         }
     }
 
-    /// The active thread comes to wait on the notifier, unless it wakes without a notification.
-    pub fn wait_begins(&mut self, number: usize) -> NextReply {
+    /// The active thread comes to wait on the notifier, which may be that of a future with these wakers, unless it wakes without
+    /// a notification.
+    pub fn wait_begins(&mut self, number: usize, future: Option<usize>) -> NextReply {
         let active = self.active;
         let notify = self.object(number, Kind::Notify);
         let is_second = notify.holder.is_some();
@@ -31,9 +33,14 @@ impl Machine {
         self.check(!is_second, FailureKind::SecondWaiter);
         if !has_woken && self.wakes_early() {
             self.at(number).has_woken = true;
-            self.yields(number, Step::Await(false))
+            self.yields(number, Step::Await(future, false))
         } else {
-            self.pends(number, Action::Wait, Step::Await(true), !is_notified)
+            self.pends(
+                number,
+                Action::Wait,
+                Step::Await(future, true),
+                !is_notified,
+            )
         }
     }
 
@@ -48,8 +55,11 @@ impl Machine {
         }
     }
 
-    /// The active thread has woken, by a notification or without one.
-    pub fn awaits(&mut self, number: usize, is_notified: bool) -> NextReply {
+    /// The active thread has woken, by a notification or without one. A future that it waits for has a waker left.
+    pub fn awaits(&mut self, number: usize, future: Option<usize>, is_notified: bool) -> NextReply {
+        if let Some(wakers) = future {
+            self.object(wakers, Kind::Waker);
+        }
         self.at(number).holder = None;
         if is_notified {
             self.acquires_notice(number);

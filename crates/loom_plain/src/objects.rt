@@ -1,34 +1,17 @@
 //! The objects of a run, in one list. To use one that isn't there, isn't whole or is of another kind is a misuse.
 use crate::dependence::Action;
 use crate::halt::NextReply;
+use crate::kinds::{Kind, Step};
 use crate::machine::Machine;
 use crate::memory::push;
-use crate::state::{Kind, Object, State, Step};
+use crate::state::{Object, State};
 use loom_objects::operation::Reply;
 use loom_views::rt::failure::FailureKind;
-
-impl Object {
-    // What is left of it that has to be given back.
-    fn leak(&self) -> Option<FailureKind> {
-        match self.kind {
-            Kind::Arc | Kind::Waker if self.is_whole => Some(FailureKind::LeakArc),
-            Kind::Track if self.is_whole => Some(FailureKind::LeakTrack),
-            Kind::Channel if !self.messages.is_empty() => Some(FailureKind::LeakMessages),
-            _ => None,
-        }
-    }
-}
 
 impl Machine {
     /// What is left of the first object that has to be given back.
     pub fn leak(&self) -> Option<FailureKind> {
-        for object in &self.objects {
-            let leak = object.leak();
-            if leak.is_some() {
-                return leak;
-            }
-        }
-        None
+        self.objects.iter().find_map(|object| object.leak())
     }
 
     /// The object of this number, or the one that is nothing.

@@ -2,9 +2,10 @@
 use crate::choices::{MAX_OPTIONS, Made, Options, Past};
 use crate::graph::Graph;
 use crate::halt::{Halt, NextReply};
+use crate::kinds::Kind;
 use crate::machine::{Machine, Rest};
 use crate::memory::push;
-use crate::state::{Kind, Object, State, Step, Thread};
+use crate::state::{Object, State, Thread};
 use loom_objects::body::Body;
 use loom_objects::choice::Choice;
 use loom_objects::operation::{Reply, Request};
@@ -204,72 +205,6 @@ impl Machine {
             }
         }
         None
-    }
-
-    // There is no reply where the thread is at a branch point.
-    fn begins(&mut self, request: Request<u64, ()>) -> NextReply {
-        match request {
-            Request::Atomic(op) => self.atomic_begins(op),
-            Request::Fence(order) => self.fence(order),
-            Request::Cell(op) => self.cell_begins(op),
-            Request::Arc(op) => self.arc_begins(op),
-            Request::Track(op) => self.track_begins(op),
-            Request::Mutex(op) => self.mutex_begins(op),
-            Request::RwLock(op) => self.rwlock_begins(op),
-            Request::Condvar(op) => self.condvar_begins(op),
-            Request::Notify(op) => self.notify_begins(op),
-            Request::Channel(op) => self.channel_begins(op),
-            Request::Waker(op) => self.waker_begins(op),
-            Request::AtomicWaker(op) => self.atomic_waker_begins(op),
-            Request::Local(op) => self.local_begins(op),
-            Request::Lazy(op) => self.lazy_begins(op),
-            Request::Explore(op) => self.switches(op),
-            Request::Thread(op) => self.thread_begins(op),
-            Request::Fail => {
-                self.check(false, FailureKind::Assertion);
-                None
-            }
-            Request::Unreachable => {
-                self.check(false, FailureKind::Unreachable);
-                None
-            }
-        }
-    }
-
-    // What the chosen thread has pending takes effect. There is no reply where it is at another branch point.
-    fn takes_effect(&mut self) -> NextReply {
-        let me = self.me();
-        let (number, step) = (me.pending.number, me.pending.step);
-        me.pending.action = None;
-        me.pending.step = Step::Nothing;
-        match step {
-            Step::Nothing => {
-                self.expect(false);
-                None
-            }
-            Step::Start => Some(Reply::Start),
-            Step::Continue => Some(Reply::Done),
-            Step::Update(update) => self.updates(number, update),
-            Step::Store(value, order) => self.stores(number, value, order),
-            Step::Count(counting) => self.counts(number, counting),
-            Step::Claim(claim) => self.claims(number, claim),
-            Step::Sleep(mutex, value, claim) => self.sleeps(number, mutex, value, claim),
-            Step::Awake(claim) => self.claim_begins(number, Kind::Mutex, claim),
-            Step::WakeUp(most) => self.wakes_up(number, most),
-            Step::Notify => {
-                self.notifies(number);
-                Some(Reply::Done)
-            }
-            Step::Await(is_notified) => self.awaits(number, is_notified),
-            Step::Join(thread) => self.joins(number, thread),
-            Step::Send(value) => self.sends(number, value),
-            Step::Receive(receiving) => self.receives(number, receiving),
-            Step::Wake(waker, after) => self.wakes_by(number, waker, after),
-            Step::CloneWaker(place) => self.clones_waker(number, place),
-            Step::DropWaker(after) => self.drops_waker(number, after),
-            Step::Register(waker) => self.registers(number, waker),
-            Step::TakeWaker(wakes) => self.takes_waker(number, wakes),
-        }
     }
 
     // A thread is chosen, or none. The chosen one makes an access where it is pending on an object.

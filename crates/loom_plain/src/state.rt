@@ -1,12 +1,11 @@
 //! What threads and objects are.
 use crate::dependence::Action;
+use crate::kinds::{Kind, Step};
 use loom_objects::operation::Name;
 use loom_views::rt::MAX_THREADS;
 use loom_views::rt::num::Numbers;
-use loom_views::rt::num::change::Change;
 use std::alloc::Global;
 use std::collections::LinkedList;
-use std::sync::atomic::Ordering;
 
 /// What a thread waits for.
 #[derive(Clone, Copy)]
@@ -26,112 +25,6 @@ pub enum Phase {
     Finished,
     Exited,
     Over,
-}
-
-/// How a mutex or a read-write lock is taken.
-#[derive(Clone, Copy)]
-pub enum Claim {
-    Read,
-    TryRead,
-    Write,
-    TryWrite,
-    /// A mutex.
-    Lock,
-    TryLock,
-    /// A mutex, after a wait that has a time.
-    Relock,
-}
-
-/// What a branch point of a counted reference is for.
-#[derive(Clone, Copy)]
-pub enum Counting {
-    Clone,
-    Drop,
-    GetMut,
-    TryUnwrap,
-    Unwrap,
-    StrongCount,
-}
-
-/// How a message is received.
-#[derive(Clone, Copy)]
-pub enum Receiving {
-    Recv,
-    TryRecv,
-    /// The receiver is dropped, and takes what is left.
-    Drain,
-}
-
-/// What a thread does once it has dropped a waker.
-#[derive(Clone, Copy)]
-pub enum AfterDrop {
-    Nothing,
-    Yield,
-    /// It releases the lock of this place.
-    Free(usize),
-}
-
-/// What a load or a read-modify-write makes of the number that it reads.
-#[derive(Clone, Copy)]
-pub enum Becoming {
-    /// Nothing: a load.
-    Same,
-    Changed(Change),
-    /// The second number where the first was read, and else nothing.
-    Exchanged(u64, u64),
-}
-
-/// A load or a read-modify-write.
-#[derive(Clone, Copy)]
-pub struct Update {
-    pub becoming: Becoming,
-    /// The ordering where something is stored.
-    pub success: Ordering,
-    /// The ordering where nothing is.
-    pub failure: Ordering,
-    /// The ordering of a load; a read-modify-write has none.
-    pub load: Option<Ordering>,
-    /// Whether the reply says if something was stored.
-    pub is_exchange: bool,
-}
-
-/// What a thread does when it is chosen.
-#[derive(Clone, Copy)]
-pub enum Step {
-    Nothing,
-    /// It begins.
-    Start,
-    /// It goes on, and the reply says no more.
-    Continue,
-    /// It loads from an atomic, and may store.
-    Update(Update),
-    /// It stores a value to an atomic.
-    Store(u64, Ordering),
-    Count(Counting),
-    Claim(Claim),
-    /// It falls asleep on the condition variable and releases this mutex, with this value. How it takes that again.
-    Sleep(usize, u64, Claim),
-    /// It was woken, and is to take the mutex again.
-    Awake(Claim),
-    /// It wakes so many threads that wait on the condition variable, as far as there are any.
-    WakeUp(u8),
-    /// It notifies the notifier, which may be its own.
-    Notify,
-    /// It has waited on the notifier. Whether it wakes by a notification.
-    Await(bool),
-    /// The thread that it joins, whose notifier it is on.
-    Join(u8),
-    Send(u64),
-    Receive(Receiving),
-    /// It notifies the notifier by the waker, which it may drop then.
-    Wake(usize, Option<AfterDrop>),
-    /// It makes a waker more, which may be for this place.
-    CloneWaker(Option<usize>),
-    DropWaker(AfterDrop),
-    /// The waker that the place is to take.
-    Register(usize),
-    /// Whether it wakes by the waker that it takes out.
-    TakeWaker(bool),
 }
 
 /// What a thread does when it is chosen, and to which object.
@@ -225,28 +118,6 @@ pub struct Accessed {
 pub struct Message {
     pub value: u64,
     pub point: usize,
-}
-
-/// What an object is.
-#[derive(Clone, Copy, PartialEq, Eq)]
-pub enum Kind {
-    Atomic,
-    Cell,
-    Arc,
-    Track,
-    Mutex,
-    RwLock,
-    Condvar,
-    Notify,
-    /// A notifier on which a thread's join alone waits.
-    End,
-    Channel,
-    /// The wakers of a future, counted.
-    Waker,
-    /// A place for a waker, with its lock.
-    AtomicWaker,
-    /// In place of an object that isn't there.
-    Nothing,
 }
 
 /// An object. What another kind has doesn't count.

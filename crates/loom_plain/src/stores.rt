@@ -28,12 +28,8 @@ pub fn kept(stores: &[Store]) -> &[Store] {
 
 /// The kept store in the slot.
 pub fn store_in(stores: &[Store], wanted: usize) -> Option<&Store> {
-    for store in kept(stores) {
-        if store.number % MAX_ATOMIC_HISTORY == wanted {
-            return Some(store);
-        }
-    }
-    None
+    let mut kept = kept(stores).iter();
+    kept.find(|store| store.number % MAX_ATOMIC_HISTORY == wanted)
 }
 
 impl Store {

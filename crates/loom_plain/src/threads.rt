@@ -1,9 +1,10 @@
 //! Threads: spawns, joins, tokens, yields, ends.
 use crate::dependence::Action;
 use crate::halt::NextReply;
+use crate::kinds::{Kind, Step};
 use crate::machine::Machine;
 use crate::memory::push;
-use crate::state::{Kind, Phase, State, Step, Thread};
+use crate::state::{Phase, State, Thread};
 use loom_objects::operation::{Name, Reply, ThreadOp};
 use loom_views::rt::failure::FailureKind;
 

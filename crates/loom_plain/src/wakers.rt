@@ -1,10 +1,19 @@
 //! Wakers of futures, and atomic wakers: places for a waker, each with a lock.
 use crate::dependence::Action;
 use crate::halt::NextReply;
+use crate::kinds::{Kind, Step};
 use crate::machine::Machine;
-use crate::state::{AfterDrop, Kind, Step};
 use loom_objects::operation::{AtomicWakerOp, Reply, WakerOp};
 use loom_views::rt::failure::FailureKind;
+
+/// What a thread does once it has dropped a waker.
+#[derive(Clone, Copy)]
+pub enum AfterDrop {
+    Nothing,
+    Yield,
+    /// It releases the lock of this place.
+    Free(usize),
+}
 
 // The reply of a waker that was taken out of its place.
 fn waker_reply(waker: Option<usize>) -> Reply<u64> {
@@ -27,7 +36,7 @@ impl Machine {
             }
             WakerOp::Wait(number) => {
                 let notifier = self.object(number, Kind::Waker).notifier;
-                self.wait_begins(notifier)
+                self.wait_begins(notifier, Some(number))
             }
             WakerOp::Clone(number) => {
                 let step = Step::CloneWaker(None);
@@ -42,9 +51,15 @@ impl Machine {
         }
     }
 
-    // The active thread comes to wake by the waker.
+    // An operation by which the active thread is to wake is handed over.
     fn wake_begins(&mut self, number: usize, after: Option<AfterDrop>) -> NextReply {
-        let notifier = self.object(number, Kind::Waker).notifier;
+        self.object(number, Kind::Waker);
+        self.comes_to_wake(number, after)
+    }
+
+    // The active thread comes to wake by the waker, which is tested when that takes effect.
+    fn comes_to_wake(&mut self, number: usize, after: Option<AfterDrop>) -> NextReply {
+        let notifier = self.at(number).notifier;
         self.pends(notifier, Action::Other, Step::Wake(number, after), false)
     }
 
@@ -134,7 +149,7 @@ impl Machine {
     pub fn registers(&mut self, number: usize, waker: usize) -> NextReply {
         self.object(waker, Kind::Waker);
         if self.at(number).holder.is_some() {
-            return self.wake_begins(waker, Some(AfterDrop::Yield));
+            return self.comes_to_wake(waker, Some(AfterDrop::Yield));
         }
         match self.holds_atomic_waker(number, Some(waker)) {
             Some(old) => {
@@ -153,7 +168,7 @@ impl Machine {
         let waker = self.holds_atomic_waker(number, None);
         self.frees(number);
         match waker {
-            Some(waker) if wakes => self.wake_begins(waker, Some(AfterDrop::Nothing)),
+            Some(waker) if wakes => self.comes_to_wake(waker, Some(AfterDrop::Nothing)),
             None if wakes => Some(Reply::Done),
             _ => Some(waker_reply(waker)),
         }

@@ -41,6 +41,7 @@ mod each_operation;
 mod exploring;
 mod finding;
 mod guide;
+mod late;
 mod limits;
 mod lists;
 mod litmus;

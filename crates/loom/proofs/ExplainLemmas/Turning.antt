@@ -1,13 +1,12 @@
--- One event more of a story.
-use Rattle.std.proofs.Common.{◌≡◌, ◌≤◌, ◌+◌, ℕ, suc, List, [], ◌∷◌, ◌++◌, length, sym, subst, ◌∙◌, ap, arith, append_assoc, append-nil}
-use Rattle.std.specs.Prelude.{IfOk, OnOk, Result, Ok, Err, Option, Some, slice_get, slice_set, ⊤}
+-- One event more of a run, and of its story.
+use Rattle.std.proofs.Common.{◌≡◌, ◌≤◌, ◌+◌, ℕ, suc, List, [], ◌∷◌, ◌++◌, length, sym, subst, ◌∙◌, ap, arith, append_assoc, append-nil, refl}
+use Rattle.std.specs.Prelude.{IfOk, OnOk, Result, Ok, Err, Some, slice_get, slice_set, ⊤, Bool}
 use Rattle.std.proofs.lemmas.Option.{slice_get_past}
 use Rattle.loom_views.specs.declared.rt.failure.FailureKind.{FailureKind}
 use Rattle.loom_views.specs.declared.rt.failure.FailureKind.TheVariants.{Misuse}
 use Rattle.loom_objects.specs.declared.failure.Stop.{Stop}
 use Rattle.loom_objects.specs.declared.failure.Stop.TheVariants.{Failure as Because, Memory}
 use Rattle.loom_objects.specs.Operation.Labelled.{Op}
-use Rattle.loom_objects.specs.declared.operation.Request.{Request}
 use Rattle.loom_objects.specs.declared.operation.Reply.{Reply}
 use Rattle.loom_objects.specs.declared.operation.Reply.TheVariants as reply
 use Rattle.loom_objects.specs.declared.operation.Turn.{Turn}
@@ -15,21 +14,23 @@ use Rattle.loom_objects.specs.declared.operation.Turn.TheVariants as turn
 use Rattle.loom_objects.specs.Operation.Plain.{plain, started}
 use Rattle.loom_objects.specs.World.{World}
 use Rattle.loom_engine.specs.declared.rt.execution.Progress.{Progress}
-use Rattle.loom_engine.specs.Execution.{Comes, ShowsCourse}
+use Rattle.loom_engine.specs.Execution.{Along, Comes, ShowsCourse}
 use Rattle.loom_engine.specs.Path.Route.{Route, drives, trail}
 use Rattle.loom_engine.specs.Runs.Course.{Course}
 use Rattle.loom_engine.specs.Runs.Machine.{submit}
-use Rattle.loom_engine.specs.Runs.Body.{Meaning, at_turn, with_child}
-use Rattle.loom_engine.specs.Trees.Drive.{Trail}
+use Rattle.loom_engine.specs.Runs.Body.{Meaning, at_turn, runs, with_child}
+use Rattle.loom_engine.specs.Trees.Drive.{Trail, drive}
+use Rattle.loom_engine.specs.Trees.Marks.{marking}
 use Rattle.loom_engine.specs.Trees.Meeting.{Settings}
 use Rattle.loom.proofs.ModelLemmas.Handing.{IsHanded, slice_get_is}
-use Rattle.loom.specs.Model.Run.{Outcome}
-use Rattle.loom_explain.specs.declared.event.End.{End}
-use Rattle.loom_explain.specs.declared.event.End.TheVariants.{Ended, Failed}
+use Rattle.loom.specs.Model.Run.{IsEndOf, Outcome, RunsAlong}
 use Rattle.loom_explain.specs.declared.event.Event.{Event}
-use Rattle.loom.specs.Explain.Story.{Story, EndsAs, begins_with, by_body, event_of, goes_on, hands_over, nothing_more, story}
-use Rattle.loom.specs.Explain.Telling.{IsUnderWay, ComesToTurn, behind}
-use Rattle.loom.specs.Explain.Ends.{IsEndOf}
+use Rattle.loom.specs.Explain.Story.{Story, begins_with, by_body, event_of, goes_on, hands_over, nothing_more, story, story_of}
+use Rattle.loom.specs.Model.Listening.{HasHeard, HasHeardOne}
+use Rattle.loom.specs.Model.Turns.{ComesToTurn, EndsWith, IsHeardAs, IsUnderWay, behind}
+use Rattle.loom.specs.declared.model.run.Ending.{Ending}
+use Rattle.loom.specs.declared.model.run.Ending.TheVariants.{Ended, Failed}
+use Rattle.loom.proofs.ExplainLemmas.Story.{story_law}
 
 -- an event goes from the rest of a story to what was told
 told_one_more : {D : Type 0} (events : List Event) (event : Event) (rest : Story D) → behind (events ++ event ∷ []) rest ≡ behind events (begins_with event rest)
@@ -76,31 +77,31 @@ module _ {D S : Type 0} (next : Meaning D S) where
     no_body events bodies run path thread answer past z =
         sym z.rest ∙ ap (behind events) (nobody path.search z.course.world.steps_left bodies z.course (trail path) thread answer past) ∙ told_all events (Err Misuse, trail path)
 
-    -- what is left when the operation was told
-    rest_is : (events : List Event) (bodies : List S) (run : Progress D) (path : Route) (thread : ℕ) (answer : Reply D) (body after : S) (op : Op D S) (event : Event)
-        → IsHanded next bodies thread answer body after op → event ≡ event_of thread answer op path.position → (z : IsUnderWay next whole events bodies run path thread answer)
-        → behind (events ++ event ∷ [])
+    -- what is left when the operation was heard
+    rest_is : (events : List Event) (bodies : List S) (run : Progress D) (path : Route) (thread : ℕ) (answer : Reply D) (body after : S) (op : Op D S)
+        → IsHanded next bodies thread answer body after op → (z : IsUnderWay next whole events bodies run path thread answer)
+        → behind (events ++ event_of thread answer op path.position ∷ [])
         (goes_on (story path.search next z.course.world.steps_left (with_child (slice_set bodies thread after) (started op))) (drives (submit (plain op) z.course) path)) ≡ whole
-    rest_is events bodies run path thread answer body after op event h is z =
+    rest_is events bodies run path thread answer body after op h z =
         let rest : Story D = goes_on (story path.search next z.course.world.steps_left (with_child (slice_set bodies thread after) (started op))) (drives (submit (plain op) z.course) path) in
-        told_one_more events event rest
-        ∙ ap (λ (e : Event). behind events (begins_with e rest)) is
+        told_one_more events (event_of thread answer op path.position) rest
         ∙ ap (behind events) (sym (opened path.search z.course.world.steps_left bodies z.course (trail path) thread answer body (after, op) (slice_get_is bodies thread body h.within h.at) h.step))
         ∙ z.rest
 
     -- the operation stops the run
-    pub stops : (events : List Event) (bodies : List S) (run run' : Progress D) (path path' : Route) (thread : ℕ) (answer : Reply D) (body after : S) (op : Op D S) (todo : Request D ⊤) (event : Event) (stop : Stop)
-        → IsHanded next bodies thread answer body after op → event ≡ event_of thread answer op path.position → todo ≡ plain op
-        → ((c : Course D) → ShowsCourse c run path → Comes (submit todo c) path (Err stop) run' path')
+    stops : (events : List Event) (bodies : List S) (run run' : Progress D) (path path' : Route) (thread : ℕ) (answer : Reply D) (body after : S) (op : Op D S) (stop : Stop)
+        → IsHanded next bodies thread answer body after op
+        → ((c : Course D) → ShowsCourse c run path → Comes (submit (plain op) c) path (Err stop) run' path')
         → IsUnderWay next whole events bodies run path thread answer
-        → (bodies' : List S) → ComesToTurn next whole (Err stop) (events ++ event ∷ []) bodies' run' path'
-    stops events bodies run run' path path' thread answer body after op todo event Memory h is same_op came z bodies' = tt
-    stops events bodies run run' path path' thread answer body after op todo event (Because failure) h is same_op came z bodies' =
-        sym (rest_is events bodies run path thread answer body after op event h is z)
-        ∙ ap (λ (d : Outcome (Turn D × Course D)). behind (events ++ event ∷ [])
+        → (bodies' : List S) → ComesToTurn next whole (Err stop) (events ++ event_of thread answer op path.position ∷ []) bodies' run' path'
+    stops events bodies run run' path path' thread answer body after op Memory h came z bodies' = tt
+    stops events bodies run run' path path' thread answer body after op (Because failure) h came z bodies' =
+        let heard = events ++ event_of thread answer op path.position ∷ [] in
+        sym (rest_is events bodies run path thread answer body after op h z)
+        ∙ ap (λ (d : Outcome (Turn D × Course D)). behind heard
         (goes_on (story path.search next z.course.world.steps_left (with_child (slice_set bodies thread after) (started op))) d))
-        (ap (λ (o : Request D ⊤). drives (submit o z.course) path) (sym same_op) ∙ came z.course z.shown)
-        ∙ told_all (events ++ event ∷ []) (Err failure.kind, trail path')
+        (came z.course z.shown)
+        ∙ told_all heard (Err failure.kind, trail path')
 
     -- what is left after the turn
     after_turn : (turned : Turn D) (events : List Event) (bodies : List S) (run : Progress D) (path : Route) (c : Course D) (left : ℕ) → ShowsCourse c run path → left ≡ suc c.world.steps_left
@@ -119,53 +120,94 @@ module _ {D S : Type 0} (next : Meaning D S) where
     after_turn (turn.Ended value) events bodies run path c left shown size e = sym e ∙ told_all events (Ok value, trail path)
 
     -- the operation leads to a turn
-    pub turns : (events : List Event) (bodies : List S) (run run' : Progress D) (path path' : Route) (thread : ℕ) (answer : Reply D) (body after : S) (op : Op D S) (todo : Request D ⊤) (child : Option S) (event : Event) (turned : Turn D)
-        → IsHanded next bodies thread answer body after op → event ≡ event_of thread answer op path.position → todo ≡ plain op → child ≡ started op
-        → ((c : Course D) → ShowsCourse c run path → Comes (submit todo c) path (Ok turned) run' path')
+    turns : (events : List Event) (bodies : List S) (run run' : Progress D) (path path' : Route) (thread : ℕ) (answer : Reply D) (body after : S) (op : Op D S) (turned : Turn D)
+        → IsHanded next bodies thread answer body after op
+        → ((c : Course D) → ShowsCourse c run path → Comes (submit (plain op) c) path (Ok turned) run' path')
         → run.state.steps_left ≡ run'.state.steps_left + 1 → path'.search ≡ path.search
         → IsUnderWay next whole events bodies run path thread answer
-        → (bodies' : List S) → bodies' ≡ with_child (slice_set bodies thread after) child
-        → ComesToTurn next whole (Ok turned) (events ++ event ∷ []) bodies' run' path'
-    turns events bodies run run' path path' thread answer body after op todo child event turned h is same_op same_child came z_steps same z bodies' more =
+        → (bodies' : List S) → bodies' ≡ with_child (slice_set bodies thread after) (started op)
+        → ComesToTurn next whole (Ok turned) (events ++ event_of thread answer op path.position ∷ []) bodies' run' path'
+    turns events bodies run run' path path' thread answer body after op turned h came steps same z bodies' more =
         let come = came z.course z.shown in
         let left = z.course.world.steps_left in
-        let told = events ++ event ∷ [] in
+        let heard = events ++ event_of thread answer op path.position ∷ [] in
         let counted : z.course.world.steps_left ≡ run.state.steps_left = ap (λ (w : World D). w.steps_left) z.shown.world.rest in
         let counts : come.0.world.steps_left ≡ run'.state.steps_left = ap (λ (w : World D). w.steps_left) come.1.world.rest in
-        let grown : bodies' ≡ with_child (slice_set bodies thread after) (started op) = more ∙ ap (with_child (slice_set bodies thread after)) same_child in
-        after_turn turned told bodies' run' path' come.0 left come.1 (omega arith)
-        (ap (λ (s : Settings). behind told (at_turn (story s next left bodies' come.0 (trail path')) (λ value. nothing_more (Ok value, trail path')) turned)) same
-        ∙ ap (λ (b : List S). behind told (at_turn (story path.search next left b come.0 (trail path')) (λ value. nothing_more (Ok value, trail path')) turned)) grown
-        ∙ ap (λ (d : Outcome (Turn D × Course D)). behind told (goes_on (story path.search next left (with_child (slice_set bodies thread after) (started op))) d))
-        (sym (ap (λ (o : Request D ⊤). drives (submit o z.course) path) (sym same_op) ∙ come.2))
-        ∙ rest_is events bodies run path thread answer body after op event h is z)
+        after_turn turned heard bodies' run' path' come.0 left come.1 (omega arith)
+        (ap (λ (s : Settings). behind heard (at_turn (story s next left bodies' come.0 (trail path')) (λ value. nothing_more (Ok value, trail path')) turned)) same
+        ∙ ap (λ (b : List S). behind heard (at_turn (story path.search next left b come.0 (trail path')) (λ value. nothing_more (Ok value, trail path')) turned)) more
+        ∙ ap (λ (d : Outcome (Turn D × Course D)). behind heard (goes_on (story path.search next left (with_child (slice_set bodies thread after) (started op))) d)) (sym come.2)
+        ∙ rest_is events bodies run path thread answer body after op h z)
 
     -- the operation leads to a turn or stops the run
-    pub comes : (events : List Event) (bodies : List S) (run run' : Progress D) (path path' : Route) (thread : ℕ) (answer : Reply D) (body after : S) (op : Op D S) (todo : Request D ⊤) (child : Option S) (event : Event) (result : Result (Turn D) Stop)
-        → IsHanded next bodies thread answer body after op → event ≡ event_of thread answer op path.position → todo ≡ plain op → child ≡ started op
-        → ((c : Course D) → ShowsCourse c run path → Comes (submit todo c) path result run' path')
+    comes : (events : List Event) (bodies : List S) (run run' : Progress D) (path path' : Route) (thread : ℕ) (answer : Reply D) (body after : S) (op : Op D S) (result : Result (Turn D) Stop)
+        → IsHanded next bodies thread answer body after op → Along (submit (plain op)) run path result run' path'
         → OnOk result (run.state.steps_left ≡ run'.state.steps_left + 1) → path'.search ≡ path.search
         → IsUnderWay next whole events bodies run path thread answer
-        → (bodies' : List S) → bodies' ≡ with_child (slice_set bodies thread after) child
-        → (events' : List Event) → events' ≡ events ++ event ∷ []
-        → ComesToTurn next whole result events' bodies' run' path'
-    comes events bodies run run' path path' thread answer body after op todo child event (Ok turned) h is same_op same_child came steps same z bodies' more events' told =
-        subst (λ (l : List Event). ComesToTurn next whole (Ok turned) l bodies' run' path') (sym told)
-        (turns events bodies run run' path path' thread answer body after op todo child event turned h is same_op same_child came steps same z bodies' more)
-    comes events bodies run run' path path' thread answer body after op todo child event (Err stop) h is same_op same_child came steps same z bodies' more events' told =
-        subst (λ (l : List Event). ComesToTurn next whole (Err stop) l bodies' run' path') (sym told)
-        (stops events bodies run run' path path' thread answer body after op todo event stop h is same_op came z bodies')
+        → (bodies' : List S) → OnOk result (bodies' ≡ with_child (slice_set bodies thread after) (started op))
+        → ComesToTurn next whole result (events ++ event_of thread answer op path.position ∷ []) bodies' run' path'
+    comes events bodies run run' path path' thread answer body after op (Ok turned) h came steps same z bodies' more =
+        turns events bodies run run' path path' thread answer body after op turned h came steps same z bodies' more
+    comes events bodies run run' path path' thread answer body after op (Err stop) h came steps same z bodies' more =
+        stops events bodies run run' path path' thread answer body after op stop h came z bodies'
+
+-- ---- what the listener hears
+
+-- what the story of a run comes to is what the tree of runs comes to along the path
+driven : {D S : Type 0} (s : Settings) (next : Meaning D S) (explores : Bool) (max_threads max_steps : ℕ) (body : S) (path : Route) → s ≡ path.search → (comes : Outcome D) (events : List Event)
+    → story_of s next explores max_threads max_steps body (trail path) ≡ record { events = events; comes = comes } → drives (runs next explores max_threads max_steps body) path ≡ comes
+driven {D} s next explores max_threads max_steps body path same comes events e =
+    ap (λ (s : Settings). drive s (marking s.bound) (runs next explores max_threads max_steps body) (trail path)) (sym same)
+    ∙ sym (story_law s next explores max_threads max_steps body (trail path))
+    ∙ ap (λ (story : Story D). story.comes) e
+
+module _ {L : Type 0} (takes_reply : L → Reply ⊤ → L → Type 0) (takes_op : L → ℕ → Op ⊤ ⊤ → ℕ → L → Type 0) where
+  -- some events, and then others
+  pub heard_more : (old mid new : L) (events more : List Event) → HasHeard takes_reply takes_op old events mid → HasHeard takes_reply takes_op mid more new
+      → HasHeard takes_reply takes_op old (events ++ more) new
+  heard_more old mid new [] more one other = subst (λ (l : L). HasHeard takes_reply takes_op l more new) one other
+  heard_more old mid new (event ∷ events) more one other = (one.0, one.1, heard_more one.0 mid new events more one.2 other)
+
+  module _ {D S : Type 0} (next : Meaning D S) (whole : Story D) (old new : L) where
+    -- the next turn of a run of which the listener has heard each event
+    abbrev pub HearsTurn : Result (Turn D) Stop → List S → Progress D → Route → Type 0
+    HearsTurn answer bodies run path = (events : List Event) × HasHeard takes_reply takes_op old events new × ComesToTurn next whole answer events bodies run path
+
+    -- an event more was heard, and led to a turn or stopped the run
+    pub hears_one : (mid : L) (events : List Event) (bodies : List S) (run run' : Progress D) (path path' : Route) (thread : ℕ) (answer : Reply D) (body after : S) (op : Op D S) (result : Result (Turn D) Stop)
+        → IsHanded next bodies thread answer body after op → HasHeardOne takes_reply takes_op mid (event_of thread answer op path.position) new
+        → Along (submit (plain op)) run path result run' path'
+        → OnOk result (run.state.steps_left ≡ run'.state.steps_left + 1) → path'.search ≡ path.search
+        → HasHeard takes_reply takes_op old events mid → IsUnderWay next whole events bodies run path thread answer
+        → (bodies' : List S) → OnOk result (bodies' ≡ with_child (slice_set bodies thread after) (started op))
+        → HearsTurn result bodies' run' path'
+    hears_one mid events bodies run run' path path' thread answer body after op result h heard came steps same so_far z bodies' more =
+        let event = event_of thread answer op path.position in (
+          events ++ event ∷ [],
+          heard_more old mid new events (event ∷ []) so_far (new, heard, refl),
+          comes next whole events bodies run run' path path' thread answer body after op result h came steps same z bodies' more,
+        )
 
     -- a run that was stopped ends so
-    ends_stopped : (events : List Event) (bodies : List S) (run : Progress D) (path : Route) (stop : Stop) (end : End) → IsEndOf stop end
-        → ComesToTurn next whole (Err stop) events bodies run path → EndsAs whole events end (trail path)
+    ends_stopped : (events : List Event) (bodies : List S) (run : Progress D) (path : Route) (stop : Stop) (ending : Ending D) → IsEndOf stop ending
+        → ComesToTurn next whole (Err stop) events bodies run path → EndsWith whole events ending path
     ends_stopped events bodies run path (Because failure) (Failed placed) is e =
         e ∙ ap (λ (kind : FailureKind). let z : Story D = record { events = events; comes = (Err kind, trail path) } in z) (sym is)
-    ends_stopped events bodies run path (Because failure) Ended is e = absurd is
-    ends_stopped events bodies run path Memory end is e = absurd is
+    ends_stopped events bodies run path (Because failure) (Ended value) is e = absurd is
+    ends_stopped events bodies run path Memory ending is e = absurd is
 
-    -- the same of an end that may be missing
-    pub stopped_so : {E : Type 0} (events : List Event) (bodies : List S) (run : Progress D) (path : Route) (stop : Stop) (end : Result End E) → IfOk end (IsEndOf stop)
-        → ComesToTurn next whole (Err stop) events bodies run path → IfOk end (λ end. EndsAs whole events end (trail path))
-    stopped_so events bodies run path stop (Ok end) is e = ends_stopped events bodies run path stop end is e
-    stopped_so events bodies run path stop (Err none) is e = tt
+    -- and so does one that may miss memory
+    pub stopped_so : {E : Type 0} (events : List Event) (bodies : List S) (run : Progress D) (path : Route) (stop : Stop) (ending : Result (Ending D) E) → IfOk ending (IsEndOf stop)
+        → HasHeard takes_reply takes_op old events new
+        → ComesToTurn next whole (Err stop) events bodies run path → IfOk ending (λ ending. IsHeardAs takes_reply takes_op whole old new ending path)
+    stopped_so events bodies run path stop (Ok ending) is heard e = (events, heard, ends_stopped events bodies run path stop ending is e)
+    stopped_so events bodies run path stop (Err none) is heard e = tt
+
+  -- the story of a body's run comes to what its tree of runs comes to
+  pub heard_along : {D S E : Type 0} (s : Settings) (next : Meaning D S) (explores : Bool) (max_threads max_steps : ℕ) (body : S) (path : Route) (old new : L) (ending : Result (Ending D) E) (after : Route)
+      → s ≡ path.search
+      → IfOk ending (λ ending. IsHeardAs takes_reply takes_op (story_of s next explores max_threads max_steps body (trail path)) old new ending after)
+      → IfOk ending (λ ending. RunsAlong (runs next explores max_threads max_steps body) path ending after)
+  heard_along s next explores max_threads max_steps body path old new (Ok (Ended value)) after same z = driven s next explores max_threads max_steps body path same (Ok value, trail after) z.0 z.2
+  heard_along s next explores max_threads max_steps body path old new (Ok (Failed failure)) after same z = driven s next explores max_threads max_steps body path same (Err failure.kind, trail after) z.0 z.2
+  heard_along s next explores max_threads max_steps body path old new (Err none) after same z = tt

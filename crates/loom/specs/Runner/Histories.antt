@@ -11,9 +11,10 @@ use Rattle.loom_engine.specs.declared.rt.execution.Limits.{Limits}
 use Rattle.loom_engine.specs.declared.rt.execution.Progress.{Progress}
 use Rattle.loom_engine.specs.Execution.{ExecutionState, ShowsCourse, Along, Submits, over_after}
 use Rattle.loom.specs.declared.runner.stop.Stop.{Stop}
+use Rattle.loom.specs.declared.runner.stop.Stop.TheVariants as stop
 use Rattle.loom.specs.declared.runner.history.event.Event.{Event}
 use Rattle.loom_objects.specs.declared.failure.Failure.{Failure}
-pub use Rattle.loom.specs.Runner.Events.{answered, end_after, ended, ended_by, end_in, entry, failed_by, failing, last_event, made, outcome_by, part, Share, share}
+pub use Rattle.loom.specs.Runner.Events.{answered, end_after, ended, ended_by, end_in, entry, failed_by, failing, last_event, made, or_else, outcome_by, part, Share, share}
 
 -- ---- events
 
@@ -73,6 +74,10 @@ module _ {D : Type 0} where
   pub record Kept (limits : Limits) (began : Route) (history : List (Event D)) (spoiled : Option Stop) (now : Moment D) : Type 0 where
     pub leads : spoiled ≡ None → IsHistory limits began history now
     pub over : spoiled ≡ None → now.state.over ≡ option_map halt.Failure (end_in history)
+
+  -- why the run goes no further: it is spoiled, or over
+  abbrev pub why_stopped : Log D → Option Stop
+  why_stopped log = or_else log.spoiled (option_map stop.Failure (end_in log.history))
 
   -- the event of this operation, by the thread whose turn it is, leads from one moment to the other
   pub record Goes (m : Moment D) (op : Request D ⊤) (e : Event D) (n : Moment D) : Type 0 where

@@ -1,21 +1,22 @@
-//! One run of a body along a path: the body's threads are resumed by turns, and what they hand over is submitted, until the run ends
-//! or fails. Its contract is the run of the body's tree of `loom_engine`. Each run of a check, and each replay, is made by it.
-ghost use Rattle.std.specs.Prelude.{◌≡◌, ◌≢◌, ◌≤◌, ◌+◌, false, None, Err, OnOk, OnErr, IfOk};
-ghost use Rattle.loom_engine.specs.Execution.{Along, over_after};
+//! One run of a body along a path, which a listener hears: the threads' bodies are resumed by turns, and what they hand over is
+//! submitted, until the run ends or fails. Its contract is the run of the body's tree of `loom_engine`, and its events are those of
+//! the body's story. Each run of a check, each replay and each explanation is made by it.
+ghost use Rattle.std.specs.Prelude.{◌≡◌, ◌≢◌, ◌≤◌, ◌+◌, [], None, Err, OnOk, OnErr, IfOk};
 ghost use Rattle.loom_objects.specs.Operation.Plain.{plain, started};
-ghost use Rattle.loom_objects.specs.Tree.Tree.{Tree};
-ghost use Rattle.loom_engine.specs.Path.Route.{IsAtStart, IsSameSearch, Route, drives};
-ghost use Rattle.loom_engine.specs.Runs.Machine as machine;
+ghost use Rattle.loom_engine.specs.Execution.{Along, over_after};
+ghost use Rattle.loom_engine.specs.Runs.Machine.{submit as submitted};
+ghost use Rattle.loom_engine.specs.Path.Route.{IsAtStart, IsSameSearch, trail};
 ghost use Rattle.loom_engine.specs.Runs.Body.{runs as runs_of, with_child};
-ghost use Rattle.loom.specs.Model.Run.{RunsAlong, IsLocated, IsUnderWay, MayBeRefusedBy};
+ghost use Rattle.loom.specs.Explain.Story.{Story, story_of};
+ghost use Rattle.loom.specs.Model.Run.{RunsAlong, IsEndOf, IsLocated, MayBeRefusedBy};
+ghost use Rattle.loom.specs.Model.Turns.{IsHeardAs, IsUnderWay};
 
-use crate::model::places::Places;
+use crate::model::listener::Listener;
 use loom_engine::rt::execution::{Execution, Limits};
 use loom_engine::rt::path::Path;
 use loom_objects::body::Body;
-use loom_objects::data::Data;
-use loom_objects::failure::{Failure, Stop};
-use loom_objects::operation::{Op, Reply, Request, Turn};
+use loom_objects::failure::{Failure, Stop, failed};
+use loom_objects::operation::{Op, Reply, Turn};
 use loom_views::rt::failure::FailureKind;
 use std::alloc::{AllocError, Global};
 
@@ -52,72 +53,87 @@ impl<B: Body> Room<B> {
     pub fn leave(self) {}
 }
 
-/// One run of the body along the path, from its start. An error only where a growth was refused, in the run or the body. Where
-/// places are kept, a failure has that of its operation.
-pub fn run<B: Body, P: Places>(
+/// One run of the body along the path, from its start, which the listener hears. An error only where a growth was refused, in the
+/// run, the body or the listener. A failure has the place of its operation, if the listener knows it.
+pub fn run<B: Body, L: Listener>(
     room: &mut Room<B>,
     limits: Limits,
     body: &B,
     path: &mut Path,
-    places: &mut P,
+    listener: &mut L,
 ) -> Result<Ending<B::Data>, AllocError>
     requires some { 1 ≤ limits.max_threads }
     requires few { limits.max_threads ≤ 5 }
     requires starts { IsAtStart path.old.explores path.old }
     ensures along { IfOk result (λ ending. RunsAlong (runs_of B.next path.old.explores limits.max_threads limits.max_steps body.now) path.old ending path.new) }
-    ensures located { IfOk result (IsLocated P.keeps) }
+    ensures heard { IfOk result (λ ending. IsHeardAs L.takes_reply L.takes_op (story_of path.old.search B.next path.old.explores limits.max_threads limits.max_steps body.now (trail path.old)) listener.old listener.new ending path.new) }
+    ensures located { IfOk result (IsLocated L.knows_locations) }
     ensures same { IsSameSearch path.old path.new }
 {
     room.bodies.clear();
     room.bodies.push(body.try_clone()?)?;
     room.execution.restart(limits)?;
-    take_turns(&mut room.execution, &mut room.bodies, path, places)
+    take_turns(&mut room.execution, &mut room.bodies, path, listener)
 }
 
 /// From its start the run goes on by turns, until it ends or fails. An error only where a growth was refused.
-fn take_turns<B: Body, P: Places>(
+fn take_turns<B: Body, L: Listener>(
     execution: &mut Execution<B::Data>,
     bodies: &mut Vec<B>,
     path: &mut Path,
-    places: &mut P,
+    listener: &mut L,
 ) -> Result<Ending<B::Data>, AllocError>
     requires { execution.old.over ≡ None }
-    ensures along { (tree : Tree B.Data) → (start : Route) → IsUnderWay B.next (drives tree start) bodies.old.items execution.old.run path.old 0 Reply.Start
-        → IfOk result (λ ending. RunsAlong tree start ending path.new) }
-    ensures located { IfOk result (IsLocated P.keeps) }
+    ensures heard { (whole : Story B.Data) → IsUnderWay B.next whole [] bodies.old.items execution.old.run path.old 0 Reply.Start
+        → IfOk result (λ ending. IsHeardAs L.takes_reply L.takes_op whole listener.old listener.new ending path.new) }
+    ensures located { IfOk result (IsLocated L.knows_locations) }
     ensures same { IsSameSearch path.old path.new }
 {
-    let mut thread = 0usize;
+    let mut thread = 0u8;
     let mut reply = Reply::Start;
     'turns: loop {
-        if thread >= bodies.len() {
+        let place = thread as usize;
+        if place >= bodies.len() {
             reply.let_go();
-            let failure = Failure {
-                kind: FailureKind::Misuse,
-                location: None,
-            };
-            return Ok(Ending::Failed(located(execution, places, failure)));
+            return stopped(failed(FailureKind::Misuse), listener, execution.active());
         }
-        let body = &mut bodies[thread];
+        if let Err(refusal) = listener.hear_reply(&reply) {
+            reply.let_go();
+            return Err(refusal);
+        }
+        let body = &mut bodies[place];
         let op = body.resume(reply)?;
-        places.hand_over(thread, op.label);
+        if let Err(refusal) = listener.hear_op(thread, &op, path.position()) {
+            let_go(op);
+            return Err(refusal);
+        }
         match submit(execution, bodies, path, op) {
-            Err(stop) => match stop {
-                Stop::Memory => return Err(AllocError),
-                Stop::Failure(failure) => {
-                    return Ok(Ending::Failed(located(execution, places, failure)));
-                }
-            },
+            Err(stop) => return stopped(stop, listener, execution.active()),
             Ok(Turn::Ended(value)) => return Ok(Ending::Ended(value)),
             Ok(Turn::Reply(next, told)) => {
-                thread = next as usize;
+                thread = next;
                 reply = told;
             }
             Ok(Turn::Start(next)) => {
-                thread = next as usize;
+                thread = next;
                 reply = Reply::Start;
             }
         }
+    }
+}
+
+/// Lets an operation go that a body has handed over.
+fn let_go<D: Drop, B: Drop>(_op: Op<D, B>) {}
+
+/// How a run ends that is stopped so while this thread is active: a failure has the place of the thread's last operation, if the
+/// listener knows it. An error where memory was refused.
+fn stopped<D, L: Listener>(stop: Stop, listener: &L, active: u8) -> Result<Ending<D>, AllocError>
+    ensures ends { IfOk result (IsEndOf stop) }
+    ensures located { IfOk result (IsLocated L.knows_locations) }
+{
+    match stop {
+        Stop::Memory => Err(AllocError),
+        Stop::Failure(failure) => Ok(Ending::Failed(failure.at(listener.location(active)))),
     }
 }
 
@@ -132,7 +148,7 @@ fn submit<B: Body>(
     op: Op<B::Data, B>,
 ) -> Result<Turn<B::Data>, Stop>
     requires { execution.old.over ≡ None }
-    ensures event { Along (machine.submit (plain op)) execution.old.run path.old result execution.new.run path.new }
+    ensures event { Along (submitted (plain op)) execution.old.run path.old result execution.new.run path.new }
     ensures child { OnOk result (bodies.new.items ≡ with_child bodies.old.items (started op)) }
     ensures over { OnOk result (execution.new.over ≡ over_after result) }
     ensures steps { OnOk result (execution.old.run.state.steps_left ≡ execution.new.run.state.steps_left + 1) }
@@ -147,15 +163,6 @@ fn submit<B: Body>(
             Err(Stop::Memory)
         }
     }
-}
-
-/// The failure, at the last operation of the thread whose turn it is.
-fn located<D: Data, P: Places>(execution: &Execution<D>, places: &P, failure: Failure) -> Failure
-    ensures kind { result.kind ≡ failure.kind }
-    ensures place { P.keeps ≡ false → result.location ≡ None }
-{
-    let place = places.place(execution.active() as usize);
-    failure.at(place)
 }
 
 /// What a spawn started is a body more.

@@ -15,7 +15,7 @@ use crate::model::builder::Builder;
 use crate::model::clock::Clock;
 use crate::model::error::CheckError;
 use crate::model::limits::{log_runs, most_runs};
-use crate::model::places::{LastPlaces, NoPlaces};
+use crate::model::listener::{LastLocations, NoListener};
 use crate::model::progress::log_switches;
 use crate::model::receiver::Receiver;
 use crate::model::report::Report;
@@ -94,9 +94,9 @@ impl Builder {
     {
         let limits = self.limits();
         if self.location {
-            run(room, limits, body, path, &mut LastPlaces::new())
+            run(room, limits, body, path, &mut LastLocations::new())
         } else {
-            run(room, limits, body, path, &mut NoPlaces)
+            run(room, limits, body, path, &mut NoListener)
         }
     }
 

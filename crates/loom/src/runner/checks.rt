@@ -1,12 +1,13 @@
 //! The check of a closure: one run after another, up to a report.
 ghost use Rattle.std.specs.Prelude.{◌≡◌, ◌≤◌, Err, IfOk, IfErr, IfSome};
 ghost use Rattle.std.specs.Fn.{CalledAtMut};
-ghost use Rattle.loom.specs.Model.Settings.{most_runs, tested};
+ghost use Rattle.loom.specs.Model.Settings.{tested};
 ghost use Rattle.loom.specs.declared.runner.error.RunnerError.TheVariants.{Settings};
 ghost use Rattle.loom.specs.Runner.Check.{Reports, fresh_path};
 
 use crate::model::Limit;
 use crate::model::builder::Builder;
+use crate::model::limits::most_runs;
 use crate::model::paths::path_search;
 use crate::model::report::Report;
 use crate::model::visitor::Visitor;
@@ -75,7 +76,7 @@ fn make_runs<
         max_threads: builder.max_threads,
         max_steps: builder.max_steps,
     };
-    let most = most_runs(builder);
+    let most = most_runs(builder.max_permutations);
     for runs in 0..most {
         let end = make_run(rt, alloc, limits, path, closure, visitor)?;
         match end {
@@ -110,14 +111,4 @@ fn fresh_path(alloc: Global, builder: &Builder) -> Path
         builder.expect_explicit_explore,
     );
     Path::new(alloc, search)
-}
-
-/// How many runs a check makes at most.
-fn most_runs(builder: &Builder) -> u64
-    ensures { result ≡ most_runs builder.now }
-{
-    match builder.max_permutations {
-        Some(most) => most as u64,
-        None => u64::MAX,
-    }
 }

@@ -2,7 +2,7 @@
 ghost use Rattle.std.specs.Prelude.{◌≡◌, ◌++◌, ◌∷◌, [], IfOk, IfErr, OnOk, MatchOption, Some, Ok, Err, true, false, slice_get};
 ghost use Rattle.loom_objects.specs.declared.operation.Reply.TheVariants as reply;
 ghost use Rattle.loom.specs.Runner.Histories.{entry};
-ghost use Rattle.loom.specs.Runner.Handle.{newcomer, with_open, failing, finishing, handed, spawning, ByStop, Closes, all_answered, is_memory, Leading};
+ghost use Rattle.loom.specs.Runner.Handle.{newcomer, with_open, failing, finishing, handed, is_reserved, spawning, ByStop, Closes, all_answered, is_memory, Leading};
 
 mod arcs;
 pub mod ask;
@@ -58,6 +58,7 @@ impl<D: Exact + 'static, R: Wait> Handle<D, R> {
     /// Hands over an operation, and waits for its reply. A spawn, and an operation of a thread's end, fails the run as an
     /// assertion: for these there are `spawn` and the closure's own end. After a stop each call answers it again (own).
     pub fn call(&mut self, request: Request<D, ()>) -> Result<Reply<D>, Stop>
+        ensures own { OnOk result (is_reserved request ≡ false) }
         ensures live { OnOk result (all_answered self.old.told ≡ true) }
         ensures thread { self.new.thread ≡ self.old.thread }
         ensures answered { IfOk result (λ reply. self.new.told ≡ self.old.told ++ entry request (Some reply) ∷ []) }
@@ -180,10 +181,18 @@ impl<D: Exact + 'static, R: Threads + Wait + Clone + Send + 'static> Handle<D, R
 
     /// Ends the thread by its closure's answer: hands over its result, `exit` and `end`, or for a stop `fail`, unless a call was
     /// answered by a stop already. Then joins the threads that it started. Answers all their told lists, its own first
-    /// (own). `Memory` where a call was refused memory, `Refused` where a thread was refused.
+    /// (own). `Memory` where a call was refused memory, or the closure's answer is that: then the run is given up, and nothing is
+    /// handed over. `Refused` where a thread was refused.
     pub fn close(mut self, answer: Result<D, Stop>) -> Result<Vec<Told<D>>, RunnerError>
         ensures told { IfOk result (λ all. Leading self.thread all.items (Closes self.told answer)) }
+        ensures starved { self.starved ≡ true → result ≡ Err RunnerError.Memory }
+        ensures memory { answer ≡ Err Stop.Memory → result ≡ Err RunnerError.Memory }
     {
+        if is_starved(self.stop, &answer) {
+            let_answer_go(answer);
+            self.give_up(Stop::Memory);
+            return self.leave();
+        }
         match last_of(answer) {
             Some(last) => self.finish(last),
             None => {
@@ -239,6 +248,23 @@ impl<D: Exact + 'static, R: Threads + Wait + Clone + Send + 'static> Handle<D, R
         }
     }
 }
+
+/// Whether a call of the handle was refused memory, or its closure says so.
+fn is_starved<D>(stop: Option<Stop>, answer: &Result<D, Stop>) -> bool
+    ensures kept { is_memory stop ≡ true → result ≡ true }
+    ensures said { answer.now ≡ Err Stop.Memory → result ≡ true }
+{
+    match stop {
+        Some(Stop::Memory) => true,
+        Some(Stop::Failure(_)) | Some(Stop::Refused) | None => match answer {
+            Err(Stop::Memory) => true,
+            Err(Stop::Failure(_)) | Err(Stop::Refused) | Ok(_) => false,
+        },
+    }
+}
+
+/// Lets a closure's answer go.
+fn let_answer_go<D: Drop>(_answer: Result<D, Stop>) {}
 
 /// Lets go of what the threads of a run share. It stands alone, since that is done in many steps.
 fn let_go_of<D: Drop>(_shared: Arc<Shared<D>, Global>) {}

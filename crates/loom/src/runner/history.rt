@@ -3,8 +3,8 @@ pub mod adding;
 pub mod entry;
 pub mod event;
 mod last;
-pub mod machine;
 pub mod shares;
+pub mod submit;
 pub mod told;
 
 ghost use Rattle.std.specs.Prelude.{◌≡◌, ◌+◌, ◌<◌, ◌==◌, ◌-◌, ◌^◌, ℕ, [], if◌then◌else◌, IfOk, IfNone, OnOk, OnSome, length, vec_len, vec_capacity, slice_index};
@@ -14,7 +14,7 @@ use crate::runner::copies::requests::copy_request;
 use crate::runner::exact::Exact;
 use crate::runner::history::adding::take_turn;
 use crate::runner::history::event::Event;
-use crate::runner::history::machine::Machine;
+use crate::runner::history::submit::Submit;
 use crate::runner::stop::Stop;
 use loom_objects::failure::Failure;
 use loom_objects::operation::{Reply, Request, Turn};
@@ -79,7 +79,7 @@ impl<D> History<D> {
 impl<D: Exact> History<D> {
     /// Hands an operation of the thread whose turn it is over to the machine: one event more, or it is said why there is none
     /// (own).
-    pub fn add<M: Machine<D>>(&mut self, machine: &mut M, op: Request<D, ()>) -> Option<Stop>
+    pub fn add<M: Submit<D>>(&mut self, machine: &mut M, op: Request<D, ()>) -> Option<Stop>
         requires { M.goes_on machine.old }
         ensures added { IfNone result (IsAdded M.turn M.happens machine.old op machine.new self.old self.new) }
         ensures stopped { OnSome result (self.new ≡ self.old) }

@@ -1,7 +1,7 @@
 //! The state of a run that its threads share.
-ghost use Rattle.std.specs.Prelude.{◌≡◌, ◌↔◌, ◌≤◌, [], IfOk, IfSome, IsTrue, MatchOption, None};
+ghost use Rattle.std.specs.Prelude.{◌≡◌, ◌↔◌, ◌≤◌, [], IfOk, IfSome, IsTrue, MatchOption, None, Some};
 ghost use Rattle.loom_engine.specs.Path.Route.{IsAtStart, chosen};
-ghost use Rattle.loom.specs.Runner.Histories.{Adds, Settles, IsHistory, last_event, end_in, ended_by, failed_by};
+ghost use Rattle.loom.specs.Runner.Histories.{Adds, IsHistory, Settles, last_event, end_in, ended_by, failed_by, or_else, why_stopped};
 
 pub mod laws;
 mod moment;
@@ -94,6 +94,7 @@ impl<D: Exact> Turns<D> {
     /// The run is spoiled, unless it is already (own).
     pub fn give_up(&mut self, stop: Stop)
         ensures history { self.new.history ≡ self.old.history }
+        ensures spoiled { self.new.spoiled ≡ or_else self.old.spoiled (Some stop) }
     {
         if self.spoiled.is_none() {
             self.spoiled = Some(stop);
@@ -101,8 +102,13 @@ impl<D: Exact> Turns<D> {
     }
 
     /// Why the run goes no further, if it doesn't (own).
-    pub fn stopped(&self) -> Option<Stop> {
-        self.spoiled.or(self.history.end().map(Stop::Failure))
+    pub fn stopped(&self) -> Option<Stop>
+        ensures { result ≡ why_stopped self.now }
+    {
+        match self.spoiled {
+            Some(stop) => Some(stop),
+            None => self.history.end().map(Stop::Failure),
+        }
     }
 
     /// Whether the thread has nothing to wait for: its turn has come, or the run goes no further (own).

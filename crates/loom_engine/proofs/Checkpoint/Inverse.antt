@@ -9,7 +9,7 @@ use Rattle.serde_json.specs.Find.{as_bool, as_object}
 use Rattle.serde_json.specs.View.{items_of}
 use Rattle.loom_engine.specs.declared.rt.path.node.Status.{Status}
 use Rattle.loom_engine.specs.declared.rt.path.node.Status.TheVariants.{Disabled, Skip, Yield, Pending, Active, Visited}
-use Rattle.loom_objects.specs.Tree.Question.{slots_from}
+use Rattle.loom_objects.specs.Tree.Stores.{slots_from}
 use Rattle.loom_engine.specs.Checkpoint.Grammar.{whole, whole_or_null, list_data, status_data, status_text}
 use Rattle.loom_engine.specs.Checkpoint.Reader.{each, list_of, as_whole, as_list, as_whole_or_null, ends, expected, taken, status_named, status_of, statuses_of, is_number, begins_with, rest_of, marks_of}
 use Rattle.loom_engine.proofs.Checkpoint.Lists.{list_of-items_of, items_of-list_of}

@@ -9,7 +9,7 @@ use Rattle.serde_json.specs.View.{items_of}
 use Rattle.loom_engine.specs.declared.rt.path.node.Status.{Status}
 use Rattle.loom_engine.specs.declared.rt.path.node.Node.{Node}
 use Rattle.loom_engine.specs.declared.rt.path.node.Node.TheVariants.{Schedule, Load, Spurious}
-use Rattle.loom_objects.specs.Tree.Question.{slots_from, slots}
+use Rattle.loom_objects.specs.Tree.Stores.{slots_from, slots}
 use Rattle.loom_engine.specs.Path.WellFormed.{is_at, is_tried, is_well_formed_schedule, is_well_formed_load, is_well_formed_spurious, is_well_formed_from, IsWellFormed, bare, unnoted}
 use Rattle.loom_engine.specs.Checkpoint.Grammar.{whole, list_data, status_data, schedule_data, load_data, spurious_data, node_data}
 use Rattle.loom_engine.specs.Checkpoint.Reader.{as_whole, as_list, ends, taken, statuses_of, marks_of, or_else, list_of, new_schedule, new_load, new_spurious, schedule_of, load_of, spurious_of, node_of}

@@ -5,7 +5,7 @@ use Rattle.serde_json.specs.View.{items_of}
 use Rattle.serde_json.specs.Written.{has_float, items_have_float}
 use Rattle.loom_engine.specs.declared.rt.path.node.Node.{Node}
 use Rattle.loom_engine.specs.declared.rt.path.node.Node.TheVariants.{Schedule, Load, Spurious}
-use Rattle.loom_objects.specs.Tree.Question.{slots}
+use Rattle.loom_objects.specs.Tree.Stores.{slots}
 use Rattle.loom_engine.specs.Trees.Meeting.{Settings}
 use Rattle.loom_engine.specs.Checkpoint.Grammar.{whole, whole_or_null, status_data, schedule_data, load_data, spurious_data, node_data, shape_data, path_data}
 

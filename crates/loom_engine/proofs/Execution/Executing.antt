@@ -15,12 +15,13 @@ use Rattle.loom_objects.specs.declared.operation.Turn.{Turn}
 use Rattle.loom_objects.specs.declared.rt.run.Passed.{Passed}
 use Rattle.loom_objects.specs.declared.rt.run.Passed.TheVariants as passed
 use Rattle.loom_objects.specs.declared.rt.schedule.Offers.{Offers}
-use Rattle.loom_objects.specs.Tree.Asked.{which_store, which_thread, whether_spurious}
+use Rattle.loom_objects.specs.Tree.Asked.{which_thread, whether_spurious}
+use Rattle.loom_objects.specs.Tree.Stores.{which_store, asked_store, slots}
 use Rattle.loom_objects.specs.Exploring.{is_on, switched}
 use Rattle.loom_objects.specs.declared.operation.ExploreOp.{ExploreOp}
 use Rattle.loom_objects.specs.declared.operation.Reply.TheVariants as reply
 use Rattle.loom_objects.specs.declared.rt.exploring.Exploring.{Exploring}
-use Rattle.loom_objects.specs.Tree.Question.{Question, asked_store, made_of, slots}
+use Rattle.loom_objects.specs.Tree.Question.{Question, made_of}
 use Rattle.loom_objects.specs.Scene.Stage.{KeepsAt, world_of}
 use Rattle.loom_objects.specs.Schedule.Offers.{offers}
 use Rattle.loom_objects.specs.Tree.Tree.{Tree, Gives, Fails, Closes, Asks, ◌>>=◌, came, check}
@@ -39,7 +40,7 @@ use Rattle.loom_objects.specs.Dependence.Order.{Order, grown, unordered}
 use Rattle.loom_objects.specs.declared.rt.dependence.Dependence.{Dependence}
 use Rattle.loom_objects.specs.Rules.Tables.{counted, needs_memory}
 use Rattle.loom_objects.specs.declared.rt.run.RunState.{RunState}
-use Rattle.loom_engine.proofs.Runs.Growing.{made_needs_memory}
+use Rattle.loom_engine.proofs.Runs.Growth.{made_needs_memory}
 use Rattle.loom_objects.specs.Dependence.Shown.{ShowsOrder}
 use Rattle.loom_objects.specs.Rules.Uses.{use_at, uses}
 use Rattle.loom_engine.specs.declared.rt.execution.Progress.{Progress}

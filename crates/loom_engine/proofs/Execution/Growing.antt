@@ -31,7 +31,8 @@ use Rattle.loom_engine.specs.Trees.Marks.{marking}
 use Rattle.loom_engine.specs.Trees.Meeting.{Settings, Marking, every_at}
 use Rattle.loom_engine.specs.Walk.UnderWay.{mark_with}
 use Rattle.loom_engine.proofs.Trees.Binding.{onward, drive_bind, drive_then}
-use Rattle.loom_objects.specs.Tree.Asked.{which_thread, which_store, whether_spurious}
+use Rattle.loom_objects.specs.Tree.Asked.{which_thread, whether_spurious}
+use Rattle.loom_objects.specs.Tree.Stores.{which_store}
 use Rattle.loom_objects.specs.Exploring.{is_on}
 use Rattle.loom_engine.specs.Runs.Machine.{passes, chooses, further, further_branches, goes_on, is_asked, schedule, submit, waits}
 use Rattle.loom_engine.specs.Runs.Course.{Course, carried, unordered_in, used_in}

@@ -2,7 +2,8 @@
 use Rattle.std.proofs.Common.{◌≡◌, ◌≤◌, ◌<◌, ◌+◌, ℕ, zero, suc, Bool, false, List, [], ◌∷◌, ◌++◌, length, map, take, get_or, slice_set, Option, Some, None, ◌⊎◌, inl, inr, refl, ap, sym, ◌∙◌, subst, arith}
 use Rattle.std.specs.Prelude.{slice_get, IsSomeAnd}
 use Rattle.loom_objects.specs.declared.choice.Choice.{Choice}
-use Rattle.loom_objects.specs.Tree.Question.{Made, made_of, asked_store}
+use Rattle.loom_objects.specs.Tree.Question.{Made, made_of}
+use Rattle.loom_objects.specs.Tree.Stores.{asked_store}
 use Rattle.loom_engine.specs.Walk.Machine.{is_thread}
 use Rattle.loom_engine.specs.Walk.Path.{Stored}
 use Rattle.loom_engine.specs.Trees.Drive.{pass_of}

@@ -7,7 +7,8 @@ use borrow.Author.Tests.{ltb-true}
 use Rattle.loom_objects.specs.declared.choice.Choice.{Choice}
 use Rattle.loom_objects.specs.declared.choice.Choice.TheVariants.{Thread, Load, Spurious}
 use Rattle.loom_objects.specs.declared.rt.schedule.Ability.TheVariants.{Able}
-use Rattle.loom_objects.specs.Tree.Question.{Made, Among, able_threads, slots_from, slots, asked_store, made_of}
+use Rattle.loom_objects.specs.Tree.Question.{Made, Among, able_threads, made_of}
+use Rattle.loom_objects.specs.Tree.Stores.{slots_from, slots, asked_store}
 use Rattle.loom_engine.specs.Walk.Machine.{is_thread}
 use Rattle.loom_engine.specs.Walk.Choices.{same, among, pick}
 use Rattle.loom_engine.specs.Walk.Path.{Status as State, Closed, Skip as Skipped, Pending as ToTry, Active as Chosen, Visited as Tried, IsAtRest}

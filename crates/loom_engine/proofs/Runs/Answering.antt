@@ -27,25 +27,22 @@ use Rattle.loom_objects.specs.declared.rt.thread.AfterWake.TheVariants as woken
 use Rattle.loom_objects.specs.declared.rt.thread.Locking.{Locking}
 use Rattle.loom_objects.specs.declared.rt.thread.Taking.{Taking}
 use Rattle.loom_objects.specs.declared.rt.thread.Taking.TheVariants as taking
-use Rattle.loom_objects.specs.declared.rt.thread.Task.{Task}
 use Rattle.loom_objects.specs.declared.rt.thread.Task.TheVariants as task
-use Rattle.loom_objects.specs.Rules.Atomic.{accesses, opens, some_slot, store}
+use Rattle.loom_objects.specs.Rules.Atomic.{accesses, opens, some_slot}
 use Rattle.loom_objects.specs.Rules.Mpsc.{by_receiver, drains, drains_from, drains_on, fits_behind, takes}
 use Rattle.loom_objects.specs.Rules.Condvar.{falls_asleep, with_waiters}
 use Rattle.loom_objects.specs.Rules.Arc.{is_free, tries_unwrap, unwraps_if}
-use Rattle.loom_objects.specs.Rules.Tables.{chosen, takes_effect}
 use Rattle.loom_objects.specs.Rules.Ending.{end_of}
 use Rattle.loom_objects.specs.Rules.Leaks.{check_leak, first_leak, is_none_left}
 use Rattle.loom_objects.specs.Rules.Mutex.{frees}
-use Rattle.loom_objects.specs.Rules.Moves.{a_condvar, an_atomic_waker, acquires, an_arc, an_atomic, raises, takes_result, yields}
+use Rattle.loom_objects.specs.Rules.Moves.{a_condvar, a_wakers, an_atomic_waker, acquires, an_arc, an_atomic, raises, takes_result, yields}
 use Rattle.loom_objects.specs.Rules.Notify.{notify}
-use Rattle.loom_objects.specs.Schedule.Offers.{chooses as chooses_thread}
 use Rattle.loom_objects.specs.Rules.Replied.{gone, replied}
 use Rattle.loom_objects.specs.Rules.Waker.{after_clone, after_drop, after_wake, clones_waker, drops_waker, has_taken, registers, registers_if, some_wakers, takes_place, takes_waker, waker_reply, wakes_by}
 use Rattle.loom_objects.specs.World.{World, MAX_THREADS}
 use Rattle.loom_objects.specs.Rules.Rule.{◌>>=◌, check}
 use Rattle.loom_engine.specs.Runs.Histories.{locked_by}
-use Rattle.loom_engine.proofs.Runs.Events.{Anything, GoesOn, IsOver}
+use Rattle.loom_engine.proofs.Runs.Events.{Anything, IsOver}
 
 -- it goes on: the active thread is told something, which is no data of a mutex
 abbrev pub GoesQuietly : {D : Type 0} → Passed D × World D → Type 0
@@ -75,54 +72,60 @@ waker_reply_quiet D None = refl
 waker_reply_quiet D (Some c) = refl
 
 module _ {D : Type 0} where
-  -- what was pending goes on, or an access asks for one of seven slots
-  abbrev pub ResumesOn : Resumed D × World D → Type 0
-  ResumesOn (resumed.Passed passed, w) = GoesOn (passed, w)
-  ResumesOn (resumed.Load load, w) = length load.readable ≡ 7
+  abbrev pub PassesActive : Passed D × World D → Type 0
+  PassesActive (passed.Turn (turn.Reply t reply), w) = t ≡ w.active
+  PassesActive (passed.Turn (turn.Start t), w) = t ≡ w.active
+  PassesActive (passed.Turn (turn.Ended value), w) = ⊥
+  PassesActive (passed.AtBranch, w) = Unit {0}
 
-  replied_goes : (r : Result (Reply D × World D) FailureKind) → Answers ResumesOn (r >>= replied)
-  replied_goes r = answers_then ResumesOn r replied (λ answered. tt)
+  -- the active thread has its turn, if one has, or an access asks for one of seven slots
+  abbrev pub TellsActive : Resumed D × World D → Type 0
+  TellsActive (resumed.Passed passed, w) = PassesActive (passed, w)
+  TellsActive (resumed.Load load, w) = length load.readable ≡ 7
 
-  gone_goes : (r : Result (Passed D × World D) FailureKind) → Answers GoesOn r → Answers ResumesOn (r >>= gone)
-  gone_goes (Ok answered) h = h
-  gone_goes (Err kind) h = tt
+  pub told : (r : Result (Reply D × World D) FailureKind) → Answers TellsActive (r >>= replied)
+  told (Ok (reply, w)) = refl
+  told (Err kind) = tt
 
-  quietly_gone : (r : Result (Passed D × World D) FailureKind) → Answers GoesQuietly r → Answers ResumesOn (r >>= gone)
-  quietly_gone (Ok (passed.Turn (turn.Reply t reply), w)) h = tt
-  quietly_gone (Ok (passed.Turn (turn.Start t), w)) h = absurd h
-  quietly_gone (Ok (passed.Turn (turn.Ended value), w)) h = absurd h
-  quietly_gone (Ok (passed.AtBranch, w)) h = tt
-  quietly_gone (Err kind) h = tt
+  pub by_passing : (r : Result (Passed D × World D) FailureKind) → Answers PassesActive r → Answers TellsActive (r >>= gone)
+  by_passing (Ok (passed, w)) h = h
+  by_passing (Err kind) h = tt
 
-  opens_goes : (n : ℕ) (reader : Reader) (access : AtomicOp) (w : World D) → Answers ResumesOn (opens n reader access w)
-  opens_goes n reader access w =
-      answers_then ResumesOn (raises w) _ (λ v. answers_then ResumesOn (an_atomic n v) _ (λ atomic. answers_then ResumesOn (readable_slots_of v.points v.active n reader) _ (λ readable.
-      answers_then ResumesOn (check (some_slot (slot_set readable)) Misuse) _ (λ u. refl))))
+  pub by_quiet : (r : Result (Passed D × World D) FailureKind) → Answers GoesQuietly r → Answers TellsActive (r >>= gone)
+  by_quiet (Ok (passed.Turn (turn.Reply t reply), w)) h = h.0
+  by_quiet (Ok (passed.Turn (turn.Start t), w)) h = absurd h
+  by_quiet (Ok (passed.Turn (turn.Ended value), w)) h = absurd h
+  by_quiet (Ok (passed.AtBranch, w)) h = tt
+  by_quiet (Err kind) h = tt
 
-  accesses_goes : (access : AtomicOp) (w : World D) → Answers ResumesOn (accesses access w)
-  accesses_goes (atomic_op.Store n value order) w = replied_goes (store n value order w)
-  accesses_goes (atomic_op.Load n order) w = opens_goes n (reader.Load order) (atomic_op.Load n order) w
-  accesses_goes (atomic_op.Update n change order) w = opens_goes n reader.Update (atomic_op.Update n change order) w
-  accesses_goes (atomic_op.CompareExchange n exchange) w = opens_goes n reader.Update (atomic_op.CompareExchange n exchange) w
-  accesses_goes (atomic_op.CompareAndSwap n expected new order) w = opens_goes n reader.Update (atomic_op.CompareAndSwap n expected new order) w
-  accesses_goes (atomic_op.New numbers value) w = tt
-  accesses_goes (atomic_op.UnsyncLoad n) w = tt
-  accesses_goes (atomic_op.IntoInner n) w = tt
-  accesses_goes (atomic_op.WithMut n) w = tt
-  accesses_goes (atomic_op.WithMutEnd n value) w = tt
+  opens_tells : (n : ℕ) (reader : Reader) (access : AtomicOp) (w : World D) → Answers TellsActive (opens n reader access w)
+  opens_tells n reader access w =
+      answers_then TellsActive (raises w) _ (λ v. answers_then TellsActive (an_atomic n v) _ (λ atomic. answers_then TellsActive (readable_slots_of v.points v.active n reader) _ (λ readable.
+      answers_then TellsActive (check (some_slot (slot_set readable)) Misuse) _ (λ u. refl))))
 
-  falls_asleep_goes : (locking : Locking) (n m : ℕ) (value : D) (w : World D) → Answers GoesOn (falls_asleep locking n m value w)
-  falls_asleep_goes locking n m value w =
-      answers_then GoesOn (a_condvar n w) _ (λ condvar. answers_then GoesOn (check (nat_lt (length condvar.waiters.items) MAX_THREADS) Misuse) _ (λ u.
-      answers_then GoesOn (frees m value (with_waiters n (condvar.waiters.items ++ w.active ∷ []) w)) _ (λ freed. tt)))
+  pub accesses_tells : (access : AtomicOp) (w : World D) → Answers TellsActive (accesses access w)
+  accesses_tells (atomic_op.Store n value order) w = told _
+  accesses_tells (atomic_op.Load n order) w = opens_tells n (reader.Load order) (atomic_op.Load n order) w
+  accesses_tells (atomic_op.Update n change order) w = opens_tells n reader.Update (atomic_op.Update n change order) w
+  accesses_tells (atomic_op.CompareExchange n exchange) w = opens_tells n reader.Update (atomic_op.CompareExchange n exchange) w
+  accesses_tells (atomic_op.CompareAndSwap n expected new order) w = opens_tells n reader.Update (atomic_op.CompareAndSwap n expected new order) w
+  accesses_tells (atomic_op.New numbers value) w = tt
+  accesses_tells (atomic_op.UnsyncLoad n) w = tt
+  accesses_tells (atomic_op.IntoInner n) w = tt
+  accesses_tells (atomic_op.WithMut n) w = tt
+  accesses_tells (atomic_op.WithMutEnd n value) w = tt
 
-  unwraps_if_goes : (is_alone : Bool) (n : ℕ) (w : World D) → Answers GoesOn (unwraps_if is_alone n w)
-  unwraps_if_goes false n w = tt
-  unwraps_if_goes true n w = tt
+  pub falls_asleep_passes : (locking : Locking) (n m : ℕ) (value : D) (w : World D) → Answers PassesActive (falls_asleep locking n m value w)
+  falls_asleep_passes locking n m value w =
+      answers_then PassesActive (a_condvar n w) _ (λ condvar. answers_then PassesActive (check (nat_lt (length condvar.waiters.items) MAX_THREADS) Misuse) _ (λ u.
+      answers_then PassesActive (frees m value (with_waiters n (condvar.waiters.items ++ w.active ∷ []) w)) _ (λ freed. tt)))
 
-  tries_unwrap_goes : (n : ℕ) (w : World D) → Answers GoesOn (tries_unwrap n w)
-  tries_unwrap_goes n w =
-      answers_then GoesOn (an_arc n w) _ (λ arc. answers_then GoesOn (check (is_free arc) Misuse) _ (λ u. unwraps_if_goes (arc.count == 1) n (acquires n w)))
+  unwraps_passes : (is_alone : Bool) (n : ℕ) (w : World D) → Answers PassesActive (unwraps_if is_alone n w)
+  unwraps_passes false n w = refl
+  unwraps_passes true n w = tt
+
+  pub tries_unwrap_passes : (n : ℕ) (w : World D) → Answers PassesActive (tries_unwrap n w)
+  tries_unwrap_passes n w = answers_then PassesActive (an_arc n w) _ (λ arc. answers_then PassesActive (check (is_free arc) Misuse) _ (λ u. unwraps_passes (arc.count == 1) n (acquires n w)))
 
   -- ---- what is left in a channel
 
@@ -177,40 +180,10 @@ module _ {D : Type 0} where
   has_taken_goes : (by : Taking) (waker : Option ℕ) (w : World D) → Answers GoesQuietly (has_taken by waker w)
   has_taken_goes taking.Answer waker w = (refl, waker_reply_quiet D waker)
   has_taken_goes taking.Wake None w = (refl, refl)
-  has_taken_goes taking.Wake (Some c) w = then_quietly (some_wakers c w) _ (λ wakers. tt)
+  has_taken_goes taking.Wake (Some c) w = then_quietly (a_wakers c w) _ (λ wakers. tt)
 
   pub takes_waker_goes : (by : Taking) (p : ℕ) (w : World D) → Answers GoesQuietly (takes_waker by p w)
   takes_waker_goes by p w = then_quietly (an_atomic_waker p w) _ (λ place. then_quietly (check (is_none place.holder) Misuse) _ (λ u. has_taken_goes by place.waker _))
-
-  takes_effect_goes : (todo : Task D) (w : World D) → Answers ResumesOn (takes_effect todo w)
-  takes_effect_goes task.Start w = tt
-  takes_effect_goes task.Body w = tt
-  takes_effect_goes task.Continue w = tt
-  takes_effect_goes (task.Access access) w = accesses_goes access w
-  takes_effect_goes (task.Lock locking n) w = replied_goes _
-  takes_effect_goes (task.TryLock n) w = replied_goes _
-  takes_effect_goes (task.Claim claim n) w = replied_goes _
-  takes_effect_goes (task.Wait locking n m value) w = gone_goes _ (falls_asleep_goes locking n m value w)
-  takes_effect_goes (task.Relock locking m) w = tt
-  takes_effect_goes (task.Wake waking n) w = replied_goes _
-  takes_effect_goes (task.Notify n) w = replied_goes _
-  takes_effect_goes (task.Await n) w = replied_goes _
-  takes_effect_goes (task.Rouse n) w = replied_goes _
-  takes_effect_goes (task.Count todo n) w = replied_goes _
-  takes_effect_goes (task.TryUnwrap n) w = gone_goes _ (tries_unwrap_goes n w)
-  takes_effect_goes (task.Join t n) w = replied_goes _
-  takes_effect_goes (task.Finish n value) w = replied_goes _
-  takes_effect_goes (task.Send n sent) w = replied_goes _
-  takes_effect_goes (task.Receive by n) w = replied_goes _
-  takes_effect_goes (task.Drain n taken) w = quietly_gone _ (drains_goes n taken w)
-  takes_effect_goes (task.WakeBy n c after) w = quietly_gone _ (wakes_by_goes n c after w)
-  takes_effect_goes (task.CloneWaker c place) w = quietly_gone _ (clones_waker_goes c place w)
-  takes_effect_goes (task.DropWaker c after) w = quietly_gone _ (drops_waker_goes c after w)
-  takes_effect_goes (task.Register p c) w = quietly_gone _ (registers_goes p c w)
-  takes_effect_goes (task.TakeWaker by p) w = quietly_gone _ (takes_waker_goes by p w)
-
-  pub chosen_goes : (t : ℕ) (w : World D) → Answers ResumesOn (chosen t w)
-  chosen_goes t w = answers_then ResumesOn (chooses_thread t w) _ (λ ready. takes_effect_goes ready.0 ready.1)
 
   -- a run ends where it is over
   pub end_over : (w : World D) → Answers IsOver (end_of w)

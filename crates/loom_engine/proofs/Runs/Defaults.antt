@@ -6,7 +6,9 @@ use Rattle.loom_objects.specs.declared.rt.schedule.Ability.TheVariants.{Able, Yi
 use Rattle.loom_objects.specs.declared.choice.Choice.{Choice}
 use Rattle.loom_objects.specs.declared.choice.Choice.TheVariants.{Thread, Load, Spurious}
 use Rattle.loom_objects.specs.declared.rt.schedule.Offers.{Offers}
-use Rattle.loom_objects.specs.Tree.Question.{Among, made_of, IsSound, able_threads, thread_options, slots_from}
+use Rattle.loom_objects.specs.Tree.Question.{Among, made_of, able_threads, thread_options}
+use Rattle.loom_objects.specs.Tree.Sound.{IsSound}
+use Rattle.loom_objects.specs.Tree.Stores.{slots_from}
 use Rattle.loom_objects.specs.Schedule.Offers.{ability_in, offers, standings, with_able}
 use Rattle.loom_objects.specs.World.{World}
 use Rattle.loom_objects.proofs.Scene.Offering.{offers_sound}

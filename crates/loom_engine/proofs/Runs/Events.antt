@@ -9,7 +9,8 @@ use Rattle.loom_objects.specs.declared.operation.Turn.{Turn}
 use Rattle.loom_objects.specs.declared.operation.Turn.TheVariants.{Reply, Start, Ended}
 use Rattle.loom_objects.specs.declared.rt.run.Passed.{Passed}
 use Rattle.loom_objects.specs.declared.rt.run.Passed.TheVariants as passed
-use Rattle.loom_objects.specs.Tree.Question.{Question, Among, made_of, IsSound}
+use Rattle.loom_objects.specs.Tree.Question.{Question, Among, made_of}
+use Rattle.loom_objects.specs.Tree.Sound.{IsSound}
 use Rattle.loom_objects.specs.Tree.Tree.{Tree, Gives, Fails, Closes, Asks, ◌>>=◌, check, found}
 use Rattle.loom_engine.specs.Trees.Sound.{IsClosing, IsQuiet, IsFair, EndsUnchosen}
 use Rattle.loom_engine.proofs.Trees.Machines.{sound_default}

@@ -19,7 +19,7 @@ use Rattle.loom_objects.specs.Rules.Tables.{chosen, counted}
 use Rattle.loom_objects.specs.Rules.Ending.{all_ended, end_of}
 use Rattle.loom_objects.specs.Exploring.{is_on, switched}
 use Rattle.loom_objects.specs.Rules.Notify.{enters_wait as entered}
-use Rattle.loom_objects.specs.Tree.Question.{slots}
+use Rattle.loom_objects.specs.Tree.Stores.{slots}
 use Rattle.loom_objects.specs.Rules.Steps.{asked, asks_slot, begins, ends, enters_wait, read_slot, resumes, slot_of, told, turned}
 use Rattle.loom_objects.specs.Tree.Tree.{Tree, ◌>>=◌, came}
 use Rattle.loom_objects.specs.World.{World, main_thread}
@@ -29,10 +29,10 @@ use Rattle.loom_engine.specs.Runs.Machine.{chooses, closes as closes_run, furthe
 use Rattle.loom_engine.proofs.Runs.Keeping.{Keeps, gives, fails, closes, asks as questions, kept_value, then_keeps, check_keeps, all_exclusive}
 use Rattle.loom_engine.proofs.Runs.Tables.{Choosing, Ending, chosen_choosing, counted_entering, counted_opening, end_ending}
 use Rattle.loom_objects.specs.declared.operation.Turn.TheVariants as turn
-use Rattle.loom_engine.proofs.Runs.Atomics.{reads_keeping}
+use Rattle.loom_engine.proofs.Runs.Kinds.Atomics.{reads_keeping}
 use Rattle.loom_engine.proofs.Runs.Events.{Anything}
 use Rattle.loom_engine.proofs.Runs.Carrying.{InWorld, accesses_keeps, carried_keeps}
-use Rattle.loom_engine.proofs.Runs.Notifiers.{enters_wait_keeping}
+use Rattle.loom_engine.proofs.Runs.Kinds.Notifiers.{enters_wait_keeping}
 use Rattle.loom_engine.proofs.Runs.States.{Aim, Kept, Out, Ready, Soundness, Taken, Told, TurnTo, freed_at}
 use Rattle.loom_engine.proofs.Runs.Ruling.{Entered, Entering, Fairly, Onward, Opened, Opening, PassedTo, ResumedTo, Telling}
 use Rattle.loom_engine.proofs.Runs.Replies.{reads_quiet, tells}

@@ -6,10 +6,6 @@ use Rattle.loom_views.specs.declared.rt.failure.FailureKind.TheVariants.{Deadloc
 use Rattle.loom_objects.specs.Dependence.Order.{Order}
 use Rattle.loom_objects.specs.declared.choice.Choice.{Choice}
 use Rattle.loom_objects.specs.declared.choice.Choice.TheVariants as choice
-use Rattle.loom_objects.specs.declared.operation.CondvarOp.{CondvarOp}
-use Rattle.loom_objects.specs.declared.operation.CondvarOp.TheVariants as condvar_op
-use Rattle.loom_objects.specs.declared.operation.MutexOp.{MutexOp}
-use Rattle.loom_objects.specs.declared.operation.MutexOp.TheVariants as mutex_op
 use Rattle.loom_objects.specs.declared.operation.Request.{Request}
 use Rattle.loom_objects.specs.declared.operation.Request.TheVariants as op
 use Rattle.loom_objects.specs.declared.operation.Reply.{Reply}
@@ -23,31 +19,28 @@ use Rattle.loom_objects.specs.declared.rt.run.Passed.{Passed}
 use Rattle.loom_objects.specs.declared.rt.run.Passed.TheVariants as passed
 use Rattle.loom_objects.specs.declared.rt.run.Resumed.{Resumed}
 use Rattle.loom_objects.specs.declared.rt.run.Resumed.TheVariants as resumed
-use Rattle.loom_objects.specs.declared.rt.thread.Locking.{Locking}
-use Rattle.loom_objects.specs.declared.rt.thread.Locking.TheVariants.{Timed, Untimed}
 use Rattle.loom_objects.specs.Rules.Atomic.{reads}
-use Rattle.loom_objects.specs.Rules.Condvar.{condvar_begins, wait_begins}
-use Rattle.loom_objects.specs.Rules.Tables.{chosen, counted, op_begins}
+use Rattle.loom_objects.specs.Rules.Tables.{chosen, counted}
 use Rattle.loom_objects.specs.Rules.Ending.{all_ended}
 use Rattle.loom_objects.specs.Exploring.{is_on}
-use Rattle.loom_objects.specs.Rules.Mutex.{free_value, frees, mutex_begins}
-use Rattle.loom_objects.specs.Rules.Moves.{a_condvar, a_mutex, is_number}
 use Rattle.loom_objects.specs.Rules.Notify.{enters_wait as entered}
 use Rattle.loom_objects.specs.Operation.Plain.{plain, plain_request}
-use Rattle.loom_objects.specs.Tree.Question.{Question, made_of, slots}
-use Rattle.loom_objects.specs.Rules.Rule.{◌>>=◌ as ◌=>>◌, check as checks, found as finds}
+use Rattle.loom_objects.specs.Tree.Question.{Question, made_of}
+use Rattle.loom_objects.specs.Tree.Stores.{slots}
+use Rattle.loom_objects.specs.Rules.Rule.{check as checks}
 use Rattle.loom_objects.specs.Rules.Steps.{asked, asks_slot, begins, ends, enters_wait, read_slot, resumes, slot_of, told, turned}
 use Rattle.loom_objects.specs.Tree.Tree.{Tree, Gives, Fails, Closes, Asks, ◌>>=◌, came, check, found}
 use Rattle.loom_objects.specs.Rules.Uses.{use_at}
 use Rattle.loom_objects.specs.World.{World}
-use Rattle.loom_engine.specs.Trees.Sound.{ExploresTree}
+use Rattle.loom_engine.specs.Trees.Exploring.{ExploresTree}
 use Rattle.loom_engine.specs.Runs.Course.{Course, accesses, carried, grown_from, one_passed, used_in, with_order}
 use Rattle.loom_engine.specs.Runs.Machine.{chooses, closes as closes_run, further, further_branches, goes_by, goes_on, passes, schedule, submit, waits}
 use Rattle.loom_engine.specs.Runs.Body.{Meaning, at_turn, play}
 use Rattle.loom_engine.specs.Runs.Sound.{ExploresLaw, is_switch}
-use Rattle.loom_engine.proofs.Runs.Answering.{Answers, answers_then}
+use Rattle.loom_engine.proofs.Runs.Answering.{Answers}
 use Rattle.loom_engine.proofs.Runs.Events.{Anything}
-use Rattle.loom_engine.proofs.Runs.Replies.{Quiet, arc_quiet, atomic_quiet, cell_quiet, channel_quiet, fence_quiet, lazy_quiet, local_quiet, notifier_quiet, place_quiet, rwlock_quiet, thread_quiet, track_quiet, waker_quiet}
+use Rattle.loom_engine.proofs.Runs.Replies.{IsNoSwitch, Unswitched, unswitched}
+use Rattle.loom_engine.proofs.Runs.Kinds.{begins_unswitched}
 
 -- whatever is chosen, each question explores, and of what it comes to this holds
 pub data Explores {A : Type 0} (P : A → Type 0) : Tree A → Type 0 where
@@ -80,86 +73,12 @@ any_explores (Err kind) = fails kind
 -- ---- operations that are no switch
 
 module _ {D : Type 0} where
-  abbrev pub IsNoSwitch : Entry D → Type 0
-  IsNoSwitch (entry.Answered reply) = Unit {0}
-  IsNoSwitch entry.AtBranch = Unit {0}
-  IsNoSwitch (entry.Spurious n) = Unit {0}
-  IsNoSwitch (entry.Explores todo) = ⊥
-
-  abbrev pub Unswitched : Entry D × World D → Type 0
-  Unswitched entered = IsNoSwitch entered.0
-
-  quiet_unswitched : (r : Result (Entry D × World D) FailureKind) → Answers Quiet r → Answers Unswitched r
-  quiet_unswitched (Ok (entry.Answered reply, w)) h = tt
-  quiet_unswitched (Ok (entry.AtBranch, w)) h = tt
-  quiet_unswitched (Ok (entry.Spurious n, w)) h = tt
-  quiet_unswitched (Ok (entry.Explores todo, w)) h = absurd h
-  quiet_unswitched (Err kind) h = tt
-
-  next : {B : Type 0} (r : Result B FailureKind) (onward : B → Result (Entry D × World D) FailureKind) → ((b : B) → Answers Unswitched (onward b)) → Answers Unswitched (r =>> onward)
-  next r onward h = answers_then Unswitched r onward h
-
-  mutex_unswitched : (todo : MutexOp D) (w : World D) → Answers Unswitched (mutex_begins todo w)
-  mutex_unswitched (mutex_op.New value) w = tt
-  mutex_unswitched (mutex_op.Lock n) w = next (a_mutex n w) _ (λ mutex. tt)
-  mutex_unswitched (mutex_op.TryLock n) w = next (a_mutex n w) _ (λ mutex. tt)
-  mutex_unswitched (mutex_op.Release n value) w = next (frees n value w) _ (λ freed. tt)
-  mutex_unswitched (mutex_op.GetMut n) w = next (a_mutex n w) _ (λ mutex. next (finds (free_value mutex) Misuse) _ (λ value. tt))
-  mutex_unswitched (mutex_op.Put n value) w = next (a_mutex n w) _ (λ mutex. next (checks (is_number mutex.content.lent w.active) Misuse) _ (λ u. tt))
-  mutex_unswitched (mutex_op.IntoInner n) w = next (a_mutex n w) _ (λ mutex. next (finds (free_value mutex) Misuse) _ (λ value. tt))
-
-  wait_unswitched : (locking : Locking) (n m : ℕ) (value : D) (w : World D) → Answers Unswitched (wait_begins locking n m value w)
-  wait_unswitched locking n m value w = next (a_condvar n w) _ (λ condvar. next (a_mutex m w) _ (λ mutex. next (checks (is_number mutex.holder w.active) Misuse) _ (λ u. tt)))
-
-  condvar_unswitched : (todo : CondvarOp D) (w : World D) → Answers Unswitched (condvar_begins todo w)
-  condvar_unswitched condvar_op.New w = tt
-  condvar_unswitched (condvar_op.Wait n m value) w = wait_unswitched Untimed n m value w
-  condvar_unswitched (condvar_op.WaitTimeout n m value) w = wait_unswitched Timed n m value w
-  condvar_unswitched (condvar_op.NotifyOne n) w = next (a_condvar n w) _ (λ condvar. tt)
-  condvar_unswitched (condvar_op.NotifyAll n) w = next (a_condvar n w) _ (λ condvar. tt)
-
-  begins_unswitched : (todo : Request D ⊤) (w : World D) → is_switch todo ≡ false → Answers Unswitched (op_begins todo w)
-  begins_unswitched (op.Atomic todo) w h = quiet_unswitched _ (atomic_quiet todo w)
-  begins_unswitched (op.Fence order) w h = quiet_unswitched _ (fence_quiet order w)
-  begins_unswitched (op.Cell todo) w h = quiet_unswitched _ (cell_quiet todo w)
-  begins_unswitched (op.Arc todo) w h = quiet_unswitched _ (arc_quiet todo w)
-  begins_unswitched (op.Track todo) w h = quiet_unswitched _ (track_quiet todo w)
-  begins_unswitched (op.Mutex todo) w h = mutex_unswitched todo w
-  begins_unswitched (op.RwLock todo) w h = quiet_unswitched _ (rwlock_quiet todo w)
-  begins_unswitched (op.Condvar todo) w h = condvar_unswitched todo w
-  begins_unswitched (op.Notify todo) w h = quiet_unswitched _ (notifier_quiet todo w)
-  begins_unswitched (op.Channel todo) w h = quiet_unswitched _ (channel_quiet todo w)
-  begins_unswitched (op.Waker todo) w h = quiet_unswitched _ (waker_quiet todo w)
-  begins_unswitched (op.AtomicWaker todo) w h = quiet_unswitched _ (place_quiet todo w)
-  begins_unswitched (op.Local todo) w h = quiet_unswitched _ (local_quiet todo w)
-  begins_unswitched (op.Lazy todo) w h = quiet_unswitched _ (lazy_quiet todo w)
-  begins_unswitched (op.Explore todo) w h = absurd (cc h)
-  begins_unswitched (op.Thread todo) w h = quiet_unswitched _ (thread_quiet todo w)
-  begins_unswitched op.Fail w h = tt
-  begins_unswitched op.Unreachable w h = tt
-
   counted_unswitched : (todo : Request D ⊤) (w : World D) → is_switch todo ≡ false → Answers Unswitched (counted todo w)
-  counted_unswitched todo w h = next (checks _ TooManySteps) _ (λ u. begins_unswitched todo _ h)
+  counted_unswitched todo w h = unswitched (checks _ TooManySteps) _ (λ u. begins_unswitched todo _ h)
 
 plain_unswitched : {D S : Type 0} (todo : Request D S) → is_switch todo ≡ false → is_switch (plain_request todo) ≡ false
-plain_unswitched (op.Atomic todo) h = refl
-plain_unswitched (op.Fence order) h = refl
-plain_unswitched (op.Cell todo) h = refl
-plain_unswitched (op.Arc todo) h = refl
-plain_unswitched (op.Track todo) h = refl
-plain_unswitched (op.Mutex todo) h = refl
-plain_unswitched (op.RwLock todo) h = refl
-plain_unswitched (op.Condvar todo) h = refl
-plain_unswitched (op.Notify todo) h = refl
-plain_unswitched (op.Channel todo) h = refl
-plain_unswitched (op.Waker todo) h = refl
-plain_unswitched (op.AtomicWaker todo) h = refl
-plain_unswitched (op.Local todo) h = refl
-plain_unswitched (op.Lazy todo) h = refl
 plain_unswitched (op.Explore todo) h = h
-plain_unswitched (op.Thread todo) h = refl
-plain_unswitched op.Fail h = refl
-plain_unswitched op.Unreachable h = refl
+plain_unswitched _ h = refl
 
 -- ---- steps
 

@@ -1,5 +1,5 @@
--- An operation that needs no memory makes no thread and no object.
-use Rattle.std.proofs.Common.{◌≡◌, ◌+◌, ◌-◌, ◌<◌, ℕ, suc, Bool, true, false, List, [], ◌∷◌, length, Option, Some, None, arith, refl, ap, subst}
+-- What needs no memory leaves as many threads and objects as there were.
+use Rattle.std.proofs.Common.{◌≡◌, ◌-◌, ℕ, suc, Bool, true, false, List, [], ◌∷◌, length, Option, Some, None, refl, ap}
 use Rattle.std.specs.Prelude.{◌==◌, is_none, map, nat_lt, not, slice_get, slice_set, Result, Ok, Err, ⊤}
 use Rattle.std.specs.declared.sync.atomic.Ordering.{Ordering}
 use Rattle.loom_views.specs.declared.rt.failure.FailureKind.{FailureKind}
@@ -28,8 +28,6 @@ use Rattle.loom_objects.specs.declared.operation.MutexOp.{MutexOp}
 use Rattle.loom_objects.specs.declared.operation.MutexOp.TheVariants as mutex_op
 use Rattle.loom_objects.specs.declared.operation.NotifyOp.{NotifyOp}
 use Rattle.loom_objects.specs.declared.operation.NotifyOp.TheVariants as notify_op
-use Rattle.loom_objects.specs.declared.operation.Request.{Request}
-use Rattle.loom_objects.specs.declared.operation.Request.TheVariants as op
 use Rattle.loom_objects.specs.declared.operation.RwLockOp.{RwLockOp}
 use Rattle.loom_objects.specs.declared.operation.RwLockOp.TheVariants as lock_op
 use Rattle.loom_objects.specs.declared.operation.ThreadOp.{ThreadOp}
@@ -40,7 +38,6 @@ use Rattle.loom_objects.specs.declared.operation.WakerOp.{WakerOp}
 use Rattle.loom_objects.specs.declared.operation.WakerOp.TheVariants as waker_op
 use Rattle.loom_objects.specs.declared.rt.object.Object.{Object}
 use Rattle.loom_objects.specs.declared.rt.object.Object.TheVariants as object
-use Rattle.loom_objects.specs.declared.rt.run.Entry.{Entry}
 use Rattle.loom_objects.specs.declared.rt.mpsc.Channel.{Channel}
 use Rattle.loom_objects.specs.declared.rt.notify.Notify.{Notify}
 use Rattle.loom_objects.specs.declared.rt.thread.AfterDrop.TheVariants as dropped
@@ -64,7 +61,6 @@ use Rattle.loom_objects.specs.Rules.Cell.{cell_begins, data_left, exchanges_cell
 use Rattle.loom_objects.specs.Rules.Mpsc.{by_receiver, by_sender, channel_begins, drains_if, tries_recv, wakes_if as wakes_receivers, needs_memory as channel_needs_memory}
 use Rattle.loom_objects.specs.Rules.Condvar.{condvar_begins, wait_begins, wake_begins, needs_memory as condvar_needs_memory}
 use Rattle.loom_objects.specs.Rules.Arc.{arc_begins, comes_to, needs_memory as arc_needs_memory}
-use Rattle.loom_objects.specs.Rules.Tables.{counted, needs_memory, op_begins}
 use Rattle.loom_objects.specs.Rules.Leaks.{is_none_left}
 use Rattle.loom_objects.specs.Lent.{handed_back, value_in}
 use Rattle.loom_objects.specs.Rules.Mutex.{free_value, frees, mutex_begins, needs_memory as mutex_needs_memory}
@@ -78,7 +74,7 @@ use Rattle.loom_objects.specs.Rules.Alloc.{track_begins, track_take, needs_memor
 use Rattle.loom_objects.specs.Rules.Locals.{is_working, lazy_begins, lazy_needs_memory, local_at, local_begins, local_needs_memory, puts_local}
 use Rattle.loom_objects.specs.Rules.Waker.{atomic_waker_begins, atomic_waker_needs_memory, some_wakers, take_begins, wake_begins as wake_by_begins, waker_begins, waker_needs_memory, waker_pends}
 use Rattle.loom_objects.specs.World.{World}
-use Rattle.loom_engine.specs.Runs.Growth.{GrowthLaw, HasAsMany}
+use Rattle.loom_engine.specs.Runs.Growth.{HasAsMany}
 use Rattle.loom_engine.proofs.Runs.Answering.{Answers, answers_then}
 use Rattle.loom_engine.proofs.Runs.Defaults.{set_length}
 
@@ -95,34 +91,34 @@ module _ {D : Type 0} (w : World D) where
   abbrev pub Stays : {A : Type 0} → A × World D → Type 0
   Stays answered = HasAsMany w answered.1
 
-  onward : {A B : Type 0} (r : Result B FailureKind) (next : B → Result (A × World D) FailureKind) → ((b : B) → Answers Stays (next b)) → Answers Stays (r >>= next)
+  pub onward : {A B : Type 0} (r : Result B FailureKind) (next : B → Result (A × World D) FailureKind) → ((b : B) → Answers Stays (next b)) → Answers Stays (r >>= next)
   onward r next h = answers_then Stays r next h
 
   -- it goes on from where a rule comes to
-  from_there : {A B : Type 0} (r : Result (B × World D) FailureKind) (next : B × World D → Result (A × World D) FailureKind) → Answers Stays r
+  pub from_there : {A B : Type 0} (r : Result (B × World D) FailureKind) (next : B × World D → Result (A × World D) FailureKind) → Answers Stays r
       → ((answered : B × World D) → Stays answered → Answers Stays (next answered)) → Answers Stays (r >>= next)
   from_there (Ok answered) next s h = h answered s
   from_there (Err kind) next s h = tt
 
   -- only points change
-  by_points : {A : Type 0} (v : World D) (r : Result Points FailureKind) (next : World D → Result (A × World D) FailureKind) → ((p : Points) → Answers Stays (next (with_points p v)))
+  pub by_points : {A : Type 0} (v : World D) (r : Result Points FailureKind) (next : World D → Result (A × World D) FailureKind) → ((p : Points) → Answers Stays (next (with_points p v)))
       → Answers Stays ((r >>= (λ p. Ok (with_points p v))) >>= next)
   by_points v (Ok p) next h = h p
   by_points v (Err kind) next h = tt
 
   -- ---- moves
 
-  by_object : (v : World D) (n : ℕ) (x : Object D) → HasAsMany w v → HasAsMany w (with_object n x v)
+  pub by_object : (v : World D) (n : ℕ) (x : Object D) → HasAsMany w v → HasAsMany w (with_object n x v)
   by_object v n x s = let e : length (slice_set v.objects n x) ≡ length v.objects = set_length v.objects n x in (s.0, cc (e, s.1))
 
-  by_thread : (v : World D) (change : Thread D → Thread D) (t : ℕ) → HasAsMany w v → HasAsMany w (record v { threads = with_thread change t v.threads })
+  pub by_thread : (v : World D) (change : Thread D → Thread D) (t : ℕ) → HasAsMany w v → HasAsMany w (record v { threads = with_thread change t v.threads })
   by_thread v change t s =
       let e : length (with_thread change t v.threads) ≡ length v.threads = changed_length change t (slice_get v.threads t) v.threads in (cc (e, s.0), s.1)
 
-  by_threads : (v : World D) (change : Thread D → Thread D) → HasAsMany w v → HasAsMany w (record v { threads = map change v.threads })
+  pub by_threads : (v : World D) (change : Thread D → Thread D) → HasAsMany w v → HasAsMany w (record v { threads = map change v.threads })
   by_threads v change s = let e : length (map change v.threads) ≡ length v.threads = map_length change v.threads in (cc (e, s.0), s.1)
 
-  stayed : HasAsMany w w
+  pub stayed : HasAsMany w w
   stayed = (refl, refl)
 
   -- ---- atomics
@@ -130,7 +126,7 @@ module _ {D : Type 0} (w : World D) where
   access_stays : (access : AtomicOp) → Answers Stays (access_begins access w)
   access_stays access = onward (found (accessed access) Misuse) _ (λ n. onward (an_atomic n w) _ (λ u. by_thread w _ w.active stayed))
 
-  atomic_stays : (todo : AtomicOp) → atomic_needs_memory todo ≡ false → Answers Stays (atomic_begins todo w)
+  pub atomic_stays : (todo : AtomicOp) → atomic_needs_memory todo ≡ false → Answers Stays (atomic_begins todo w)
   atomic_stays (atomic_op.New numbers value) h = absurd (cc h)
   atomic_stays (atomic_op.UnsyncLoad n) h = onward (an_atomic n w) _ (λ u. onward (points_after_unsync_load w.points w.active n) _ (λ read. stayed))
   atomic_stays (atomic_op.IntoInner n) h = onward (an_atomic n w) _ (λ u. onward (points_after_unsync_load w.points w.active n) _ (λ read. by_object w n _ stayed))
@@ -144,7 +140,7 @@ module _ {D : Type 0} (w : World D) where
   atomic_stays (atomic_op.CompareExchange n exchange) h = access_stays (atomic_op.CompareExchange n exchange)
   atomic_stays (atomic_op.CompareAndSwap n expected new order) h = access_stays (atomic_op.CompareAndSwap n expected new order)
 
-  fence_stays : (order : Ordering) → Answers Stays (fence order w)
+  pub fence_stays : (order : Ordering) → Answers Stays (fence order w)
   fence_stays order = by_points w (points_after_raise w.points w.active) _ (λ p. onward (check (not (is_relaxed order)) RelaxedFence) _ (λ u. stayed))
 
   -- ---- cells
@@ -165,7 +161,7 @@ module _ {D : Type 0} (w : World D) where
   swap_stays false n m =
       from_there (opens_write n w) _ (opens_write_stays n w stayed) (λ opened s. from_there (opens_write m opened.1) _ (opens_write_stays m opened.1 s) (λ both r. exchanges_stays n m both.1 r))
 
-  cell_stays : (todo : CellOp D) → cell_needs_memory todo ≡ false → Answers Stays (cell_begins todo w)
+  pub cell_stays : (todo : CellOp D) → cell_needs_memory todo ≡ false → Answers Stays (cell_begins todo w)
   cell_stays (cell_op.New value) h = absurd (cc h)
   cell_stays (cell_op.Read n) h = absurd (cc h)
   cell_stays (cell_op.Deref n) h = absurd (cc h)
@@ -191,7 +187,7 @@ module _ {D : Type 0} (w : World D) where
   comes_to_stays : (todo : Task D) (n : ℕ) → Answers Stays (comes_to todo n w)
   comes_to_stays todo n = onward (an_arc n w) _ (λ arc. onward (check (nat_lt 0 arc.count) Misuse) _ (λ u. by_thread w _ w.active stayed))
 
-  arc_stays : (todo : ArcOp D) → arc_needs_memory todo ≡ false → Answers Stays (arc_begins todo w)
+  pub arc_stays : (todo : ArcOp D) → arc_needs_memory todo ≡ false → Answers Stays (arc_begins todo w)
   arc_stays (arc_op.New value) h = absurd (cc h)
   arc_stays (arc_op.Get n) h = absurd (cc h)
   arc_stays (arc_op.Put n value) h = onward (an_arc n w) _ (λ arc. onward (check (is_number arc.content.lent w.active) Misuse) _ (λ u. by_object w n _ stayed))
@@ -204,7 +200,7 @@ module _ {D : Type 0} (w : World D) where
   take_stays : (n : ℕ) → Answers Stays (track_take n w)
   take_stays n = onward (a_track n w) _ (λ track. onward (found (value_in track.content) Misuse) _ (λ value. by_object w n _ stayed))
 
-  track_stays : (todo : TrackOp D) → track_needs_memory todo ≡ false → Answers Stays (track_begins todo w)
+  pub track_stays : (todo : TrackOp D) → track_needs_memory todo ≡ false → Answers Stays (track_begins todo w)
   track_stays (track_op.New value) h = absurd (cc h)
   track_stays (track_op.GetRef n) h = absurd (cc h)
   track_stays (track_op.GetMut n) h = onward (a_track n w) _ (λ track. onward (found (value_in track.content) Misuse) _ (λ value. by_object w n _ stayed))
@@ -218,7 +214,7 @@ module _ {D : Type 0} (w : World D) where
   frees_stays n value =
       onward (a_mutex n w) _ (λ mutex. onward (check (is_number mutex.holder w.active) Misuse) _ (λ u. by_threads (with_object n (object.Mutex (record mutex { holder = None; content = handed_back value mutex.content })) w) _ (by_object w n _ stayed)))
 
-  mutex_stays : (todo : MutexOp D) → mutex_needs_memory todo ≡ false → Answers Stays (mutex_begins todo w)
+  pub mutex_stays : (todo : MutexOp D) → mutex_needs_memory todo ≡ false → Answers Stays (mutex_begins todo w)
   mutex_stays (mutex_op.New value) h = absurd (cc h)
   mutex_stays (mutex_op.Lock n) h = onward (a_mutex n w) _ (λ mutex. by_thread w _ w.active stayed)
   mutex_stays (mutex_op.TryLock n) h = onward (a_mutex n w) _ (λ mutex. by_thread w _ w.active stayed)
@@ -234,7 +230,7 @@ module _ {D : Type 0} (w : World D) where
   claim_stays : (claim : Claim) (n : ℕ) → Answers Stays (claim_begins claim n w)
   claim_stays claim n = onward (a_rwlock n w) _ (λ lock. by_thread w _ w.active stayed)
 
-  rwlock_stays : (todo : RwLockOp D) → rwlock_needs_memory todo ≡ false → Answers Stays (rwlock_begins todo w)
+  pub rwlock_stays : (todo : RwLockOp D) → rwlock_needs_memory todo ≡ false → Answers Stays (rwlock_begins todo w)
   rwlock_stays (lock_op.New value) h = absurd (cc h)
   rwlock_stays (lock_op.Read n) h = claim_stays Read n
   rwlock_stays (lock_op.TryRead n) h = claim_stays TryRead n
@@ -259,7 +255,7 @@ module _ {D : Type 0} (w : World D) where
   wake_stays : (waking : Waking) (n : ℕ) → Answers Stays (wake_begins waking n w)
   wake_stays waking n = onward (a_condvar n w) _ (λ condvar. by_thread w _ w.active stayed)
 
-  condvar_stays : (todo : CondvarOp D) → condvar_needs_memory todo ≡ false → Answers Stays (condvar_begins todo w)
+  pub condvar_stays : (todo : CondvarOp D) → condvar_needs_memory todo ≡ false → Answers Stays (condvar_begins todo w)
   condvar_stays condvar_op.New h = absurd (cc h)
   condvar_stays (condvar_op.Wait n m value) h = wait_stays Untimed n m value
   condvar_stays (condvar_op.WaitTimeout n m value) h = wait_stays Timed n m value
@@ -270,7 +266,7 @@ module _ {D : Type 0} (w : World D) where
   waits_stays true n notifier = stayed
   waits_stays false n notifier = by_thread (with_object n (object.Notify (record notifier { waiter = Some w.active })) w) _ w.active (by_object w n _ stayed)
 
-  notifier_stays : (todo : NotifyOp) → notify_needs_memory todo ≡ false → Answers Stays (notify_begins todo w)
+  pub notifier_stays : (todo : NotifyOp) → notify_needs_memory todo ≡ false → Answers Stays (notify_begins todo w)
   notifier_stays notify_op.New h = absurd (cc h)
   notifier_stays (notify_op.Notify n) h = onward (a_notify n w) _ (λ notifier. onward (check (is_for_waits notifier.spurious) Misuse) _ (λ u. by_thread w _ w.active stayed))
   notifier_stays (notify_op.Wait n) h =
@@ -291,7 +287,7 @@ module _ {D : Type 0} (w : World D) where
   drains_if_stays true channel n = by_thread w _ w.active stayed
   drains_if_stays false channel n = by_object w n _ stayed
 
-  channel_stays : (todo : ChannelOp D) → channel_needs_memory todo ≡ false → Answers Stays (channel_begins todo w)
+  pub channel_stays : (todo : ChannelOp D) → channel_needs_memory todo ≡ false → Answers Stays (channel_begins todo w)
   channel_stays channel_op.New h = absurd (cc h)
   channel_stays (channel_op.Send n value) h = absurd (cc h)
   channel_stays (channel_op.Recv n) h = onward (by_receiver n w) _ (λ channel. by_thread w _ w.active stayed)
@@ -308,7 +304,7 @@ module _ {D : Type 0} (w : World D) where
   wake_by_stays : (after : AfterWake) (c : ℕ) → Answers Stays (wake_by_begins after c w)
   wake_by_stays after c = onward (some_wakers c w) _ (λ wakers. by_thread w _ w.active stayed)
 
-  waker_stays : (todo : WakerOp) → waker_needs_memory todo ≡ false → Answers Stays (waker_begins todo w)
+  pub waker_stays : (todo : WakerOp) → waker_needs_memory todo ≡ false → Answers Stays (waker_begins todo w)
   waker_stays waker_op.New h = absurd (cc h)
   waker_stays (waker_op.Wait c) h = onward (some_wakers c w) _ (λ wakers. notifier_stays (notify_op.Wait wakers.notifier) refl)
   waker_stays (waker_op.Finish c) h = pends_stays (task.DropWaker c dropped.Done) c
@@ -320,7 +316,7 @@ module _ {D : Type 0} (w : World D) where
   take_waker_stays : (by : Taking) (p : ℕ) → Answers Stays (take_begins by p w)
   take_waker_stays by p = onward (an_atomic_waker p w) _ (λ place. by_thread w _ w.active stayed)
 
-  place_stays : (todo : AtomicWakerOp) → atomic_waker_needs_memory todo ≡ false → Answers Stays (atomic_waker_begins todo w)
+  pub place_stays : (todo : AtomicWakerOp) → atomic_waker_needs_memory todo ≡ false → Answers Stays (atomic_waker_begins todo w)
   place_stays place_op.New h = absurd (cc h)
   place_stays (place_op.Register p c) h = onward (an_atomic_waker p w) _ (λ place. pends_stays (task.Register p c) c)
   place_stays (place_op.RegisterByRef p c) h = onward (an_atomic_waker p w) _ (λ place. pends_stays (task.CloneWaker c (Some p)) c)
@@ -332,13 +328,13 @@ module _ {D : Type 0} (w : World D) where
   puts_local_stays key value None = tt
   puts_local_stays key value (Some local) = by_thread w _ w.active stayed
 
-  local_stays : (todo : LocalOp D) → local_needs_memory todo ≡ false → Answers Stays (local_begins todo w)
+  pub local_stays : (todo : LocalOp D) → local_needs_memory todo ≡ false → Answers Stays (local_begins todo w)
   local_stays (local_op.With key) h = absurd (cc h)
   local_stays (local_op.TryWith key) h = absurd (cc h)
   local_stays (local_op.Init key value) h = absurd (cc h)
   local_stays (local_op.Put key value) h = onward (active_thread w) _ (λ thread. puts_local_stays key value (local_at key thread))
 
-  lazy_stays : (todo : LazyOp D) → lazy_needs_memory todo ≡ false → Answers Stays (lazy_begins todo w)
+  pub lazy_stays : (todo : LazyOp D) → lazy_needs_memory todo ≡ false → Answers Stays (lazy_begins todo w)
   lazy_stays (lazy_op.Get key) h = absurd (cc h)
   lazy_stays (lazy_op.Init key value) h = absurd (cc h)
 
@@ -358,7 +354,7 @@ module _ {D : Type 0} (w : World D) where
   yields_stays : (todo : Task D) → Answers Stays (yields todo w)
   yields_stays todo = onward (active_thread w) _ (λ thread. onward (check (nat_lt thread.yields highest_count) TooManySteps) _ (λ u. by_thread w _ w.active stayed))
 
-  thread_stays : (todo : ThreadOp D ⊤) → thread_needs_memory todo ≡ false → Answers Stays (thread_begins todo w)
+  pub thread_stays : (todo : ThreadOp D ⊤) → thread_needs_memory todo ≡ false → Answers Stays (thread_begins todo w)
   thread_stays (thread_op.Spawn body name) h = absurd (cc h)
   thread_stays (thread_op.Join t n) h =
       onward (check (has_own (slice_get w.threads t) n) Misuse) _ (λ u. onward (a_notify n w) _ (λ notifier. onward (check (is_none notifier.waiter) Misuse) _ (λ v.
@@ -375,41 +371,3 @@ module _ {D : Type 0} (w : World D) where
   thread_stays thread_op.End h =
       onward (active_thread w) _ (λ thread. onward (check (is_exited thread.phase) Misuse) _ (λ u.
       by_thread (changes_active (at_phase Over) w) _ w.active (by_thread w _ w.active stayed)))
-
-  -- ---- each operation
-
-  op_stays : (todo : Request D ⊤) → needs_memory todo ≡ false → Answers Stays (op_begins todo w)
-  op_stays (op.Atomic todo) h = atomic_stays todo h
-  op_stays (op.Fence order) h = fence_stays order
-  op_stays (op.Cell todo) h = cell_stays todo h
-  op_stays (op.Arc todo) h = arc_stays todo h
-  op_stays (op.Track todo) h = track_stays todo h
-  op_stays (op.Mutex todo) h = mutex_stays todo h
-  op_stays (op.RwLock todo) h = rwlock_stays todo h
-  op_stays (op.Condvar todo) h = condvar_stays todo h
-  op_stays (op.Notify todo) h = notifier_stays todo h
-  op_stays (op.Channel todo) h = channel_stays todo h
-  op_stays (op.Waker todo) h = waker_stays todo h
-  op_stays (op.AtomicWaker todo) h = place_stays todo h
-  op_stays (op.Local todo) h = local_stays todo h
-  op_stays (op.Lazy todo) h = lazy_stays todo h
-  op_stays (op.Explore todo) h = stayed
-  op_stays (op.Thread todo) h = thread_stays todo h
-  op_stays op.Fail h = tt
-  op_stays op.Unreachable h = tt
-
-module _ {D : Type 0} where
-  counted_stays : (todo : Request D ⊤) (w : World D) → needs_memory todo ≡ false → Answers (Stays w) (counted todo w)
-  counted_stays todo w h = onward w (check (nat_lt 0 w.steps_left) TooManySteps) _ (λ u. op_stays (record w { steps_left = w.steps_left - 1 }) todo h)
-
-  pub growth_law : GrowthLaw D
-  growth_law todo w entry v h e = subst (Answers (Stays w)) e (counted_stays todo w h)
-
-  -- what makes a thread or an object needs memory
-  pub made_needs_memory : (todo : Request D ⊤) (w : World D) (entry : Entry D) (v : World D) → counted todo w ≡ Ok (entry, v)
-      → 0 < length v.threads - length w.threads + (length v.objects - length w.objects) → needs_memory todo ≡ true
-  made_needs_memory todo w entry v e more = by_need (needs_memory todo) refl
-    where
-      by_need : (needs : Bool) → needs_memory todo ≡ needs → needs ≡ true
-      by_need true h = refl
-      by_need false h = let s = growth_law todo w entry v h e in absurd (omega (arith, s.0, s.1, more))

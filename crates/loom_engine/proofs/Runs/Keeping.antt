@@ -76,15 +76,7 @@ module _ {D : Type 0} where
   abbrev pub IsSoundLock : Object D → Type 0
   IsSoundLock (object.Mutex mutex) = IsSoundMutex mutex
   IsSoundLock (object.RwLock lock) = IsSoundRwLock lock
-  IsSoundLock (object.Atomic atomic) = Unit {0}
-  IsSoundLock (object.Cell cell) = Unit {0}
-  IsSoundLock (object.Arc arc) = Unit {0}
-  IsSoundLock (object.Track track) = Unit {0}
-  IsSoundLock (object.Condvar condvar) = Unit {0}
-  IsSoundLock (object.Notify notifier) = Unit {0}
-  IsSoundLock (object.Channel channel) = Unit {0}
-  IsSoundLock (object.Wakers wakers) = Unit {0}
-  IsSoundLock (object.AtomicWaker place) = Unit {0}
+  IsSoundLock _ = Unit {0}
 
   abbrev pub AreSound : List (Object D) → Type 0
   AreSound [] = Unit {0}
@@ -128,15 +120,7 @@ module _ {D : Type 0} where
   sound_exclusive : (x : Object D) → IsSoundLock x → is_exclusive x ≡ true
   sound_exclusive (object.Mutex mutex) s = mutex_exclusive mutex.holder mutex.content.value mutex.content.lent s
   sound_exclusive (object.RwLock lock) s = rwlock_exclusive lock.writer (is_unread lock) lock.content.value lock.content.lent s
-  sound_exclusive (object.Atomic atomic) s = refl
-  sound_exclusive (object.Cell cell) s = refl
-  sound_exclusive (object.Arc arc) s = refl
-  sound_exclusive (object.Track track) s = refl
-  sound_exclusive (object.Condvar condvar) s = refl
-  sound_exclusive (object.Notify notifier) s = refl
-  sound_exclusive (object.Channel channel) s = refl
-  sound_exclusive (object.Wakers wakers) s = refl
-  sound_exclusive (object.AtomicWaker place) s = refl
+  sound_exclusive _ s = refl
 
   pub all_exclusive : (objects : List (Object D)) → AreSound objects → list_all is_exclusive objects ≡ true
   all_exclusive [] k = refl

@@ -27,42 +27,12 @@ module _ {D : Type 0} where
   doing (task.Send n sent) = Some (Sends n (map value_of sent))
   doing (task.Receive receiving n) = Some (Receives n)
   doing (task.Drain n taken) = Some (Drains n)
-  doing task.Start = None
-  doing task.Body = None
-  doing task.Continue = None
-  doing (task.Access access) = None
-  doing (task.Lock locking n) = None
-  doing (task.TryLock n) = None
-  doing (task.Claim claim n) = None
-  doing (task.Wait locking n m value) = None
-  doing (task.Relock locking m) = None
-  doing (task.Wake waking n) = None
-  doing (task.Notify n) = None
-  doing (task.Await n) = None
-  doing (task.Rouse n) = None
-  doing (task.Count counting n) = None
-  doing (task.TryUnwrap n) = None
-  doing (task.Join t n) = None
-  doing (task.Finish n value) = None
-  doing (task.WakeBy n c after) = None
-  doing (task.CloneWaker c place) = None
-  doing (task.DropWaker c after) = None
-  doing (task.Register p c) = None
-  doing (task.TakeWaker taking p) = None
+  doing _ = None
 
   -- it is no channel
   abbrev pub IsAway : Object D → Type 0
   IsAway (object.Channel channel) = ⊥
-  IsAway (object.Atomic atomic) = Unit {0}
-  IsAway (object.Mutex mutex) = Unit {0}
-  IsAway (object.RwLock lock) = Unit {0}
-  IsAway (object.Condvar condvar) = Unit {0}
-  IsAway (object.Notify notifier) = Unit {0}
-  IsAway (object.Cell cell) = Unit {0}
-  IsAway (object.Arc arc) = Unit {0}
-  IsAway (object.Track track) = Unit {0}
-  IsAway (object.Wakers wakers) = Unit {0}
-  IsAway (object.AtomicWaker place) = Unit {0}
+  IsAway _ = Unit {0}
 
   abbrev pub AwayAt : Option (Object D) → Type 0
   AwayAt None = ⊥

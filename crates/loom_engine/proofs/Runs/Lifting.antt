@@ -21,7 +21,7 @@ use Rattle.loom_objects.specs.Rules.Tables.{chosen, counted}
 use Rattle.loom_objects.specs.Rules.Ending.{all_ended, end_of}
 use Rattle.loom_objects.specs.Exploring.{is_on, switched}
 use Rattle.loom_objects.specs.Rules.Notify.{enters_wait as entered}
-use Rattle.loom_objects.specs.Tree.Question.{slots}
+use Rattle.loom_objects.specs.Tree.Stores.{slots}
 use Rattle.loom_objects.specs.Rules.Steps.{asked, asks_slot, begins, ends, enters_wait, read_slot, resumes, slot_of, told, turned}
 use Rattle.loom_objects.specs.Tree.Tree.{Tree, ◌>>=◌, came}
 use Rattle.loom_objects.specs.World.{World}

@@ -50,7 +50,8 @@ use Rattle.loom_engine.proofs.Runs.Carrying.{InWorld}
 use Rattle.loom_engine.proofs.Runs.Keeping.{Keeps, kept_value}
 use Rattle.loom_engine.proofs.Runs.Lifting.{EnteredTo, ReplyTo, ResumedTo, event_kept}
 use Rattle.loom_engine.proofs.Runs.Kept.{HasNotifier, KeptByMoves, stated}
-use Rattle.loom_engine.proofs.Runs.Moving.{Within, begins_moves, effect_moves, enters_wait_moves, reads_moves, takes_result_moves}
+use Rattle.loom_engine.proofs.Runs.Kinds.{begins_moves, effect_moves}
+use Rattle.loom_engine.proofs.Runs.Moving.{Within, enters_wait_moves, reads_moves, takes_result_moves}
 
 -- ---- booleans
 

@@ -1,6 +1,6 @@
 -- What each rule leaves as it is: a property of states that the moves keep is kept by every rule, but for those that are about
 -- channels, values that are made once, and a thread's result, of which the property says so itself.
-use Rattle.std.proofs.Common.{◌≡◌, ℕ, Bool, true, false, List, [], ◌∷◌, ◌++◌, length, map, Option, Some, None, refl, subst, sym}
+use Rattle.std.proofs.Common.{◌≡◌, ◌+◌, ℕ, Bool, true, false, List, [], ◌∷◌, ◌++◌, length, map, Option, Some, None, refl, subst, sym}
 use Rattle.std.specs.Prelude.{◌==◌, is_none, is_some, nat_lt, not, slice_get, slice_set, Result, Ok, Err, ⊤}
 use Rattle.std.specs.declared.sync.atomic.Ordering.{Ordering}
 use Rattle.loom_views.specs.Changes.{changed as changed_number, fit}
@@ -19,21 +19,16 @@ use Rattle.loom_objects.specs.declared.operation.AtomicWakerOp.{AtomicWakerOp}
 use Rattle.loom_objects.specs.declared.operation.AtomicWakerOp.TheVariants as place_op
 use Rattle.loom_objects.specs.declared.operation.CellOp.{CellOp}
 use Rattle.loom_objects.specs.declared.operation.CellOp.TheVariants as cell_op
-use Rattle.loom_objects.specs.declared.operation.ChannelOp.{ChannelOp}
 use Rattle.loom_objects.specs.declared.operation.CondvarOp.{CondvarOp}
 use Rattle.loom_objects.specs.declared.operation.CondvarOp.TheVariants as condvar_op
 use Rattle.loom_objects.specs.declared.operation.Exchange.{Exchange}
 use Rattle.loom_objects.specs.declared.operation.Keyed.{Keyed}
-use Rattle.loom_objects.specs.declared.operation.LazyOp.{LazyOp}
 use Rattle.loom_objects.specs.declared.operation.LocalOp.{LocalOp}
 use Rattle.loom_objects.specs.declared.operation.LocalOp.TheVariants as local_op
-use Rattle.loom_objects.specs.declared.operation.Message.{Message}
 use Rattle.loom_objects.specs.declared.operation.MutexOp.{MutexOp}
 use Rattle.loom_objects.specs.declared.operation.MutexOp.TheVariants as mutex_op
 use Rattle.loom_objects.specs.declared.operation.NotifyOp.{NotifyOp}
 use Rattle.loom_objects.specs.declared.operation.NotifyOp.TheVariants as notify_op
-use Rattle.loom_objects.specs.declared.operation.Request.{Request}
-use Rattle.loom_objects.specs.declared.operation.Request.TheVariants as op
 use Rattle.loom_objects.specs.declared.operation.Reply.{Reply}
 use Rattle.loom_objects.specs.declared.operation.RwLockOp.{RwLockOp}
 use Rattle.loom_objects.specs.declared.operation.RwLockOp.TheVariants as lock_op
@@ -66,7 +61,6 @@ use Rattle.loom_objects.specs.declared.rt.thread.Locking.{Locking}
 use Rattle.loom_objects.specs.declared.rt.thread.Locking.TheVariants.{Timed, Untimed}
 use Rattle.loom_objects.specs.declared.operation.Name.{Name}
 use Rattle.loom_objects.specs.declared.rt.thread.Phase.TheVariants.{Exited, Over}
-use Rattle.loom_objects.specs.declared.rt.thread.Receiving.{Receiving}
 use Rattle.loom_objects.specs.declared.rt.thread.State.{State}
 use Rattle.loom_objects.specs.declared.rt.thread.State.TheVariants.{Blocked, Ended, Parked, Runnable, Sleeping}
 use Rattle.loom_objects.specs.declared.rt.thread.Taking.{Taking}
@@ -79,21 +73,19 @@ use Rattle.loom_objects.specs.declared.rt.thread.Waking.TheVariants.{All, One}
 use Rattle.loom_objects.specs.Operation.Accessed.{accessed}
 use Rattle.loom_objects.specs.Rules.Atomic.{access_begins, accesses, atomic_begins, exchanges, exchanges_if, fence, is_relaxed, opens, reads, some_slot, store, swap_of, writes}
 use Rattle.loom_objects.specs.Rules.Cell.{cell_begins, data_left, exchanges_cells, is_free, is_unread, opens_write, reads_open, swap_if}
-use Rattle.loom_objects.specs.Rules.Mpsc.{channel_begins, drains, receives, sends}
 use Rattle.loom_objects.specs.Rules.Condvar.{condvar_begins, falls_asleep, relocks, wait_begins, wake_begins, wakes, with_waiters, woken_by}
 use Rattle.loom_objects.specs.Rules.Arc.{arc_begins, comes_to, counts, decrements, drops_last, is_free as is_free_arc, may_grow, sole_value, tries_unwrap, unwraps_if}
-use Rattle.loom_objects.specs.Rules.Tables.{op_begins, takes_effect}
 use Rattle.loom_objects.specs.Lent.{value_in}
 use Rattle.loom_objects.specs.Rules.Mutex.{free_value, frees, lock, locks_unless, mutex_begins, try_lock}
 use Rattle.loom_objects.specs.Scene.Lookup.{looked_up, atomic_in, mutex_in, rwlock_in, condvar_in, notify_in, cell_in, arc_in, track_in, wakers_in, atomic_waker_in}
-use Rattle.loom_objects.specs.Rules.Moves.{active_thread, at_phase, changed_at, having, in_state, is_number, pending, pending_with, releases, resting, rests, rouses, rouses_all, running, takes_result, target, joins_view, unparked, unparks, with_new, with_points, with_token, writing_with, written, yielded, yields, pends}
-use Rattle.loom_objects.specs.Rules.Notify.{awaits, comes_to_wait, enters_wait, is_alone, is_for_waits, may_be_spurious, notify_begins, notifies, notify, wait_begins as notifier_wait_begins, waits_or_rouses, wakes_early, with_notify}
+use Rattle.loom_objects.specs.Rules.Moves.{a_wakers, active_thread, at_phase, changed_at, having, in_state, is_number, pending, pending_with, releases, resting, rests, rouses, rouses_all, running, takes_result, target, joins_view, unparked, unparks, with_new, with_points, with_token, writing_with, written, yielded, yields, pends}
+use Rattle.loom_objects.specs.Rules.Notify.{awaits, comes_to_wait, enters_wait, has_waker, is_alone, is_for_waits, may_be_spurious, notify_begins, notifies, notify, wait_begins as notifier_wait_begins, waits_or_rouses, wakes_early, with_notify}
 use Rattle.loom_objects.specs.Rules.Rule.{◌>>=◌, check, found}
 use Rattle.loom_objects.specs.Rules.RwLock.{claim_begins, claims, guards_of, is_refused, is_unread as is_unread_lock, reads_lock, rwlock_begins, takes_unless, unlocked_value, wakes_if, with_one_fewer, writes_lock}
 use Rattle.loom_objects.specs.Rules.Thread.{child_finish, finish, has_own, is_exited, is_finished, join, parks_unless, thread_begins, without_locals}
 use Rattle.loom_objects.specs.Rules.Alloc.{track_begins, track_take}
 use Rattle.loom_objects.specs.Rules.Replied.{gone, replied}
-use Rattle.loom_objects.specs.Rules.Locals.{is_taken, lazy_begins, local_at, local_begins, local_or, none_there, puts_local, reads_local, with_local}
+use Rattle.loom_objects.specs.Rules.Locals.{is_taken, local_at, local_begins, local_or, none_there, puts_local, reads_local, with_local}
 use Rattle.loom_objects.specs.Rules.Waker.{acquires_if, after_clone, after_drop, after_wake, clones_waker, drops_waker, frees_place, has_taken, holds_place, atomic_waker_begins, registers, registers_if, some_wakers, take_begins, takes_place, takes_waker, wake_begins as wake_by_begins, waker_begins, waker_pends, wakes_by}
 use Rattle.loom_objects.specs.World.{World, MAX_THREADS, child_thread}
 use Rattle.loom_engine.proofs.Runs.Answering.{Answers, answers_then}
@@ -108,58 +100,49 @@ IsErr (Ok a) = ⊥
 IsErr (Err kind) = Unit {0}
 
 module _ {D : Type 0} (R : World D → Type 0) (k : KeptByMoves R) where
-  onward : {A B : Type 0} (r : Result B FailureKind) (next : B → Result (A × World D) FailureKind) → ((b : B) → Answers (Within R) (next b)) → Answers (Within R) (r >>= next)
+  pub onward : {A B : Type 0} (r : Result B FailureKind) (next : B → Result (A × World D) FailureKind) → ((b : B) → Answers (Within R) (next b)) → Answers (Within R) (r >>= next)
   onward r next h = answers_then (Within R) r next h
 
-  from_there : {A B : Type 0} (r : Result (B × World D) FailureKind) (next : B × World D → Result (A × World D) FailureKind) → Answers (Within R) r
+  pub from_there : {A B : Type 0} (r : Result (B × World D) FailureKind) (next : B × World D → Result (A × World D) FailureKind) → Answers (Within R) r
       → ((answered : B × World D) → R answered.1 → Answers (Within R) (next answered)) → Answers (Within R) (r >>= next)
   from_there (Ok answered) next s h = h answered s
   from_there (Err kind) next s h = tt
 
   -- only points change
-  by_points : {A : Type 0} (v : World D) (r : Result Points FailureKind) (next : World D → Result (A × World D) FailureKind) → R v → ((p : Points) → R (with_points p v) → Answers (Within R) (next (with_points p v)))
+  pub by_points : {A : Type 0} (v : World D) (r : Result Points FailureKind) (next : World D → Result (A × World D) FailureKind) → R v → ((p : Points) → R (with_points p v) → Answers (Within R) (next (with_points p v)))
       → Answers (Within R) ((r >>= (λ p. Ok (with_points p v))) >>= next)
   by_points v (Ok p) next s h = h p (k.points p v s)
   by_points v (Err kind) next s h = tt
 
-  failing : {A B : Type 0} (r : Result B FailureKind) (next : B → Result (A × World D) FailureKind) → IsErr r → Answers (Within R) (r >>= next)
+  pub failing : {A B : Type 0} (r : Result B FailureKind) (next : B → Result (A × World D) FailureKind) → IsErr r → Answers (Within R) (r >>= next)
   failing (Ok b) next h = absurd h
   failing (Err kind) next h = tt
 
   -- an object is looked up that is no channel
-  away : {A B : Type 0} (as_kind : Object D → Result B FailureKind) → ((channel : Channel D) → IsErr (as_kind (object.Channel channel))) → (o : Option (Object D)) (next : B → Result (A × World D) FailureKind)
+  pub away : {A B : Type 0} (as_kind : Object D → Result B FailureKind) → ((channel : Channel D) → IsErr (as_kind (object.Channel channel))) → (o : Option (Object D)) (next : B → Result (A × World D) FailureKind)
       → ((b : B) → AwayAt o → Answers (Within R) (next b)) → Answers (Within R) (looked_up as_kind o >>= next)
   away as_kind none None next h = tt
   away as_kind none (Some (object.Channel channel)) next h = failing (as_kind (object.Channel channel)) next (none channel)
-  away as_kind none (Some (object.Atomic atomic)) next h = onward (as_kind (object.Atomic atomic)) next (λ b. h b tt)
-  away as_kind none (Some (object.Mutex mutex)) next h = onward (as_kind (object.Mutex mutex)) next (λ b. h b tt)
-  away as_kind none (Some (object.RwLock lock)) next h = onward (as_kind (object.RwLock lock)) next (λ b. h b tt)
-  away as_kind none (Some (object.Condvar condvar)) next h = onward (as_kind (object.Condvar condvar)) next (λ b. h b tt)
-  away as_kind none (Some (object.Notify notifier)) next h = onward (as_kind (object.Notify notifier)) next (λ b. h b tt)
-  away as_kind none (Some (object.Cell cell)) next h = onward (as_kind (object.Cell cell)) next (λ b. h b tt)
-  away as_kind none (Some (object.Arc arc)) next h = onward (as_kind (object.Arc arc)) next (λ b. h b tt)
-  away as_kind none (Some (object.Track track)) next h = onward (as_kind (object.Track track)) next (λ b. h b tt)
-  away as_kind none (Some (object.Wakers wakers)) next h = onward (as_kind (object.Wakers wakers)) next (λ b. h b tt)
-  away as_kind none (Some (object.AtomicWaker place)) next h = onward (as_kind (object.AtomicWaker place)) next (λ b. h b tt)
+  away as_kind none (Some x) next h = onward (as_kind x) next (λ b. h b tt)
 
   -- ---- moves
 
-  pends_so : (todo : Task D) (is_blocked : Bool) (w : World D) → doing todo ≡ None → R w → R (pends todo is_blocked w)
+  pub pends_so : (todo : Task D) (is_blocked : Bool) (w : World D) → doing todo ≡ None → R w → R (pends todo is_blocked w)
   pends_so todo is_blocked w idle s = k.turned (pending todo is_blocked) w (λ thread. record { shut = λ e. e; own = refl; idle = idle }) s
 
-  wakes_so : (n : ℕ) (state : State) (w : World D) → R w → R (record w { threads = map (pending_with n state) w.threads })
+  pub wakes_so : (n : ℕ) (state : State) (w : World D) → R w → R (record w { threads = map (pending_with n state) w.threads })
   wakes_so n state w s = k.each (pending_with n state) w (λ thread. stated (is_number (target thread.task) n) state thread) s
 
-  tells_so : (t : Option ℕ) (w : World D) → R w → R (joins_view t w)
+  pub tells_so : (t : Option ℕ) (w : World D) → R w → R (joins_view t w)
   tells_so t w s = k.points _ w s
 
-  releases_so : (n : ℕ) (w : World D) → R w → R (releases n w)
+  pub releases_so : (n : ℕ) (w : World D) → R w → R (releases n w)
   releases_so n w s = k.points _ w s
 
-  new_so : (x : Object D) (w : World D) → IsAway x → R w → R (with_new x w)
+  pub new_so : (x : Object D) (w : World D) → IsAway x → R w → R (with_new x w)
   new_so x w h s = k.points _ _ (k.made x w h s)
 
-  yields_so : (todo : Task D) (w : World D) → doing todo ≡ None → R w → Answers (Within R) (yields todo w)
+  pub yields_so : (todo : Task D) (w : World D) → doing todo ≡ None → R w → Answers (Within R) (yields todo w)
   yields_so todo w idle s =
       onward (active_thread w) _ (λ thread. onward (check (nat_lt thread.yields highest_count) TooManySteps) _ (λ u.
       k.points _ _ (k.turned (yielded todo) w (λ thread. record { shut = λ e. e; own = refl; idle = idle }) s)))
@@ -169,7 +152,7 @@ module _ {D : Type 0} (R : World D → Type 0) (k : KeptByMoves R) where
   access_moves : (access : AtomicOp) (w : World D) → R w → Answers (Within R) (access_begins access w)
   access_moves access w s = onward (found (accessed access) Misuse) _ (λ n. away atomic_in (λ c. tt) (slice_get w.objects n) _ (λ atomic there. pends_so (task.Access access) false w refl s))
 
-  atomic_moves : (todo : AtomicOp) (w : World D) → R w → Answers (Within R) (atomic_begins todo w)
+  pub atomic_moves : (todo : AtomicOp) (w : World D) → R w → Answers (Within R) (atomic_begins todo w)
   atomic_moves (atomic_op.New numbers value) w s = k.points _ _ (k.made _ w tt s)
   atomic_moves (atomic_op.UnsyncLoad n) w s =
       away atomic_in (λ c. tt) (slice_get w.objects n) _ (λ atomic there. onward (points_after_unsync_load w.points w.active n) _ (λ read. k.points _ w s))
@@ -186,7 +169,7 @@ module _ {D : Type 0} (R : World D → Type 0) (k : KeptByMoves R) where
   atomic_moves (atomic_op.CompareExchange n exchange) w s = access_moves (atomic_op.CompareExchange n exchange) w s
   atomic_moves (atomic_op.CompareAndSwap n expected new order) w s = access_moves (atomic_op.CompareAndSwap n expected new order) w s
 
-  fence_moves : (order : Ordering) (w : World D) → R w → Answers (Within R) (fence order w)
+  pub fence_moves : (order : Ordering) (w : World D) → R w → Answers (Within R) (fence order w)
   fence_moves order w s = by_points w (points_after_raise w.points w.active) _ s (λ p r. onward (check (not (is_relaxed order)) RelaxedFence) _ (λ u. k.points _ _ r))
 
   store_moves : (n value : ℕ) (order : Ordering) (w : World D) → R w → Answers (Within R) (store n value order w)
@@ -250,7 +233,7 @@ module _ {D : Type 0} (R : World D → Type 0) (k : KeptByMoves R) where
   swap_moves false n m w s =
       from_there (opens_write n w) _ (opens_write_moves n w s) (λ opened r. from_there (opens_write m opened.1) _ (opens_write_moves m opened.1 r) (λ both z. exchanges_cells_moves n m both.1 z))
 
-  cell_moves : (todo : CellOp D) (w : World D) → R w → Answers (Within R) (cell_begins todo w)
+  pub cell_moves : (todo : CellOp D) (w : World D) → R w → Answers (Within R) (cell_begins todo w)
   cell_moves (cell_op.New value) w s = k.points _ _ (k.made _ w tt s)
   cell_moves (cell_op.Read n) w s =
       away cell_in (λ c. tt) (slice_get w.objects n) _ (λ cell there. by_points w (points_after_raise w.points w.active) _ s (λ p r. onward (check (is_none cell.content.lent) OpenAccess) _ (λ u.
@@ -284,7 +267,7 @@ module _ {D : Type 0} (R : World D → Type 0) (k : KeptByMoves R) where
   comes_to_moves : (todo : Task D) (n : ℕ) (w : World D) → doing todo ≡ None → R w → Answers (Within R) (comes_to todo n w)
   comes_to_moves todo n w idle s = away arc_in (λ c. tt) (slice_get w.objects n) _ (λ arc there. onward (check (nat_lt 0 arc.count) Misuse) _ (λ u. pends_so todo false w idle s))
 
-  arc_moves : (todo : ArcOp D) (w : World D) → R w → Answers (Within R) (arc_begins todo w)
+  pub arc_moves : (todo : ArcOp D) (w : World D) → R w → Answers (Within R) (arc_begins todo w)
   arc_moves (arc_op.New value) w s = k.points _ _ (k.made _ w tt s)
   arc_moves (arc_op.Get n) w s = away arc_in (λ c. tt) (slice_get w.objects n) _ (λ arc there. onward (check (is_free_arc arc) Misuse) _ (λ u. onward (found (value_in arc.content) Misuse) _ (λ value. s)))
   arc_moves (arc_op.Put n value) w s = away arc_in (λ c. tt) (slice_get w.objects n) _ (λ arc there. onward (check (is_number arc.content.lent w.active) Misuse) _ (λ u. k.object n _ w there tt s))
@@ -301,7 +284,7 @@ module _ {D : Type 0} (R : World D → Type 0) (k : KeptByMoves R) where
   decrements_moves : (n : ℕ) (w : World D) → R w → Answers (Within R) (decrements n w)
   decrements_moves n w s = away arc_in (λ c. tt) (slice_get w.objects n) _ (λ arc there. onward (sole_value arc) _ (λ value. drops_moves value n _ (k.points _ _ (k.object n _ w there tt s))))
 
-  counts_moves : (todo : Counting) (n : ℕ) (w : World D) → R w → Answers (Within R) (counts todo n w)
+  pub counts_moves : (todo : Counting) (n : ℕ) (w : World D) → R w → Answers (Within R) (counts todo n w)
   counts_moves counting.Clone n w s = away arc_in (λ c. tt) (slice_get w.objects n) _ (λ arc there. onward (may_grow arc) _ (λ u. k.object n _ w there tt s))
   counts_moves counting.Drop n w s = decrements_moves n w s
   counts_moves counting.GetMut n w s = away arc_in (λ c. tt) (slice_get w.objects n) _ (λ arc there. onward (sole_value arc) _ (λ value. k.points _ _ (k.object n _ w there tt s)))
@@ -312,13 +295,13 @@ module _ {D : Type 0} (R : World D → Type 0) (k : KeptByMoves R) where
   unwraps_moves false n w s = s
   unwraps_moves true n w s = pends_so (task.Count counting.Unwrap n) false w refl s
 
-  tries_unwrap_moves : (n : ℕ) (w : World D) → R w → Answers (Within R) (tries_unwrap n w)
+  pub tries_unwrap_moves : (n : ℕ) (w : World D) → R w → Answers (Within R) (tries_unwrap n w)
   tries_unwrap_moves n w s = away arc_in (λ c. tt) (slice_get w.objects n) _ (λ arc there. onward (check (is_free_arc arc) Misuse) _ (λ u. unwraps_moves (arc.count == 1) n _ (k.points _ w s)))
 
   take_moves : (n : ℕ) (w : World D) → R w → Answers (Within R) (track_take n w)
   take_moves n w s = away track_in (λ c. tt) (slice_get w.objects n) _ (λ track there. onward (found (value_in track.content) Misuse) _ (λ value. k.object n _ w there tt s))
 
-  track_moves : (todo : TrackOp D) (w : World D) → R w → Answers (Within R) (track_begins todo w)
+  pub track_moves : (todo : TrackOp D) (w : World D) → R w → Answers (Within R) (track_begins todo w)
   track_moves (track_op.New value) w s = k.points _ _ (k.made _ w tt s)
   track_moves (track_op.GetRef n) w s = away track_in (λ c. tt) (slice_get w.objects n) _ (λ track there. onward (found (value_in track.content) Misuse) _ (λ value. s))
   track_moves (track_op.GetMut n) w s = away track_in (λ c. tt) (slice_get w.objects n) _ (λ track there. onward (found (value_in track.content) Misuse) _ (λ value. k.object n _ w there tt s))
@@ -328,20 +311,20 @@ module _ {D : Type 0} (R : World D → Type 0) (k : KeptByMoves R) where
 
   -- ---- locks
 
-  lock_moves : (locking : Locking) (n : ℕ) (w : World D) → R w → Answers (Within R) (lock locking n w)
+  pub lock_moves : (locking : Locking) (n : ℕ) (w : World D) → R w → Answers (Within R) (lock locking n w)
   lock_moves locking n w s = away mutex_in (λ c. tt) (slice_get w.objects n) _ (λ mutex there. onward (found (free_value mutex) Misuse) _ (λ value. wakes_so n Blocked _ (k.points _ _ (k.object n _ w there tt s))))
 
   locks_unless_moves : (is_held : Bool) (n : ℕ) (w : World D) → R w → Answers (Within R) (locks_unless is_held n w)
   locks_unless_moves true n w s = s
   locks_unless_moves false n w s = lock_moves Untimed n w s
 
-  try_lock_moves : (n : ℕ) (w : World D) → R w → Answers (Within R) (try_lock n w)
+  pub try_lock_moves : (n : ℕ) (w : World D) → R w → Answers (Within R) (try_lock n w)
   try_lock_moves n w s = away mutex_in (λ c. tt) (slice_get w.objects n) _ (λ mutex there. onward (check (is_none mutex.content.lent) Misuse) _ (λ u. locks_unless_moves (is_some mutex.holder) n w s))
 
   frees_moves : (n : ℕ) (value : D) (w : World D) → R w → Answers (Within R) (frees n value w)
   frees_moves n value w s = away mutex_in (λ c. tt) (slice_get w.objects n) _ (λ mutex there. onward (check (is_number mutex.holder w.active) Misuse) _ (λ u. wakes_so n Runnable _ (k.points _ _ (k.object n _ w there tt s))))
 
-  mutex_moves : (todo : MutexOp D) (w : World D) → R w → Answers (Within R) (mutex_begins todo w)
+  pub mutex_moves : (todo : MutexOp D) (w : World D) → R w → Answers (Within R) (mutex_begins todo w)
   mutex_moves (mutex_op.New value) w s = k.points _ _ (k.made _ w tt s)
   mutex_moves (mutex_op.Lock n) w s = away mutex_in (λ c. tt) (slice_get w.objects n) _ (λ mutex there. pends_so (task.Lock Untimed n) (is_some mutex.holder) w refl s)
   mutex_moves (mutex_op.TryLock n) w s = away mutex_in (λ c. tt) (slice_get w.objects n) _ (λ mutex there. pends_so (task.TryLock n) false w refl s)
@@ -357,7 +340,7 @@ module _ {D : Type 0} (R : World D → Type 0) (k : KeptByMoves R) where
   wakes_if_moves true n w s = wakes_so n Runnable w s
   wakes_if_moves false n w s = s
 
-  rwlock_moves : (todo : RwLockOp D) (w : World D) → R w → Answers (Within R) (rwlock_begins todo w)
+  pub rwlock_moves : (todo : RwLockOp D) (w : World D) → R w → Answers (Within R) (rwlock_begins todo w)
   rwlock_moves (lock_op.New value) w s = k.points _ _ (k.made _ w tt s)
   rwlock_moves (lock_op.Read n) w s = claim_moves Read n w s
   rwlock_moves (lock_op.TryRead n) w s = claim_moves TryRead n w s
@@ -390,7 +373,7 @@ module _ {D : Type 0} (R : World D → Type 0) (k : KeptByMoves R) where
   takes_moves false Write n lock w there s = writes_lock_moves n lock w there s
   takes_moves false TryWrite n lock w there s = writes_lock_moves n lock w there s
 
-  claims_moves : (claim : Claim) (n : ℕ) (w : World D) → R w → Answers (Within R) (claims claim n w)
+  pub claims_moves : (claim : Claim) (n : ℕ) (w : World D) → R w → Answers (Within R) (claims claim n w)
   claims_moves claim n w s =
       away rwlock_in (λ c. tt) (slice_get w.objects n) _ (λ lock there. onward (check (is_none lock.content.lent) Misuse) _ (λ u. takes_moves (is_refused claim lock) claim n lock w there s))
 
@@ -404,28 +387,28 @@ module _ {D : Type 0} (R : World D → Type 0) (k : KeptByMoves R) where
   wake_moves : (waking : Waking) (n : ℕ) (w : World D) → R w → Answers (Within R) (wake_begins waking n w)
   wake_moves waking n w s = away condvar_in (λ c. tt) (slice_get w.objects n) _ (λ condvar there. pends_so (task.Wake waking n) false w refl s)
 
-  condvar_moves : (todo : CondvarOp D) (w : World D) → R w → Answers (Within R) (condvar_begins todo w)
+  pub condvar_moves : (todo : CondvarOp D) (w : World D) → R w → Answers (Within R) (condvar_begins todo w)
   condvar_moves condvar_op.New w s = k.points _ _ (k.made _ w tt s)
   condvar_moves (condvar_op.Wait n m value) w s = wait_moves Untimed n m value w s
   condvar_moves (condvar_op.WaitTimeout n m value) w s = wait_moves Timed n m value w s
   condvar_moves (condvar_op.NotifyOne n) w s = wake_moves One n w s
   condvar_moves (condvar_op.NotifyAll n) w s = wake_moves All n w s
 
-  falls_asleep_moves : (locking : Locking) (n m : ℕ) (value : D) (w : World D) → R w → Answers (Within R) (falls_asleep locking n m value w)
+  pub falls_asleep_moves : (locking : Locking) (n m : ℕ) (value : D) (w : World D) → R w → Answers (Within R) (falls_asleep locking n m value w)
   falls_asleep_moves locking n m value w s =
       away condvar_in (λ c. tt) (slice_get w.objects n) _ (λ condvar there. onward (check (nat_lt (length condvar.waiters.items) MAX_THREADS) Misuse) _ (λ u.
       let queued = with_waiters n (condvar.waiters.items ++ w.active ∷ []) w in
       from_there (frees m value queued) (λ freed. Ok (passed.AtBranch, rests Sleeping (task.Relock locking m) freed.1)) (frees_moves m value queued (k.object n _ w there tt s)) (λ freed r.
       k.turned (resting Sleeping (task.Relock locking m)) freed.1 (λ thread. record { shut = λ e. e; own = refl; idle = refl }) r)))
 
-  relocks_moves : (locking : Locking) (m : ℕ) (w : World D) → R w → Answers (Within R) (relocks locking m w)
+  pub relocks_moves : (locking : Locking) (m : ℕ) (w : World D) → R w → Answers (Within R) (relocks locking m w)
   relocks_moves locking m w s = pends_so (task.Lock locking m) _ w refl s
 
   rouses_moves : (threads : List ℕ) (w : World D) → R w → R (rouses_all threads w)
   rouses_moves [] w s = s
   rouses_moves (t ∷ threads) w s = rouses_moves threads (rouses t w) (k.points _ _ (k.changed running t w (λ thread. record { shut = λ e. e; own = refl; same = refl }) s))
 
-  wakes_moves : (waking : Waking) (n : ℕ) (w : World D) → R w → Answers (Within R) (wakes waking n w)
+  pub wakes_moves : (waking : Waking) (n : ℕ) (w : World D) → R w → Answers (Within R) (wakes waking n w)
   wakes_moves waking n w s = away condvar_in (λ c. tt) (slice_get w.objects n) _ (λ condvar there. rouses_moves (woken_by waking condvar.waiters.items) _ (k.object n _ w there tt s))
 
   waits_moves : (may_be : Bool) (n : ℕ) (notifier : Notify) (w : World D) → AwayAt (slice_get w.objects n) → R w → Answers (Within R) (comes_to_wait may_be n notifier w)
@@ -437,7 +420,7 @@ module _ {D : Type 0} (R : World D → Type 0) (k : KeptByMoves R) where
       away notify_in (λ c. tt) (slice_get w.objects n) _ (λ notifier there. onward (check (is_for_waits notifier.spurious) Misuse) _ (λ u. onward (check (is_alone w.active notifier) SecondWaiter) _ (λ v.
       waits_moves (may_be_spurious notifier.spurious) n notifier w there s)))
 
-  notifier_moves : (todo : NotifyOp) (w : World D) → R w → Answers (Within R) (notify_begins todo w)
+  pub notifier_moves : (todo : NotifyOp) (w : World D) → R w → Answers (Within R) (notify_begins todo w)
   notifier_moves notify_op.New w s = k.points _ _ (k.made _ w tt s)
   notifier_moves (notify_op.Notify n) w s = away notify_in (λ c. tt) (slice_get w.objects n) _ (λ notifier there. onward (check (is_for_waits notifier.spurious) Misuse) _ (λ u. pends_so (task.Notify n) false w refl s))
   notifier_moves (notify_op.Wait n) w s = notifier_wait_moves n w s
@@ -455,14 +438,14 @@ module _ {D : Type 0} (R : World D → Type 0) (k : KeptByMoves R) where
       let released = releases n noted in
       wakes_so n Runnable (joins_view notifier.waiter released) (tells_so notifier.waiter released (releases_so n noted (k.object n _ w there tt s))))
 
-  notifies_moves : (n : ℕ) (w : World D) → R w → Answers (Within R) (notifies n w)
+  pub notifies_moves : (n : ℕ) (w : World D) → R w → Answers (Within R) (notifies n w)
   notifies_moves n w s = from_there (notify n w) _ (notify_moves n w s) (λ after r. r)
 
-  awaits_moves : (n : ℕ) (w : World D) → R w → Answers (Within R) (awaits n w)
-  awaits_moves n w s = away notify_in (λ c. tt) (slice_get w.objects n) _ (λ notifier there. onward (check notifier.notified Misuse) _ (λ u. k.points _ _ (k.object n _ w there tt s)))
+  pub awaits_moves : (n : ℕ) (w : World D) → R w → Answers (Within R) (awaits n w)
+  awaits_moves n w s = away notify_in (λ c. tt) (slice_get w.objects n) _ (λ notifier there. onward (has_waker notifier.wakers w) _ (λ v. onward (check notifier.notified Misuse) _ (λ u. k.points _ _ (k.object n _ w there tt s))))
 
-  wakes_early_moves : (n : ℕ) (w : World D) → R w → Answers (Within R) (wakes_early n w)
-  wakes_early_moves n w s = away notify_in (λ c. tt) (slice_get w.objects n) _ (λ notifier there. k.object n _ w there tt s)
+  pub wakes_early_moves : (n : ℕ) (w : World D) → R w → Answers (Within R) (wakes_early n w)
+  wakes_early_moves n w s = away notify_in (λ c. tt) (slice_get w.objects n) _ (λ notifier there. onward (has_waker notifier.wakers w) _ (λ u. k.object n _ w there tt s))
 
   -- ---- wakers, and places for them
 
@@ -494,9 +477,9 @@ module _ {D : Type 0} (R : World D → Type 0) (k : KeptByMoves R) where
   wake_by_moves : (after : AfterWake) (c : ℕ) (w : World D) → R w → Answers (Within R) (wake_by_begins after c w)
   wake_by_moves after c w s = some_moves c w _ (λ wakers there. pends_so (task.WakeBy wakers.notifier c after) false w refl s)
 
-  waker_moves : (todo : WakerOp) (w : World D) → R w → Answers (Within R) (waker_begins todo w)
+  pub waker_moves : (todo : WakerOp) (w : World D) → R w → Answers (Within R) (waker_begins todo w)
   waker_moves waker_op.New w s =
-      let notifier = object.Notify (record { notified = false; waiter = None; spurious = NotYet }) in
+      let notifier = object.Notify (record { notified = false; waiter = None; spurious = NotYet; wakers = Some (length w.objects + 1) }) in
       new_so (object.Wakers (record { notifier = length w.objects; count = 1 })) (with_new notifier w) tt (new_so notifier w tt s)
   waker_moves (waker_op.Wait c) w s = some_moves c w _ (λ wakers there. notifier_wait_moves wakers.notifier w s)
   waker_moves (waker_op.Finish c) w s = waker_pends_moves (task.DropWaker c dropped.Done) c w refl s
@@ -508,7 +491,7 @@ module _ {D : Type 0} (R : World D → Type 0) (k : KeptByMoves R) where
   take_begins_moves : (by : Taking) (p : ℕ) (w : World D) → R w → Answers (Within R) (take_begins by p w)
   take_begins_moves by p w s = away atomic_waker_in (λ c. tt) (slice_get w.objects p) _ (λ place there. pends_so (task.TakeWaker by p) (is_some place.holder) w refl s)
 
-  place_moves : (todo : AtomicWakerOp) (w : World D) → R w → Answers (Within R) (atomic_waker_begins todo w)
+  pub place_moves : (todo : AtomicWakerOp) (w : World D) → R w → Answers (Within R) (atomic_waker_begins todo w)
   place_moves place_op.New w s = k.points _ _ (k.made _ w tt s)
   place_moves (place_op.Register p c) w s = away atomic_waker_in (λ c. tt) (slice_get w.objects p) _ (λ place there. waker_pends_moves (task.Register p c) c w refl s)
   place_moves (place_op.RegisterByRef p c) w s = away atomic_waker_in (λ c. tt) (slice_get w.objects p) _ (λ place there. waker_pends_moves (task.CloneWaker c (Some p)) c w refl s)
@@ -526,14 +509,14 @@ module _ {D : Type 0} (R : World D → Type 0) (k : KeptByMoves R) where
   after_wake_moves woken.Done c w s = s
   after_wake_moves (woken.Drop after) c w s = pends_so (task.DropWaker c after) false w refl s
 
-  wakes_by_moves : (n c : ℕ) (after : AfterWake) (w : World D) → R w → Answers (Within R) (wakes_by n c after w)
+  pub wakes_by_moves : (n c : ℕ) (after : AfterWake) (w : World D) → R w → Answers (Within R) (wakes_by n c after w)
   wakes_by_moves n c after w s = some_moves c w _ (λ wakers there. from_there (notify n w) _ (notify_moves n w s) (λ notified r. after_wake_moves after c notified.1 r))
 
   after_clone_moves : (place : Option ℕ) (c : ℕ) (w : World D) → R w → Answers (Within R) (after_clone place c w)
   after_clone_moves None c w s = s
   after_clone_moves (Some p) c w s = pends_so (task.Register p c) false w refl s
 
-  clones_waker_moves : (c : ℕ) (place : Option ℕ) (w : World D) → R w → Answers (Within R) (clones_waker c place w)
+  pub clones_waker_moves : (c : ℕ) (place : Option ℕ) (w : World D) → R w → Answers (Within R) (clones_waker c place w)
   clones_waker_moves c place w s =
       some_moves c w _ (λ wakers there. onward (check (nat_lt wakers.count highest_count) TooManySteps) _ (λ u. after_clone_moves place c _ (k.object c _ w there tt s)))
 
@@ -546,7 +529,7 @@ module _ {D : Type 0} (R : World D → Type 0) (k : KeptByMoves R) where
   acquires_if_moves true c w s = k.points _ w s
   acquires_if_moves false c w s = s
 
-  drops_waker_moves : (c : ℕ) (after : AfterDrop) (w : World D) → R w → Answers (Within R) (drops_waker c after w)
+  pub drops_waker_moves : (c : ℕ) (after : AfterDrop) (w : World D) → R w → Answers (Within R) (drops_waker c after w)
   drops_waker_moves c after w s = some_moves c w _ (λ wakers there. after_drop_moves after _ (acquires_if_moves (wakers.count == 1) c _ (k.points _ _ (k.object c _ w there tt s))))
 
   takes_place_moves : (p c : ℕ) (place : AtomicWaker) (old : Option ℕ) (w : World D) → AwayAt (slice_get w.objects p) → R w → Answers (Within R) (takes_place p c place old w)
@@ -557,15 +540,15 @@ module _ {D : Type 0} (R : World D → Type 0) (k : KeptByMoves R) where
   registers_if_moves true p c place wakers w there s = takes_place_moves p c place place.waker w there s
   registers_if_moves false p c place wakers w there s = pends_so (task.WakeBy wakers.notifier c (woken.Drop dropped.Yield)) false w refl s
 
-  registers_moves : (p c : ℕ) (w : World D) → R w → Answers (Within R) (registers p c w)
+  pub registers_moves : (p c : ℕ) (w : World D) → R w → Answers (Within R) (registers p c w)
   registers_moves p c w s = away atomic_waker_in (λ c. tt) (slice_get w.objects p) _ (λ place there. some_moves c w _ (λ wakers beside. registers_if_moves (is_none place.holder) p c place wakers w there s))
 
   has_taken_moves : (by : Taking) (waker : Option ℕ) (w : World D) → R w → Answers (Within R) (has_taken by waker w)
   has_taken_moves taking.Answer waker w s = s
   has_taken_moves taking.Wake None w s = s
-  has_taken_moves taking.Wake (Some c) w s = some_moves c w _ (λ wakers there. pends_so (task.WakeBy wakers.notifier c (woken.Drop dropped.Done)) false w refl s)
+  has_taken_moves taking.Wake (Some c) w s = onward (a_wakers c w) _ (λ wakers. pends_so (task.WakeBy wakers.notifier c (woken.Drop dropped.Done)) false w refl s)
 
-  takes_waker_moves : (by : Taking) (p : ℕ) (w : World D) → R w → Answers (Within R) (takes_waker by p w)
+  pub takes_waker_moves : (by : Taking) (p : ℕ) (w : World D) → R w → Answers (Within R) (takes_waker by p w)
   takes_waker_moves by p w s =
       away atomic_waker_in (λ c. tt) (slice_get w.objects p) _ (λ place there. onward (check (is_none place.holder) Misuse) _ (λ u.
       has_taken_moves by place.waker _ (frees_place_moves p (record place { waker = None }) (holds_place p place w) (set_away w.objects p p _ tt there) (holds_moves p place w there s))))
@@ -587,7 +570,7 @@ module _ {D : Type 0} (R : World D → Type 0) (k : KeptByMoves R) where
   puts_local_moves key value None w s = tt
   puts_local_moves key value (Some local) w s = k.changed _ w.active w (λ thread. record { shut = λ e. e; own = refl; same = refl }) s
 
-  local_moves : (todo : LocalOp D) (w : World D) → R w → Answers (Within R) (local_begins todo w)
+  pub local_moves : (todo : LocalOp D) (w : World D) → R w → Answers (Within R) (local_begins todo w)
   local_moves (local_op.With key) w s = local_or_moves _ key w tt s
   local_moves (local_op.TryWith key) w s = local_or_moves _ key w s s
   local_moves (local_op.Init key value) w s =
@@ -602,7 +585,7 @@ module _ {D : Type 0} (R : World D → Type 0) (k : KeptByMoves R) where
       onward (check (nat_lt (length w.threads) w.max_threads) TooManyThreads) _ (λ u. onward (points_after_spawn w.points w.active) _ (λ points.
       let child = child_thread name (length w.objects) in
       let begun = with_points points (record w { threads = w.threads ++ child ∷ [] }) in
-      new_so (object.Notify (record { notified = false; waiter = None; spurious = Never })) begun tt (k.points points _ (k.child child w refl refl s))))
+      new_so (object.Notify (record { notified = false; waiter = None; spurious = Never; wakers = None })) begun tt (k.points points _ (k.child child w refl refl s))))
 
   join_begins_moves : (t n : ℕ) (w : World D) → R w → Answers (Within R) (thread_begins (thread_op.Join t n) w)
   join_begins_moves t n w s =
@@ -616,7 +599,7 @@ module _ {D : Type 0} (R : World D → Type 0) (k : KeptByMoves R) where
   unparks_moves : (t : ℕ) (w : World D) → R w → Answers (Within R) (unparks t w)
   unparks_moves t w s = onward (found (slice_get w.threads t) Misuse) _ (λ thread. k.changed unparked t w (λ thread. unparked_same thread.state thread) s)
 
-  thread_moves : (todo : ThreadOp D ⊤) (w : World D) → ((value : D) → Answers (Within R) (finish value w)) → R w → Answers (Within R) (thread_begins todo w)
+  pub thread_moves : (todo : ThreadOp D ⊤) (w : World D) → ((value : D) → Answers (Within R) (finish value w)) → R w → Answers (Within R) (thread_begins todo w)
   thread_moves (thread_op.Spawn body name) w f s = spawn_moves name w s
   thread_moves (thread_op.Join t n) w f s = join_begins_moves t n w s
   thread_moves thread_op.Current w f s = onward (active_thread w) _ (λ thread. s)
@@ -652,47 +635,26 @@ module _ {D : Type 0} (R : World D → Type 0) (k : KeptByMoves R) where
       by_thread None e = tt
       by_thread (Some thread) e = by_result thread thread.result e
 
-  join_moves : (t n : ℕ) (w : World D) → R w → Answers (Within R) (join t n w)
+  pub join_moves : (t n : ℕ) (w : World D) → R w → Answers (Within R) (join t n w)
   join_moves t n w s =
       away notify_in (λ c. tt) (slice_get w.objects n) _ (λ notifier there. onward (check notifier.notified Misuse) _ (λ u.
       takes_result_moves t w _ s (λ value threads r. k.points _ _ (k.object n _ _ there tt r))))
 
-  child_finish_moves : (n : ℕ) (value : D) (w : World D) → R w → Answers (Within R) (child_finish n value w)
+  pub child_finish_moves : (n : ℕ) (value : D) (w : World D) → R w → Answers (Within R) (child_finish n value w)
   child_finish_moves n value w s = from_there (notify n w) _ (notify_moves n w s) (λ after r. k.changed (having value) after.1.active after.1 (λ thread. record { shut = λ e. e; own = refl; same = refl }) r)
 
   -- ---- each operation, and each effect, but for those that the property says itself
 
-  pub begins_moves : (todo : Request D ⊤) (w : World D) → ((value : D) → Answers (Within R) (finish value w))
-      → ((asked : ChannelOp D) → todo ≡ op.Channel asked → Answers (Within R) (channel_begins asked w)) → ((todo : LazyOp D) → Answers (Within R) (lazy_begins todo w)) → R w → Answers (Within R) (op_begins todo w)
-  begins_moves (op.Atomic todo) w f c l s = atomic_moves todo w s
-  begins_moves (op.Fence order) w f c l s = fence_moves order w s
-  begins_moves (op.Cell todo) w f c l s = cell_moves todo w s
-  begins_moves (op.Arc todo) w f c l s = arc_moves todo w s
-  begins_moves (op.Track todo) w f c l s = track_moves todo w s
-  begins_moves (op.Mutex todo) w f c l s = mutex_moves todo w s
-  begins_moves (op.RwLock todo) w f c l s = rwlock_moves todo w s
-  begins_moves (op.Condvar todo) w f c l s = condvar_moves todo w s
-  begins_moves (op.Notify todo) w f c l s = notifier_moves todo w s
-  begins_moves (op.Channel todo) w f c l s = c todo refl
-  begins_moves (op.Waker todo) w f c l s = waker_moves todo w s
-  begins_moves (op.AtomicWaker todo) w f c l s = place_moves todo w s
-  begins_moves (op.Local todo) w f c l s = local_moves todo w s
-  begins_moves (op.Lazy todo) w f c l s = l todo
-  begins_moves (op.Explore todo) w f c l s = s
-  begins_moves (op.Thread todo) w f c l s = thread_moves todo w f s
-  begins_moves op.Fail w f c l s = tt
-  begins_moves op.Unreachable w f c l s = tt
+  pub replied_so : (r : Result (Reply D × World D) FailureKind) → Answers (Within R) r → Answers (Within R) (r >>= replied)
+  replied_so (Ok answered) s = s
+  replied_so (Err kind) s = tt
 
-  told : (r : Result (Reply D × World D) FailureKind) → Answers (Within R) r → Answers (Within R) (r >>= replied)
-  told (Ok answered) s = s
-  told (Err kind) s = tt
-
-  passed_so : (r : Result (Passed D × World D) FailureKind) → Answers (Within R) r → Answers (Within R) (r >>= gone)
+  pub passed_so : (r : Result (Passed D × World D) FailureKind) → Answers (Within R) r → Answers (Within R) (r >>= gone)
   passed_so (Ok answered) s = s
   passed_so (Err kind) s = tt
 
-  accesses_moves : (access : AtomicOp) (w : World D) → R w → Answers (Within R) (accesses access w)
-  accesses_moves (atomic_op.Store n value order) w s = told _ (store_moves n value order w s)
+  pub accesses_moves : (access : AtomicOp) (w : World D) → R w → Answers (Within R) (accesses access w)
+  accesses_moves (atomic_op.Store n value order) w s = replied_so _ (store_moves n value order w s)
   accesses_moves (atomic_op.Load n order) w s = opens_moves n (reader.Load order) (atomic_op.Load n order) w s
   accesses_moves (atomic_op.Update n change order) w s = opens_moves n reader.Update (atomic_op.Update n change order) w s
   accesses_moves (atomic_op.CompareExchange n exchange) w s = opens_moves n reader.Update (atomic_op.CompareExchange n exchange) w s
@@ -702,31 +664,3 @@ module _ {D : Type 0} (R : World D → Type 0) (k : KeptByMoves R) where
   accesses_moves (atomic_op.IntoInner n) w s = tt
   accesses_moves (atomic_op.WithMut n) w s = tt
   accesses_moves (atomic_op.WithMutEnd n value) w s = tt
-
-  pub effect_moves : (todo : Task D) (w : World D) → ((n : ℕ) (sent : List (Message D)) → todo ≡ task.Send n sent → Answers (Within R) (sends n sent w))
-      → ((by : Receiving) (n : ℕ) → todo ≡ task.Receive by n → Answers (Within R) (receives by n w)) → ((n : ℕ) (taken : List D) → todo ≡ task.Drain n taken → Answers (Within R) (drains n taken w)) → R w → Answers (Within R) (takes_effect todo w)
-  effect_moves task.Start w a b c s = s
-  effect_moves task.Body w a b c s = tt
-  effect_moves task.Continue w a b c s = s
-  effect_moves (task.Access access) w a b c s = accesses_moves access w s
-  effect_moves (task.Lock locking n) w a b c s = told _ (lock_moves locking n w s)
-  effect_moves (task.TryLock n) w a b c s = told _ (try_lock_moves n w s)
-  effect_moves (task.Claim claim n) w a b c s = told _ (claims_moves claim n w s)
-  effect_moves (task.Wait locking n m value) w a b c s = passed_so _ (falls_asleep_moves locking n m value w s)
-  effect_moves (task.Relock locking m) w a b c s = relocks_moves locking m w s
-  effect_moves (task.Wake waking n) w a b c s = told _ (wakes_moves waking n w s)
-  effect_moves (task.Notify n) w a b c s = told _ (notifies_moves n w s)
-  effect_moves (task.Await n) w a b c s = told _ (awaits_moves n w s)
-  effect_moves (task.Rouse n) w a b c s = told _ (wakes_early_moves n w s)
-  effect_moves (task.Count todo n) w a b c s = told _ (counts_moves todo n w s)
-  effect_moves (task.TryUnwrap n) w a b c s = passed_so _ (tries_unwrap_moves n w s)
-  effect_moves (task.Join t n) w a b c s = told _ (join_moves t n w s)
-  effect_moves (task.Finish n value) w a b c s = told _ (child_finish_moves n value w s)
-  effect_moves (task.Send n sent) w a b c s = told _ (a n sent refl)
-  effect_moves (task.Receive by n) w a b c s = told _ (b by n refl)
-  effect_moves (task.Drain n taken) w a b c s = passed_so _ (c n taken refl)
-  effect_moves (task.WakeBy n d after) w a b c s = passed_so _ (wakes_by_moves n d after w s)
-  effect_moves (task.CloneWaker d place) w a b c s = passed_so _ (clones_waker_moves d place w s)
-  effect_moves (task.DropWaker d after) w a b c s = passed_so _ (drops_waker_moves d after w s)
-  effect_moves (task.Register p d) w a b c s = passed_so _ (registers_moves p d w s)
-  effect_moves (task.TakeWaker by p) w a b c s = passed_so _ (takes_waker_moves by p w s)

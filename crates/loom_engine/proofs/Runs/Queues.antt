@@ -63,16 +63,7 @@ module _ {D : Type 0} where
 
   abbrev pub values_in : Object D → List (List D)
   values_in (object.Channel channel) = map value_of channel.messages
-  values_in (object.Atomic atomic) = []
-  values_in (object.Mutex mutex) = []
-  values_in (object.RwLock lock) = []
-  values_in (object.Condvar condvar) = []
-  values_in (object.Notify notifier) = []
-  values_in (object.Cell cell) = []
-  values_in (object.Arc arc) = []
-  values_in (object.Track track) = []
-  values_in (object.Wakers wakers) = []
-  values_in (object.AtomicWaker place) = []
+  values_in _ = []
 
   abbrev pub values_at : Option (Object D) → List (List D)
   values_at None = []
@@ -80,16 +71,7 @@ module _ {D : Type 0} where
 
   pub away_empty : (x : Object D) → IsAway x → values_in x ≡ []
   away_empty (object.Channel channel) h = absurd h
-  away_empty (object.Atomic atomic) h = refl
-  away_empty (object.Mutex mutex) h = refl
-  away_empty (object.RwLock lock) h = refl
-  away_empty (object.Condvar condvar) h = refl
-  away_empty (object.Notify notifier) h = refl
-  away_empty (object.Cell cell) h = refl
-  away_empty (object.Arc arc) h = refl
-  away_empty (object.Track track) h = refl
-  away_empty (object.Wakers wakers) h = refl
-  away_empty (object.AtomicWaker place) h = refl
+  away_empty _ h = refl
 
   pub set_same : (objects : List (Object D)) (m n : ℕ) (x : Object D) → values_in x ≡ values_at (slice_get objects m) → values_at (slice_get (slice_set objects m x) n) ≡ values_at (slice_get objects n)
   set_same [] m n x e = refl
@@ -280,28 +262,7 @@ module _ {D : Type 0} where
   kind_of (task.Send m sent) = sending m sent
   kind_of (task.Receive by m) = receiving_by by m
   kind_of (task.Drain m taken) = draining m taken
-  kind_of task.Start = idles _ refl
-  kind_of task.Body = idles _ refl
-  kind_of task.Continue = idles _ refl
-  kind_of (task.Access access) = idles _ refl
-  kind_of (task.Lock locking m) = idles _ refl
-  kind_of (task.TryLock m) = idles _ refl
-  kind_of (task.Claim claim m) = idles _ refl
-  kind_of (task.Wait locking m l value) = idles _ refl
-  kind_of (task.Relock locking m) = idles _ refl
-  kind_of (task.Wake waking m) = idles _ refl
-  kind_of (task.Notify m) = idles _ refl
-  kind_of (task.Await m) = idles _ refl
-  kind_of (task.Rouse m) = idles _ refl
-  kind_of (task.Count counting m) = idles _ refl
-  kind_of (task.TryUnwrap m) = idles _ refl
-  kind_of (task.Join t m) = idles _ refl
-  kind_of (task.Finish m value) = idles _ refl
-  kind_of (task.WakeBy m c after) = idles _ refl
-  kind_of (task.CloneWaker c place) = idles _ refl
-  kind_of (task.DropWaker c after) = idles _ refl
-  kind_of (task.Register p c) = idles _ refl
-  kind_of (task.TakeWaker by p) = idles _ refl
+  kind_of _ = idles _ refl
 
   -- who is about to send has handed just that over, and so with receipts, and a receiver that is dropped
   pub sends_for : (m : ℕ) (values : List (List D)) (o : Option (ChannelOp D)) → Some (Sends m values) ≡ doing_for o → (value : D) × ((o ≡ Some (channel_op.Send m value)) × (values ≡ (value ∷ []) ∷ []))
@@ -348,16 +309,7 @@ module _ {D : Type 0} where
       by_object : (o : Option (Object D)) → slice_get w.objects m ≡ o → Answers P ((looked_up channel_in o >>= (λ channel. check (passes channel) Misuse >>= (λ u. Ok channel))) >>= next)
       by_object None e = tt
       by_object (Some (object.Channel channel)) e = by_test (passes channel) channel e
-      by_object (Some (object.Atomic atomic)) e = tt
-      by_object (Some (object.Mutex mutex)) e = tt
-      by_object (Some (object.RwLock lock)) e = tt
-      by_object (Some (object.Condvar condvar)) e = tt
-      by_object (Some (object.Notify notifier)) e = tt
-      by_object (Some (object.Cell cell)) e = tt
-      by_object (Some (object.Arc arc)) e = tt
-      by_object (Some (object.Track track)) e = tt
-      by_object (Some (object.Wakers wakers)) e = tt
-      by_object (Some (object.AtomicWaker place)) e = tt
+      by_object (Some _) e = tt
 
   pub sender_so : {A : Type 0} (P : A → Type 0) (m : ℕ) (w : World D) (next : Channel D → Result A FailureKind)
       → ((channel : Channel D) → slice_get w.objects m ≡ Some (object.Channel channel) → Answers P (next channel)) → Answers P (by_sender m w >>= next)

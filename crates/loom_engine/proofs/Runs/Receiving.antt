@@ -49,14 +49,14 @@ use Rattle.loom_objects.specs.World.{World}
 use Rattle.loom_engine.specs.Runs.Course.{Course}
 use Rattle.loom_engine.specs.Runs.Machine.{submit}
 use Rattle.loom_engine.specs.Runs.Received.{IsReceived, IsSent, of_channel}
-use Rattle.loom_engine.proofs.Runs.Answering.{Answers, answers_then}
+use Rattle.loom_engine.proofs.Runs.Answering.{Answers, TellsActive, answers_then}
 use Rattle.loom_engine.proofs.Runs.Carrying.{InWorld}
 use Rattle.loom_engine.proofs.Runs.Keeping.{Keeps}
 use Rattle.loom_engine.proofs.Runs.Lifting.{EnteredTo, PassedTo, ReplyTo, ResumedTo, event_kept}
 use Rattle.loom_engine.proofs.Runs.Kept.{Doing, Drains, Receives, Sends, doing, stated, value_of}
-use Rattle.loom_engine.proofs.Runs.Moving.{Within, begins_moves, effect_moves, enters_wait_moves, reads_moves}
-use Rattle.loom_engine.proofs.Runs.Telling.{TellsActive, effect_tells}
-use Rattle.loom_engine.proofs.Runs.Queues.{Held, IsHeld, Kind, cond_here, cond_off, decided, doing_at, doing_for, draining, drains_for, found_so, held_by_moves, idles, kind_of, map_doing, map_there, more_same, receiver_so, receives_for, receiving_by, sender_so, sending, sends_for, set_doing_here, set_doing_off, set_off, set_same, set_stays, set_there, single, values_at, sending, receiving_by, draining, idles}
+use Rattle.loom_engine.proofs.Runs.Kinds.{begins_moves, effect_moves, effect_tells}
+use Rattle.loom_engine.proofs.Runs.Moving.{Within, enters_wait_moves, reads_moves}
+use Rattle.loom_engine.proofs.Runs.Queues.{Held, IsHeld, Kind, cond_here, cond_off, decided, doing_at, doing_for, draining, drains_for, found_so, held_by_moves, idles, kind_of, map_doing, map_there, more_same, receiver_so, receives_for, receiving_by, sender_so, sending, sends_for, set_doing_here, set_doing_off, set_off, set_same, set_stays, set_there, single, values_at}
 
 module _ {D : Type 0} (n : ℕ) where
   -- what threads are about to do that have handed this over; the one whose turn it is has nothing pending
@@ -513,23 +513,7 @@ module _ {D : Type 0} (n : ℕ) where
 
       begins_after : (todo : Request D ⊤) (a : ℕ) (w : World D) → handed a ≡ of_channel todo → Bound q handed a w → Answers (EnteredTo (Asked q handed) (After q handed)) (op_begins todo w)
       begins_after (op.Channel todo) a w mine k = channel_after todo a w mine k
-      begins_after (op.Atomic todo) a w mine k = ordinary_after (op.Atomic todo) a w refl mine k
-      begins_after (op.Fence order) a w mine k = ordinary_after (op.Fence order) a w refl mine k
-      begins_after (op.Cell todo) a w mine k = ordinary_after (op.Cell todo) a w refl mine k
-      begins_after (op.Arc todo) a w mine k = ordinary_after (op.Arc todo) a w refl mine k
-      begins_after (op.Track todo) a w mine k = ordinary_after (op.Track todo) a w refl mine k
-      begins_after (op.Mutex todo) a w mine k = ordinary_after (op.Mutex todo) a w refl mine k
-      begins_after (op.RwLock todo) a w mine k = ordinary_after (op.RwLock todo) a w refl mine k
-      begins_after (op.Condvar todo) a w mine k = ordinary_after (op.Condvar todo) a w refl mine k
-      begins_after (op.Notify todo) a w mine k = ordinary_after (op.Notify todo) a w refl mine k
-      begins_after (op.Waker todo) a w mine k = ordinary_after (op.Waker todo) a w refl mine k
-      begins_after (op.AtomicWaker todo) a w mine k = ordinary_after (op.AtomicWaker todo) a w refl mine k
-      begins_after (op.Local todo) a w mine k = ordinary_after (op.Local todo) a w refl mine k
-      begins_after (op.Lazy todo) a w mine k = ordinary_after (op.Lazy todo) a w refl mine k
-      begins_after (op.Explore todo) a w mine k = ordinary_after (op.Explore todo) a w refl mine k
-      begins_after (op.Thread todo) a w mine k = ordinary_after (op.Thread todo) a w refl mine k
-      begins_after op.Fail a w mine k = tt
-      begins_after op.Unreachable a w mine k = tt
+      begins_after todo a w mine k = ordinary_after todo a w refl mine k
 
       -- the active thread has handed over its operation
       pub event_after : (todo : Request D ⊤) (a : ℕ) (c : Course D) → handed a ≡ of_channel todo → Bound q handed a c.world → Keeps (InWorld (After q handed)) (submit todo c)

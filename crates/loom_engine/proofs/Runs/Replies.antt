@@ -43,7 +43,7 @@ use Rattle.loom_objects.specs.declared.rt.mpsc.Channel.{Channel}
 use Rattle.loom_objects.specs.declared.rt.notify.Notify.{Notify}
 use Rattle.loom_views.specs.declared.rt.atomic.reader.Reader.{Reader}
 use Rattle.loom_views.specs.Atomic.Slots.{slot_set}
-use Rattle.loom_views.specs.Views.{readable_slots_of}
+use Rattle.loom_views.specs.Views.{readable_slots_of, points_after_load, points_after_spawn, points_after_store, points_after_unsync_load, points_after_update_read, points_after_with_mut, points_after_with_mut_end}
 use Rattle.loom_objects.specs.declared.rt.rwlock.RwLock.{RwLock}
 use Rattle.loom_objects.specs.declared.rt.thread.Claim.{Claim}
 use Rattle.loom_objects.specs.declared.rt.thread.Claim.TheVariants.{Read, TryRead, Write, TryWrite}
@@ -60,7 +60,7 @@ use Rattle.loom_objects.specs.Rules.Mpsc.{by_receiver, by_sender, channel_begins
 use Rattle.loom_objects.specs.Rules.Condvar.{wake_begins, wakes}
 use Rattle.loom_objects.specs.Rules.Arc.{is_free as is_free_arc, arc_begins, comes_to, counts, decrements, drops_last, shared_unless, tries_unwrap, unwraps_if, may_grow, sole_value, with_arc, with_one_fewer}
 use Rattle.loom_objects.specs.Rules.Leaks.{is_none_left}
-use Rattle.loom_objects.specs.Rules.Notify.{awaits, comes_to_wait, notify_begins, notifies, wait_begins, wakes_early, is_alone, is_for_waits, may_be_spurious, notify}
+use Rattle.loom_objects.specs.Rules.Notify.{awaits, comes_to_wait, has_waker, notify_begins, notifies, wait_begins, wakes_early, is_alone, is_for_waits, may_be_spurious, notify}
 use Rattle.loom_objects.specs.Rules.Rule.{◌>>=◌, check, found}
 use Rattle.loom_objects.specs.Rules.RwLock.{claim_begins, claims, is_refused, reads_lock, rwlock_begins, takes_unless, writes_lock, guards_of, unlocked_value}
 use Rattle.loom_objects.specs.Rules.Thread.{child_finish, finish_as, join, parks_unless, thread_begins, has_own, is_exited, is_finished}
@@ -70,21 +70,16 @@ use Rattle.loom_objects.specs.Rules.Waker.{atomic_waker_begins, some_wakers, wak
 use Rattle.loom_objects.specs.World.{World}
 use Rattle.loom_engine.specs.Runs.Histories.{locked_by, locked_by_turn}
 use Rattle.loom_engine.proofs.Runs.Answering.{Answers, GoesQuietly, answers_then, waker_reply_quiet}
-use Rattle.loom_objects.specs.declared.operation.ArcOp.TheVariants.{Clone, Drop, GetMut, Put, StrongCount, TryUnwrap}
-use Rattle.loom_objects.specs.declared.operation.AtomicOp.TheVariants.{CompareAndSwap, CompareExchange, IntoInner, Load, New, Store, UnsyncLoad, Update, WithMut, WithMutEnd}
-use Rattle.loom_objects.specs.declared.operation.ThreadOp.TheVariants.{Current, End, Exit, Finish, Join, Park, Spawn, Unpark, Yield}
-use Rattle.loom_objects.specs.declared.operation.CellOp.TheVariants.{Deref, Get, ReadEnd, Replace, Swap, WriteEnd}
 use Rattle.loom_objects.specs.declared.rt.thread.Phase.TheVariants.{Finished}
-use Rattle.loom_objects.specs.declared.operation.TrackOp.TheVariants.{GetRef}
 use Rattle.loom_views.specs.declared.rt.failure.FailureKind.TheVariants.{KeyTaken, LazyShutdown, Misuse, OpenAccess, RelaxedFence, SecondWaiter, TooManySteps, TooManyThreads}
 use Rattle.loom_views.specs.Limits.{highest_count}
 use Rattle.loom_objects.specs.Rules.Moves.{a_cell, a_condvar, a_notify, an_atomic_waker, a_rwlock, a_track, acquires, active_thread, an_arc, an_atomic, at_phase, changes_active, is_number, raises, releases, takes_result, unparks, with_points, yields}
 use Rattle.loom_objects.specs.Operation.Accessed.{accessed}
 use Rattle.loom_objects.specs.Lent.{kept, value_in}
-use Rattle.loom_views.specs.Views.{points_after_load, points_after_spawn, points_after_store, points_after_unsync_load, points_after_update_read, points_after_with_mut, points_after_with_mut_end}
 use Rattle.loom_engine.proofs.Runs.States.{Aim, Ready}
-use Rattle.loom_engine.proofs.Runs.Ruling.{Entering, Fairly, Keeping, PassedTo, Telling}
+use Rattle.loom_engine.proofs.Runs.Ruling.{Entering, Fairly, Keeping, PassedTo, Telling, Resuming, then_fairly}
 use Rattle.loom_objects.specs.Rules.Mutex.{lock}
+use Rattle.loom_objects.specs.Rules.Replied.{gone, replied}
 
 none_left_quiet : (D : Type 0) (by : Receiving) → locked_by {D = D} (none_left by) ≡ None
 none_left_quiet D receiving.Recv = refl
@@ -125,6 +120,27 @@ module _ {D : Type 0} where
   passes_on w (Ok (passed.Turn (turn.Ended value), v)) kept quiet = λ out k. (kept out k).kept
   passes_on w (Ok (passed.AtBranch, v)) kept quiet = kept
   passes_on w (Err kind) kept quiet = kept
+
+  -- ---- no switch of the search
+
+  abbrev pub IsNoSwitch : Entry D → Type 0
+  IsNoSwitch (Answered reply) = Unit {0}
+  IsNoSwitch AtBranch = Unit {0}
+  IsNoSwitch (AtSpurious n) = Unit {0}
+  IsNoSwitch (Explores todo) = ⊥
+
+  abbrev pub Unswitched : Entry D × World D → Type 0
+  Unswitched entered = IsNoSwitch entered.0
+
+  pub quiet_unswitched : (r : Result (Entry D × World D) FailureKind) → Answers Quiet r → Answers Unswitched r
+  quiet_unswitched (Ok (Answered reply, w)) h = tt
+  quiet_unswitched (Ok (AtBranch, w)) h = tt
+  quiet_unswitched (Ok (AtSpurious n, w)) h = tt
+  quiet_unswitched (Ok (Explores todo, w)) h = absurd h
+  quiet_unswitched (Err kind) h = tt
+
+  pub unswitched : {B : Type 0} (r : Result B FailureKind) (next : B → Result (Entry D × World D) FailureKind) → ((b : B) → Answers Unswitched (next b)) → Answers Unswitched (r >>= next)
+  unswitched r next h = answers_then Unswitched r next h
 
   -- ---- what operations answer at once
 
@@ -354,10 +370,10 @@ module _ {D : Type 0} where
   notifies_quiet n w = next (notify n w) _ (λ after. refl)
 
   pub awaits_quiet : (n : ℕ) (w : World D) → Answers Unlocked (awaits n w)
-  awaits_quiet n w = next (a_notify n w) _ (λ notifier. next (check notifier.notified Misuse) _ (λ u. refl))
+  awaits_quiet n w = next (a_notify n w) _ (λ notifier. next (has_waker notifier.wakers w) _ (λ v. next (check notifier.notified Misuse) _ (λ u. refl)))
 
   pub wakes_early_quiet : (n : ℕ) (w : World D) → Answers Unlocked (wakes_early n w)
-  wakes_early_quiet n w = next (a_notify n w) _ (λ notifier. refl)
+  wakes_early_quiet n w = next (a_notify n w) _ (λ notifier. next (has_waker notifier.wakers w) _ (λ u. refl))
 
   drops_quiet : (value : Option D) (n : ℕ) (w : World D) → Answers Unlocked (drops_last value n w)
   drops_quiet None n w = refl
@@ -411,6 +427,20 @@ module _ {D : Type 0} where
 
   pub tries_unwrap_quiet : (n : ℕ) (w : World D) → Answers QuietPass (tries_unwrap n w)
   tries_unwrap_quiet n w = answers_then QuietPass (an_arc n w) _ (λ arc. answers_then QuietPass (check (is_free_arc arc) Misuse) _ (λ u. unwraps_quiet (arc.count == 1) n (acquires n w)))
+
+  -- ---- the chosen thread has its turn, and gives no mutex free
+
+  pub tells_turn : (freed : Option ℕ) (r : Result (Reply D × World D) FailureKind) (w : World D) → Fairly (Telling w) r → Fairly (Resuming freed w) (r >>= replied)
+  tells_turn freed r w h = then_fairly (Telling w) (Resuming freed w) r replied h (λ answered told out other k. told out k)
+
+  pub replied_resuming : (r : Result (Reply D × World D) FailureKind) (w : World D) → Keeping w r → Answers Unlocked r → Fairly (Resuming None w) (r >>= replied)
+  replied_resuming r w kept quiet = tells_turn None r w (tells w r kept quiet)
+
+  pub gone_resuming : (r : Result (Passed D × World D) FailureKind) (w : World D) → Keeping w r → Answers QuietPass r → Fairly (Resuming None w) (r >>= gone)
+  gone_resuming r w kept quiet = then_fairly (Passing w) (Resuming None w) r gone (passes_on w r kept quiet) (λ answered passed out other k. passed out k)
+
+  pub quietly_resuming : (r : Result (Passed D × World D) FailureKind) (w : World D) → Keeping w r → Answers GoesQuietly r → Fairly (Resuming None w) (r >>= gone)
+  quietly_resuming r w kept quiet = gone_resuming r w kept (passes_quietly r quiet)
 
   -- an access that reads asks for a store
   abbrev pub IsLoading : Resumed D × World D → Type 0

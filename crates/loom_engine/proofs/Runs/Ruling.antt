@@ -156,16 +156,7 @@ module _ {D : Type 0} where
       by_object : (o : Option (Object D)) → IsFairResult (looked_up atomic_in o)
       by_object None = misuse
       by_object (Some (object.Atomic atomic)) = whole_fair atomic.is_taken atomic
-      by_object (Some (object.Mutex mutex)) = misuse
-      by_object (Some (object.RwLock lock)) = misuse
-      by_object (Some (object.Condvar condvar)) = misuse
-      by_object (Some (object.Notify notifier)) = misuse
-      by_object (Some (object.Cell cell)) = misuse
-      by_object (Some (object.Arc arc)) = misuse
-      by_object (Some (object.Track track)) = misuse
-      by_object (Some (object.Channel channel)) = misuse
-      by_object (Some (object.Wakers wakers)) = misuse
-      by_object (Some (object.AtomicWaker place)) = misuse
+      by_object (Some _) = misuse
 
   pub condvar_fair : (n : ℕ) (w : World D) → IsFairResult (a_condvar n w)
   condvar_fair n w = by_object (slice_get w.objects n)
@@ -173,16 +164,7 @@ module _ {D : Type 0} where
       by_object : (o : Option (Object D)) → IsFairResult (looked_up condvar_in o)
       by_object None = misuse
       by_object (Some (object.Condvar condvar)) = tt
-      by_object (Some (object.Atomic atomic)) = misuse
-      by_object (Some (object.Mutex mutex)) = misuse
-      by_object (Some (object.RwLock lock)) = misuse
-      by_object (Some (object.Notify notifier)) = misuse
-      by_object (Some (object.Cell cell)) = misuse
-      by_object (Some (object.Arc arc)) = misuse
-      by_object (Some (object.Track track)) = misuse
-      by_object (Some (object.Channel channel)) = misuse
-      by_object (Some (object.Wakers wakers)) = misuse
-      by_object (Some (object.AtomicWaker place)) = misuse
+      by_object (Some _) = misuse
 
   pub notifier_fair : (n : ℕ) (w : World D) → IsFairResult (a_notify n w)
   notifier_fair n w = by_object (slice_get w.objects n)
@@ -190,16 +172,7 @@ module _ {D : Type 0} where
       by_object : (o : Option (Object D)) → IsFairResult (looked_up notify_in o)
       by_object None = misuse
       by_object (Some (object.Notify notifier)) = tt
-      by_object (Some (object.Atomic atomic)) = misuse
-      by_object (Some (object.Mutex mutex)) = misuse
-      by_object (Some (object.RwLock lock)) = misuse
-      by_object (Some (object.Condvar condvar)) = misuse
-      by_object (Some (object.Cell cell)) = misuse
-      by_object (Some (object.Arc arc)) = misuse
-      by_object (Some (object.Track track)) = misuse
-      by_object (Some (object.Channel channel)) = misuse
-      by_object (Some (object.Wakers wakers)) = misuse
-      by_object (Some (object.AtomicWaker place)) = misuse
+      by_object (Some _) = misuse
 
   pub cell_fair : (n : ℕ) (w : World D) → IsFairResult (a_cell n w)
   cell_fair n w = by_object (slice_get w.objects n)
@@ -207,16 +180,7 @@ module _ {D : Type 0} where
       by_object : (o : Option (Object D)) → IsFairResult (looked_up cell_in o)
       by_object None = misuse
       by_object (Some (object.Cell cell)) = whole_fair cell.content.is_taken cell
-      by_object (Some (object.Atomic atomic)) = misuse
-      by_object (Some (object.Mutex mutex)) = misuse
-      by_object (Some (object.RwLock lock)) = misuse
-      by_object (Some (object.Condvar condvar)) = misuse
-      by_object (Some (object.Notify notifier)) = misuse
-      by_object (Some (object.Arc arc)) = misuse
-      by_object (Some (object.Track track)) = misuse
-      by_object (Some (object.Channel channel)) = misuse
-      by_object (Some (object.Wakers wakers)) = misuse
-      by_object (Some (object.AtomicWaker place)) = misuse
+      by_object (Some _) = misuse
 
   pub arc_fair : (n : ℕ) (w : World D) → IsFairResult (an_arc n w)
   arc_fair n w = by_object (slice_get w.objects n)
@@ -224,16 +188,7 @@ module _ {D : Type 0} where
       by_object : (o : Option (Object D)) → IsFairResult (looked_up arc_in o)
       by_object None = misuse
       by_object (Some (object.Arc arc)) = tt
-      by_object (Some (object.Atomic atomic)) = misuse
-      by_object (Some (object.Mutex mutex)) = misuse
-      by_object (Some (object.RwLock lock)) = misuse
-      by_object (Some (object.Condvar condvar)) = misuse
-      by_object (Some (object.Notify notifier)) = misuse
-      by_object (Some (object.Cell cell)) = misuse
-      by_object (Some (object.Track track)) = misuse
-      by_object (Some (object.Channel channel)) = misuse
-      by_object (Some (object.Wakers wakers)) = misuse
-      by_object (Some (object.AtomicWaker place)) = misuse
+      by_object (Some _) = misuse
 
   pub track_fair : (n : ℕ) (w : World D) → IsFairResult (a_track n w)
   track_fair n w = by_object (slice_get w.objects n)
@@ -241,67 +196,31 @@ module _ {D : Type 0} where
       by_object : (o : Option (Object D)) → IsFairResult (looked_up track_in o)
       by_object None = misuse
       by_object (Some (object.Track track)) = tt
-      by_object (Some (object.Atomic atomic)) = misuse
-      by_object (Some (object.Mutex mutex)) = misuse
-      by_object (Some (object.RwLock lock)) = misuse
-      by_object (Some (object.Condvar condvar)) = misuse
-      by_object (Some (object.Notify notifier)) = misuse
-      by_object (Some (object.Cell cell)) = misuse
-      by_object (Some (object.Arc arc)) = misuse
-      by_object (Some (object.Channel channel)) = misuse
-      by_object (Some (object.Wakers wakers)) = misuse
-      by_object (Some (object.AtomicWaker place)) = misuse
+      by_object (Some _) = misuse
 
   pub channel_fair : (n : ℕ) (w : World D) → IsFairResult (a_channel n w)
   channel_fair n w = by_object (slice_get w.objects n)
     where
       by_object : (o : Option (Object D)) → IsFairResult (looked_up channel_in o)
       by_object None = misuse
-      by_object (Some (object.Atomic atomic)) = misuse
-      by_object (Some (object.Mutex mutex)) = misuse
-      by_object (Some (object.RwLock lock)) = misuse
-      by_object (Some (object.Condvar condvar)) = misuse
-      by_object (Some (object.Notify notifier)) = misuse
-      by_object (Some (object.Cell cell)) = misuse
-      by_object (Some (object.Arc arc)) = misuse
-      by_object (Some (object.Track track)) = misuse
       by_object (Some (object.Channel channel)) = tt
-      by_object (Some (object.Wakers wakers)) = misuse
-      by_object (Some (object.AtomicWaker place)) = misuse
+      by_object (Some _) = misuse
 
   pub wakers_fair : (n : ℕ) (w : World D) → IsFairResult (a_wakers n w)
   wakers_fair n w = by_object (slice_get w.objects n)
     where
       by_object : (o : Option (Object D)) → IsFairResult (looked_up wakers_in o)
       by_object None = misuse
-      by_object (Some (object.Atomic atomic)) = misuse
-      by_object (Some (object.Mutex mutex)) = misuse
-      by_object (Some (object.RwLock lock)) = misuse
-      by_object (Some (object.Condvar condvar)) = misuse
-      by_object (Some (object.Notify notifier)) = misuse
-      by_object (Some (object.Cell cell)) = misuse
-      by_object (Some (object.Arc arc)) = misuse
-      by_object (Some (object.Track track)) = misuse
-      by_object (Some (object.Channel channel)) = misuse
       by_object (Some (object.Wakers wakers)) = tt
-      by_object (Some (object.AtomicWaker place)) = misuse
+      by_object (Some _) = misuse
 
   pub place_fair : (n : ℕ) (w : World D) → IsFairResult (an_atomic_waker n w)
   place_fair n w = by_object (slice_get w.objects n)
     where
       by_object : (o : Option (Object D)) → IsFairResult (looked_up atomic_waker_in o)
       by_object None = misuse
-      by_object (Some (object.Atomic atomic)) = misuse
-      by_object (Some (object.Mutex mutex)) = misuse
-      by_object (Some (object.RwLock lock)) = misuse
-      by_object (Some (object.Condvar condvar)) = misuse
-      by_object (Some (object.Notify notifier)) = misuse
-      by_object (Some (object.Cell cell)) = misuse
-      by_object (Some (object.Arc arc)) = misuse
-      by_object (Some (object.Track track)) = misuse
-      by_object (Some (object.Channel channel)) = misuse
-      by_object (Some (object.Wakers wakers)) = misuse
       by_object (Some (object.AtomicWaker place)) = tt
+      by_object (Some _) = misuse
 
   -- the mutex of this number stands there, and is a sound one
   pub mutex_fairly : {A : Type 0} (P : A → Type 0) (n : ℕ) (w : World D) (next : Mutex D → Result A FailureKind)
@@ -315,16 +234,7 @@ module _ {D : Type 0} where
       by_object : (o : Option (Object D)) → slice_get w.objects n ≡ o → (AreSound w.objects → SoundAt o) → Fairly P (◌>>=◌ {B = A} (looked_up mutex_in o) next)
       by_object None e s = misuse
       by_object (Some (object.Mutex mutex)) e s = by_whole mutex.content.is_taken mutex e s
-      by_object (Some (object.Atomic atomic)) e s = misuse
-      by_object (Some (object.RwLock lock)) e s = misuse
-      by_object (Some (object.Condvar condvar)) e s = misuse
-      by_object (Some (object.Notify notifier)) e s = misuse
-      by_object (Some (object.Cell cell)) e s = misuse
-      by_object (Some (object.Arc arc)) e s = misuse
-      by_object (Some (object.Track track)) e s = misuse
-      by_object (Some (object.Channel channel)) e s = misuse
-      by_object (Some (object.Wakers wakers)) e s = misuse
-      by_object (Some (object.AtomicWaker place)) e s = misuse
+      by_object (Some _) e s = misuse
 
   -- the same of a read-write lock
   pub rwlock_keeping : {A : Type 0} (n : ℕ) (w : World D) (next : RwLock D → Result (A × World D) FailureKind)
@@ -338,16 +248,7 @@ module _ {D : Type 0} where
       by_object : (o : Option (Object D)) → (AreSound w.objects → SoundAt o) → Keeping w (◌>>=◌ {B = A × World D} (looked_up rwlock_in o) next)
       by_object None s = misuse
       by_object (Some (object.RwLock lock)) s = by_whole lock.content.is_taken lock s
-      by_object (Some (object.Atomic atomic)) s = misuse
-      by_object (Some (object.Mutex mutex)) s = misuse
-      by_object (Some (object.Condvar condvar)) s = misuse
-      by_object (Some (object.Notify notifier)) s = misuse
-      by_object (Some (object.Cell cell)) s = misuse
-      by_object (Some (object.Arc arc)) s = misuse
-      by_object (Some (object.Track track)) s = misuse
-      by_object (Some (object.Channel channel)) s = misuse
-      by_object (Some (object.Wakers wakers)) s = misuse
-      by_object (Some (object.AtomicWaker place)) s = misuse
+      by_object (Some _) s = misuse
 
   -- an object that is no mutex, and a new object
   pub set_keeping : (w : World D) (n : ℕ) (x : Object D) → IsSettled x → (out : Aim) → Ready out w → Ready out (with_object n x w)

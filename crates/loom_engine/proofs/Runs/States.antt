@@ -34,30 +34,7 @@ module _ {D : Type 0} where
   -- the mutex that a thread gives free once it is chosen: it is about to wait on a condition variable
   abbrev pub freed_by : Task D → Option ℕ
   freed_by (task.Wait locking n m value) = Some m
-  freed_by task.Start = None
-  freed_by task.Body = None
-  freed_by task.Continue = None
-  freed_by (task.Access access) = None
-  freed_by (task.Lock locking n) = None
-  freed_by (task.TryLock n) = None
-  freed_by (task.Claim claim n) = None
-  freed_by (task.Relock locking m) = None
-  freed_by (task.Wake waking n) = None
-  freed_by (task.Notify n) = None
-  freed_by (task.Await n) = None
-  freed_by (task.Rouse n) = None
-  freed_by (task.Count counting n) = None
-  freed_by (task.TryUnwrap n) = None
-  freed_by (task.Join t n) = None
-  freed_by (task.Finish n value) = None
-  freed_by (task.Send n sent) = None
-  freed_by (task.Receive receiving n) = None
-  freed_by (task.Drain n taken) = None
-  freed_by (task.WakeBy n c after) = None
-  freed_by (task.CloneWaker c place) = None
-  freed_by (task.DropWaker c after) = None
-  freed_by (task.Register p c) = None
-  freed_by (task.TakeWaker taking p) = None
+  freed_by _ = None
 
   abbrev pub freed_at : Option (Thread D) → Option ℕ
   freed_at None = None
@@ -67,16 +44,7 @@ module _ {D : Type 0} where
   abbrev pub MutexAt : (Mutex D → Type 0) → Option (Object D) → Type 0
   MutexAt P None = ⊥
   MutexAt P (Some (object.Mutex mutex)) = P mutex
-  MutexAt P (Some (object.RwLock lock)) = Unit {0}
-  MutexAt P (Some (object.Atomic atomic)) = Unit {0}
-  MutexAt P (Some (object.Cell cell)) = Unit {0}
-  MutexAt P (Some (object.Arc arc)) = Unit {0}
-  MutexAt P (Some (object.Track track)) = Unit {0}
-  MutexAt P (Some (object.Condvar condvar)) = Unit {0}
-  MutexAt P (Some (object.Notify notifier)) = Unit {0}
-  MutexAt P (Some (object.Channel channel)) = Unit {0}
-  MutexAt P (Some (object.Wakers wakers)) = Unit {0}
-  MutexAt P (Some (object.AtomicWaker place)) = Unit {0}
+  MutexAt P (Some _) = Unit {0}
 
   abbrev pub IsHeldBy : ℕ → Mutex D → Type 0
   IsHeldBy t mutex = mutex.holder ≡ Some t
@@ -249,41 +217,16 @@ module _ {D : Type 0} where
   abbrev pub IsSettled : Object D → Type 0
   IsSettled (object.Mutex mutex) = ⊥
   IsSettled (object.RwLock lock) = IsSoundRwLock lock
-  IsSettled (object.Atomic atomic) = Unit {0}
-  IsSettled (object.Cell cell) = Unit {0}
-  IsSettled (object.Arc arc) = Unit {0}
-  IsSettled (object.Track track) = Unit {0}
-  IsSettled (object.Condvar condvar) = Unit {0}
-  IsSettled (object.Notify notifier) = Unit {0}
-  IsSettled (object.Channel channel) = Unit {0}
-  IsSettled (object.Wakers wakers) = Unit {0}
-  IsSettled (object.AtomicWaker place) = Unit {0}
+  IsSettled _ = Unit {0}
 
   settled_sound : (x : Object D) → IsSettled x → IsSoundLock x
   settled_sound (object.Mutex mutex) s = absurd s
   settled_sound (object.RwLock lock) s = s
-  settled_sound (object.Atomic atomic) s = tt
-  settled_sound (object.Cell cell) s = tt
-  settled_sound (object.Arc arc) s = tt
-  settled_sound (object.Track track) s = tt
-  settled_sound (object.Condvar condvar) s = tt
-  settled_sound (object.Notify notifier) s = tt
-  settled_sound (object.Channel channel) s = tt
-  settled_sound (object.Wakers wakers) s = tt
-  settled_sound (object.AtomicWaker place) s = tt
+  settled_sound _ s = tt
 
   settled_at : (P : Mutex D → Type 0) (x : Object D) → IsSettled x → MutexAt P (Some x)
   settled_at P (object.Mutex mutex) s = absurd s
-  settled_at P (object.RwLock lock) s = tt
-  settled_at P (object.Atomic atomic) s = tt
-  settled_at P (object.Cell cell) s = tt
-  settled_at P (object.Arc arc) s = tt
-  settled_at P (object.Track track) s = tt
-  settled_at P (object.Condvar condvar) s = tt
-  settled_at P (object.Notify notifier) s = tt
-  settled_at P (object.Channel channel) s = tt
-  settled_at P (object.Wakers wakers) s = tt
-  settled_at P (object.AtomicWaker place) s = tt
+  settled_at P _ s = tt
 
   -- of the mutex that stands there
   pub holds_there : (P : Mutex D → Type 0) (objects : List (Object D)) (n : ℕ) (mutex : Mutex D) → slice_get objects n ≡ Some (object.Mutex mutex) → MutexAt P (slice_get objects n) → P mutex

@@ -24,23 +24,26 @@ use Rattle.loom_objects.specs.Rules.Tables.{chosen, counted}
 use Rattle.loom_objects.specs.Rules.Ending.{all_ended, end_of}
 use Rattle.loom_objects.specs.Exploring.{is_on, switched}
 use Rattle.loom_objects.specs.Rules.Notify.{enters_wait as entered}
-use Rattle.loom_objects.specs.Tree.Question.{Among, made_of, slots}
-use Rattle.loom_objects.specs.Schedule.Offers.{offers}
+use Rattle.loom_objects.specs.Tree.Question.{Among, made_of}
+use Rattle.loom_objects.specs.Tree.Stores.{slots}
+use Rattle.loom_objects.specs.Schedule.Offers.{chooses as chooses_thread, offers}
 use Rattle.loom_objects.specs.Rules.Steps.{asked, asks_slot, begins, ends, read_slot, resumes, slot_of, told, turned}
 use Rattle.loom_objects.specs.Tree.Tree.{Tree, Closes, ◌>>=◌, came, check}
 use Rattle.loom_objects.specs.World.{World}
 use Rattle.loom_objects.specs.Tree.Asked.{which_thread}
 use Rattle.loom_engine.specs.Runs.Course.{Course, carried, grown_from, one_passed, unordered_in}
 use Rattle.loom_engine.specs.Runs.Machine.{chooses, closes as closes_run, further, further_branches, goes_by, goes_on, passes, schedule, submit, switches, waits}
-use Rattle.loom_engine.proofs.Runs.Answering.{Answers, ResumesOn, anything, chosen_goes, end_over}
-use Rattle.loom_engine.proofs.Runs.Atomics.{reads_keeping}
+use Rattle.loom_engine.proofs.Runs.Answering.{Answers, PassesActive, TellsActive, anything, answers_then, end_over}
+use Rattle.loom_engine.proofs.Runs.Kinds.Atomics.{reads_keeping}
 use Rattle.loom_engine.proofs.Runs.Carrying.{accesses_event, carried_event, carried_settles}
 use Rattle.loom_engine.proofs.Runs.Defaults.{offers_ask, options_are_flags, options_are_loads, options_are_threads, slots_few, IsFlagChoice, IsLoadChoice}
 use Rattle.loom_engine.proofs.Runs.Events.{Anything, GoesOn, HasEnded, IsEvent, IsOpen, IsOver, IsPass, IsShut, Settles, StaysOpen, asks, check_event, closes, event_after, event_open, shut_then, fails, fails_by_itself, goes, settles_at, then_event, turned_pass}
 use Rattle.loom_engine.proofs.Runs.Tables.{Choosing, Ending, chosen_choosing, counted_entering, end_ending}
-use Rattle.loom_engine.proofs.Runs.Notifiers.{enters_wait_keeping}
+use Rattle.loom_engine.proofs.Runs.Kinds.Notifiers.{enters_wait_keeping}
 use Rattle.loom_engine.specs.Runs.Histories.{returned_by}
 use Rattle.loom_engine.proofs.Runs.Ruling.{Entering, Fairly, Onward, misuse}
+use Rattle.loom_engine.proofs.Runs.Kinds.{effect_tells}
+use Rattle.loom_objects.specs.declared.operation.Turn.TheVariants as turn
 
 -- a rule without a choice settles: it comes to something, or fails as itself
 came_settles : {A : Type 0} {P : A → Type 0} (Q : A → Type 0) (r : Result A FailureKind) → Fairly Q r → Answers P r → Settles P (came r)
@@ -85,12 +88,22 @@ module _ {D : Type 0} where
   asks_pass exploring load w (lowest ∷ others) few =
       asks _ _ (omega arith) (λ o h. slot_passes load w o (options_are_loads (lowest ∷ others) o h)) (slot_open load w) (λ e. absurd (cc e))
 
-  asked_pass : (exploring : Bool) (answered : Resumed D × World D) → ResumesOn answered → IsPass (asked exploring answered)
-  asked_pass exploring (resumed.Passed passed, w) going = goes (passed, w) going
+  -- the active thread goes on
+  active_goes : (after : Passed D × World D) → PassesActive after → GoesOn after
+  active_goes (passed.Turn (turn.Reply t reply), w) h = tt
+  active_goes (passed.Turn (turn.Start t), w) h = tt
+  active_goes (passed.Turn (turn.Ended value), w) h = absurd h
+  active_goes (passed.AtBranch, w) h = tt
+
+  asked_pass : (exploring : Bool) (answered : Resumed D × World D) → TellsActive answered → IsPass (asked exploring answered)
+  asked_pass exploring (resumed.Passed passed, w) told = goes (passed, w) (active_goes (passed, w) told)
   asked_pass exploring (resumed.Load load, w) seven = let few = slots_few load.readable 0 in asks_pass exploring load w (slots load.readable) (omega arith)
 
+  chosen_tells : (t : ℕ) (w : World D) → Answers TellsActive (chosen t w)
+  chosen_tells t w = answers_then TellsActive (chooses_thread t w) _ (λ ready. effect_tells ready.0 ready.1)
+
   resumes_event : (exploring : Bool) (t : ℕ) (w : World D) → IsPass (resumes exploring t w)
-  resumes_event exploring t w = then_event {Q = ResumesOn} (came (chosen t w)) (asked exploring) (came_settles (Choosing w) (chosen t w) (chosen_choosing t w) (chosen_goes t w)) (asked_pass exploring)
+  resumes_event exploring t w = then_event {Q = TellsActive} (came (chosen t w)) (asked exploring) (came_settles (Choosing w) (chosen t w) (chosen_choosing t w) (chosen_tells t w)) (asked_pass exploring)
 
   ends_settles : (w : World D) → Settles IsOver (ends w)
   ends_settles w = came_settles (Ending w) (end_of w) (end_ending w) (end_over w)

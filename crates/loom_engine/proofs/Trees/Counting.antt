@@ -18,7 +18,7 @@ use Rattle.loom_engine.specs.Trees.Outcomes.{met, outcome, passed}
 use Rattle.loom_engine.specs.Trees.Sound.{IsQuiet, IsSoundTree}
 use Rattle.loom_engine.specs.Trees.Meeting.{Settings, Tally, start, is_last, preempts, tally_thread, tally_one, tally, count, is_below, every_at, every_met, Marking, front_of, marked_too, marks_of, no_marks, machine_of}
 use Rattle.loom_engine.specs.Trees.Machines.{IsMarking, IsMarkingBelow, BoundLaw, EveryRunLaw}
-use Rattle.loom_engine.specs.Trees.Sound.{ExploresTree}
+use Rattle.loom_engine.specs.Trees.Exploring.{ExploresTree}
 use Rattle.loom_engine.proofs.Trees.Machines.{machine_law}
 use Rattle.loom_engine.proofs.Trees.Checking.{allowed_by}
 

@@ -5,7 +5,8 @@ use Rattle.loom_objects.specs.declared.choice.Choice.{Choice}
 use Rattle.loom_objects.specs.declared.choice.Choice.TheVariants.{Thread, Load}
 use Rattle.loom_objects.specs.declared.rt.schedule.Ability.{Ability}
 use Rattle.loom_objects.specs.declared.rt.schedule.Ability.TheVariants.{Able, Yielding, Unable}
-use Rattle.loom_objects.specs.Tree.Question.{Made, Among, Question, WhichThread, WhichStore, WhetherSpurious, able_threads, thread_options, made_of, IsSound, IsSoundDefault}
+use Rattle.loom_objects.specs.Tree.Question.{Made, Among, Question, WhichThread, WhichStore, WhetherSpurious, able_threads, thread_options, made_of}
+use Rattle.loom_objects.specs.Tree.Sound.{IsSound, IsSoundDefault}
 use Rattle.loom_engine.specs.Walk.Machine.{is_thread}
 use Rattle.loom_engine.specs.Walk.Choices.{among, pick}
 use Rattle.loom_objects.specs.Tree.Tree.{Tree, Gives, Fails, Closes, Asks}

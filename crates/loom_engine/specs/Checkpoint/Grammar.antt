@@ -1,7 +1,7 @@
 -- The JSON value of a path between two runs, version 1.
 use Rattle.std.specs.Prelude.{ℕ, Bool, List, map, codes, Option}
 use Rattle.serde_json.specs.Data.{Data, boolean, string, object, member, no_members}
-use Rattle.loom_objects.specs.Tree.Question.{slots}
+use Rattle.loom_objects.specs.Tree.Stores.{slots}
 use Rattle.loom_engine.specs.Trees.Meeting.{Settings}
 pub use Rattle.loom_engine.specs.Checkpoint.Shape.{whole, whole_or_null, list_data}
 unfoldable pub use Rattle.loom_engine.specs.Checkpoint.Shape.{shape_data}

@@ -6,7 +6,8 @@ use Rattle.loom_objects.specs.declared.choice.Choice.TheVariants as choice
 use Rattle.loom_objects.specs.declared.choice.Choice.TheVariants.{Thread}
 use Rattle.loom_objects.specs.declared.rt.schedule.Ability.{Ability}
 use Rattle.loom_objects.specs.declared.rt.schedule.Ability.TheVariants.{Able, Yielding, Unable}
-use Rattle.loom_objects.specs.Tree.Question.{WhichThread, WhetherSpurious, Question, slots, asked_store, made_of}
+use Rattle.loom_objects.specs.Tree.Question.{WhichThread, WhetherSpurious, Question, made_of}
+use Rattle.loom_objects.specs.Tree.Stores.{slots, asked_store}
 use Rattle.loom_engine.specs.Walk.Path.{Status as State, Closed, Skip as Skipped, Pending as ToTry, Active as Chosen, Visited as Tried, Stored, IsAtRest, advance, mark_status}
 use Rattle.loom_engine.specs.Trees.Drive.{value_status}
 use Rattle.loom_engine.specs.Trees.Marks.{adds_there}

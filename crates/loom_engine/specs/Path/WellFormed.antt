@@ -1,7 +1,7 @@
 -- A node between two runs, as its fields say it, and what a node is without its notes.
 use Rattle.std.specs.Prelude.{ℕ, ◌≡◌, ◌≢◌, Bool, true, false, ◌&&◌, ◌||◌, not, ◌==◌, ◌↔◌, nat_lt, List, [], ◌∷◌, ◌++◌, ◌+◌, length, count_by, slice_get, map, Option, Some, None, option_map, unwrap_or, IsTrue}
 use Rattle.loom_objects.specs.declared.choice.Choice.TheVariants.{Thread}
-use Rattle.loom_objects.specs.Tree.Question.{slots}
+use Rattle.loom_objects.specs.Tree.Stores.{slots}
 use Rattle.loom_engine.specs.Walk.Path.{Stored, IsAtRest}
 use Rattle.loom_engine.specs.declared.rt.path.node.Status.{Status}
 use Rattle.loom_engine.specs.declared.rt.path.node.Status.TheVariants.{Disabled, Skip, Yield, Pending, Active, Visited}

@@ -10,11 +10,10 @@ use Rattle.loom_objects.specs.declared.operation.Request.{Request}
 use Rattle.loom_objects.specs.declared.operation.Request.TheVariants as op
 use Rattle.loom_objects.specs.declared.operation.Reply.{Reply}
 use Rattle.loom_objects.specs.declared.operation.Reply.TheVariants.{Locked, Waited}
-use Rattle.loom_objects.specs.declared.operation.Reply.TheVariants as reply
 use Rattle.loom_objects.specs.declared.operation.Turn.{Turn}
 use Rattle.loom_objects.specs.declared.operation.Turn.TheVariants as turn
 use Rattle.loom_objects.specs.declared.rt.object.Object.{Object}
-use Rattle.loom_objects.specs.declared.rt.object.Object.TheVariants.{Atomic, Mutex, RwLock, Condvar, Notify, Cell, Arc, Track, Channel, Wakers, AtomicWaker}
+use Rattle.loom_objects.specs.declared.rt.object.Object.TheVariants.{Mutex, RwLock}
 use Rattle.loom_objects.specs.Rules.Moves.{is_number}
 use Rattle.loom_objects.specs.Rules.RwLock.{is_unread}
 use Rattle.loom_objects.specs.Schedule.Defaults.{or_else}
@@ -40,15 +39,7 @@ module _ {D : Type 0} where
   abbrev pub is_exclusive : Object D → Bool
   is_exclusive (Mutex mutex) = not (is_some mutex.holder && is_some mutex.content.value)
   is_exclusive (RwLock lock) = not (is_some lock.writer && not (is_unread lock)) && not (is_some lock.writer && is_some lock.content.value)
-  is_exclusive (Atomic atomic) = true
-  is_exclusive (Condvar condvar) = true
-  is_exclusive (Notify notifier) = true
-  is_exclusive (Cell cell) = true
-  is_exclusive (Arc arc) = true
-  is_exclusive (Track track) = true
-  is_exclusive (Channel channel) = true
-  is_exclusive (Wakers wakers) = true
-  is_exclusive (AtomicWaker place) = true
+  is_exclusive _ = true
 
 -- over every history a mutex that is held keeps no data, and a read-write lock has one writer or some readers
 abbrev pub LocksLaw : Type 0 → Type 0
@@ -78,42 +69,7 @@ module _ {D : Type 0} where
   abbrev pub locked_by : Reply D → Option ℕ
   locked_by (Locked n value) = Some n
   locked_by (Waited n value timed_out) = Some n
-  locked_by reply.Start = None
-  locked_by reply.Done = None
-  locked_by (reply.Atomic n) = None
-  locked_by (reply.Value number) = None
-  locked_by (reply.Exchanged read) = None
-  locked_by (reply.Data value) = None
-  locked_by (reply.Cell n) = None
-  locked_by (reply.Reading n value) = None
-  locked_by (reply.Writing n value) = None
-  locked_by (reply.Arc n) = None
-  locked_by reply.Shared = None
-  locked_by (reply.Track n) = None
-  locked_by (reply.Mutex n) = None
-  locked_by reply.WouldBlock = None
-  locked_by (reply.RwLock n) = None
-  locked_by (reply.ReadLocked n value) = None
-  locked_by (reply.WriteLocked n value) = None
-  locked_by (reply.Condvar n) = None
-  locked_by (reply.Notify n) = None
-  locked_by (reply.Channel n) = None
-  locked_by reply.Empty = None
-  locked_by reply.RecvError = None
-  locked_by reply.Disconnected = None
-  locked_by (reply.SendError value) = None
-  locked_by (reply.Messages values) = None
-  locked_by (reply.BlockOn c) = None
-  locked_by (reply.Waker c) = None
-  locked_by reply.NoWaker = None
-  locked_by (reply.AtomicWaker p) = None
-  locked_by reply.Absent = None
-  locked_by reply.AccessError = None
-  locked_by (reply.Stood value other) = None
-  locked_by (reply.Locals values) = None
-  locked_by (reply.Lazies values) = None
-  locked_by (reply.Thread t name) = None
-  locked_by (reply.Spawned t name n) = None
+  locked_by _ = None
 
   abbrev pub locked_by_turn : Turn D → Option ℕ
   locked_by_turn (turn.Reply t reply) = locked_by reply
@@ -132,23 +88,7 @@ module _ {D : Type 0} where
 
   abbrev pub opened_by : Request D ⊤ → Option ℕ
   opened_by (op.Mutex todo) = opened_by_mutex todo
-  opened_by (op.Atomic todo) = None
-  opened_by (op.Fence order) = None
-  opened_by (op.Cell todo) = None
-  opened_by (op.Arc todo) = None
-  opened_by (op.Track todo) = None
-  opened_by (op.RwLock todo) = None
-  opened_by (op.Condvar todo) = None
-  opened_by (op.Notify todo) = None
-  opened_by (op.Channel todo) = None
-  opened_by (op.Waker todo) = None
-  opened_by (op.AtomicWaker todo) = None
-  opened_by (op.Local todo) = None
-  opened_by (op.Lazy todo) = None
-  opened_by (op.Explore todo) = None
-  opened_by (op.Thread todo) = None
-  opened_by op.Fail = None
-  opened_by op.Unreachable = None
+  opened_by _ = None
 
   -- the mutex whose data a thread is given by this event
   abbrev pub given_out : Event D → Option ℕ
@@ -174,22 +114,7 @@ module _ {D : Type 0} where
   abbrev pub returned_by : Request D ⊤ → Option ℕ
   returned_by (op.Mutex todo) = returned_by_mutex todo
   returned_by (op.Condvar todo) = returned_by_condvar todo
-  returned_by (op.Atomic todo) = None
-  returned_by (op.Fence order) = None
-  returned_by (op.Cell todo) = None
-  returned_by (op.Arc todo) = None
-  returned_by (op.Track todo) = None
-  returned_by (op.RwLock todo) = None
-  returned_by (op.Notify todo) = None
-  returned_by (op.Channel todo) = None
-  returned_by (op.Waker todo) = None
-  returned_by (op.AtomicWaker todo) = None
-  returned_by (op.Local todo) = None
-  returned_by (op.Lazy todo) = None
-  returned_by (op.Explore todo) = None
-  returned_by (op.Thread todo) = None
-  returned_by op.Fail = None
-  returned_by op.Unreachable = None
+  returned_by _ = None
 
   -- the event begins with an operation that gives the data of mutex n back
   abbrev pub gives_back : ℕ → Event D → Bool

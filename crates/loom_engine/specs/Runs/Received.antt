@@ -15,23 +15,7 @@ module _ {D : Type 0} where
   -- what is done to a channel by the operation
   abbrev pub of_channel : Request D ⊤ → Option (ChannelOp D)
   of_channel (op.Channel todo) = Some todo
-  of_channel (op.Atomic todo) = None
-  of_channel (op.Fence order) = None
-  of_channel (op.Cell todo) = None
-  of_channel (op.Arc todo) = None
-  of_channel (op.Track todo) = None
-  of_channel (op.Mutex todo) = None
-  of_channel (op.RwLock todo) = None
-  of_channel (op.Condvar todo) = None
-  of_channel (op.Notify todo) = None
-  of_channel (op.Waker todo) = None
-  of_channel (op.AtomicWaker todo) = None
-  of_channel (op.Local todo) = None
-  of_channel (op.Lazy todo) = None
-  of_channel (op.Explore todo) = None
-  of_channel (op.Thread todo) = None
-  of_channel op.Fail = None
-  of_channel op.Unreachable = None
+  of_channel _ = None
 
   -- What each thread has handed over last, if that is for a channel. Now this thread hands over the operation.
   abbrev pub handed_by : ℕ → Request D ⊤ → (ℕ → Option (ChannelOp D)) → ℕ → Option (ChannelOp D)

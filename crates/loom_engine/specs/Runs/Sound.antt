@@ -1,10 +1,11 @@
 -- What holds of each body's tree of runs.
 use Rattle.std.specs.Prelude.{ℕ, ◌≡◌, Bool, true, false}
 use Rattle.loom_objects.specs.declared.operation.Request.{Request}
-use Rattle.loom_objects.specs.declared.operation.Request.TheVariants.{Atomic, Fence, Cell, Arc, Track, Mutex, RwLock, Condvar, Notify, Channel, Waker, AtomicWaker, Local, Lazy, Explore, Thread, Fail, Unreachable}
+use Rattle.loom_objects.specs.declared.operation.Request.TheVariants.{Explore}
 use Rattle.loom_objects.specs.declared.operation.Reply.{Reply}
 use Rattle.loom_objects.specs.Tree.Tree.{Tree}
-use Rattle.loom_engine.specs.Trees.Sound.{IsSoundTree, IsClosing, ExploresTree, IsFair, EndsUnchosen}
+use Rattle.loom_engine.specs.Trees.Sound.{IsSoundTree, IsClosing, IsFair, EndsUnchosen}
+use Rattle.loom_engine.specs.Trees.Exploring.{ExploresTree}
 use Rattle.loom_engine.specs.Runs.Body.{Meaning, runs}
 
 -- what holds of each body's tree of runs
@@ -22,23 +23,7 @@ RunTreeLaw D S = (next : Meaning D S) (explores : Bool) (max_threads max_steps :
 -- it switches whether the search explores
 abbrev pub is_switch : {D S : Type 0} → Request D S → Bool
 is_switch (Explore todo) = true
-is_switch (Atomic todo) = false
-is_switch (Fence order) = false
-is_switch (Cell todo) = false
-is_switch (Arc todo) = false
-is_switch (Track todo) = false
-is_switch (Mutex todo) = false
-is_switch (RwLock todo) = false
-is_switch (Condvar todo) = false
-is_switch (Notify todo) = false
-is_switch (Channel todo) = false
-is_switch (Waker todo) = false
-is_switch (AtomicWaker todo) = false
-is_switch (Local todo) = false
-is_switch (Lazy todo) = false
-is_switch (Thread todo) = false
-is_switch Fail = false
-is_switch Unreachable = false
+is_switch _ = false
 
 -- A body that never switches explores at each node, where its runs begin so.
 abbrev pub ExploresLaw : Type 0 → Type 0 → Type 0

@@ -9,7 +9,8 @@ use Rattle.loom_engine.specs.Walk.Sound.{IsMachine}
 use Rattle.loom_engine.specs.Trees.Marks.{marking}
 use Rattle.loom_engine.specs.Trees.Meeting.{Settings, Marking, count, front_of, machine_of}
 use Rattle.loom_engine.specs.Trees.Outcomes.{outcome, passed}
-use Rattle.loom_engine.specs.Trees.Sound.{IsSoundTree, ExploresTree}
+use Rattle.loom_engine.specs.Trees.Sound.{IsSoundTree}
+use Rattle.loom_engine.specs.Trees.Exploring.{ExploresTree}
 
 -- marks are made only at nodes that were passed, where the run explores
 abbrev pub IsMarking : Marking → Type 0

@@ -7,7 +7,7 @@ use Rattle.loom_views.specs.declared.rt.failure.FailureKind.TheVariants.{NotDete
 use Rattle.loom_engine.specs.Walk.Runs.{Reachable}
 use Rattle.loom_engine.specs.Walk.Lists.{IsWalkList, IsInOrder}
 use Rattle.loom_engine.specs.Trees.Outcomes.{outcome, passed, AreRuns, choices_made}
-use Rattle.loom_engine.specs.Trees.Sound.{ExploresTree}
+use Rattle.loom_engine.specs.Trees.Exploring.{ExploresTree}
 use Rattle.loom_engine.specs.Trees.Meeting.{Settings, Marking, count, machine_of}
 use Rattle.loom_engine.specs.Trees.Replay.{replayed}
 

@@ -1,9 +1,10 @@
 -- What holds of the trees that are a body's runs.
-use Rattle.std.specs.Prelude.{◌≡◌, ◌≢◌, true, None}
+use Rattle.std.specs.Prelude.{◌≡◌, ◌≢◌, None}
 use Rattle.loom_views.specs.declared.rt.failure.FailureKind.TheVariants.{NotDeterministic}
 use Rattle.loom_objects.specs.declared.choice.Choice.{Choice}
 use Rattle.loom_objects.specs.declared.choice.Choice.TheVariants.{Thread}
-use Rattle.loom_objects.specs.Tree.Question.{Among, made_of, IsSound}
+use Rattle.loom_objects.specs.Tree.Question.{Among, made_of}
+use Rattle.loom_objects.specs.Tree.Sound.{IsSound}
 use Rattle.loom_objects.specs.Tree.Tree.{Tree, Gives, Fails, Closes, Asks}
 
 -- it asks nothing
@@ -26,13 +27,6 @@ IsClosing (Gives value) = ⊥
 IsClosing (Fails failure) = Unit {0}
 IsClosing (Closes rest) = Unit {0}
 IsClosing (Asks question branches) = (choice : Choice) → IsClosing (branches choice)
-
--- each question that a run comes to explores
-abbrev pub ExploresTree : {A : Type 0} → Tree A → Type 0
-ExploresTree (Gives value) = Unit {0}
-ExploresTree (Fails failure) = Unit {0}
-ExploresTree (Closes rest) = Unit {0}
-ExploresTree (Asks question branches) = ((made_of question).exploring ≡ true) × ((choice : Choice) → Among choice (made_of question).options → ExploresTree (branches choice))
 
 -- no run fails because a path doesn't meet it
 abbrev pub IsFair : {A : Type 0} → Tree A → Type 0

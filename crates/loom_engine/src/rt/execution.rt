@@ -18,7 +18,7 @@ ghost use Rattle.loom_objects.specs.Rules.Uses.{use_at};
 ghost use Rattle.loom_objects.specs.World.{World};
 ghost use Rattle.loom_engine.specs.Runs.Machine as machine;
 ghost use Rattle.loom_engine.specs.Path.Route.{Route, IsAtStart, IsSame, IsSameSearch, Decides, Switches};
-ghost use Rattle.loom_objects.specs.Tree.Asked.{which_store};
+ghost use Rattle.loom_objects.specs.Tree.Stores.{which_store};
 
 use crate::rt::path::Path;
 use loom_objects::data::Data;

@@ -181,7 +181,8 @@ channel_rows = message_rows ++ end_rows
 abbrev pub waker_rows : List Named
 waker_rows =
     script (codes "ready_at_once") wakers.ready_at_once ∷ script (codes "waker_leak") wakers.waker_leak ∷
-    script (codes "waker_round") wakers.waker_round ∷ script (codes "spurious_poll") wakers.spurious_poll ∷ []
+    script (codes "waker_round") wakers.waker_round ∷ script (codes "wait_taken") wakers.wait_taken ∷
+    script (codes "wake_dropped") wakers.wake_dropped ∷ script (codes "spurious_poll") wakers.spurious_poll ∷ []
 
 -- about threads' own values, and values that are made once a run
 abbrev pub value_rows : List Named

@@ -54,6 +54,14 @@ or_end (Some place) steps = place
 abbrev pub place_of : List Step → List ℕ → ℕ
 place_of steps name = or_end (label_at steps name) steps
 
+-- where the label stands that the step names; where it names none, the steps' end
+abbrev pub named_place : List Step → Option Step → ℕ
+named_place steps (Some (JumpTo name)) = place_of steps name.now
+named_place steps (Some (IfTo register n name)) = place_of steps name.now
+named_place steps (Some (UnlessTo register n name)) = place_of steps name.now
+named_place steps (Some (SpawnAt slot name)) = place_of steps name.now
+named_place steps step = length steps
+
 -- where it goes on from this step: a jump makes no operation
 abbrev pub goes_on_at : List Step → State → Step → ℕ
 goes_on_at steps s (Do keep made) = s.at

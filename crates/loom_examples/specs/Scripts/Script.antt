@@ -38,8 +38,8 @@ request s (op.Local made) = op.Local (local_op s.state made)
 request s (op.Lazy made) = op.Lazy (lazy_op s.state made)
 request s (op.Explore made) = op.Explore made
 request s (op.Thread made) = or_fails (thread_op s made) (λ o. op.Thread o)
-request s op.Fail = op.Fail
 request s op.Unreachable = op.Unreachable
+request s asked = op.Fail
 
 -- the store of the value into the atomic in the slot
 abbrev pub store : Running → ℕ → Value → Ordering → Request ℕ Running

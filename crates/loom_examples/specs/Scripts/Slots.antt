@@ -40,8 +40,6 @@ name_number (Some name) = fold (λ n byte. (n * 256 + byte) % 2 ^ 64) 1 (shown n
 -- where others share or have what was asked for, or there is none yet, and 2 where there will be none. An exchange that fails
 -- clears its own register.
 abbrev pub told_by : Reply ℕ → Told
-told_by reply.Start = told.Nothing
-told_by reply.Done = told.Nothing
 told_by (reply.Atomic n) = told.Handle (Object n)
 told_by (reply.Value n) = told.Number n
 told_by (reply.Exchanged (Ok n)) = told.Number n
@@ -79,6 +77,7 @@ told_by (reply.Locals locals) = told.Number (local_digits locals)
 told_by (reply.Lazies lazies) = told.Number (lazy_digits lazies)
 told_by (reply.Thread thread name) = told.Named (Thread thread) (name_number name)
 told_by (reply.Spawned thread name notifier) = told.Handle (Spawned thread notifier)
+told_by answer = told.Nothing
 
 -- the register holds the number, if there is such a register
 abbrev pub put_number : State → ℕ → ℕ → State

@@ -1,8 +1,205 @@
 //! The program's command line: its options, and what words with options ask for.
+ghost use Rattle.std.specs.Prelude.{◌≡◌};
+ghost use Rattle.std.specs.List.{list_any};
+ghost use Rattle.loom_examples.specs.Rows.Words.{begins_with, ends_name, is_named, is_option};
+
 use crate::rows::changes::Changes;
 use clap::{Arg, ArgAction, ArgMatches, Command, Error, value_parser};
 use std::alloc::{AllocError, Global};
 use std::time::Duration;
+
+/// What stands behind an option's name.
+#[derive(Clone, Copy)]
+enum Takes {
+    /// Nothing.
+    Nothing,
+    /// A number, with what the help calls it.
+    Number(&'static str),
+    /// A text, with what the help calls it.
+    Text(&'static str),
+    /// Any number of texts, with what the help calls each.
+    Texts(&'static str),
+}
+
+/// An option of the program.
+#[derive(Clone, Copy)]
+struct Known {
+    /// The name, which stands behind `--`.
+    name: &'static str,
+    takes: Takes,
+    help: &'static str,
+    /// What can't be given beside it.
+    conflicts: &'static [&'static str],
+    /// Whether nothing can be given beside it.
+    alone: bool,
+}
+
+const FLAG: Known = Known {
+    name: "",
+    takes: Takes::Nothing,
+    help: "",
+    conflicts: &[],
+    alone: false,
+};
+
+const NUMBER: Known = Known {
+    takes: Takes::Number("N"),
+    ..FLAG
+};
+
+// All options, in the order of the help, which clap adds itself.
+static OPTIONS: [Known; 17] = [
+    // What the program does besides a check.
+    Known {
+        name: "explain",
+        help: "where a run failed, explain it below the line",
+        ..FLAG
+    },
+    Known {
+        name: "replay",
+        takes: Takes::Text("CHOICES"),
+        help: "make one run by choices as \"t0 l0 t1\", and then by defaults",
+        conflicts: &["rising"],
+        ..FLAG
+    },
+    Known {
+        name: "rising",
+        help: "check with at most 0 preemptions, then 1, 2 and 3, up to a failure",
+        ..FLAG
+    },
+    Known {
+        name: "json",
+        help: "print the report as one JSON object",
+        conflicts: &["explain"],
+        ..FLAG
+    },
+    Known {
+        name: "list",
+        help: "print a line for each row",
+        alone: true,
+        ..FLAG
+    },
+    Known {
+        name: "tour",
+        help: "check four bodies, right and wrong, and explain what fails",
+        alone: true,
+        ..FLAG
+    },
+    Known {
+        name: "measure",
+        takes: Takes::Texts("NAME"),
+        help: "print how long checks take, of the bodies of these names or of some",
+        alone: true,
+        ..FLAG
+    },
+    // The settings of a check, each in place of the row's own.
+    Known {
+        name: "max-threads",
+        help: "how many threads a run may have",
+        ..NUMBER
+    },
+    Known {
+        name: "max-branches",
+        help: "how many choices a run may have",
+        ..NUMBER
+    },
+    Known {
+        name: "max-steps",
+        help: "how many operations a run may make",
+        ..NUMBER
+    },
+    Known {
+        name: "max-permutations",
+        help: "stop after this many runs",
+        ..NUMBER
+    },
+    Known {
+        name: "max-duration",
+        takes: Takes::Number("SECONDS"),
+        help: "stop after this time",
+        conflicts: &["rising", "replay"],
+        ..FLAG
+    },
+    Known {
+        name: "preemption-bound",
+        help: "leave a thread that could go on at most this often in a run",
+        ..NUMBER
+    },
+    Known {
+        name: "checkpoint-interval",
+        help: "save a checkpoint every so many runs",
+        ..NUMBER
+    },
+    Known {
+        name: "reduce",
+        help: "reduce the search",
+        conflicts: &["no-reduce"],
+        ..FLAG
+    },
+    Known {
+        name: "no-reduce",
+        help: "try every thread that can go on",
+        ..FLAG
+    },
+    Known {
+        name: "explicit-explore",
+        help: "explore only from the operation `explore` on",
+        ..FLAG
+    },
+];
+
+impl Known {
+    /// What clap is told of it.
+    fn arg<'a>(&self, alloc: Global) -> Result<Arg<'a>, AllocError> {
+        let arg = Arg::new(alloc, self.name)
+            .long(self.name)
+            .help(self.help)
+            .exclusive(self.alone)
+            .conflicts_with_all(self.conflicts)?;
+        Ok(match self.takes {
+            Takes::Nothing => arg.action(ArgAction::SetTrue),
+            Takes::Number(value) => arg.value_name(value).value_parser(value_parser!(usize)),
+            Takes::Text(value) => arg.value_name(value),
+            Takes::Texts(value) => arg
+                .value_name(value)
+                .num_args(0..)
+                .action(ArgAction::Append),
+        })
+    }
+}
+
+/// Whether the word is an option of the program, or `--`, behind which clap reads no word as an option.
+pub(crate) fn is_option(word: &str) -> bool
+    ensures { result ≡ is_option word.now }
+{
+    word == "-h" || word == "--" || is_named(word, "help") || is_one_of(word, &OPTIONS)
+}
+
+// Whether the word is one of these options.
+fn is_one_of(word: &str, options: &[Known]) -> bool
+    ensures { result ≡ list_any (λ option. is_named word.now option.name.now) options.now }
+{
+    options.iter().any(|option| is_named(word, option.name))
+}
+
+// Whether the word is the option of this name, with a value behind `=` or without one.
+fn is_named(word: &str, name: &str) -> bool
+    ensures { result ≡ is_named word.now name.now }
+{
+    let word = word.as_bytes();
+    let name = name.as_bytes();
+    word.starts_with(b"--") && word[2..].starts_with(name) && ends_name(&word[2 + name.len()..])
+}
+
+// Whether this can follow an option's name: nothing, or a value behind `=`.
+fn ends_name(rest: &[u8]) -> bool
+    ensures { result ≡ ends_name rest.now }
+{
+    match rest {
+        [] => true,
+        [sign, ..] => *sign == b'=',
+    }
+}
 
 /// What words with options ask for.
 #[derive(Drop)]
@@ -95,16 +292,6 @@ fn switched(on: bool, off: bool) -> Option<bool> {
 
 /// The program's command.
 fn command<'a>(alloc: Global) -> Result<Command<'a>, AllocError> {
-    let command = Command::new(alloc, "loom_rows")
-        .no_binary_name(true)
-        .disable_version_flag(true)
-        .override_usage("loom_rows [OPTIONS] NAME [FILE]")
-        .about("Checks the body that is called NAME, and prints what the check finds.");
-    with_settings(alloc, with_tasks(alloc, with_names(alloc, command)?)?)
-}
-
-// The words that are no options.
-fn with_names<'a>(alloc: Global, command: Command<'a>) -> Result<Command<'a>, AllocError> {
     let name = Arg::new(alloc, "NAME")
         .help("the name of a row")
         .required(true);
@@ -112,121 +299,21 @@ fn with_names<'a>(alloc: Global, command: Command<'a>) -> Result<Command<'a>, Al
         .help("the file that the check goes on from, and keeps its checkpoints in")
         .conflicts_with("rising")?
         .conflicts_with("replay")?;
-    command.arg(name)?.arg(file)
+    Command::new(alloc, "loom_rows")
+        .no_binary_name(true)
+        .disable_version_flag(true)
+        .override_usage("loom_rows [OPTIONS] NAME [FILE]")
+        .about("Checks the body that is called NAME, and prints what the check finds.")
+        .arg(name)?
+        .arg(file)?
+        .args(options(alloc)?)
 }
 
-// What the program does besides a check.
-fn with_tasks<'a>(alloc: Global, command: Command<'a>) -> Result<Command<'a>, AllocError> {
-    let replay = Arg::new(alloc, "replay")
-        .long("replay")
-        .value_name("CHOICES")
-        .help("make one run by choices as \"t0 l0 t1\", and then by defaults")
-        .conflicts_with("rising")?;
-    let measure = Arg::new(alloc, "measure")
-        .long("measure")
-        .value_name("NAME")
-        .num_args(0..)
-        .action(ArgAction::Append)
-        .exclusive(true)
-        .help("print how long checks take, of the bodies of these names or of some");
-    let json = flag(alloc, "json", "print the report as one JSON object").conflicts_with(
-        "explain",
-    )?;
-    command
-        .arg(flag(
-            alloc,
-            "explain",
-            "where a run failed, explain it below the line",
-        ))?
-        .arg(replay)?
-        .arg(flag(
-            alloc,
-            "rising",
-            "check with at most 0 preemptions, then 1, 2 and 3, up to a failure",
-        ))?
-        .arg(json)?
-        .arg(flag(alloc, "list", "print a line for each row").exclusive(true))?
-        .arg(flag(
-            alloc,
-            "tour",
-            "check four bodies, right and wrong, and explain what fails",
-        )
-        .exclusive(true))?
-        .arg(measure)
-}
-
-// The settings of a check, each in place of the row's own.
-fn with_settings<'a>(alloc: Global, command: Command<'a>) -> Result<Command<'a>, AllocError> {
-    with_search(alloc, with_limits(alloc, command)?)
-}
-
-fn with_limits<'a>(alloc: Global, command: Command<'a>) -> Result<Command<'a>, AllocError> {
-    let threads = number(alloc, "max-threads", "N", "how many threads a run may have");
-    let branches = number(
-        alloc,
-        "max-branches",
-        "N",
-        "how many choices a run may have",
-    );
-    let steps = number(
-        alloc,
-        "max-steps",
-        "N",
-        "how many operations a run may make",
-    );
-    let permutations = number(alloc, "max-permutations", "N", "stop after this many runs");
-    let duration = number(alloc, "max-duration", "SECONDS", "stop after this time")
-        .conflicts_with("rising")?
-        .conflicts_with("replay")?;
-    command
-        .arg(threads)?
-        .arg(branches)?
-        .arg(steps)?
-        .arg(permutations)?
-        .arg(duration)
-}
-
-fn with_search<'a>(alloc: Global, command: Command<'a>) -> Result<Command<'a>, AllocError> {
-    let bound = number(
-        alloc,
-        "preemption-bound",
-        "N",
-        "leave a thread that could go on at most this often in a run",
-    );
-    let interval = number(
-        alloc,
-        "checkpoint-interval",
-        "N",
-        "save a checkpoint every so many runs",
-    );
-    let reduce = flag(alloc, "reduce", "reduce the search").conflicts_with("no-reduce")?;
-    let whole = flag(alloc, "no-reduce", "try every thread that can go on");
-    let explicit = flag(
-        alloc,
-        "explicit-explore",
-        "explore only from the operation `explore` on",
-    );
-    command
-        .arg(bound)?
-        .arg(interval)?
-        .arg(reduce)?
-        .arg(whole)?
-        .arg(explicit)
-}
-
-// An option without a value.
-fn flag<'a>(alloc: Global, name: &'a str, help: &'a str) -> Arg<'a> {
-    Arg::new(alloc, name)
-        .long(name)
-        .action(ArgAction::SetTrue)
-        .help(help)
-}
-
-// An option with a number.
-fn number<'a>(alloc: Global, name: &'a str, value: &'a str, help: &'a str) -> Arg<'a> {
-    Arg::new(alloc, name)
-        .long(name)
-        .value_name(value)
-        .value_parser(value_parser!(usize))
-        .help(help)
+// What clap is told of the options.
+fn options<'a>(alloc: Global) -> Result<Vec<Arg<'a>>, AllocError> {
+    let mut options = Vec::new(alloc);
+    for option in &OPTIONS {
+        options.push(option.arg(alloc)?)?;
+    }
+    Ok(options)
 }

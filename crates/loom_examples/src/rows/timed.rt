@@ -58,7 +58,7 @@ pub(crate) fn check<R: AllocGlobal + Clock + Files, B: Body<Data = u64>>(
         start: Instant::now(rt).ok(),
     };
     let mut store = match &builder.checkpoint_file {
-        Some(name) => Some(FileStore::new(rt, name.as_str())),
+        Some(name) => Some(FileStore::new(rt, rt.alloc(), name.as_str())),
         None => None,
     };
     let log = None::<HostRuntime>;

@@ -5,7 +5,7 @@ ghost use Rattle.loom_examples.specs.Rows.Printed.{PrintedNamed};
 ghost use Rattle.loom_examples.specs.Rows.Words.{is_option};
 
 use crate::closures::rows::ROWS;
-use crate::rows::options::{Asked, RowAsked, read};
+use crate::rows::options::{Asked, RowAsked, is_option, read};
 use crate::rows::tasks::{Task, do_changed};
 use crate::rows::{self, Row, json, row_of, timed};
 use clap::Error;
@@ -14,9 +14,12 @@ use std::alloc::{AllocError, Global};
 use std::io::{self, Write};
 use std::rt::{Clock, Files};
 
-/// Does what the words ask for by the table of the program, prints what comes of it, and answers the exit status. Without an
-/// option that is `run_named`. It is 2 where the words mean nothing, and where memory or a writer fails. The tour and the
-/// measuring are the program's own.
+const HELP_BESIDE: &str =
+    "error: the argument '--help' cannot be used with one or more of the other specified arguments";
+
+/// Does what the words ask for by the table of the program, prints what comes of it, and answers the exit status. Where no word
+/// is one of the program's options that is `run_named`, but for a word that begins as an option does, which is refused. The
+/// status is 2 where the words mean nothing, and where memory or a writer fails. The tour and the measuring are the program's own.
 pub fn run_words<R: AllocGlobal + Clock + Files, O: Write, E: Write>(
     rt: &R,
     words: &[&str],
@@ -26,9 +29,11 @@ pub fn run_words<R: AllocGlobal + Clock + Files, O: Write, E: Write>(
     ensures { list_any (λ word. is_option word.now) words.now ≡ false → (result ≡ 2) ⊎ PrintedNamed (map (λ word. word.now) words.now) (O.contents out.old) (O.contents out.new) result }
 {
     if has_option(words) {
-        run_options(rt, words, out, err).unwrap_or(2)
-    } else {
-        rows::run_named(rt, words, out, err)
+        return run_options(rt, words, out, err).unwrap_or(2);
+    }
+    match no_option(rt.alloc(), words) {
+        Some(error) => refuse_by(rt.alloc(), err, &error).unwrap_or(2),
+        None => rows::run_named(rt, words, out, err),
     }
 }
 
@@ -39,14 +44,12 @@ pub fn has_option(words: &[&str]) -> bool
     words.iter().any(|word| is_option(word))
 }
 
-// Whether the word begins as an option does.
-fn is_option(word: &str) -> bool
-    ensures { result ≡ is_option word.now }
-{
-    match word.as_bytes() {
-        [] => false,
-        [first, ..] => *first == b'-',
+// Why a word that begins as an option does, and is none, is wrong.
+fn no_option(alloc: Global, words: &[&str]) -> Option<Error> {
+    if words.iter().any(|word| word.starts_with('-')) {
+        return read(alloc, words).err();
     }
+    None
 }
 
 fn run_options<R: AllocGlobal + Clock + Files, O: Write, E: Write>(
@@ -59,22 +62,31 @@ fn run_options<R: AllocGlobal + Clock + Files, O: Write, E: Write>(
         Ok(Asked::List) => list(rt, out),
         Ok(Asked::Row(asked)) => run_asked(rt, asked, out, err),
         Ok(Asked::Tour | Asked::Measure(_)) => refuse(err, "error: this is no row"),
-        Err(error) => help_or_refuse(rt.alloc(), &error, out, err),
+        Err(error) => help_or_refuse(rt.alloc(), words, &error, out, err),
     }
 }
 
 // The help that was asked for, or why the words are wrong.
 fn help_or_refuse<O: Write, E: Write>(
     alloc: Global,
+    words: &[&str],
     error: &Error,
     out: &mut O,
     err: &mut E,
 ) -> io::Result<u8> {
-    if error.use_stderr() {
+    if error.use_stderr() || !asks_for_help(words) {
         return refuse_by(alloc, err, error);
     }
     write!(out, "{error}")?;
     Ok(0)
+}
+
+// Whether the words ask for the help. Nothing stands beside that.
+fn asks_for_help(words: &[&str]) -> bool {
+    match words {
+        [word] => *word == "--help" || *word == "-h",
+        _ => false,
+    }
 }
 
 // A line for each row.
@@ -188,10 +200,14 @@ fn nearest<'a>(alloc: Global, rows: &'a [Row], word: &str) -> Result<&'a str, Al
     Ok(nearest)
 }
 
-// The words are wrong, as clap says. Its text ends with the usage, which stands above already.
+// The words are wrong, as clap says. Its text ends with the usage, which stands above already. Where it is the help, other words
+// stand beside `--help`.
 fn refuse_by<E: Write>(alloc: Global, err: &mut E, error: &Error) -> io::Result<u8>
     ensures { IfOk result (λ status. status ≡ 2) }
 {
+    if !error.use_stderr() {
+        return refuse(err, HELP_BESIDE);
+    }
     let text = format!(in alloc; "{error}")?;
     match text.as_str().split_once("\n\nUsage: ") {
         Some((cause, _)) => refuse(err, cause),

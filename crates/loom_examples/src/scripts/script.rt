@@ -1,23 +1,25 @@
 //! Bodies that take one step of a list after another.
-ghost use Rattle.std.specs.Prelude.{◌≡◌, Err, IfOk, Ok, Some, option_copied};
+ghost use Rattle.std.specs.Prelude.{◌≡◌, Err, IfOk, None, Ok, Some, option_copied};
 ghost use Rattle.loom_objects.specs.Operation.Labelled.{bare};
 ghost use Rattle.loom_examples.specs.Scripts.Running.{spawned, started};
-ghost use Rattle.loom_examples.specs.Scripts.Script.{label_of, next_of, request, spawn_at, store};
+ghost use Rattle.loom_examples.specs.Scripts.Script.{label_of, next_of, request, store};
 
-use crate::scripts::state::{State, place_of};
+use crate::scripts::program::Program;
+use crate::scripts::state::State;
 use crate::scripts::step::{Step, Value};
 use loom_objects::body::Body;
 use loom_objects::label::Label;
 use loom_objects::operation::{AtomicOp, Labelled, Op, Reply, Request, ThreadOp};
 use std::alloc::{AllocError, Global};
 use std::marker::Model;
+use std::rc::Rc;
 use std::sync::atomic::Ordering;
 
 /// A thread that runs a script.
 #[derive(Drop)]
 pub struct Script {
-    // All threads of the run share them.
-    steps: &'static [Step],
+    // All threads of all runs share it.
+    program: Rc<Program>,
     state: Box<State>,
 }
 
@@ -26,7 +28,7 @@ impl Model for Script {
 
     ghost Value = { Running };
 
-    ghost view = { λ script. record { steps = script.steps.now; state = script.state.value } };
+    ghost view = { λ script. record { steps = script.program.value; state = script.state.value } };
 }
 
 // Answers the request that is made of this one, if its slots keep such handles.
@@ -44,8 +46,9 @@ impl Script {
     pub fn new(alloc: Global, steps: &'static [Step]) -> Result<Script, AllocError>
         ensures { IfOk result (λ script. script ≡ started steps.entry.now) }
     {
+        let program = Rc::new(alloc, Program::new(alloc, steps)?)?;
         let state = Box::new(alloc, State::new())?;
-        Ok(Script { steps, state })
+        Ok(Script { program, state })
     }
 
     // A thread in this state, with the same steps.
@@ -54,7 +57,7 @@ impl Script {
     {
         let state = Box::new(*Box::allocator(&self.state), state)?;
         Ok(Script {
-            steps: self.steps,
+            program: self.program.clone()?,
             state,
         })
     }
@@ -95,8 +98,8 @@ impl Script {
             Request::Lazy(op) => return Ok(Request::Lazy(state.lazy_op(op))),
             Request::Explore(op) => return Ok(Request::Explore(*op)),
             Request::Thread(op) => return self.thread_request(op),
-            Request::Fail => return Ok(Request::Fail),
             Request::Unreachable => return Ok(Request::Unreachable),
+            _ => {}
         }
         Ok(Request::Fail)
     }
@@ -114,11 +117,11 @@ impl Script {
         }
     }
 
-    /// The start of a thread behind the label of this name.
-    fn spawn_at(&self, name: &str) -> Result<Request<u64, Script>, AllocError>
-        ensures { IfOk result (λ made. made ≡ spawn_at self.now name.now) }
+    /// The start of a thread at this place.
+    fn spawn(&self, place: usize) -> Result<Request<u64, Script>, AllocError>
+        ensures { IfOk result (λ made. made ≡ Request.Thread (ThreadOp.Spawn (spawned self.now place) None)) }
     {
-        let child = self.child(place_of(self.steps, name))?;
+        let child = self.child(place)?;
         Ok(Request::Thread(ThreadOp::Spawn(child, None)))
     }
 }
@@ -129,16 +132,7 @@ fn label_of(step: Option<&Step>) -> Option<&Label>
 {
     match step {
         Some(Step::Labelled(_, _, label)) => Some(label),
-        Some(
-            Step::Do(..)
-            | Step::Store(..)
-            | Step::Label(_)
-            | Step::JumpTo(_)
-            | Step::IfTo(..)
-            | Step::UnlessTo(..)
-            | Step::SpawnAt(..),
-        )
-        | None => None,
+        _ => None,
     }
 }
 
@@ -183,13 +177,14 @@ impl Body for Script {
             let reply = reply;
             self.state.keep(&reply);
         }
-        let step = self.state.fetch(self.steps);
+        let place = self.state.fetch(self.program.as_ref());
+        let step = self.program.step(place);
         // Each answer goes out by itself: where two meet, each of them would be moved once more. Beyond the script's end, and
         // where a jump leads to a jump or past a label to another one, the step fails.
         let asked = match step {
             Some(Step::Do(_, asked) | Step::Labelled(_, asked, _)) => asked,
             Some(Step::Store(slot, value, order)) => return bare(self.store(*slot, *value, *order)),
-            Some(Step::SpawnAt(_, name)) => match self.spawn_at(name) {
+            Some(Step::SpawnAt(..)) => match self.spawn(self.program.named_at(place)) {
                 Ok(request) => return bare(request),
                 Err(refusal) => return refused(refusal),
             },

@@ -1,8 +1,9 @@
 //! How far a thread of a script is, and what it and its registers keep.
-ghost use Rattle.std.specs.Prelude.{◌≡◌, ◌==◌, ◌<◌, length, option_copied, slice_get};
-ghost use Rattle.loom_examples.specs.Scripts.Running.{at_first, behind, child, fetched, goes_on_at, is_label, keep_of, label_at, landing, past_label, place_of};
+ghost use Rattle.std.specs.Prelude.{◌≡◌, ◌==◌, slice_get};
+ghost use Rattle.loom_examples.specs.Scripts.Running.{at_first, behind, child, fetched, keep_of, landing, past_label};
 ghost use Rattle.loom_examples.specs.Scripts.Slots.{digits, handle_at, held, kept, lazy_digits, local_digits, name_number, notifier, number_of, object, put_handle, put_number, thread, told_by, with_digit};
 
+use crate::scripts::program::Program;
 use crate::scripts::step::{Step, Value};
 use loom_objects::operation::{Keyed, Lazy, Name, Reply};
 use std::collections::LinkedList;
@@ -179,25 +180,28 @@ impl State {
         }
     }
 
-    /// Where it goes on from this step, of these: a jump makes no operation.
-    fn goes_on_at(&self, steps: &[Step], step: &Step) -> usize
-        requires { self.now.at < length steps.now }
-        ensures { result ≡ goes_on_at steps.now self.now step.now }
+    /// Where the next step stands, behind a jump and a label: a jump makes no operation.
+    fn landing(&self, program: &Program) -> usize
+        ensures { result ≡ landing program.now self.now }
     {
-        match step {
-            Step::JumpTo(name) => place_of(steps, name),
-            Step::IfTo(register, number, name) => {
+        let steps = program.steps();
+        if self.at >= steps.len() {
+            return self.at;
+        }
+        let place = match &steps[self.at] {
+            Step::JumpTo(_) => program.named_at(self.at),
+            Step::IfTo(register, number, _) => {
                 if self.has(*register, *number) {
-                    place_of(steps, name)
+                    program.named_at(self.at)
                 } else {
                     self.at + 1
                 }
             }
-            Step::UnlessTo(register, number, name) => {
+            Step::UnlessTo(register, number, _) => {
                 if self.has(*register, *number) {
                     self.at + 1
                 } else {
-                    place_of(steps, name)
+                    program.named_at(self.at)
                 }
             }
             Step::Do(..)
@@ -205,45 +209,47 @@ impl State {
             | Step::Store(..)
             | Step::Label(_)
             | Step::SpawnAt(..) => self.at,
-        }
+        };
+        past_label(steps, place)
     }
 
-    /// Goes behind the next of the steps or, where that is a jump or a label, behind the one to which it leads. Answers the step
-    /// behind which it is now, if there is one.
-    pub(crate) fn fetch<'a>(&mut self, steps: &'a [Step]) -> Option<&'a Step>
-        ensures step { option_copied result ≡ slice_get steps.now (landing steps.now self.old) }
-        ensures moved { self.new ≡ fetched steps.now self.old }
+    /// Goes behind the next step or, where that is a jump or a label, behind the one to which it leads. Answers the place of the
+    /// step behind which it is now, if there is one.
+    pub(crate) fn fetch(&mut self, program: &Program) -> usize
+        ensures place { result ≡ landing program.now self.old }
+        ensures moved { self.new ≡ fetched program.now self.old }
     {
-        if self.at >= steps.len() {
-            return None;
+        let steps = program.steps();
+        let at = self.at;
+        if at >= steps.len() {
+            return at;
         }
-        let step = &steps[self.at];
-        match step {
+        match &steps[at] {
             Step::Do(keep, _) | Step::Labelled(keep, ..) | Step::SpawnAt(keep, _) => {
-                self.at += 1;
+                self.at = at + 1;
                 self.keep = *keep;
-                Some(step)
+                at
             }
-            Step::Store(..) => self.pass(steps, self.at),
+            Step::Store(..) => {
+                self.pass(steps, at);
+                at
+            }
             Step::Label(_) | Step::JumpTo(_) | Step::IfTo(..) | Step::UnlessTo(..) => {
-                let place = self.goes_on_at(steps, step);
-                self.pass(steps, past_label(steps, place))
+                let place = self.landing(program);
+                self.pass(steps, place);
+                place
             }
         }
     }
 
-    /// Goes behind the step at this place, and answers it, if there is one.
-    fn pass<'a>(&mut self, steps: &'a [Step], place: usize) -> Option<&'a Step>
-        ensures step { option_copied result ≡ slice_get steps.now place }
-        ensures moved { self.new ≡ behind self.old place (slice_get steps.now place) }
+    /// Goes behind the step at this place, if there is one.
+    fn pass(&mut self, steps: &[Step], place: usize)
+        ensures { self.new ≡ behind self.old place (slice_get steps.now place) }
     {
-        if place >= steps.len() {
-            return None;
+        if place < steps.len() {
+            self.at = place + 1;
+            self.keep = keep_of(&steps[place]);
         }
-        let step = &steps[place];
-        self.at = place + 1;
-        self.keep = keep_of(step);
-        Some(step)
     }
 
     /// The state of a thread that begins at this step, with the numbers and handles of this one.
@@ -258,39 +264,6 @@ impl State {
     }
 }
 
-/// Whether the step is the label of this name.
-fn is_label(step: &Step, name: &str) -> bool
-    ensures { result ≡ is_label name.now step.now }
-{
-    match step {
-        Step::Label(label) => *label == name,
-        Step::Do(..)
-        | Step::Labelled(..)
-        | Step::Store(..)
-        | Step::JumpTo(_)
-        | Step::IfTo(..)
-        | Step::UnlessTo(..)
-        | Step::SpawnAt(..) => false,
-    }
-}
-
-/// Where the first label of this name stands.
-fn label_at(steps: &[Step], name: &str) -> Option<usize>
-    ensures { result ≡ label_at steps.now name.now }
-{
-    steps.iter().position(|step| is_label(step, name))
-}
-
-/// Where the first label of this name stands; without one, the steps' end.
-pub(crate) fn place_of(steps: &[Step], name: &str) -> usize
-    ensures { result ≡ place_of steps.now name.now }
-{
-    match label_at(steps, name) {
-        Some(place) => place,
-        None => steps.len(),
-    }
-}
-
 /// The next place, if a label stands at this one.
 fn past_label(steps: &[Step], place: usize) -> usize
     ensures { result ≡ past_label steps.now place }
@@ -300,13 +273,7 @@ fn past_label(steps: &[Step], place: usize) -> usize
     }
     match &steps[place] {
         Step::Label(_) => place + 1,
-        Step::Do(..)
-        | Step::Labelled(..)
-        | Step::Store(..)
-        | Step::JumpTo(_)
-        | Step::IfTo(..)
-        | Step::UnlessTo(..)
-        | Step::SpawnAt(..) => place,
+        _ => place,
     }
 }
 
@@ -366,7 +333,6 @@ fn told_by(reply: &Reply<u64>) -> Told
     ensures { result ≡ told_by reply.now }
 {
     match reply {
-        Reply::Start | Reply::Done => Told::Nothing,
         Reply::Atomic(number)
         | Reply::Cell(number)
         | Reply::Arc(number)
@@ -400,6 +366,7 @@ fn told_by(reply: &Reply<u64>) -> Told
         Reply::Lazies(lazies) => Told::Number(lazy_digits(lazies.as_slice())),
         Reply::Thread(thread, name) => { Told::Named(Handle::Thread(*thread), name_number(*name)) }
         Reply::Spawned(thread, _, notifier) => Told::Handle(Handle::Spawned(*thread, *notifier)),
+        _ => Told::Nothing,
     }
 }
 

@@ -138,13 +138,7 @@ fn same_from(scene: &Scene<'_>, lines: &[Line], place: usize, turn: usize) -> us
 
 /// How many events hand an operation over in these lines.
 fn events_in(turn: &[Line]) -> usize {
-    let mut events = 0usize;
-    for line in turn {
-        if line.event.is_some() {
-            events = events.saturating_add(1);
-        }
-    }
-    events
+    turn.iter().filter(|line| line.event.is_some()).count()
 }
 
 /// The row of a turn that is repeated.
@@ -193,16 +187,11 @@ fn end_row(out: &mut Page, row: &mut Page, frame: Frame, thread: usize) {
     row.clear();
 }
 
-/// How many digits an event's number has, of seven at most.
+/// How many digits an event's number has.
 fn digits_of(event: usize) -> usize {
-    match event {
-        0..=9 => 1,
-        10..=99 => 2,
-        100..=999 => 3,
-        1000..=9999 => 4,
-        10_000..=99_999 => 5,
-        100_000..=999_999 => 6,
-        _ => 7,
+    match event.checked_ilog10() {
+        Some(power) => (power as usize).saturating_add(1),
+        None => 1,
     }
 }
 

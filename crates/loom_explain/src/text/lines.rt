@@ -2,8 +2,8 @@
 use crate::event::Event;
 use crate::explanation::{Explanation, Options};
 use crate::text::answers::Answer;
-use crate::text::calls::{Call, call_of};
-use crate::text::objects::{At, Kind, Store};
+use crate::text::forms::{Call, Kind, call_of};
+use crate::text::objects::{At, Store};
 use crate::text::page::Page;
 use crate::text::world::World;
 use loom_objects::choice::Choice;
@@ -151,7 +151,7 @@ fn put_lettered(page: &mut Page, words: &str, letter: &str, number: u8) {
 fn slot_at(explanation: &Explanation, place: usize) -> Option<u8> {
     match explanation.choices.get(place) {
         Some(Choice::Load(slot)) => Some(*slot),
-        Some(Choice::Thread(_) | Choice::Spurious(_)) | None => None,
+        _ => None,
     }
 }
 
@@ -171,19 +171,16 @@ fn pending_of<'a>(
     lines: &Lines,
     thread: usize,
 ) -> Option<Pending<'a>> {
-    if let Some(member) = world.threads.get(thread) {
-        if let Some(event) = explanation.event(member.pending) {
-            return Some(Pending {
-                at: At {
-                    event: member.pending,
-                    thread,
-                },
-                before: lines.number_before(member.line, member.pending),
-                op: &event.op,
-            });
-        }
-    }
-    None
+    let member = world.threads.get(thread)?;
+    let event = explanation.event(member.pending)?;
+    Some(Pending {
+        at: At {
+            event: member.pending,
+            thread,
+        },
+        before: lines.number_before(member.line, member.pending),
+        op: &event.op,
+    })
 }
 
 /// What came of the thread's last operation.

@@ -1,30 +1,8 @@
 //! What is known of an object, a store, an access and a thread, as far as a run's events tell.
+use crate::text::forms::Kind;
 use loom_objects::label::Label;
 use loom_objects::operation::Name;
-use loom_views::rt::num::Numbers;
 use std::sync::atomic::Ordering;
-
-/// What an object is.
-#[derive(Clone, Copy)]
-pub(crate) enum Kind {
-    /// With the type of what it holds.
-    Atomic(Numbers),
-    Cell,
-    Arc,
-    Track,
-    Mutex,
-    RwLock,
-    Condvar,
-    Notify,
-    /// By which a thread is joined.
-    Joining,
-    Channel,
-    /// By which a future's wakers wake.
-    Waking,
-    /// The count of a future's wakers.
-    Wakers,
-    AtomicWaker,
-}
 
 /// An object of the run. Its number is its place in the order in which objects were made.
 #[derive(Clone, Copy)]
@@ -108,45 +86,6 @@ pub(crate) struct Member {
     pub(crate) line: usize,
     /// How many stages of it have passed.
     pub(crate) stage: u8,
-}
-
-impl Kind {
-    /// What such an object is called.
-    pub(crate) fn name(self) -> &'static str {
-        match self {
-            Kind::Atomic(_) => "atomic",
-            Kind::Cell => "cell",
-            Kind::Arc => "Arc",
-            Kind::Track => "tracked value",
-            Kind::Mutex => "mutex",
-            Kind::RwLock => "RwLock",
-            Kind::Condvar => "condvar",
-            Kind::Notify => "notifier",
-            Kind::Joining => "a thread's notifier",
-            Kind::Channel => "channel",
-            Kind::Waking => "a future's notifier",
-            Kind::Wakers => "future",
-            Kind::AtomicWaker => "place for a waker",
-        }
-    }
-
-    /// Whether it is the other, whatever an atomic holds.
-    pub(crate) fn is_like(self, other: Kind) -> bool {
-        self.name() == other.name()
-    }
-
-    /// What it counts when it is made: the first store, reference, waker or tracked value.
-    pub(crate) fn first_count(self) -> usize {
-        match self {
-            Kind::Atomic(_) | Kind::Arc | Kind::Track | Kind::Wakers => 1,
-            _ => 0,
-        }
-    }
-
-    /// Whether making it counts as an access.
-    pub(crate) fn is_accessed(self) -> bool {
-        matches!(self, Kind::Atomic(_) | Kind::Cell)
-    }
 }
 
 impl Manner {

@@ -2,10 +2,9 @@
 use crate::text::answers::{
     Answer, answer_of, cell_touch, has_failed, is_done, order_of, outcome_of, taken_by, touch_of,
 };
-use crate::text::calls::{Call, call_of};
-use crate::text::forms::Deed;
+use crate::text::forms::{Call, Deed, Kind, call_of};
 use crate::text::names::Thing;
-use crate::text::objects::{Access, At, Hold, Kind, Manner, Member, Object, Reading, Store};
+use crate::text::objects::{Access, At, Hold, Manner, Member, Object, Reading, Store};
 use loom_objects::label::Label;
 use loom_objects::operation::{
     AtomicOp, AtomicWakerOp, CellOp, CondvarOp, Name, Op, Reply, Request, ThreadOp,
@@ -61,13 +60,8 @@ impl World {
 
     /// Who has the object since when, of several the last one.
     pub(crate) fn holder(&self, object: usize) -> Option<At> {
-        let mut last = None;
-        for hold in &self.holds {
-            if hold.object == object {
-                last = Some(hold.at);
-            }
-        }
-        last
+        let hold = self.holds.iter().rev().find(|hold| hold.object == object)?;
+        Some(hold.at)
     }
 
     /// The type of what the atomic holds.
@@ -93,13 +87,12 @@ impl World {
 
     /// The store in a slot: of the last seven of the atomic, the one whose number is the slot's modulo seven.
     pub(crate) fn store_in(&self, atomic: usize, slot: u8) -> Option<Store> {
-        let mut last = None;
-        for store in &self.stores {
-            if store.atomic == atomic && store.number % MAX_ATOMIC_HISTORY == usize::from(slot) {
-                last = Some(*store);
-            }
-        }
-        last
+        let mut stores = self.stores.iter().rev();
+        stores
+            .find(|store| {
+                store.atomic == atomic && store.number % MAX_ATOMIC_HISTORY == usize::from(slot)
+            })
+            .copied()
     }
 
     /// The store in a slot of the atomic that the call is on.

@@ -24,7 +24,7 @@ use Rattle.loom_objects.specs.Rules.Atomic.{reads}
 use Rattle.loom_objects.specs.Rules.Tables.{chosen, counted, op_begins}
 use Rattle.loom_objects.specs.Failure.{failure_of, fails}
 use Rattle.loom_objects.specs.Operation.Accessed.{accessed}
-use Rattle.loom_objects.specs.Tree.Question.{asked_store, slots, slots_from}
+use Rattle.loom_objects.specs.Tree.Stores.{asked_store, slots, slots_from}
 use Rattle.loom_objects.specs.Rules.Rule.{check}
 use Rattle.loom_objects.specs.Rules.Rule as rule
 use Rattle.loom_objects.specs.Scene.Stage.{world_of, DoesAt, HasSlot, KeepsAt, KeepsSlots}

@@ -5,7 +5,7 @@ use Rattle.std.specs.List.{position_from}
 use Rattle.loom_objects.specs.declared.rt.schedule.Ability.{Ability}
 use Rattle.loom_objects.specs.declared.rt.schedule.Ability.TheVariants.{Able, Yielding, Unable}
 use Rattle.loom_objects.specs.declared.rt.schedule.Offers.{Offers}
-use Rattle.loom_objects.specs.Tree.Question.{AreSoundOffers}
+use Rattle.loom_objects.specs.Tree.Sound.{AreSoundOffers}
 use Rattle.loom_objects.specs.Schedule.Offers.{ability_in, with_able, offers_of}
 use Rattle.loom_objects.specs.Schedule.Defaults.{is_able, is_yielding, better, fewest, or_else, default_thread}
 

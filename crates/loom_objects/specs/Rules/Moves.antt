@@ -212,6 +212,13 @@ module _ {D : Type 0} where
   abbrev pub an_atomic_waker : ℕ → World D → Result AtomicWaker FailureKind
   an_atomic_waker n w = atomic_waker_at n w.objects
 
+  -- the wakers of this number, of which there is one at least
+  abbrev pub some_wakers : ℕ → World D → Result Wakers FailureKind
+  some_wakers c w = do
+    wakers ← a_wakers c w
+    _ ← check (nat_lt 0 wakers.count) Misuse
+    Ok wakers
+
   -- the object of this number is now so
   abbrev pub with_object : ℕ → Object D → World D → World D
   with_object n object w = record w { objects = slice_set w.objects n object }

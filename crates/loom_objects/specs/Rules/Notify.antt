@@ -15,7 +15,7 @@ use Rattle.loom_objects.specs.declared.rt.run.Entry.TheVariants as entry
 use Rattle.loom_objects.specs.declared.rt.thread.Task.TheVariants as task
 use Rattle.loom_objects.specs.Rules.Rule.{◌>>=◌, check}
 use Rattle.loom_objects.specs.World.{World}
-use Rattle.loom_objects.specs.Rules.Moves.{a_notify, acquires, releases, joins_view, with_object, with_new, wakes_pending, pends, yields}
+use Rattle.loom_objects.specs.Rules.Moves.{a_notify, some_wakers, acquires, releases, joins_view, with_object, with_new, wakes_pending, pends, yields}
 
 -- the thread is another one
 abbrev pub is_other : ℕ → Option ℕ → Bool
@@ -53,7 +53,7 @@ module _ {D : Type 0} where
 
   -- a notifier on which bodies wait
   abbrev pub notify_new : World D → Result (Entry D × World D) FailureKind
-  notify_new w = Ok (entry.Answered (reply.Notify (length w.objects)), with_new (object.Notify (record { notified = false; waiter = None; spurious = NotYet })) w)
+  notify_new w = Ok (entry.Answered (reply.Notify (length w.objects)), with_new (object.Notify (record { notified = false; waiter = None; spurious = NotYet; wakers = None })) w)
 
   abbrev pub notify_one_begins : ℕ → World D → Result (Entry D × World D) FailureKind
   notify_one_begins n w = do
@@ -100,16 +100,25 @@ module _ {D : Type 0} where
     after ← notify n w
     Ok (reply.Done, after.1)
 
-  -- the thread acquires, and the notifier isn't notified any more
+  -- a future has a waker left
+  abbrev pub has_waker : Option ℕ → World D → Result ⊤ FailureKind
+  has_waker None w = Ok tt
+  has_waker (Some c) w = do
+    _ ← some_wakers c w
+    Ok tt
+
+  -- The thread acquires, and the notifier isn't notified any more. A future's notifier is there while a waker of it is left.
   abbrev pub awaits : ℕ → World D → Result (Reply D × World D) FailureKind
   awaits n w = do
     notifier ← a_notify n w
+    _ ← has_waker notifier.wakers w
     _ ← check notifier.notified Misuse
     Ok (reply.Done, acquires n (with_notify n (record notifier { notified = false; waiter = None }) w))
 
   abbrev pub wakes_early : ℕ → World D → Result (Reply D × World D) FailureKind
   wakes_early n w = do
     notifier ← a_notify n w
+    _ ← has_waker notifier.wakers w
     Ok (reply.Done, with_notify n (record notifier { spurious = Over }) w)
 
 -- memory may be refused where a notifier is made

@@ -17,7 +17,8 @@ use Rattle.loom_objects.specs.Rules.Atomic.{reads}
 use Rattle.loom_objects.specs.Rules.Tables.{counted, chosen}
 use Rattle.loom_objects.specs.Rules.Ending.{end_of}
 use Rattle.loom_objects.specs.Rules.Notify.{enters_wait as entered}
-use Rattle.loom_objects.specs.Tree.Question.{WhichStore, slots}
+use Rattle.loom_objects.specs.Tree.Question.{WhichStore}
+use Rattle.loom_objects.specs.Tree.Stores.{slots}
 use Rattle.loom_objects.specs.Tree.Tree.{Tree, Gives, Fails, Asks, ◌>>=◌, came}
 use Rattle.loom_objects.specs.World.{World}
 

@@ -46,7 +46,7 @@ module _ {D : Type 0} where
     _ ← check (nat_lt (length w.threads) w.max_threads) TooManyThreads
     points ← points_after_spawn w.points w.active
     let child = child_thread name (length w.objects)
-    let notifier = object.Notify (record { notified = false; waiter = None; spurious = Never })
+    let notifier = object.Notify (record { notified = false; waiter = None; spurious = Never; wakers = None })
     Ok (Answered (reply.Spawned (length w.threads) name (length w.objects)), with_new notifier (with_points points (record w { threads = w.threads ++ child ∷ [] })))
 
   -- the notifier is the thread's own

@@ -29,16 +29,10 @@ use Rattle.loom_objects.specs.declared.rt.thread.Task.TheVariants as task
 use Rattle.loom_objects.specs.Rules.Notify.{notify, wait_begins}
 use Rattle.loom_objects.specs.Rules.Rule.{◌>>=◌, check}
 use Rattle.loom_objects.specs.World.{World}
+pub use Rattle.loom_objects.specs.Rules.Moves.{some_wakers}
 use Rattle.loom_objects.specs.Rules.Moves.{an_atomic_waker, a_wakers, acquires, blocks_pending, pends, releases, wakes_pending, with_new, with_object, yields}
 
 module _ {D : Type 0} where
-  -- the wakers of this number, of which there is one at least
-  abbrev pub some_wakers : ℕ → World D → Result Wakers FailureKind
-  some_wakers c w = do
-    wakers ← a_wakers c w
-    _ ← check (nat_lt 0 wakers.count) Misuse
-    Ok wakers
-
   abbrev pub with_wakers : ℕ → Wakers → World D → World D
   with_wakers c wakers w = with_object c (object.Wakers wakers) w
 
@@ -59,7 +53,7 @@ module _ {D : Type 0} where
   abbrev pub block_on_new : World D → Result (Entry D × World D) FailureKind
   block_on_new w = Ok (
     Answered (reply.BlockOn (length w.objects + 1)),
-    with_new (object.Wakers (record { notifier = length w.objects; count = 1 })) (with_new (object.Notify (record { notified = false; waiter = None; spurious = NotYet })) w),
+    with_new (object.Wakers (record { notifier = length w.objects; count = 1 })) (with_new (object.Notify (record { notified = false; waiter = None; spurious = NotYet; wakers = Some (length w.objects + 1) })) w),
   )
 
   abbrev pub block_on_wait : ℕ → World D → Result (Entry D × World D) FailureKind
@@ -195,12 +189,12 @@ module _ {D : Type 0} where
     wakers ← some_wakers c w
     registers_if (is_none place.holder) p c place wakers w
 
-  -- what a thread does with the waker that it has taken out
+  -- what a thread does with the waker that it has taken out; that one is left is tested when it wakes
   abbrev pub has_taken : Taking → Option ℕ → World D → Result (Passed D × World D) FailureKind
   has_taken taking.Answer waker w = answered (waker_reply waker) w
   has_taken taking.Wake None w = answered reply.Done w
   has_taken taking.Wake (Some c) w = do
-    wakers ← some_wakers c w
+    wakers ← a_wakers c w
     pends_next (task.WakeBy wakers.notifier c (woken.Drop dropped.Done)) false w
 
   -- the lock is taken, the waker is taken out, and the lock is given free

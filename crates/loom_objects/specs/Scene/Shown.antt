@@ -9,7 +9,7 @@ use Rattle.loom_objects.specs.declared.rt.run.Resumed.{Resumed}
 use Rattle.loom_objects.specs.declared.rt.run.Resumed.TheVariants as resumed
 use Rattle.loom_objects.specs.declared.rt.run.RunState.{RunState}
 use Rattle.loom_objects.specs.Operation.Accessed.{accessed}
-use Rattle.loom_objects.specs.Tree.Question.{asked_store, slots}
+use Rattle.loom_objects.specs.Tree.Stores.{asked_store, slots}
 use Rattle.loom_objects.specs.Scene.Stage.{KeepsAt, world_of}
 use Rattle.loom_objects.specs.Rules.Steps.{read_by, turned}
 use Rattle.loom_objects.specs.Tree.Tree.{Tree, Gives, Fails, Asks, ◌>>=◌}

@@ -1,6 +1,6 @@
 -- Wakers of a future.
 -- Parts of what is done with a waker or with a place for one.
-use Rattle.std.specs.Prelude.{ℕ, nat_lt, List, Result, Ok, ◌-◌, ◌==◌, ⊤}
+use Rattle.std.specs.Prelude.{ℕ, nat_lt, List, Option, Some, None, Result, Ok, ◌-◌, ◌==◌, ⊤}
 use Rattle.loom_views.specs.declared.rt.failure.FailureKind.{FailureKind}
 use Rattle.loom_views.specs.declared.rt.failure.FailureKind.TheVariants.{Misuse}
 use Rattle.loom_objects.specs.declared.rt.object.Object.{Object}
@@ -20,6 +20,13 @@ module _ {D : Type 0} where
     wakers ← wakers_at c objects
     _ ← check (nat_lt 0 wakers.count) Misuse
     Ok wakers
+
+  -- a future has a waker left
+  abbrev pub has_waker : Option ℕ → List (Object D) → Result ⊤ FailureKind
+  has_waker None objects = Ok tt
+  has_waker (Some c) objects = do
+    _ ← wakers_left c objects
+    Ok tt
 
 module _ {D : Type 0} where
   -- the count is one less, and the thread releases to it; who drops the last waker acquires

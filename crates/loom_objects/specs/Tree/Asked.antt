@@ -1,7 +1,7 @@
--- The questions that the machine asks.
+-- The questions of a schedule, and of a thread that may wake without a notification.
 use Rattle.std.specs.Prelude.{ℕ, suc, List, [], ◌∷◌, Bool, Option, Some, None}
 use Rattle.loom_objects.specs.declared.rt.schedule.Offers.{Offers}
-use Rattle.loom_objects.specs.Tree.Question.{Question, WhichThread, WhetherSpurious, slots, asked_store}
+use Rattle.loom_objects.specs.Tree.Question.{Question, WhichThread, WhetherSpurious}
 
 -- the pairs of a place and a thread, from thread t on, of the places that there are
 abbrev pub pairs_from : ℕ → List (Option ℕ) → List (ℕ × ℕ)
@@ -17,10 +17,6 @@ pairs places = pairs_from 0 places
 -- ordered after those at these places
 abbrev pub which_thread : Bool → Offers → List (Option ℕ) → Question
 which_thread exploring offers places = WhichThread exploring (record { default = offers.default; abilities = offers.abilities; unordered = pairs places })
-
--- a load, while these of the slots may be read
-abbrev pub which_store : Bool → List Bool → Question
-which_store exploring readable = asked_store exploring (slots readable)
 
 -- whether a thread wakes without a notification
 abbrev pub whether_spurious : Bool → Question

@@ -1,5 +1,5 @@
 -- What a run asks for: a thread, a store, or whether a thread wakes without a notification.
-use Rattle.std.specs.Prelude.{ℕ, suc, ◌≡◌, ◌≢◌, ◌≤◌, Bool, true, false, List, [], ◌∷◌, map, ◌⊎◌, length, Option, Some, None, slice_get}
+use Rattle.std.specs.Prelude.{ℕ, suc, ◌≡◌, Bool, true, false, List, [], ◌∷◌, map, ◌⊎◌, Option, Some, None}
 use Rattle.loom_objects.specs.declared.choice.Choice.{Choice}
 use Rattle.loom_objects.specs.declared.choice.Choice.TheVariants.{Thread, Load, Spurious}
 use Rattle.loom_objects.specs.declared.rt.schedule.Ability.{Ability}
@@ -17,21 +17,6 @@ pub data Question : Type 0 where
   WhichThread : Bool → Standing → Question
   WhichStore : Bool → ℕ → List ℕ → Question
   WhetherSpurious : Bool → Question
-
--- the slots from number k on that are in the set
-abbrev pub slots_from : ℕ → List Bool → List ℕ
-slots_from k [] = []
-slots_from k (true ∷ readable) = k ∷ slots_from (suc k) readable
-slots_from k (false ∷ readable) = slots_from (suc k) readable
-
--- the slots in the set, in rising order
-abbrev pub slots : List Bool → List ℕ
-slots readable = slots_from 0 readable
-
--- which of these stores is read, the lowest one by itself; a load has one at least
-abbrev pub asked_store : Bool → List ℕ → Question
-asked_store exploring [] = WhichStore exploring 0 []
-asked_store exploring (lowest ∷ others) = WhichStore exploring lowest others
 
 -- A node as it is made: whether the run explores there, the choice that is taken by itself, the options, in the order of
 -- threads or slots, or false before true, and at a schedule what each thread offers
@@ -78,18 +63,3 @@ made_of (WhetherSpurious exploring) = record {
   options = Spurious false ∷ Spurious true ∷ [];
   offers = [];
 }
-
-abbrev pub IsSoundDefault : Option ℕ → List Ability → Type 0
-IsSoundDefault None abilities = Unit {0}
-IsSoundDefault (Some k) abilities = slice_get abilities k ≡ Some Able
-
--- the default thread is able, and without one no thread is
-abbrev pub AreSoundOffers : Option ℕ → List Ability → Type 0
-AreSoundOffers None abilities = (k : ℕ) → slice_get abilities k ≢ Some Able
-AreSoundOffers (Some k) abilities = slice_get abilities k ≡ Some Able
-
--- the default thread is able, there are at most five threads, and at most seven slots
-abbrev pub IsSound : Question → Type 0
-IsSound (WhichThread exploring standing) = IsSoundDefault standing.default standing.abilities × (length standing.abilities ≤ 5)
-IsSound (WhichStore exploring lowest others) = length others ≤ 6
-IsSound (WhetherSpurious exploring) = Unit {0}

@@ -250,7 +250,7 @@ pub fn take_waker<D: Drop>(
     has_taken(scene, taking, place.waker)
 }
 
-/// What the active thread does with the waker that it has taken out.
+/// What the active thread does with the waker that it has taken out. That one is left is tested when it wakes.
 fn has_taken<D: Drop>(
     scene: &mut Scene<D>,
     taking: Taking,
@@ -262,9 +262,9 @@ fn has_taken<D: Drop>(
         (Taking::Answer, waker) => Ok(answered(scene, waker_reply(waker))),
         (Taking::Wake, None) => Ok(answered(scene, Reply::Done)),
         (Taking::Wake, Some(number)) => {
-            let wakers = some_wakers(scene, number)?;
+            let notifier = scene.wakers(number)?.notifier;
             let after = AfterWake::Drop(AfterDrop::Done);
-            Ok(pend_next(scene, Task::WakeBy(wakers.notifier, number, after)))
+            Ok(pend_next(scene, Task::WakeBy(notifier, number, after)))
         }
     }
 }

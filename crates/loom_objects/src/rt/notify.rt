@@ -7,12 +7,14 @@ ghost use Rattle.loom_objects.specs.contracts.rt.notify.Notify as notify_row;
 ghost use Rattle.std.specs.Prelude.{◌≡◌, IfOk, OnErr, true};
 ghost use Rattle.loom_objects.specs.Rules.Notify as rules;
 ghost use Rattle.loom_objects.specs.Scene.Stage.{Does, DoesIfOk};
+ghost use Rattle.loom_objects.specs.Stages.Waker as stages;
 
 use crate::operation::{NotifyOp, Reply};
 use crate::rt::object::Object;
 use crate::rt::run::Entry;
 use crate::rt::scene::Scene;
 use crate::rt::thread::Task;
+use crate::rt::waker::some_wakers;
 use loom_views::rt::failure::FailureKind;
 use std::alloc::AllocError;
 
@@ -38,6 +40,8 @@ pub struct Notify {
     pub waiter: Option<u8>,
     /// Whether a thread has woken without one.
     pub spurious: Spurious,
+    /// The number of the count of a future's wakers, where it is the future's notifier.
+    pub wakers: Option<usize>,
 }
 
 impl Notify {
@@ -117,10 +121,22 @@ pub fn notify_waiter<D: Drop>(scene: &mut Scene<D>, number: usize) -> Result<(),
     Ok(())
 }
 
+/// A future has a waker left. `Misuse` where it hasn't.
+fn has_waker<D: Drop>(scene: &Scene<D>, wakers: Option<usize>) -> Result<(), FailureKind>
+    ensures { result ≡ stages.has_waker wakers scene.now.objects }
+{
+    if let Some(number) = wakers {
+        some_wakers(scene, number)?;
+    }
+    Ok(())
+}
+
 /// The active thread has woken without a notification, and no thread does so again.
 pub fn wake_early<D: Drop>(scene: &mut Scene<D>, number: usize) -> Result<Reply<D>, FailureKind>
     ensures { Does (rules.wakes_early number) scene.old result scene.new }
 {
+    let wakers = scene.notify(number)?.wakers;
+    has_waker(scene, wakers)?;
     scene.notify_mut(number)?.spurious = Spurious::Over;
     Ok(Reply::Done)
 }
@@ -149,6 +165,7 @@ fn notify_new<D: Drop>(scene: &mut Scene<D>) -> Result<Entry<D>, AllocError>
         notified: false,
         waiter: None,
         spurious: Spurious::NotYet,
+        wakers: None,
     };
     let number = scene.add(Object::Notify(notify))?;
     Ok(Entry::Answered(Reply::Notify(number)))
@@ -217,6 +234,8 @@ pub fn notify_one<D: Drop>(scene: &mut Scene<D>, number: usize) -> Result<Reply<
 pub fn await_notified<D: Drop>(scene: &mut Scene<D>, number: usize) -> Result<Reply<D>, FailureKind>
     ensures { Does (rules.awaits number) scene.old result scene.new }
 {
+    let wakers = scene.notify(number)?.wakers;
+    has_waker(scene, wakers)?;
     let notify = scene.notify_mut(number)?;
     if !notify.notified {
         return Err(FailureKind::Misuse);

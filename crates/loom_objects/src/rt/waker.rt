@@ -125,12 +125,16 @@ pub fn waker_begins<D: Drop>(
 fn block_on_new<D: Drop>(scene: &mut Scene<D>) -> Result<Entry<D>, AllocError>
     ensures { DoesIfOk rules.block_on_new scene.old result scene.new }
 {
+    let Some(number) = scene.object_count().checked_add(1) else {
+        return Err(AllocError);
+    };
     let notifier = scene.add(Object::Notify(Notify {
         notified: false,
         waiter: None,
         spurious: Spurious::NotYet,
+        wakers: Some(number),
     }))?;
-    let number = scene.add(Object::Wakers(Wakers { notifier, count: 1 }))?;
+    scene.add(Object::Wakers(Wakers { notifier, count: 1 }))?;
     Ok(Entry::Answered(Reply::BlockOn(number)))
 }
 

@@ -2,7 +2,9 @@
 ghost use Rattle.std.specs.Prelude.{◌≡◌, ◌==◌, None};
 ghost use Rattle.loom_ops.specs.Arc.{arc_handle};
 ghost use Rattle.loom_objects.specs.Operation.Labelled.{bare};
+ghost use Rattle.loom_ops.specs.Answers.{left_in};
 
+use crate::answers::answer::Answer;
 use loom_objects::operation::{ArcOp, Op, Reply, Request};
 
 /// A counted reference of the run (loom's `sync/arc.rs`). The references that were made and not dropped are counted, not the
@@ -12,6 +14,10 @@ pub struct Arc {
     /// Its place in the order in which objects were made.
     pub number: usize,
 }
+
+/// The value of a reference that was dropped, if it was the last one (own).
+#[derive(Drop)]
+pub struct Left<D>(pub Option<D>);
 
 impl Arc {
     /// A new counted reference to this value, the only one (loom's `sync/arc.rs`).
@@ -90,5 +96,34 @@ impl Arc {
         ensures { result ≡ (self.number == other.number) }
     {
         self.number == other.number
+    }
+}
+
+impl<D: Drop> Answer<D> for Arc {
+    ghost held = { arc_handle };
+
+    fn from_reply(reply: Reply<D>) -> Option<Arc>
+        ensures { result ≡ arc_handle reply }
+    {
+        let arc = Arc::from_reply(&reply);
+        reply.let_go();
+        arc
+    }
+}
+
+impl<D: Drop> Answer<D> for Left<D> {
+    ghost held = { left_in };
+
+    fn from_reply(reply: Reply<D>) -> Option<Left<D>>
+        ensures { result ≡ left_in reply }
+    {
+        match reply {
+            Reply::Data(value) => Some(Left(Some(value))),
+            Reply::Done => Some(Left(None)),
+            other => {
+                other.let_go();
+                None
+            }
+        }
     }
 }

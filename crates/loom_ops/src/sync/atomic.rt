@@ -4,7 +4,9 @@ ghost use Rattle.loom_objects.specs.Operation.Labelled.{bare};
 ghost use Rattle.std.specs.Option.{option_map};
 ghost use Rattle.loom_ops.specs.Atomic.{atomic_handle, value_in, exchange, exchanged_in, update, fetched_in};
 ghost use Rattle.loom_ops.specs.Thread.{yielding};
+ghost use Rattle.loom_ops.specs.Answers.{loaded_in, exchanged_in as loaded_exchange_in};
 
+use crate::answers::answer::Answer;
 use crate::thread;
 use loom_objects::operation::{AtomicOp, Exchange, Op, Reply, Request};
 use loom_views::rt::num::Numeric;
@@ -53,6 +55,10 @@ pub type AtomicI64 = Atomic<i64>;
 
 /// An atomic that holds an `isize` (loom's `sync/atomic/int.rs`).
 pub type AtomicIsize = Atomic<isize>;
+
+/// What an atomic holds, or held (own).
+#[derive(Clone, Copy, Debug)]
+pub struct Loaded<T>(pub T);
 
 /// The integers among what atomics hold (own; loom's atomics of integers are types of their own).
 pub trait Integer: Numeric {}
@@ -361,5 +367,50 @@ impl<T: Numeric> FetchUpdate<T> {
     {
         self.atomic
             .compare_exchange(read, new, self.set_order, self.fetch_order)
+    }
+}
+
+impl<D: Drop, T: Numeric> Answer<D> for Atomic<T> {
+    ghost held = { atomic_handle };
+
+    fn from_reply(reply: Reply<D>) -> Option<Atomic<T>>
+        ensures { result ≡ atomic_handle reply }
+    {
+        let atomic = Atomic::from_reply(&reply);
+        reply.let_go();
+        atomic
+    }
+}
+
+impl<D: Drop, T: Numeric> Answer<D> for Loaded<T> {
+    ghost held = { loaded_in T.value };
+
+    fn from_reply(reply: Reply<D>) -> Option<Loaded<T>>
+        ensures { result ≡ loaded_in T.value reply }
+    {
+        match reply {
+            Reply::Value(number) => Some(Loaded(T::from_u64(number))),
+            other => {
+                other.let_go();
+                None
+            }
+        }
+    }
+}
+
+impl<D: Drop, T: Numeric> Answer<D> for Result<Loaded<T>, Loaded<T>> {
+    ghost held = { loaded_exchange_in T.value };
+
+    fn from_reply(reply: Reply<D>) -> Option<Result<Loaded<T>, Loaded<T>>>
+        ensures { result ≡ loaded_exchange_in T.value reply }
+    {
+        match reply {
+            Reply::Exchanged(Ok(number)) => Some(Ok(Loaded(T::from_u64(number)))),
+            Reply::Exchanged(Err(number)) => Some(Err(Loaded(T::from_u64(number)))),
+            other => {
+                other.let_go();
+                None
+            }
+        }
     }
 }

@@ -3,6 +3,7 @@ ghost use Rattle.std.specs.Prelude.{◌≡◌, None};
 ghost use Rattle.loom_objects.specs.Operation.Labelled.{bare};
 ghost use Rattle.loom_ops.specs.Condvar.{condvar_handle, timeout_in};
 
+use crate::answers::answer::Answer;
 use crate::sync::mutex::MutexGuard;
 use loom_objects::operation::{CondvarOp, Op, Reply, Request};
 
@@ -83,5 +84,17 @@ impl WaitTimeoutResult {
         ensures { result ≡ self.0 }
     {
         self.0
+    }
+}
+
+impl<D: Drop> Answer<D> for Condvar {
+    ghost held = { condvar_handle };
+
+    fn from_reply(reply: Reply<D>) -> Option<Condvar>
+        ensures { result ≡ condvar_handle reply }
+    {
+        let condvar = Condvar::from_reply(&reply);
+        reply.let_go();
+        condvar
     }
 }

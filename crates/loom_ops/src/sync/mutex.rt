@@ -2,7 +2,9 @@
 ghost use Rattle.std.specs.Prelude.{◌≡◌, None};
 ghost use Rattle.loom_objects.specs.Operation.Labelled.{bare};
 ghost use Rattle.loom_ops.specs.Mutex.{mutex_handle, guard_handle, guard_taken};
+ghost use Rattle.loom_ops.specs.Answers.{guard_in, tried_in};
 
+use crate::answers::answer::Answer;
 use loom_objects::operation::{MutexOp, Op, Reply, Request};
 
 /// A mutex of the run (loom's `sync/mutex.rs`).
@@ -18,6 +20,9 @@ pub struct MutexGuard {
     /// The mutex's number.
     pub number: usize,
 }
+
+/// A lock that was tried: the guard and the data, unless it is held (own).
+pub struct Tried<D>(pub Option<(MutexGuard, D)>);
 
 impl Mutex {
     /// A new mutex with this data, which nobody holds (loom's `sync/mutex.rs`).
@@ -106,5 +111,50 @@ impl MutexGuard {
         ensures { result ≡ bare (Request.Mutex (MutexOp.Release self.number value)) }
     {
         Op::new(Request::Mutex(MutexOp::Release(self.number, value)))
+    }
+}
+
+impl<D: Drop> Answer<D> for Mutex {
+    ghost held = { mutex_handle };
+
+    fn from_reply(reply: Reply<D>) -> Option<Mutex>
+        ensures { result ≡ mutex_handle reply }
+    {
+        let mutex = Mutex::from_reply(&reply);
+        reply.let_go();
+        mutex
+    }
+}
+
+impl<D: Drop> Answer<D> for (MutexGuard, D) {
+    ghost held = { guard_in };
+
+    fn from_reply(reply: Reply<D>) -> Option<(MutexGuard, D)>
+        ensures { result ≡ guard_in reply }
+    {
+        match reply {
+            Reply::Locked(number, value) => Some((MutexGuard { number }, value)),
+            other => {
+                other.let_go();
+                None
+            }
+        }
+    }
+}
+
+impl<D: Drop> Answer<D> for Tried<D> {
+    ghost held = { tried_in };
+
+    fn from_reply(reply: Reply<D>) -> Option<Tried<D>>
+        ensures { result ≡ tried_in reply }
+    {
+        match reply {
+            Reply::Locked(number, value) => Some(Tried(Some((MutexGuard { number }, value)))),
+            Reply::WouldBlock => Some(Tried(None)),
+            other => {
+                other.let_go();
+                None
+            }
+        }
     }
 }

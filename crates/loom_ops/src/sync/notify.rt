@@ -3,6 +3,7 @@ ghost use Rattle.std.specs.Prelude.{◌≡◌, None};
 ghost use Rattle.loom_ops.specs.Notify.{notify_handle};
 ghost use Rattle.loom_objects.specs.Operation.Labelled.{bare};
 
+use crate::answers::answer::Answer;
 use loom_objects::operation::{NotifyOp, Op, Reply, Request};
 
 /// A notifier of the run (loom's `sync/notify.rs`).
@@ -44,5 +45,17 @@ impl Notify {
         ensures { result ≡ bare (Request.Notify (NotifyOp.Wait self.number)) }
     {
         Op::new(Request::Notify(NotifyOp::Wait(self.number)))
+    }
+}
+
+impl<D: Drop> Answer<D> for Notify {
+    ghost held = { notify_handle };
+
+    fn from_reply(reply: Reply<D>) -> Option<Notify>
+        ensures { result ≡ notify_handle reply }
+    {
+        let notifier = Notify::from_reply(&reply);
+        reply.let_go();
+        notifier
     }
 }

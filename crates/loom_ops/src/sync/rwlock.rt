@@ -3,6 +3,7 @@ ghost use Rattle.std.specs.Prelude.{◌≡◌, None};
 ghost use Rattle.loom_ops.specs.RwLock.{rwlock_handle, read_guard_handle, read_guard_taken, write_guard_handle, write_guard_taken};
 ghost use Rattle.loom_objects.specs.Operation.Labelled.{bare};
 
+use crate::answers::answer::Answer;
 use loom_objects::operation::{Op, Reply, Request, RwLockOp};
 
 /// A read-write lock of the run (loom's `sync/rwlock.rs`).
@@ -158,5 +159,37 @@ impl RwLockWriteGuard {
         ensures { result ≡ bare (Request.RwLock (RwLockOp.WriteRelease self.number value)) }
     {
         Op::new(Request::RwLock(RwLockOp::WriteRelease(self.number, value)))
+    }
+}
+
+impl<D: Drop> Answer<D> for RwLock {
+    ghost held = { rwlock_handle };
+
+    fn from_reply(reply: Reply<D>) -> Option<RwLock>
+        ensures { result ≡ rwlock_handle reply }
+    {
+        let lock = RwLock::from_reply(&reply);
+        reply.let_go();
+        lock
+    }
+}
+
+impl<D: Drop> Answer<D> for (RwLockReadGuard, D) {
+    ghost held = { read_guard_taken };
+
+    fn from_reply(reply: Reply<D>) -> Option<(RwLockReadGuard, D)>
+        ensures { result ≡ read_guard_taken reply }
+    {
+        RwLockReadGuard::take(reply)
+    }
+}
+
+impl<D: Drop> Answer<D> for (RwLockWriteGuard, D) {
+    ghost held = { write_guard_taken };
+
+    fn from_reply(reply: Reply<D>) -> Option<(RwLockWriteGuard, D)>
+        ensures { result ≡ write_guard_taken reply }
+    {
+        RwLockWriteGuard::take(reply)
     }
 }

@@ -1,5 +1,5 @@
 //! Closures that end otherwise than by their result, or not as in the run before.
-use crate::closures::finding::Wanted::{Fails, NoSettings};
+use crate::closures::finding::Wanted::{Fails, NoMemory, NoSettings};
 use crate::closures::finding::{Counter, Main, comes_to};
 use crate::closures::{NONE, ONE, ZERO};
 use loom::model::builder::Builder;
@@ -43,6 +43,12 @@ fn closure_deaf(rt: HostRuntime) -> Result<(), Fail> {
 fn closure_stops(rt: HostRuntime) -> Result<(), Fail> {
     let wanted = Fails(FailureKind::Assertion, 0, NO_CHOICES.as_slice());
     comes_to(&rt, &Builder::new(), Main::Stops, wanted, 1, 0)
+}
+
+/// A closure that found no memory ends the check for want of it.
+#[test]
+fn closure_starves(rt: HostRuntime) -> Result<(), Fail> {
+    comes_to(&rt, &Builder::new(), Main::Starves, NoMemory, 1, 0)
 }
 
 /// A closure that does something else from its second run on: it starts twice, and the other closure once.

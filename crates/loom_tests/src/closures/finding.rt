@@ -45,6 +45,8 @@ pub(super) enum Main {
     Deaf,
     /// Main stops, and wasn't given a stop.
     Stops,
+    /// Main says that it found no memory.
+    Starves,
     /// Main does something else in its second run.
     Changes,
     /// Main does nothing.
@@ -72,7 +74,8 @@ impl Main {
             Main::PingPong => scenes::ping_pong(handle),
             Main::GuardLeft => scenes::guard_left(handle),
             Main::Deaf => ends::pass_over_stops(handle, counter),
-            Main::Stops => Err(Stop::Memory),
+            Main::Stops => Err(Stop::Refused),
+            Main::Starves => Err(Stop::Memory),
             Main::Changes if is_first => turns::lock_beside(handle, counter),
             Main::Changes => Ok(7),
             Main::Nothing => Ok(0),
@@ -154,6 +157,7 @@ impl Found {
             Wanted::Complete(count) => self.completes(count),
             Wanted::Fails(kind, count, list) => self.fails(kind, count, list),
             Wanted::NoSettings => matches!(&self.report, Err(RunnerError::Settings(_))),
+            Wanted::NoMemory => matches!(&self.report, Err(RunnerError::Memory)),
         }
     }
 }
@@ -167,6 +171,8 @@ pub(super) enum Wanted<'a> {
     Fails(FailureKind, u64, &'a [Choice]),
     /// Its settings are refused.
     NoSettings,
+    /// It ends for want of memory.
+    NoMemory,
 }
 
 /// A check of main by these settings.

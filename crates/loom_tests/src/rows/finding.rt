@@ -220,7 +220,13 @@ fn are_replays<B: Body<Data = u64>>(
     true
 }
 
-fn replays<B: Body<Data = u64>>(alloc: Global, builder: &Builder, body: &B, run: &Found) -> bool {
+/// Whether the run is made again by its choices.
+pub fn replays<B: Body<Data = u64>>(
+    alloc: Global,
+    builder: &Builder,
+    body: &B,
+    run: &Found,
+) -> bool {
     let replay = builder.replay(alloc, body, run.choices.as_slice());
     is_replay(&replay, run)
 }

@@ -254,8 +254,7 @@ fn gives(
     same(rt, page.text.as_str(), text, "a check");
 }
 
-// The steps of lock_beside. A proof costs seconds where its function names the steps of a body, and next to nothing where it
-// calls this.
+// The steps of the script that most of these checks are of.
 fn lock_beside() -> &'static [Step] {
     LOCK_BESIDE
 }

@@ -1,7 +1,7 @@
 //! What a check finds is what the plain program finds.
 use super::checking::{found_by, is_run};
 use super::rows::program_rows;
-use super::{bodies, others, searches, shared};
+use super::{bodies, late, others, searches, shared};
 use crate::asserting::holds;
 use loom::Body;
 use loom_examples::bodies::guide::Counter;
@@ -244,4 +244,13 @@ fn bodies_of_tests_are_what_the_plain_program_finds(rt: HostRuntime) {
     compare_rows(&rt, shared::channel_rows());
     compare_rows(&rt, shared::waker_rows());
     compare_rows(&rt, shared::value_rows());
+}
+
+#[test]
+fn late_misuse_is_what_the_plain_program_finds(rt: HostRuntime) {
+    for table in &late::tables() {
+        for (row, _) in *table {
+            holds(&rt, is_row_as_plain(rt.alloc(), row, EACH), row.name);
+        }
+    }
 }

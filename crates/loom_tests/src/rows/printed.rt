@@ -116,7 +116,7 @@ static LOCKS: [Line; 14] = [
     ("second_waiter", "failed 21 0 s0 t1\n", 1),
 ];
 
-static WAITS: [Line; 19] = [
+static WAITS: [Line; 21] = [
     ("unpark_then_park", "complete 1\n", 0),
     ("park_alone", "failed 2 0 t-\n", 1),
     ("unpark_wakes", "complete 3\n", 0),
@@ -135,6 +135,8 @@ static WAITS: [Line; 19] = [
     ("ready_at_once", "complete 1\n", 0),
     ("waker_leak", "failed 5 0 t0 t0 t-\n", 1),
     ("waker_round", "complete 1\n", 0),
+    ("wait_taken", "failed 14 0 s0 t1 t1 t1 t1 t0\n", 1),
+    ("wake_dropped", "failed 14 0 t0 t0 t0 t0\n", 1),
     ("spurious_poll", "complete 35\n", 0),
 ];
 

@@ -57,7 +57,7 @@ const NO_SUCH_ROW: &str = usage!(
 const REFUSED: &str =
     "word 1 is no choice: a choice is `t0` to `t4` or `t-`, `l0` to `l6`, `s0` or `s1`, with a space between two\n";
 
-static WORDS: [Said; 8] = [
+static WORDS: [Said; 9] = [
     // Few preemptions come first.
     said!(
         &["--rising", "two_mutexes_deadlock"],
@@ -75,16 +75,13 @@ static WORDS: [Said; 8] = [
     ),
     said!(&["--replay", "x", "finish_only"], "", REFUSED, 2),
     begins!(&["--help"], "Checks the body that is called NAME", 0),
-    begins!(
-        &["--explain", "--help"],
-        "Checks the body that is called NAME",
-        0
-    ),
+    begins!(&["-h"], "Checks the body that is called NAME", 0),
+    said!(&["--", "lock_beside"], "complete 3\n", "", 0),
     begins!(&["--list"], "finish_only\nspawn_only\nlock_beside\n", 0),
 ];
 
 // Wrong words, and why they are refused.
-static WRONG: [Said; 12] = [
+static WRONG: [Said; 14] = [
     said!(&[], "", NO_NAME, 2),
     said!(&["lock_besides"], "", NO_SUCH_ROW, 2),
     said!(
@@ -114,6 +111,20 @@ static WRONG: [Said; 12] = [
         "",
         usage!(
             "unexpected argument '--no-reduc' found\n\n  tip: a similar argument exists: '--no-reduce'"
+        ),
+        2
+    ),
+    said!(
+        &["lock_beside", "--jsn"],
+        "",
+        usage!("unexpected argument '--jsn' found\n\n  tip: a similar argument exists: '--json'"),
+        2
+    ),
+    said!(
+        &["--explain", "--help"],
+        "",
+        usage!(
+            "the argument '--help' cannot be used with one or more of the other specified arguments"
         ),
         2
     ),

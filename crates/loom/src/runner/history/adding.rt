@@ -3,13 +3,13 @@ ghost use Rattle.std.specs.Prelude.{IfOk};
 ghost use Rattle.loom.specs.Runner.Events.{answered};
 
 use crate::runner::exact::Exact;
-use crate::runner::history::machine::Machine;
+use crate::runner::history::submit::Submit;
 use loom_objects::failure::{Failure, Stop as Halt};
 use loom_objects::operation::{Request, Turn};
 use std::alloc::AllocError;
 
 /// Hands the operation to the machine. Answers the next turn, or why the run fails; an error only where a growth is refused (own).
-pub fn take_turn<D: Exact, M: Machine<D>>(
+pub fn take_turn<D: Exact, M: Submit<D>>(
     machine: &mut M,
     op: Request<D, ()>,
 ) -> Result<Result<Turn<D>, Failure>, AllocError>

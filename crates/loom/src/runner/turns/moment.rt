@@ -2,7 +2,7 @@
 ghost use Rattle.std.specs.Prelude.{◌≡◌, None};
 
 use crate::runner::exact::Exact;
-use crate::runner::history::machine::Machine;
+use crate::runner::history::submit::Submit;
 use loom_engine::rt::execution::Execution;
 use loom_engine::rt::path::Path;
 use loom_objects::failure::Stop;
@@ -24,7 +24,7 @@ impl<D> Model for Place<D> {
     ghost view = { λ p. moment p.execution p.path };
 }
 
-impl<D: Exact> Machine<D> for Place<D> {
+impl<D: Exact> Submit<D> for Place<D> {
     ghost use Rattle.loom.specs.Runner.Histories.{Handed, active_at};
 
     ghost goes_on = { λ m. m.state.over ≡ None };

@@ -2,7 +2,8 @@
 use Rattle.std.proofs.Common.{◌≡◌, ◌≤◌, ◌<◌, ◌-◌, ℕ, zero, suc, true, false, List, [], ◌∷◌, length, map, take, get_or, Bool, Option, Some, None, refl, ap, subst, sym, ◌∙◌, arith}
 use Rattle.std.specs.Prelude.{cond, slice_get}
 use Rattle.loom_objects.specs.declared.choice.Choice.{Choice}
-use Rattle.loom_objects.specs.Tree.Question.{Made, asked_store, slots, made_of}
+use Rattle.loom_objects.specs.Tree.Question.{Made, made_of}
+use Rattle.loom_objects.specs.Tree.Stores.{asked_store, slots}
 use Rattle.loom_engine.specs.Walk.Machine.{is_thread}
 use Rattle.loom_engine.specs.Trees.Drive.{pass_of}
 use Rattle.loom_engine.specs.Walk.Path.{Stored}

@@ -11,7 +11,7 @@ use Rattle.loom_objects.specs.Tree.Question.{Made, Among, made_of}
 use Rattle.loom_engine.specs.Walk.Path.{fresh, advance}
 use Rattle.loom_engine.specs.Trees.Drive.{new_node}
 use Rattle.loom_engine.specs.Path.Nodes.{in_turn}
-use Rattle.loom_objects.specs.Tree.Question.{slots_from, slots, asked_store}
+use Rattle.loom_objects.specs.Tree.Stores.{slots_from, slots, asked_store}
 use Rattle.loom_engine.proofs.Nodes.Nodes.Turns.{Distinct, get_among, turn_fresh, turn_given, not_given, turn_next, turn_last, turn_stays}
 
 -- ---- the list

@@ -4,7 +4,8 @@ use Rattle.std.specs.Prelude.{slice_get, true}
 use Rattle.loom_objects.specs.declared.choice.Choice.{Choice}
 use Rattle.loom_objects.specs.declared.choice.Choice.TheVariants.{Thread, Load, Spurious}
 use Rattle.loom_objects.specs.declared.rt.schedule.Offers.{Offers}
-use Rattle.loom_objects.specs.Tree.Question.{Made, Among, made_of, AreSoundOffers}
+use Rattle.loom_objects.specs.Tree.Question.{Made, Among, made_of}
+use Rattle.loom_objects.specs.Tree.Sound.{AreSoundOffers}
 use Rattle.loom_engine.specs.Walk.Path.{Stored, fresh, first_status, choose}
 use Rattle.loom_engine.specs.Trees.Drive.{new_node}
 use Rattle.loom_engine.specs.declared.rt.path.node.Status.{Status}

@@ -7,7 +7,8 @@ use Rattle.loom_objects.specs.declared.choice.Choice.{Choice}
 use Rattle.loom_objects.specs.declared.choice.Choice.TheVariants.{Thread, Load, Spurious}
 use Rattle.loom_objects.specs.declared.rt.schedule.Ability.{Ability}
 use Rattle.loom_objects.specs.declared.rt.schedule.Ability.TheVariants.{Able, Yielding, Unable}
-use Rattle.loom_objects.specs.Tree.Question.{Made, Among, Question, WhichThread, able_threads, thread_options, made_of, IsSoundDefault, AreSoundOffers}
+use Rattle.loom_objects.specs.Tree.Question.{Made, Among, Question, WhichThread, able_threads, thread_options, made_of}
+use Rattle.loom_objects.specs.Tree.Sound.{IsSoundDefault, AreSoundOffers}
 use Rattle.loom_objects.specs.declared.rt.schedule.Offers.{Offers}
 use Rattle.loom_engine.specs.Walk.Machine.{is_thread}
 use Rattle.loom_engine.specs.Walk.Choices.{same, among, pick}

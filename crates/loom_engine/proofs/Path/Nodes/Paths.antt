@@ -5,7 +5,8 @@ use Rattle.std.specs.Option.{option_map}
 use Rattle.std.proofs.lemmas.List.{length-map}
 use Rattle.loom_views.specs.declared.rt.failure.FailureKind.TheVariants.{NotDeterministic, TooManyBranches}
 use Rattle.loom_objects.specs.declared.choice.Choice.{Choice}
-use Rattle.loom_objects.specs.Tree.Question.{Question, made_of, asked_store}
+use Rattle.loom_objects.specs.Tree.Question.{Question, made_of}
+use Rattle.loom_objects.specs.Tree.Stores.{asked_store}
 use Rattle.loom_engine.specs.Walk.Path.{Stored, choices}
 use Rattle.loom_engine.specs.Walk.Choices.{pick}
 use Rattle.loom_engine.specs.Trees.Comparing.{same_made}

@@ -3,8 +3,10 @@ ghost use Rattle.std.specs.Prelude.{◌≡◌, ◌<◌, ◌↔◌, ℕ, List, Op
 ghost use Rattle.loom_engine.specs.Trees.Meeting.{is_below};
 ghost use Rattle.std.specs.List.{Contains};
 ghost use Rattle.std.specs.Option.{option_map};
-ghost use Rattle.loom_objects.specs.Tree.Question.{made_of, AreSoundOffers};
-ghost use Rattle.loom_objects.specs.Tree.Asked.{which_thread, which_store, whether_spurious};
+ghost use Rattle.loom_objects.specs.Tree.Question.{made_of};
+ghost use Rattle.loom_objects.specs.Tree.Sound.{AreSoundOffers};
+ghost use Rattle.loom_objects.specs.Tree.Asked.{which_thread, whether_spurious};
+ghost use Rattle.loom_objects.specs.Tree.Stores.{which_store};
 ghost use Rattle.loom_engine.specs.Walk.Path.{fresh};
 ghost use Rattle.loom_engine.specs.Trees.Drive.{new_node};
 ghost use Rattle.loom_engine.specs.Path.Nodes.{made_status, is_left, seen_schedule, seen_load, seen_spurious, IsWellSchedule, IsWellLoad};

@@ -32,6 +32,19 @@ waker_round =
     Do 0 (op.AtomicWaker (place.Register 0 1)) ∷ Do 0 (op.AtomicWaker (place.Wake 0)) ∷
     Do 0 (op.Waker (waker.Finish 1)) ∷ finish ∷ exit ∷ end ∷ []
 
+-- Main waits for a future, whose only waker a thread has taken by a wake when the wait takes effect.
+abbrev pub wait_taken : List Written
+wait_taken =
+    Do 0 (op.Waker waker.New) ∷ SpawnAt 1 (codes "child") ∷ Do 0 (op.Waker (waker.Wait 0)) ∷
+    Label (codes "finish") ∷ finish ∷ exit ∷ end ∷ Label (codes "child") ∷ Do 0 (op.Waker (waker.Wake 0)) ∷
+    JumpTo (codes "finish") ∷ []
+
+-- Main registers a waker in a place, drops it, and wakes by the place.
+abbrev pub wake_dropped : List Written
+wake_dropped =
+    Do 0 (op.Waker waker.New) ∷ Do 1 (op.AtomicWaker place.New) ∷ Do 0 (op.AtomicWaker (place.Register 1 0)) ∷
+    Do 0 (op.Waker (waker.Drop 0)) ∷ Do 0 (op.AtomicWaker (place.Wake 1)) ∷ finish ∷ exit ∷ end ∷ []
+
 -- Main polls until it finds a gate open. At the first poll it makes a thread that opens the gate and wakes main. Main
 -- finishes with the number of its polls, and asserts that they are three at most (loom's `tests/futures.rs`).
 abbrev pub spurious_poll : List Written

@@ -81,10 +81,38 @@ pub const SPURIOUS_POLL: &[Step] = &[
     Step::JumpTo("exit"),
 ];
 
-static WAKER_ROWS: [Row; 4] = [
+/// Main waits for a future, whose only waker a thread has taken by a wake when the wait takes effect.
+pub const WAIT_TAKEN: &[Step] = &[
+    Step::Do(0, Request::Waker(WakerOp::New)),
+    Step::SpawnAt(1, "child"),
+    Step::Do(0, Request::Waker(WakerOp::Wait(0))),
+    Step::Label("finish"),
+    FINISH,
+    EXIT,
+    END,
+    Step::Label("child"),
+    Step::Do(0, Request::Waker(WakerOp::Wake(0))),
+    Step::JumpTo("finish"),
+];
+
+/// Main registers a waker in a place, drops it, and wakes by the place.
+pub const WAKE_DROPPED: &[Step] = &[
+    Step::Do(0, Request::Waker(WakerOp::New)),
+    Step::Do(1, Request::AtomicWaker(AtomicWakerOp::New)),
+    Step::Do(0, Request::AtomicWaker(AtomicWakerOp::Register(1, 0))),
+    Step::Do(0, Request::Waker(WakerOp::Drop(0))),
+    Step::Do(0, Request::AtomicWaker(AtomicWakerOp::Wake(1))),
+    FINISH,
+    EXIT,
+    END,
+];
+
+static WAKER_ROWS: [Row; 6] = [
     row!("ready_at_once", READY_AT_ONCE),
     row!("waker_leak", WAKER_LEAK),
     row!("waker_round", WAKER_ROUND),
+    row!("wait_taken", WAIT_TAKEN),
+    row!("wake_dropped", WAKE_DROPPED),
     row!("spurious_poll", SPURIOUS_POLL),
 ];
 

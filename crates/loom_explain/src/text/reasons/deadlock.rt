@@ -1,6 +1,5 @@
 //! Deadlocks: what each thread waits for, since when, and who has it.
-use crate::text::calls::{Call, argument_of, call_of};
-use crate::text::forms::On;
+use crate::text::forms::{Call, On, argument_of, call_of};
 use crate::text::objects::Member;
 use crate::text::page::Page;
 use crate::text::reasons::{Scene, is_end};

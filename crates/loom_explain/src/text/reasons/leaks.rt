@@ -1,5 +1,6 @@
 //! Leaks: what was left, and where it was made.
-use crate::text::objects::{Kind, Object};
+use crate::text::forms::Kind;
+use crate::text::objects::Object;
 use crate::text::page::Page;
 use crate::text::world::World;
 use loom_views::rt::failure::FailureKind;
@@ -56,12 +57,10 @@ pub(crate) fn put_leak(out: &mut Page, world: &World, kind: FailureKind) {
 
 /// Whether an object of this kind is left.
 fn is_left(world: &World, kind: Kind) -> bool {
-    for object in &world.objects {
-        if object.kind.is_like(kind) && object.count > 0 {
-            return true;
-        }
-    }
-    false
+    world
+        .objects
+        .iter()
+        .any(|object| object.kind.is_like(kind) && object.count > 0)
 }
 
 /// The first object of which something is left, where it was made, what is left of it and what is asked for.

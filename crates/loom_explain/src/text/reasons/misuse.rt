@@ -1,8 +1,7 @@
 //! Misuse: which object it is, and what is asked of who uses it so.
-use crate::text::calls::call_of;
-use crate::text::forms::Form;
+use crate::text::forms::{Form, Kind, call_of};
 use crate::text::names::Thing;
-use crate::text::objects::{At, Kind};
+use crate::text::objects::At;
 use crate::text::page::Page;
 use crate::text::reasons::Scene;
 use crate::text::world::World;

@@ -60,16 +60,14 @@ fn last_access(
     manner: Manner,
 ) -> Option<Access> {
     let (one, other) = objects;
-    let mut last = None;
-    for access in &world.accesses {
-        if (access.object == one || access.object == other)
-            && access.at.thread == thread
-            && manner.conflicts_with(access.manner)
-        {
-            last = Some(*access);
-        }
-    }
-    last
+    let mut accesses = world.accesses.iter().rev();
+    accesses
+        .find(|access| {
+            (access.object == one || access.object == other)
+                && access.at.thread == thread
+                && manner.conflicts_with(access.manner)
+        })
+        .copied()
 }
 
 /// The access that a race is with, where one other thread alone has made accesses that conflict: its last one. No views are
@@ -200,13 +198,8 @@ fn releases(order: Option<Ordering>) -> bool {
 
 /// The last read by which the thread could have learned of the access, had it acquired what the store released.
 fn last_reading(world: &World, thread: usize, access: Access) -> Option<&Reading> {
-    let mut last = None;
-    for reading in &world.readings {
-        if reading.at.thread == thread && reading.misses(access) {
-            last = Some(reading);
-        }
-    }
-    last
+    let mut readings = world.readings.iter().rev();
+    readings.find(|reading| reading.at.thread == thread && reading.misses(access))
 }
 
 impl Reading {
@@ -260,13 +253,10 @@ fn open_by(scene: &Scene<'_>) -> Option<Hold> {
 
 /// The last hold of one of the two objects.
 fn last_hold(world: &World, one: usize, other: usize) -> Option<Hold> {
-    let mut last = None;
-    for hold in &world.holds {
-        if hold.object == one || hold.object == other {
-            last = Some(*hold);
-        }
-    }
-    last
+    let mut holds = world.holds.iter().rev();
+    holds
+        .find(|hold| hold.object == one || hold.object == other)
+        .copied()
 }
 
 /// What is open, by whom and since when.

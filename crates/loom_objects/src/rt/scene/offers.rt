@@ -1,6 +1,6 @@
 //! What the threads of a run offer to a schedule.
 ghost use Rattle.std.specs.Prelude.{ℕ, ◌≡◌, map};
-ghost use Rattle.loom_objects.specs.Tree.Question.{AreSoundOffers};
+ghost use Rattle.loom_objects.specs.Tree.Sound.{AreSoundOffers};
 ghost use Rattle.loom_objects.specs.Schedule.Offers as rules;
 ghost use Rattle.loom_objects.specs.Scene.Stage.{world_of};
 ghost use Rattle.loom_views.specs.Views.{Points};

@@ -65,6 +65,7 @@ fn spawn<D: Drop>(
         notified: false,
         waiter: None,
         spurious: Spurious::Never,
+        wakers: None,
     }))?;
     let thread = child(scene.alloc(), name, notifier);
     scene.add_thread(thread)?;

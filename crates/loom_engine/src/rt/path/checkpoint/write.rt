@@ -2,7 +2,7 @@
 ghost use Rattle.std.specs.Prelude.{◌≡◌, IfOk, map, codes, length};
 ghost use Rattle.serde_json.specs.View.{view};
 ghost use Rattle.loom_engine.specs.Checkpoint.Shape.{shape_data};
-ghost use Rattle.loom_objects.specs.Tree.Question.{slots};
+ghost use Rattle.loom_objects.specs.Tree.Stores.{slots};
 ghost use Rattle.loom_engine.specs.Checkpoint.Grammar.{status_text, status_data, whole, node_data, schedule_data, load_data, spurious_data, whole_or_null};
 
 use crate::rt::path::Search;

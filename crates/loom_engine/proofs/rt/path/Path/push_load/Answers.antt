@@ -1,14 +1,14 @@
 use Rattle.std.proofs.Common.{◌≡◌, ◌≤◌, ◌<◌, ℕ, length, slice_index, refl, ap, sym, ◌∙◌, arith, rules}
 use Rattle.std.specs.Prelude.{true}
 use Rattle.loom_objects.specs.Exploring.{is_on}
-use Rattle.loom_objects.specs.Tree.Question.{Question, made_of, slots}
+use Rattle.loom_objects.specs.Tree.Question.{Question, made_of}
+use Rattle.loom_objects.specs.Tree.Stores.{slots, which_store}
 use Rattle.loom_engine.specs.Trees.Drive.{new_node}
 use Rattle.loom_engine.specs.declared.rt.path.node.Load.{Load}
 use Rattle.loom_engine.specs.declared.rt.path.node.Node.{Node}
 use Rattle.loom_engine.specs.declared.rt.path.node.Node.TheVariants as node
 use Rattle.loom_engine.specs.Path.Nodes.{seen, seen_load}
 use Rattle.loom_engine.specs.Path.Route.{Route}
-use Rattle.loom_objects.specs.Tree.Asked.{which_store}
 use Rattle.loom_engine.specs.contracts.rt.path.Path.{the_view}
 use Rattle.loom_engine.proofs.Nodes.Nodes.Slots.{some_slot, load_readable}
 use Rattle.loom_engine.proofs.Nodes.Nodes.Turns.{new_is_made}

@@ -1,4 +1,4 @@
-use Rattle.loom_objects.specs.Tree.Question.{slots}
+use Rattle.loom_objects.specs.Tree.Stores.{slots}
 use Rattle.loom_engine.proofs.Nodes.Nodes.Slots.{some_slot, load_fresh}
 use Rattle.loom_engine.proofs.rt.path.making.load.Goals as goal
 

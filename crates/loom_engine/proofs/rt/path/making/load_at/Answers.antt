@@ -2,8 +2,7 @@ use Rattle.std.proofs.Common.{◌≡◌, Some, true, refl, ap, sym, ◌∙◌, l
 use Rattle.std.specs.Prelude.{slice_get}
 use Rattle.loom_objects.specs.Tree.Question.{made_of}
 use Rattle.loom_engine.specs.Trees.Drive.{new_node}
-use Rattle.loom_objects.specs.Tree.Question.{slots}
-use Rattle.loom_objects.specs.Tree.Asked.{which_store}
+use Rattle.loom_objects.specs.Tree.Stores.{slots, which_store}
 use Rattle.loom_engine.proofs.Nodes.Nodes.Slots.{some_slot, slot_place, get_slot, load_given, load_refused}
 use Rattle.loom_engine.proofs.rt.path.making.load_at.Goals as goal
 

@@ -1,5 +1,5 @@
 use Rattle.std.proofs.Common.{◌≡◌, drop, slice_index}
-use Rattle.loom_objects.specs.Tree.Question.{slots_from, slots}
+use Rattle.loom_objects.specs.Tree.Stores.{slots_from, slots}
 use Rattle.loom_engine.proofs.rt.path.node.slot_at.Given as goal
 
 -- the slot is among those that are left

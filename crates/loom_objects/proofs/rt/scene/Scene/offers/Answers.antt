@@ -1,6 +1,6 @@
 use Rattle.std.proofs.Common.{ℕ, sym, ap, ◌∙◌, subst}
 use Rattle.loom_objects.specs.declared.rt.schedule.Offers.{Offers}
-use Rattle.loom_objects.specs.Tree.Question.{AreSoundOffers}
+use Rattle.loom_objects.specs.Tree.Sound.{AreSoundOffers}
 use Rattle.loom_objects.specs.Schedule.Offers.{offers_of}
 use Rattle.loom_objects.proofs.Scene.Offering.{offered_as, offers_sound}
 use Rattle.loom_objects.proofs.rt.scene.Scene.offers.Goals as goal

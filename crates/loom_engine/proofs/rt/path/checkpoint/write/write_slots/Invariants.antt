@@ -1,6 +1,6 @@
 use Rattle.std.proofs.Common.{◌≡◌, ◌++◌, map, drop}
 use Rattle.serde_json.specs.View.{view}
-use Rattle.loom_objects.specs.Tree.Question.{slots_from, slots}
+use Rattle.loom_objects.specs.Tree.Stores.{slots_from, slots}
 use Rattle.loom_engine.specs.Checkpoint.Grammar.{whole}
 use Rattle.loom_engine.proofs.rt.path.checkpoint.write.write_slots.Given as goal
 

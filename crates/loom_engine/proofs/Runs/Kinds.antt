@@ -1,0 +1,227 @@
+-- What each kind of operation keeps, a line for each.
+use Rattle.std.proofs.Common.{◌≡◌, ℕ, false, List, Some, None, refl}
+use Rattle.std.specs.Prelude.{⊤}
+use Rattle.loom_objects.specs.declared.operation.ChannelOp.{ChannelOp}
+use Rattle.loom_objects.specs.declared.operation.LazyOp.{LazyOp}
+use Rattle.loom_objects.specs.declared.operation.Message.{Message}
+use Rattle.loom_objects.specs.declared.operation.Request.{Request}
+use Rattle.loom_objects.specs.declared.operation.Request.TheVariants as op
+use Rattle.loom_objects.specs.declared.rt.thread.Receiving.{Receiving}
+use Rattle.loom_objects.specs.declared.rt.thread.Task.{Task}
+use Rattle.loom_objects.specs.declared.rt.thread.Task.TheVariants as task
+use Rattle.loom_objects.specs.Rules.Condvar.{falls_asleep}
+use Rattle.loom_objects.specs.Rules.Locals.{lazy_begins}
+use Rattle.loom_objects.specs.Rules.Mpsc.{channel_begins, drains, receives, sends}
+use Rattle.loom_objects.specs.Rules.Replied.{gone}
+use Rattle.loom_objects.specs.Rules.Tables.{needs_memory, op_begins, takes_effect}
+use Rattle.loom_objects.specs.Rules.Thread.{finish}
+use Rattle.loom_objects.specs.World.{World}
+use Rattle.loom_engine.specs.Runs.Histories.{returned_by}
+use Rattle.loom_engine.specs.Runs.Sound.{is_switch}
+use Rattle.loom_engine.proofs.Runs.Answering.{Answers, TellsActive, accesses_tells, by_passing, by_quiet, clones_waker_goes, drains_goes, drops_waker_goes, falls_asleep_passes, registers_goes, takes_waker_goes, told, tries_unwrap_passes, wakes_by_goes}
+use Rattle.loom_engine.proofs.Runs.Kinds.Atomics.{accesses_resuming, atomic_begins_keeping, fence_keeping}
+use Rattle.loom_engine.proofs.Runs.Kinds.Cells.{cell_begins_keeping}
+use Rattle.loom_engine.proofs.Runs.Kinds.Channels.{channel_begins_keeping, drains_keeping, receives_keeping, sends_keeping}
+use Rattle.loom_engine.proofs.Runs.Kinds.Condvars.{condvar_begins_entering, condvar_unswitched, falls_asleep_keeping, relocks_keeping, wakes_keeping}
+use Rattle.loom_engine.proofs.Runs.Kinds.Counts.{arc_begins_keeping, counts_keeping, tries_unwrap_keeping}
+use Rattle.loom_engine.proofs.Runs.Growing.{Stays, arc_stays, atomic_stays, cell_stays, channel_stays, condvar_stays, fence_stays, lazy_stays, local_stays, mutex_stays, notifier_stays, place_stays, rwlock_stays, stayed, thread_stays, track_stays, waker_stays}
+use Rattle.loom_engine.proofs.Runs.Kept.{KeptByMoves}
+use Rattle.loom_engine.proofs.Runs.Moving.{Within, accesses_moves, arc_moves, atomic_moves, awaits_moves, cell_moves, child_finish_moves, claims_moves, clones_waker_moves, condvar_moves, counts_moves, drops_waker_moves, falls_asleep_moves, fence_moves, join_moves, local_moves, lock_moves, mutex_moves, notifier_moves, notifies_moves, passed_so, place_moves, registers_moves, relocks_moves, replied_so, rwlock_moves, takes_waker_moves, thread_moves, track_moves, tries_unwrap_moves, try_lock_moves, waker_moves, wakes_by_moves, wakes_early_moves, wakes_moves}
+use Rattle.loom_engine.proofs.Runs.Kinds.Mutexes.{lock_telling, mutex_begins_entering, mutex_unswitched, try_lock_telling}
+use Rattle.loom_engine.proofs.Runs.Kinds.Notifiers.{awaits_keeping, notifier_begins_keeping, notifies_keeping, wakes_early_keeping}
+use Rattle.loom_engine.proofs.Runs.Replies.{Unswitched, arc_quiet, atomic_quiet, awaits_quiet, cell_quiet, channel_quiet, child_finish_quiet, claims_quiet, counts_quiet, enters, fence_quiet, gone_resuming, join_quiet, lazy_quiet, local_quiet, notifier_quiet, notifies_quiet, place_quiet, quiet_unswitched, quietly_resuming, receives_quiet, replied_resuming, rwlock_quiet, sends_quiet, tells_turn, thread_quiet, track_quiet, tries_unwrap_quiet, waker_quiet, wakes_early_quiet, wakes_quiet}
+use Rattle.loom_engine.proofs.Runs.Ruling.{Entering, Fairly, PassingBut, Resuming, misuse, then_fairly}
+use Rattle.loom_engine.proofs.Runs.Kinds.RwLocks.{claims_keeping, rwlock_begins_keeping}
+use Rattle.loom_engine.proofs.Runs.States.{freed_by}
+use Rattle.loom_engine.proofs.Runs.Kinds.Threads.{child_finish_keeping, join_keeping, thread_begins_keeping}
+use Rattle.loom_engine.proofs.Runs.Kinds.Tracks.{track_begins_keeping}
+use Rattle.loom_engine.proofs.Runs.Kinds.Values.{lazy_begins_keeping, local_begins_keeping}
+use Rattle.loom_engine.proofs.Runs.Kinds.Wakers.{clones_waker_keeping, drops_waker_keeping, place_begins_keeping, registers_keeping, takes_waker_keeping, waker_begins_keeping, wakes_by_keeping}
+pub mod Atomics
+pub mod Cells
+pub mod Channels
+pub mod Condvars
+pub mod Counts
+pub mod Mutexes
+pub mod Notifiers
+pub mod RwLocks
+pub mod Threads
+pub mod Tracks
+pub mod Values
+pub mod Wakers
+
+module _ {D : Type 0} where
+  -- ---- an operation begins
+
+  -- locks stay sound, and it fails by itself
+  pub begins_entering : (todo : Request D ⊤) (w : World D) → Fairly (Entering (returned_by todo) w) (op_begins todo w)
+  begins_entering (op.Atomic todo) w = enters w None _ (atomic_begins_keeping todo w) (atomic_quiet todo w)
+  begins_entering (op.Fence order) w = enters w None _ (fence_keeping order w) (fence_quiet order w)
+  begins_entering (op.Cell todo) w = enters w None _ (cell_begins_keeping todo w) (cell_quiet todo w)
+  begins_entering (op.Arc todo) w = enters w None _ (arc_begins_keeping todo w) (arc_quiet todo w)
+  begins_entering (op.Track todo) w = enters w None _ (track_begins_keeping todo w) (track_quiet todo w)
+  begins_entering (op.Mutex todo) w = mutex_begins_entering todo w
+  begins_entering (op.RwLock todo) w = enters w None _ (rwlock_begins_keeping todo w) (rwlock_quiet todo w)
+  begins_entering (op.Condvar todo) w = condvar_begins_entering todo w
+  begins_entering (op.Notify todo) w = enters w None _ (notifier_begins_keeping todo w) (notifier_quiet todo w)
+  begins_entering (op.Channel todo) w = enters w None _ (channel_begins_keeping todo w) (channel_quiet todo w)
+  begins_entering (op.Waker todo) w = enters w None _ (waker_begins_keeping todo w) (waker_quiet todo w)
+  begins_entering (op.AtomicWaker todo) w = enters w None _ (place_begins_keeping todo w) (place_quiet todo w)
+  begins_entering (op.Local todo) w = enters w None _ (local_begins_keeping todo w) (local_quiet todo w)
+  begins_entering (op.Lazy todo) w = enters w None _ (lazy_begins_keeping todo w) (lazy_quiet todo w)
+  begins_entering (op.Explore todo) w = λ out other k. k
+  begins_entering (op.Thread todo) w = enters w None _ (thread_begins_keeping todo w) (thread_quiet todo w)
+  begins_entering op.Fail w = λ e. cc
+  begins_entering op.Unreachable w = λ e. cc
+
+  -- nothing is made without memory
+  pub begins_stays : (todo : Request D ⊤) (w : World D) → needs_memory todo ≡ false → Answers (Stays w) (op_begins todo w)
+  begins_stays (op.Atomic todo) w h = atomic_stays w todo h
+  begins_stays (op.Fence order) w h = fence_stays w order
+  begins_stays (op.Cell todo) w h = cell_stays w todo h
+  begins_stays (op.Arc todo) w h = arc_stays w todo h
+  begins_stays (op.Track todo) w h = track_stays w todo h
+  begins_stays (op.Mutex todo) w h = mutex_stays w todo h
+  begins_stays (op.RwLock todo) w h = rwlock_stays w todo h
+  begins_stays (op.Condvar todo) w h = condvar_stays w todo h
+  begins_stays (op.Notify todo) w h = notifier_stays w todo h
+  begins_stays (op.Channel todo) w h = channel_stays w todo h
+  begins_stays (op.Waker todo) w h = waker_stays w todo h
+  begins_stays (op.AtomicWaker todo) w h = place_stays w todo h
+  begins_stays (op.Local todo) w h = local_stays w todo h
+  begins_stays (op.Lazy todo) w h = lazy_stays w todo h
+  begins_stays (op.Explore todo) w h = stayed w
+  begins_stays (op.Thread todo) w h = thread_stays w todo h
+  begins_stays op.Fail w h = tt
+  begins_stays op.Unreachable w h = tt
+
+  -- the search isn't switched
+  pub begins_unswitched : (todo : Request D ⊤) (w : World D) → is_switch todo ≡ false → Answers Unswitched (op_begins todo w)
+  begins_unswitched (op.Atomic todo) w h = quiet_unswitched _ (atomic_quiet todo w)
+  begins_unswitched (op.Fence order) w h = quiet_unswitched _ (fence_quiet order w)
+  begins_unswitched (op.Cell todo) w h = quiet_unswitched _ (cell_quiet todo w)
+  begins_unswitched (op.Arc todo) w h = quiet_unswitched _ (arc_quiet todo w)
+  begins_unswitched (op.Track todo) w h = quiet_unswitched _ (track_quiet todo w)
+  begins_unswitched (op.Mutex todo) w h = mutex_unswitched todo w
+  begins_unswitched (op.RwLock todo) w h = quiet_unswitched _ (rwlock_quiet todo w)
+  begins_unswitched (op.Condvar todo) w h = condvar_unswitched todo w
+  begins_unswitched (op.Notify todo) w h = quiet_unswitched _ (notifier_quiet todo w)
+  begins_unswitched (op.Channel todo) w h = quiet_unswitched _ (channel_quiet todo w)
+  begins_unswitched (op.Waker todo) w h = quiet_unswitched _ (waker_quiet todo w)
+  begins_unswitched (op.AtomicWaker todo) w h = quiet_unswitched _ (place_quiet todo w)
+  begins_unswitched (op.Local todo) w h = quiet_unswitched _ (local_quiet todo w)
+  begins_unswitched (op.Lazy todo) w h = quiet_unswitched _ (lazy_quiet todo w)
+  begins_unswitched (op.Explore todo) w h = absurd (cc h)
+  begins_unswitched (op.Thread todo) w h = quiet_unswitched _ (thread_quiet todo w)
+  begins_unswitched op.Fail w h = tt
+  begins_unswitched op.Unreachable w h = tt
+
+  -- ---- what was pending takes effect
+
+  -- locks stay sound, and it fails by itself
+  pub effect_resuming : (todo : Task D) (w : World D) → Fairly (Resuming (freed_by todo) w) (takes_effect todo w)
+  effect_resuming task.Start w = λ out other k. k
+  effect_resuming task.Body w = misuse
+  effect_resuming task.Continue w = λ out other k. (k, λ n e. absurd (cc e))
+  effect_resuming (task.Access access) w = accesses_resuming access w
+  effect_resuming (task.Lock locking n) w = tells_turn None _ w (lock_telling locking n w)
+  effect_resuming (task.TryLock n) w = tells_turn None _ w (try_lock_telling n w)
+  effect_resuming (task.Claim claim n) w = replied_resuming _ w (claims_keeping claim n w) (claims_quiet claim n w)
+  effect_resuming (task.Wait locking n m value) w =
+      then_fairly (PassingBut m w) (Resuming (Some m) w) (falls_asleep locking n m value w) gone (falls_asleep_keeping locking n m value w) (λ answered onward out other k. onward out (λ e. other m e refl) k)
+  effect_resuming (task.Relock locking m) w = λ out other k. relocks_keeping locking m w out k
+  effect_resuming (task.Wake waking n) w = replied_resuming _ w (wakes_keeping waking n w) (wakes_quiet waking n w)
+  effect_resuming (task.Notify n) w = replied_resuming _ w (notifies_keeping n w) (notifies_quiet n w)
+  effect_resuming (task.Await n) w = replied_resuming _ w (awaits_keeping n w) (awaits_quiet n w)
+  effect_resuming (task.Rouse n) w = replied_resuming _ w (wakes_early_keeping n w) (wakes_early_quiet n w)
+  effect_resuming (task.Count todo n) w = replied_resuming _ w (counts_keeping todo n w) (counts_quiet todo n w)
+  effect_resuming (task.TryUnwrap n) w = gone_resuming _ w (tries_unwrap_keeping n w) (tries_unwrap_quiet n w)
+  effect_resuming (task.Join t n) w = replied_resuming _ w (join_keeping t n w) (join_quiet t n w)
+  effect_resuming (task.Finish n value) w = replied_resuming _ w (child_finish_keeping n value w) (child_finish_quiet n value w)
+  effect_resuming (task.Send n sent) w = replied_resuming _ w (sends_keeping n sent w) (sends_quiet n sent w)
+  effect_resuming (task.Receive by n) w = replied_resuming _ w (receives_keeping by n w) (receives_quiet by n w)
+  effect_resuming (task.Drain n taken) w = quietly_resuming _ w (drains_keeping n taken w) (drains_goes n taken w)
+  effect_resuming (task.WakeBy n c after) w = quietly_resuming _ w (wakes_by_keeping n c after w) (wakes_by_goes n c after w)
+  effect_resuming (task.CloneWaker c place) w = quietly_resuming _ w (clones_waker_keeping c place w) (clones_waker_goes c place w)
+  effect_resuming (task.DropWaker c after) w = quietly_resuming _ w (drops_waker_keeping c after w) (drops_waker_goes c after w)
+  effect_resuming (task.Register p c) w = quietly_resuming _ w (registers_keeping p c w) (registers_goes p c w)
+  effect_resuming (task.TakeWaker by p) w = quietly_resuming _ w (takes_waker_keeping by p w) (takes_waker_goes by p w)
+
+  -- the active thread is told
+  pub effect_tells : (todo : Task D) (w : World D) → Answers TellsActive (takes_effect todo w)
+  effect_tells task.Start w = refl
+  effect_tells task.Body w = tt
+  effect_tells task.Continue w = refl
+  effect_tells (task.Access access) w = accesses_tells access w
+  effect_tells (task.Lock locking n) w = told _
+  effect_tells (task.TryLock n) w = told _
+  effect_tells (task.Claim claim n) w = told _
+  effect_tells (task.Wait locking n m value) w = by_passing _ (falls_asleep_passes locking n m value w)
+  effect_tells (task.Relock locking m) w = tt
+  effect_tells (task.Wake waking n) w = told _
+  effect_tells (task.Notify n) w = told _
+  effect_tells (task.Await n) w = told _
+  effect_tells (task.Rouse n) w = told _
+  effect_tells (task.Count todo n) w = told _
+  effect_tells (task.TryUnwrap n) w = by_passing _ (tries_unwrap_passes n w)
+  effect_tells (task.Join t n) w = told _
+  effect_tells (task.Finish n value) w = told _
+  effect_tells (task.Send n sent) w = told _
+  effect_tells (task.Receive by n) w = told _
+  effect_tells (task.Drain n taken) w = by_quiet _ (drains_goes n taken w)
+  effect_tells (task.WakeBy n c after) w = by_quiet _ (wakes_by_goes n c after w)
+  effect_tells (task.CloneWaker c place) w = by_quiet _ (clones_waker_goes c place w)
+  effect_tells (task.DropWaker c after) w = by_quiet _ (drops_waker_goes c after w)
+  effect_tells (task.Register p c) w = by_quiet _ (registers_goes p c w)
+  effect_tells (task.TakeWaker by p) w = by_quiet _ (takes_waker_goes by p w)
+
+-- this property is kept by all but what it says itself
+module _ {D : Type 0} (R : World D → Type 0) (k : KeptByMoves R) where
+  pub begins_moves : (todo : Request D ⊤) (w : World D) → ((value : D) → Answers (Within R) (finish value w))
+      → ((asked : ChannelOp D) → todo ≡ op.Channel asked → Answers (Within R) (channel_begins asked w)) → ((todo : LazyOp D) → Answers (Within R) (lazy_begins todo w)) → R w → Answers (Within R) (op_begins todo w)
+  begins_moves (op.Atomic todo) w f c l s = atomic_moves R k todo w s
+  begins_moves (op.Fence order) w f c l s = fence_moves R k order w s
+  begins_moves (op.Cell todo) w f c l s = cell_moves R k todo w s
+  begins_moves (op.Arc todo) w f c l s = arc_moves R k todo w s
+  begins_moves (op.Track todo) w f c l s = track_moves R k todo w s
+  begins_moves (op.Mutex todo) w f c l s = mutex_moves R k todo w s
+  begins_moves (op.RwLock todo) w f c l s = rwlock_moves R k todo w s
+  begins_moves (op.Condvar todo) w f c l s = condvar_moves R k todo w s
+  begins_moves (op.Notify todo) w f c l s = notifier_moves R k todo w s
+  begins_moves (op.Channel todo) w f c l s = c todo refl
+  begins_moves (op.Waker todo) w f c l s = waker_moves R k todo w s
+  begins_moves (op.AtomicWaker todo) w f c l s = place_moves R k todo w s
+  begins_moves (op.Local todo) w f c l s = local_moves R k todo w s
+  begins_moves (op.Lazy todo) w f c l s = l todo
+  begins_moves (op.Explore todo) w f c l s = s
+  begins_moves (op.Thread todo) w f c l s = thread_moves R k todo w f s
+  begins_moves op.Fail w f c l s = tt
+  begins_moves op.Unreachable w f c l s = tt
+
+  pub effect_moves : (todo : Task D) (w : World D) → ((n : ℕ) (sent : List (Message D)) → todo ≡ task.Send n sent → Answers (Within R) (sends n sent w))
+      → ((by : Receiving) (n : ℕ) → todo ≡ task.Receive by n → Answers (Within R) (receives by n w)) → ((n : ℕ) (taken : List D) → todo ≡ task.Drain n taken → Answers (Within R) (drains n taken w)) → R w → Answers (Within R) (takes_effect todo w)
+  effect_moves task.Start w a b c s = s
+  effect_moves task.Body w a b c s = tt
+  effect_moves task.Continue w a b c s = s
+  effect_moves (task.Access access) w a b c s = accesses_moves R k access w s
+  effect_moves (task.Lock locking n) w a b c s = replied_so R k _ (lock_moves R k locking n w s)
+  effect_moves (task.TryLock n) w a b c s = replied_so R k _ (try_lock_moves R k n w s)
+  effect_moves (task.Claim claim n) w a b c s = replied_so R k _ (claims_moves R k claim n w s)
+  effect_moves (task.Wait locking n m value) w a b c s = passed_so R k _ (falls_asleep_moves R k locking n m value w s)
+  effect_moves (task.Relock locking m) w a b c s = relocks_moves R k locking m w s
+  effect_moves (task.Wake waking n) w a b c s = replied_so R k _ (wakes_moves R k waking n w s)
+  effect_moves (task.Notify n) w a b c s = replied_so R k _ (notifies_moves R k n w s)
+  effect_moves (task.Await n) w a b c s = replied_so R k _ (awaits_moves R k n w s)
+  effect_moves (task.Rouse n) w a b c s = replied_so R k _ (wakes_early_moves R k n w s)
+  effect_moves (task.Count todo n) w a b c s = replied_so R k _ (counts_moves R k todo n w s)
+  effect_moves (task.TryUnwrap n) w a b c s = passed_so R k _ (tries_unwrap_moves R k n w s)
+  effect_moves (task.Join t n) w a b c s = replied_so R k _ (join_moves R k t n w s)
+  effect_moves (task.Finish n value) w a b c s = replied_so R k _ (child_finish_moves R k n value w s)
+  effect_moves (task.Send n sent) w a b c s = replied_so R k _ (a n sent refl)
+  effect_moves (task.Receive by n) w a b c s = replied_so R k _ (b by n refl)
+  effect_moves (task.Drain n taken) w a b c s = passed_so R k _ (c n taken refl)
+  effect_moves (task.WakeBy n d after) w a b c s = passed_so R k _ (wakes_by_moves R k n d after w s)
+  effect_moves (task.CloneWaker d place) w a b c s = passed_so R k _ (clones_waker_moves R k d place w s)
+  effect_moves (task.DropWaker d after) w a b c s = passed_so R k _ (drops_waker_moves R k d after w s)
+  effect_moves (task.Register p d) w a b c s = passed_so R k _ (registers_moves R k p d w s)
+  effect_moves (task.TakeWaker by p) w a b c s = passed_so R k _ (takes_waker_moves R k by p w s)

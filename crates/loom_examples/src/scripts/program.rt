@@ -1,0 +1,107 @@
+//! The steps of a script, with the places to which they lead.
+ghost use Rattle.std.specs.Prelude.{◌≡◌, IfOk, Some, option_copied, slice_get};
+ghost use Rattle.loom_examples.specs.Scripts.Running.{is_label, label_at, named_place, place_of};
+
+use crate::scripts::step::Step;
+use std::alloc::{AllocError, Global};
+use std::marker::Model;
+
+/// The steps of a script, and where the labels stand that they name.
+#[derive(Drop)]
+pub(crate) struct Program {
+    steps: &'static [Step],
+    // For each step the place of the label that it names. Where it names none, the steps' end.
+    places: Vec<usize>,
+}
+
+impl Model for Program {
+    ghost use Rattle.std.specs.Prelude.{◌≡◌, List, Some, map};
+    ghost use Rattle.loom_examples.specs.declared.scripts.step.Step.{Step};
+    ghost use Rattle.loom_examples.specs.Scripts.Running.{named_place};
+
+    ghost Value = { List Step };
+
+    ghost view = { λ program. program.steps.now };
+
+    ghost invariant = { λ program. program.places.items ≡ map (λ step. named_place program.steps.now (Some step)) program.steps.now };
+}
+
+impl Program {
+    /// The program of these steps. It fails only where a growth is refused.
+    pub(crate) fn new(alloc: Global, steps: &'static [Step]) -> Result<Program, AllocError>
+        ensures { IfOk result (λ program. program ≡ steps.entry.now) }
+    {
+        let places = steps
+            .iter()
+            .map(|step| named_place(steps, step))
+            .collect::<Vec<_>>(alloc)?;
+        Ok(Program { steps, places })
+    }
+
+    /// All steps.
+    pub(crate) fn steps(&self) -> &'static [Step]
+        ensures { result.now ≡ self.now }
+    {
+        self.steps
+    }
+
+    /// The step at this place, if there is one.
+    pub(crate) fn step(&self, place: usize) -> Option<&'static Step>
+        ensures { option_copied result ≡ slice_get self.now place }
+    {
+        if place >= self.steps.len() {
+            return None;
+        }
+        Some(&self.steps[place])
+    }
+
+    /// Where the label stands that the step at this place names. Where it names none, the steps' end.
+    pub(crate) fn named_at(&self, place: usize) -> usize
+        ensures { result ≡ named_place self.now (slice_get self.now place) }
+    {
+        if place >= self.places.len() {
+            return self.steps.len();
+        }
+        self.places[place]
+    }
+}
+
+// Where the label stands that the step names. Where it names none, the steps' end.
+fn named_place(steps: &[Step], step: &Step) -> usize
+    ensures { result ≡ named_place steps.now (Some step.now) }
+{
+    match step {
+        Step::JumpTo(name)
+        | Step::IfTo(_, _, name)
+        | Step::UnlessTo(_, _, name)
+        | Step::SpawnAt(_, name) => place_of(steps, name),
+        Step::Do(..) | Step::Labelled(..) | Step::Store(..) | Step::Label(_) => steps.len(),
+    }
+}
+
+// Whether the step is the label of this name.
+fn is_label(step: &Step, name: &str) -> bool
+    ensures { result ≡ is_label name.now step.now }
+{
+    match step {
+        Step::Label(label) => *label == name,
+        _ => false,
+    }
+}
+
+// Where the first label of this name stands.
+fn label_at(steps: &[Step], name: &str) -> Option<usize>
+    ensures { result ≡ label_at steps.now name.now }
+{
+    steps.iter().position(|step| is_label(step, name))
+}
+
+// Where the first label of this name stands; without one, the steps' end.
+fn place_of(steps: &[Step], name: &str) -> usize
+    ensures { result ≡ place_of steps.now name.now }
+{
+    match label_at(steps, name) {
+        Some(place) => place,
+        None => steps.len(),
+    }
+}
