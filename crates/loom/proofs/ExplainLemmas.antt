@@ -1,4 +1,5 @@
 pub mod Explaining
 pub mod Keeping
+pub mod Placing
 pub mod Story
 pub mod Turning

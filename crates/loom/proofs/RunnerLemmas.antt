@@ -1,4 +1,5 @@
 pub mod Alternatives
+pub mod Asking
 pub mod Driving
 pub mod Failing
 pub mod Following

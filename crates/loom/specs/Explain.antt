@@ -1,3 +1,3 @@
-pub mod Bare
 pub mod Explains
+pub mod Places
 pub mod Story

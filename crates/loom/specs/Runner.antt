@@ -4,10 +4,12 @@ pub mod Chains
 pub mod Check
 pub mod Errors
 pub mod Events
+pub mod Forms
 pub mod Handle
 pub mod Histories
 pub mod Kinds
 pub mod Laws
 pub mod Made
+pub mod Refusals
 pub mod Replay
 pub mod Run

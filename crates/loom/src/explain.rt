@@ -5,9 +5,11 @@ ghost use Rattle.std.specs.Prelude.{◌≡◌, ◌≤◌, ◌⊎◌, [], Err, If
 ghost use Rattle.loom_engine.specs.Trees.Meeting.{whole_search};
 ghost use Rattle.loom_engine.specs.Path.Route.{at_rest};
 ghost use Rattle.loom.specs.Explain.Explains.{Explains, HasLimits, IsChosenOn, IsToldAlong, IsToldBy};
+ghost use Rattle.loom.specs.Explain.Places.{placed};
 ghost use Rattle.loom.specs.Model.Settings.{explores, tested};
 
 use crate::explain::events::options::options_at;
+use crate::explain::events::places::placed;
 use crate::explain::events::telling::{Told, tell};
 use crate::model::builder::Builder;
 use crate::model::error::CheckError;
@@ -22,8 +24,8 @@ use std::alloc::{AllocError, Global};
 
 impl Builder {
     /// The run that `replay` makes of these choices, as its events: what each thread was replied and handed over, in order, where
-    /// each choice was made and of what, and how the run ended. A failure has the place of its operation, if that named one.
-    /// Errors are those of `replay`.
+    /// each choice was made and of what, and how the run ended. A failure has the place of the last operation of the thread that went
+    /// on last, if that named one. Errors are those of `replay`.
     pub fn explain<B: Body>(
         &self,
         alloc: Global,
@@ -40,7 +42,8 @@ impl Builder {
         Ok(explanation)
     }
 
-    /// The explanation of a run that was made: its events, the choices of its path, what there was to choose of, and the text.
+    /// The explanation of a run that was made: its events, the choices of its path, what there was to choose of, its end, and the
+    /// text.
     fn explained(&self, alloc: Global, told: Told, path: &Path) -> Result<Explanation, AllocError>
         ensures told { IfOk result (IsToldBy told) }
         ensures path { IfOk result (IsChosenOn path.now) }
@@ -82,17 +85,18 @@ impl Builder {
     }
 }
 
-/// Puts into an explanation the choices of the path, what there was to choose of, and the text.
+/// Puts into an explanation the choices of the path, what there was to choose of, where the run failed, and the text.
 fn fill(alloc: Global, path: &Path, explanation: &mut Explanation) -> Result<(), AllocError>
     ensures path { OnOk result (IsChosenOn path.now explanation.new) }
     ensures events { explanation.new.events ≡ explanation.old.events }
-    ensures end { explanation.new.end ≡ explanation.old.end }
+    ensures end { OnOk result (explanation.new.end ≡ placed explanation.old.events.items explanation.new.choices.items explanation.old.end) }
     ensures threads { explanation.new.max_threads ≡ explanation.old.max_threads }
     ensures branches { explanation.new.max_branches ≡ explanation.old.max_branches }
     ensures steps { explanation.new.max_steps ≡ explanation.old.max_steps }
 {
     explanation.choices = path.choices(alloc)?;
     explanation.options = options_at(alloc, path.nodes())?;
+    explanation.end = placed(explanation.end, &explanation.events, &explanation.choices);
     explanation.text = text_of(alloc, explanation)?;
     Ok(())
 }

@@ -11,6 +11,7 @@ pub mod model;
 pub mod runner;
 
 pub use crate::checkpoint::file::FileStore;
+pub use crate::checkpoint::files::{HostFiles, TextFiles};
 pub use crate::checkpoint::memory::MemoryStore;
 pub use crate::checkpoint::store::{CheckpointStore, StoreError};
 pub use crate::choices::{Choices, ChoicesError, ShownChoices};

@@ -18,11 +18,11 @@ pub mod saving;
 mod search;
 pub mod visitor;
 
-ghost use Rattle.std.specs.Prelude.{◌≡◌, ◌≢◌, ◌⊎◌, None, Err, IfOk, IfErr, true};
+ghost use Rattle.std.specs.Prelude.{◌≡◌, ◌≢◌, ◌⊎◌, None, Err, IfOk, IfErr, OnErr, true};
 ghost use Rattle.loom_engine.specs.Runs.Body.{runs as runs_of};
 ghost use Rattle.loom.specs.Model.Fresh.{Replays};
 ghost use Rattle.loom.specs.Model.Check.{Reports, ReportsAlone, ReportsUnheard, gives_file};
-ghost use Rattle.loom.specs.Model.Refusals.{CountsFaults, IsNoReport};
+ghost use Rattle.loom.specs.Model.Refusals.{CountsFaults, IsNoReport, StillHolds};
 ghost use Rattle.loom.specs.Model.Settings.{defaults, explores, tested};
 
 use crate::checkpoint::file::file_store;
@@ -67,7 +67,8 @@ pub enum Replay<D> {
 
 impl Builder {
     /// A check in which nobody is given the runs. It begins with the path in the `checkpoint_file`, if one is set, and saves its
-    /// checkpoints there. It has no clock: only a `max_duration` of zero stops it. Errors are those of `check_with`.
+    /// checkpoints there: it is `check_alone` with the `FileStore` of that name. It has no clock: only a `max_duration` of zero
+    /// stops it. Errors are those of `check_with`.
     pub fn check<R: Files, B: Body>(
         &self,
         rt: &R,
@@ -85,16 +86,18 @@ impl Builder {
         }
     }
 
-    /// A check in which nobody is given the runs, with this store.
-    pub(crate) fn check_alone<B: Body, S: CheckpointStore>(
+    /// A check in which nobody is given the runs, with this store, as one `FileStore`; without a clock and a log. Errors are those
+    /// of `check_with` (own).
+    pub fn check_alone<B: Body, S: CheckpointStore>(
         &self,
         alloc: Global,
         body: &B,
         store: &mut S,
     ) -> Result<Report, CheckError>
-        ensures reports { IfOk result (ReportsUnheard self.now (runs_of B.next (explores self.now) self.now.max_threads self.now.max_steps body.now) (S.gives store.old)) }
+        ensures reports { IfOk result (ReportsUnheard self.now (runs_of B.next (explores self.now) self.now.max_threads self.now.max_steps body.now) (S.gives store.old) (S.holds store.new)) }
         ensures refused { IfErr (tested self.now) (λ e. result ≡ Err e) }
         ensures errors { IfErr result (IsNoReport self.now (S.gives store.old) (Unit {0})) }
+        ensures left { OnErr result (StillHolds self.now (runs_of B.next (explores self.now) self.now.max_threads self.now.max_steps body.now) (S.gives store.old) (S.holds store.old) (S.holds store.new)) }
         ensures faults { CountsFaults result (S.fault_count store.old) (S.fault_count store.new) }
     {
         let log = None::<HostRuntime>;
@@ -115,7 +118,8 @@ impl Builder {
     ///
     /// A setting out of range is refused before any run, the first one first, and then a text that is no path of this check.
     /// Besides, an error comes only where the store met a fault or a growth was refused, in the check, the body, the visitor or
-    /// the store. After an error only visitor, clock, store and log have moved.
+    /// the store. After an error only visitor, clock, store and log have moved, and the store holds what it held, or a text of a
+    /// path that the check has come to.
     pub fn check_with<B: Body, V: Visitor<B::Data>, C: Clock, S: CheckpointStore, L: Log>(
         &self,
         alloc: Global,
@@ -128,6 +132,7 @@ impl Builder {
         ensures reports { IfOk result (Reports V.takes visitor.old visitor.new self.now (runs_of B.next (explores self.now) self.now.max_threads self.now.max_steps body.now) (S.gives store.old) (S.holds store.new) (C.answered clock.new)) }
         ensures refused { IfErr (tested self.now) (λ e. (result ≡ Err e) × (visitor.new ≡ visitor.old)) }
         ensures errors { IfErr result (IsNoReport self.now (S.gives store.old) (visitor.new ≡ visitor.old)) }
+        ensures left { OnErr result (StillHolds self.now (runs_of B.next (explores self.now) self.now.max_threads self.now.max_steps body.now) (S.gives store.old) (S.holds store.old) (S.holds store.new)) }
         ensures faults { CountsFaults result (S.fault_count store.old) (S.fault_count store.new) }
     {
         self.search::<B, Listed, V, C, S, L>(alloc, body, visitor, clock, store, log)

@@ -2,7 +2,6 @@
 
 pub mod checks;
 pub mod closures;
-pub mod copies;
 pub mod defaults;
 pub mod error;
 pub mod exact;
@@ -12,6 +11,7 @@ pub mod job;
 pub mod replays;
 pub mod run;
 pub mod run_end;
+pub mod same;
 pub mod shared;
 pub mod stop;
 pub mod turns;

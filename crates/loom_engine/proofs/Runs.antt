@@ -21,8 +21,16 @@ pub mod Exploring
 pub mod Kept
 pub mod Moving
 pub mod Lifting
+pub mod Pointing
+pub mod Offered
+pub mod Threading
+pub mod Viewing
+pub mod Reaching
 pub mod Making
 pub mod Queues
+pub mod Loading
+pub mod Storing
+pub mod Stored
 pub mod Receiving
 pub mod InOrder
 pub mod Rows

@@ -3,8 +3,11 @@ pub mod Course
 pub mod Examples
 pub mod Growth
 pub mod Histories
+pub mod Loads
 pub mod Machine
 pub mod Once
 pub mod Received
 pub mod ReducedExamples
 pub mod Sound
+pub mod Stores
+pub mod Views

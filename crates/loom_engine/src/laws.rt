@@ -4,4 +4,5 @@ pub mod locks;
 pub mod report;
 pub mod runs;
 pub mod tree;
+pub mod views;
 pub mod walk;

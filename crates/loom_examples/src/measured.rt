@@ -10,7 +10,7 @@ use crate::rows::settings::Settings;
 use crate::rows::tables::atomics::{ACQ_REL, THREE_ADDS};
 use crate::rows::tables::first::TWO_MUTEXES_DEADLOCK;
 use crate::rows::tables::joined;
-use crate::rows::{DEFAULTS, LONG_RUNS, WHOLE};
+use crate::rows::{DEFAULTS, LONG_RUNS, ONE_PREEMPTION, WHOLE};
 use crate::scripts::step::{END, EXIT, Step, Value, YIELD};
 use loom_objects::operation::{AtomicOp, CondvarOp, MutexOp, Request, RwLockOp, ThreadOp};
 use loom_views::rt::num::Numbers;
@@ -265,12 +265,6 @@ const WHOLE_2: Settings = Settings {
     ..WHOLE
 };
 
-/// The defaults with one preemption at most.
-const REDUCED_1: Settings = Settings {
-    preemption_bound: Some(1),
-    ..DEFAULTS
-};
-
 /// A reduced search of runs with two preemptions at most.
 const REDUCED_2: Settings = Settings {
     preemption_bound: Some(2),
@@ -309,7 +303,7 @@ macro_rules! six {
             measured!(concat!($name, " bound 1"), $steps, $checks, WHOLE_1),
             measured!(concat!($name, " bound 2"), $steps, $checks, WHOLE_2),
             measured!(concat!($name, " reduced"), $steps, $checks, DEFAULTS),
-            measured!(concat!($name, " reduced bound 1"), $steps, $checks, REDUCED_1),
+            measured!(concat!($name, " reduced bound 1"), $steps, $checks, ONE_PREEMPTION),
             measured!(concat!($name, " reduced bound 2"), $steps, $checks, REDUCED_2),
         ]
     };

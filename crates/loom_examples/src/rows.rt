@@ -86,6 +86,12 @@ pub const THREE_NODES: Settings = Settings {
     ..DEFAULTS
 };
 
+/// The defaults, but a run has one preemption at most.
+pub const ONE_PREEMPTION: Settings = Settings {
+    preemption_bound: Some(1),
+    ..DEFAULTS
+};
+
 /// Each schedule tries every thread that can go on, from where a run begins to explore.
 pub const EXPLICIT: Settings = Settings {
     expect_explicit_explore: true,

@@ -1,6 +1,7 @@
 pub mod Cells
 pub mod Dependence
 pub mod Machine
+pub mod Replies
 pub mod Scene
 pub mod Stages
 pub mod Sync

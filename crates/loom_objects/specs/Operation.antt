@@ -2,3 +2,4 @@ pub mod Accessed
 pub mod Labelled
 pub mod Relabelled
 pub mod Plain
+pub mod Bare

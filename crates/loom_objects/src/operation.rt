@@ -1,17 +1,29 @@
-//! Operations, as threads ask for them: a request, with the label that its author gave it; and the replies.
-ghost use Rattle.std.specs.Prelude.{◌≡◌};
+//! Operations, as threads ask for them: a request, with the label that its author gave it; and the replies. They are copied
+//! with their data, and bare, without it.
+mod copies;
+
+ghost use Rattle.std.specs.Prelude.{◌≡◌, false, IfOk};
 ghost use Rattle.loom_objects.specs.Operation.Accessed.{accessed};
 ghost use Rattle.loom_objects.specs.Operation.Plain.{plain, plain_thread, started, started_thread};
+ghost use Rattle.loom_objects.specs.Operation.Bare.{bare_op, bare_reply, bare_request, holds_list};
 ghost use Rattle.loom_objects.specs.Operation.Relabelled as labels;
 ghost use Rattle.loom_objects.specs.Operation.Labelled.{bare};
 ghost use Rattle.loom_objects.specs.Text.{first_text};
 
+use crate::data::Data;
 use crate::label::{Label, named, placed};
 use crate::location::Location;
+use crate::operation::copies::{
+    bare_arc, bare_cell, bare_channel, bare_condvar, bare_lazies, bare_lazy, bare_local,
+    bare_locals, bare_messages, bare_mutex, bare_rwlock, bare_thread, bare_track, copy_arc,
+    copy_cell, copy_channel, copy_condvar, copy_lazies, copy_lazy, copy_local, copy_locals,
+    copy_messages, copy_mutex, copy_rwlock, copy_thread, copy_track,
+};
 use crate::text::Text;
 use loom_views::rt::num::Numbers;
 use loom_views::rt::num::change::Change;
 use loom_views::sequence::Sequence;
+use std::alloc::{AllocError, Global};
 use std::collections::LinkedList;
 use std::sync::atomic::Ordering;
 
@@ -36,7 +48,7 @@ pub type Op<D, S> = Labelled<Request<D, S>>;
 
 /// What a thread asks for of an object, of a thread or of the run. `D` is the data type, `S` what a spawn starts. Objects are named
 /// by their numbers, in order of creation.
-#[derive(Debug, Drop)]
+#[derive(Debug, PartialEq, Eq, Drop)]
 pub enum Request<D, S> {
     Atomic(AtomicOp),
     /// A fence.
@@ -63,7 +75,7 @@ pub enum Request<D, S> {
 
 /// The operations of an atomic, whose values are the `u64` that stands for them. A value is cast to the type of what the
 /// atomic holds before it is stored or compared.
-#[derive(Clone, Copy, Debug)]
+#[derive(Clone, Copy, Debug, PartialEq, Eq)]
 pub enum AtomicOp {
     /// The type of what it holds, and its first value.
     New(Numbers, u64),
@@ -85,7 +97,7 @@ pub enum AtomicOp {
 }
 
 /// What a compare-exchange stores, and where.
-#[derive(Clone, Copy, Debug)]
+#[derive(Clone, Copy, Debug, PartialEq, Eq)]
 pub struct Exchange {
     /// The value that is expected.
     pub expected: u64,
@@ -98,7 +110,7 @@ pub struct Exchange {
 }
 
 /// The operations of a cell.
-#[derive(Debug, Drop)]
+#[derive(Debug, PartialEq, Eq, Drop)]
 pub enum CellOp<D> {
     New(D),
     /// Begins to read, and answers a copy of the data.
@@ -122,7 +134,7 @@ pub enum CellOp<D> {
 }
 
 /// The operations of a counted reference.
-#[derive(Debug, Drop)]
+#[derive(Debug, PartialEq, Eq, Drop)]
 pub enum ArcOp<D> {
     New(D),
     /// One reference more.
@@ -142,7 +154,7 @@ pub enum ArcOp<D> {
 }
 
 /// The operations of a tracked value.
-#[derive(Debug, Drop)]
+#[derive(Debug, PartialEq, Eq, Drop)]
 pub enum TrackOp<D> {
     New(D),
     /// A copy of the value.
@@ -158,7 +170,7 @@ pub enum TrackOp<D> {
 }
 
 /// The operations of a mutex.
-#[derive(Debug, Drop)]
+#[derive(Debug, PartialEq, Eq, Drop)]
 pub enum MutexOp<D> {
     New(D),
     Lock(usize),
@@ -175,7 +187,7 @@ pub enum MutexOp<D> {
 }
 
 /// The operations of a read-write lock.
-#[derive(Debug, Drop)]
+#[derive(Debug, PartialEq, Eq, Drop)]
 pub enum RwLockOp<D> {
     New(D),
     /// A thread more reads.
@@ -199,7 +211,7 @@ pub enum RwLockOp<D> {
 }
 
 /// The operations of a condition variable.
-#[derive(Debug, Drop)]
+#[derive(Debug, PartialEq, Eq, Drop)]
 pub enum CondvarOp<D> {
     New,
     /// The condition variable, the mutex that the thread holds, and the data that goes back into it.
@@ -211,7 +223,7 @@ pub enum CondvarOp<D> {
 }
 
 /// The operations of a notifier.
-#[derive(Clone, Copy, Debug)]
+#[derive(Clone, Copy, Debug, PartialEq, Eq)]
 pub enum NotifyOp {
     New,
     Notify(usize),
@@ -219,7 +231,7 @@ pub enum NotifyOp {
 }
 
 /// The operations of a channel.
-#[derive(Debug, Drop)]
+#[derive(Debug, PartialEq, Eq, Drop)]
 pub enum ChannelOp<D> {
     /// A channel, with one sender and its receiver.
     New,
@@ -238,7 +250,7 @@ pub enum ChannelOp<D> {
 }
 
 /// The operations of a future's notifier and of its wakers, which are named by the number of their count.
-#[derive(Clone, Copy, Debug)]
+#[derive(Clone, Copy, Debug, PartialEq, Eq)]
 pub enum WakerOp {
     /// A notifier for a future, with one waker.
     New,
@@ -257,7 +269,7 @@ pub enum WakerOp {
 }
 
 /// The operations of a place for a waker.
-#[derive(Clone, Copy, Debug)]
+#[derive(Clone, Copy, Debug, PartialEq, Eq)]
 pub enum AtomicWakerOp {
     New,
     /// The waker takes the place, where nobody else is about to; else it wakes.
@@ -273,7 +285,7 @@ pub enum AtomicWakerOp {
 }
 
 /// The operations of a thread's own values, which are named by keys.
-#[derive(Debug, Drop)]
+#[derive(Debug, PartialEq, Eq, Drop)]
 pub enum LocalOp<D> {
     /// A copy of the value, if there is one.
     With(usize),
@@ -286,7 +298,7 @@ pub enum LocalOp<D> {
 }
 
 /// The operations of values that are made once a run, which are named by keys.
-#[derive(Debug, Drop)]
+#[derive(Debug, PartialEq, Eq, Drop)]
 pub enum LazyOp<D> {
     /// A copy of the value, if there is one.
     Get(usize),
@@ -306,7 +318,7 @@ pub enum ExploreOp {
 }
 
 /// A value with its key.
-#[derive(Debug, Drop)]
+#[derive(Debug, PartialEq, Eq, Drop)]
 pub struct Keyed<D> {
     /// The number that the body names it by.
     pub key: usize,
@@ -315,7 +327,7 @@ pub struct Keyed<D> {
 }
 
 /// A value that was made once in a run.
-#[derive(Debug, Drop)]
+#[derive(Debug, PartialEq, Eq, Drop)]
 pub struct Lazy<D> {
     /// The number that the body names it by.
     pub key: usize,
@@ -335,7 +347,7 @@ pub struct Message<D> {
 }
 
 /// The operations of threads.
-#[derive(Debug, Drop)]
+#[derive(Debug, PartialEq, Eq, Drop)]
 pub enum ThreadOp<D, S> {
     /// What it runs, and its name.
     Spawn(S, Option<Name>),
@@ -562,5 +574,180 @@ impl<D, S> ThreadOp<D, S> {
             ThreadOp::Exit => (ThreadOp::Exit, None),
             ThreadOp::End => (ThreadOp::End, None),
         }
+    }
+}
+
+/// A copy of the operation. It fails only where a growth is refused (own).
+pub fn copy_request<D: Data>(op: &Request<D, ()>) -> Result<Request<D, ()>, AllocError>
+    ensures { IfOk result (λ copy. copy ≡ op.now) }
+{
+    Ok(match op {
+        Request::Atomic(op) => Request::Atomic(*op),
+        Request::Fence(order) => Request::Fence(*order),
+        Request::Cell(op) => Request::Cell(copy_cell(op)?),
+        Request::Arc(op) => Request::Arc(copy_arc(op)?),
+        Request::Track(op) => Request::Track(copy_track(op)?),
+        Request::Mutex(op) => Request::Mutex(copy_mutex(op)?),
+        Request::RwLock(op) => Request::RwLock(copy_rwlock(op)?),
+        Request::Condvar(op) => Request::Condvar(copy_condvar(op)?),
+        Request::Notify(op) => Request::Notify(*op),
+        Request::Channel(op) => Request::Channel(copy_channel(op)?),
+        Request::Waker(op) => Request::Waker(*op),
+        Request::AtomicWaker(op) => Request::AtomicWaker(*op),
+        Request::Local(op) => Request::Local(copy_local(op)?),
+        Request::Lazy(op) => Request::Lazy(copy_lazy(op)?),
+        Request::Explore(op) => Request::Explore(*op),
+        Request::Thread(op) => Request::Thread(copy_thread(op)?),
+        Request::Fail => Request::Fail,
+        Request::Unreachable => Request::Unreachable,
+    })
+}
+
+/// A copy of the reply. It fails only where a growth is refused (own).
+pub fn copy_reply<D: Data>(alloc: Global, reply: &Reply<D>) -> Result<Reply<D>, AllocError>
+    ensures { IfOk result (λ copy. copy ≡ reply.now) }
+{
+    match reply {
+        Reply::Messages(messages) => Ok(Reply::Messages(copy_messages(alloc, messages)?)),
+        Reply::Locals(locals) => Ok(Reply::Locals(copy_locals(alloc, locals)?)),
+        Reply::Lazies(lazies) => Ok(Reply::Lazies(copy_lazies(alloc, lazies)?)),
+        _ => copy_single(reply),
+    }
+}
+
+/// A copy of the reply, where it holds no list.
+fn copy_single<D: Data>(reply: &Reply<D>) -> Result<Reply<D>, AllocError>
+    requires { holds_list reply.now ≡ false }
+    ensures { IfOk result (λ copy. copy ≡ reply.now) }
+{
+    Ok(match reply {
+        Reply::Start => Reply::Start,
+        Reply::Done => Reply::Done,
+        Reply::Atomic(x) => Reply::Atomic(*x),
+        Reply::Value(x) => Reply::Value(*x),
+        Reply::Exchanged(x) => Reply::Exchanged(*x),
+        Reply::Data(x) => Reply::Data(x.try_clone()?),
+        Reply::Cell(x) => Reply::Cell(*x),
+        Reply::Reading(x, y) => Reply::Reading(*x, y.try_clone()?),
+        Reply::Writing(x, y) => Reply::Writing(*x, y.try_clone()?),
+        Reply::Arc(x) => Reply::Arc(*x),
+        Reply::Shared => Reply::Shared,
+        Reply::Track(x) => Reply::Track(*x),
+        Reply::Mutex(x) => Reply::Mutex(*x),
+        Reply::Locked(x, y) => Reply::Locked(*x, y.try_clone()?),
+        Reply::Waited(x, y, z) => Reply::Waited(*x, y.try_clone()?, *z),
+        Reply::WouldBlock => Reply::WouldBlock,
+        Reply::RwLock(x) => Reply::RwLock(*x),
+        Reply::ReadLocked(x, y) => Reply::ReadLocked(*x, y.try_clone()?),
+        Reply::WriteLocked(x, y) => Reply::WriteLocked(*x, y.try_clone()?),
+        Reply::Condvar(x) => Reply::Condvar(*x),
+        Reply::Notify(x) => Reply::Notify(*x),
+        Reply::Channel(x) => Reply::Channel(*x),
+        Reply::Empty => Reply::Empty,
+        Reply::RecvError => Reply::RecvError,
+        Reply::Disconnected => Reply::Disconnected,
+        Reply::SendError(x) => Reply::SendError(x.try_clone()?),
+        Reply::BlockOn(x) => Reply::BlockOn(*x),
+        Reply::Waker(x) => Reply::Waker(*x),
+        Reply::NoWaker => Reply::NoWaker,
+        Reply::AtomicWaker(x) => Reply::AtomicWaker(*x),
+        Reply::Absent => Reply::Absent,
+        Reply::AccessError => Reply::AccessError,
+        Reply::Stood(x, y) => Reply::Stood(x.try_clone()?, y.try_clone()?),
+        Reply::Thread(x, y) => Reply::Thread(*x, *y),
+        Reply::Spawned(x, y, z) => Reply::Spawned(*x, *y, *z),
+        Reply::Messages(_) | Reply::Locals(_) | Reply::Lazies(_) => unreachable!(),
+    })
+}
+
+/// The operation, without its data and what a spawn starts.
+pub fn bare_op<D, S>(op: &Op<D, S>) -> Op<(), ()>
+    ensures { result ≡ bare_op op.now }
+{
+    Labelled {
+        request: bare_request(&op.request),
+        label: op.label,
+    }
+}
+
+fn bare_request<D, S>(request: &Request<D, S>) -> Request<(), ()>
+    ensures { result ≡ bare_request request.now }
+{
+    match request {
+        Request::Atomic(op) => Request::Atomic(*op),
+        Request::Fence(order) => Request::Fence(*order),
+        Request::Cell(op) => Request::Cell(bare_cell(op)),
+        Request::Arc(op) => Request::Arc(bare_arc(op)),
+        Request::Track(op) => Request::Track(bare_track(op)),
+        Request::Mutex(op) => Request::Mutex(bare_mutex(op)),
+        Request::RwLock(op) => Request::RwLock(bare_rwlock(op)),
+        Request::Condvar(op) => Request::Condvar(bare_condvar(op)),
+        Request::Notify(op) => Request::Notify(*op),
+        Request::Channel(op) => Request::Channel(bare_channel(op)),
+        Request::Waker(op) => Request::Waker(*op),
+        Request::AtomicWaker(op) => Request::AtomicWaker(*op),
+        Request::Local(op) => Request::Local(bare_local(op)),
+        Request::Lazy(op) => Request::Lazy(bare_lazy(op)),
+        Request::Explore(op) => Request::Explore(*op),
+        Request::Thread(op) => Request::Thread(bare_thread(op)),
+        Request::Fail => Request::Fail,
+        Request::Unreachable => Request::Unreachable,
+    }
+}
+
+/// The reply, without its data. A list has as many `()`; an error only where memory for one is refused.
+pub fn bare_reply<D>(alloc: Global, reply: &Reply<D>) -> Result<Reply<()>, AllocError>
+    ensures { IfOk result (λ told. told ≡ bare_reply reply.now) }
+{
+    match reply {
+        Reply::Messages(messages) => Ok(Reply::Messages(bare_messages(alloc, messages)?)),
+        Reply::Locals(locals) => Ok(Reply::Locals(bare_locals(alloc, locals)?)),
+        Reply::Lazies(lazies) => Ok(Reply::Lazies(bare_lazies(alloc, lazies)?)),
+        _ => Ok(bare_single(reply)),
+    }
+}
+
+/// The reply, without its data, where it holds no list.
+fn bare_single<D>(reply: &Reply<D>) -> Reply<()>
+    requires { holds_list reply.now ≡ false }
+    ensures { result ≡ bare_reply reply.now }
+{
+    match reply {
+        Reply::Start => Reply::Start,
+        Reply::Done => Reply::Done,
+        Reply::Atomic(atomic) => Reply::Atomic(*atomic),
+        Reply::Value(value) => Reply::Value(*value),
+        Reply::Exchanged(answer) => Reply::Exchanged(*answer),
+        Reply::Data(_) => Reply::Data(()),
+        Reply::Cell(cell) => Reply::Cell(*cell),
+        Reply::Reading(cell, _) => Reply::Reading(*cell, ()),
+        Reply::Writing(cell, _) => Reply::Writing(*cell, ()),
+        Reply::Arc(arc) => Reply::Arc(*arc),
+        Reply::Shared => Reply::Shared,
+        Reply::Track(track) => Reply::Track(*track),
+        Reply::Mutex(mutex) => Reply::Mutex(*mutex),
+        Reply::Locked(mutex, _) => Reply::Locked(*mutex, ()),
+        Reply::Waited(mutex, _, timed_out) => Reply::Waited(*mutex, (), *timed_out),
+        Reply::WouldBlock => Reply::WouldBlock,
+        Reply::RwLock(lock) => Reply::RwLock(*lock),
+        Reply::ReadLocked(lock, _) => Reply::ReadLocked(*lock, ()),
+        Reply::WriteLocked(lock, _) => Reply::WriteLocked(*lock, ()),
+        Reply::Condvar(condvar) => Reply::Condvar(*condvar),
+        Reply::Notify(notifier) => Reply::Notify(*notifier),
+        Reply::Channel(channel) => Reply::Channel(*channel),
+        Reply::Empty => Reply::Empty,
+        Reply::RecvError => Reply::RecvError,
+        Reply::Disconnected => Reply::Disconnected,
+        Reply::SendError(_) => Reply::SendError(()),
+        Reply::BlockOn(waker) => Reply::BlockOn(*waker),
+        Reply::Waker(waker) => Reply::Waker(*waker),
+        Reply::NoWaker => Reply::NoWaker,
+        Reply::AtomicWaker(place) => Reply::AtomicWaker(*place),
+        Reply::Absent => Reply::Absent,
+        Reply::AccessError => Reply::AccessError,
+        Reply::Stood(_, _) => Reply::Stood((), ()),
+        Reply::Thread(thread, name) => Reply::Thread(*thread, *name),
+        Reply::Spawned(thread, name, notifier) => Reply::Spawned(*thread, *name, *notifier),
+        Reply::Messages(_) | Reply::Locals(_) | Reply::Lazies(_) => unreachable!(),
     }
 }

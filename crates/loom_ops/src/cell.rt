@@ -1,4 +1,5 @@
 //! Cells: data that threads read and write, where accesses that meet fail the run.
+ghost use Rattle.std.specs.Fn.{FnOnceReturnsAtMut};
 ghost use Rattle.std.specs.Prelude.{◌≡◌, None};
 ghost use Rattle.loom_ops.specs.Cell.{cell_handle, unsafe_cell_handle, reader_handle, reader_taken, writer_handle, writer_taken, written_in};
 ghost use Rattle.loom_objects.specs.Operation.Labelled.{bare};
@@ -167,8 +168,7 @@ impl MutPtr {
         }
     }
 
-    /// The data that the thread writes from now on, if that is what the reply says. It is the body's until it ends the write,
-    /// so this stands in for `deref` and `with`, and is no operation (own).
+    /// The data that the thread writes from now on, if that is what the reply says, without the pointer (own).
     pub fn data<D: Drop>(reply: Reply<D>) -> Option<D>
         ensures { result ≡ written_in reply }
     {
@@ -176,6 +176,24 @@ impl MutPtr {
             Reply::Writing(_, value) => Some(value),
             _ => None,
         }
+    }
+
+    /// The data that the write's reply gave. The body has it until it ends the write, so this is no operation (loom's
+    /// `cell/unsafe_cell.rs`).
+    pub fn deref<D>(self, value: &mut D) -> &mut D
+        ensures same { result.ghost_name ≡ value.entry.ghost_name }
+        ensures holds { result.now ≡ value.old }
+    {
+        value
+    }
+
+    /// What the closure answers, which is given that data and may change it. It is no operation either: the body hands the data
+    /// back by `end` (loom's `cell/unsafe_cell.rs`).
+    pub fn with<D, T, F: FnOnce(&mut D) -> T>(self, value: &mut D, change: F) -> T
+        requires { F.IsAlwaysCallable change }
+        ensures { FnOnceReturnsAtMut F.FnOnce change value.old result value.new }
+    {
+        change(self.deref(value))
     }
 
     /// Ends the write, and the cell holds this data: in loom the pointer's drop, or the closure's end. A write that isn't open

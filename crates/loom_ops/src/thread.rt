@@ -13,7 +13,7 @@ use loom_objects::text::Text;
 use std::fmt;
 
 /// A thread that was spawned, and the notifier that it notifies when it finishes (loom's `thread.rs`).
-#[derive(Clone, Copy, Debug)]
+#[derive(Clone, Copy)]
 pub struct JoinHandle {
     /// The thread's place in the order in which threads were made; main is 0.
     pub thread: u8,
@@ -96,6 +96,14 @@ impl fmt::Display for AccessError {
 }
 
 impl std::error::Error for AccessError {}
+
+impl fmt::Debug for JoinHandle {
+    ghost debug_output = { λ _. Some (codes "JoinHandle") };
+
+    fn fmt<W: fmt::Write>(&self, f: &mut fmt::Formatter<W>) -> fmt::Result {
+        f.pad("JoinHandle")
+    }
+}
 
 impl JoinHandle {
     /// The thread that was spawned, if that is what the reply says (own).

@@ -80,7 +80,16 @@ impl Object {
             Kind::Arc | Kind::Waker if self.is_whole => Some(FailureKind::LeakArc),
             Kind::Track if self.is_whole => Some(FailureKind::LeakTrack),
             Kind::Channel if !self.messages.is_empty() => Some(FailureKind::LeakMessages),
-            _ => None,
+            Kind::Arc | Kind::Waker | Kind::Track | Kind::Channel => None,
+            Kind::Atomic
+            | Kind::Cell
+            | Kind::Mutex
+            | Kind::RwLock
+            | Kind::Condvar
+            | Kind::Notify
+            | Kind::End
+            | Kind::AtomicWaker
+            | Kind::Nothing => None,
         }
     }
 }

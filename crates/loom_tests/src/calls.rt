@@ -14,10 +14,12 @@ mod wakers;
 
 use crate::asserting::same;
 use crate::page::Page;
+use loom::cell::MutPtr;
 use loom::lazy_static::Lazy;
 use loom::sync::Arc;
-use loom::thread::{AccessError, LocalKey, ThreadId};
+use loom::thread::{AccessError, JoinHandle, LocalKey, ThreadId};
 use loom_views::rt::num::Numeric;
+use std::mem;
 use std::process::Abort;
 
 #[test]
@@ -38,8 +40,9 @@ fn each_call_comes_to_what_its_row_says(rt: HostRuntime) {
 fn others_are_printed(rt: &(impl Abort + AllocGlobal)) {
     let mut page = Page::new(rt.alloc());
     put_others(&mut page);
+    put_written(&mut page);
     let text =
-        "true false 18446744073709551517 ThreadId(1) LocalKey { .. } Lazy { .. } AccessError already destroyed";
+        "true false 18446744073709551517 ThreadId(1) LocalKey { .. } Lazy { .. } AccessError already destroyed JoinHandle 6 7";
     same(rt, page.text.as_str(), text, "what is no operation");
 }
 
@@ -53,4 +56,17 @@ fn put_others(page: &mut Page) {
         page.text,
         "{is_same} {is_other} {number} {id:?} {key:?} {lazy:?} {error:?} {error}"
     );
+}
+
+// A thread's handle, and what a write's data is by its pointer: the first change of it, and the second.
+fn put_written(page: &mut Page) {
+    let handle = JoinHandle {
+        thread: 1,
+        name: None,
+        notifier: 0,
+    };
+    let (pointer, mut data) = (MutPtr { number: 0 }, 5u64);
+    *pointer.deref(&mut data) = 6;
+    let before = pointer.with(&mut data, |data| mem::replace(data, 7));
+    let _ = write!(page.text, " {handle:?} {before} {data}");
 }

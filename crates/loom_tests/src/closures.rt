@@ -1,11 +1,14 @@
 ghost use Rattle.std.specs.Prelude.{◌≡◌};
 
+mod ample;
 mod bodies;
 mod children;
 mod ends;
 mod finding;
 mod forms;
+mod forms_in_children;
 mod guide;
+mod others;
 mod rows;
 mod turns;
 

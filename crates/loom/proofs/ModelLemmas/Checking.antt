@@ -30,7 +30,8 @@ use Rattle.loom.specs.Model.Check.{IsTextOf, CompletesByRounds, GoesOnByRounds, 
 use Rattle.loom.specs.declared.model.rounds.Round.TheVariants as round
 use Rattle.loom.specs.Model.Rounds.{ComesTo, HasEnded}
 use Rattle.loom.specs.Model.Begun.{IsBegun}
-use Rattle.loom.specs.Model.Saving.{IsKept, IsSavedAs}
+use Rattle.loom.specs.Model.Refusals.{HeldBack}
+use Rattle.loom.specs.Model.Saving.{IsKept, IsLeft, IsSavedAs}
 use Rattle.loom.specs.Model.Loop.{Comes, HasReached}
 use Rattle.loom.specs.Model.Settings.{explores, most_runs, search_of}
 use Rattle.loom.proofs.ModelLemmas.Paths.{MayBegin, begins, completes, goes_to, may_go_on, all_chosen, fails_there}
@@ -247,6 +248,25 @@ module _ {D : Type 0} (b : Builder) (tree : Tree D) (sound : IsRunTree tree) (sh
         goes_on = stops_there takes old z.start good path visitor count z.walking;
       }
 
+      -- what the store may hold where the check ends here by an error
+      pub checking_left : (now : Option (List ℕ) → Type 0) → most ≤ b.checkpoint_interval → IsLeft path holds now → HeldBack b tree gives now
+      checking_left now few (inl keeps) = record {
+        text = z.text;
+        gave = z.gave;
+        path = z.start;
+        reads = z.reads;
+        runs = z.walking.runs;
+        held = held_by z.start now z.walking.runs most few (stays_behind z.start holds now z.walking.runs most keeps z.behind);
+      }
+      checking_left now few (inr saved) = record {
+        text = z.text;
+        gave = z.gave;
+        path = z.start;
+        reads = z.reads;
+        runs = z.walking.runs;
+        held = held_by z.start now z.walking.runs 0 (omega arith) (saved_here now saved.0 saved.1);
+      }
+
       -- the path was saved, or there was time
       pub checking_kept : (now : Option (List ℕ) → Type 0) (until left : ℕ) → most + until ≤ b.checkpoint_interval → IsKept b.checkpoint_interval until path holds now left
           → (behind : ℕ) × IsChecking now path visitor count behind × (behind + left + 1 ≤ b.checkpoint_interval)
@@ -372,4 +392,4 @@ module _ {D : Type 0} (b : Builder) (tree : Tree D) (sound : IsRunTree tree) (sh
 pub reached_stops : (answered : Duration → Type 0) (b : Builder) (count : ℕ) (limit : Limit) (checkpoint : String Global) → count ≤ most_runs b
     → HasReached answered b count (Some limit) → StopsBy answered b (Stopped count limit checkpoint)
 reached_stops answered b count Permutations checkpoint within full = omega (arith, within, full)
-reached_stops answered b count Lasting checkpoint within lasted = (within, lasted.0)
+reached_stops answered b count Lasting checkpoint within lasted = (lasted.1, lasted.0)

@@ -1,7 +1,7 @@
 -- Which errors come, and whether the store met a fault.
 use Rattle.std.proofs.Common.{◌≡◌, ℕ, inl, inr, refl, ap, sym, ◌∙◌, subst, arith}
 use Rattle.std.specs.Option.{option_map_or}
-use Rattle.std.specs.Result.{IfErr, IsErrAnd}
+use Rattle.std.specs.Result.{IfErr, IsErrAnd, OnErr}
 use Rattle.std.specs.Prelude.{◌≢◌, List, Option, Some, None, Result, Ok, Err}
 use Rattle.loom_engine.specs.declared.rt.path.checkpoint.error.PathError.{PathError}
 use Rattle.loom_engine.specs.declared.rt.path.checkpoint.error.PathError.TheVariants as why
@@ -83,3 +83,8 @@ no_fault result z = λ is. go (z.0 is)
     go : HasRisen 0 0 → ⊥
     go (inl less) = absurd (omega (arith, less))
     go (inr most) = absurd (omega (arith, most))
+
+-- what holds anyway holds after an error
+pub on_error : {A E P : Type 0} (result : Result A E) → P → OnErr result P
+on_error (Ok a) p = tt
+on_error (Err e) p = p

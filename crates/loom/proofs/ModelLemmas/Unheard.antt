@@ -19,14 +19,36 @@ given_unheard : {D : Type 0} (runs : List (List Choice × D)) → Given {V = Uni
 given_unheard [] = refl
 given_unheard (made ∷ runs) = (tt, tt, given_unheard runs)
 
-module _ {D : Type 0} (b : Builder) (tree : Tree D) (holds : Option (List ℕ) → Type 0) (path : List Node) (runs : List (List Choice × D)) where
-  says_unheard : (report : Report) → Claims b tree holds path runs report → Claims b tree (λ text. Unit {0}) path runs report
-  says_unheard (Complete count) z = z
-  says_unheard (Stopped count limit checkpoint) z = record { last = z.last; reads = z.reads; compact = z.compact; held = tt; goes_on = z.goes_on }
-  says_unheard (Failed count failure choices) z = z
+module _ {V D : Type 0} (takes : V → List Choice → D → V → Type 0) (old new : V) (b : Builder) (tree : Tree D) (gives holds : Option (List ℕ) → Type 0) where
+  unheard : (report : Report) → Reports takes old new b tree gives holds (λ time. time ≡ record { secs = 0; nanos = 0 }) report → ReportsUnheard b tree gives holds report
+  unheard report z = record {
+    text = z.text;
+    gave = z.gave;
+    path = z.path;
+    reads = z.reads;
+    runs = z.runs;
+    given = record { given = given_unheard z.runs; counted = z.given.counted };
+    says = z.says;
+    limits = z.limits;
+    placed = z.placed;
+    held = z.held;
+  }
 
-  held_unheard : IsHeld b tree holds path runs → IsHeld b tree (λ text. Unit {0}) path runs
-  held_unheard z = record {
+  pub unheard_ok : (answer : Result Report CheckError) → IfOk answer (Reports takes old new b tree gives holds (λ time. time ≡ record { secs = 0; nanos = 0 }))
+      → IfOk answer (ReportsUnheard b tree gives holds)
+  unheard_ok (Ok report) z = unheard report z
+  unheard_ok (Err e) z = z
+
+-- ---- where nothing is known of what the store holds
+
+module _ {D : Type 0} (b : Builder) (tree : Tree D) (holds : Option (List ℕ) → Type 0) (path : List Node) (runs : List (List Choice × D)) where
+  says_unknown : (report : Report) → Claims b tree holds path runs report → Claims b tree (λ text. Unit {0}) path runs report
+  says_unknown (Complete count) z = z
+  says_unknown (Stopped count limit checkpoint) z = record { last = z.last; reads = z.reads; compact = z.compact; held = tt; goes_on = z.goes_on }
+  says_unknown (Failed count failure choices) z = z
+
+  held_unknown : IsHeld b tree holds path runs → IsHeld b tree (λ text. Unit {0}) path runs
+  held_unknown z = record {
     text = z.text;
     held = tt;
     last = z.last;
@@ -38,25 +60,24 @@ module _ {D : Type 0} (b : Builder) (tree : Tree D) (holds : Option (List ℕ) �
     goes_on = z.goes_on;
   }
 
-module _ {V D : Type 0} (takes : V → List Choice → D → V → Type 0) (old new : V) (b : Builder) (tree : Tree D) (gives holds : Option (List ℕ) → Type 0) where
-  unheard : (report : Report) → Reports takes old new b tree gives holds (λ time. time ≡ record { secs = 0; nanos = 0 }) report → ReportsUnheard b tree gives report
-  unheard report z = record {
+module _ {D : Type 0} (b : Builder) (tree : Tree D) (gives holds : Option (List ℕ) → Type 0) where
+  unknown : (report : Report) → ReportsUnheard b tree gives holds report → ReportsUnheard b tree gives (λ text. Unit {0}) report
+  unknown report z = record {
     text = z.text;
     gave = z.gave;
     path = z.path;
     reads = z.reads;
     runs = z.runs;
-    given = record { given = given_unheard z.runs; counted = z.given.counted };
-    says = says_unheard b tree holds z.path z.runs report z.says;
+    given = z.given;
+    says = says_unknown b tree holds z.path z.runs report z.says;
     limits = z.limits;
     placed = z.placed;
-    held = held_unheard b tree holds z.path z.runs z.held;
+    held = held_unknown b tree holds z.path z.runs z.held;
   }
 
-  pub unheard_ok : (answer : Result Report CheckError) → IfOk answer (Reports takes old new b tree gives holds (λ time. time ≡ record { secs = 0; nanos = 0 }))
-      → IfOk answer (ReportsUnheard b tree gives)
-  unheard_ok (Ok report) z = unheard report z
-  unheard_ok (Err e) z = z
+  pub unknown_ok : (answer : Result Report CheckError) → IfOk answer (ReportsUnheard b tree gives holds) → IfOk answer (ReportsUnheard b tree gives (λ text. Unit {0}))
+  unknown_ok (Ok report) z = unknown report z
+  unknown_ok (Err e) z = z
 
 pub unheard_errors : {A : Type 0} (b : Builder) (gives : Option (List ℕ) → Type 0) (no_run : Type 0) (answer : Result A CheckError) → IfErr answer (IsNoReport b gives no_run)
     → IfErr answer (IsNoReport b gives (Unit {0}))

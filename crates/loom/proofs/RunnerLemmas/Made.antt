@@ -38,10 +38,10 @@ checked limits began log told settles history = record {
 }
 
 module _ {D F V : Type 0} (called : F → Teller D → Result D Stop → F → Teller D → Type 0) (takes : V → List Choice → D → V → Type 0) (limits : Limits) where
-  abbrev made_of : Route → Log D → List (Share D) → Teller D → Result D Stop → Made D
+  abbrev pub made_of : Route → Log D → List (Share D) → Teller D → Result D Stop → Made D
   made_of began log told handle answer = record { began = began; log = log; told = told; handle = handle; answer = answer }
 
-  made_by : (f f' : F) (began : Route) (log : Log D) (told : List (Share D)) (start handle : Teller D) (answer : Result D Stop) → start ≡ newcomer 0 → called f start answer f' handle
+  pub made_by : (f f' : F) (began : Route) (log : Log D) (told : List (Share D)) (start handle : Teller D) (answer : Result D Stop) → start ≡ newcomer 0 → called f start answer f' handle
       → Leading handle.thread told (Closes handle.told answer) → Checked limits began log told → MadeBy called takes limits f (made_of began log told handle answer) f'
   made_by f f' began log told start handle answer new call main checked = record {
     call = (let P : Teller D → Type 0 = λ h. called f h answer f' handle in subst P new call);

@@ -3,6 +3,7 @@ use Rattle.std.specs.Prelude.{◌≡◌, List, length, Ok, Err}
 use Rattle.loom_explain.specs.declared.event.End.{End}
 use Rattle.loom_explain.specs.declared.event.End.TheVariants.{Ended, Failed}
 use Rattle.loom_explain.specs.declared.explanation.Explanation.{Explanation}
+use Rattle.loom.specs.Explain.Places.{IsPlaced, placed}
 use Rattle.loom.specs.Explain.Story.{IsToldAs, Story, story_of}
 use Rattle.loom.specs.declared.explain.events.telling.Told.{Told}
 use Rattle.loom_engine.specs.Path.Route.{Route, chosen, trail}
@@ -18,9 +19,9 @@ use Rattle.loom.specs.Model.Settings.{explores}
 abbrev pub IsToldAlong : {D S : Type 0} → Meaning D S → Builder → S → Route → Told → Route → Type 0
 IsToldAlong next b body old told new = IsToldAs (story_of old.search next old.explores b.max_threads b.max_steps body (trail old)) told new
 
--- the events and the end are those that were told
+-- the events and the end are those that were told, the end with its place
 abbrev pub IsToldBy : Told → Explanation → Type 0
-IsToldBy told e = (e.events.items ≡ told.events.items) × (e.end ≡ told.end)
+IsToldBy told e = (e.events.items ≡ told.events.items) × (e.end ≡ placed told.events.items e.choices.items told.end)
 
 -- the choices are those of the path, and at each node of it there was something to choose of
 abbrev pub IsChosenOn : Route → Explanation → Type 0
@@ -46,6 +47,8 @@ module _ {D S : Type 0} (b : Builder) (next : Meaning D S) (body : S) (given : L
     pub events : e.events.items ≡ told_run.events
     -- its choices and its end
     pub ends : IsReplayTo e.choices.items e.end
+    -- where it failed
+    pub placed : IsPlaced e.events.items e.choices.items e.end
     -- something to choose of at each choice
     pub options : length e.options.items ≡ length e.choices.items
     -- the limits that it ran with

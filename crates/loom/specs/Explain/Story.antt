@@ -18,7 +18,7 @@ use Rattle.loom_explain.specs.declared.event.Event.{Event}
 use Rattle.loom_explain.specs.declared.event.End.{End}
 use Rattle.loom_explain.specs.declared.event.End.TheVariants.{Ended, Failed}
 use Rattle.loom.specs.declared.explain.events.telling.Told.{Told}
-use Rattle.loom.specs.Explain.Bare.{bare_op, bare_reply}
+use Rattle.loom_objects.specs.Operation.Bare.{bare_op, bare_reply}
 
 -- the events of a run, in order; what it comes to, and the path after it
 pub record Story (D : Type 0) : Type 0 where

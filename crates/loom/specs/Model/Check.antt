@@ -108,11 +108,12 @@ abbrev pub HasLasted : (Duration → Type 0) → Option Duration → Type 0
 HasLasted answered None = ⊥
 HasLasted answered (Some longest) = (time : Duration) × answered time × (as_nanos longest ≤ as_nanos time)
 
--- No report counts more runs than there may be, and a limit stops a check only where it is reached.
+-- No report counts more runs than there may be, and a limit stops a check only where it is reached. Where both are reached it
+-- is the number of runs that stops it.
 abbrev pub StopsBy : (Duration → Type 0) → Builder → Report → Type 0
 StopsBy answered b (Complete count) = count ≤ most_runs b
 StopsBy answered b (Stopped count Permutations checkpoint) = count ≡ most_runs b
-StopsBy answered b (Stopped count Lasting checkpoint) = (count ≤ most_runs b) × HasLasted answered b.max_duration
+StopsBy answered b (Stopped count Lasting checkpoint) = (count < most_runs b) × HasLasted answered b.max_duration
 StopsBy answered b (Failed count failure choices) = count < most_runs b
 
 -- ---- places
@@ -164,16 +165,16 @@ pub record Reports {V D : Type 0} (takes : V → List Choice → D → V → Typ
   pub placed : IsPlaced b report
   pub held : IsHeld b tree holds path runs
 
--- what a report says where nobody is given the runs, no time passes, and nothing is known of what the store holds
-abbrev pub ReportsUnheard : {D : Type 0} → Builder → Tree D → (Option (List ℕ) → Type 0) → Report → Type 0
-ReportsUnheard b tree gives report =
-    Reports {V = Unit {0}} (λ old choices value new. Unit {0}) tt tt b tree gives (λ text. Unit {0}) (λ time. time ≡ record { secs = 0; nanos = 0 }) report
+-- what a report says where nobody is given the runs, and no time passes
+abbrev pub ReportsUnheard : {D : Type 0} → Builder → Tree D → (Option (List ℕ) → Type 0) → (Option (List ℕ) → Type 0) → Report → Type 0
+ReportsUnheard b tree gives holds report =
+    Reports {V = Unit {0}} (λ old choices value new. Unit {0}) tt tt b tree gives holds (λ time. time ≡ record { secs = 0; nanos = 0 }) report
 
 -- no file gives no text
 abbrev pub gives_file : Option (String Global) → Option (List ℕ) → Type 0
 gives_file None text = text ≡ None
 gives_file (Some name) text = Unit {0}
 
--- and a file is the store, if there is one
+-- and a file is the store, if there is one, of which nothing is known
 abbrev pub ReportsAlone : {D : Type 0} → Builder → Tree D → Report → Type 0
-ReportsAlone b tree report = ReportsUnheard b tree (gives_file b.checkpoint_file) report
+ReportsAlone b tree report = ReportsUnheard b tree (gives_file b.checkpoint_file) (λ text. Unit {0}) report

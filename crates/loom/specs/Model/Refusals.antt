@@ -1,15 +1,20 @@
--- Why a check gives no report.
+-- Why a check gives no report, and what a store may hold then.
 use Rattle.std.specs.Prelude.{ℕ, ◌≡◌, ◌≢◌, ◌⊎◌, List, Option, Some, Result, Err}
+use Rattle.loom_objects.specs.declared.choice.Choice.{Choice}
+use Rattle.loom_objects.specs.Tree.Tree.{Tree}
+use Rattle.loom_engine.specs.declared.rt.path.node.Node.{Node}
 use Rattle.loom_engine.specs.declared.rt.path.checkpoint.error.PathError.{PathError}
 use Rattle.loom_engine.specs.declared.rt.path.checkpoint.error.PathError.TheVariants as why
 use Rattle.loom_engine.specs.Checkpoint.Accepted.{IsRefusedText}
 use Rattle.loom.specs.declared.checkpoint.store.StoreError.{StoreError}
 use Rattle.loom.specs.declared.checkpoint.store.StoreError.TheVariants as store
-use Rattle.loom.specs.Model.Stores.{HasRisen}
+use Rattle.loom.specs.Model.Stores.{HasRisen, Keeps}
 use Rattle.loom.specs.declared.model.builder.Builder.{Builder}
 use Rattle.loom.specs.declared.model.error.CheckError.{CheckError}
 use Rattle.loom.specs.declared.model.error.CheckError.TheVariants.{NotJson, WrongShape, WrongVersion, OtherSettings, TooManyNodes, BadNode, Store, Memory}
 use Rattle.loom.specs.Model.Settings.{explores, search_of, tested}
+use Rattle.loom.specs.Model.StoredText.{ReadsAs}
+use Rattle.loom.specs.Model.Check.{IsHeld}
 
 abbrev pub of_path : PathError → CheckError
 of_path why.NotJson = NotJson
@@ -44,3 +49,18 @@ IsNoBeginning b gives e = IsNoSave e ⊎ IsRefusedBy b gives e
 -- made.
 abbrev pub IsNoReport : Builder → (Option (List ℕ) → Type 0) → Type 0 → CheckError → Type 0
 IsNoReport b gives no_run e = IsNoSave e ⊎ (((tested b ≡ Err e) ⊎ IsRefusedBy b gives e) × no_run)
+
+-- ---- stores
+
+-- Where a check ends by an error after it began with a path, what a store may hold is what `IsHeld` says, after some runs.
+pub record HeldBack {D : Type 0} (b : Builder) (tree : Tree D) (gives holds : Option (List ℕ) → Type 0) : Type 0 where
+  pub text : Option (List ℕ)
+  pub gave : gives text
+  pub path : List Node
+  pub reads : ReadsAs (search_of b) (explores b) text path
+  pub runs : List (List Choice × D)
+  pub held : IsHeld b tree holds path runs
+
+-- After an error a store may hold what it held before the check, or a text of a path that the check has come to.
+abbrev pub StillHolds : {D : Type 0} → Builder → Tree D → (Option (List ℕ) → Type 0) → (Option (List ℕ) → Type 0) → (Option (List ℕ) → Type 0) → Type 0
+StillHolds b tree gives old new = Keeps old new ⊎ HeldBack b tree gives new

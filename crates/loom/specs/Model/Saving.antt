@@ -23,3 +23,7 @@ IsStoppedWith path holds runs limit report = (checkpoint : String Global) × IsS
 -- There was time: what the store may hold stays as it is. Or the path was saved.
 abbrev pub IsKept : ℕ → ℕ → Route → (Option (List ℕ) → Type 0) → (Option (List ℕ) → Type 0) → ℕ → Type 0
 IsKept interval until path old new left = ((left + 1 ≡ until) × Keeps old new) ⊎ ((left + 1 ≡ interval) × ((text : List ℕ) × IsSavedAs path new text))
+
+-- what the store may hold stays as it is, or the path was saved
+abbrev pub IsLeft : Route → (Option (List ℕ) → Type 0) → (Option (List ℕ) → Type 0) → Type 0
+IsLeft path old new = Keeps old new ⊎ ((text : List ℕ) × IsSavedAs path new text)

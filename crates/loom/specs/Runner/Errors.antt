@@ -1,5 +1,5 @@
--- The errors of checks of closures: their numbers, and the error of a run that was spoiled.
-use Rattle.std.specs.Prelude.{ℕ}
+-- The errors of checks of closures: their numbers, those that the host gives cause for, and the error of a run that was spoiled.
+use Rattle.std.specs.Prelude.{ℕ, ◌≡◌, ◌⊎◌}
 use Rattle.loom.specs.declared.runner.error.RunnerError.{RunnerError}
 use Rattle.loom.specs.declared.runner.error.RunnerError.TheVariants as error
 use Rattle.loom.specs.declared.runner.stop.Stop.{Stop}
@@ -10,6 +10,10 @@ abbrev pub error_by : Stop → RunnerError
 error_by (stop.Failure failure) = error.NotSettled
 error_by stop.Memory = error.Memory
 error_by stop.Refused = error.Refused
+
+-- the host refused memory, or a thread
+abbrev pub IsRefusedByHost : RunnerError → Type 0
+IsRefusedByHost e = (e ≡ error.Memory) ⊎ (e ≡ error.Refused)
 
 -- the number by which the program names an error
 abbrev pub number_of : RunnerError → ℕ

@@ -1,5 +1,5 @@
 -- The events of a run, and the told list of each thread: its operations, with the replies to them.
-use Rattle.std.specs.Prelude.{ℕ, ◌≡◌, ◌<◌, ◌-◌, ◌+◌, ◌==◌, ◌&&◌, ⊤, Bool, true, false, cond, List, [], ◌∷◌, ◌++◌, length, Option, Some, None, Result, Ok, Err, slice_index, slice_get}
+use Rattle.std.specs.Prelude.{ℕ, ◌≡◌, ◌<◌, ◌≤◌, ◌-◌, ◌+◌, ◌==◌, ◌&&◌, ⊤, Bool, true, false, cond, List, [], ◌∷◌, ◌++◌, length, Option, Some, None, Result, Ok, Err, slice_index, slice_get}
 use Rattle.loom_views.specs.declared.rt.failure.FailureKind.TheVariants.{Misuse}
 use Rattle.loom_objects.specs.declared.failure.Failure.{Failure}
 use Rattle.loom_objects.specs.declared.operation.Request.{Request}
@@ -11,6 +11,8 @@ use Rattle.loom_objects.specs.declared.operation.Turn.{Turn}
 use Rattle.loom_objects.specs.declared.operation.Turn.TheVariants as turn
 use Rattle.loom_objects.specs.declared.failure.Stop.{Stop as Halt}
 use Rattle.loom_objects.specs.declared.failure.Stop.TheVariants as halt
+use Rattle.loom.specs.declared.runner.stop.Stop.{Stop}
+use Rattle.loom.specs.declared.runner.stop.Stop.TheVariants as stop
 use Rattle.loom.specs.declared.runner.history.event.Event.{Event}
 use Rattle.loom.specs.declared.runner.history.event.Entry.{Entry}
 
@@ -21,6 +23,12 @@ misuse = record { kind = Misuse; location = None }
 abbrev pub or_else : {A : Type 0} → Option A → Option A → Option A
 or_else (Some x) y = Some x
 or_else None y = y
+
+-- Why a run of so many threads has no event more: memory was refused, or the thread whose turn it is isn't there.
+abbrev pub IsNotAdded : ℕ → ℕ → Stop → Type 0
+IsNotAdded turn threads (stop.Failure failure) = (failure ≡ misuse) × (threads ≤ turn)
+IsNotAdded turn threads stop.Memory = Unit {0}
+IsNotAdded turn threads stop.Refused = ⊥
 
 module _ {D : Type 0} where
   -- ---- what an outcome says
@@ -36,6 +44,20 @@ module _ {D : Type 0} where
   replied n (Ok (turn.Start k)) = None
   replied n (Ok (turn.Ended value)) = None
   replied n (Err failure) = None
+
+  -- whose turn comes: the thread's that is replied to, or starts
+  abbrev pub next_turn : Result (Turn D) Failure → Option ℕ
+  next_turn (Ok (turn.Reply k reply)) = Some k
+  next_turn (Ok (turn.Start k)) = Some k
+  next_turn (Ok (turn.Ended value)) = None
+  next_turn (Err failure) = None
+
+  -- the thread that starts
+  abbrev pub starting : Result (Turn D) Failure → Option ℕ
+  starting (Ok (turn.Reply k reply)) = None
+  starting (Ok (turn.Start k)) = Some k
+  starting (Ok (turn.Ended value)) = None
+  starting (Err failure) = None
 
   -- main's result, where the run has ended
   abbrev pub ended : Result (Turn D) Failure → Option D
@@ -81,6 +103,25 @@ module _ {D : Type 0} where
 
   abbrev pub failed_by : Option (Event D) → Option Failure
   failed_by event = outcome_by failing event
+
+  -- whose turn it is by the last event
+  abbrev pub turn_in : List (Event D) → Option ℕ
+  turn_in es = outcome_by next_turn (last_event es)
+
+  -- the thread that starts by it
+  abbrev pub start_in : List (Event D) → Option ℕ
+  start_in es = outcome_by starting (last_event es)
+
+  -- the reply to the thread in it
+  abbrev pub reply_in : ℕ → List (Event D) → Option (Reply D)
+  reply_in n es = outcome_by (replied n) (last_event es)
+
+  -- what a thread is answered by it: its reply, or that there is none, or memory for a copy was refused
+  abbrev pub IsReplied : ℕ → List (Event D) → Result (Reply D) Stop → Type 0
+  IsReplied n es (Ok reply) = reply_in n es ≡ Some reply
+  IsReplied n es (Err (stop.Failure failure)) = (failure ≡ misuse) × (reply_in n es ≡ None)
+  IsReplied n es (Err stop.Memory) = Unit {0}
+  IsReplied n es (Err stop.Refused) = ⊥
 
   -- what each further operation is answered, once the run is over
   abbrev pub end_in : List (Event D) → Option Failure

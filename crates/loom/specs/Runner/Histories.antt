@@ -1,8 +1,9 @@
 -- The history of a run that threads make, and the state that they share.
-use Rattle.std.specs.Prelude.{ℕ, ◌≡◌, ◌<◌, ◌++◌, ⊤, List, [], ◌∷◌, length, Option, Some, None, option_map, Result, slice_get}
+use Rattle.std.specs.Prelude.{ℕ, ◌≡◌, ◌≢◌, ◌<◌, ◌⊎◌, ◌++◌, ⊤, List, [], ◌∷◌, length, Option, Some, None, option_map, MatchOption, Result, Err, slice_get}
 use Rattle.loom_objects.specs.declared.failure.Stop.{Stop as Halt}
 use Rattle.loom_objects.specs.declared.failure.Stop.TheVariants as halt
 use Rattle.loom_objects.specs.declared.operation.Request.{Request}
+use Rattle.loom_objects.specs.declared.operation.Reply.{Reply}
 use Rattle.loom_objects.specs.declared.operation.Turn.{Turn}
 use Rattle.loom_engine.specs.Path.Route.{Route, IsSameSearch}
 use Rattle.loom_engine.specs.Runs.Course.{opening}
@@ -14,7 +15,7 @@ use Rattle.loom.specs.declared.runner.stop.Stop.{Stop}
 use Rattle.loom.specs.declared.runner.stop.Stop.TheVariants as stop
 use Rattle.loom.specs.declared.runner.history.event.Event.{Event}
 use Rattle.loom_objects.specs.declared.failure.Failure.{Failure}
-pub use Rattle.loom.specs.Runner.Events.{answered, end_after, ended, ended_by, end_in, entry, failed_by, failing, last_event, made, or_else, outcome_by, part, Share, share}
+pub use Rattle.loom.specs.Runner.Events.{answered, end_after, ended, ended_by, end_in, entry, failed_by, failing, IsNotAdded, IsReplied, last_event, made, or_else, outcome_by, part, Share, share, start_in, turn_in}
 
 -- ---- events
 
@@ -78,6 +79,18 @@ module _ {D : Type 0} where
   -- why the run goes no further: it is spoiled, or over
   abbrev pub why_stopped : Log D → Option Stop
   why_stopped log = or_else log.spoiled (option_map stop.Failure (end_in log.history))
+
+  -- a thread has nothing to wait for: the run goes no further, or its turn has come
+  abbrev pub IsDecided : Log D → ℕ → Type 0
+  IsDecided log n = (why_stopped log ≢ None) ⊎ (turn_in log.history ≡ Some n)
+
+  -- what a thread is answered: the stop, or what the last event has for it
+  abbrev pub Answers : Log D → ℕ → Result (Reply D) Stop → Type 0
+  Answers log n result = MatchOption (why_stopped log) (IsReplied n log.history result) (λ s. result ≡ Err s)
+
+  -- a thread starts: the run goes on, and its last event says so
+  abbrev pub Starts : Log D → ℕ → Type 0
+  Starts log n = (why_stopped log ≡ None) × (start_in log.history ≡ Some n)
 
   -- the event of this operation, by the thread whose turn it is, leads from one moment to the other
   pub record Goes (m : Moment D) (op : Request D ⊤) (e : Event D) (n : Moment D) : Type 0 where

@@ -1,116 +1,124 @@
 //! A checkpoint's text in a file, and the file of a check.
-ghost use Rattle.std.specs.Prelude.{◌≡◌, ◌↔◌, None};
-ghost use Rattle.loom.specs.Model.Stores.{IsCounted};
+ghost use Rattle.std.specs.Prelude.{List, ℕ, Some, ◌≡◌, ◌↔◌, ◌≢◌, None, OnOk, OnErr, IfOk, IfSome, MatchOption, string_bytes};
+ghost use Rattle.loom.specs.Model.Stores.{Counts, Keeps, KeepsFiles, KeepsOthers, KeepsThird, beside, text_in};
 
+use crate::checkpoint::files::{HostFiles, TextFiles};
 use crate::checkpoint::store::{CheckpointStore, StoreError};
-use std::alloc::Global;
-use std::fs::{self, File, OpenFile};
-use std::io::{self, ErrorKind, Read, Write};
+use std::alloc::{AllocError, Global};
 use std::rt::Files;
 
-/// Keeps a checkpoint's text in a file. Nothing is known of what a file holds. A text is written into a file beside it, whose name
-/// ends in `.new`, which then takes the file's name: wherever a save ends, by an error or with the program, the file has the old
-/// text or the new one.
+/// Keeps a checkpoint's text in a file, among those of the host or among others. A text is written into a file beside it, whose
+/// name ends in `.new`, which then takes the file's name: wherever a save ends, by an error or with the program, the file has
+/// the old text or the new one.
 #[derive(Drop)]
-pub struct FileStore<'a, R> {
-    rt: &'a R,
+pub struct FileStore<'a, F> {
+    files: F,
     alloc: Global,
     path: &'a str,
-    faults: u64,
 }
 
-impl<'a, R: Files> FileStore<'a, R> {
-    /// The file of this name. A missing file gives no text.
-    pub fn new(rt: &'a R, alloc: Global, path: &'a str) -> FileStore<'a, R>
-        ensures { result.faults ≡ 0 }
+impl<'a, R: Files> FileStore<'a, HostFiles<'a, R>> {
+    /// The host's file of this name. A missing file gives no text.
+    pub fn new(rt: &'a R, alloc: Global, path: &'a str) -> FileStore<'a, HostFiles<'a, R>>
+        ensures named { result.path.now ≡ path.now }
+        ensures faults { result.files.faults ≡ 0 }
     {
-        FileStore {
-            rt,
-            alloc,
-            path,
-            faults: 0,
-        }
+        FileStore::among(HostFiles::new(rt), alloc, path)
     }
+}
 
-    /// What an error of the file means here. A fault is counted.
-    fn refused(&mut self, error: io::Error) -> StoreError
-        ensures { IsCounted self.old.faults self.new.faults result }
+impl<'a, F: TextFiles> FileStore<'a, F> {
+    /// The file of this name among these files (own).
+    pub fn among(files: F, alloc: Global, path: &'a str) -> FileStore<'a, F>
+        ensures files { result.files ≡ files }
+        ensures named { result.path.now ≡ path.now }
     {
-        if error.kind() == ErrorKind::OutOfMemory {
-            return StoreError::Memory;
-        }
-        self.faults = self.faults.saturating_add(1);
-        StoreError::Fault
+        FileStore { files, alloc, path }
     }
 
-    /// The bytes of the file.
-    fn read(&self, alloc: Global) -> io::Result<Vec<u8>> {
-        let mut bytes = Vec::new(alloc);
-        File::open(self.rt, self.path)?.read_to_end(&mut bytes)?;
-        Ok(bytes)
+    /// The files, of which it used this one and the one beside it.
+    pub fn into_files(self) -> F
+        ensures { result ≡ self.entry.files }
+    {
+        self.files
     }
 
-    /// Gives the file this text, by way of the file beside it. After an error that one is removed, where it can be.
-    fn replace(&self, text: &str) -> io::Result<()> {
-        let beside = format!(in self.alloc; "{}.new", self.path)?;
+    /// The name of the file beside it.
+    fn beside(&self) -> Result<String, AllocError>
+        ensures { IfOk result (λ name. string_bytes name ≡ beside self.now.path.now) }
+    {
+        let mut name = String::from_str(self.alloc, self.path)?;
+        name.push_str(".new")?;
+        Ok(name)
+    }
+
+    /// Gives the file this text, by way of another file.
+    fn replace(&mut self, by: &str, text: &str) -> Result<(), StoreError>
+        ensures same { self.new.path.now ≡ self.old.path.now }
+        ensures held { OnOk result (F.holds self.new.files self.old.path.now (Some text.now)) }
+        ensures kept { OnErr result (KeepsOthers by.now (F.holds self.old.files) (F.holds self.new.files)) }
+        ensures others { KeepsThird by.now self.old.path.now (F.holds self.old.files) (F.holds self.new.files) }
+        ensures faults { Counts result (F.fault_count self.old.files) (F.fault_count self.new.files) }
+    {
+        self.files.write(by, text)?;
+        self.files.rename(by, self.path)
+    }
+}
+
+impl<'a, F: TextFiles> CheckpointStore for FileStore<'a, F> {
+    ghost gives = { λ store text. F.holds store.files store.path.now text };
+
+    ghost holds = { λ store text. F.holds store.files store.path.now text };
+
+    ghost fault_count = { λ store. F.fault_count store.files };
+
+    fn load(&mut self, alloc: Global) -> Result<Option<Vec<u8>>, StoreError>
+        ensures given { IfOk result (λ text. F.holds self.old.files self.old.path.now (text_in text)) }
+        ensures held { IfOk result (λ text. F.holds self.new.files self.new.path.now (text_in text)) }
+        ensures kept { Keeps (F.holds self.old.files self.old.path.now) (F.holds self.new.files self.new.path.now) }
+        ensures faults { Counts result (F.fault_count self.old.files) (F.fault_count self.new.files) }
+        ensures same { self.new.path.now ≡ self.old.path.now }
+        ensures files { KeepsFiles (F.holds self.old.files) (F.holds self.new.files) }
+    {
+        self.files.read(alloc, self.path)
+    }
+
+    /// No other file is changed but the one beside it, which is removed after an error, where it can be.
+    fn save(&mut self, text: &str) -> Result<(), StoreError>
+        ensures held { OnOk result (F.holds self.new.files self.new.path.now (Some text.now)) }
+        ensures kept { OnErr result (Keeps (F.holds self.old.files self.old.path.now) (F.holds self.new.files self.new.path.now)) }
+        ensures faults { Counts result (F.fault_count self.old.files) (F.fault_count self.new.files) }
+        ensures same { self.new.path.now ≡ self.old.path.now }
+        ensures others { KeepsThird (beside self.old.path.now) self.old.path.now (F.holds self.old.files) (F.holds self.new.files) }
+    {
+        let Ok(beside) = self.beside() else {
+            return Err(StoreError::Memory);
+        };
         let beside = beside.as_str();
-        match self.write_beside(beside, text) {
-            Ok(()) => Ok(()),
-            Err(error) => {
-                let _ = fs::remove_file(self.rt, beside);
-                Err(error)
-            }
+        let answer = self.replace(beside, text);
+        if answer.is_err() {
+            self.files.remove(beside);
         }
-    }
-
-    /// Writes the text into the file beside, and once it is on the disk gives that the file's name.
-    fn write_beside(&self, beside: &str, text: &str) -> io::Result<()> {
-        let mut file = File::create(self.rt, beside)?;
-        file.write_all(text.as_bytes())?;
-        file.sync_all()?;
-        fs::rename(self.rt, beside, self.path)
-    }
-}
-
-impl<'a, R: Files> CheckpointStore for FileStore<'a, R> {
-    ghost gives = { λ _ _. Unit {0} };
-
-    ghost holds = { λ _ _. Unit {0} };
-
-    ghost fault_count = { λ store. store.faults };
-
-    fn load(&mut self, alloc: Global) -> Result<Option<Vec<u8>>, StoreError> {
-        match self.read(alloc) {
-            Ok(bytes) => Ok(Some(bytes)),
-            Err(error) => {
-                if error.kind() == ErrorKind::NotFound {
-                    return Ok(None);
-                }
-                Err(self.refused(error))
-            }
-        }
-    }
-
-    fn save(&mut self, text: &str) -> Result<(), StoreError> {
-        match self.replace(text) {
-            Ok(()) => Ok(()),
-            Err(error) => Err(self.refused(error)),
-        }
+        answer
     }
 
     fn faults(&self) -> u64 {
-        self.faults
+        self.files.faults()
     }
 }
 
-/// The store of a check: the file of this name, or none without a name.
+/// The store of a check: the host's file of this name, or none without a name.
 pub fn file_store<'a, R: Files>(
     rt: &'a R,
     alloc: Global,
     name: &'a Option<String>,
-) -> Option<FileStore<'a, R>>
-    ensures { (result ≡ None) ↔ (name.now ≡ None) }
+) -> Option<FileStore<'a, HostFiles<'a, R>>>
+    ensures some { (result ≡ None) ↔ (name.now ≡ None) }
+    ensures named { IfSome result (λ store. MatchOption name.now (Unit {0}) (λ name. store.path.now ≡ string_bytes name)) }
+    ensures faults { IfSome result (λ store. store.files.faults ≡ 0) }
 {
-    name.as_ref()
-        .map(|name| FileStore::new(rt, alloc, name.as_str()))
+    match name {
+        Some(name) => Some(FileStore::new(rt, alloc, name.as_str())),
+        None => None,
+    }
 }

@@ -27,11 +27,11 @@ pub trait CheckpointStore {
     /// How many faults its calls have met, up to the highest number of 64 bits.
     ghost fault_count: { Self → ℕ };
 
-    /// The text that was saved last, or none. After an error the store holds what it held.
+    /// The text that was saved last, or none. The store holds that, and what it held before.
     fn load(&mut self, alloc: Global) -> Result<Option<Vec<u8>>, StoreError>
         ensures given { IfOk result (λ text. gives self.old (text_in text)) }
         ensures held { IfOk result (λ text. holds self.new (text_in text)) }
-        ensures kept { OnErr result (Keeps (holds self.old) (holds self.new)) }
+        ensures kept { Keeps (holds self.old) (holds self.new) }
         ensures faults { Counts result (fault_count self.old) (fault_count self.new) };
 
     /// Keeps this text in place of what it held. After an error the store holds what it held.

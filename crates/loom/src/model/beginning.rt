@@ -1,8 +1,9 @@
 //! The path with which a check begins.
-ghost use Rattle.std.specs.Prelude.{◌≤◌, IfOk, IfErr, IfSome};
+ghost use Rattle.std.specs.Prelude.{◌≤◌, IfOk, IfErr, OnErr, IfSome};
 ghost use Rattle.loom.specs.Model.Begun.{IsBegun};
 ghost use Rattle.loom.specs.Model.Refusals.{CountsFaults, IsNoBeginning};
 ghost use Rattle.loom.specs.Model.Settings.{explores, search_of};
+ghost use Rattle.loom.specs.Model.Stores.{Keeps};
 
 use crate::checkpoint::store::CheckpointStore;
 use crate::model::builder::Builder;
@@ -23,6 +24,7 @@ impl Builder {
         requires bound { IfSome self.now.preemption_bound (λ bound. bound ≤ 255) }
         ensures begun { IfOk result (IsBegun (search_of self.now) (explores self.now) (S.gives store.old) (S.holds store.new)) }
         ensures errors { IfErr result (IsNoBeginning self.now (S.gives store.old)) }
+        ensures left { OnErr result (Keeps (S.holds store.old) (S.holds store.new)) }
         ensures faults { CountsFaults result (S.fault_count store.old) (S.fault_count store.new) }
     {
         let search = path_search(

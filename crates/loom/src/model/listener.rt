@@ -1,6 +1,6 @@
 //! Who hears the operations of a run while it is made: for each failure's place, for an explanation, or nobody.
 ghost use Rattle.std.specs.Prelude.{ℕ, ◌≡◌, ⊤, Bool, false, None, OnOk};
-ghost use Rattle.loom.specs.Explain.Bare.{bare_op, bare_reply};
+ghost use Rattle.loom_objects.specs.Operation.Bare.{bare_op, bare_reply};
 ghost use Rattle.loom_objects.specs.Operation.Labelled.{Op};
 ghost use Rattle.loom_objects.specs.declared.operation.Reply.{Reply};
 

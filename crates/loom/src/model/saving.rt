@@ -1,9 +1,9 @@
 //! A check saves its path, before a run and where it stops.
-ghost use Rattle.std.specs.Prelude.{◌≡◌, ◌<◌, ◌+◌, ◌-◌, ◌^◌, IfOk, string_bytes};
+ghost use Rattle.std.specs.Prelude.{◌≡◌, ◌<◌, ◌+◌, ◌-◌, ◌^◌, IfOk, OnErr, string_bytes};
 ghost use Rattle.loom.specs.Model.Rounds.{ComesTo};
 ghost use Rattle.loom_engine.specs.Path.Route.{IsAtStart, stored};
-ghost use Rattle.loom.specs.Model.Saving.{IsKept, IsSavedAs, IsStoppedWith};
-ghost use Rattle.loom.specs.Model.Stores.{Counts};
+ghost use Rattle.loom.specs.Model.Saving.{IsKept, IsLeft, IsSavedAs, IsStoppedWith};
+ghost use Rattle.loom.specs.Model.Stores.{Counts, Keeps};
 ghost use Rattle.loom_engine.specs.Trees.Resuming.{AreAtRest, HasDefaults};
 
 use crate::checkpoint::store::{CheckpointStore, StoreError};
@@ -46,7 +46,7 @@ impl Pace {
 }
 
 /// Saves the path where it is time for that, and then makes one run along it, which the receiver is given, and the step to the
-/// next one. So what is saved is never the path of a run that failed.
+/// next one. So what is saved is never the path of a run that failed. After an error the store holds what it held, or that.
 pub fn save_and_run<D: Drop, Choices, M, R, S, L>(
     alloc: Global,
     runs: &M,
@@ -69,6 +69,7 @@ where
     requires fits { pace.old.runs < 2 ^ 64 - 1 }
     requires interval { 0 < pace.old.interval }
     ensures kept { IfOk result (λ _. IsKept pace.old.interval pace.old.until_save path.old (S.holds store.old) (S.holds store.new) pace.new.until_save) }
+    ensures left { OnErr result (IsLeft path.old (S.holds store.old) (S.holds store.new)) }
     ensures interval { pace.new.interval ≡ pace.old.interval }
     ensures runs { pace.new.runs ≡ pace.old.runs }
     ensures comes { IfOk result (λ round. ComesTo (M.comes runs.now) R.receives path.old receiver.old round path.new receiver.new) }
@@ -94,6 +95,7 @@ fn keep<S: CheckpointStore, L: Log>(
     requires rests { AreAtRest (stored path.now.nodes) }
     requires defaults { HasDefaults (stored path.now.nodes) }
     ensures kept { IfOk result (λ left. IsKept pace.now.interval pace.now.until_save path.now (S.holds store.old) (S.holds store.new) left) }
+    ensures left { OnErr result (Keeps (S.holds store.old) (S.holds store.new)) }
     ensures faults { Counts result (S.fault_count store.old) (S.fault_count store.new) }
 {
     if pace.until_save > 0 {
@@ -115,6 +117,7 @@ pub fn stop<S: CheckpointStore>(
     requires rests { AreAtRest (stored path.now.nodes) }
     requires defaults { HasDefaults (stored path.now.nodes) }
     ensures stopped { IfOk result (IsStoppedWith path.now (S.holds store.new) runs limit) }
+    ensures left { OnErr result (Keeps (S.holds store.old) (S.holds store.new)) }
     ensures faults { Counts result (S.fault_count store.old) (S.fault_count store.new) }
 {
     Ok(Report::Stopped {
@@ -133,6 +136,7 @@ pub fn save<S: CheckpointStore>(
     requires rests { AreAtRest (stored path.now.nodes) }
     requires defaults { HasDefaults (stored path.now.nodes) }
     ensures saved { IfOk result (λ text. IsSavedAs path.now (S.holds store.new) (string_bytes text)) }
+    ensures left { OnErr result (Keeps (S.holds store.old) (S.holds store.new)) }
     ensures faults { Counts result (S.fault_count store.old) (S.fault_count store.new) }
 {
     path.well_formed_rests();

@@ -1,11 +1,11 @@
 //! The loop of a check: one round after another, until no run is left, one fails or a limit is reached.
-ghost use Rattle.std.specs.Prelude.{◌≡◌, ◌≤◌, ◌<◌, ◌^◌, ◌-◌, None, Err, IfOk, IfErr, IfSome};
+ghost use Rattle.std.specs.Prelude.{◌≡◌, ◌≤◌, ◌<◌, ◌^◌, ◌-◌, None, Err, IfOk, IfErr, OnErr, IfSome};
 ghost use Rattle.loom_engine.specs.Path.Route.{IsAtStart, IsSameSearch};
 ghost use Rattle.loom.specs.Model.Run.{IsLocated, RunsAlong};
 ghost use Rattle.loom_engine.specs.Runs.Body.{runs as runs_of};
 ghost use Rattle.loom.specs.Model.Check.{Reports};
 ghost use Rattle.loom.specs.Model.Loop.{Comes, HasReached};
-ghost use Rattle.loom.specs.Model.Refusals.{CountsFaults, IsNoReport};
+ghost use Rattle.loom.specs.Model.Refusals.{CountsFaults, IsNoReport, StillHolds};
 ghost use Rattle.loom.specs.Model.Settings.{explores, tested};
 ghost use Rattle.loom.specs.declared.model.report.Report.TheVariants.{Complete};
 
@@ -50,6 +50,7 @@ impl Builder {
         ensures reports { IfOk result (Reports R.receives receiver.old receiver.new self.now (runs_of B.next (explores self.now) self.now.max_threads self.now.max_steps body.now) (S.gives store.old) (S.holds store.new) (C.answered clock.new)) }
         ensures refused { IfErr (tested self.now) (λ e. (result ≡ Err e) × (receiver.new ≡ receiver.old)) }
         ensures errors { IfErr result (IsNoReport self.now (S.gives store.old) (receiver.new ≡ receiver.old)) }
+        ensures left { OnErr result (StillHolds self.now (runs_of B.next (explores self.now) self.now.max_threads self.now.max_steps body.now) (S.gives store.old) (S.holds store.old) (S.holds store.new)) }
         ensures faults { CountsFaults result (S.fault_count store.old) (S.fault_count store.new) }
     {
         self.test()?;
@@ -157,6 +158,7 @@ impl<'a, B: Body, L: Log> BodyRuns<'a, B, L> {
         requires interval { 0 < self.now.builder.now.checkpoint_interval }
         ensures reports { IfOk result (Reports R.receives receiver.old receiver.new self.now.builder.now (runs_of B.next (explores self.now.builder.now) self.now.builder.now.max_threads self.now.builder.now.max_steps self.now.body.now) (S.gives store.old) (S.holds store.new) (C.answered clock.new)) }
         ensures errors { IfErr result (IsNoReport self.now.builder.now (S.gives store.old) (receiver.new ≡ receiver.old)) }
+        ensures left { OnErr result (StillHolds self.now.builder.now (runs_of B.next (explores self.now.builder.now) self.now.builder.now.max_threads self.now.builder.now.max_steps self.now.body.now) (S.gives store.old) (S.holds store.old) (S.holds store.new)) }
         ensures faults { CountsFaults result (S.fault_count store.old) (S.fault_count store.new) }
     {
         let mut path = self.builder.begin(alloc, store)?;

@@ -4,6 +4,7 @@ ghost use Rattle.std.specs.Fn.{CalledAtMut};
 ghost use Rattle.loom.specs.Model.Settings.{tested};
 ghost use Rattle.loom.specs.declared.runner.error.RunnerError.TheVariants.{Settings};
 ghost use Rattle.loom.specs.Runner.Check.{Reports, fresh_path};
+ghost use Rattle.loom.specs.Runner.Refusals.{BreaksOff, IsNoReport};
 
 use crate::model::Limit;
 use crate::model::builder::Builder;
@@ -28,8 +29,9 @@ use std::thread::Threads;
 /// closure is main: it is called once for each run, and spawns the run's other threads by its handle.
 ///
 /// A setting out of range is refused before any run, as `Settings`. Besides, an error comes only where a growth or a thread was
-/// refused, as `Memory` and `Refused`, or where the threads' told lists aren't those of the run's history, as `NotSettled`. A closure
-/// whose runs differ under the same choices may fail as `NotDeterministic`. Saves nothing, and asks no clock.
+/// refused, as `Memory` and `Refused`, or where a run's end isn't settled, as `NotSettled`: mostly where the threads' told lists
+/// aren't those of its history. Then the visitor was given just the runs that had ended before. A closure whose runs differ under
+/// the same choices may fail as `NotDeterministic`. Saves nothing, and asks no clock.
 pub fn check<
     D: Exact + 'static,
     R: Threads + Wait + Clone + Send + 'static,
@@ -45,6 +47,7 @@ pub fn check<
     requires { F.IsAlwaysCallable closure }
     ensures reports { IfOk result (Reports (CalledAtMut F.FnMut) V.takes builder.now closure visitor.old visitor.new) }
     ensures refused { IfErr (tested builder.now) (λ e. (result ≡ Err (Settings e)) × (visitor.new ≡ visitor.old)) }
+    ensures errors { IfErr result (IsNoReport (CalledAtMut F.FnMut) V.takes builder.now closure visitor.old visitor.new) }
 {
     builder.test()?;
     let mut path = fresh_path(alloc, builder);
@@ -70,7 +73,8 @@ fn make_runs<
     requires few { builder.now.max_threads ≤ 5 }
     requires fresh { path.old ≡ fresh_path builder.now }
     requires callable { F.IsAlwaysCallable closure.old }
-    ensures { IfOk result (Reports (CalledAtMut F.FnMut) V.takes builder.now closure.old visitor.old visitor.new) }
+    ensures reports { IfOk result (Reports (CalledAtMut F.FnMut) V.takes builder.now closure.old visitor.old visitor.new) }
+    ensures errors { IfErr result (BreaksOff (CalledAtMut F.FnMut) V.takes builder.now closure.old visitor.old visitor.new) }
 {
     let limits = Limits {
         max_threads: builder.max_threads,

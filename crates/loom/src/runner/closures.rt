@@ -1,6 +1,8 @@
-//! Calls of closures. What a closure is given is a type parameter here, since the borrow checker doesn't cover a call of a closure
-//! that is given a type with references in it.
+//! Calls of closures, and what stands behind a loop of them that has no end. What a closure is given is a type parameter here, since
+//! the borrow checker doesn't cover a call of a closure that is given a type with references in it.
 ghost use Rattle.std.specs.Fn.{CalledAtMut};
+
+use std::sync::Wait;
 
 /// Calls main's closure (own).
 pub fn ask_closure<H, T, F: FnMut(&mut H) -> T>(closure: &mut F, handle: &mut H) -> T
@@ -9,6 +11,12 @@ pub fn ask_closure<H, T, F: FnMut(&mut H) -> T>(closure: &mut F, handle: &mut H)
     ensures again { F.IsAlwaysCallable closure.new }
 {
     closure(handle)
+}
+
+/// Waits, and never comes back. It stands behind more rounds than a run can make.
+pub(crate) fn wait_for_ever<R: Wait>(rt: &R) -> ! {
+    for _ in rt.forever() {}
+    unreachable!()
 }
 
 /// Calls a spawned thread's closure.

@@ -1,8 +1,9 @@
 //! The check of a closure by the default settings, and the visitor that looks at no run.
-ghost use Rattle.std.specs.Prelude.{◌≡◌, IfOk};
+ghost use Rattle.std.specs.Prelude.{◌≡◌, IfOk, IfErr};
 ghost use Rattle.std.specs.Fn.{CalledAtMut};
 ghost use Rattle.loom.specs.Model.Settings.{defaults};
 ghost use Rattle.loom.specs.Runner.Check.{Reports};
+ghost use Rattle.loom.specs.Runner.Refusals.{BreaksOff};
 
 use crate::model::builder::Builder;
 use crate::model::report::Report;
@@ -29,7 +30,8 @@ impl<D: Drop> Visitor<D> for NoVisitor {
     }
 }
 
-/// A check of the closure by the defaults, whose runs no visitor is given (loom's `model`).
+/// A check of the closure by the defaults, whose runs no visitor is given (loom's `model`). Its errors are those of `check`, but for
+/// `Settings`.
 pub fn model<
     D: Exact + 'static,
     R: Threads + Wait + Clone + Send + 'static,
@@ -37,6 +39,7 @@ pub fn model<
 >(rt: &R, alloc: Global, closure: F) -> Result<Report, RunnerError>
     requires { F.IsAlwaysCallable closure }
     ensures reports { IfOk result (λ report. (v v' : NoVisitor) × Reports (CalledAtMut F.FnMut) (λ old choices value new. Unit {0}) defaults closure v v' report) }
+    ensures errors { IfErr result (λ e. (v v' : NoVisitor) × BreaksOff (CalledAtMut F.FnMut) (λ old choices value new. Unit {0}) defaults closure v v' e) }
 {
     check(rt, alloc, &Builder::new(), closure, &mut NoVisitor)
 }

@@ -1,6 +1,7 @@
 //! The handle by which a thread of a run hands over its operations and waits for their replies.
-ghost use Rattle.std.specs.Prelude.{◌≡◌, ◌++◌, ◌∷◌, [], IfOk, IfErr, OnOk, MatchOption, Some, Ok, Err, true, false, slice_get};
+ghost use Rattle.std.specs.Prelude.{◌≡◌, ◌++◌, ◌∷◌, [], IfOk, IfErr, IfSome, OnOk, MatchOption, Some, Ok, Err, true, false, slice_get};
 ghost use Rattle.loom_objects.specs.declared.operation.Reply.TheVariants as reply;
+ghost use Rattle.loom.specs.Runner.Errors.{IsRefusedByHost};
 ghost use Rattle.loom.specs.Runner.Histories.{entry};
 ghost use Rattle.loom.specs.Runner.Handle.{newcomer, with_open, failing, finishing, handed, is_reserved, spawning, ByStop, Closes, all_answered, is_memory, Leading};
 
@@ -187,6 +188,7 @@ impl<D: Exact + 'static, R: Threads + Wait + Clone + Send + 'static> Handle<D, R
         ensures told { IfOk result (λ all. Leading self.thread all.items (Closes self.told answer)) }
         ensures starved { self.starved ≡ true → result ≡ Err RunnerError.Memory }
         ensures memory { answer ≡ Err Stop.Memory → result ≡ Err RunnerError.Memory }
+        ensures errors { IfErr result IsRefusedByHost }
     {
         if is_starved(self.stop, &answer) {
             let_answer_go(answer);
@@ -223,6 +225,7 @@ impl<D: Exact + 'static, R: Threads + Wait + Clone + Send + 'static> Handle<D, R
         ensures told { IfOk result (λ all. Leading self.thread all.items (λ es. es ≡ self.told)) }
         ensures fed { OnOk result (self.starved ≡ false) }
         ensures starved { self.starved ≡ true → result ≡ Err RunnerError.Memory }
+        ensures errors { IfErr result IsRefusedByHost }
     {
         let Handle {
             rt,
@@ -274,7 +277,8 @@ fn let_lists_go<D: Drop>(_first: Told<D>, _others: Result<Vec<Told<D>>, RunnerEr
 
 /// The error of a thread that stopped so, unless its run went on or failed.
 fn refusal(stop: Option<Stop>) -> Option<RunnerError>
-    ensures { MatchOption result (is_memory stop ≡ false) (λ error. is_memory stop ≡ true → error ≡ RunnerError.Memory) }
+    ensures memory { MatchOption result (is_memory stop ≡ false) (λ error. is_memory stop ≡ true → error ≡ RunnerError.Memory) }
+    ensures host { IfSome result IsRefusedByHost }
 {
     match stop {
         Some(Stop::Memory) => Some(RunnerError::Memory),
@@ -289,7 +293,8 @@ fn gather<D: Drop>(
     first: Told<D>,
     others: Result<Vec<Told<D>>, RunnerError>,
 ) -> Result<Vec<Told<D>>, RunnerError>
-    ensures { IfOk result (λ all. slice_get all.items 0 ≡ Some first) }
+    ensures first { IfOk result (λ all. slice_get all.items 0 ≡ Some first) }
+    ensures errors { IfErr others IsRefusedByHost → IfErr result IsRefusedByHost }
 {
     let mut all = Vec::new(alloc);
     if all.push(first).is_err() {

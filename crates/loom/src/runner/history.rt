@@ -7,17 +7,16 @@ pub mod shares;
 pub mod submit;
 pub mod told;
 
-ghost use Rattle.std.specs.Prelude.{◌≡◌, ◌+◌, ◌<◌, ◌==◌, ◌-◌, ◌^◌, ℕ, [], if◌then◌else◌, IfOk, IfNone, OnOk, OnSome, length, vec_len, vec_capacity, slice_index};
-ghost use Rattle.loom.specs.Runner.Events.{IsAdded, IsCounted, made, made_by};
+ghost use Rattle.std.specs.Prelude.{◌≡◌, ◌+◌, ◌<◌, ◌==◌, ◌-◌, ◌^◌, ℕ, [], if◌then◌else◌, IfOk, IfErr, IfNone, IfSome, OnOk, OnSome, length, vec_len, vec_capacity, slice_index};
+ghost use Rattle.loom.specs.Runner.Events.{IsAdded, IsCounted, IsNotAdded, made, made_by};
 
-use crate::runner::copies::requests::copy_request;
 use crate::runner::exact::Exact;
 use crate::runner::history::adding::take_turn;
 use crate::runner::history::event::Event;
 use crate::runner::history::submit::Submit;
 use crate::runner::stop::Stop;
 use loom_objects::failure::Failure;
-use loom_objects::operation::{Reply, Request, Turn};
+use loom_objects::operation::{Reply, Request, Turn, copy_request};
 use loom_views::rt::failure::FailureKind;
 use std::alloc::{AllocError, Global};
 use std::marker::Model;
@@ -78,11 +77,12 @@ impl<D> History<D> {
 
 impl<D: Exact> History<D> {
     /// Hands an operation of the thread whose turn it is over to the machine: one event more, or it is said why there is none
-    /// (own).
+    /// (own). `Memory` where a growth was refused, the failure `MISUSE` where that thread isn't there.
     pub fn add<M: Submit<D>>(&mut self, machine: &mut M, op: Request<D, ()>) -> Option<Stop>
         requires { M.goes_on machine.old }
         ensures added { IfNone result (IsAdded M.turn M.happens machine.old op machine.new self.old self.new) }
         ensures stopped { OnSome result (self.new ≡ self.old) }
+        ensures why { IfSome result (IsNotAdded (M.turn machine.old) (1 + made self.old)) }
     {
         let by = machine.active();
         let kept = match prepare(by, &mut self.events, &mut self.counts, &op) {
@@ -125,6 +125,7 @@ fn prepare<D: Exact>(
     ensures event { OnOk result (vec_len history.new < vec_capacity history.new) }
     ensures count { OnOk result (vec_len counts.new < vec_capacity counts.new) }
     ensures copy { IfOk result (λ kept. kept ≡ op.now) }
+    ensures why { IfErr result (IsNotAdded by (length counts.old.items)) }
 {
     if by as usize >= counts.len() {
         return Err(Stop::Failure(MISUSE));

@@ -4,6 +4,7 @@ ghost use Rattle.std.specs.Fn.{CalledAtMut};
 ghost use Rattle.loom.specs.Model.Settings.{tested};
 ghost use Rattle.loom.specs.declared.runner.error.RunnerError.TheVariants.{Settings};
 ghost use Rattle.loom_engine.specs.Path.Route.{IsAtStart};
+ghost use Rattle.loom.specs.Runner.Refusals.{IsNoReplay, IsNoReplayAlong};
 ghost use Rattle.loom.specs.Runner.Replay.{HasKept, Replays, ReplaysAlong};
 
 use crate::model::Replay;
@@ -57,6 +58,7 @@ pub fn replay<
     requires { F.IsAlwaysCallable closure }
     ensures replays { IfOk result (Replays (CalledAtMut F.FnMut) builder.now choices.now closure) }
     ensures refused { IfErr (tested builder.now) (λ e. result ≡ Err (Settings e)) }
+    ensures errors { IfErr result (IsNoReplay (CalledAtMut F.FnMut) builder.now choices.now closure) }
 {
     builder.test()?;
     let limits = Limits {
@@ -89,7 +91,8 @@ fn make_replay<
     requires few { limits.max_threads ≤ 5 }
     requires starts { IsAtStart path.now.explores path.now }
     requires callable { F.IsAlwaysCallable closure.old }
-    ensures { IfOk result (ReplaysAlong (CalledAtMut F.FnMut) limits path.now closure.old) }
+    ensures replays { IfOk result (ReplaysAlong (CalledAtMut F.FnMut) limits path.now closure.old) }
+    ensures errors { IfErr result (IsNoReplayAlong (CalledAtMut F.FnMut) limits path.now closure.old) }
 {
     match make_run(rt, alloc, limits, path, closure, keeper)? {
         RunEnd::Failed(failure, choices) => Ok(Replay::Failed { failure, choices }),

@@ -1,7 +1,9 @@
 //! One run of a closure: it is called as main, its handle is closed, and the run is settled by its history.
-ghost use Rattle.std.specs.Prelude.{◌≡◌, ◌≤◌, ◌<◌, IfOk, length, slice_get};
+ghost use Rattle.std.specs.Prelude.{◌≡◌, ◌≤◌, ◌<◌, IfOk, IfErr, length, slice_get};
 ghost use Rattle.std.specs.Fn.{CalledAtMut};
 ghost use Rattle.loom_engine.specs.Path.Route.{IsAtStart};
+ghost use Rattle.loom.specs.Runner.Errors.{IsRefusedByHost};
+ghost use Rattle.loom.specs.Runner.Refusals.{IsNoRun, IsNotJudged};
 ghost use Rattle.loom.specs.Runner.Run.{Judged, WasCalled, WasMade};
 
 use crate::model::visitor::Visitor;
@@ -21,7 +23,8 @@ use std::sync::{Arc, Wait};
 use std::thread::Threads;
 
 /// Makes a run of the closure that begins with the path, and gives it to the visitor if it ends without a failure (own). `Memory` and
-/// `Refused` where a growth or a thread was refused, `NotSettled` where the threads' told lists aren't those of the run's history.
+/// `Refused` where a growth or a thread was refused, `NotSettled` where the run's end isn't settled: mostly where the threads' told
+/// lists aren't those of its history.
 pub fn make_run<
     D: Exact + 'static,
     R: Threads + Wait + Clone + Send + 'static,
@@ -41,6 +44,7 @@ pub fn make_run<
     requires callable { F.IsAlwaysCallable closure.old }
     ensures again { F.IsAlwaysCallable closure.new }
     ensures made { IfOk result (λ end. WasMade (CalledAtMut F.FnMut) V.takes limits closure.old visitor.old path.now end closure.new visitor.new) }
+    ensures errors { IfErr result (λ e. IsNoRun (CalledAtMut F.FnMut) V.takes limits closure.old visitor.old path.now e visitor.new) }
 {
     let shared = share(alloc, limits, path)?;
     let told = call_closure(rt, alloc, &shared, closure)?;
@@ -62,6 +66,7 @@ fn call_closure<
     requires callable { F.IsAlwaysCallable closure.old }
     ensures again { F.IsAlwaysCallable closure.new }
     ensures called { IfOk result (λ told. WasCalled (CalledAtMut F.FnMut) closure.old closure.new told.items) }
+    ensures errors { IfErr result IsRefusedByHost }
 {
     let mut handle = main_handle(rt, alloc, shared)?;
     let answer = ask_closure(closure, &mut handle);
@@ -103,7 +108,8 @@ fn judge<D: Exact, V: Visitor<D>>(
     told: &[Told<D>],
     visitor: &mut V,
 ) -> Result<RunEnd, RunnerError>
-    ensures { IfOk result (λ end. Judged V.takes limits visitor.old path.now turns.now told.now end visitor.new) }
+    ensures judged { IfOk result (λ end. Judged V.takes limits visitor.old path.now turns.now told.now end visitor.new) }
+    ensures errors { IfErr result (λ e. IsNotJudged limits visitor.old path.now turns.now told.now e visitor.new) }
 {
     if let Some(stop) = turns.spoiled() {
         return Err(error_by(stop));

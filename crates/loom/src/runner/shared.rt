@@ -1,8 +1,9 @@
 //! What the threads of a run share: its state under a lock, and the condition variable by which they wake each other. By it they
 //! hand over their operations, wait for their turns, and start and join each other.
-ghost use Rattle.std.specs.Prelude.{◌≡◌, ◌≤◌, IfOk};
+ghost use Rattle.std.specs.Prelude.{◌≡◌, ◌≤◌, IfOk, IfErr};
 ghost use Rattle.loom_engine.specs.Path.Route.{IsAtStart};
 ghost use Rattle.loom.specs.Runner.Handle.{newcomer};
+ghost use Rattle.loom.specs.Runner.Errors.{IsRefusedByHost};
 
 use crate::runner::error::RunnerError;
 use crate::runner::exact::Exact;
@@ -28,6 +29,7 @@ pub fn share<D: Exact + 'static>(
     requires some { 1 ≤ limits.max_threads }
     requires few { limits.max_threads ≤ 5 }
     requires starts { IsAtStart path.now.explores path.now }
+    ensures { IfErr result (λ e. e ≡ RunnerError.Memory) }
 {
     let Ok(turns) = Turns::new(alloc, path, limits) else {
         return Err(RunnerError::Memory);
@@ -48,7 +50,8 @@ pub fn main_handle<D: Exact + 'static, R: Threads + Wait + Clone + Send + 'stati
     alloc: Global,
     shared: &Arc<Shared<D>, Global>,
 ) -> Result<Handle<D, R>, RunnerError>
-    ensures { IfOk result (λ handle. handle ≡ newcomer 0) }
+    ensures made { IfOk result (λ handle. handle ≡ newcomer 0) }
+    ensures memory { IfErr result (λ e. e ≡ RunnerError.Memory) }
 {
     let Ok(mine) = Arc::try_clone(shared) else {
         return Err(RunnerError::Memory);
@@ -197,7 +200,9 @@ pub(crate) fn join_all<D: Exact + 'static, R: Threads>(
     rt: &R,
     alloc: Global,
     children: Children<D>,
-) -> Result<Vec<Told<D>>, RunnerError> {
+) -> Result<Vec<Told<D>>, RunnerError>
+    ensures { IfErr result IsRefusedByHost }
+{
     let mut all = Vec::new(alloc);
     let mut error = None;
     for child in children {
@@ -207,7 +212,11 @@ pub(crate) fn join_all<D: Exact + 'static, R: Threads>(
                     error = Some(RunnerError::Memory);
                 }
             }
-            Err(e) => error = Some(e),
+            Err(RunnerError::Memory) => error = Some(RunnerError::Memory),
+            // A thread that was started answers as its handle's `close`, so nothing but that a thread was refused.
+            Err(RunnerError::Refused)
+            | Err(RunnerError::NotSettled)
+            | Err(RunnerError::Settings(_)) => error = Some(RunnerError::Refused),
         }
     }
     match error {

@@ -1,7 +1,7 @@
 //! The state of a run that its threads share.
 ghost use Rattle.std.specs.Prelude.{◌≡◌, ◌↔◌, ◌≤◌, [], IfOk, IfSome, IsTrue, MatchOption, None, Some};
 ghost use Rattle.loom_engine.specs.Path.Route.{IsAtStart, chosen};
-ghost use Rattle.loom.specs.Runner.Histories.{Adds, IsHistory, Settles, last_event, end_in, ended_by, failed_by, or_else, why_stopped};
+ghost use Rattle.loom.specs.Runner.Histories.{active_at, Adds, Answers, IsDecided, IsHistory, IsNotAdded, Settles, Starts, last_event, end_in, ended_by, failed_by, or_else, why_stopped};
 
 pub mod laws;
 mod moment;
@@ -72,13 +72,14 @@ impl<D: Exact> Turns<D> {
     }
 
     /// Hands over an operation of the thread whose turn it is: one event more. Once the run is over, or spoiled, it changes
-    /// nothing. Where memory is refused the run is spoiled (own).
+    /// nothing. Where memory is refused, or that thread isn't there, the run is spoiled by that reason (own).
     pub fn submit(&mut self, op: Request<D, ()>)
         ensures began { self.new.began ≡ self.old.began }
         ensures limits { self.new.limits ≡ self.old.limits }
         ensures over { IfSome (end_in self.old.history) (λ failure. self.new ≡ self.old) }
         ensures spoiled { IfSome self.old.spoiled (λ stop. self.new ≡ self.old) }
         ensures adds { self.old.spoiled ≡ None → end_in self.old.history ≡ None → MatchOption self.new.spoiled (Adds self.old op self.new) (λ stop. self.new.history ≡ self.old.history) }
+        ensures why { self.old.spoiled ≡ None → end_in self.old.history ≡ None → IfSome self.new.spoiled (IsNotAdded (active_at self.old.now) self.old.threads) }
     {
         if self.spoiled.is_some() {
             op.let_go();
@@ -112,20 +113,27 @@ impl<D: Exact> Turns<D> {
     }
 
     /// Whether the thread has nothing to wait for: its turn has come, or the run goes no further (own).
-    pub fn is_decided(&self, thread: u8) -> bool {
+    pub fn is_decided(&self, thread: u8) -> bool
+        ensures { IsTrue result ↔ IsDecided self.now thread }
+    {
         self.stopped().is_some() || self.history.is_turn_of(thread)
     }
 
-    /// A copy of the reply to the thread in the last event (own).
-    pub fn reply(&self, thread: u8) -> Result<Reply<D>, Stop> {
+    /// A copy of the reply to the thread in the last event, or why the run goes no further. Where the event has none it is
+    /// `MISUSE`, and `Memory` where a growth is refused (own).
+    pub fn reply(&self, thread: u8) -> Result<Reply<D>, Stop>
+        ensures { Answers self.now thread result }
+    {
         match self.stopped() {
             Some(stop) => Err(stop),
             None => self.history.reply(self.alloc, thread),
         }
     }
 
-    /// Whether the thread may start: it does by the last event (own).
-    pub fn starts(&self, thread: u8) -> bool {
+    /// Whether the thread may start: it does by the last event, and the run goes on (own).
+    pub fn starts(&self, thread: u8) -> bool
+        ensures { IsTrue result ↔ Starts self.now thread }
+    {
         self.stopped().is_none() && self.history.starts(thread)
     }
 

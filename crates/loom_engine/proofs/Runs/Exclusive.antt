@@ -168,8 +168,8 @@ module _ {D : Type 0} where
 
   reached_kept : (max_threads max_steps : ℕ) (c : Course D) → IsReached max_threads max_steps c → Ready Soundness c.world
   reached_kept max_threads max_steps c (at_first explores) = opening_ready Soundness explores max_threads max_steps (λ n e. cc e)
-  reached_kept max_threads max_steps c (later old todo turn v reached comes) =
-      sound_ready (turn, v) (kept_value (submit todo old) (turn, v) (submit_kept Soundness todo old (λ n e f. cc e) (reached_kept max_threads max_steps old reached)) comes)
+  reached_kept max_threads max_steps c (later old event v reached comes) =
+      sound_ready (event.turn, v) (kept_value (submit event.op old) event.choices (event.turn, v) (submit_kept Soundness event.op old (λ n e f. cc e) (reached_kept max_threads max_steps old reached)) comes)
 
 pub locks_law : {D : Type 0} → LocksLaw D
 locks_law max_threads max_steps c reached = all_exclusive c.world.objects (reached_kept max_threads max_steps c reached).kept.sound

@@ -1,4 +1,4 @@
--- The data of a mutex that is out is given to no thread before it is given back.
+-- The data of a lock that is out is given to no thread before it is given back.
 use Rattle.std.proofs.Common.{◌≡◌, ℕ, Bool, true, false, List, [], ◌∷◌, ◌++◌, Option, Some, None, refl}
 use Rattle.std.proofs.lemmas.Bool.{eq-eqb}
 use Rattle.std.specs.Prelude.{◌||◌, ◌==◌}
@@ -8,7 +8,7 @@ use Rattle.loom_objects.specs.declared.operation.Turn.TheVariants as turn
 use Rattle.loom_objects.specs.Rules.Moves.{is_number}
 use Rattle.loom_objects.specs.Schedule.Defaults.{or_else}
 use Rattle.loom_engine.specs.Runs.Course.{Course, opening}
-use Rattle.loom_engine.specs.Runs.Histories.{ComesTo, Event, IsHistory, MayFollow, OneHolderLaw, given_out, gives_back, locked_by, locked_by_turn, opened_by, returned_by}
+use Rattle.loom_engine.specs.Runs.Histories.{Event, Happens, IsHistory, MayFollow, OneHolderLaw, given_out, gives_back, locked_by, locked_by_turn, opened_by, returned_by}
 use Rattle.loom_engine.specs.Runs.Machine.{submit}
 use Rattle.loom_engine.proofs.Runs.Exclusive.{opening_ready, submit_kept, submit_opens}
 use Rattle.loom_engine.proofs.Runs.Keeping.{kept_value}
@@ -19,18 +19,18 @@ isnt_number None n h e = cc e
 isnt_number (Some m) n h e = let same : m ≡ n = cc e in let own : (n == n) ≡ true = eq-eqb n n refl in cc (h, same, own)
 
 module _ {D : Type 0} where
-  -- what an event comes to that doesn't give back the mutex that is out
+  -- what an event comes to that doesn't give back the lock that is out
   abbrev pub Comes : Aim → Event D → Course D → Type 0
   Comes out event v = TurnTo out (event.turn, v.world) × ((n : ℕ) → opened_by event.op ≡ Some n → Taken out n v.world)
 
   comes_so : (out : Aim) (event : Event D) (c v : Course D) → ((m : ℕ) → out ≡ Out m → returned_by event.op ≡ Some m → ⊥) → Ready out c.world
-      → ComesTo (submit event.op c) (event.turn, v) → Comes out event v
+      → Happens c event v → Comes out event v
   comes_so out event c v other k comes = (
-    kept_value (submit event.op c) (event.turn, v) (submit_kept out event.op c other k) comes,
-    λ n e. kept_value (submit event.op c) (event.turn, v) (submit_opens out event.op n c e k) comes,
+    kept_value (submit event.op c) event.choices (event.turn, v) (submit_kept out event.op c other k) comes,
+    λ n e. kept_value (submit event.op c) event.choices (event.turn, v) (submit_opens out event.op n c e k) comes,
   )
 
-  -- a mutex whose data is given out is out
+  -- a lock whose data is given out is out
   taken_by : (out : Aim) (given : Turn D) (opened : Option ℕ) (v : Course D) (n : ℕ) → TurnTo out (given, v.world) → ((m : ℕ) → opened ≡ Some m → Taken out m v.world)
       → or_else (locked_by_turn given) opened ≡ Some n → Taken out n v.world
   taken_by out (turn.Reply t reply) opened v n k o e = by_reply (locked_by reply) k.1 e
@@ -57,7 +57,7 @@ module _ {D : Type 0} where
   not_back : (n : ℕ) (event : Event D) → gives_back n event ≡ false → (m : ℕ) → Out n ≡ Out m → returned_by event.op ≡ Some m → ⊥
   not_back n event h m e f = let same : n ≡ m = cc e in isnt_number (returned_by event.op) n h (cc (f, same))
 
-  -- from where the data of a mutex is out, up to where it is given out, it is given back
+  -- from where the data of a lock is out, up to where it is given out, it is given back
   out_until : (n : ℕ) (between after : List (Event D)) (second : Event D) (c : Course D) → Ready (Out n) c.world → IsHistory c (between ++ second ∷ after) → given_out second ≡ Some n
       → list_any (gives_back n) (between ++ second ∷ []) ≡ true
   out_until n [] after second c k history e = by_back (gives_back n second) refl

@@ -11,7 +11,7 @@ use Rattle.loom_objects.specs.declared.operation.Turn.{Turn}
 use Rattle.loom_objects.specs.declared.operation.Turn.TheVariants as turn
 use Rattle.loom_objects.specs.World.{World}
 use Rattle.loom_engine.specs.Runs.Course.{Course, opening}
-use Rattle.loom_engine.specs.Runs.Histories.{ComesTo, Event, IsHistory, MayFollow}
+use Rattle.loom_engine.specs.Runs.Histories.{Event, Happens, IsHistory, MayFollow}
 use Rattle.loom_engine.specs.Runs.Machine.{submit}
 use Rattle.loom_engine.specs.Runs.Received.{InOrderLaw, IsLog, drops, drops_receiver, handed_by, nobody, nothing, of_channel, passes as goes_by, receives as takes_in, sends as puts_in, whose}
 use Rattle.loom_engine.proofs.Runs.Keeping.{kept_value}
@@ -58,9 +58,9 @@ module _ {D : Type 0} (n : ℕ) where
 
   -- what an event comes to
   stepped : (q : List D) (handed : ℕ → Option (ChannelOp D)) (a : ℕ) (c v : Course D) (event : Event D) → Bound n q handed a c.world
-      → ((t : ℕ) → handed_by a event.op handed t ≡ Some (channel_op.DropReceiver n) → ⊥) → ComesTo (submit event.op c) (event.turn, v) → IsAfter n q (handed_by a event.op handed) event.turn v.world
+      → ((t : ℕ) → handed_by a event.op handed t ≡ Some (channel_op.DropReceiver n) → ⊥) → Happens c event v → IsAfter n q (handed_by a event.op handed) event.turn v.world
   stepped q handed a c v event k never comes =
-      kept_value (submit event.op c) (event.turn, v)
+      kept_value (submit event.op c) event.choices (event.turn, v)
       (event_after n q (handed_by a event.op handed) never event.op a c (cond_here a a (of_channel event.op) (handed a) refl) (rebound q handed a event.op c.world k)) comes
 
   -- the values that were received are the first of those that were there and were sent

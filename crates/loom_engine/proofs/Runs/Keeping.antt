@@ -11,7 +11,7 @@ use Rattle.loom_objects.specs.declared.rt.rwlock.RwLock.{RwLock}
 use Rattle.loom_objects.specs.Tree.Question.{Question}
 use Rattle.loom_objects.specs.Rules.RwLock.{is_unread}
 use Rattle.loom_objects.specs.Tree.Tree.{Tree, Gives, Fails, Closes, Asks, ◌>>=◌, check, found}
-use Rattle.loom_engine.specs.Runs.Histories.{ComesTo, is_exclusive}
+use Rattle.loom_engine.specs.Runs.Histories.{ComesBy, is_exclusive}
 
 -- ---- trees
 
@@ -24,11 +24,13 @@ pub data Keeps {A : Type 0} (P : A → Type 0) : Tree A → Type 0 where
 
 module _ {A : Type 0} {P : A → Type 0} where
   -- so it holds of each value that the tree comes to by some choices
-  pub kept_value : (tree : Tree A) (a : A) → Keeps P tree → ComesTo tree a → P a
-  kept_value tree a (gives value h) comes = subst P comes h
-  kept_value tree a (fails kind) comes = absurd comes
-  kept_value tree a (closes rest h) comes = kept_value rest a h comes
-  kept_value tree a (asks question branches h) comes = kept_value (branches comes.0) a (h comes.0) comes.1
+  pub kept_value : (tree : Tree A) (choices : List Choice) (a : A) → Keeps P tree → ComesBy tree choices a → P a
+  kept_value tree [] a (gives value h) comes = subst P comes h
+  kept_value tree (choice ∷ choices) a (gives value h) comes = absurd comes
+  kept_value tree choices a (fails kind) comes = absurd comes
+  kept_value tree choices a (closes rest h) comes = kept_value rest choices a h comes
+  kept_value tree [] a (asks question branches h) comes = absurd comes
+  kept_value tree (choice ∷ choices) a (asks question branches h) comes = kept_value (branches choice) choices a (h choice) comes
 
 module _ {A B : Type 0} {P : B → Type 0} where
   pub then_keeps : {Q : A → Type 0} (tree : Tree A) (next : A → Tree B) → Keeps Q tree → ((a : A) → Q a → Keeps P (next a)) → Keeps P (tree >>= next)

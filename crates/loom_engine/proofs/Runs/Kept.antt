@@ -29,6 +29,20 @@ module _ {D : Type 0} where
   doing (task.Drain n taken) = Some (Drains n)
   doing _ = None
 
+  -- who has this pending is about to do something to a channel, or to access an atomic
+  abbrev pub is_calling : Task D → Bool
+  is_calling (task.Send n sent) = true
+  is_calling (task.Receive receiving n) = true
+  is_calling (task.Drain n taken) = true
+  is_calling (task.Access access) = true
+  is_calling _ = false
+
+  pub not_calling : (todo : Task D) → is_calling todo ≡ false → doing todo ≡ None
+  not_calling (task.Send n sent) e = absurd (cc e)
+  not_calling (task.Receive receiving n) e = absurd (cc e)
+  not_calling (task.Drain n taken) e = absurd (cc e)
+  not_calling _ e = refl
+
   -- it is no channel
   abbrev pub IsAway : Object D → Type 0
   IsAway (object.Channel channel) = ⊥
@@ -38,17 +52,17 @@ module _ {D : Type 0} where
   AwayAt None = ⊥
   AwayAt (Some x) = IsAway x
 
-  -- a thread has become another one, which works no longer than it did, and is about to do the same to channels
+  -- a thread has become another one, which works no longer than it did, and is about to do the same
   pub record IsSame (before after : Thread D) : Type 0 where
     pub shut : is_working after.phase ≡ true → is_working before.phase ≡ true
     pub own : after.notifier ≡ before.notifier
-    pub same : doing after.task ≡ doing before.task
+    pub same : after.task ≡ before.task
 
-  -- the same of one that is about to do nothing to a channel
+  -- the same of one that is about to do nothing to a channel, nor to access an atomic
   pub record IsIdle (before after : Thread D) : Type 0 where
     pub shut : is_working after.phase ≡ true → is_working before.phase ≡ true
     pub own : after.notifier ≡ before.notifier
-    pub idle : doing after.task ≡ None
+    pub idle : is_calling after.task ≡ false
 
   abbrev pub HasNotifier : Thread D → Type 0
   HasNotifier thread = is_some thread.notifier ≡ true
@@ -77,7 +91,7 @@ module _ {D : Type 0} where
     pub changed : (change : Thread D → Thread D) (t : ℕ) (w : World D) → ((thread : Thread D) → IsSame thread (change thread)) → R w → R (record w { threads = with_thread change t w.threads })
     pub turned : (change : Thread D → Thread D) (w : World D) → ((thread : Thread D) → IsIdle thread (change thread)) → R w → R (changes_active change w)
     pub each : (change : Thread D → Thread D) (w : World D) → ((thread : Thread D) → IsSame thread (change thread)) → R w → R (record w { threads = map change w.threads })
-    pub child : (thread : Thread D) (w : World D) → HasNotifier thread → doing thread.task ≡ None → R w → R (record w { threads = w.threads ++ thread ∷ [] })
+    pub child : (thread : Thread D) (w : World D) → HasNotifier thread → is_calling thread.task ≡ false → R w → R (record w { threads = w.threads ++ thread ∷ [] })
 
   -- an object that is no channel stands there, whatever takes another's place
   pub set_away : (objects : List (Object D)) (m n : ℕ) (x : Object D) → IsAway x → AwayAt (slice_get objects n) → AwayAt (slice_get (slice_set objects m x) n)

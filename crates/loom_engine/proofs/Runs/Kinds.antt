@@ -1,6 +1,7 @@
 -- What each kind of operation keeps, a line for each.
 use Rattle.std.proofs.Common.{◌≡◌, ℕ, false, List, Some, None, refl}
 use Rattle.std.specs.Prelude.{⊤}
+use Rattle.loom_objects.specs.declared.operation.AtomicOp.{AtomicOp}
 use Rattle.loom_objects.specs.declared.operation.ChannelOp.{ChannelOp}
 use Rattle.loom_objects.specs.declared.operation.LazyOp.{LazyOp}
 use Rattle.loom_objects.specs.declared.operation.Message.{Message}
@@ -12,6 +13,7 @@ use Rattle.loom_objects.specs.declared.rt.thread.Task.TheVariants as task
 use Rattle.loom_objects.specs.Rules.Condvar.{falls_asleep}
 use Rattle.loom_objects.specs.Rules.Locals.{lazy_begins}
 use Rattle.loom_objects.specs.Rules.Mpsc.{channel_begins, drains, receives, sends}
+use Rattle.loom_objects.specs.Rules.Moves.{pends}
 use Rattle.loom_objects.specs.Rules.Replied.{gone}
 use Rattle.loom_objects.specs.Rules.Tables.{needs_memory, op_begins, takes_effect}
 use Rattle.loom_objects.specs.Rules.Thread.{finish}
@@ -29,9 +31,9 @@ use Rattle.loom_engine.proofs.Runs.Kept.{KeptByMoves}
 use Rattle.loom_engine.proofs.Runs.Moving.{Within, accesses_moves, arc_moves, atomic_moves, awaits_moves, cell_moves, child_finish_moves, claims_moves, clones_waker_moves, condvar_moves, counts_moves, drops_waker_moves, falls_asleep_moves, fence_moves, join_moves, local_moves, lock_moves, mutex_moves, notifier_moves, notifies_moves, passed_so, place_moves, registers_moves, relocks_moves, replied_so, rwlock_moves, takes_waker_moves, thread_moves, track_moves, tries_unwrap_moves, try_lock_moves, waker_moves, wakes_by_moves, wakes_early_moves, wakes_moves}
 use Rattle.loom_engine.proofs.Runs.Kinds.Mutexes.{lock_telling, mutex_begins_entering, mutex_unswitched, try_lock_telling}
 use Rattle.loom_engine.proofs.Runs.Kinds.Notifiers.{awaits_keeping, notifier_begins_keeping, notifies_keeping, wakes_early_keeping}
-use Rattle.loom_engine.proofs.Runs.Replies.{Unswitched, arc_quiet, atomic_quiet, awaits_quiet, cell_quiet, channel_quiet, child_finish_quiet, claims_quiet, counts_quiet, enters, fence_quiet, gone_resuming, join_quiet, lazy_quiet, local_quiet, notifier_quiet, notifies_quiet, place_quiet, quiet_unswitched, quietly_resuming, receives_quiet, replied_resuming, rwlock_quiet, sends_quiet, tells_turn, thread_quiet, track_quiet, tries_unwrap_quiet, waker_quiet, wakes_early_quiet, wakes_quiet}
+use Rattle.loom_engine.proofs.Runs.Replies.{Unswitched, arc_quiet, atomic_quiet, awaits_quiet, cell_quiet, channel_quiet, child_finish_quiet, counts_quiet, enters, fence_quiet, gone_resuming, join_quiet, lazy_quiet, local_quiet, notifier_quiet, notifies_quiet, place_quiet, quiet_unswitched, quietly_resuming, receives_quiet, replied_resuming, rwlock_quiet, sends_quiet, tells_turn, thread_quiet, track_quiet, tries_unwrap_quiet, waker_quiet, wakes_early_quiet, wakes_quiet}
 use Rattle.loom_engine.proofs.Runs.Ruling.{Entering, Fairly, PassingBut, Resuming, misuse, then_fairly}
-use Rattle.loom_engine.proofs.Runs.Kinds.RwLocks.{claims_keeping, rwlock_begins_keeping}
+use Rattle.loom_engine.proofs.Runs.Kinds.RwLocks.{claims_telling, rwlock_begins_entering}
 use Rattle.loom_engine.proofs.Runs.States.{freed_by}
 use Rattle.loom_engine.proofs.Runs.Kinds.Threads.{child_finish_keeping, join_keeping, thread_begins_keeping}
 use Rattle.loom_engine.proofs.Runs.Kinds.Tracks.{track_begins_keeping}
@@ -61,7 +63,7 @@ module _ {D : Type 0} where
   begins_entering (op.Arc todo) w = enters w None _ (arc_begins_keeping todo w) (arc_quiet todo w)
   begins_entering (op.Track todo) w = enters w None _ (track_begins_keeping todo w) (track_quiet todo w)
   begins_entering (op.Mutex todo) w = mutex_begins_entering todo w
-  begins_entering (op.RwLock todo) w = enters w None _ (rwlock_begins_keeping todo w) (rwlock_quiet todo w)
+  begins_entering (op.RwLock todo) w = rwlock_begins_entering todo w
   begins_entering (op.Condvar todo) w = condvar_begins_entering todo w
   begins_entering (op.Notify todo) w = enters w None _ (notifier_begins_keeping todo w) (notifier_quiet todo w)
   begins_entering (op.Channel todo) w = enters w None _ (channel_begins_keeping todo w) (channel_quiet todo w)
@@ -126,7 +128,7 @@ module _ {D : Type 0} where
   effect_resuming (task.Access access) w = accesses_resuming access w
   effect_resuming (task.Lock locking n) w = tells_turn None _ w (lock_telling locking n w)
   effect_resuming (task.TryLock n) w = tells_turn None _ w (try_lock_telling n w)
-  effect_resuming (task.Claim claim n) w = replied_resuming _ w (claims_keeping claim n w) (claims_quiet claim n w)
+  effect_resuming (task.Claim claim n) w = tells_turn None _ w (claims_telling claim n w)
   effect_resuming (task.Wait locking n m value) w =
       then_fairly (PassingBut m w) (Resuming (Some m) w) (falls_asleep locking n m value w) gone (falls_asleep_keeping locking n m value w) (λ answered onward out other k. onward out (λ e. other m e refl) k)
   effect_resuming (task.Relock locking m) w = λ out other k. relocks_keeping locking m w out k
@@ -177,26 +179,26 @@ module _ {D : Type 0} where
 
 -- this property is kept by all but what it says itself
 module _ {D : Type 0} (R : World D → Type 0) (k : KeptByMoves R) where
-  pub begins_moves : (todo : Request D ⊤) (w : World D) → ((value : D) → Answers (Within R) (finish value w))
+  pub begins_moves : (todo : Request D ⊤) (w : World D) → ((asked : AtomicOp) → todo ≡ op.Atomic asked → R w → R (pends (task.Access asked) false w)) → ((value : D) → Answers (Within R) (finish value w))
       → ((asked : ChannelOp D) → todo ≡ op.Channel asked → Answers (Within R) (channel_begins asked w)) → ((todo : LazyOp D) → Answers (Within R) (lazy_begins todo w)) → R w → Answers (Within R) (op_begins todo w)
-  begins_moves (op.Atomic todo) w f c l s = atomic_moves R k todo w s
-  begins_moves (op.Fence order) w f c l s = fence_moves R k order w s
-  begins_moves (op.Cell todo) w f c l s = cell_moves R k todo w s
-  begins_moves (op.Arc todo) w f c l s = arc_moves R k todo w s
-  begins_moves (op.Track todo) w f c l s = track_moves R k todo w s
-  begins_moves (op.Mutex todo) w f c l s = mutex_moves R k todo w s
-  begins_moves (op.RwLock todo) w f c l s = rwlock_moves R k todo w s
-  begins_moves (op.Condvar todo) w f c l s = condvar_moves R k todo w s
-  begins_moves (op.Notify todo) w f c l s = notifier_moves R k todo w s
-  begins_moves (op.Channel todo) w f c l s = c todo refl
-  begins_moves (op.Waker todo) w f c l s = waker_moves R k todo w s
-  begins_moves (op.AtomicWaker todo) w f c l s = place_moves R k todo w s
-  begins_moves (op.Local todo) w f c l s = local_moves R k todo w s
-  begins_moves (op.Lazy todo) w f c l s = l todo
-  begins_moves (op.Explore todo) w f c l s = s
-  begins_moves (op.Thread todo) w f c l s = thread_moves R k todo w f s
-  begins_moves op.Fail w f c l s = tt
-  begins_moves op.Unreachable w f c l s = tt
+  begins_moves (op.Atomic todo) w a f c l s = atomic_moves R k todo w (a todo refl) s
+  begins_moves (op.Fence order) w a f c l s = fence_moves R k order w s
+  begins_moves (op.Cell todo) w a f c l s = cell_moves R k todo w s
+  begins_moves (op.Arc todo) w a f c l s = arc_moves R k todo w s
+  begins_moves (op.Track todo) w a f c l s = track_moves R k todo w s
+  begins_moves (op.Mutex todo) w a f c l s = mutex_moves R k todo w s
+  begins_moves (op.RwLock todo) w a f c l s = rwlock_moves R k todo w s
+  begins_moves (op.Condvar todo) w a f c l s = condvar_moves R k todo w s
+  begins_moves (op.Notify todo) w a f c l s = notifier_moves R k todo w s
+  begins_moves (op.Channel todo) w a f c l s = c todo refl
+  begins_moves (op.Waker todo) w a f c l s = waker_moves R k todo w s
+  begins_moves (op.AtomicWaker todo) w a f c l s = place_moves R k todo w s
+  begins_moves (op.Local todo) w a f c l s = local_moves R k todo w s
+  begins_moves (op.Lazy todo) w a f c l s = l todo
+  begins_moves (op.Explore todo) w a f c l s = s
+  begins_moves (op.Thread todo) w a f c l s = thread_moves R k todo w f s
+  begins_moves op.Fail w a f c l s = tt
+  begins_moves op.Unreachable w a f c l s = tt
 
   pub effect_moves : (todo : Task D) (w : World D) → ((n : ℕ) (sent : List (Message D)) → todo ≡ task.Send n sent → Answers (Within R) (sends n sent w))
       → ((by : Receiving) (n : ℕ) → todo ≡ task.Receive by n → Answers (Within R) (receives by n w)) → ((n : ℕ) (taken : List D) → todo ≡ task.Drain n taken → Answers (Within R) (drains n taken w)) → R w → Answers (Within R) (takes_effect todo w)

@@ -42,7 +42,7 @@ use Rattle.loom_objects.specs.Rules.Thread.{finish, finish_as}
 use Rattle.loom_objects.specs.Rules.Locals.{are_open, is_of, is_working, lazy_at, lazy_begins, main_works, makes_lazy, reads_lazy}
 use Rattle.loom_objects.specs.World.{World}
 use Rattle.loom_engine.specs.Runs.Course.{Course, opening}
-use Rattle.loom_engine.specs.Runs.Histories.{ComesTo, Event, IsHistory}
+use Rattle.loom_engine.specs.Runs.Histories.{ComesBy, Event, Happens, IsHistory}
 use Rattle.loom_engine.specs.Runs.Machine.{submit}
 use Rattle.loom_engine.specs.Runs.Once.{MadeOnceLaw, Makes}
 use Rattle.loom_engine.proofs.Runs.Answering.{Answers, answers_then}
@@ -301,7 +301,7 @@ module _ {D : Type 0} where
     counted_made : (todo : Request D ⊤) (w : World D) → Made key w → Answers (Within (Made key)) (counted todo w)
     counted_made todo w k =
         let fewer = record w { steps_left = w.steps_left - 1 } in
-        onward (check (nat_lt 0 w.steps_left) TooManySteps) _ (λ u. begins_moves (Made key) made_by_moves todo fewer (λ value. finish_made value fewer k) (λ asked e. channel_made asked fewer k) (λ asked. lazy_made asked fewer k) k)
+        onward (check (nat_lt 0 w.steps_left) TooManySteps) _ (λ u. begins_moves (Made key) made_by_moves todo fewer (λ asked e s. pends_made (task.Access asked) false fewer s) (λ value. finish_made value fewer k) (λ asked e. channel_made asked fewer k) (λ asked. lazy_made asked fewer k) k)
 
     map_get : (change : Thread D → Thread D) (threads : List (Thread D)) (t : ℕ) (thread : Thread D) → slice_get threads t ≡ Some thread → slice_get (map change threads) t ≡ Some (change thread)
     map_get change [] t thread e = absurd (cc e)
@@ -394,10 +394,10 @@ module _ {D : Type 0} where
       by_test false rest = rest
 
   -- from there on it stands
-  first_made : (key : ℕ) (event : Event D) (c v : Course D) → Made None c.world → ComesTo (submit event.op c) (event.turn, v) → Makes key event → Made (Some key) v.world
+  first_made : (key : ℕ) (event : Event D) (c v : Course D) → Made None c.world → Happens c event v → Makes key event → Made (Some key) v.world
   first_made key event c v k comes (value, (t, (is_op, is_turn))) =
-      kept_value (submit (op.Lazy (lazy_op.Init key value)) c) (event.turn, v) (init_event (Made (Some key)) key value c made_so)
-      (subst (λ todo. ComesTo (submit todo c) (event.turn, v)) is_op comes) t value is_turn
+      kept_value (submit (op.Lazy (lazy_op.Init key value)) c) event.choices (event.turn, v) (init_event (Made (Some key)) key value c made_so)
+      (subst (λ todo. ComesBy (submit todo c) event.choices (event.turn, v)) is_op comes) t value is_turn
     where
       made_so : (w : World D) → w.threads ≡ c.world.threads → w.lazies ≡ c.world.lazies → are_open w ≡ true → Answers (EnteredTo Nowhere (Saying (Made (Some key)))) (makes_lazy key value (lazy_at key w) w)
       made_so w threads lazies is_open = by_lazy (lazy_at key w)
@@ -414,10 +414,10 @@ module _ {D : Type 0} where
           }
 
   -- so no other event makes it
-  not_again : (key : ℕ) (event : Event D) (c v : Course D) → Made (Some key) c.world → ComesTo (submit event.op c) (event.turn, v) → Makes key event → ⊥
+  not_again : (key : ℕ) (event : Event D) (c v : Course D) → Made (Some key) c.world → Happens c event v → Makes key event → ⊥
   not_again key event c v k comes (value, (t, (is_op, is_turn))) =
-      kept_value (submit (op.Lazy (lazy_op.Init key value)) c) (event.turn, v) (init_event Nowhere key value c stood)
-      (subst (λ todo. ComesTo (submit todo c) (event.turn, v)) is_op comes) t value is_turn
+      kept_value (submit (op.Lazy (lazy_op.Init key value)) c) event.choices (event.turn, v) (init_event Nowhere key value c stood)
+      (subst (λ todo. ComesBy (submit todo c) event.choices (event.turn, v)) is_op comes) t value is_turn
     where
       stood : (w : World D) → w.threads ≡ c.world.threads → w.lazies ≡ c.world.lazies → are_open w ≡ true → Answers (EnteredTo Nowhere (Saying Nowhere)) (makes_lazy key value (lazy_at key w) w)
       stood w threads lazies is_open = by_lazy (lazy_at key w) known
@@ -440,14 +440,14 @@ module _ {D : Type 0} where
   made_until : (key : ℕ) (between after : List (Event D)) (second : Event D) (c : Course D) → Made (Some key) c.world → IsHistory c (between ++ second ∷ after) → Makes key second → ⊥
   made_until key [] after second c k history makes = not_again key second c history.0 k history.1.0 makes
   made_until key (event ∷ between) after second c k history makes =
-      made_until key between after second history.0 (kept_value (submit event.op c) (event.turn, history.0) (event_made (Some key) event.op c k) history.1.0) history.1.1.1 makes
+      made_until key between after second history.0 (kept_value (submit event.op c) event.choices (event.turn, history.0) (event_made (Some key) event.op c k) history.1.0) history.1.1.1 makes
 
   from_opening : (key : ℕ) (before between after : List (Event D)) (first second : Event D) (c : Course D) → Made None c.world
       → IsHistory c (before ++ first ∷ (between ++ second ∷ after)) → Makes key first → Makes key second → ⊥
   from_opening key [] between after first second c k history makes again =
       made_until key between after second history.0 (first_made key first c history.0 k history.1.0 makes) history.1.1.1 again
   from_opening key (event ∷ before) between after first second c k history makes again =
-      from_opening key before between after first second history.0 (kept_value (submit event.op c) (event.turn, history.0) (event_made None event.op c k) history.1.0) history.1.1.1 makes again
+      from_opening key before between after first second history.0 (kept_value (submit event.op c) event.choices (event.turn, history.0) (event_made None event.op c k) history.1.0) history.1.1.1 makes again
 
 pub made_once : {D : Type 0} → MadeOnceLaw D
 made_once {D} explores max_threads max_steps key before between after first second history makes again =

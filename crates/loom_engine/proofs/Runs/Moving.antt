@@ -89,7 +89,7 @@ use Rattle.loom_objects.specs.Rules.Locals.{is_taken, local_at, local_begins, lo
 use Rattle.loom_objects.specs.Rules.Waker.{acquires_if, after_clone, after_drop, after_wake, clones_waker, drops_waker, frees_place, has_taken, holds_place, atomic_waker_begins, registers, registers_if, some_wakers, take_begins, takes_place, takes_waker, wake_begins as wake_by_begins, waker_begins, waker_pends, wakes_by}
 use Rattle.loom_objects.specs.World.{World, MAX_THREADS, child_thread}
 use Rattle.loom_engine.proofs.Runs.Answering.{Answers, answers_then}
-use Rattle.loom_engine.proofs.Runs.Kept.{doing, IsAway, AwayAt, stated, unparked_same, KeptByMoves, set_away}
+use Rattle.loom_engine.proofs.Runs.Kept.{is_calling, IsAway, AwayAt, stated, unparked_same, KeptByMoves, set_away}
 
 -- of a rule that comes to a state
 abbrev pub Within : {D A : Type 0} → (World D → Type 0) → A × World D → Type 0
@@ -127,7 +127,7 @@ module _ {D : Type 0} (R : World D → Type 0) (k : KeptByMoves R) where
 
   -- ---- moves
 
-  pub pends_so : (todo : Task D) (is_blocked : Bool) (w : World D) → doing todo ≡ None → R w → R (pends todo is_blocked w)
+  pub pends_so : (todo : Task D) (is_blocked : Bool) (w : World D) → is_calling todo ≡ false → R w → R (pends todo is_blocked w)
   pends_so todo is_blocked w idle s = k.turned (pending todo is_blocked) w (λ thread. record { shut = λ e. e; own = refl; idle = idle }) s
 
   pub wakes_so : (n : ℕ) (state : State) (w : World D) → R w → R (record w { threads = map (pending_with n state) w.threads })
@@ -142,32 +142,33 @@ module _ {D : Type 0} (R : World D → Type 0) (k : KeptByMoves R) where
   pub new_so : (x : Object D) (w : World D) → IsAway x → R w → R (with_new x w)
   new_so x w h s = k.points _ _ (k.made x w h s)
 
-  pub yields_so : (todo : Task D) (w : World D) → doing todo ≡ None → R w → Answers (Within R) (yields todo w)
+  pub yields_so : (todo : Task D) (w : World D) → is_calling todo ≡ false → R w → Answers (Within R) (yields todo w)
   yields_so todo w idle s =
       onward (active_thread w) _ (λ thread. onward (check (nat_lt thread.yields highest_count) TooManySteps) _ (λ u.
       k.points _ _ (k.turned (yielded todo) w (λ thread. record { shut = λ e. e; own = refl; idle = idle }) s)))
 
   -- ---- atomics
 
-  access_moves : (access : AtomicOp) (w : World D) → R w → Answers (Within R) (access_begins access w)
-  access_moves access w s = onward (found (accessed access) Misuse) _ (λ n. away atomic_in (λ c. tt) (slice_get w.objects n) _ (λ atomic there. pends_so (task.Access access) false w refl s))
+  access_moves : (access : AtomicOp) (w : World D) → (R w → R (pends (task.Access access) false w)) → R w → Answers (Within R) (access_begins access w)
+  access_moves access w a s = onward (found (accessed access) Misuse) _ (λ n. away atomic_in (λ c. tt) (slice_get w.objects n) _ (λ atomic there. a s))
 
-  pub atomic_moves : (todo : AtomicOp) (w : World D) → R w → Answers (Within R) (atomic_begins todo w)
-  atomic_moves (atomic_op.New numbers value) w s = k.points _ _ (k.made _ w tt s)
-  atomic_moves (atomic_op.UnsyncLoad n) w s =
+  -- that an access is pending is said by the property
+  pub atomic_moves : (todo : AtomicOp) (w : World D) → (R w → R (pends (task.Access todo) false w)) → R w → Answers (Within R) (atomic_begins todo w)
+  atomic_moves (atomic_op.New numbers value) w a s = k.points _ _ (k.made _ w tt s)
+  atomic_moves (atomic_op.UnsyncLoad n) w a s =
       away atomic_in (λ c. tt) (slice_get w.objects n) _ (λ atomic there. onward (points_after_unsync_load w.points w.active n) _ (λ read. k.points _ w s))
-  atomic_moves (atomic_op.IntoInner n) w s =
+  atomic_moves (atomic_op.IntoInner n) w a s =
       away atomic_in (λ c. tt) (slice_get w.objects n) _ (λ atomic there. onward (points_after_unsync_load w.points w.active n) _ (λ read. k.points _ _ (k.object n _ w there tt s)))
-  atomic_moves (atomic_op.WithMut n) w s =
+  atomic_moves (atomic_op.WithMut n) w a s =
       away atomic_in (λ c. tt) (slice_get w.objects n) _ (λ atomic there. onward (points_after_with_mut w.points w.active n) _ (λ read. k.points _ _ (k.object n _ w there tt s)))
-  atomic_moves (atomic_op.WithMutEnd n value) w s =
+  atomic_moves (atomic_op.WithMutEnd n value) w a s =
       away atomic_in (λ c. tt) (slice_get w.objects n) _ (λ atomic there. onward (check (is_number atomic.opened w.active) Misuse) _ (λ u.
       onward (points_after_with_mut_end w.points w.active n (fit atomic.numbers value)) _ (λ stored. k.points _ _ (k.object n _ w there tt s))))
-  atomic_moves (atomic_op.Load n order) w s = access_moves (atomic_op.Load n order) w s
-  atomic_moves (atomic_op.Store n value order) w s = access_moves (atomic_op.Store n value order) w s
-  atomic_moves (atomic_op.Update n change order) w s = access_moves (atomic_op.Update n change order) w s
-  atomic_moves (atomic_op.CompareExchange n exchange) w s = access_moves (atomic_op.CompareExchange n exchange) w s
-  atomic_moves (atomic_op.CompareAndSwap n expected new order) w s = access_moves (atomic_op.CompareAndSwap n expected new order) w s
+  atomic_moves (atomic_op.Load n order) w a s = access_moves (atomic_op.Load n order) w a s
+  atomic_moves (atomic_op.Store n value order) w a s = access_moves (atomic_op.Store n value order) w a s
+  atomic_moves (atomic_op.Update n change order) w a s = access_moves (atomic_op.Update n change order) w a s
+  atomic_moves (atomic_op.CompareExchange n exchange) w a s = access_moves (atomic_op.CompareExchange n exchange) w a s
+  atomic_moves (atomic_op.CompareAndSwap n expected new order) w a s = access_moves (atomic_op.CompareAndSwap n expected new order) w a s
 
   pub fence_moves : (order : Ordering) (w : World D) → R w → Answers (Within R) (fence order w)
   fence_moves order w s = by_points w (points_after_raise w.points w.active) _ s (λ p r. onward (check (not (is_relaxed order)) RelaxedFence) _ (λ u. k.points _ _ r))
@@ -264,7 +265,7 @@ module _ {D : Type 0} (R : World D → Type 0) (k : KeptByMoves R) where
 
   -- ---- counted references and tracked values
 
-  comes_to_moves : (todo : Task D) (n : ℕ) (w : World D) → doing todo ≡ None → R w → Answers (Within R) (comes_to todo n w)
+  comes_to_moves : (todo : Task D) (n : ℕ) (w : World D) → is_calling todo ≡ false → R w → Answers (Within R) (comes_to todo n w)
   comes_to_moves todo n w idle s = away arc_in (λ c. tt) (slice_get w.objects n) _ (λ arc there. onward (check (nat_lt 0 arc.count) Misuse) _ (λ u. pends_so todo false w idle s))
 
   pub arc_moves : (todo : ArcOp D) (w : World D) → R w → Answers (Within R) (arc_begins todo w)
@@ -471,7 +472,7 @@ module _ {D : Type 0} (R : World D → Type 0) (k : KeptByMoves R) where
       by_object (Some (object.Channel channel)) e = tt
       by_object (Some (object.AtomicWaker place)) e = tt
 
-  waker_pends_moves : (todo : Task D) (c : ℕ) (w : World D) → doing todo ≡ None → R w → Answers (Within R) (waker_pends todo c w)
+  waker_pends_moves : (todo : Task D) (c : ℕ) (w : World D) → is_calling todo ≡ false → R w → Answers (Within R) (waker_pends todo c w)
   waker_pends_moves todo c w idle s = some_moves c w _ (λ wakers there. pends_so todo false w idle s)
 
   wake_by_moves : (after : AfterWake) (c : ℕ) (w : World D) → R w → Answers (Within R) (wake_by_begins after c w)

@@ -16,11 +16,11 @@ use Rattle.loom_objects.specs.declared.rt.thread.Task.TheVariants as task
 use Rattle.loom_objects.specs.declared.rt.thread.Thread.{Thread}
 use Rattle.loom_objects.specs.Rules.Mpsc.{by_receiver, by_sender}
 use Rattle.loom_objects.specs.Scene.Lookup.{channel_in, looked_up}
-use Rattle.loom_objects.specs.Rules.Moves.{changed_at, with_thread}
+use Rattle.loom_objects.specs.Rules.Moves.{changed_at, with_thread, changes_active}
 use Rattle.loom_objects.specs.Rules.Rule.{◌>>=◌, check, found}
 use Rattle.loom_objects.specs.World.{World}
 use Rattle.loom_engine.proofs.Runs.Answering.{Answers}
-use Rattle.loom_engine.proofs.Runs.Kept.{AwayAt, Doing, Drains, IsAway, KeptByMoves, Receives, Sends, doing, value_of}
+use Rattle.loom_engine.proofs.Runs.Kept.{AwayAt, Doing, Drains, IsAway, KeptByMoves, Receives, Sends, doing, not_calling, value_of}
 
 -- of a test on all of a list
 pub neither : (b c : Bool) → (b || c) ≡ false → (b ≡ false) × (c ≡ false)
@@ -197,6 +197,23 @@ module _ {D : Type 0} where
   abbrev pub Held : ℕ → List D → (ℕ → Option (Doing D)) → ℕ → World D → Type 0
   Held n q expected a w = IsHeld n q expected a w.objects w.threads w.active
 
+  -- the active thread is changed, and isn't to do anything to a channel
+  pub held_turned : (n : ℕ) (q : List D) (expected : ℕ → Option (Doing D)) (a : ℕ) (change : Thread D → Thread D) (w : World D) → ((thread : Thread D) → doing (change thread).task ≡ None)
+      → Held n q expected a w → Held n q expected a (changes_active change w)
+  held_turned n q expected a change w idle s = record {
+    queue = s.queue;
+    pending = λ u. let e = with_doing change w.active w.threads (λ thread there. is_idle thread there (change thread) (idle thread)) u in let f = s.pending u in cc (e, f);
+    own = s.own;
+    idle = s.idle;
+    there = with_there change w.active a w.threads s.there;
+  }
+    where
+      is_idle : (thread : Thread D) → slice_get w.threads w.active ≡ Some thread → (after : Thread D) → doing after.task ≡ None → doing after.task ≡ doing thread.task
+      is_idle thread there after e =
+          let here : doing_at (slice_get w.threads w.active) ≡ expected w.active = s.pending w.active in
+          let none : expected w.active ≡ None = subst (λ t. expected t ≡ None) (sym s.own) s.idle in
+          let so : doing thread.task ≡ expected w.active = subst (λ o. doing_at o ≡ expected w.active) there here in cc (e, none, so)
+
   pub held_by_moves : (n : ℕ) (q : List D) (expected : ℕ → Option (Doing D)) (a : ℕ) → KeptByMoves (Held n q expected a)
   held_by_moves n q expected a = record {
     points = λ p w s. s;
@@ -216,39 +233,27 @@ module _ {D : Type 0} where
     };
     changed = λ change t w same s. record {
       queue = s.queue;
-      pending = λ u. let e = with_doing change t w.threads (λ thread there. (same thread).same) u in let f = s.pending u in cc (e, f);
+      pending = λ u. let e = with_doing change t w.threads (λ thread there. ap doing (same thread).same) u in let f = s.pending u in cc (e, f);
       own = s.own;
       idle = s.idle;
       there = with_there change t a w.threads s.there;
     };
-    turned = λ change w idle s. record {
-      queue = s.queue;
-      pending = λ u. let e = with_doing change w.active w.threads (λ thread there. is_idle w s thread there (change thread) (idle thread).idle) u in let f = s.pending u in cc (e, f);
-      own = s.own;
-      idle = s.idle;
-      there = with_there change w.active a w.threads s.there;
-    };
+    turned = λ change w idle s. held_turned n q expected a change w (λ thread. not_calling (change thread).task (idle thread).idle) s;
     each = λ change w same s. record {
       queue = s.queue;
-      pending = λ u. let e = map_doing change w.threads (λ thread. (same thread).same) u in let f = s.pending u in cc (e, f);
+      pending = λ u. let e = map_doing change w.threads (λ thread. ap doing (same thread).same) u in let f = s.pending u in cc (e, f);
       own = s.own;
       idle = s.idle;
       there = map_there change w.threads a s.there;
     };
     child = λ thread w h none s. record {
       queue = s.queue;
-      pending = λ u. let e = more_doing w.threads thread none u in let f = s.pending u in cc (e, f);
+      pending = λ u. let e = more_doing w.threads thread (not_calling thread.task none) u in let f = s.pending u in cc (e, f);
       own = s.own;
       idle = s.idle;
       there = more_there w.threads thread a s.there;
     };
   }
-    where
-      is_idle : (w : World D) → Held n q expected a w → (thread : Thread D) → slice_get w.threads w.active ≡ Some thread → (after : Thread D) → doing after.task ≡ None → doing after.task ≡ doing thread.task
-      is_idle w s thread there after e =
-          let here : doing_at (slice_get w.threads w.active) ≡ expected w.active = s.pending w.active in
-          let none : expected w.active ≡ None = subst (λ t. expected t ≡ None) (sym s.own) s.idle in
-          let so : doing thread.task ≡ expected w.active = subst (λ o. doing_at o ≡ expected w.active) there here in cc (e, none, so)
 
 -- what a thread has pending, as far as it is about a channel
 pub data Kind {D : Type 0} : Task D → Type 0 where

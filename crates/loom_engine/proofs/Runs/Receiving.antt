@@ -56,7 +56,7 @@ use Rattle.loom_engine.proofs.Runs.Lifting.{EnteredTo, PassedTo, ReplyTo, Resume
 use Rattle.loom_engine.proofs.Runs.Kept.{Doing, Drains, Receives, Sends, doing, stated, value_of}
 use Rattle.loom_engine.proofs.Runs.Kinds.{begins_moves, effect_moves, effect_tells}
 use Rattle.loom_engine.proofs.Runs.Moving.{Within, enters_wait_moves, reads_moves}
-use Rattle.loom_engine.proofs.Runs.Queues.{Held, IsHeld, Kind, cond_here, cond_off, decided, doing_at, doing_for, draining, drains_for, found_so, held_by_moves, idles, kind_of, map_doing, map_there, more_same, receiver_so, receives_for, receiving_by, sender_so, sending, sends_for, set_doing_here, set_doing_off, set_off, set_same, set_stays, set_there, single, values_at}
+use Rattle.loom_engine.proofs.Runs.Queues.{Held, IsHeld, Kind, cond_here, cond_off, decided, doing_at, doing_for, draining, drains_for, found_so, held_by_moves, held_turned, idles, kind_of, map_doing, map_there, more_same, receiver_so, receives_for, receiving_by, sender_so, sending, sends_for, set_doing_here, set_doing_off, set_off, set_same, set_stays, set_there, single, values_at}
 
 module _ {D : Type 0} (n : ℕ) where
   -- what threads are about to do that have handed this over; the one whose turn it is has nothing pending
@@ -508,7 +508,7 @@ module _ {D : Type 0} (n : ℕ) where
       ordinary_after : (todo : Request D ⊤) (a : ℕ) (w : World D) → of_channel todo ≡ None → handed a ≡ of_channel todo → Bound q handed a w → Answers (EnteredTo (Asked q handed) (After q handed)) (op_begins todo w)
       ordinary_after todo a w none mine k =
           let nothing_for : doing_for (handed a) ≡ None = subst (λ o. doing_for o ≡ None) (sym mine) (ap doing_for none) in
-          entered_idle a (op_begins todo w) nothing_for (begins_moves (Bound q handed a) (held_by_moves n q (except a handed) a) todo w (λ value. finish_bound value a w k)
+          entered_idle a (op_begins todo w) nothing_for (begins_moves (Bound q handed a) (held_by_moves n q (except a handed) a) todo w (λ asked e s. held_turned n q (except a handed) a (pending (task.Access asked) false) w (λ thread. refl) s) (λ value. finish_bound value a w k)
           (λ asked e. let busy : of_channel todo ≡ Some asked = ap of_channel e in absurd (cc (busy, none))) (λ asked. lazy_bound asked a w k) k)
 
       begins_after : (todo : Request D ⊤) (a : ℕ) (w : World D) → handed a ≡ of_channel todo → Bound q handed a w → Answers (EnteredTo (Asked q handed) (After q handed)) (op_begins todo w)

@@ -1,4 +1,4 @@
--- Only locks and waits are told the data of a mutex by their replies.
+-- Only locks and waits are told the data of a lock by their replies.
 use Rattle.std.proofs.Common.{◌≡◌, ℕ, Bool, true, false, List, [], ◌∷◌, Option, Some, None, refl}
 use Rattle.std.specs.Prelude.{◌==◌, Result, Ok, Err, ⊤, is_none, length, nat_lt, not, slice_get, ◌-◌, ◌^◌}
 use Rattle.std.specs.declared.sync.atomic.Ordering.{Ordering}
@@ -44,7 +44,6 @@ use Rattle.loom_objects.specs.declared.rt.notify.Notify.{Notify}
 use Rattle.loom_views.specs.declared.rt.atomic.reader.Reader.{Reader}
 use Rattle.loom_views.specs.Atomic.Slots.{slot_set}
 use Rattle.loom_views.specs.Views.{readable_slots_of, points_after_load, points_after_spawn, points_after_store, points_after_unsync_load, points_after_update_read, points_after_with_mut, points_after_with_mut_end}
-use Rattle.loom_objects.specs.declared.rt.rwlock.RwLock.{RwLock}
 use Rattle.loom_objects.specs.declared.rt.thread.Claim.{Claim}
 use Rattle.loom_objects.specs.declared.rt.thread.Claim.TheVariants.{Read, TryRead, Write, TryWrite}
 use Rattle.loom_objects.specs.declared.rt.thread.Counting.{Counting}
@@ -62,7 +61,7 @@ use Rattle.loom_objects.specs.Rules.Arc.{is_free as is_free_arc, arc_begins, com
 use Rattle.loom_objects.specs.Rules.Leaks.{is_none_left}
 use Rattle.loom_objects.specs.Rules.Notify.{awaits, comes_to_wait, has_waker, notify_begins, notifies, wait_begins, wakes_early, is_alone, is_for_waits, may_be_spurious, notify}
 use Rattle.loom_objects.specs.Rules.Rule.{◌>>=◌, check, found}
-use Rattle.loom_objects.specs.Rules.RwLock.{claim_begins, claims, is_refused, reads_lock, rwlock_begins, takes_unless, writes_lock, guards_of, unlocked_value}
+use Rattle.loom_objects.specs.Rules.RwLock.{claim_begins, rwlock_begins, guards_of, unlocked_value}
 use Rattle.loom_objects.specs.Rules.Thread.{child_finish, finish_as, join, parks_unless, thread_begins, has_own, is_exited, is_finished}
 use Rattle.loom_objects.specs.Rules.Alloc.{track_begins, track_take}
 use Rattle.loom_objects.specs.Rules.Locals.{are_open, is_taken, is_working, lazy_at, lazy_begins, local_at, local_begins, local_or, makes_lazy, none_there, puts_local, reads_lazy, reads_local}
@@ -78,7 +77,6 @@ use Rattle.loom_objects.specs.Operation.Accessed.{accessed}
 use Rattle.loom_objects.specs.Lent.{kept, value_in}
 use Rattle.loom_engine.proofs.Runs.States.{Aim, Ready}
 use Rattle.loom_engine.proofs.Runs.Ruling.{Entering, Fairly, Keeping, PassedTo, Telling, Resuming, then_fairly}
-use Rattle.loom_objects.specs.Rules.Mutex.{lock}
 use Rattle.loom_objects.specs.Rules.Replied.{gone, replied}
 
 none_left_quiet : (D : Type 0) (by : Receiving) → locked_by {D = D} (none_left by) ≡ None
@@ -343,25 +341,6 @@ module _ {D : Type 0} where
   reads_quiet (atomic_op.IntoInner n) w slot = tt
   reads_quiet (atomic_op.WithMut n) w slot = tt
   reads_quiet (atomic_op.WithMutEnd n value) w slot = tt
-
-  reads_lock_quiet : (n : ℕ) (lock : RwLock D) (w : World D) → Answers Unlocked (reads_lock n lock w)
-  reads_lock_quiet n lock w = next (found (value_in lock.content) Misuse) _ (λ value. next (check (nat_lt (guards_of w.active lock) (2 ^ 64 - 1)) TooManySteps) _ (λ u. refl))
-
-  writes_lock_quiet : (n : ℕ) (lock : RwLock D) (w : World D) → Answers Unlocked (writes_lock n lock w)
-  writes_lock_quiet n lock w = next (found (value_in lock.content) Misuse) _ (λ value. refl)
-
-  takes_quiet : (refuses : Bool) (claim : Claim) (n : ℕ) (lock : RwLock D) (w : World D) → Answers Unlocked (takes_unless refuses claim n lock w)
-  takes_quiet true Read n lock w = tt
-  takes_quiet true TryRead n lock w = refl
-  takes_quiet true Write n lock w = tt
-  takes_quiet true TryWrite n lock w = refl
-  takes_quiet false Read n lock w = reads_lock_quiet n lock w
-  takes_quiet false TryRead n lock w = reads_lock_quiet n lock w
-  takes_quiet false Write n lock w = writes_lock_quiet n lock w
-  takes_quiet false TryWrite n lock w = writes_lock_quiet n lock w
-
-  pub claims_quiet : (claim : Claim) (n : ℕ) (w : World D) → Answers Unlocked (claims claim n w)
-  claims_quiet claim n w = next (a_rwlock n w) _ (λ lock. next (check (is_none lock.content.lent) Misuse) _ (λ u. takes_quiet (is_refused claim lock) claim n lock w))
 
   pub wakes_quiet : (waking : Waking) (n : ℕ) (w : World D) → Answers Unlocked (wakes waking n w)
   wakes_quiet waking n w = next (a_condvar n w) _ (λ condvar. refl)

@@ -237,20 +237,20 @@ module _ {D : Type 0} where
       by_object (Some _) e s = misuse
 
   -- the same of a read-write lock
-  pub rwlock_keeping : {A : Type 0} (n : ℕ) (w : World D) (next : RwLock D → Result (A × World D) FailureKind)
-      → ((lock : RwLock D) → (AreSound w.objects → IsSoundRwLock lock) → Keeping w (next lock)) → Keeping w (a_rwlock n w >>= next)
-  rwlock_keeping {A} n w next h = by_object (slice_get w.objects n) (get_sound w.objects n)
+  pub rwlock_fairly : {A : Type 0} (P : A → Type 0) (n : ℕ) (w : World D) (next : RwLock D → Result A FailureKind)
+      → ((lock : RwLock D) → slice_get w.objects n ≡ Some (object.RwLock lock) → (AreSound w.objects → IsSoundRwLock lock) → Fairly P (next lock)) → Fairly P (a_rwlock n w >>= next)
+  rwlock_fairly {A} P n w next h = by_object (slice_get w.objects n) refl (get_sound w.objects n)
     where
-      by_whole : (is_taken : Bool) (lock : RwLock D) → (AreSound w.objects → IsSoundRwLock lock) → Keeping w (◌>>=◌ {B = A × World D} (cond is_taken (Err Misuse) (Ok lock)) next)
-      by_whole true lock s = misuse
-      by_whole false lock s = h lock s
+      by_whole : (is_taken : Bool) (lock : RwLock D) → slice_get w.objects n ≡ Some (object.RwLock lock) → (AreSound w.objects → IsSoundRwLock lock) → Fairly P (◌>>=◌ {B = A} (cond is_taken (Err Misuse) (Ok lock)) next)
+      by_whole true lock e s = misuse
+      by_whole false lock e s = h lock e s
 
-      by_object : (o : Option (Object D)) → (AreSound w.objects → SoundAt o) → Keeping w (◌>>=◌ {B = A × World D} (looked_up rwlock_in o) next)
-      by_object None s = misuse
-      by_object (Some (object.RwLock lock)) s = by_whole lock.content.is_taken lock s
-      by_object (Some _) s = misuse
+      by_object : (o : Option (Object D)) → slice_get w.objects n ≡ o → (AreSound w.objects → SoundAt o) → Fairly P (◌>>=◌ {B = A} (looked_up rwlock_in o) next)
+      by_object None e s = misuse
+      by_object (Some (object.RwLock lock)) e s = by_whole lock.content.is_taken lock e s
+      by_object (Some _) e s = misuse
 
-  -- an object that is no mutex, and a new object
+  -- an object that is no lock, and a new object
   pub set_keeping : (w : World D) (n : ℕ) (x : Object D) → IsSettled x → (out : Aim) → Ready out w → Ready out (with_object n x w)
   set_keeping w n x s out k = set_ready n x s k
 

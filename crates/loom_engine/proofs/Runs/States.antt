@@ -1,5 +1,5 @@
 -- What holds in each state of the machine: locks are sound, who is about to wait on a condition variable holds the mutex, and a
--- mutex whose data is out keeps none.
+-- lock whose data is out keeps none.
 use Rattle.std.proofs.Common.{◌≡◌, ℕ, zero, suc, Bool, true, false, List, [], ◌∷◌, ◌++◌, Option, Some, None, refl, ap, subst, sym}
 use Rattle.std.specs.Prelude.{cond, is_none, map, slice_get, slice_set}
 use Rattle.loom_objects.specs.declared.operation.Reply.{Reply}
@@ -8,18 +8,21 @@ use Rattle.loom_objects.specs.declared.operation.Turn.TheVariants as turn
 use Rattle.loom_objects.specs.declared.rt.object.Object.{Object}
 use Rattle.loom_objects.specs.declared.rt.object.Object.TheVariants as object
 use Rattle.loom_objects.specs.declared.rt.mutex.Mutex.{Mutex}
+use Rattle.loom_objects.specs.declared.rt.rwlock.RwLock.{RwLock}
 use Rattle.loom_objects.specs.declared.rt.thread.State.{State}
 use Rattle.loom_objects.specs.declared.rt.thread.Task.{Task}
 use Rattle.loom_objects.specs.declared.rt.thread.Task.TheVariants as task
 use Rattle.loom_objects.specs.declared.rt.thread.Thread.{Thread}
 use Rattle.loom_objects.specs.Rules.Moves.{changed_at, with_thread, pending, resting, pending_with, receiving_with, writing_with, is_number, pends, received_from, target, with_active, written}
+use Rattle.loom_objects.specs.Lent.{value_in}
 use Rattle.loom_objects.specs.Rules.Mutex.{free_value, with_mutex}
+use Rattle.loom_objects.specs.Rules.RwLock.{with_rwlock}
 use Rattle.loom_objects.specs.Schedule.Offers.{all_run, runs_again}
 use Rattle.loom_objects.specs.World.{World}
 use Rattle.loom_engine.specs.Runs.Histories.{locked_by}
 use Rattle.loom_engine.proofs.Runs.Keeping.{AreSound, IsSoundLock, IsSoundMutex, IsSoundRwLock, set_sound, more_sound}
 
--- What is followed: that locks are sound; who holds mutexes, too; and that the data of this one is out, as well.
+-- What is followed: that locks are sound; who holds mutexes, too; and that the data of this lock is out, as well.
 pub data Aim : Type 0 where
   Soundness Holding : Aim
   Out : ℕ → Aim
@@ -40,24 +43,29 @@ module _ {D : Type 0} where
   freed_at None = None
   freed_at (Some thread) = freed_by thread.task
 
-  -- an object is there, and this holds of it if it is a mutex
-  abbrev pub MutexAt : (Mutex D → Type 0) → Option (Object D) → Type 0
-  MutexAt P None = ⊥
-  MutexAt P (Some (object.Mutex mutex)) = P mutex
-  MutexAt P (Some _) = Unit {0}
+  -- an object is there, and this holds of it
+  abbrev pub ObjectAt : (Object D → Type 0) → Option (Object D) → Type 0
+  ObjectAt P None = ⊥
+  ObjectAt P (Some x) = P x
 
-  abbrev pub IsHeldBy : ℕ → Mutex D → Type 0
-  IsHeldBy t mutex = mutex.holder ≡ Some t
+  -- the thread holds it if it is a mutex, and it is no read-write lock
+  abbrev pub IsHeldBy : ℕ → Object D → Type 0
+  IsHeldBy t (object.Mutex mutex) = mutex.holder ≡ Some t
+  IsHeldBy t (object.RwLock lock) = ⊥
+  IsHeldBy t _ = Unit {0}
 
-  abbrev pub IsEmpty : Mutex D → Type 0
-  IsEmpty mutex = mutex.content.value ≡ None
+  -- it keeps no data if it is a lock
+  abbrev pub IsEmpty : Object D → Type 0
+  IsEmpty (object.Mutex mutex) = mutex.content.value ≡ None
+  IsEmpty (object.RwLock lock) = lock.content.value ≡ None
+  IsEmpty _ = Unit {0}
 
-  -- In a state: locks are sound, and who is about to wait holds the mutex. A mutex that is followed as out keeps no data, and no
+  -- In a state: locks are sound, and who is about to wait holds the mutex. A lock that is followed as out keeps no data, and no
   -- thread is about to give it free.
   pub record IsKept (out : Aim) (objects : List (Object D)) (threads : List (Thread D)) : Type 0 where
     pub sound : AreSound objects
-    pub held : Follows out → (t m : ℕ) → freed_at (slice_get threads t) ≡ Some m → MutexAt (IsHeldBy t) (slice_get objects m)
-    pub empty : (n : ℕ) → out ≡ Out n → MutexAt IsEmpty (slice_get objects n)
+    pub held : Follows out → (t m : ℕ) → freed_at (slice_get threads t) ≡ Some m → ObjectAt (IsHeldBy t) (slice_get objects m)
+    pub empty : (n : ℕ) → out ≡ Out n → ObjectAt IsEmpty (slice_get objects n)
     pub unfreed : (t n : ℕ) → out ≡ Out n → freed_at (slice_get threads t) ≡ Some n → ⊥
 
   -- and the active thread isn't about to wait
@@ -71,7 +79,7 @@ module _ {D : Type 0} where
   abbrev pub Ready : Aim → World D → Type 0
   Ready out w = IsReady out w.objects w.threads w.active
 
-  -- the mutex was not the one that was out, and is now
+  -- the lock was not the one that was out, and is now
   abbrev pub Taken : Aim → ℕ → World D → Type 0
   Taken out n w = Follows out → (out ≡ Out n → ⊥) × Ready (Out n) w
 
@@ -177,11 +185,11 @@ module _ {D : Type 0} where
       ready_by_threads _ (map_anew (receiving_with n state) threads (λ thread m e. state_off (is_number (received_from thread.task) n) state thread m e)) k
 
   -- the active thread is about to wait, and holds a mutex that isn't followed
-  pub waits_kept : (out : Aim) (m : ℕ) (todo : Task D) (is_blocked : Bool) (w : World D) → freed_by todo ≡ Some m → (out ≡ Out m → ⊥) → MutexAt (IsHeldBy w.active) (slice_get w.objects m)
+  pub waits_kept : (out : Aim) (m : ℕ) (todo : Task D) (is_blocked : Bool) (w : World D) → freed_by todo ≡ Some m → (out ≡ Out m → ⊥) → ObjectAt (IsHeldBy w.active) (slice_get w.objects m)
       → Ready out w → Kept out (pends todo is_blocked w)
   waits_kept out m todo is_blocked w frees other holds k = record {
     sound = k.kept.sound;
-    held = λ f. waiting_so (λ t i. MutexAt (IsHeldBy t) (slice_get w.objects i)) holds (k.kept.held f);
+    held = λ f. waiting_so (λ t i. ObjectAt (IsHeldBy t) (slice_get w.objects i)) holds (k.kept.held f);
     empty = k.kept.empty;
     unfreed = λ t n e f. waiting_so (λ u i. out ≡ Out i → ⊥) other (λ u i g h. k.kept.unfreed u i h g) t n f e;
   }
@@ -196,49 +204,55 @@ module _ {D : Type 0} where
 
   -- ---- objects
 
-  set_at : (P : Mutex D → Type 0) (objects : List (Object D)) (n m : ℕ) (x : Object D) → (n ≡ m → MutexAt P (Some x)) → MutexAt P (slice_get objects m) → MutexAt P (slice_get (slice_set objects n x) m)
+  set_at : (P : Object D → Type 0) (objects : List (Object D)) (n m : ℕ) (x : Object D) → (n ≡ m → P x) → ObjectAt P (slice_get objects m) → ObjectAt P (slice_get (slice_set objects n x) m)
   set_at P [] n m x h p = p
   set_at P (y ∷ objects) zero zero x h p = h refl
   set_at P (y ∷ objects) zero (suc m) x h p = p
   set_at P (y ∷ objects) (suc n) zero x h p = p
   set_at P (y ∷ objects) (suc n) (suc m) x h p = set_at P objects n m x (λ e. h (ap suc e)) p
 
-  set_here : (P Q : Mutex D → Type 0) (objects : List (Object D)) (n : ℕ) (x : Object D) → MutexAt P (Some x) → MutexAt Q (slice_get objects n) → MutexAt P (slice_get (slice_set objects n x) n)
+  set_here : (P Q : Object D → Type 0) (objects : List (Object D)) (n : ℕ) (x : Object D) → P x → ObjectAt Q (slice_get objects n) → ObjectAt P (slice_get (slice_set objects n x) n)
   set_here P Q [] n x h q = absurd q
   set_here P Q (y ∷ objects) zero x h q = h
   set_here P Q (y ∷ objects) (suc n) x h q = set_here P Q objects n x h q
 
-  more_at : (P : Mutex D → Type 0) (objects : List (Object D)) (m : ℕ) (x : Object D) → MutexAt P (slice_get objects m) → MutexAt P (slice_get (objects ++ x ∷ []) m)
+  more_at : (P : Object D → Type 0) (objects : List (Object D)) (m : ℕ) (x : Object D) → ObjectAt P (slice_get objects m) → ObjectAt P (slice_get (objects ++ x ∷ []) m)
   more_at P [] m x p = absurd p
   more_at P (y ∷ objects) zero x p = p
   more_at P (y ∷ objects) (suc m) x p = more_at P objects m x p
 
-  -- it isn't a mutex, and sound
+  -- it is no lock
   abbrev pub IsSettled : Object D → Type 0
   IsSettled (object.Mutex mutex) = ⊥
-  IsSettled (object.RwLock lock) = IsSoundRwLock lock
+  IsSettled (object.RwLock lock) = ⊥
   IsSettled _ = Unit {0}
 
   settled_sound : (x : Object D) → IsSettled x → IsSoundLock x
   settled_sound (object.Mutex mutex) s = absurd s
-  settled_sound (object.RwLock lock) s = s
+  settled_sound (object.RwLock lock) s = absurd s
   settled_sound _ s = tt
 
-  settled_at : (P : Mutex D → Type 0) (x : Object D) → IsSettled x → MutexAt P (Some x)
-  settled_at P (object.Mutex mutex) s = absurd s
-  settled_at P _ s = tt
+  settled_held : (t : ℕ) (x : Object D) → IsSettled x → IsHeldBy t x
+  settled_held t (object.Mutex mutex) s = absurd s
+  settled_held t (object.RwLock lock) s = absurd s
+  settled_held t _ s = tt
 
-  -- of the mutex that stands there
-  pub holds_there : (P : Mutex D → Type 0) (objects : List (Object D)) (n : ℕ) (mutex : Mutex D) → slice_get objects n ≡ Some (object.Mutex mutex) → MutexAt P (slice_get objects n) → P mutex
-  holds_there P objects n mutex e p = subst (MutexAt P) e p
+  settled_empty : (x : Object D) → IsSettled x → IsEmpty x
+  settled_empty (object.Mutex mutex) s = absurd s
+  settled_empty (object.RwLock lock) s = absurd s
+  settled_empty _ s = tt
+
+  -- of the object that stands there
+  pub holds_there : (P : Object D → Type 0) (objects : List (Object D)) (n : ℕ) (x : Object D) → slice_get objects n ≡ Some x → ObjectAt P (slice_get objects n) → P x
+  holds_there P objects n x e p = subst (ObjectAt P) e p
 
   module _ {out : Aim} {objects : List (Object D)} {threads : List (Thread D)} {active : ℕ} where
     pub set_ready : (n : ℕ) (x : Object D) → IsSettled x → IsReady out objects threads active → IsReady out (slice_set objects n x) threads active
     set_ready n x s k = record {
       kept = record {
         sound = set_sound objects n x k.kept.sound (settled_sound x s);
-        held = λ f t m e. set_at (IsHeldBy t) objects n m x (λ g. settled_at (IsHeldBy t) x s) (k.kept.held f t m e);
-        empty = λ m e. set_at IsEmpty objects n m x (λ f. settled_at IsEmpty x s) (k.kept.empty m e);
+        held = λ f t m e. set_at (IsHeldBy t) objects n m x (λ g. settled_held t x s) (k.kept.held f t m e);
+        empty = λ m e. set_at IsEmpty objects n m x (λ f. settled_empty x s) (k.kept.empty m e);
         unfreed = k.kept.unfreed;
       };
       idle = k.idle;
@@ -256,7 +270,7 @@ module _ {D : Type 0} where
     }
 
     -- a mutex of this number: one that is out keeps no data, and who is about to wait for it holds it
-    pub mutex_ready : (n : ℕ) (mutex : Mutex D) → IsSoundMutex mutex → (out ≡ Out n → IsEmpty mutex) → (Follows out → (t : ℕ) → freed_at (slice_get threads t) ≡ Some n → IsHeldBy t mutex)
+    pub mutex_ready : (n : ℕ) (mutex : Mutex D) → IsSoundMutex mutex → (out ≡ Out n → IsEmpty (object.Mutex mutex)) → (Follows out → (t : ℕ) → freed_at (slice_get threads t) ≡ Some n → IsHeldBy t (object.Mutex mutex))
         → IsReady out objects threads active → IsReady out (slice_set objects n (object.Mutex mutex)) threads active
     mutex_ready n mutex s is_empty is_held k = record {
       kept = record {
@@ -268,14 +282,27 @@ module _ {D : Type 0} where
       idle = k.idle;
     }
 
-  -- another mutex is followed: it keeps no data, and nobody is about to give it free
-  follows : {out : Aim} {objects : List (Object D)} {threads : List (Thread D)} {active : ℕ} (n : ℕ) → MutexAt IsEmpty (slice_get objects n)
+    -- a read-write lock in the place of one, which nobody is about to give free as a mutex: one that is out keeps no data
+    pub rwlock_ready : (n : ℕ) (before lock : RwLock D) → slice_get objects n ≡ Some (object.RwLock before) → IsSoundRwLock lock → (out ≡ Out n → IsEmpty (object.RwLock lock))
+        → IsReady out objects threads active → IsReady out (slice_set objects n (object.RwLock lock)) threads active
+    rwlock_ready n before lock there s is_empty k = record {
+      kept = record {
+        sound = set_sound objects n (object.RwLock lock) k.kept.sound s;
+        held = λ f t m e. set_at (IsHeldBy t) objects n m (object.RwLock lock) (λ g. holds_there (IsHeldBy t) objects n (object.RwLock before) there (k.kept.held f t n (cc (e, g)))) (k.kept.held f t m e);
+        empty = λ m e. set_at IsEmpty objects n m (object.RwLock lock) (λ f. is_empty (cc (e, f))) (k.kept.empty m e);
+        unfreed = k.kept.unfreed;
+      };
+      idle = k.idle;
+    }
+
+  -- another lock is followed: it keeps no data, and nobody is about to give it free
+  follows : {out : Aim} {objects : List (Object D)} {threads : List (Thread D)} {active : ℕ} (n : ℕ) → ObjectAt IsEmpty (slice_get objects n)
       → ((t : ℕ) → freed_at (slice_get threads t) ≡ Some n → ⊥) → Follows out → IsReady out objects threads active → IsReady (Out n) objects threads active
   follows {objects = objects} {threads = threads} n is_empty unfreed following k = record {
     kept = record {
       sound = k.kept.sound;
       held = λ f. k.kept.held following;
-      empty = λ m e. let same : n ≡ m = cc e in subst (λ i. MutexAt IsEmpty (slice_get objects i)) same is_empty;
+      empty = λ m e. let same : n ≡ m = cc e in subst (λ i. ObjectAt IsEmpty (slice_get objects i)) same is_empty;
       unfreed = λ t m e f. unfreed t (cc (e, f));
     };
     idle = λ f. k.idle following;
@@ -293,14 +320,29 @@ module _ {D : Type 0} where
 
   -- the free data of a mutex is taken out of it
   pub taken_out : (out : Aim) (n : ℕ) (w : World D) (mutex left : Mutex D) (value : D) → slice_get w.objects n ≡ Some (object.Mutex mutex) → free_value mutex ≡ Some value
-      → IsSoundMutex left → IsEmpty left → Ready out w → Ready out (with_mutex n left w) × Taken out n (with_mutex n left w)
+      → IsSoundMutex left → IsEmpty (object.Mutex left) → Ready out w → Ready out (with_mutex n left w) × Taken out n (with_mutex n left w)
   taken_out out n w mutex left value there free s is_empty k =
       let unfreed : Follows out → (t : ℕ) → freed_at (slice_get w.threads t) ≡ Some n → ⊥ =
-      λ f t h. free_unheld mutex.content.is_taken mutex.holder mutex.content.value value t free (holds_there (IsHeldBy t) w.objects n mutex there (k.kept.held f t n h)) in
+      λ f t h. free_unheld mutex.content.is_taken mutex.holder mutex.content.value value t free (holds_there (IsHeldBy t) w.objects n (object.Mutex mutex) there (k.kept.held f t n h)) in
       let after : Ready out (with_mutex n left w) = mutex_ready n left s (λ h. is_empty) (λ f t h. absurd (unfreed f t h)) k in
-      let here : MutexAt IsEmpty (slice_get (with_mutex n left w).objects n) =
-      set_here IsEmpty (λ (m : Mutex D). Unit {0}) w.objects n (object.Mutex left) is_empty (subst (MutexAt (λ (m : Mutex D). Unit {0})) (sym there) tt) in
-      (after, λ f. ((λ h. free_inside mutex.content.is_taken mutex.holder mutex.content.value value free (holds_there IsEmpty w.objects n mutex there (k.kept.empty n h))), follows n here (unfreed f) f after))
+      let here : ObjectAt IsEmpty (slice_get (with_mutex n left w).objects n) =
+      set_here IsEmpty (λ (x : Object D). Unit {0}) w.objects n (object.Mutex left) is_empty (subst (ObjectAt (λ (x : Object D). Unit {0})) (sym there) tt) in
+      (after, λ f. ((λ h. free_inside mutex.content.is_taken mutex.holder mutex.content.value value free (holds_there IsEmpty w.objects n (object.Mutex mutex) there (k.kept.empty n h))), follows n here (unfreed f) f after))
+
+  -- data that is in
+  value_inside : (is_taken : Bool) (inside : Option D) (value : D) → cond is_taken None inside ≡ Some value → inside ≡ None → ⊥
+  value_inside true inside value h e = cc h
+  value_inside false inside value h e = cc (h, e)
+
+  -- the data of a read-write lock is taken out of it
+  pub written_out : (out : Aim) (n : ℕ) (w : World D) (lock left : RwLock D) (value : D) → slice_get w.objects n ≡ Some (object.RwLock lock) → value_in lock.content ≡ Some value
+      → IsSoundRwLock left → IsEmpty (object.RwLock left) → Ready out w → Ready out (with_rwlock n left w) × Taken out n (with_rwlock n left w)
+  written_out out n w lock left value there inside s is_empty k =
+      let unfreed : Follows out → (t : ℕ) → freed_at (slice_get w.threads t) ≡ Some n → ⊥ = λ f t h. holds_there (IsHeldBy t) w.objects n (object.RwLock lock) there (k.kept.held f t n h) in
+      let after : Ready out (with_rwlock n left w) = rwlock_ready n lock left there s (λ h. is_empty) k in
+      let here : ObjectAt IsEmpty (slice_get (with_rwlock n left w).objects n) =
+      set_here IsEmpty (λ (x : Object D). Unit {0}) w.objects n (object.RwLock left) is_empty (subst (ObjectAt (λ (x : Object D). Unit {0})) (sym there) tt) in
+      (after, λ f. ((λ h. value_inside lock.content.is_taken lock.content.value value inside (holds_there IsEmpty w.objects n (object.RwLock lock) there (k.kept.empty n h))), follows n here (unfreed f) f after))
 
   -- ---- a thread that is chosen
 

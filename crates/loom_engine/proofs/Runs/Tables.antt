@@ -21,6 +21,9 @@ use Rattle.loom_engine.proofs.Runs.Kinds.Mutexes.{get_mut_opening, into_inner_op
 use Rattle.loom_objects.specs.declared.rt.run.Resumed.{Resumed}
 use Rattle.loom_engine.specs.Runs.Histories.{returned_by, opened_by}
 use Rattle.loom_objects.specs.Rules.Mutex.{mutex_get_mut, mutex_into_inner}
+use Rattle.loom_objects.specs.Rules.RwLock.{rwlock_get_mut, rwlock_into_inner}
+use Rattle.loom_objects.specs.declared.operation.RwLockOp.TheVariants as lock_op
+use Rattle.loom_engine.proofs.Runs.Kinds.RwLocks.{get_mut_opening as rwlock_get_mut_opening, into_inner_opening as rwlock_into_inner_opening}
 use Rattle.loom_engine.proofs.Runs.States.{Aim, Kept, Out, Ready, TurnTo, chosen_ready, freed_at, freed_by, kept_by_threads, set_anew}
 use Rattle.loom_engine.proofs.Runs.Ruling.{Entering, Fairly, Opening, ResumedTo, Resuming, answer_fairly, check_fairly, found_fairly, misuse, then_fairly}
 use Rattle.loom_engine.proofs.Runs.Kinds.{begins_entering, effect_resuming}
@@ -49,7 +52,7 @@ module _ {D : Type 0} where
   pub counted_entering : (todo : Request D ⊤) (w : World D) → Fairly (Entering (returned_by todo) w) (counted todo w)
   counted_entering todo w = check_fairly (Entering (returned_by todo) w) (nat_lt 0 w.steps_left) TooManySteps _ (λ e. cc) (λ e. begins_entering todo (one_fewer w))
 
-  -- the data of a mutex is taken out at once
+  -- the data of a lock is taken out at once
   pub counted_opening : (todo : Request D ⊤) (n : ℕ) (w : World D) → opened_by todo ≡ Some n → Fairly (Opening n w) (counted todo w)
   counted_opening (op.Mutex (mutex_op.GetMut m)) n w e = check_fairly (Opening n w) (nat_lt 0 w.steps_left) TooManySteps _ (λ f. cc) (λ f. get_mut_of m n (cc e))
     where
@@ -59,6 +62,14 @@ module _ {D : Type 0} where
     where
       into_inner_of : (m n : ℕ) → m ≡ n → Fairly (Opening n w) (mutex_into_inner m (one_fewer w))
       into_inner_of m n same = subst (λ i. Fairly (Opening i w) (mutex_into_inner m (one_fewer w))) same (into_inner_opening m (one_fewer w))
+  counted_opening (op.RwLock (lock_op.GetMut m)) n w e = check_fairly (Opening n w) (nat_lt 0 w.steps_left) TooManySteps _ (λ f. cc) (λ f. get_mut_of m n (cc e))
+    where
+      get_mut_of : (m n : ℕ) → m ≡ n → Fairly (Opening n w) (rwlock_get_mut m (one_fewer w))
+      get_mut_of m n same = subst (λ i. Fairly (Opening i w) (rwlock_get_mut m (one_fewer w))) same (rwlock_get_mut_opening m (one_fewer w))
+  counted_opening (op.RwLock (lock_op.IntoInner m)) n w e = check_fairly (Opening n w) (nat_lt 0 w.steps_left) TooManySteps _ (λ f. cc) (λ f. into_inner_of m n (cc e))
+    where
+      into_inner_of : (m n : ℕ) → m ≡ n → Fairly (Opening n w) (rwlock_into_inner m (one_fewer w))
+      into_inner_of m n same = subst (λ i. Fairly (Opening i w) (rwlock_into_inner m (one_fewer w))) same (rwlock_into_inner_opening m (one_fewer w))
   counted_opening _ n w e = absurd (cc e)
 
   -- ---- once the thread is chosen

@@ -27,6 +27,7 @@ use loom_objects::operation::{ExploreOp, Reply, Request, Turn};
 use loom_objects::rt::dependence::{Dependence, Use};
 use loom_objects::rt::machine::{begin, end_run, enter_wait, read, resume};
 use loom_objects::rt::run::{Entry, Passed, Resumed, RunState};
+use loom_views::rt::MAX_ATOMIC_HISTORY;
 use loom_views::rt::failure::FailureKind;
 use std::alloc::{AllocError, Global};
 use std::marker::Model;
@@ -363,7 +364,7 @@ fn take_turn<D: Data>(run: &mut Progress<D>, path: &mut Path, thread: u8) -> Res
 }
 
 /// The path says which of the slots that may be read is.
-fn choose_slot(path: &mut Path, readable: &[bool; 7]) -> Result<u8, Stop>
+fn choose_slot(path: &mut Path, readable: &[bool; MAX_ATOMIC_HISTORY]) -> Result<u8, Stop>
     requires some { Contains readable.now true }
     ensures says { Decides Choice.Load path.old (which_store (is_on path.old.exploring) readable.now) result path.new }
     ensures readable { IfOk result (λ slot. slice_get readable.now slot ≡ Some true) }

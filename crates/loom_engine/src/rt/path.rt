@@ -27,6 +27,7 @@ use loom_objects::failure::{Stop, failed};
 use loom_objects::operation::ExploreOp;
 use loom_objects::rt::exploring::Exploring;
 use loom_objects::rt::schedule::Offers;
+use loom_views::rt::MAX_ATOMIC_HISTORY;
 use loom_views::rt::failure::FailureKind;
 use std::alloc::{AllocError, Global};
 use std::marker::Model;
@@ -356,7 +357,7 @@ impl Path {
     /// doesn't pass it. Before the end the stored node must be the load that this set makes, else `NotDeterministic`.
     /// `TooManyBranches` where the path may have no further node, `NotDeterministic` where the given choice is no option.
     /// Where it fails the path stays as it was.
-    pub fn push_load(&mut self, readable: &[bool; 7]) -> Result<(), Stop>
+    pub fn push_load(&mut self, readable: &[bool; MAX_ATOMIC_HISTORY]) -> Result<(), Stop>
         requires some { Contains readable.now true }
         ensures pushes { Pushes self.old (which_store (is_on self.old.exploring) readable.now) result self.new }
         ensures readable { IfOk result (λ _. IsAtLoad readable.now self.new) }
@@ -510,7 +511,11 @@ fn choices_at(alloc: Global, nodes: &[Node]) -> Result<Vec<Choice>, AllocError>
 }
 
 /// A new load: at the choice that was given for its place, if any, or else at its default.
-fn new_load(exploring: bool, readable: &[bool; 7], given: Option<Choice>) -> Option<Load>
+fn new_load(
+    exploring: bool,
+    readable: &[bool; MAX_ATOMIC_HISTORY],
+    given: Option<Choice>,
+) -> Option<Load>
     requires some { Contains readable.now true }
     ensures made { option_map seen_load result ≡ new_node true (made_of (which_store exploring readable.now)) given }
     ensures well { IfSome result IsWellLoad }

@@ -36,6 +36,10 @@ long_runs = record defaults { max_branches = 100000 }
 abbrev pub three_nodes : Settings
 three_nodes = record defaults { max_branches = 3 }
 
+-- the defaults, but a run has one preemption at most
+abbrev pub one_preemption : Settings
+one_preemption = record defaults { preemption_bound = Some 1 }
+
 -- each schedule tries every thread that can go on, from where a run begins to explore
 abbrev pub explicit_search : Settings
 explicit_search = record whole_search { expect_explicit_explore = true }
@@ -63,6 +67,10 @@ long name steps = record { name = name; means = Steps steps; settings = long_run
 -- the script of these steps, in runs of three nodes at most
 abbrev pub few : List ℕ → List Written → Named
 few name steps = record { name = name; means = Steps steps; settings = three_nodes }
+
+-- the script of these steps, in runs of one preemption at most
+abbrev pub bounded : List ℕ → List Written → Named
+bounded name steps = record { name = name; means = Steps steps; settings = one_preemption }
 
 -- the script of these steps, by a search that isn't reduced, from where a run begins to explore
 abbrev pub explicit : List ℕ → List Written → Named

@@ -2,7 +2,7 @@
 use Rattle.std.specs.Prelude.{◌≡◌, List, [], ◌∷◌, ◌++◌, codes}
 use Rattle.loom_examples.specs.Rows.FewThreads.{few_thread_rows, lock_beside}
 use Rattle.loom_examples.specs.Rows.Meanings.{Named}
-use Rattle.loom_examples.specs.Rows.Settings.{script, whole, short, long, few, explicit, updates}
+use Rattle.loom_examples.specs.Rows.Settings.{script, whole, short, long, few, bounded, explicit, updates}
 use Rattle.loom_examples.specs.Rows.Scripts.First as first
 use Rattle.loom_examples.specs.Rows.Scripts.Atomics as atomics
 use Rattle.loom_examples.specs.Rows.Scripts.Cells as cells
@@ -67,9 +67,13 @@ update_rows =
     script (codes "three_adds") atomics.three_adds ∷ updates (codes "fetch_update_once") atomics.num_a atomics.num_b ∷
     []
 
+-- of threads that wait for flags
+abbrev pub flag_rows : List Named
+flag_rows = bounded (codes "acq_rel") atomics.acq_rel ∷ []
+
 -- about atomics and fences
 abbrev pub atomic_rows : List Named
-atomic_rows = function_rows ++ unsynchronized_rows ++ fence_rows ++ update_rows
+atomic_rows = function_rows ++ unsynchronized_rows ++ fence_rows ++ update_rows ++ flag_rows
 
 -- of a cell that an atomic releases
 abbrev pub causality_rows : List Named
@@ -202,7 +206,7 @@ exploring_rows =
 abbrev pub limit_rows : List Named
 limit_rows =
     few (codes "spin_alone") limits.spin_alone ∷ script (codes "fences") limits.fences ∷
-    script (codes "too_many_fences") limits.too_many_fences ∷ long (codes "too_many_stores") limits.too_many_stores ∷
+    script (codes "too_many_fences") limits.too_many_fences ∷ long (codes "many_stores") limits.many_stores ∷
     script (codes "finish_twice") limits.finish_twice ∷ script (codes "exit_first") limits.exit_first ∷
     script (codes "put_absent") limits.put_absent ∷ script (codes "guard_left") limits.guard_left ∷ []
 

@@ -33,6 +33,7 @@ pub fn all_rows(alloc: Global) -> Result<Vec<Row>, AllocError>
             atomics::unsynchronized(),
             atomics::fences(),
             atomics::updates(),
+            atomics::flags(),
             cells::causality(),
             cells::writes_at_once(),
             cells::reads_at_once(),

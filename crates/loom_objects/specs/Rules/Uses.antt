@@ -1,11 +1,15 @@
--- What the pending operation of each thread does to its object.
-use Rattle.std.specs.Prelude.{ℕ, List, [], ◌∷◌, map, Option, Some, None, slice_get}
+-- What the pending operation of each thread does to its object, and what may not be left of an object.
+use Rattle.std.specs.Prelude.{ℕ, nat_lt, Bool, true, false, List, [], ◌∷◌, map, if◌then◌else◌, Option, Some, None, slice_get}
 use Rattle.std.specs.Option.{option_map}
+use Rattle.loom_views.specs.declared.rt.failure.FailureKind.{FailureKind}
+use Rattle.loom_views.specs.declared.rt.failure.FailureKind.TheVariants.{LeakArc, LeakMessages, LeakTrack}
 use Rattle.loom_objects.specs.declared.rt.dependence.Action.{Action}
 use Rattle.loom_objects.specs.declared.rt.dependence.Action.TheVariants.{Read, Change, Increment, Decrement, Inspect, Send, Receive, Other}
 use Rattle.loom_objects.specs.declared.rt.dependence.Use.{Use}
 use Rattle.loom_objects.specs.declared.operation.AtomicOp.{AtomicOp}
 use Rattle.loom_objects.specs.declared.operation.AtomicOp.TheVariants as atomic
+use Rattle.loom_objects.specs.declared.rt.object.Object.{Object}
+use Rattle.loom_objects.specs.declared.rt.object.Object.TheVariants as object
 use Rattle.loom_objects.specs.declared.rt.thread.Counting.{Counting}
 use Rattle.loom_objects.specs.declared.rt.thread.Counting.TheVariants.{Clone, Drop, GetMut, Unwrap, StrongCount}
 use Rattle.loom_objects.specs.declared.rt.thread.Task.{Task}
@@ -29,6 +33,11 @@ counting_action StrongCount = Inspect
 
 abbrev pub used : Action → ℕ → Use
 used action n = record { object = n; action = action }
+
+-- a list without values
+abbrev pub is_none_left : {A : Type 0} → List A → Bool
+is_none_left [] = true
+is_none_left (a ∷ rest) = false
 
 module _ {D : Type 0} where
   -- the object that the thread's pending operation is on, and what it does to it
@@ -69,3 +78,18 @@ module _ {D : Type 0} where
   -- of each of the five threads, whatever its state
   abbrev pub uses : World D → List (Option Use)
   uses w = map (use_at w.threads) (0 ∷ 1 ∷ 2 ∷ 3 ∷ 4 ∷ [])
+
+  -- the leak of an object that is left: a reference or a waker that wasn't dropped, a value that wasn't given back, or a message
+  -- that wasn't received; objects of other kinds may be left
+  abbrev pub leak_of : Object D → Option FailureKind
+  leak_of (object.Arc arc) = if nat_lt 0 arc.count then Some LeakArc else None
+  leak_of (object.Track track) = if track.content.is_taken then None else Some LeakTrack
+  leak_of (object.Channel channel) = if is_none_left channel.messages then None else Some LeakMessages
+  leak_of (object.Wakers wakers) = if nat_lt 0 wakers.count then Some LeakArc else None
+  leak_of (object.Atomic atomic) = None
+  leak_of (object.Mutex mutex) = None
+  leak_of (object.RwLock lock) = None
+  leak_of (object.Condvar condvar) = None
+  leak_of (object.Notify notifier) = None
+  leak_of (object.Cell cell) = None
+  leak_of (object.AtomicWaker place) = None

@@ -52,6 +52,7 @@ impl<D: Drop> Scene<D> {
     }
 
     /// The tracked value of this number, to change. Misuse where there is none.
+    #[tactic(auto, using(crate::proofs::Scene::Finding::object_kept))]
     pub fn track_mut(&mut self, number: usize) -> Result<&mut Track<D>, FailureKind>
         ensures* writes_back { sem 𝓛 (lends_in_scene D.row (track_row.the_row D.row) Object.Track self.entry number result) }
         ensures value { now_of result ≡ lookup.track_at number self.old.objects }

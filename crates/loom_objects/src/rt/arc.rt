@@ -112,6 +112,7 @@ impl<D: Drop> Scene<D> {
     }
 
     /// The counted reference of this number, to change. Misuse where there is none.
+    #[tactic(auto, using(crate::proofs::Scene::Finding::object_kept))]
     pub fn arc_mut(&mut self, number: usize) -> Result<&mut Arc<D>, FailureKind>
         ensures* writes_back { sem 𝓛 (lends_in_scene D.row (arc_row.the_row D.row) Object.Arc self.entry number result) }
         ensures value { now_of result ≡ lookup.arc_at number self.old.objects }

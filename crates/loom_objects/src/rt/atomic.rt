@@ -59,6 +59,7 @@ impl<D: Drop> Scene<D> {
     }
 
     /// The atomic of this number, to change. Misuse where there is none, or it was taken apart.
+    #[tactic(auto, using(crate::proofs::Scene::Finding::object_kept))]
     pub fn atomic_mut(&mut self, number: usize) -> Result<&mut Atomic, FailureKind>
         ensures* writes_back { sem 𝓛 (lends_in_scene D.row (atomic_row.the_row) Object.Atomic self.entry number result) }
         ensures value { now_of result ≡ lookup.atomic_at number self.old.objects }

@@ -53,6 +53,7 @@ impl<D: Drop> Scene<D> {
     }
 
     /// The place for a waker of this number, to change. Misuse where there is none.
+    #[tactic(auto, using(crate::proofs::Scene::Finding::object_kept))]
     pub fn atomic_waker_mut(&mut self, number: usize) -> Result<&mut AtomicWaker, FailureKind>
         ensures* writes_back { sem 𝓛 (lends_in_scene D.row (atomic_waker_row.the_row) Object.AtomicWaker self.entry number result) }
         ensures value { now_of result ≡ lookup.atomic_waker_at number self.old.objects }

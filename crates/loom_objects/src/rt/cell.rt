@@ -124,6 +124,7 @@ impl<D: Drop> Scene<D> {
     }
 
     /// The cell of this number, to change. Misuse where there is none, or it was taken apart.
+    #[tactic(auto, using(crate::proofs::Scene::Finding::object_kept))]
     pub fn cell_mut(&mut self, number: usize) -> Result<&mut Cell<D>, FailureKind>
         ensures* writes_back { sem 𝓛 (lends_in_scene D.row (cell_row.the_row D.row) Object.Cell self.entry number result) }
         ensures value { now_of result ≡ lookup.cell_at number self.old.objects }

@@ -83,6 +83,7 @@ impl<D: Drop> Scene<D> {
     }
 
     /// The condition variable of this number, to change. Misuse where there is none.
+    #[tactic(auto, using(crate::proofs::Scene::Finding::object_kept))]
     pub fn condvar_mut(&mut self, number: usize) -> Result<&mut Condvar, FailureKind>
         ensures* writes_back { sem 𝓛 (lends_in_scene D.row (condvar_row.the_row) Object.Condvar self.entry number result) }
         ensures value { now_of result ≡ lookup.condvar_at number self.old.objects }

@@ -12,21 +12,6 @@ use crate::rt::thread::{State, Thread};
 use loom_views::rt::failure::FailureKind;
 use loom_views::sequence::Sequence;
 
-impl<D> Object<D> {
-    /// Which leak it is where it is left, if it is one.
-    pub fn leak(&self) -> Option<FailureKind>
-        ensures { result ≡ leaks.leak_of self.now }
-    {
-        match self {
-            Object::Arc(arc) if arc.count > 0 => Some(FailureKind::LeakArc),
-            Object::Track(track) if !track.content.is_taken => Some(FailureKind::LeakTrack),
-            Object::Channel(channel) if !channel.is_empty() => Some(FailureKind::LeakMessages),
-            Object::Wakers(wakers) if wakers.count > 0 => Some(FailureKind::LeakArc),
-            _ => None,
-        }
-    }
-}
-
 /// The first leak, in the order in which the objects were made (own).
 pub fn first_leak<D>(objects: &Sequence<Object<D>>) -> Option<FailureKind>
     ensures { result ≡ leaks.first_leak objects.now }

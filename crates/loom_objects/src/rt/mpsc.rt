@@ -111,6 +111,7 @@ impl<D: Drop> Scene<D> {
     }
 
     /// The channel of this number, to change. Misuse where there is none.
+    #[tactic(auto, using(crate::proofs::Scene::Finding::object_kept))]
     pub fn channel_mut(&mut self, number: usize) -> Result<&mut Channel<D>, FailureKind>
         ensures* writes_back { sem 𝓛 (lends_in_scene D.row (channel_row.the_row D.row) Object.Channel self.entry number result) }
         ensures value { now_of result ≡ lookup.channel_at number self.old.objects }

@@ -95,6 +95,7 @@ impl<D: Drop> Scene<D> {
     }
 
     /// The mutex of this number, to change. Misuse where there is none, or it was taken apart.
+    #[tactic(auto, using(crate::proofs::Scene::Finding::object_kept))]
     pub fn mutex_mut(&mut self, number: usize) -> Result<&mut Mutex<D>, FailureKind>
         ensures* writes_back { sem 𝓛 (lends_in_scene D.row (mutex_row.the_row D.row) Object.Mutex self.entry number result) }
         ensures value { now_of result ≡ lookup.mutex_at number self.old.objects }

@@ -100,6 +100,7 @@ impl<D: Drop> Scene<D> {
     }
 
     /// The notifier of this number, to change. Misuse where there is none.
+    #[tactic(auto, using(crate::proofs::Scene::Finding::object_kept))]
     pub fn notify_mut(&mut self, number: usize) -> Result<&mut Notify, FailureKind>
         ensures* writes_back { sem 𝓛 (lends_in_scene D.row (notify_row.the_row) Object.Notify self.entry number result) }
         ensures value { now_of result ≡ lookup.notify_at number self.old.objects }

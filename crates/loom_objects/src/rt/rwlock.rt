@@ -152,6 +152,7 @@ impl<D: Drop> Scene<D> {
     }
 
     /// The read-write lock of this number, to change. Misuse where there is none, or it was taken apart.
+    #[tactic(auto, using(crate::proofs::Scene::Finding::object_kept))]
     pub fn rwlock_mut(&mut self, number: usize) -> Result<&mut RwLock<D>, FailureKind>
         ensures* writes_back { sem 𝓛 (lends_in_scene D.row (rwlock_row.the_row D.row) Object.RwLock self.entry number result) }
         ensures value { now_of result ≡ lookup.rwlock_at number self.old.objects }

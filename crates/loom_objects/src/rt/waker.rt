@@ -55,6 +55,7 @@ impl<D: Drop> Scene<D> {
     }
 
     /// The count of wakers of this number, to change. Misuse where there is none.
+    #[tactic(auto, using(crate::proofs::Scene::Finding::object_kept))]
     pub fn wakers_mut(&mut self, number: usize) -> Result<&mut Wakers, FailureKind>
         ensures* writes_back { sem 𝓛 (lends_in_scene D.row (wakers_row.the_row) Object.Wakers self.entry number result) }
         ensures value { now_of result ≡ lookup.wakers_at number self.old.objects }

@@ -2,6 +2,7 @@
 //! (Closures that are spawned stand in `guide` and in `loom_examples::closures`.)
 use crate::closures::finding::Counter;
 use crate::closures::forms::{self, Signals};
+use crate::closures::forms_in_children::{self, Change, Form};
 use crate::closures::turns;
 use loom::runner::{Handle, Job, Stop};
 use loom::sync::Mutex;
@@ -21,6 +22,12 @@ pub(super) enum Task {
     Add(AtomicU64),
     /// Gives each signal.
     Signal(Signals),
+    /// What a form does.
+    Form(Form),
+    /// Waits for the change.
+    AwaitChange(Change),
+    /// Makes the change.
+    MakeChange(Change),
 }
 
 /// A thread that main starts.
@@ -38,6 +45,9 @@ impl<R: Wait> Job<u64, R> for Child {
             Task::LockBoth(outer, inner) => turns::lock_to_stop(handle, &outer, &inner, counter),
             Task::Add(number) => turns::add_one(handle, &number, counter),
             Task::Signal(signals) => forms::give_signals(handle, &signals),
+            Task::Form(form) => form.play(handle),
+            Task::AwaitChange(change) => forms_in_children::await_change(handle, &change),
+            Task::MakeChange(change) => forms_in_children::make_change(handle, &change),
         }
     }
 }

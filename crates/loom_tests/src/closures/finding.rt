@@ -1,4 +1,5 @@
 //! Checks of the mains of these tests, all by one closure.
+use crate::closures::forms_in_children::{self, Form};
 use crate::closures::{ends, forms, holds, turns};
 use loom::model::Report;
 use loom::model::builder::Builder;
@@ -31,6 +32,14 @@ pub(super) enum Main {
     NoMessages,
     /// One thread waits for another.
     Waits,
+    /// Main does what a form does.
+    Form(Form),
+    /// A thread does what a form does.
+    FormInChild(Form),
+    /// Main waits for a change of data.
+    WaitsWhile,
+    /// A thread waits for a change of data.
+    ChildWaitsWhile,
     /// Two threads lock two mutexes in opposite order.
     TwoMutexes,
     /// Two threads add to one number.
@@ -68,6 +77,10 @@ impl Main {
             Main::Messages => forms::messages(handle),
             Main::NoMessages => forms::no_messages(handle),
             Main::Waits => forms::waits(handle, counter),
+            Main::Form(form) => form.play(handle),
+            Main::FormInChild(form) => forms_in_children::in_child(handle, form, counter),
+            Main::WaitsWhile => forms_in_children::main_waits(handle, counter),
+            Main::ChildWaitsWhile => forms_in_children::child_waits(handle, counter),
             Main::TwoMutexes => turns::two_mutexes(handle, counter),
             Main::TwoAdds => turns::two_adds(handle, counter),
             Main::LockBeside => turns::counted_lock_beside(handle, counter),

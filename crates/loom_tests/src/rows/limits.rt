@@ -8,12 +8,7 @@ static MANY_FENCES: [Case; 2] = [
     case!("too_many_fences", DEFAULTS, 0, "failed 10 0"),
 ];
 
-static MANY_STORES: [Case; 1] = [case!(
-    "too_many_stores",
-    LONG_RUNS,
-    0,
-    "failed 11 0 65536 choices"
-)];
+static MANY_STORES: [Case; 1] = [case!("many_stores", LONG_RUNS, 0, "failed 11 0 65536 choices")];
 
 // Runs of three nodes at most.
 const SHORT: Settings = Settings {

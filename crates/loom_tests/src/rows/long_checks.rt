@@ -2,8 +2,10 @@
 //! checks small bodies, with stores and clocks of its own.
 mod environment;
 mod explaining;
+mod failing_files;
 mod faults;
 mod files;
+mod folder;
 mod limits;
 mod measured;
 mod mutations;
@@ -12,6 +14,7 @@ mod progress;
 mod rising;
 mod saves;
 mod texts;
+mod two_files;
 
 ghost use Rattle.std.specs.Prelude.{◌≡◌};
 ghost use Rattle.loom.specs.Model.Stores.{Counts};

@@ -1,11 +1,11 @@
 //! Bodies of other tests that aren't rows: runs as large as they may be, and misuse.
 use loom::sync::atomic::Ordering::Relaxed;
-use loom_examples::rows::tables::atomics::ACQ_REL;
-use loom_examples::rows::tables::limits::MANY_STORES;
+use loom_examples::rows::tables::limits::MOST_STORES;
 use loom_examples::rows::{Checked, DEFAULTS, Row};
 use loom_examples::scripts::step::{END, EXIT, FAIL, Step, Value};
 use loom_objects::operation::{
-    AtomicOp, CellOp, ChannelOp, MutexOp, NotifyOp, Request, RwLockOp, ThreadOp,
+    ArcOp, AtomicOp, CellOp, ChannelOp, LazyOp, LocalOp, MutexOp, NotifyOp, Request, RwLockOp,
+    ThreadOp, TrackOp,
 };
 use loom_views::rt::num::Numbers;
 use loom_views::rt::num::change::Change::Add;
@@ -57,9 +57,9 @@ const READ_THREE_TIMES: &[Step] = &[
     END,
 ];
 
-// Main adds 1 to a number 498 times, which is 996 nodes. Then it notifies its own notifier and waits on it, which is three
-// nodes, and the last node is that it has ended.
-const THOUSAND_NODES: &[Step] = &[
+/// Main adds 1 to a number 498 times, which is 996 nodes. Then it notifies its own notifier and waits on it, which is three
+/// nodes, and the last node is that it has ended.
+pub const THOUSAND_NODES: &[Step] = &[
     Step::Do(0, Request::Atomic(AtomicOp::New(Numbers::U64, 0))),
     Step::Do(1, Request::Notify(NotifyOp::New)),
     Step::Label("again"),
@@ -71,6 +71,80 @@ const THOUSAND_NODES: &[Step] = &[
     EXIT,
     END,
 ];
+
+// Main adds 1 to a number 499 times, which is 998 nodes. The last node that a run may have is then a load.
+const LOAD_LAST: &[Step] = &[
+    Step::Do(0, Request::Atomic(AtomicOp::New(Numbers::U64, 0))),
+    Step::Label("again"),
+    Step::Do(0, Request::Atomic(AtomicOp::Update(0, Add(1), Relaxed))),
+    Step::UnlessTo(0, 498, "again"),
+    Step::Do(0, Request::Atomic(AtomicOp::Load(0, Relaxed))),
+    FINISH,
+    EXIT,
+    END,
+];
+
+// Main adds 1 as often, and notifies its own notifier. The last node that a run may have is then whether its wait wakes early.
+const WAKE_LAST: &[Step] = &[
+    Step::Do(0, Request::Atomic(AtomicOp::New(Numbers::U64, 0))),
+    Step::Do(1, Request::Notify(NotifyOp::New)),
+    Step::Label("again"),
+    Step::Do(0, Request::Atomic(AtomicOp::Update(0, Add(1), Relaxed))),
+    Step::UnlessTo(0, 498, "again"),
+    Step::Do(1, Request::Notify(NotifyOp::Notify(1))),
+    Step::Do(1, Request::Notify(NotifyOp::Wait(1))),
+    FINISH,
+    EXIT,
+    END,
+];
+
+// The last of five threads makes what a thread can make, reads it, and lets it go. Main joins it, and finishes with its result.
+const FIFTH_THREAD: &[Step] = &[
+    Step::SpawnAt(0, "finish"),
+    Step::SpawnAt(0, "finish"),
+    Step::SpawnAt(0, "finish"),
+    Step::SpawnAt(0, "fifth"),
+    Step::Do(0, Request::Thread(ThreadOp::Join(0, 0))),
+    Step::Do(0, Request::Thread(ThreadOp::Finish(Value::Held(0)))),
+    EXIT,
+    END,
+    Step::Label("fifth"),
+    Step::Do(0, Request::Mutex(MutexOp::New(FIVE))),
+    Step::Do(0, Request::Mutex(MutexOp::Lock(0))),
+    Step::Do(0, Request::Mutex(MutexOp::Release(0, FIVE))),
+    Step::Do(0, Request::RwLock(RwLockOp::New(FIVE))),
+    Step::Do(0, Request::RwLock(RwLockOp::Read(0))),
+    Step::Do(0, Request::RwLock(RwLockOp::TryRead(0))),
+    Step::Do(0, Request::RwLock(RwLockOp::ReadRelease(0))),
+    Step::Do(0, Request::RwLock(RwLockOp::ReadRelease(0))),
+    Step::Do(0, Request::Cell(CellOp::New(FIVE))),
+    Step::Do(0, Request::Cell(CellOp::Read(0))),
+    Step::Do(0, Request::Cell(CellOp::Deref(0))),
+    Step::Do(0, Request::Cell(CellOp::ReadEnd(0))),
+    Step::Do(0, Request::Cell(CellOp::Get(0))),
+    Step::Do(0, Request::Arc(ArcOp::New(FIVE))),
+    Step::Do(0, Request::Arc(ArcOp::Get(0))),
+    Step::Do(0, Request::Arc(ArcOp::Drop(0))),
+    Step::Do(0, Request::Track(TrackOp::New(FIVE))),
+    Step::Do(0, Request::Track(TrackOp::GetRef(0))),
+    Step::Do(0, Request::Track(TrackOp::Drop(0))),
+    Step::Do(0, Request::Channel(ChannelOp::New)),
+    Step::Do(0, Request::Channel(ChannelOp::Send(0, FIVE))),
+    Step::Do(0, Request::Channel(ChannelOp::DropReceiver(0))),
+    Step::Do(0, Request::Atomic(AtomicOp::New(Numbers::U64, 5))),
+    Step::Do(0, Request::Atomic(AtomicOp::Update(0, Add(1), Relaxed))),
+    Step::Do(0, Request::Local(LocalOp::Init(1, FIVE))),
+    Step::Do(0, Request::Local(LocalOp::With(1))),
+    Step::Do(0, Request::Lazy(LazyOp::Init(1, FIVE))),
+    Step::Do(0, Request::Lazy(LazyOp::Get(1))),
+    Step::Do(0, Request::Lazy(LazyOp::Init(1, FIVE))),
+    Step::Label("finish"),
+    FINISH,
+    EXIT,
+    END,
+];
+
+const FIVE: Value = Value::Plain(5);
 
 // Main spawns five threads, which is one too many.
 const FIVE_SPAWNS: &[Step] = &[
@@ -171,12 +245,14 @@ pub fn rows() -> &'static [Row] {
     &ROWS
 }
 
-static LARGE_ROWS: [Row; 5] = [
+static LARGE_ROWS: [Row; 7] = [
     row!("a thousand nodes", THOUSAND_NODES),
+    row!("a load last", LOAD_LAST),
+    row!("a wait last", WAKE_LAST),
+    row!("fifth thread", FIFTH_THREAD),
     row!("one message for two", ONE_MESSAGE_FOR_TWO),
     row!("fail after a lock", FAIL_AFTER_A_LOCK),
-    row!("flags", ACQ_REL),
-    row!("many stores", MANY_STORES),
+    row!("most stores", MOST_STORES),
 ];
 
 /// Those that are not compared with the plain program.

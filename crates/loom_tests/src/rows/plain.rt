@@ -57,25 +57,29 @@ const UP_TO_ONE: &[Search] = &[
     (false, Some(1)),
 ];
 
-static LARGE_BODIES: [(&str, &[Search]); 4] = [
+const WITHOUT_PREEMPTION: &[Search] = &[(true, Some(0)), (false, Some(0))];
+
+static LARGE_BODIES: [(&str, &[Search]); 5] = [
     ("rwlock_writer_and_readers", REDUCED_OR_BOUNDED),
     ("notify_all", REDUCED_OR_BOUNDED),
     ("orders_equal", UP_TO_ONE),
     ("three_adds", BOUNDED),
+    ("acq_rel", WITHOUT_PREEMPTION),
 ];
 
 // The rows with more than 300 runs, and those with more than 60,000 accesses or fences.
-static LARGE: [&str; 10] = [
+static LARGE: [&str; 11] = [
     "rwlock_writer_and_readers",
     "notify_all",
     "orders_equal",
     "three_adds",
+    "acq_rel",
     "fences_then_relaxed",
     "many_locks",
     "too_many_locks",
     "fences",
     "too_many_fences",
-    "too_many_stores",
+    "many_stores",
 ];
 
 // How many runs a body may have here, and one more.

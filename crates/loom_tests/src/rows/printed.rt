@@ -40,7 +40,7 @@ static FIRST: [Line; 16] = [
     ),
 ];
 
-static ATOMICS: [Line; 16] = [
+static ATOMICS: [Line; 17] = [
     ("u8_functions", "complete 1\n", 0),
     ("i8_functions", "complete 1\n", 0),
     ("bool_nand", "complete 1\n", 0),
@@ -59,6 +59,7 @@ static ATOMICS: [Line; 16] = [
     ),
     ("three_adds", "complete 1981\n", 0),
     ("fetch_update_once", "complete 1\n", 0),
+    ("acq_rel", "complete 412\n", 0),
     ("atomic_causality_success", "complete 6\n", 0),
     ("atomic_causality_fail", "failed 1 0\n", 1),
 ];
@@ -217,7 +218,7 @@ fn fails_late(
 #[test]
 fn accesses_and_stores_are_counted(rt: HostRuntime) {
     fails_late(&rt, "too_many_locks", "failed 10 0", 65_535, 0);
-    fails_late(&rt, "too_many_stores", "failed 11 0", 40_000, 25_536);
+    fails_late(&rt, "many_stores", "failed 11 0", 40_000, 25_536);
 }
 
 // Whether the status is 2 where a pen takes nothing that the row is to print, and the other one was given nothing.

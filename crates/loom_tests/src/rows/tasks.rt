@@ -144,7 +144,7 @@ fn accesses_are_counted(rt: &(impl Abort + AllocGlobal + Files)) {
 fn as_many_stores_as_may_be(rt: &(impl Abort + AllocGlobal + Files)) {
     let line = long_line(rt.alloc(), "ended", 40_000, 25_536, " t-\n");
     let task = Task::Replay(&[]);
-    ends(rt, "many stores", LONG_RUNS, task, line.text.as_str(), 0);
+    ends(rt, "most stores", LONG_RUNS, task, line.text.as_str(), 0);
 }
 
 #[test]

@@ -3,16 +3,14 @@ ghost use Rattle.std.specs.Prelude.{◌≡◌, ◌≤◌, [], IfOk};
 ghost use Rattle.loom_engine.specs.Path.Route.{IsAtStart, IsSameSearch, trail};
 ghost use Rattle.loom.specs.Explain.Story.{IsToldAs, story_of};
 
-use crate::explain::events::bare::{bare_op, bare_reply};
 use crate::model::listener::Listener;
 use crate::model::run::{Ending, Room, run};
 use loom_engine::rt::execution::Limits;
 use loom_engine::rt::path::Path;
 use loom_explain::event::{End, Event};
 use loom_objects::body::Body;
-use loom_objects::label::location_in;
 use loom_objects::location::Location;
-use loom_objects::operation::{Op, Reply};
+use loom_objects::operation::{Op, Reply, bare_op, bare_reply};
 use std::alloc::{AllocError, Global};
 
 /// A run that was made.
@@ -20,7 +18,7 @@ use std::alloc::{AllocError, Global};
 pub struct Told {
     /// Its events, in order.
     pub events: Vec<Event>,
-    /// How it ended. A failure has the place of its operation, if that named one.
+    /// How it ended. A failure has no place yet.
     pub end: End,
 }
 
@@ -48,7 +46,7 @@ impl Teller {
 }
 
 impl Listener for Teller {
-    ghost use Rattle.std.specs.Prelude.{◌≡◌, ◌++◌, ◌∷◌, [], Some, ⊤, true};
+    ghost use Rattle.std.specs.Prelude.{◌≡◌, ◌++◌, ◌∷◌, [], Some, ⊤, false};
     ghost use Rattle.loom_objects.specs.declared.operation.Reply.{Reply};
 
     ghost takes_reply = { λ old reply new. (new.reply ≡ Some reply) × (new.events ≡ old.events) };
@@ -56,7 +54,7 @@ impl Listener for Teller {
     ghost takes_op = { λ old thread op choices new. (told : Reply ⊤) → old.reply ≡ Some told
         → new.events.items ≡ old.events.items ++ record { thread = thread; told = told; op = op; choices_before = choices } ∷ [] };
 
-    ghost knows_locations = { true };
+    ghost knows_locations = { false };
 
     fn hear_reply<D>(&mut self, reply: &Reply<D>) -> Result<(), AllocError> {
         self.reply = Some(bare_reply(self.alloc, reply)?);
@@ -81,13 +79,8 @@ impl Listener for Teller {
         Ok(())
     }
 
-    fn location(&self, thread: u8) -> Option<Location> {
-        let last = self
-            .events
-            .iter()
-            .rev()
-            .find(|event| event.thread == thread)?;
-        location_in(last.op.label)
+    fn location(&self, _thread: u8) -> Option<Location> {
+        None
     }
 }
 

@@ -1,6 +1,6 @@
 // Short forms for counted references: each makes an operation, and takes its reply apart.
-ghost use Rattle.std.specs.Prelude.{◌≡◌, IfOk, None};
-ghost use Rattle.loom.specs.Runner.Asking.{Tells, done_in, loaded_in, given_in, left_in};
+ghost use Rattle.std.specs.Prelude.{◌≡◌, IfOk, IfErr, None};
+ghost use Rattle.loom.specs.Runner.Asking.{Tells, Stops, done_in, loaded_in, given_in, left_in};
 ghost use Rattle.loom_objects.specs.declared.operation.Request.TheVariants as op;
 ghost use Rattle.loom_objects.specs.declared.operation.ArcOp.TheVariants as arc_op;
 ghost use Rattle.loom_ops.specs.Arc.{arc_handle};
@@ -19,6 +19,7 @@ impl<D: Exact + 'static, R: Wait> Handle<D, R> {
     pub fn arc(&mut self, value: D) -> Result<Arc, Stop>
         ensures thread { self.new.thread ≡ self.old.thread }
         ensures tells { IfOk result (Tells arc_handle (op.Arc (arc_op.New value)) self.old.told self.new.told) }
+        ensures stopped { IfErr result (Stops arc_handle (op.Arc (arc_op.New value)) self.old.told self.new) }
     {
         self.ask(Arc::new(value).request)
     }
@@ -26,6 +27,9 @@ impl<D: Exact + 'static, R: Wait> Handle<D, R> {
     /// One reference more, by the same handle (loom's `sync/arc.rs`).
     pub fn clone_arc(&mut self, arc: &Arc) -> Result<Arc, Stop>
         ensures thread { self.new.thread ≡ self.old.thread }
+        ensures same { IfOk result (λ other. other ≡ arc.now) }
+        ensures tells { IfOk result (λ other. Tells done_in (op.Arc (arc_op.Clone arc.now.number)) self.old.told self.new.told tt) }
+        ensures stopped { IfErr result (Stops done_in (op.Arc (arc_op.Clone arc.now.number)) self.old.told self.new) }
     {
         let arc = *arc;
         self.ask::<()>(arc.clone().request)?;
@@ -36,6 +40,7 @@ impl<D: Exact + 'static, R: Wait> Handle<D, R> {
     pub fn drop_arc(&mut self, arc: Arc) -> Result<Option<D>, Stop>
         ensures thread { self.new.thread ≡ self.old.thread }
         ensures tells { IfOk result (λ answer. Tells left_in (op.Arc (arc_op.Drop arc.number)) self.old.told self.new.told (record { 0 = answer })) }
+        ensures stopped { IfErr result (Stops left_in (op.Arc (arc_op.Drop arc.number)) self.old.told self.new) }
     {
         let Left(value) = self.ask(arc.drop().request)?;
         Ok(value)
@@ -45,6 +50,7 @@ impl<D: Exact + 'static, R: Wait> Handle<D, R> {
     pub fn deref(&mut self, arc: &Arc) -> Result<D, Stop>
         ensures thread { self.new.thread ≡ self.old.thread }
         ensures tells { IfOk result (λ answer. Tells given_in (op.Arc (arc_op.Get arc.now.number)) self.old.told self.new.told (record { 0 = answer })) }
+        ensures stopped { IfErr result (Stops given_in (op.Arc (arc_op.Get arc.now.number)) self.old.told self.new) }
     {
         let Given(value) = self.ask(arc.get().request)?;
         Ok(value)
@@ -53,6 +59,8 @@ impl<D: Exact + 'static, R: Wait> Handle<D, R> {
     /// How many references there are (loom's `sync/arc.rs`).
     pub fn strong_count(&mut self, arc: &Arc) -> Result<usize, Stop>
         ensures thread { self.new.thread ≡ self.old.thread }
+        ensures tells { IfOk result (λ count. Tells (loaded_in (λ number. number)) (op.Arc (arc_op.StrongCount arc.now.number)) self.old.told self.new.told (record { 0 = count })) }
+        ensures stopped { IfErr result (Stops (loaded_in (λ number. number)) (op.Arc (arc_op.StrongCount arc.now.number)) self.old.told self.new) }
     {
         let Loaded(count) = self.ask(arc.strong_count().request)?;
         Ok(count)

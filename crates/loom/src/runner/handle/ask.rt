@@ -1,6 +1,6 @@
 //! A question of a closure, and what its reply holds.
-ghost use Rattle.std.specs.Prelude.{◌≡◌, IfOk, OnOk, true};
-ghost use Rattle.loom.specs.Runner.Asking.{Tells};
+ghost use Rattle.std.specs.Prelude.{◌≡◌, IfOk, IfErr, OnOk, true};
+ghost use Rattle.loom.specs.Runner.Asking.{Tells, Stops};
 ghost use Rattle.loom.specs.Runner.Handle.{all_answered};
 
 use crate::runner::exact::Exact;
@@ -17,6 +17,7 @@ impl<D: Exact + 'static, R: Wait> Handle<D, R> {
         ensures live { OnOk result (all_answered self.old.told ≡ true) }
         ensures thread { self.new.thread ≡ self.old.thread }
         ensures tells { IfOk result (Tells A.held request self.old.told self.new.told) }
+        ensures stopped { IfErr result (Stops A.held request self.old.told self.new) }
     {
         let reply = self.call(request)?;
         match A::from_reply(reply) {

@@ -1,6 +1,6 @@
 // Short forms for atomics: each makes an operation, and takes its reply apart.
-ghost use Rattle.std.specs.Prelude.{◌≡◌, IfOk, None};
-ghost use Rattle.loom.specs.Runner.Asking.{Tells, done_in, exchanged_in, loaded_in, as_loaded};
+ghost use Rattle.std.specs.Prelude.{◌≡◌, IfOk, IfErr, None};
+ghost use Rattle.loom.specs.Runner.Asking.{Tells, Stops, done_in, exchanged_in, loaded_in, as_loaded};
 ghost use Rattle.loom_objects.specs.declared.operation.Request.TheVariants as op;
 ghost use Rattle.loom_objects.specs.declared.operation.AtomicOp.TheVariants as atomic_op;
 ghost use Rattle.loom_views.specs.declared.rt.num.change.Change.TheVariants as change;
@@ -19,6 +19,7 @@ impl<D: Exact + 'static, R: Wait> Handle<D, R> {
     pub fn atomic<T: Numeric>(&mut self, value: T) -> Result<Atomic<T>, Stop>
         ensures thread { self.new.thread ≡ self.old.thread }
         ensures tells { IfOk result (Tells atomic_handle (op.Atomic (atomic_op.New T.kind (T.number value))) self.old.told self.new.told) }
+        ensures stopped { IfErr result (Stops (atomic_handle {T = T}) (op.Atomic (atomic_op.New T.kind (T.number value))) self.old.told self.new) }
     {
         self.ask(Atomic::new(value).request)
     }
@@ -27,6 +28,7 @@ impl<D: Exact + 'static, R: Wait> Handle<D, R> {
     pub fn load<T: Numeric>(&mut self, atomic: &Atomic<T>, order: Ordering) -> Result<T, Stop>
         ensures thread { self.new.thread ≡ self.old.thread }
         ensures tells { IfOk result (λ answer. Tells (loaded_in T.value) (op.Atomic (atomic_op.Load atomic.now.number order)) self.old.told self.new.told (record { 0 = answer })) }
+        ensures stopped { IfErr result (Stops (loaded_in T.value) (op.Atomic (atomic_op.Load atomic.now.number order)) self.old.told self.new) }
     {
         let Loaded(value) = self.ask(atomic.load(order).request)?;
         Ok(value)
@@ -41,6 +43,7 @@ impl<D: Exact + 'static, R: Wait> Handle<D, R> {
     ) -> Result<(), Stop>
         ensures thread { self.new.thread ≡ self.old.thread }
         ensures tells { IfOk result (Tells done_in (op.Atomic (atomic_op.Store atomic.now.number (T.number value) order)) self.old.told self.new.told) }
+        ensures stopped { IfErr result (Stops done_in (op.Atomic (atomic_op.Store atomic.now.number (T.number value) order)) self.old.told self.new) }
     {
         self.ask(atomic.store(value, order).request)
     }
@@ -54,6 +57,7 @@ impl<D: Exact + 'static, R: Wait> Handle<D, R> {
     ) -> Result<T, Stop>
         ensures thread { self.new.thread ≡ self.old.thread }
         ensures tells { IfOk result (λ answer. Tells (loaded_in T.value) (op.Atomic (atomic_op.Update atomic.now.number (change.Swap (T.number value)) order)) self.old.told self.new.told (record { 0 = answer })) }
+        ensures stopped { IfErr result (Stops (loaded_in T.value) (op.Atomic (atomic_op.Update atomic.now.number (change.Swap (T.number value)) order)) self.old.told self.new) }
     {
         let Loaded(before) = self.ask(atomic.swap(value, order).request)?;
         Ok(before)
@@ -70,6 +74,7 @@ impl<D: Exact + 'static, R: Wait> Handle<D, R> {
     ) -> Result<Result<T, T>, Stop>
         ensures thread { self.new.thread ≡ self.old.thread }
         ensures tells { IfOk result (λ outcome. Tells (exchanged_in T.value) (exchange atomic.now.number (T.number current) (T.number new) success failure).request self.old.told self.new.told (as_loaded outcome)) }
+        ensures stopped { IfErr result (Stops (exchanged_in T.value) (exchange atomic.now.number (T.number current) (T.number new) success failure).request self.old.told self.new) }
     {
         let exchange = atomic.compare_exchange(current, new, success, failure);
         let outcome = self.ask(exchange.request)?;
@@ -87,6 +92,7 @@ impl<D: Exact + 'static, R: Wait> Handle<D, R> {
     ) -> Result<Result<T, T>, Stop>
         ensures thread { self.new.thread ≡ self.old.thread }
         ensures tells { IfOk result (λ outcome. Tells (exchanged_in T.value) (exchange atomic.now.number (T.number current) (T.number new) success failure).request self.old.told self.new.told (as_loaded outcome)) }
+        ensures stopped { IfErr result (Stops (exchanged_in T.value) (exchange atomic.now.number (T.number current) (T.number new) success failure).request self.old.told self.new) }
     {
         let exchange = atomic.compare_exchange_weak(current, new, success, failure);
         let outcome = self.ask(exchange.request)?;
@@ -102,6 +108,7 @@ impl<D: Exact + 'static, R: Wait> Handle<D, R> {
     ) -> Result<T, Stop>
         ensures thread { self.new.thread ≡ self.old.thread }
         ensures tells { IfOk result (λ answer. Tells (loaded_in T.value) (op.Atomic (atomic_op.Update atomic.now.number (change.Add (T.number value)) order)) self.old.told self.new.told (record { 0 = answer })) }
+        ensures stopped { IfErr result (Stops (loaded_in T.value) (op.Atomic (atomic_op.Update atomic.now.number (change.Add (T.number value)) order)) self.old.told self.new) }
     {
         let Loaded(before) = self.ask(atomic.fetch_add(value, order).request)?;
         Ok(before)
@@ -116,6 +123,7 @@ impl<D: Exact + 'static, R: Wait> Handle<D, R> {
     ) -> Result<T, Stop>
         ensures thread { self.new.thread ≡ self.old.thread }
         ensures tells { IfOk result (λ answer. Tells (loaded_in T.value) (op.Atomic (atomic_op.Update atomic.now.number (change.Sub (T.number value)) order)) self.old.told self.new.told (record { 0 = answer })) }
+        ensures stopped { IfErr result (Stops (loaded_in T.value) (op.Atomic (atomic_op.Update atomic.now.number (change.Sub (T.number value)) order)) self.old.told self.new) }
     {
         let Loaded(before) = self.ask(atomic.fetch_sub(value, order).request)?;
         Ok(before)
@@ -130,6 +138,7 @@ impl<D: Exact + 'static, R: Wait> Handle<D, R> {
     ) -> Result<T, Stop>
         ensures thread { self.new.thread ≡ self.old.thread }
         ensures tells { IfOk result (λ answer. Tells (loaded_in T.value) (op.Atomic (atomic_op.Update atomic.now.number (change.And (T.number value)) order)) self.old.told self.new.told (record { 0 = answer })) }
+        ensures stopped { IfErr result (Stops (loaded_in T.value) (op.Atomic (atomic_op.Update atomic.now.number (change.And (T.number value)) order)) self.old.told self.new) }
     {
         let Loaded(before) = self.ask(atomic.fetch_and(value, order).request)?;
         Ok(before)
@@ -144,6 +153,7 @@ impl<D: Exact + 'static, R: Wait> Handle<D, R> {
     ) -> Result<T, Stop>
         ensures thread { self.new.thread ≡ self.old.thread }
         ensures tells { IfOk result (λ answer. Tells (loaded_in T.value) (op.Atomic (atomic_op.Update atomic.now.number (change.Or (T.number value)) order)) self.old.told self.new.told (record { 0 = answer })) }
+        ensures stopped { IfErr result (Stops (loaded_in T.value) (op.Atomic (atomic_op.Update atomic.now.number (change.Or (T.number value)) order)) self.old.told self.new) }
     {
         let Loaded(before) = self.ask(atomic.fetch_or(value, order).request)?;
         Ok(before)
@@ -153,6 +163,7 @@ impl<D: Exact + 'static, R: Wait> Handle<D, R> {
     pub fn fence(&mut self, order: Ordering) -> Result<(), Stop>
         ensures thread { self.new.thread ≡ self.old.thread }
         ensures tells { IfOk result (Tells done_in (op.Fence order) self.old.told self.new.told) }
+        ensures stopped { IfErr result (Stops done_in (op.Fence order) self.old.told self.new) }
     {
         self.ask(fence(order).request)
     }

@@ -2,10 +2,9 @@
 ghost use Rattle.std.specs.Prelude.{◌≡◌, IfErr, IfOk, None, Some};
 ghost use Rattle.loom.specs.Runner.Calls.{is_reserved, is_reserved_of_thread, last_of};
 
-use crate::runner::copies::replies::copy_reply;
 use crate::runner::exact::Exact;
 use crate::runner::stop::Stop;
-use loom_objects::operation::{Reply, Request, ThreadOp};
+use loom_objects::operation::{Reply, Request, ThreadOp, copy_reply};
 use std::alloc::Global;
 
 /// Whether it is an operation that no closure hands over by `call`: a spawn, and each of a thread's end. In place of these the

@@ -1,6 +1,8 @@
 // Short forms for cells: each makes an operation, or the two of an access, and takes the replies apart.
-ghost use Rattle.std.specs.Prelude.{◌≡◌, IfOk, None};
-ghost use Rattle.loom.specs.Runner.Asking.{Tells, done_in, given_in};
+ghost use Rattle.std.specs.Prelude.{◌≡◌, IfOk, IfErr, None};
+ghost use Rattle.std.specs.Fn.{FnOnceReturnsAt, FnOnceReturnsAtMut};
+ghost use Rattle.loom.specs.Runner.Asking.{Tells, Stops, done_in, given_in};
+ghost use Rattle.loom.specs.Runner.Forms.{IsGivenBack, StopsWithin, reading, read_ending, writing, write_ending};
 ghost use Rattle.loom_objects.specs.declared.operation.Request.TheVariants as op;
 ghost use Rattle.loom_objects.specs.declared.operation.CellOp.TheVariants as cell_op;
 ghost use Rattle.loom_ops.specs.Cell.{cell_handle, unsafe_cell_handle, reader_taken, writer_taken};
@@ -17,6 +19,7 @@ impl<D: Exact + 'static, R: Wait> Handle<D, R> {
     pub fn unsafe_cell(&mut self, value: D) -> Result<UnsafeCell, Stop>
         ensures thread { self.new.thread ≡ self.old.thread }
         ensures tells { IfOk result (Tells unsafe_cell_handle (op.Cell (cell_op.New value)) self.old.told self.new.told) }
+        ensures stopped { IfErr result (Stops unsafe_cell_handle (op.Cell (cell_op.New value)) self.old.told self.new) }
     {
         self.ask(UnsafeCell::new(value).request)
     }
@@ -29,6 +32,8 @@ impl<D: Exact + 'static, R: Wait> Handle<D, R> {
     ) -> Result<T, Stop>
         requires { F.IsAlwaysCallable look }
         ensures thread { self.new.thread ≡ self.old.thread }
+        ensures within { IfOk result (IsGivenBack reader_taken (reading cell.now) read_ending (λ found answer left. FnOnceReturnsAt F.FnOnce look found answer) self.old.told self.new.told) }
+        ensures stopped { IfErr result (StopsWithin reader_taken (reading cell.now) read_ending (λ found answer left. FnOnceReturnsAt F.FnOnce look found answer) self.old.told self.new) }
     {
         let (pointer, value) = self.get(cell)?;
         let answer = look(&value);
@@ -44,6 +49,8 @@ impl<D: Exact + 'static, R: Wait> Handle<D, R> {
     ) -> Result<T, Stop>
         requires { F.IsAlwaysCallable change }
         ensures thread { self.new.thread ≡ self.old.thread }
+        ensures within { IfOk result (IsGivenBack writer_taken (writing cell.now) write_ending (FnOnceReturnsAtMut F.FnOnce change) self.old.told self.new.told) }
+        ensures stopped { IfErr result (StopsWithin writer_taken (writing cell.now) write_ending (FnOnceReturnsAtMut F.FnOnce change) self.old.told self.new) }
     {
         let (pointer, mut value) = self.get_mut(cell)?;
         let answer = change(&mut value);
@@ -55,6 +62,7 @@ impl<D: Exact + 'static, R: Wait> Handle<D, R> {
     pub fn get(&mut self, cell: &UnsafeCell) -> Result<(ConstPtr, D), Stop>
         ensures thread { self.new.thread ≡ self.old.thread }
         ensures tells { IfOk result (Tells reader_taken (op.Cell (cell_op.Read cell.now.number)) self.old.told self.new.told) }
+        ensures stopped { IfErr result (Stops reader_taken (op.Cell (cell_op.Read cell.now.number)) self.old.told self.new) }
     {
         self.ask(cell.get().request)
     }
@@ -63,6 +71,7 @@ impl<D: Exact + 'static, R: Wait> Handle<D, R> {
     pub fn end(&mut self, pointer: ConstPtr) -> Result<(), Stop>
         ensures thread { self.new.thread ≡ self.old.thread }
         ensures tells { IfOk result (Tells done_in (op.Cell (cell_op.ReadEnd pointer.number)) self.old.told self.new.told) }
+        ensures stopped { IfErr result (Stops done_in (op.Cell (cell_op.ReadEnd pointer.number)) self.old.told self.new) }
     {
         self.ask(pointer.end().request)
     }
@@ -71,6 +80,7 @@ impl<D: Exact + 'static, R: Wait> Handle<D, R> {
     pub fn get_mut(&mut self, cell: &UnsafeCell) -> Result<(MutPtr, D), Stop>
         ensures thread { self.new.thread ≡ self.old.thread }
         ensures tells { IfOk result (Tells writer_taken (op.Cell (cell_op.Write cell.now.number)) self.old.told self.new.told) }
+        ensures stopped { IfErr result (Stops writer_taken (op.Cell (cell_op.Write cell.now.number)) self.old.told self.new) }
     {
         self.ask(cell.get_mut().request)
     }
@@ -79,6 +89,7 @@ impl<D: Exact + 'static, R: Wait> Handle<D, R> {
     pub fn end_mut(&mut self, pointer: MutPtr, value: D) -> Result<(), Stop>
         ensures thread { self.new.thread ≡ self.old.thread }
         ensures tells { IfOk result (Tells done_in (op.Cell (cell_op.WriteEnd pointer.number value)) self.old.told self.new.told) }
+        ensures stopped { IfErr result (Stops done_in (op.Cell (cell_op.WriteEnd pointer.number value)) self.old.told self.new) }
     {
         self.ask(pointer.end(value).request)
     }
@@ -87,6 +98,7 @@ impl<D: Exact + 'static, R: Wait> Handle<D, R> {
     pub fn cell(&mut self, value: D) -> Result<Cell, Stop>
         ensures thread { self.new.thread ≡ self.old.thread }
         ensures tells { IfOk result (Tells cell_handle (op.Cell (cell_op.New value)) self.old.told self.new.told) }
+        ensures stopped { IfErr result (Stops cell_handle (op.Cell (cell_op.New value)) self.old.told self.new) }
     {
         self.ask(Cell::new(value).request)
     }
@@ -95,6 +107,7 @@ impl<D: Exact + 'static, R: Wait> Handle<D, R> {
     pub fn copied(&mut self, cell: &Cell) -> Result<D, Stop>
         ensures thread { self.new.thread ≡ self.old.thread }
         ensures tells { IfOk result (λ answer. Tells given_in (op.Cell (cell_op.Get cell.now.number)) self.old.told self.new.told (record { 0 = answer })) }
+        ensures stopped { IfErr result (Stops given_in (op.Cell (cell_op.Get cell.now.number)) self.old.told self.new) }
     {
         let Given(value) = self.ask(cell.get().request)?;
         Ok(value)
@@ -103,6 +116,8 @@ impl<D: Exact + 'static, R: Wait> Handle<D, R> {
     /// Writes the cell's data: in loom `set` (loom's `cell/cell.rs`).
     pub fn set(&mut self, cell: &Cell, value: D) -> Result<(), Stop>
         ensures thread { self.new.thread ≡ self.old.thread }
+        ensures tells { IfOk result (λ done. (before : D) × Tells given_in (op.Cell (cell_op.Replace cell.now.number value)) self.old.told self.new.told (record { 0 = before })) }
+        ensures stopped { IfErr result (Stops given_in (op.Cell (cell_op.Replace cell.now.number value)) self.old.told self.new) }
     {
         let Given(_) = self.ask(cell.set(value).request)?;
         Ok(())

@@ -1,6 +1,6 @@
 // Short forms for channels: each makes an operation, and takes its reply apart.
-ghost use Rattle.std.specs.Prelude.{◌≡◌, IfOk, None};
-ghost use Rattle.loom.specs.Runner.Asking.{Tells, done_in, channel_in, drained_in, received_in, sent_in, tried_receive_in};
+ghost use Rattle.std.specs.Prelude.{◌≡◌, IfOk, IfErr, None};
+ghost use Rattle.loom.specs.Runner.Asking.{Tells, Stops, done_in, channel_in, drained_in, received_in, sent_in, tried_receive_in};
 ghost use Rattle.loom_objects.specs.declared.operation.Request.TheVariants as op;
 ghost use Rattle.loom_objects.specs.declared.operation.ChannelOp.TheVariants as channel_op;
 
@@ -17,6 +17,7 @@ impl<D: Exact + 'static, R: Wait> Handle<D, R> {
     pub fn channel(&mut self) -> Result<(Sender, Receiver), Stop>
         ensures thread { self.new.thread ≡ self.old.thread }
         ensures tells { IfOk result (Tells channel_in (op.Channel channel_op.New) self.old.told self.new.told) }
+        ensures stopped { IfErr result (Stops channel_in (op.Channel channel_op.New) self.old.told self.new) }
     {
         self.ask(channel().request)
     }
@@ -25,6 +26,7 @@ impl<D: Exact + 'static, R: Wait> Handle<D, R> {
     pub fn send(&mut self, sender: &Sender, message: D) -> Result<Result<(), D>, Stop>
         ensures thread { self.new.thread ≡ self.old.thread }
         ensures tells { IfOk result (λ answer. Tells sent_in (op.Channel (channel_op.Send sender.now.number message)) self.old.told self.new.told (record { 0 = answer })) }
+        ensures stopped { IfErr result (Stops sent_in (op.Channel (channel_op.Send sender.now.number message)) self.old.told self.new) }
     {
         let Sent(outcome) = self.ask(sender.send(message).request)?;
         Ok(outcome)
@@ -34,6 +36,7 @@ impl<D: Exact + 'static, R: Wait> Handle<D, R> {
     pub fn recv(&mut self, receiver: &Receiver) -> Result<Option<D>, Stop>
         ensures thread { self.new.thread ≡ self.old.thread }
         ensures tells { IfOk result (λ answer. Tells received_in (op.Channel (channel_op.Recv receiver.now.number)) self.old.told self.new.told (record { 0 = answer })) }
+        ensures stopped { IfErr result (Stops received_in (op.Channel (channel_op.Recv receiver.now.number)) self.old.told self.new) }
     {
         let Received(message) = self.ask(receiver.recv().request)?;
         Ok(message)
@@ -43,6 +46,7 @@ impl<D: Exact + 'static, R: Wait> Handle<D, R> {
     pub fn try_recv(&mut self, receiver: &Receiver) -> Result<Result<D, TryRecvError>, Stop>
         ensures thread { self.new.thread ≡ self.old.thread }
         ensures tells { IfOk result (λ answer. Tells tried_receive_in (op.Channel (channel_op.TryRecv receiver.now.number)) self.old.told self.new.told (record { 0 = answer })) }
+        ensures stopped { IfErr result (Stops tried_receive_in (op.Channel (channel_op.TryRecv receiver.now.number)) self.old.told self.new) }
     {
         let TriedReceive(outcome) = self.ask(receiver.try_recv().request)?;
         Ok(outcome)
@@ -51,6 +55,9 @@ impl<D: Exact + 'static, R: Wait> Handle<D, R> {
     /// One sender more, by the same handle (loom's `sync/mpsc.rs`).
     pub fn clone_sender(&mut self, sender: &Sender) -> Result<Sender, Stop>
         ensures thread { self.new.thread ≡ self.old.thread }
+        ensures same { IfOk result (λ other. other ≡ sender.now) }
+        ensures tells { IfOk result (λ other. Tells done_in (op.Channel (channel_op.CloneSender sender.now.number)) self.old.told self.new.told tt) }
+        ensures stopped { IfErr result (Stops done_in (op.Channel (channel_op.CloneSender sender.now.number)) self.old.told self.new) }
     {
         let sender = *sender;
         self.ask::<()>(sender.clone().request)?;
@@ -61,6 +68,7 @@ impl<D: Exact + 'static, R: Wait> Handle<D, R> {
     pub fn drop_sender(&mut self, sender: Sender) -> Result<(), Stop>
         ensures thread { self.new.thread ≡ self.old.thread }
         ensures tells { IfOk result (Tells done_in (op.Channel (channel_op.DropSender sender.number)) self.old.told self.new.told) }
+        ensures stopped { IfErr result (Stops done_in (op.Channel (channel_op.DropSender sender.number)) self.old.told self.new) }
     {
         self.ask(sender.drop().request)
     }
@@ -69,6 +77,7 @@ impl<D: Exact + 'static, R: Wait> Handle<D, R> {
     pub fn drop_receiver(&mut self, receiver: Receiver) -> Result<LinkedList<D>, Stop>
         ensures thread { self.new.thread ≡ self.old.thread }
         ensures tells { IfOk result (λ answer. Tells drained_in (op.Channel (channel_op.DropReceiver receiver.number)) self.old.told self.new.told (record { 0 = answer })) }
+        ensures stopped { IfErr result (Stops drained_in (op.Channel (channel_op.DropReceiver receiver.number)) self.old.told self.new) }
     {
         let Drained(messages) = self.ask(receiver.drop().request)?;
         Ok(messages)

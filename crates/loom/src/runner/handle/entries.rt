@@ -4,13 +4,12 @@ ghost use Rattle.loom_objects.specs.declared.operation.Reply.TheVariants as repl
 ghost use Rattle.loom.specs.Runner.Histories.{entry};
 ghost use Rattle.loom.specs.Runner.Handle.{spawning};
 
-use crate::runner::copies::requests::copy_request;
 use crate::runner::exact::Exact;
 use crate::runner::handle::calls::keep;
 use crate::runner::history::event::Entry;
 use crate::runner::shared::{Child, Children};
 use crate::runner::stop::Stop;
-use loom_objects::operation::{Reply, Request, ThreadOp};
+use loom_objects::operation::{Reply, Request, ThreadOp, copy_request};
 use loom_ops::thread::JoinHandle;
 use std::alloc::Global;
 

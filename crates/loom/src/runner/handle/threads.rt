@@ -1,6 +1,8 @@
 // Short forms for threads and the search: each makes an operation, and takes its reply apart.
-ghost use Rattle.std.specs.Prelude.{◌≡◌, ◌++◌, ◌∷◌, [], IfOk, IfErr, OnOk, None, Ok, Some, true};
-ghost use Rattle.loom.specs.Runner.Asking.{Tells, done_in, joined_in};
+ghost use Rattle.std.specs.Prelude.{◌≡◌, ◌++◌, ◌∷◌, [], IfOk, IfErr, OnOk, None, Ok, Err, Some, true, false};
+ghost use Rattle.std.specs.Fn.{CalledAtMut};
+ghost use Rattle.loom.specs.Runner.Asking.{Tells, Stops, Fails, done_in, joined_in};
+ghost use Rattle.loom.specs.Runner.Forms.{Holds, StopsTrying};
 ghost use Rattle.loom_objects.specs.declared.operation.Request.TheVariants as op;
 ghost use Rattle.loom_objects.specs.declared.operation.ThreadOp.TheVariants as thread_op;
 ghost use Rattle.loom_objects.specs.declared.operation.ExploreOp.TheVariants as explore_op;
@@ -9,7 +11,7 @@ ghost use Rattle.loom_objects.specs.declared.operation.Reply.TheVariants as repl
 ghost use Rattle.loom.specs.Runner.Histories.{entry};
 ghost use Rattle.loom.specs.Runner.Handle.{with_open, spawning, ByStop, all_answered};
 
-use crate::runner::closures::ask_closure;
+use crate::runner::closures::{ask_closure, wait_for_ever};
 use crate::runner::exact::Exact;
 use crate::runner::handle::Handle;
 use crate::runner::job::Call;
@@ -26,6 +28,7 @@ impl<D: Exact + 'static, R: Wait> Handle<D, R> {
     pub fn join(&mut self, child: &JoinHandle) -> Result<D, Stop>
         ensures thread { self.new.thread ≡ self.old.thread }
         ensures tells { IfOk result (λ answer. Tells joined_in (op.Thread (thread_op.Join child.now.thread child.now.notifier)) self.old.told self.new.told (record { 0 = answer })) }
+        ensures stopped { IfErr result (Stops joined_in (op.Thread (thread_op.Join child.now.thread child.now.notifier)) self.old.told self.new) }
     {
         let Joined(value) = self.ask(child.join().request)?;
         Ok(value)
@@ -35,17 +38,20 @@ impl<D: Exact + 'static, R: Wait> Handle<D, R> {
     pub fn yield_now(&mut self) -> Result<(), Stop>
         ensures thread { self.new.thread ≡ self.old.thread }
         ensures tells { IfOk result (Tells done_in (op.Thread thread_op.Yield) self.old.told self.new.told) }
+        ensures stopped { IfErr result (Stops done_in (op.Thread thread_op.Yield) self.old.told self.new) }
     {
         self.ask(yield_now().request)
     }
 
-    /// Asks the closure again and again, and yields in between, until it answers true (own; in loom a loop that yields). A run that
-    /// goes on so without an end fails by `max_steps` or `max_branches`.
+    /// Asks the closure again and again, and yields in between, until it answers true or a stop, or the yield does (own; in loom a
+    /// loop that yields). A run that goes on so without an end fails by `max_steps` or `max_branches`.
     pub fn until<F: FnMut(&mut Handle<D, R>) -> Result<bool, Stop>>(
         &mut self,
         mut holds: F,
     ) -> Result<(), Stop>
         requires { F.IsAlwaysCallable holds }
+        ensures holds { IfOk result (λ done. Holds (CalledAtMut F.FnMut) holds self.old self.new) }
+        ensures stopped { IfErr result (StopsTrying (CalledAtMut F.FnMut) holds self.old self.new) }
     {
         for _ in 0..u64::MAX {
             if ask_closure(&mut holds, self)? {
@@ -53,12 +59,14 @@ impl<D: Exact + 'static, R: Wait> Handle<D, R> {
             }
             self.yield_now()?;
         }
-        Err(self.fail())
+        wait_for_ever(&self.rt)
     }
 
     /// Fails the run as an assertion, unless the condition holds (own; in loom `assert!`).
     pub fn assert(&mut self, holds: bool) -> Result<(), Stop>
         ensures thread { self.new.thread ≡ self.old.thread }
+        ensures holds { holds ≡ true → (result ≡ Ok tt) × (self.new ≡ self.old) }
+        ensures fails { holds ≡ false → Fails self.old.told self.new result }
     {
         if holds { Ok(()) } else { Err(self.fail()) }
     }
@@ -67,6 +75,8 @@ impl<D: Exact + 'static, R: Wait> Handle<D, R> {
     pub fn allocated<T: Drop>(&mut self, made: Result<T, AllocError>) -> Result<T, Stop>
         ensures thread { self.new.thread ≡ self.old.thread }
         ensures value { IfOk result (λ value. made ≡ Ok value) }
+        ensures made { IfOk made (λ value. (result ≡ Ok value) × (self.new ≡ self.old)) }
+        ensures refused { IfErr made (λ error. (result ≡ Err Stop.Memory) × (self.new.starved ≡ true)) }
     {
         match made {
             Ok(value) => Ok(value),
@@ -78,6 +88,7 @@ impl<D: Exact + 'static, R: Wait> Handle<D, R> {
     pub fn current(&mut self) -> Result<Thread, Stop>
         ensures thread { self.new.thread ≡ self.old.thread }
         ensures tells { IfOk result (Tells thread_handle (op.Thread thread_op.Current) self.old.told self.new.told) }
+        ensures stopped { IfErr result (Stops thread_handle (op.Thread thread_op.Current) self.old.told self.new) }
     {
         self.ask(current().request)
     }
@@ -86,6 +97,7 @@ impl<D: Exact + 'static, R: Wait> Handle<D, R> {
     pub fn park(&mut self) -> Result<(), Stop>
         ensures thread { self.new.thread ≡ self.old.thread }
         ensures tells { IfOk result (Tells done_in (op.Thread thread_op.Park) self.old.told self.new.told) }
+        ensures stopped { IfErr result (Stops done_in (op.Thread thread_op.Park) self.old.told self.new) }
     {
         self.ask(park().request)
     }
@@ -94,6 +106,7 @@ impl<D: Exact + 'static, R: Wait> Handle<D, R> {
     pub fn unpark(&mut self, thread: &Thread) -> Result<(), Stop>
         ensures thread { self.new.thread ≡ self.old.thread }
         ensures tells { IfOk result (Tells done_in (op.Thread (thread_op.Unpark thread.now.id.0)) self.old.told self.new.told) }
+        ensures stopped { IfErr result (Stops done_in (op.Thread (thread_op.Unpark thread.now.id.0)) self.old.told self.new) }
     {
         self.ask(thread.unpark().request)
     }
@@ -102,6 +115,7 @@ impl<D: Exact + 'static, R: Wait> Handle<D, R> {
     pub fn explore(&mut self) -> Result<(), Stop>
         ensures thread { self.new.thread ≡ self.old.thread }
         ensures tells { IfOk result (Tells done_in (op.Explore explore_op.Explore) self.old.told self.new.told) }
+        ensures stopped { IfErr result (Stops done_in (op.Explore explore_op.Explore) self.old.told self.new) }
     {
         self.ask(explore().request)
     }
@@ -110,6 +124,7 @@ impl<D: Exact + 'static, R: Wait> Handle<D, R> {
     pub fn stop_exploring(&mut self) -> Result<(), Stop>
         ensures thread { self.new.thread ≡ self.old.thread }
         ensures tells { IfOk result (Tells done_in (op.Explore explore_op.StopExploring) self.old.told self.new.told) }
+        ensures stopped { IfErr result (Stops done_in (op.Explore explore_op.StopExploring) self.old.told self.new) }
     {
         self.ask(stop_exploring().request)
     }
@@ -118,6 +133,7 @@ impl<D: Exact + 'static, R: Wait> Handle<D, R> {
     pub fn skip_branch(&mut self) -> Result<(), Stop>
         ensures thread { self.new.thread ≡ self.old.thread }
         ensures tells { IfOk result (Tells done_in (op.Explore explore_op.SkipBranch) self.old.told self.new.told) }
+        ensures stopped { IfErr result (Stops done_in (op.Explore explore_op.SkipBranch) self.old.told self.new) }
     {
         self.ask(skip_branch().request)
     }

@@ -1,12 +1,15 @@
 // Short forms for condition variables and notifiers: each makes an operation, and takes its reply apart.
-ghost use Rattle.std.specs.Prelude.{◌≡◌, IfOk, None};
-ghost use Rattle.loom.specs.Runner.Asking.{Tells, done_in, guard_in};
+ghost use Rattle.std.specs.Prelude.{◌≡◌, IfOk, IfErr, None};
+ghost use Rattle.std.specs.Fn.{CalledAt};
+ghost use Rattle.loom.specs.Runner.Asking.{Tells, Stops, done_in, guard_in};
+ghost use Rattle.loom.specs.Runner.Forms.{Wakes, StopsSleeping};
 ghost use Rattle.loom_objects.specs.declared.operation.Request.TheVariants as op;
 ghost use Rattle.loom_objects.specs.declared.operation.CondvarOp.TheVariants as condvar_op;
 ghost use Rattle.loom_objects.specs.declared.operation.NotifyOp.TheVariants as notifier_op;
 ghost use Rattle.loom_ops.specs.Condvar.{condvar_handle};
 ghost use Rattle.loom_ops.specs.Notify.{notify_handle};
 
+use crate::runner::closures::wait_for_ever;
 use crate::runner::exact::Exact;
 use crate::runner::handle::Handle;
 use crate::runner::stop::Stop;
@@ -20,6 +23,7 @@ impl<D: Exact + 'static, R: Wait> Handle<D, R> {
     pub fn condvar(&mut self) -> Result<Condvar, Stop>
         ensures thread { self.new.thread ≡ self.old.thread }
         ensures tells { IfOk result (Tells condvar_handle (op.Condvar condvar_op.New) self.old.told self.new.told) }
+        ensures stopped { IfErr result (Stops condvar_handle (op.Condvar condvar_op.New) self.old.told self.new) }
     {
         self.ask(Condvar::new().request)
     }
@@ -33,11 +37,12 @@ impl<D: Exact + 'static, R: Wait> Handle<D, R> {
     ) -> Result<(MutexGuard, D), Stop>
         ensures thread { self.new.thread ≡ self.old.thread }
         ensures tells { IfOk result (Tells guard_in (op.Condvar (condvar_op.Wait condvar.now.number guard.number value)) self.old.told self.new.told) }
+        ensures stopped { IfErr result (Stops guard_in (op.Condvar (condvar_op.Wait condvar.now.number guard.number value)) self.old.told self.new) }
     {
         self.ask(condvar.wait(guard, value).request)
     }
 
-    /// Waits again and again, while the closure says so of the data (std's `Condvar::wait_while`).
+    /// Waits again and again, while the closure says so of the data, up to a stop (std's `Condvar::wait_while`).
     pub fn wait_while<F: FnMut(&D) -> bool>(
         &mut self,
         condvar: &Condvar,
@@ -47,6 +52,8 @@ impl<D: Exact + 'static, R: Wait> Handle<D, R> {
     ) -> Result<(MutexGuard, D), Stop>
         requires { F.IsAlwaysCallable sleeps }
         ensures thread { self.new.thread ≡ self.old.thread }
+        ensures wakes { IfOk result (Wakes (CalledAt F.FnMut) condvar.now sleeps (guard, value) self.old.told self.new.told) }
+        ensures stopped { IfErr result (StopsSleeping (CalledAt F.FnMut) condvar.now sleeps (guard, value) self.old.told self.new) }
     {
         let mut held = (guard, value);
         for _ in 0..u64::MAX {
@@ -56,13 +63,14 @@ impl<D: Exact + 'static, R: Wait> Handle<D, R> {
             let (guard, value) = held;
             held = self.wait(condvar, guard, value)?;
         }
-        Err(self.fail())
+        wait_for_ever(&self.rt)
     }
 
     /// Wakes the thread that has waited longest, if there is one (loom's `sync/condvar.rs`).
     pub fn notify_one(&mut self, condvar: &Condvar) -> Result<(), Stop>
         ensures thread { self.new.thread ≡ self.old.thread }
         ensures tells { IfOk result (Tells done_in (op.Condvar (condvar_op.NotifyOne condvar.now.number)) self.old.told self.new.told) }
+        ensures stopped { IfErr result (Stops done_in (op.Condvar (condvar_op.NotifyOne condvar.now.number)) self.old.told self.new) }
     {
         self.ask(condvar.notify_one().request)
     }
@@ -71,6 +79,7 @@ impl<D: Exact + 'static, R: Wait> Handle<D, R> {
     pub fn notify_all(&mut self, condvar: &Condvar) -> Result<(), Stop>
         ensures thread { self.new.thread ≡ self.old.thread }
         ensures tells { IfOk result (Tells done_in (op.Condvar (condvar_op.NotifyAll condvar.now.number)) self.old.told self.new.told) }
+        ensures stopped { IfErr result (Stops done_in (op.Condvar (condvar_op.NotifyAll condvar.now.number)) self.old.told self.new) }
     {
         self.ask(condvar.notify_all().request)
     }
@@ -79,6 +88,7 @@ impl<D: Exact + 'static, R: Wait> Handle<D, R> {
     pub fn notifier(&mut self) -> Result<Notify, Stop>
         ensures thread { self.new.thread ≡ self.old.thread }
         ensures tells { IfOk result (Tells notify_handle (op.Notify notifier_op.New) self.old.told self.new.told) }
+        ensures stopped { IfErr result (Stops notify_handle (op.Notify notifier_op.New) self.old.told self.new) }
     {
         self.ask(Notify::new().request)
     }
@@ -87,6 +97,7 @@ impl<D: Exact + 'static, R: Wait> Handle<D, R> {
     pub fn notify(&mut self, notifier: &Notify) -> Result<(), Stop>
         ensures thread { self.new.thread ≡ self.old.thread }
         ensures tells { IfOk result (Tells done_in (op.Notify (notifier_op.Notify notifier.now.number)) self.old.told self.new.told) }
+        ensures stopped { IfErr result (Stops done_in (op.Notify (notifier_op.Notify notifier.now.number)) self.old.told self.new) }
     {
         self.ask(notifier.notify().request)
     }
@@ -95,6 +106,7 @@ impl<D: Exact + 'static, R: Wait> Handle<D, R> {
     pub fn wait_for(&mut self, notifier: &Notify) -> Result<(), Stop>
         ensures thread { self.new.thread ≡ self.old.thread }
         ensures tells { IfOk result (Tells done_in (op.Notify (notifier_op.Wait notifier.now.number)) self.old.told self.new.told) }
+        ensures stopped { IfErr result (Stops done_in (op.Notify (notifier_op.Wait notifier.now.number)) self.old.told self.new) }
     {
         self.ask(notifier.wait().request)
     }

@@ -2,10 +2,9 @@
 ghost use Rattle.std.specs.Prelude.{◌≡◌, ◌↔◌, IsTrue, MatchOption, None, Some};
 ghost use Rattle.loom.specs.Runner.Events.{answer, entry, replied};
 
-use crate::runner::copies::same_replies::is_same_reply;
-use crate::runner::copies::same_requests::is_same_request;
 use crate::runner::exact::Exact;
 use crate::runner::history::event::{Entry, Event};
+use crate::runner::same::{is_same_reply, is_same_request};
 use loom_objects::failure::Failure;
 use loom_objects::operation::{Reply, Request, Turn};
 

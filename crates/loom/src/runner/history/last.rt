@@ -1,15 +1,14 @@
 //! What the last event of a run says.
-ghost use Rattle.std.specs.Prelude.{◌≡◌, IfOk, MatchOption, None, Some};
-ghost use Rattle.loom.specs.Runner.Events.{last_event, end_in, ended_by, failed_by};
+ghost use Rattle.std.specs.Prelude.{◌≡◌, ◌↔◌, IfOk, IsTrue, MatchOption, None, Some};
+ghost use Rattle.loom.specs.Runner.Events.{last_event, end_in, ended_by, failed_by, IsReplied, next_turn, reply_in, start_in, starting, turn_in};
 
-use crate::runner::copies::replies::copy_reply;
 use crate::runner::exact::Exact;
 use crate::runner::history::entry::reply_to;
 use crate::runner::history::event::Event;
 use crate::runner::history::{History, MISUSE};
 use crate::runner::stop::Stop;
 use loom_objects::failure::Failure;
-use loom_objects::operation::{Reply, Turn};
+use loom_objects::operation::{Reply, Turn, copy_reply};
 use std::alloc::{AllocError, Global};
 
 impl<D> History<D> {
@@ -28,23 +27,17 @@ impl<D> History<D> {
     }
 
     /// Whether it is the thread's turn by the last event (own).
-    pub fn is_turn_of(&self, thread: u8) -> bool {
-        self.events()
-            .last()
-            .is_some_and(|event| is_turn(&event.outcome, thread))
+    pub fn is_turn_of(&self, thread: u8) -> bool
+        ensures { IsTrue result ↔ (turn_in self.now ≡ Some thread) }
+    {
+        is_turn_in(self.events(), thread)
     }
 
     /// Whether the thread starts by the last event (own).
-    pub fn starts(&self, thread: u8) -> bool {
-        self.events()
-            .last()
-            .is_some_and(|event| is_start(&event.outcome, thread))
-    }
-
-    /// The reply to the thread in the last event.
-    fn last_reply(&self, thread: u8) -> Option<&Reply<D>> {
-        let event = self.events().last()?;
-        reply_to(&event.outcome, thread)
+    pub fn starts(&self, thread: u8) -> bool
+        ensures { IsTrue result ↔ (start_in self.now ≡ Some thread) }
+    {
+        starts_in(self.events(), thread)
     }
 }
 
@@ -56,10 +49,16 @@ impl<D: Exact> History<D> {
         value_in(self.events())
     }
 
-    /// A copy of the reply to the thread in the last event (own).
-    pub fn reply(&self, alloc: Global, thread: u8) -> Result<Reply<D>, Stop> {
-        match self.last_reply(thread) {
-            Some(reply) => copy_reply(alloc, reply).map_err(|_| Stop::Memory),
+    /// A copy of the reply to the thread in the last event, or `MISUSE` where that has none. `Memory` where a growth is refused
+    /// (own).
+    pub fn reply(&self, alloc: Global, thread: u8) -> Result<Reply<D>, Stop>
+        ensures { IsReplied thread self.now result }
+    {
+        match reply_in(self.events(), thread) {
+            Some(reply) => match copy_reply(alloc, reply) {
+                Ok(copy) => Ok(copy),
+                Err(_) => Err(Stop::Memory),
+            },
             None => Err(Stop::Failure(MISUSE)),
         }
     }
@@ -111,8 +110,38 @@ fn value_in<D: Exact>(history: &[Event<D>]) -> Result<Option<D>, AllocError>
     Ok(Some(value.try_clone()?))
 }
 
+/// Whether it is the thread's turn by the last event.
+fn is_turn_in<D>(history: &[Event<D>], thread: u8) -> bool
+    ensures { IsTrue result ↔ (turn_in history.now ≡ Some thread) }
+{
+    match history.last() {
+        Some(event) => is_turn(&event.outcome, thread),
+        None => false,
+    }
+}
+
+/// Whether the thread starts by the last event.
+fn starts_in<D>(history: &[Event<D>], thread: u8) -> bool
+    ensures { IsTrue result ↔ (start_in history.now ≡ Some thread) }
+{
+    match history.last() {
+        Some(event) => is_start(&event.outcome, thread),
+        None => false,
+    }
+}
+
+/// The reply to the thread in the last event.
+fn reply_in<D>(history: &[Event<D>], thread: u8) -> Option<&Reply<D>>
+    ensures { MatchOption result (reply_in thread history.now ≡ None) (λ r. reply_in thread history.now ≡ Some r.now) }
+{
+    let event = history.last()?;
+    reply_to(&event.outcome, thread)
+}
+
 /// Whether the next turn is the thread's.
-fn is_turn<D>(outcome: &Result<Turn<D>, Failure>, thread: u8) -> bool {
+fn is_turn<D>(outcome: &Result<Turn<D>, Failure>, thread: u8) -> bool
+    ensures { IsTrue result ↔ (next_turn outcome.now ≡ Some thread) }
+{
     match outcome {
         Ok(Turn::Reply(next, _)) | Ok(Turn::Start(next)) => *next == thread,
         Ok(Turn::Ended(_)) | Err(_) => false,
@@ -120,7 +149,9 @@ fn is_turn<D>(outcome: &Result<Turn<D>, Failure>, thread: u8) -> bool {
 }
 
 /// Whether the next turn is the thread's first one.
-fn is_start<D>(outcome: &Result<Turn<D>, Failure>, thread: u8) -> bool {
+fn is_start<D>(outcome: &Result<Turn<D>, Failure>, thread: u8) -> bool
+    ensures { IsTrue result ↔ (starting outcome.now ≡ Some thread) }
+{
     match outcome {
         Ok(Turn::Start(next)) => *next == thread,
         Ok(Turn::Reply(..)) | Ok(Turn::Ended(_)) | Err(_) => false,

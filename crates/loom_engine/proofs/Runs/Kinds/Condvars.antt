@@ -17,7 +17,7 @@ use Rattle.loom_objects.specs.World.{World, MAX_THREADS}
 use Rattle.loom_engine.proofs.Runs.Kinds.Mutexes.{frees_keeping}
 use Rattle.loom_objects.specs.declared.rt.thread.State.TheVariants.{Sleeping}
 use Rattle.loom_engine.specs.Runs.Histories.{returned_by_condvar}
-use Rattle.loom_engine.proofs.Runs.States.{Aim, IsHeldBy, MutexAt, Ready, changed_ready, pends_ready, rests_ready, waits_kept}
+use Rattle.loom_engine.proofs.Runs.States.{Aim, IsHeldBy, ObjectAt, Ready, changed_ready, pends_ready, rests_ready, waits_kept}
 use Rattle.loom_engine.proofs.Runs.Ruling.{Entering, Fairly, Keeping, OnwardBut, PassingBut, answer_fairly, check_fairly, condvar_fair, fair_keeping, misuse, mutex_fairly, new_keeping, set_keeping, then_fairly}
 use Rattle.loom_engine.proofs.Runs.Replies.{enters, wake_begins_quiet, Unswitched, unswitched}
 use Rattle.loom_engine.proofs.Runs.Answering.{Answers}
@@ -33,7 +33,7 @@ module _ {D : Type 0} where
   wait_entering locking n m value w =
       answer_fairly (Entering (Some m) w) (a_condvar n w) _ (condvar_fair n w) (λ condvar. mutex_fairly (Entering (Some m) w) m w _ (λ mutex there s.
       check_fairly (Entering (Some m) w) (is_number mutex.holder w.active) Misuse _ misuse (λ e out other k.
-      waits_kept out m (task.Wait locking n m value) false w refl (λ o. other m o refl) (subst (MutexAt (IsHeldBy w.active)) (sym there) (is_its_number mutex.holder w.active e)) k)))
+      waits_kept out m (task.Wait locking n m value) false w refl (λ o. other m o refl) (subst (ObjectAt (IsHeldBy w.active)) (sym there) (is_its_number mutex.holder w.active e)) k)))
 
   wake_begins_keeping : (waking : Wakes) (n : ℕ) (w : World D) → Keeping w (wake_begins waking n w)
   wake_begins_keeping waking n w = fair_keeping (a_condvar n w) _ w (condvar_fair n w) (λ condvar out k. pends_ready (task.Wake waking n) false refl k)

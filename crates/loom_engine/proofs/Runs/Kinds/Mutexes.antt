@@ -5,6 +5,7 @@ use Rattle.loom_views.specs.declared.rt.failure.FailureKind.{FailureKind}
 use Rattle.loom_views.specs.declared.rt.failure.FailureKind.TheVariants.{Misuse}
 use Rattle.loom_objects.specs.declared.operation.MutexOp.{MutexOp}
 use Rattle.loom_objects.specs.declared.operation.MutexOp.TheVariants as mutex_op
+use Rattle.loom_objects.specs.declared.rt.object.Object.TheVariants as object
 use Rattle.loom_objects.specs.declared.rt.thread.Locking.{Locking}
 use Rattle.loom_objects.specs.declared.rt.thread.Locking.TheVariants.{Untimed, Timed}
 use Rattle.loom_objects.specs.Lent.{handed_out, lent_to, taken_apart}
@@ -80,7 +81,7 @@ module _ {D : Type 0} where
   frees_keeping n value w =
       mutex_fairly (OnwardBut n w) n w _ (λ mutex there s. check_fairly (OnwardBut n w) (is_number mutex.holder w.active) Misuse _ misuse (λ e out other k.
       pending_ready n Runnable (mutex_ready n _ (held_alone w.active mutex.holder mutex.content.value mutex.content.lent value e (s k.kept.sound)) (λ o. absurd (other o))
-      (λ f t h. let same : t ≡ w.active = held_by_active w.active t mutex.holder e (holds_there (IsHeldBy t) w.objects n mutex there (k.kept.held f t n h)) in
+      (λ f t h. let same : t ≡ w.active = held_by_active w.active t mutex.holder e (holds_there (IsHeldBy t) w.objects n (object.Mutex mutex) there (k.kept.held f t n h)) in
       absurd (k.idle f n (subst (λ u. freed_at (slice_get w.threads u) ≡ Some n) same h))) k)))
 
   pub get_mut_opening : (n : ℕ) (w : World D) → Fairly (Opening n w) (mutex_get_mut n w)
@@ -95,7 +96,7 @@ module _ {D : Type 0} where
   put_entering n value w =
       mutex_fairly (Entering (Some n) w) n w _ (λ mutex there s. check_fairly (Entering (Some n) w) (is_number mutex.content.lent w.active) Misuse _ misuse (λ e out other k. (
         mutex_ready n _ (lent_alone w.active mutex.holder mutex.content.value mutex.content.lent value e (s k.kept.sound)) (λ o. absurd (other n o refl))
-            (λ f t h. holds_there (IsHeldBy t) w.objects n mutex there (k.kept.held f t n h)) k,
+            (λ f t h. holds_there (IsHeldBy t) w.objects n (object.Mutex mutex) there (k.kept.held f t n h)) k,
         λ m i. absurd (cc i),
       )))
 
@@ -114,7 +115,7 @@ module _ {D : Type 0} where
   try_lock_begins_keeping n w = mutex_fairly (Onward w) n w _ (λ mutex there s out k. pends_ready (task.TryLock n) false refl k)
 
   -- data that is taken out at once is in no lock's reply
-  opening_enters : (n : ℕ) (w : World D) (r : Result (Entry D × World D) FailureKind) → Fairly (Opening n w) r → Fairly (Entering None w) r
+  pub opening_enters : (n : ℕ) (w : World D) (r : Result (Entry D × World D) FailureKind) → Fairly (Opening n w) r → Fairly (Entering None w) r
   opening_enters n w (Ok (Answered reply, v)) h = λ out other k. ((h out k).1.0, λ m e. absurd (cc ((h out k).0, e)))
   opening_enters n w (Ok (AtBranch, v)) h = λ out other k. absurd (h out k)
   opening_enters n w (Ok (AtSpurious m, v)) h = λ out other k. absurd (h out k)

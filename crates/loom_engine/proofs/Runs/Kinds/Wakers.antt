@@ -24,11 +24,9 @@ use Rattle.loom_objects.specs.Rules.Moves.{an_atomic_waker, a_wakers, releases, 
 use Rattle.loom_objects.specs.Rules.Notify.{notify}
 use Rattle.loom_objects.specs.Rules.Waker.{acquires_if, after_clone, after_drop, after_wake, clones_waker, drops_waker, frees_place, has_taken, holds_place, atomic_waker_begins, registers, registers_if, some_wakers, take_begins, takes_place, takes_waker, wake_begins, waker_begins, waker_pends, wakes_by, with_wakers}
 use Rattle.loom_objects.specs.World.{World}
-use Rattle.loom_engine.proofs.Runs.Events.{Anything}
-use Rattle.loom_engine.proofs.Runs.Fairness.{IsFairResult}
 use Rattle.loom_engine.proofs.Runs.Kinds.Notifiers.{notify_keeping, some_fair, wait_begins_keeping, yields_keeping}
 use Rattle.loom_engine.proofs.Runs.States.{Aim, Ready, freed_by, pending_ready, pends_ready}
-use Rattle.loom_engine.proofs.Runs.Ruling.{Keeping, answer_fairly, chained, check_fairly, check_keeping, fair_keeping, fair_of, misuse, new_keeping, place_fair, set_keeping, then_keeping, wakers_fair}
+use Rattle.loom_engine.proofs.Runs.Ruling.{Keeping, chained, check_keeping, fair_keeping, misuse, new_keeping, place_fair, set_keeping, then_keeping, wakers_fair}
 
 module _ {D : Type 0} where
   -- ---- a future's notifier, and its wakers

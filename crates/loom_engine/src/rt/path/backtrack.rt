@@ -10,18 +10,19 @@ ghost use Rattle.loom_engine.specs.Path.Tallies.{last_switch};
 use crate::rt::path::Path;
 use crate::rt::path::node::{Node, Schedule, Status};
 use crate::rt::path::nodes::exploring_in;
+use loom_views::rt::MAX_THREADS;
 
 impl Path {
     /// Makes the marks of a schedule: each thread that isn't ordered after the access that was made at its place is to be tried
     /// there, or at the nearest schedule before that explores. Under a bound on preemptions also where the run last went over
     /// to another thread before that. Nothing in a search that isn't reduced. A mark that stands already changes nothing.
-    pub fn backtrack(&mut self, places: &[Option<usize>; 5])
+    pub fn backtrack(&mut self, places: &[Option<usize>; MAX_THREADS])
         ensures { Backtracks self.old places.now self.new }
     {
         if !self.search.reduce {
             return;
         }
-        for thread in 0..5 {
+        for thread in 0..MAX_THREADS {
             if let Some(place) = places[thread] {
                 self.mark(place, thread);
             }
@@ -105,14 +106,14 @@ fn marked_status(status: Status) -> Status
 }
 
 /// A schedule has five statuses.
-fn are_five(statuses: &[Status; 5])
+fn are_five(statuses: &[Status; MAX_THREADS])
     ensures { length statuses.now ≡ 5 }
 {
     let _ = statuses;
 }
 
 /// The statuses when each thread is to be tried too.
-fn marked_statuses(statuses: &[Status; 5]) -> [Status; 5]
+fn marked_statuses(statuses: &[Status; MAX_THREADS]) -> [Status; MAX_THREADS]
     ensures { result ≡ map marked_status statuses.now }
 {
     statuses.map(|status| marked_status(status))
@@ -127,7 +128,7 @@ fn add_thread(schedule: &mut Schedule, thread: usize)
     ensures noted { (schedule.new.preemptions ≡ schedule.old.preemptions) × (schedule.new.switch ≡ schedule.old.switch) × (schedule.new.nearest ≡ schedule.old.nearest) }
 {
     are_five(&schedule.statuses);
-    if !schedule.exploring || thread >= 5 {
+    if !schedule.exploring || thread >= MAX_THREADS {
         return;
     }
     match schedule.statuses[thread] {

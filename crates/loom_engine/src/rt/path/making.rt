@@ -16,6 +16,7 @@ use crate::rt::path::node::{
 };
 use loom_objects::choice::Choice;
 use loom_objects::rt::schedule::{Ability, Offers};
+use loom_views::rt::{MAX_ATOMIC_HISTORY, MAX_THREADS};
 
 /// Whether so many preemptions are below the bound, if there is one.
 pub fn is_below(bound: Option<u8>, preemptions: u32) -> bool
@@ -40,7 +41,7 @@ fn made_status(ability: Ability, every: bool) -> Status
 }
 
 /// The statuses, as the node is made, while no thread is the choice.
-fn made_statuses(abilities: &[Ability; 5], every: bool) -> [Status; 5]
+fn made_statuses(abilities: &[Ability; MAX_THREADS], every: bool) -> [Status; MAX_THREADS]
     ensures made { result ≡ map (made_status every) abilities.now }
     ensures size { length abilities.now ≡ 5 }
 {
@@ -117,7 +118,7 @@ fn may_choose(schedule: &Schedule, thread: usize) -> bool
 }
 
 /// Whether the slot is there, and may be read.
-fn is_readable(readable: &[bool; 7], slot: usize) -> bool
+fn is_readable(readable: &[bool; MAX_ATOMIC_HISTORY], slot: usize) -> bool
     ensures readable { IsTrue result ↔ (slice_get readable.now slot ≡ Some true) }
     ensures within { IsTrue result → slot < 7 }
 {
@@ -126,7 +127,7 @@ fn is_readable(readable: &[bool; 7], slot: usize) -> bool
 
 /// A new load, where the run explores or doesn't: the lowest slot is the choice, and each other one that may be read is to
 /// be tried.
-pub(crate) fn load(exploring: bool, readable: &[bool; 7]) -> Load
+pub(crate) fn load(exploring: bool, readable: &[bool; MAX_ATOMIC_HISTORY]) -> Load
     requires some { Contains readable.now true }
     ensures made { seen_load result ≡ fresh true (made_of (which_store exploring readable.now)) }
     ensures well { IsWellLoad result }
@@ -139,7 +140,11 @@ pub(crate) fn load(exploring: bool, readable: &[bool; 7]) -> Load
 }
 
 /// A new load at a choice that was given, or None where that is no option. The slots below it count as tried.
-pub(crate) fn load_at(exploring: bool, readable: &[bool; 7], choice: Choice) -> Option<Load>
+pub(crate) fn load_at(
+    exploring: bool,
+    readable: &[bool; MAX_ATOMIC_HISTORY],
+    choice: Choice,
+) -> Option<Load>
     requires some { Contains readable.now true }
     ensures made { option_map seen_load result ≡ new_node true (made_of (which_store exploring readable.now)) (Some choice) }
     ensures well { IfSome result IsWellLoad }

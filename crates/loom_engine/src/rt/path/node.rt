@@ -14,6 +14,7 @@ ghost use Rattle.loom_engine.specs.Path.Tallies.{Tallies, IsNoted, goes_over};
 
 use loom_objects::choice::Choice;
 use loom_objects::rt::schedule::{Ability, Offers};
+use loom_views::rt::{MAX_ATOMIC_HISTORY, MAX_THREADS};
 
 /// What is known of a thread at a schedule (loom's `rt/path.rs`).
 #[derive(Clone, Copy, PartialEq, Eq)]
@@ -47,7 +48,7 @@ pub struct Schedule {
     /// Whether the run explores here, or takes the default and no other.
     pub exploring: bool,
     /// One status for each of five threads.
-    pub statuses: [Status; 5],
+    pub statuses: [Status; MAX_THREADS],
 }
 
 /// A node at which the store is chosen that a load reads.
@@ -56,7 +57,7 @@ pub struct Load {
     /// Whether the run explores here, or takes the lowest slot and no other.
     pub exploring: bool,
     /// Which of the seven slots may be read.
-    pub readable: [bool; 7],
+    pub readable: [bool; MAX_ATOMIC_HISTORY],
     /// The place of the choice among the slots that may be read.
     pub position: u8,
 }
@@ -103,10 +104,10 @@ pub fn is_same_thread(one: Option<u8>, other: Option<u8>) -> bool
 }
 
 /// Whether the threads offer the same in both.
-fn are_same_abilities(one: &[Ability; 5], other: &[Ability; 5]) -> bool
+fn are_same_abilities(one: &[Ability; MAX_THREADS], other: &[Ability; MAX_THREADS]) -> bool
     ensures { IsTrue result ↔ (one.now ≡ other.now) }
 {
-    for place in 0..5 {
+    for place in 0..MAX_THREADS {
         if one[place] != other[place] {
             return false;
         }
@@ -142,7 +143,11 @@ impl Status {
 }
 
 /// The thread, if there is one, gets the status.
-pub fn with_status(mut statuses: [Status; 5], thread: Option<u8>, status: Status) -> [Status; 5]
+pub fn with_status(
+    mut statuses: [Status; MAX_THREADS],
+    thread: Option<u8>,
+    status: Status,
+) -> [Status; MAX_THREADS]
     requires { IfSome thread (λ thread. thread < 5) }
     ensures { result ≡ with_statuses thread status statuses }
 {
@@ -282,7 +287,7 @@ pub fn count_slots(readable: &[bool]) -> usize
 }
 
 /// The slot at a place among those that may be read, or 0 past the last of them.
-fn slot_at(readable: &[bool; 7], place: u8) -> u8
+fn slot_at(readable: &[bool; MAX_ATOMIC_HISTORY], place: u8) -> u8
     ensures { result ≡ slice_index (slots readable.now) place }
 {
     let mut left = place;
@@ -298,7 +303,7 @@ fn slot_at(readable: &[bool; 7], place: u8) -> u8
 }
 
 /// Whether the same slots may be read in both.
-fn are_same_slots(one: &[bool; 7], other: &[bool; 7]) -> bool
+fn are_same_slots(one: &[bool; MAX_ATOMIC_HISTORY], other: &[bool; MAX_ATOMIC_HISTORY]) -> bool
     ensures { IsTrue result ↔ (one.now ≡ other.now) }
 {
     one == other
@@ -313,7 +318,7 @@ impl Load {
     }
 
     /// Whether it is the load that would be made now, whatever was tried there.
-    pub fn meets(&self, exploring: bool, readable: &[bool; 7]) -> bool
+    pub fn meets(&self, exploring: bool, readable: &[bool; MAX_ATOMIC_HISTORY]) -> bool
         requires well { IsWellLoad self.now }
         requires some { Contains readable.now true }
         ensures { IsTrue result ↔ ((seen_load self.now).made ≡ made_of (which_store exploring readable.now)) }

@@ -8,7 +8,7 @@ use Rattle.loom_objects.specs.declared.operation.AtomicOp.TheVariants as atomic
 use Rattle.loom_objects.specs.declared.operation.MutexOp.TheVariants as mutex
 use Rattle.loom_objects.specs.declared.operation.ThreadOp.TheVariants as threads
 use Rattle.loom_objects.specs.declared.operation.Request.TheVariants as op
-use Rattle.loom_examples.specs.Rows.Written.{Written, Do, Label, JumpTo, UnlessTo, SpawnAt}
+use Rattle.loom_examples.specs.Rows.Written.{Written, Do, Label, JumpTo, IfTo, UnlessTo, SpawnAt}
 use Rattle.loom_examples.specs.declared.scripts.step.Value.TheVariants.{Plain, Held, Next, Both}
 use Rattle.loom_examples.specs.Rows.Steps.{exit, end, yield, fail}
 
@@ -155,14 +155,15 @@ three_adds =
 
 -- One thread stores to one flag, and another thread to another. Two threads each wait for one of the flags, one for the one
 -- and one for the other, and then finish with what they load from the other flag. Main stores to the first flag, joins the
--- two, and finishes with ten times what the one loaded and what the other loaded (`acq_rel` of loom's `tests/spec.rs`).
+-- two, and finishes with the sum of what they loaded (loom's `tests/spec.rs`).
 abbrev pub acq_rel : List Written
 acq_rel =
     Do 0 (op.Atomic (atomic.New numbers.Bool 0)) ∷ Do 1 (op.Atomic (atomic.New numbers.Bool 0)) ∷
     SpawnAt 2 (codes "first") ∷ SpawnAt 3 (codes "second") ∷ SpawnAt 4 (codes "third") ∷
     Do 0 (op.Atomic (atomic.Store 0 1 Release)) ∷ Do 0 (op.Thread (threads.Join 3 3)) ∷
-    Do 1 (op.Thread (threads.Join 4 4)) ∷ Do 0 (op.Thread (threads.Finish (Both 0 1))) ∷ Label (codes "exit") ∷
-    exit ∷ end ∷ Label (codes "first") ∷ Do 0 (op.Atomic (atomic.Store 1 1 Release)) ∷
+    Do 1 (op.Thread (threads.Join 4 4)) ∷ IfTo 0 1 (codes "one more") ∷
+    Do 0 (op.Thread (threads.Finish (Held 1))) ∷ JumpTo (codes "exit") ∷ Label (codes "one more") ∷
+    Do 0 (op.Thread (threads.Finish (Next 1))) ∷ Label (codes "exit") ∷ exit ∷ end ∷ Label (codes "first") ∷ Do 0 (op.Atomic (atomic.Store 1 1 Release)) ∷
     Do 0 (op.Thread (threads.Finish (Plain 0))) ∷ exit ∷ end ∷ Label (codes "second") ∷
     Do 0 (op.Atomic (atomic.Load 0 Acquire)) ∷ UnlessTo 0 1 (codes "second yield") ∷
     Do 1 (op.Atomic (atomic.Load 1 Acquire)) ∷ Do 0 (op.Thread (threads.Finish (Held 1))) ∷

@@ -35,8 +35,8 @@ too_many_fences =
 
 -- Main stores 40,000 times into an atomic beside a thread that does it 25,535 times, which with the first value is once more
 -- than an atomic may be stored into. Each counts that in a mutex of its own.
-abbrev pub too_many_stores : List Written
-too_many_stores =
+abbrev pub many_stores : List Written
+many_stores =
     Do 0 (op.Atomic (atomic.New numbers.U64 0)) ∷ Do 1 (op.Mutex (mutex.New (Plain 0))) ∷
     SpawnAt 2 (codes "child") ∷ Label (codes "main again") ∷ Do 0 (op.Atomic (atomic.Store 0 1 Relaxed)) ∷
     Do 0 (op.Mutex (mutex.GetMut 1)) ∷ Do 0 (op.Mutex (mutex.Put 1 (Next 0))) ∷

@@ -1,10 +1,10 @@
 //! The scripts of the rows about atomics and fences.
 ghost use Rattle.std.specs.Prelude.{◌≡◌, map};
 ghost use Rattle.loom_examples.specs.Rows.Meanings.{named};
-ghost use Rattle.loom_examples.specs.Rows.Table.{fence_rows, function_rows, unsynchronized_rows, update_rows};
+ghost use Rattle.loom_examples.specs.Rows.Table.{fence_rows, flag_rows, function_rows, unsynchronized_rows, update_rows};
 
 use crate::row;
-use crate::rows::{Checked, DEFAULTS, Row, TEN_STEPS};
+use crate::rows::{Checked, DEFAULTS, ONE_PREEMPTION, Row, TEN_STEPS};
 use crate::scripts::step::{END, EXIT, FAIL, Step, Value, YIELD};
 use loom_objects::operation::{AtomicOp, Exchange, MutexOp, Request, ThreadOp};
 use loom_views::rt::num::Numbers;
@@ -276,7 +276,7 @@ pub const THREE_ADDS: &[Step] = &[
 
 /// One thread stores to one flag, and another thread to another. Two threads each wait for one of the flags, one for the one
 /// and one for the other, and then finish with what they load from the other flag. Main stores to the first flag, joins the
-/// two, and finishes with ten times what the one loaded and what the other loaded (`acq_rel` of loom's `tests/spec.rs`).
+/// two, and finishes with the sum of what they loaded (loom's `tests/spec.rs`).
 pub const ACQ_REL: &[Step] = &[
     Step::Do(0, Request::Atomic(AtomicOp::New(Numbers::Bool, 0))),
     Step::Do(1, Request::Atomic(AtomicOp::New(Numbers::Bool, 0))),
@@ -286,7 +286,11 @@ pub const ACQ_REL: &[Step] = &[
     Step::Do(0, Request::Atomic(AtomicOp::Store(0, 1, Release))),
     Step::Do(0, Request::Thread(ThreadOp::Join(3, 3))),
     Step::Do(1, Request::Thread(ThreadOp::Join(4, 4))),
-    Step::Do(0, Request::Thread(ThreadOp::Finish(Value::Both(0, 1)))),
+    Step::IfTo(0, 1, "one more"),
+    Step::Do(0, Request::Thread(ThreadOp::Finish(Value::Held(1)))),
+    Step::JumpTo("exit"),
+    Step::Label("one more"),
+    Step::Do(0, Request::Thread(ThreadOp::Finish(Value::Next(1)))),
     Step::Label("exit"),
     EXIT,
     END,
@@ -371,4 +375,13 @@ pub fn updates() -> &'static [Row]
     ensures { map named result.now ≡ update_rows }
 {
     &UPDATES
+}
+
+static FLAGS: [Row; 1] = [row!("acq_rel", ACQ_REL, ONE_PREEMPTION)];
+
+/// The row of threads that wait for flags.
+pub fn flags() -> &'static [Row]
+    ensures { map named result.now ≡ flag_rows }
+{
+    &FLAGS
 }

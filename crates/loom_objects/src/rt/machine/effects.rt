@@ -1,17 +1,21 @@
-//! What operations do, by their kind: at their beginning, and once their thread was chosen.
-ghost use Rattle.std.specs.Prelude.{◌≡◌, slice_get, true, IfOk, OnErr};
+//! What operations do, by their kind: at their beginning, once their thread was chosen, and what they do to their object while
+//! they are pending (loom's `rt/object.rs`).
+ghost use Rattle.std.specs.Prelude.{ℕ, ◌≡◌, slice_get, true, IfOk, OnErr, option_map};
+ghost use Rattle.loom_objects.specs.Operation.Accessed.{accessed};
 ghost use Rattle.loom_objects.specs.Stages.ChosenCopy.{TellsCopy, reads, reads_at};
 ghost use Rattle.loom_objects.specs.Rules.Replied.{replied_by, passed_by};
 ghost use Rattle.loom_objects.specs.Rules.Tables as rules;
+ghost use Rattle.loom_objects.specs.Rules.Uses as uses;
 ghost use Rattle.loom_objects.specs.Scene.Stage.{Does, HasSlot, KeepsSlots};
 ghost use Rattle.loom_views.specs.Views.{Points, ShowsViews};
 
 use crate::data::Data;
-use crate::operation::{Reply, Request, Turn};
+use crate::operation::{AtomicOp, Reply, Request, Turn};
 use crate::rt::atomic_waker::{register, take_waker};
+use crate::rt::dependence::{Action, Use};
 use crate::rt::run::{Entry, Passed, Resumed};
 use crate::rt::scene::Scene;
-use crate::rt::thread::{Task, life};
+use crate::rt::thread::{Counting, Task, life};
 use crate::rt::{
     alloc, arc, atomic, atomic_waker, cell, condvar, locals, mpsc, mutex, notify, rwlock, waker,
 };
@@ -134,4 +138,75 @@ fn take_effect<D: Data>(
         Task::TakeWaker(taking, place) => return Ok(passed(take_waker(scene, taking, place))),
     };
     Ok(replied(answer, scene))
+}
+
+/// An access changes its atomic, or may, unless it is a load.
+fn atomic_action(access: AtomicOp) -> Action
+    ensures { result ≡ uses.atomic_action access }
+{
+    match access {
+        AtomicOp::Load(..) => Action::Read,
+        _ => Action::Change,
+    }
+}
+
+fn counting_action(counting: Counting) -> Action
+    ensures { result ≡ uses.counting_action counting }
+{
+    match counting {
+        Counting::Clone => Action::Increment,
+        Counting::Drop | Counting::GetMut | Counting::Unwrap => Action::Decrement,
+        Counting::StrongCount => Action::Inspect,
+    }
+}
+
+/// It does this to the object.
+fn use_as(object: usize, action: Action) -> Use
+    ensures { result ≡ uses.used action object }
+{
+    Use { object, action }
+}
+
+/// What the access does to its atomic, if it has one.
+fn access_use(access: AtomicOp) -> Option<Use>
+    ensures { result ≡ option_map (uses.used (uses.atomic_action access)) (accessed access) }
+{
+    match access.atomic() {
+        Some(object) => Some(use_as(object, atomic_action(access))),
+        None => None,
+    }
+}
+
+impl<D> Task<D> {
+    /// The object that the operation is on, and what it does to it; none where it is on no object.
+    pub fn used(&self) -> Option<Use>
+        ensures { result ≡ uses.use_of self.now }
+    {
+        match self {
+            Task::Access(access) => access_use(*access),
+            Task::Count(counting, object) => Some(use_as(*object, counting_action(*counting))),
+            Task::TryUnwrap(object) | Task::DropWaker(object, _) => {
+                Some(use_as(*object, Action::Decrement))
+            }
+            Task::CloneWaker(object, _) => Some(use_as(*object, Action::Increment)),
+            Task::Send(object, _) => Some(use_as(*object, Action::Send)),
+            Task::Receive(_, object) | Task::Drain(object, _) => {
+                Some(use_as(*object, Action::Receive))
+            }
+            Task::Lock(_, object)
+            | Task::TryLock(object)
+            | Task::Claim(_, object)
+            | Task::Wait(_, object, _, _)
+            | Task::Wake(_, object)
+            | Task::Notify(object)
+            | Task::Await(object)
+            | Task::Join(_, object)
+            | Task::Finish(object, _)
+            | Task::WakeBy(object, _, _)
+            | Task::Register(object, _)
+            | Task::TakeWaker(_, object) => Some(use_as(*object, Action::Other)),
+            Task::Start | Task::Body | Task::Continue => None,
+            Task::Relock(_, _) | Task::Rouse(_) => None,
+        }
+    }
 }

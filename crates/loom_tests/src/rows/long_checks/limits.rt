@@ -63,3 +63,15 @@ fn a_check_has_no_clock(rt: HostRuntime) {
         takes(&rt, *nanos, *text);
     }
 }
+
+// No run may be made, and no time may pass.
+#[test]
+fn the_count_is_the_reason_where_both_limits_are_reached(rt: HostRuntime) {
+    let mut builder = WHOLE.builder();
+    builder.max_permutations = Some(0);
+    builder.max_duration = Some(Duration::ZERO);
+    let mut page = Page::new(rt.alloc());
+    check_alone(&rt, &builder, lock_beside(), &mut page);
+    let text = "stopped 0\nby max_permutations\nat no nodes\n";
+    same(&rt, page.text.as_str(), text, "a check with two limits");
+}

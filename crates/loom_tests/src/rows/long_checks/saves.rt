@@ -4,6 +4,7 @@ use super::{
 };
 use crate::asserting::holds;
 use crate::page::Page;
+use crate::rows::others::THOUSAND_NODES;
 use loom_examples::rows::WHOLE;
 use loom_examples::rows::settings::{Builds, Settings};
 use loom_examples::rows::tables::first::TWO_MUTEXES_DEADLOCK;
@@ -95,8 +96,37 @@ fn a_check_goes_on_where_it_stopped(rt: &(impl Abort + AllocGlobal)) {
     goes_on(rt, &mut shelf);
 }
 
+// A check of runs of a thousand nodes with this store, which makes so many at most, ends so.
+fn long_leg(
+    rt: &(impl Abort + AllocGlobal),
+    max_permutations: Option<usize>,
+    shelf: &mut Shelf,
+    end: &str,
+) {
+    let settings = Settings {
+        max_permutations,
+        ..WHOLE
+    };
+    let mut page = Page::new(rt.alloc());
+    shelf.saved.text.clear();
+    check(rt, &settings.builder(), THOUSAND_NODES, &mut page, shelf);
+    holds(rt, page.text.as_str().ends_with(end), end);
+}
+
+// Of two runs, the first one's path is saved up to its last node that has something left, which is the 998th, and read again.
+fn a_long_path_goes_on(rt: &(impl Abort + AllocGlobal)) {
+    let mut shelf = Shelf::new(rt.alloc(), 0);
+    long_leg(rt, Some(1), &mut shelf, "saves another text\n");
+    long_leg(rt, None, &mut shelf, " t-\ncomplete 1\n");
+}
+
 #[test]
 fn checks_go_on_with_what_was_saved(rt: HostRuntime) {
     a_failing_run_is_saved_before(&rt);
     a_check_goes_on_where_it_stopped(&rt);
+}
+
+#[test]
+fn a_long_path_is_saved(rt: HostRuntime) {
+    a_long_path_goes_on(&rt);
 }

@@ -10,6 +10,6 @@ returns-clause-called g c =
     record {
       handle = handle;
       answer = c.ask_closure-answer.result;
-      call = subst (λ (h : Teller _). CalledAtMut g.F.FnMut c.args.closure.now h c.ask_closure-answer.result c.ask_closure-answer.new.closure handle) c.in_ok-handle.ensures c.ask_closure-answer.ensures.called;
+      call = subst (λ (h : Teller _). CalledAtMut g.F.FnMut c.args.closure.now h c.ask_closure-answer.result c.ask_closure-answer.new.closure handle) c.in_ok-handle.ensures.made c.ask_closure-answer.ensures.called;
       main = (closed.0, c.put_in_order.ensures ∙ closed.1, closed.2);
     }

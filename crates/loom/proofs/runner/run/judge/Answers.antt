@@ -1,13 +1,14 @@
-use Rattle.std.proofs.Common.{◌∙◌, sym, subst, List, rules}
+use Rattle.std.proofs.Common.{◌∙◌, sym, subst, List, inl, inr, refl, rules}
 use Rattle.loom_objects.specs.declared.choice.Choice.{Choice}
 use Rattle.loom_engine.specs.Path.Route.{Route}
 use Rattle.loom.specs.Runner.Chains.{GoesTo}
 use Rattle.loom.specs.Runner.Run.{Checked}
 use Rattle.loom.proofs.RunnerLemmas.Made.{checked, ok_gives}
+use Rattle.loom.proofs.Closures.Refusing.{is_open, spoiled_so}
 use Rattle.loom.proofs.runner.run.judge.Goals as goal
 
-pub returns : goal.returns
-returns g c =
+pub returns-clause-judged : goal.returns-clause-judged
+returns-clause-judged g c =
     let settled : Checked c.args.limits c.args.path.now c.args.turns.now c.args.told.now =
     checked c.args.limits c.args.path.now c.args.turns.now c.args.told.now (c.if-not-settle.ensures.0 (search rules)) (c.spoiled.ensures.leads (sym c.spoiled.ensures.spoiled ∙ c.in_default.is)) in
     let ran =
@@ -15,3 +16,10 @@ returns g c =
     let taken =
     subst (λ (l : List Choice). g.V.Visitor.takes c.args.visitor.now l c.in-Some-value.value c.run.new.self) (c.as_slice.ensures.value ∙ c.in-Ok.ensures) ran in
     (settled, record { value = c.in-Some-value.value; ended = sym c.in-Ok-value.ensures ∙ c.in-Some-value.is; taken = taken }, subst (λ (r : Route). GoesTo r c.next_path.result) c.in-Ok-path.ensures c.next_path.ensures)
+
+pub returns-in-Some-clause-errors : goal.returns-in-Some-clause-errors
+returns-in-Some-clause-errors g c =
+    spoiled_so c.args.limits c.args.visitor.now c.args.path.now c.args.turns.now c.args.told.now c.in-Some.stop c.error_by.result c.error_by.ensures (sym c.spoiled.ensures.spoiled ∙ c.in-Some.is)
+
+pub returns-then-not-settle-clause-errors : goal.returns-then-not-settle-clause-errors
+returns-then-not-settle-clause-errors g c = (inr (inl (λ s. absurd (cc (c.if-not-settle.ensures.1 s)))), refl)

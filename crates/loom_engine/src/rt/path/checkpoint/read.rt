@@ -8,18 +8,19 @@ ghost use Rattle.loom_engine.specs.Checkpoint.Accepted.{version_of};
 ghost use Rattle.loom_engine.specs.Checkpoint.Reader.{as_whole, as_list, as_whole_or_null, taken, expected, ends, status_named, status_of, statuses_of, marks_of, list_of, is_number, begins_with, schedule_of, load_of, spurious_of, node_of, shape_of};
 
 use crate::rt::path::node::{Load, Node, Schedule, Spurious, Status, count_slots};
+use loom_views::rt::{MAX_ATOMIC_HISTORY, MAX_THREADS};
 use serde_json::{Map, Value};
 use std::collections::btree_map::Iter;
 
 /// How many threads are the choice.
-fn count_active(statuses: &[Status; 5]) -> usize
+fn count_active(statuses: &[Status; MAX_THREADS]) -> usize
     ensures { result ≡ count_by is_active statuses.now }
 {
     statuses.iter().filter(|status| status.is_active()).count()
 }
 
 /// Whether one thread alone is active.
-pub fn has_one_active(statuses: &[Status; 5]) -> bool
+pub fn has_one_active(statuses: &[Status; MAX_THREADS]) -> bool
     ensures { result ≡ (count_by is_active statuses.now == 1) }
 {
     count_active(statuses) == 1
@@ -132,14 +133,14 @@ fn read_status(value: &Value) -> Option<Status>
 }
 
 #[tactic(auto, unfolding(crate::specs::Checkpoint::Reader::statuses_of))]
-fn read_statuses(items: &Vec<Value>) -> Option<[Status; 5]>
+fn read_statuses(items: &Vec<Value>) -> Option<[Status; MAX_THREADS]>
     ensures { result ≡ statuses_of (map view items.now.items) }
 {
-    if items.len() != 5 {
+    if items.len() != MAX_THREADS {
         return None;
     }
-    let mut statuses = [Status::Disabled; 5];
-    for thread in 0..5 {
+    let mut statuses = [Status::Disabled; MAX_THREADS];
+    for thread in 0..MAX_THREADS {
         statuses[thread] = read_status(&items[thread])?;
     }
     Some(statuses)
@@ -159,12 +160,12 @@ fn has_slot(items: &Vec<Value>, place: usize, slot: usize) -> bool
 }
 
 /// The marks of the slots with these rising numbers.
-fn read_slots(items: &Vec<Value>) -> Option<[bool; 7]>
+fn read_slots(items: &Vec<Value>) -> Option<[bool; MAX_ATOMIC_HISTORY]>
     ensures { result ≡ marks_of 7 0 (map view items.now.items) }
 {
-    let mut readable = [false; 7];
+    let mut readable = [false; MAX_ATOMIC_HISTORY];
     let mut place = 0;
-    for slot in 0..7 {
+    for slot in 0..MAX_ATOMIC_HISTORY {
         let found = has_slot(items, place, slot);
         readable[slot] = found;
         if found {
@@ -196,13 +197,13 @@ fn is_marked(status: Status) -> bool
     }
 }
 
-fn count_marked(statuses: &[Status; 5]) -> usize
+fn count_marked(statuses: &[Status; MAX_THREADS]) -> usize
     ensures { result ≡ count_by is_marked statuses.now }
 {
     statuses.iter().filter(|status| is_marked(**status)).count()
 }
 
-fn is_active_at(statuses: &[Status; 5], thread: u8) -> bool
+fn is_active_at(statuses: &[Status; MAX_THREADS], thread: u8) -> bool
     ensures { result ≡ is_at is_active thread statuses.now }
 {
     match statuses.get(thread as usize) {
@@ -211,7 +212,7 @@ fn is_active_at(statuses: &[Status; 5], thread: u8) -> bool
     }
 }
 
-fn is_tried_at(statuses: &[Status; 5], thread: u8) -> bool
+fn is_tried_at(statuses: &[Status; MAX_THREADS], thread: u8) -> bool
     ensures { result ≡ is_at is_tried thread statuses.now }
 {
     match statuses.get(thread as usize) {
@@ -220,7 +221,7 @@ fn is_tried_at(statuses: &[Status; 5], thread: u8) -> bool
     }
 }
 
-fn is_well_formed_schedule(first: u8, exploring: bool, statuses: &[Status; 5]) -> bool
+fn is_well_formed_schedule(first: u8, exploring: bool, statuses: &[Status; MAX_THREADS]) -> bool
     ensures { result ≡ is_well_formed_schedule first exploring statuses.now }
 {
     has_one_active(statuses)
@@ -228,7 +229,7 @@ fn is_well_formed_schedule(first: u8, exploring: bool, statuses: &[Status; 5]) -
         && (exploring || (is_active_at(statuses, first) && count_marked(statuses) == 0))
 }
 
-fn is_well_formed_load(exploring: bool, readable: &[bool; 7], position: u8) -> bool
+fn is_well_formed_load(exploring: bool, readable: &[bool; MAX_ATOMIC_HISTORY], position: u8) -> bool
     ensures { result ≡ is_well_formed_load exploring readable.now position }
 {
     (position as usize) < count_slots(readable) && (exploring || position == 0)
@@ -251,7 +252,7 @@ fn read_schedule(object: &Map<String, Value>) -> Option<Node>
     if !is_end(&mut members) {
         return None;
     }
-    if first >= 5 {
+    if first >= MAX_THREADS as u64 {
         return None;
     }
     let first = first as u8;
@@ -279,7 +280,7 @@ fn read_load(object: &Map<String, Value>) -> Option<Node>
     if !is_end(&mut members) {
         return None;
     }
-    if position >= 7 {
+    if position >= MAX_ATOMIC_HISTORY as u64 {
         return None;
     }
     let position = position as u8;

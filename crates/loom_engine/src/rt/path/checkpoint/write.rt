@@ -7,6 +7,7 @@ ghost use Rattle.loom_engine.specs.Checkpoint.Grammar.{status_text, status_data,
 
 use crate::rt::path::Search;
 use crate::rt::path::node::{Load, Node, Schedule, Spurious, Status};
+use loom_views::rt::{MAX_ATOMIC_HISTORY, MAX_THREADS};
 use serde_json::{Value, json};
 use std::alloc::{AllocError, Global};
 
@@ -43,21 +44,24 @@ fn write_status(alloc: Global, status: Status) -> Result<Value, AllocError>
     Value::try_from_str(alloc, status_name(status))
 }
 
-fn write_statuses(alloc: Global, statuses: &[Status; 5]) -> Result<Vec<Value>, AllocError>
+fn write_statuses(alloc: Global, statuses: &[Status; MAX_THREADS]) -> Result<Vec<Value>, AllocError>
     ensures { IfOk result (λ v. map view v.items ≡ map status_data statuses.now) }
 {
-    let mut items = Vec::with_capacity(alloc, 5)?;
+    let mut items = Vec::with_capacity(alloc, MAX_THREADS)?;
     for status in statuses {
         items.push(write_status(alloc, *status)?)?;
     }
     Ok(items)
 }
 
-fn write_slots(alloc: Global, readable: &[bool; 7]) -> Result<Vec<Value>, AllocError>
+fn write_slots(
+    alloc: Global,
+    readable: &[bool; MAX_ATOMIC_HISTORY],
+) -> Result<Vec<Value>, AllocError>
     ensures { IfOk result (λ v. map view v.items ≡ map whole (slots readable.now)) }
 {
-    let mut items = Vec::with_capacity(alloc, 7)?;
-    for slot in 0..7 {
+    let mut items = Vec::with_capacity(alloc, MAX_ATOMIC_HISTORY)?;
+    for slot in 0..MAX_ATOMIC_HISTORY {
         if readable[slot] {
             items.push(Value::from(slot))?;
         }

@@ -1,10 +1,10 @@
-use Rattle.std.proofs.Common.{ℕ, ◌∙◌, subst, arith}
+use Rattle.std.proofs.Common.{ℕ, ◌∙◌, inl, inr, subst, arith}
 use Rattle.loom_engine.specs.Runs.Body.{runs}
 use Rattle.loom_engine.proofs.Runs.Bodies.{run_tree_law, unchosen_law}
 use Rattle.loom.specs.Model.Refusals.{CountsFaults}
 use Rattle.loom.specs.Model.Settings.{explores}
-use Rattle.loom.proofs.ModelLemmas.Errors.{counted_error, made_of_store, uncounted, unreported}
-use Rattle.loom.proofs.ModelLemmas.Checking.{checking_start, checking_starts, checking_well, checking_stops, reached_stops, round_on, round_ends, round_fails}
+use Rattle.loom.proofs.ModelLemmas.Errors.{counted_error, made_of_store, on_error, uncounted, unreported}
+use Rattle.loom.proofs.ModelLemmas.Checking.{checking_left, checking_start, checking_starts, checking_well, checking_stops, reached_stops, round_on, round_ends, round_fails}
 use Rattle.loom.proofs.model.search.BodyRuns.make_rounds.Goals as goal
 
 pub loop-limit-init : goal.loop-limit-init
@@ -159,3 +159,27 @@ returns-in_err-stop-clause-errors g c =
 pub returns-in_err-save_and_run-clause-errors : goal.returns-in_err-save_and_run-clause-errors
 returns-in_err-save_and_run-clause-errors g c =
     unreported c.args.self.now.builder.now (g.S.CheckpointStore.gives c.args.store.now) _ c.from_residual-in_err-save_and_run.result c.in_err-save_and_run.field-0.0 c.from_residual-in_err-save_and_run.ensures.1
+
+pub returns-in_err-stop-clause-left : goal.returns-in_err-stop-clause-left
+returns-in_err-stop-clause-left g c =
+    let b = c.args.self.now.builder.now in
+    let tree = runs g.B.Body.next (explores b) b.max_threads b.max_steps c.args.self.now.body.now in
+    let sound = run_tree_law g.B.Body.next (explores b) b.max_threads b.max_steps c.args.self.now.body.now in
+    let shut = unchosen_law g.B.Body.next (explores b) b.max_threads b.max_steps c.args.self.now.body.now in
+    let z = c.loop-limit.invariant in
+    on_error c.from_residual-in_err-stop.result
+    (inr (checking_left b tree sound shut g.R.Receiver.receives c.args.receiver.now (g.S.CheckpointStore.gives c.args.store.now)
+    (g.S.CheckpointStore.holds c.loop-limit.store) c.loop-limit.path c.loop-limit.receiver c.loop-limit.pace.runs z.most z.checking (g.S.CheckpointStore.holds c.stop.new.store) (omega (arith, z.few))
+    (inl c.in_err-stop.ensures.left)))
+
+pub returns-in_err-save_and_run-clause-left : goal.returns-in_err-save_and_run-clause-left
+returns-in_err-save_and_run-clause-left g c =
+    let b = c.args.self.now.builder.now in
+    let tree = runs g.B.Body.next (explores b) b.max_threads b.max_steps c.args.self.now.body.now in
+    let sound = run_tree_law g.B.Body.next (explores b) b.max_threads b.max_steps c.args.self.now.body.now in
+    let shut = unchosen_law g.B.Body.next (explores b) b.max_threads b.max_steps c.args.self.now.body.now in
+    let z = c.loop-limit.invariant in
+    on_error c.from_residual-in_err-save_and_run.result
+    (inr (checking_left b tree sound shut g.R.Receiver.receives c.args.receiver.now (g.S.CheckpointStore.gives c.args.store.now)
+    (g.S.CheckpointStore.holds c.loop-limit.store) c.loop-limit.path c.loop-limit.receiver c.loop-limit.pace.runs z.most z.checking (g.S.CheckpointStore.holds c.save_and_run.new.store) (omega (arith, z.few))
+    c.in_err-save_and_run.ensures.left))

@@ -18,4 +18,5 @@ returns g c =
       told = leads_on (λ all. all.items) c.leave-2.result c.match-last_of.self c.args.self c.args.answer c.leave-2.ensures.told c.leave-2.ensures.fed same closes;
       starved = λ s. absurd (cc (c.if-is_starved.false, c.is_starved.ensures.kept (ap (λ (t : Teller _). t.starved) c.self.view_is ∙ s)));
       memory = λ e. absurd (cc (c.if-is_starved.false, c.is_starved.ensures.said e));
+      errors = c.leave-2.ensures.errors;
     }

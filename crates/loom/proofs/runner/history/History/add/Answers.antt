@@ -19,3 +19,6 @@ pub invariant_of-self-in-Ok-take_turn : goal.invariant_of-self-in-Ok-take_turn
 invariant_of-self-in-Ok-take_turn g c =
     counted_more c.self.inside.counts.items c.prepare.new.counts.items c.count.new.counts.items c.self.inside.events.items c.prepare.new.history.items c.push_reserved.new.self.items _
     c.prepare.ensures.counts c.prepare.ensures.history c.push_reserved.ensures.items c.self.invariant c.count.ensures.length c.count.ensures.counted
+
+pub returns-in-Err-clause-why : goal.returns-in-Err-clause-why
+returns-in-Err-clause-why g c = rw (← c.self.view_is, ← c.active-by.ensures, ← c.self.invariant.threads) c.in-Err.ensures.why

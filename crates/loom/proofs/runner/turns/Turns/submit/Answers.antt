@@ -34,3 +34,10 @@ returns-clause-adds g c none live =
     (goes_after c.self.inside.limits c.self.inside.began c.self.inside.history c.add-self-inside.new.self c.self.inside.spoiled c.add-self-inside.result c.self.inside.place c.add-self-inside.new.machine c.args.op
     c.end.result c.is_some.result c.is_some-2.result c.self.invariant c.is_some.ensures c.if-is_some.false c.end.ensures c.is_some-2.ensures c.if-is_some-2.false c.add-self-inside.ensures.added)
     c.add-self-inside.ensures.stopped)
+
+pub returns-then-is_some-2-clause-why : goal.returns-then-is_some-2-clause-why
+returns-then-is_some-2-clause-why g c = λ fresh live.
+    absurd (ends_by c.self.inside.history c.end.result c.is_some-2.result c.end.ensures c.is_some-2.ensures c.if-is_some-2.true (ap (λ (l : Log _). end_in l.history) c.self.view_is ∙ live))
+
+pub returns-clause-why : goal.returns-clause-why
+returns-clause-why g c none live = rw (← c.self.view_is) c.add-self-inside.ensures.why

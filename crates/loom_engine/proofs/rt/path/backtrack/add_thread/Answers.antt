@@ -5,12 +5,12 @@ use Rattle.loom_engine.specs.Path.Nodes.{marked_status, seen_schedule, seen_thre
 use Rattle.loom_engine.specs.declared.rt.path.node.Status.TheVariants.{Disabled, Pending}
 use Rattle.loom_engine.proofs.Path.Marking.Adding.{at_disabled, at_skipped, at_other, at_nobody, at_fixed, added_rests}
 use Rattle.loom_engine.proofs.rt.path.backtrack.add_thread.Goals as goal
-use Rattle.loom_engine.proofs.rt.path.backtrack.add_thread.Goals.{then-not-schedule-via-then-not-schedule, then-not-schedule-via-else-not-schedule+then-thread-ge5}
+use Rattle.loom_engine.proofs.rt.path.backtrack.add_thread.Goals.{then-not-schedule-via-then-not-schedule, then-not-schedule-via-else-not-schedule+then-thread-ge-MAX_THREADS}
 
 pub returns-then-not-schedule-clause-added : goal.returns-then-not-schedule-clause-added
 returns-then-not-schedule-clause-added c = elim c.then-not-schedule.branch [
   | then-not-schedule-via-then-not-schedule w ↦ at_fixed c.args.schedule.now w.if-not-schedule.true c.args.thread
-  | then-not-schedule-via-else-not-schedule+then-thread-ge5 w ↦ at_nobody c.args.schedule.now w.if-not-schedule.false c.args.thread (omega (arith, c.are_five.ensures, w.if-thread-ge5.true))
+  | then-not-schedule-via-else-not-schedule+then-thread-ge-MAX_THREADS w ↦ at_nobody c.args.schedule.now w.if-not-schedule.false c.args.thread (omega (arith, c.are_five.ensures, w.if-thread-ge-MAX_THREADS.true))
 ]
 
 pub returns-in-Disabled-clause-added : goal.returns-in-Disabled-clause-added

@@ -1,7 +1,0 @@
-use Rattle.std.proofs.Common.{◌≡◌, map, take}
-use Rattle.loom.specs.Explain.Bare.{nothing}
-use Rattle.loom.proofs.explain.events.bare.bare_messages.Given as goal
-
--- as many as there were places so far
-abbrev pub invariant-loop-place : goal.invariant-loop-place
-invariant-loop-place g l = l.told ≡ map nothing (take l._place l.messages)

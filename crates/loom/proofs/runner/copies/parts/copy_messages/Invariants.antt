@@ -1,8 +1,0 @@
-use Rattle.std.proofs.Common.{◌≡◌, ◌++◌, length}
-use Rattle.loom.proofs.runner.copies.parts.copy_messages.Given as goal
-
-abbrev pub invariant-loop-message : goal.invariant-loop-message
-invariant-loop-message g l = l.made ++ l.rest ≡ l.messages
-
-abbrev pub decreases-loop-message : goal.decreases-loop-message
-decreases-loop-message g l = length l.rest
