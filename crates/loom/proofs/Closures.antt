@@ -1,3 +1,4 @@
+pub mod Explaining
 pub mod Making
 pub mod Reporting
 pub mod Refusing

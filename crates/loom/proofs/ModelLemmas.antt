@@ -8,5 +8,6 @@ pub mod Numbers
 pub mod Paths
 pub mod Reading
 pub mod Replaying
+pub mod Unequal
 pub mod Unheard
 pub mod Within

@@ -10,6 +10,7 @@ pub mod Fresh
 pub mod Listening
 pub mod Loop
 pub mod Refusals
+pub mod Replayed
 pub mod Rising
 pub mod Rounds
 pub mod Run

@@ -4,6 +4,8 @@ pub mod Chains
 pub mod Check
 pub mod Errors
 pub mod Events
+pub mod Expected
+pub mod Explained
 pub mod Forms
 pub mod Handle
 pub mod Histories

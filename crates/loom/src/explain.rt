@@ -44,7 +44,12 @@ impl Builder {
 
     /// The explanation of a run that was made: its events, the choices of its path, what there was to choose of, its end, and the
     /// text.
-    fn explained(&self, alloc: Global, told: Told, path: &Path) -> Result<Explanation, AllocError>
+    pub(crate) fn explained(
+        &self,
+        alloc: Global,
+        told: Told,
+        path: &Path,
+    ) -> Result<Explanation, AllocError>
         ensures told { IfOk result (IsToldBy told) }
         ensures path { IfOk result (IsChosenOn path.now) }
         ensures limits { IfOk result (HasLimits self.now) }
@@ -95,7 +100,7 @@ fn fill(alloc: Global, path: &Path, explanation: &mut Explanation) -> Result<(),
     ensures steps { explanation.new.max_steps ≡ explanation.old.max_steps }
 {
     explanation.choices = path.choices(alloc)?;
-    explanation.options = options_at(alloc, path.nodes())?;
+    explanation.options = options_at(alloc, &path.nodes(alloc)?)?;
     explanation.end = placed(explanation.end, &explanation.events, &explanation.choices);
     explanation.text = text_of(alloc, explanation)?;
     Ok(())

@@ -21,7 +21,8 @@ pub mod visitor;
 ghost use Rattle.std.specs.Prelude.{◌≡◌, ◌≢◌, ◌⊎◌, None, Err, IfOk, IfErr, OnErr, true};
 ghost use Rattle.loom_engine.specs.Runs.Body.{runs as runs_of};
 ghost use Rattle.loom.specs.Model.Fresh.{Replays};
-ghost use Rattle.loom.specs.Model.Check.{Reports, ReportsAlone, ReportsUnheard, gives_file};
+ghost use Rattle.loom.specs.Model.Check.{MeetsNoEqualOrders, Reports, ReportsAlone, ReportsUnheard, gives_file};
+ghost use Rattle.loom.specs.Model.Replayed.{ReplaysNoEqualOrders};
 ghost use Rattle.loom.specs.Model.Refusals.{CountsFaults, IsNoReport, StillHolds};
 ghost use Rattle.loom.specs.Model.Settings.{defaults, explores, tested};
 
@@ -76,6 +77,7 @@ impl Builder {
         body: &B,
     ) -> Result<Report, CheckError>
         ensures reports { IfOk result (ReportsAlone self.now (runs_of B.next (explores self.now) self.now.max_threads self.now.max_steps body.now)) }
+        ensures orders { IfOk result MeetsNoEqualOrders }
         ensures refused { IfErr (tested self.now) (λ e. result ≡ Err e) }
         ensures errors { IfErr result (IsNoReport self.now (gives_file self.now.checkpoint_file) (Unit {0})) }
         ensures no_store { self.now.checkpoint_file ≡ None → result ≢ Err CheckError.Store }
@@ -95,6 +97,7 @@ impl Builder {
         store: &mut S,
     ) -> Result<Report, CheckError>
         ensures reports { IfOk result (ReportsUnheard self.now (runs_of B.next (explores self.now) self.now.max_threads self.now.max_steps body.now) (S.gives store.old) (S.holds store.new)) }
+        ensures orders { IfOk result MeetsNoEqualOrders }
         ensures refused { IfErr (tested self.now) (λ e. result ≡ Err e) }
         ensures errors { IfErr result (IsNoReport self.now (S.gives store.old) (Unit {0})) }
         ensures left { OnErr result (StillHolds self.now (runs_of B.next (explores self.now) self.now.max_threads self.now.max_steps body.now) (S.gives store.old) (S.holds store.old) (S.holds store.new)) }
@@ -130,6 +133,7 @@ impl Builder {
         log: &L,
     ) -> Result<Report, CheckError>
         ensures reports { IfOk result (Reports V.takes visitor.old visitor.new self.now (runs_of B.next (explores self.now) self.now.max_threads self.now.max_steps body.now) (S.gives store.old) (S.holds store.new) (C.answered clock.new)) }
+        ensures orders { IfOk result MeetsNoEqualOrders }
         ensures refused { IfErr (tested self.now) (λ e. (result ≡ Err e) × (visitor.new ≡ visitor.old)) }
         ensures errors { IfErr result (IsNoReport self.now (S.gives store.old) (visitor.new ≡ visitor.old)) }
         ensures left { OnErr result (StillHolds self.now (runs_of B.next (explores self.now) self.now.max_threads self.now.max_steps body.now) (S.gives store.old) (S.holds store.old) (S.holds store.new)) }
@@ -148,6 +152,7 @@ impl Builder {
         choices: &[Choice],
     ) -> Result<Replay<B::Data>, CheckError>
         ensures replays { IfOk result (Replays self.now.max_branches (runs_of B.next (explores self.now) self.now.max_threads self.now.max_steps body.now) choices.now) }
+        ensures orders { IfOk result ReplaysNoEqualOrders }
         ensures refused { IfErr (tested self.now) (λ e. result ≡ Err e) }
         ensures errors { IfErr result (λ e. (e ≡ CheckError.Memory) ⊎ (tested self.now ≡ Err e)) }
     {
@@ -166,6 +171,7 @@ impl Builder {
 /// A check with the defaults (loom's `model`).
 pub fn model<R: Files, B: Body>(rt: &R, alloc: Global, body: &B) -> Result<Report, CheckError>
     ensures reports { IfOk result (ReportsAlone defaults (runs_of B.next true 5 1000000 body.now)) }
+    ensures orders { IfOk result MeetsNoEqualOrders }
     ensures errors { IfErr result (λ e. e ≡ CheckError.Memory) }
 {
     Builder::new().check(rt, alloc, body)

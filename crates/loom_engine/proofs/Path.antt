@@ -1,4 +1,7 @@
 pub mod Alike
+pub mod Fitting
 pub mod Marking
 pub mod Nodes
+pub mod Sameness
 pub mod WellFormed
+pub mod Words

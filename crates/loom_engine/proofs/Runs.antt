@@ -21,6 +21,7 @@ pub mod Exploring
 pub mod Kept
 pub mod Moving
 pub mod Lifting
+pub mod Allowed
 pub mod Pointing
 pub mod Offered
 pub mod Threading
@@ -31,6 +32,8 @@ pub mod Queues
 pub mod Loading
 pub mod Storing
 pub mod Stored
+pub mod Ordering
+pub mod Updating
 pub mod Receiving
 pub mod InOrder
 pub mod Rows

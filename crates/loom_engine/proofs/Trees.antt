@@ -1,5 +1,6 @@
 -- Proofs of the laws of trees.
 pub mod Machines
+pub mod Failing
 pub mod Driving
 pub mod Checking
 pub mod Replaying

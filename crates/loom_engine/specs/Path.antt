@@ -6,3 +6,4 @@ pub mod Same
 pub mod Steps
 pub mod Tallies
 pub mod WellFormed
+pub mod Words

@@ -6,6 +6,7 @@ pub mod Histories
 pub mod Loads
 pub mod Machine
 pub mod Once
+pub mod Orders
 pub mod Received
 pub mod ReducedExamples
 pub mod Sound

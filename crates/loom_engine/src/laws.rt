@@ -1,6 +1,7 @@
 //! What is proved of the definitions: the contract of each function is a law.
 
 pub mod locks;
+pub mod orders;
 pub mod report;
 pub mod runs;
 pub mod tree;

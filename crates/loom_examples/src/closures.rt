@@ -5,3 +5,4 @@ pub mod ring;
 pub mod rows;
 pub mod scenes;
 pub mod spin;
+pub mod tasks;

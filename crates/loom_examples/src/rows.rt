@@ -20,6 +20,7 @@ pub use crate::rows::tables::all_rows;
 use crate::rows::tasks::{Task, do_task};
 use crate::scripts::step::Step;
 use loom::model::Report;
+use loom::model::builder::Builder;
 use loom::model::error::CheckError;
 use loom_views::rt::MAX_THREADS;
 use std::io::{self, Write};
@@ -202,13 +203,45 @@ pub fn check_row<R: AllocGlobal + Files, O: Write, E: Write>(
     do_task(rt, row, Task::Check, false, file, out, err)
 }
 
-/// There is no report.
-pub(crate) fn refuse_check<W: Write>(err: &mut W, error: CheckError) -> io::Result<u8>
+/// There is no report: prints which error came, and below it why, in words. Of a checkpoint these name the file.
+pub(crate) fn refuse_check<W: Write>(
+    err: &mut W,
+    builder: &Builder,
+    error: CheckError,
+) -> io::Result<u8>
     ensures { IfOk result (λ status. status ≡ 2) }
 {
     let number = error.number();
     writeln!(err, "error {number}")?;
+    match &builder.checkpoint_file {
+        Some(file) if is_of_text(error) => writeln!(
+            err,
+            "{file}: {error}. No run was made, and the file is as it was."
+        )?,
+        Some(file) if error == CheckError::Store => writeln!(err, "{file}: {error}")?,
+        _ => writeln!(err, "{error}")?,
+    }
     Ok(2)
+}
+
+// Whether the text of a checkpoint is refused, which comes before any run.
+fn is_of_text(error: CheckError) -> bool {
+    match error {
+        CheckError::NotJson
+        | CheckError::WrongShape
+        | CheckError::WrongVersion(_)
+        | CheckError::OtherSettings(_)
+        | CheckError::TooManyNodes(_)
+        | CheckError::BadNode => true,
+        CheckError::MaxThreads(_)
+        | CheckError::MaxBranches(_)
+        | CheckError::PreemptionBound(_)
+        | CheckError::CheckpointInterval
+        | CheckError::MaxSteps
+        | CheckError::NotANumber(_)
+        | CheckError::Store
+        | CheckError::Memory => false,
+    }
 }
 
 /// Prints the line of the report, and answers its status.

@@ -670,7 +670,8 @@ pub fn bare_op<D, S>(op: &Op<D, S>) -> Op<(), ()>
     }
 }
 
-fn bare_request<D, S>(request: &Request<D, S>) -> Request<(), ()>
+/// The request, without its data and what a spawn starts (own).
+pub fn bare_request<D, S>(request: &Request<D, S>) -> Request<(), ()>
     ensures { result ≡ bare_request request.now }
 {
     match request {

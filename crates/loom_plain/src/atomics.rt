@@ -250,7 +250,8 @@ impl Machine {
         }
     }
 
-    // The store in the slot is read: its order comes after those of all kept stores that are seen, and it is touched.
+    // The store in the slot is read: its order comes after those of all kept stores that are seen, and those that contained it
+    // come after that, and it is touched.
     fn reads_store(&mut self, number: usize, slot: u8) -> Read {
         let me = self.me();
         let (present, raised) = (me.present, me.raised);
@@ -260,6 +261,7 @@ impl Machine {
             return Read { value: 0, sync: 0 };
         };
         let order = self.seen_order(number, read.order, present);
+        self.raises_above(number, read, order);
         let active = self.active;
         if let Some(store) = self.at(number).stores.get_mut(read.number) {
             store.order = order;
@@ -268,6 +270,29 @@ impl Machine {
         Read {
             value: read.value,
             sync: read.sync,
+        }
+    }
+
+    // Each other kept store whose order contained that of this one, as it was when it was read, comes after this order.
+    fn raises_above(&mut self, number: usize, read: Store, order: usize) {
+        for place in 0..MAX_ATOMIC_HISTORY {
+            if let Some(above) = self.store_above(number, place, read) {
+                let raised = self.point(above.order, order);
+                if let Some(store) = self.at(number).stores.get_mut(above.number) {
+                    store.order = raised;
+                }
+            }
+        }
+    }
+
+    // The kept store at this place, if it is another one and its order contains that of this one.
+    fn store_above(&self, number: usize, place: usize, read: Store) -> Option<Store> {
+        match kept(self.read(number).stores.as_slice()).get(place) {
+            Some(store)
+                if store.number != read.number && self.graph.is_inside(read.order, store.order) => {
+                Some(*store)
+            }
+            _ => None,
         }
     }
 

@@ -8,7 +8,8 @@
 mod measuring;
 mod tour;
 
-use loom_examples::closures::rows::{ClosureRow, run_row};
+use loom_examples::closures::rows::{self, ClosureRow, run_row};
+use loom_examples::closures::tasks::run_asked;
 use loom_examples::rows::options::{self, Asked};
 use loom_examples::rows::words;
 use std::env;
@@ -42,6 +43,9 @@ fn run<
             Ok(Asked::Tour) => return take_tour(rt, out, err),
             Ok(Asked::Measure(names)) => {
                 return Ok(measuring::measure_all(rt, names.as_slice(), out, err));
+            }
+            Ok(Asked::Row(asked)) if let Some(row) = rows::named(asked.name) => {
+                return run_asked(rt, row, asked, out, err);
             }
             _ => {}
         }

@@ -9,10 +9,10 @@ use std::alloc::Global;
 use std::process::Abort;
 
 const TWO_NODES: &str =
-    "{\"exploring\":true,\"nodes\":[{\"exploring\":true,\"first\":0,\"schedule\":[\"Visited\",\"Active\",\"Disabled\",\"Disabled\",\"Disabled\"]},{\"exploring\":true,\"first\":1,\"schedule\":[\"Active\",\"Visited\",\"Disabled\",\"Disabled\",\"Disabled\"]}],\"preemption_bound\":null,\"reduce\":false,\"version\":1}";
+    "{\"exploring\":true,\"nodes\":[{\"exploring\":true,\"first\":0,\"schedule\":[\"Visited\",\"Active\",\"Disabled\",\"Disabled\",\"Disabled\"]},{\"exploring\":true,\"first\":1,\"schedule\":[\"Active\",\"Visited\",\"Disabled\",\"Disabled\",\"Disabled\"]}],\"order\":\"all\",\"preemption_bound\":null,\"reduce\":false,\"version\":2}";
 
 const NO_NODES: &str =
-    "{\"exploring\":true,\"nodes\":[],\"preemption_bound\":null,\"reduce\":false,\"version\":1}";
+    "{\"exploring\":true,\"nodes\":[],\"order\":\"all\",\"preemption_bound\":null,\"reduce\":false,\"version\":2}";
 
 const WHOLE: Search = Search {
     reduce: false,
@@ -90,7 +90,7 @@ fn texts_are_read_and_written_again(rt: HostRuntime) {
 }
 
 // The members may come in any order, and of two with one key the last stays.
-static WHOLE_VALUES: [(&str, u8); 15] = [
+static WHOLE_VALUES: [(&str, u8); 19] = [
     ("[]", 8),
     ("{}", 8),
     ("{\"version\":\"1\"}", 8),
@@ -98,24 +98,40 @@ static WHOLE_VALUES: [(&str, u8); 15] = [
     ("{\"version\":-1}", 8),
     ("{\"version\":-0}", 8),
     ("{\"version\":1e999}", 7),
-    ("{\"version\":1}", 8),
-    ("{\"version\":2}", 9),
+    ("{\"version\":1}", 9),
+    ("{\"version\":2}", 8),
     ("{\"version\":7}", 9),
     ("{\"version\":1", 7),
     (
-        "{\"exploring\":\"true\",\"nodes\":[],\"preemption_bound\":null,\"reduce\":false,\"version\":1}",
+        "{\"exploring\":true,\"nodes\":[],\"preemption_bound\":null,\"reduce\":false,\"version\":1}",
+        9,
+    ),
+    (
+        "{\"exploring\":true,\"nodes\":[],\"preemption_bound\":null,\"reduce\":false,\"version\":2}",
         8,
     ),
     (
-        "{\"exploring\":true,\"nodes\":[],\"preemption_bound\":null,\"reduce\":false,\"sixth\":0,\"version\":1}",
+        "{\"exploring\":true,\"nodes\":[],\"order\":\"one\",\"preemption_bound\":null,\"reduce\":false,\"version\":2}",
+        10,
+    ),
+    (
+        "{\"exploring\":true,\"nodes\":[],\"order\":1,\"preemption_bound\":null,\"reduce\":false,\"version\":2}",
         8,
     ),
     (
-        "{\"exploring\":true,\"nodes\":[7],\"preemption_bound\":null,\"reduce\":false,\"version\":1}",
+        "{\"exploring\":\"true\",\"nodes\":[],\"order\":\"all\",\"preemption_bound\":null,\"reduce\":false,\"version\":2}",
+        8,
+    ),
+    (
+        "{\"exploring\":true,\"nodes\":[],\"order\":\"all\",\"preemption_bound\":null,\"reduce\":false,\"seventh\":0,\"version\":2}",
+        8,
+    ),
+    (
+        "{\"exploring\":true,\"nodes\":[7],\"order\":\"all\",\"preemption_bound\":null,\"reduce\":false,\"version\":2}",
         12,
     ),
     (
-        " {\"version\":7,\"version\":1,\"nodes\":[],\"reduce\":false,\"preemption_bound\":null,\"exploring\":true}\n",
+        " {\"version\":7,\"version\":2,\"nodes\":[],\"reduce\":false,\"preemption_bound\":null,\"order\":\"all\",\"exploring\":true}\n",
         0,
     ),
 ];
@@ -178,6 +194,39 @@ fn other_settings(rt: &(impl Abort + AllocGlobal)) {
     }
 }
 
+const OTHER_ORDER: &str =
+    "{\"exploring\":true,\"nodes\":[],\"order\":\"one\",\"preemption_bound\":1,\"reduce\":true,\"version\":2}";
+
+const OTHER_SEARCH: &str =
+    "{\"exploring\":false,\"nodes\":[],\"order\":\"all\",\"preemption_bound\":1,\"reduce\":false,\"version\":2}";
+
+// Why these are no paths of such a search.
+static REASONS: [(&str, &str); 3] = [
+    (OTHER_ORDER, "the checkpoint was made with another `order`"),
+    (
+        OTHER_SEARCH,
+        "the checkpoint was made with another `preemption_bound`",
+    ),
+    ("{\"version\":1}", "the checkpoint has version 1, and not 2"),
+];
+
+// The text is no path for this reason.
+fn is_refused_for(rt: &(impl Abort + AllocGlobal), text: &str, reason: &str) {
+    let mut page = Page::new(rt.alloc());
+    if let Err(error) = &from_text(rt.alloc(), text.as_bytes(), WHOLE) {
+        page.put("", error);
+    }
+    let told = page.text.as_str().trim_end();
+    same(rt, told, reason, "why a text is no path");
+}
+
+#[test]
+fn the_first_other_setting_is_named(rt: HostRuntime) {
+    for (text, reason) in &REASONS {
+        is_refused_for(&rt, *text, *reason);
+    }
+}
+
 // The path that is read from the text of a path.
 fn read_back(rt: &(impl Abort + AllocGlobal), path: &Path) -> Path {
     let text = to_text(rt.alloc(), path).expect(rt, "no memory for the text");
@@ -212,7 +261,8 @@ fn paths_are_told_apart(rt: HostRuntime) {
 const BEFORE: &str =
     "{\"exploring\":true,\"nodes\":[{\"exploring\":true,\"first\":0,\"schedule\":[\"Visited\",\"Active\",\"Disabled\",\"Disabled\",\"Disabled\"]},";
 
-const BEHIND: &str = "],\"preemption_bound\":null,\"reduce\":false,\"version\":1}";
+const BEHIND: &str =
+    "],\"order\":\"all\",\"preemption_bound\":null,\"reduce\":false,\"version\":2}";
 
 static NODES: [(&str, u8); 19] = [
     (

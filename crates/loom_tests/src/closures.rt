@@ -1,9 +1,11 @@
+//! Checks of closures on threads of the host: what they find, and what each call answers.
 ghost use Rattle.std.specs.Prelude.{◌≡◌};
 
 mod ample;
 mod bodies;
 mod children;
 mod ends;
+mod explained;
 mod finding;
 mod forms;
 mod forms_in_children;

@@ -1,6 +1,6 @@
 //! The text of each body's run, whole.
 mod bodies;
-mod texts;
+pub mod texts;
 
 use crate::asserting::{same, script};
 use crate::explanations::bodies::limits::{FENCES, ORDERS_EQUAL, STORES, THREE_SPAWNED};

@@ -14,7 +14,13 @@ mod closures;
 #[cfg(test)]
 mod explanations;
 #[cfg(test)]
+mod first;
+#[cfg(test)]
+mod guide;
+#[cfg(test)]
 mod page;
+#[cfg(test)]
+mod porting;
 #[cfg(test)]
 mod rows;
 #[cfg(test)]

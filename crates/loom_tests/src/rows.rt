@@ -1,3 +1,5 @@
+//! What checks find of the program's rows and of bodies of tests, as tables say it.
+
 // A check of the body of this name: its first runs, so many at most, and how it ended.
 macro_rules! case {
     ($name:expr, $settings:expr, $first:expr, $text:expr) => {

@@ -416,3 +416,27 @@ fn parts_of_views_are_as_they_are_told(rt: HostRuntime) {
     same(&rt, page.text.as_str(), text, "vectors and numbers");
     are_changed(&rt);
 }
+
+// A vector with these counts of threads 0 and 1.
+fn counted(rt: &impl Abort, zero: usize, one: usize) -> VersionVec {
+    let mut vector = VersionVec::new();
+    for _ in 0..zero {
+        holds(rt, vector.inc(0), "a raise of thread 0");
+    }
+    for _ in 0..one {
+        holds(rt, vector.inc(1), "a raise of thread 1");
+    }
+    vector
+}
+
+#[test]
+fn view_words(rt: HostRuntime) {
+    let first = counted(&rt, 1, 2);
+    let second = counted(&rt, 3, 0);
+    holds(&rt, first.word() == 131_073, "the word of two counts");
+    let mut both = first;
+    both.join(&second);
+    holds(&rt, both.word() == 131_075, "the word of a join");
+    holds(&rt, first.ahead(&second) == Some(0), "the second is ahead");
+    holds(&rt, second.ahead(&first) == Some(1), "the first is ahead");
+}

@@ -3,7 +3,9 @@ pub mod Choices
 pub mod Fences
 pub mod Growth
 pub mod Loops
+pub mod Orders
 pub mod Reaching
+pub mod Reads
 pub mod Rows
 pub mod Shown
 pub mod SlotNumbers

@@ -2,6 +2,7 @@ pub mod Cells
 pub mod Counted
 pub mod Counting
 pub mod Growth
+pub mod Lanes
 pub mod Reaching
 pub mod Records
 pub mod ThreadMoves

@@ -2,5 +2,6 @@ pub mod Ends
 pub mod Examples
 pub mod Kept
 pub mod Moves
+pub mod Orders
 pub mod Reaching
 pub mod Views

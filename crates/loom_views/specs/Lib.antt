@@ -4,6 +4,7 @@ pub mod CellAccesses
 pub mod Changes
 pub mod Failures
 pub mod Graph
+pub mod Lanes
 pub mod Laws
 pub mod Limits
 pub mod Numbers

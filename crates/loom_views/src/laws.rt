@@ -1,11 +1,11 @@
 //! Laws of views, of the vectors that show them, and of the choice of a store: that the definitions mean what one expects of a
-//! memory model. A law is the contract of a function that does nothing; it is stated in `specs/Laws`, `specs/Reaching` or
-//! `specs/Moves`, and what the layers above need too in `specs/Kept`.
+//! memory model. A law is the contract of a function that does nothing; it is stated in `specs/Laws`.
 ghost use Rattle.loom_views.specs.Laws.Ends.{EndLaw};
 ghost use Rattle.loom_views.specs.Laws.Examples.{ExampleLaw};
 ghost use Rattle.loom_views.specs.Laws.Kept.{KeepingLaw, SlotsStayLaw};
 ghost use Rattle.loom_views.specs.Laws.Reaching.{StayingLaw, BeginningLaw, UnreachedLaw};
 ghost use Rattle.loom_views.specs.Laws.Moves.{AddingLaw, RecordedLaw, BesideLaw, OrderLaw};
+ghost use Rattle.loom_views.specs.Laws.Orders.{ApartLaw, NeverEqualLaw, ChoosingLaw, OnceLaw};
 ghost use Rattle.loom_views.specs.Laws.Views.{PastLaw, ReachingLaw, CountLaw, ComparingLaw, EqualLaw, StandingLaw, ReadableLaw, OfferingLaw, LoadingLaw, UpdatingLaw, RacingLaw, FencingLaw, MovesAsAcqRel, GlobalLaw};
 
 /// That a chain of edges leads from one point to another can be found by one sweep from the newest point down (own).
@@ -118,6 +118,27 @@ pub fn unsynchronized_accesses_race_where_unreached()
 /// whatever moves come between (own).
 pub fn raising_accesses_reach_later_ones()
     ensures { OrderLaw }
+{}
+
+/// In a run in which each load and read-modify-write reads what it may, the orders of an atomic's kept stores differ: of no two is
+/// each one's inside the other's (own).
+pub fn orders_of_kept_stores_differ()
+    ensures { ApartLaw }
+{}
+
+/// So in such a run no choice of a slot meets equal orders: it is never `OrdersEqual` (own).
+pub fn choices_never_meet_equal_orders()
+    ensures { NeverEqualLaw }
+{}
+
+/// In such a run a thread that has raised its version has a slot of each atomic to choose (own).
+pub fn some_slot_is_always_offered()
+    ensures { ChoosingLaw }
+{}
+
+/// In such a run no two read-modify-writes of an atomic that succeed read the same store (own).
+pub fn no_store_is_updated_twice()
+    ensures { OnceLaw }
 {}
 
 /// Of the end of a read only containment is said: in a small history its point doesn't reach the point of another thread's write,

@@ -1,6 +1,7 @@
 use Rattle.std.proofs.Common.{◌≡◌, ◌≤◌, ◌+◌, ℕ, zero, suc, Bool, true, false, cond, List, [], ◌∷◌, ◌++◌, ap, sym, ◌∙◌, refl, subst, length, arith, add_assoc, ◌==◌}
-use Rattle.std.specs.Prelude.{slice_index, ⊤, Result}
+use Rattle.std.specs.Prelude.{slice_index, ⊤, Option, Result}
 use Rattle.loom_objects.specs.declared.failure.Failure.{Failure}
+use Rattle.loom_objects.specs.declared.label.Label.{Label}
 use Rattle.loom_objects.specs.declared.failure.Stop.{Stop as Halt}
 use Rattle.loom_objects.specs.declared.operation.Request.{Request}
 use Rattle.loom_objects.specs.declared.operation.Turn.{Turn}
@@ -48,12 +49,15 @@ pub counted_first : {D : Type 0} (counts : List ℕ) (es : List (Event D)) → c
 counted_first counts es one none = counted_same (0 ∷ []) counts [] es one none (record { threads = refl; counted = zeros })
 
 -- what was added
-pub added_so : {M D : Type 0} (turn : M → ℕ) (happens : M → Request D ⊤ → Result (Turn D) Halt → M → Type 0) (old : M) (op kept : Request D ⊤) (new : M) (before mid after : List (Event D)) (by : ℕ) (out : Result (Turn D) Failure)
-    → by ≡ turn old → kept ≡ op → happens old op (answered out) new → mid ≡ before → after ≡ mid ++ record { by = by; op = kept; outcome = out } ∷ [] → IsAdded turn happens old op new before after
-added_so turn happens old op kept new before mid after by out whose same did rest at = record {
-  event = record { by = by; op = kept; outcome = out };
+pub added_so : {M D : Type 0} (turn passed : M → ℕ) (happens : M → Request D ⊤ → Result (Turn D) Halt → M → Type 0) (old : M) (op kept : Request D ⊤) (label : Option Label) (new : M) (before mid after : List (Event D)) (by choices : ℕ) (out : Result (Turn D) Failure)
+    → by ≡ turn old → choices ≡ passed old → kept ≡ op → happens old op (answered out) new → mid ≡ before
+    → after ≡ mid ++ record { by = by; op = kept; label = label; choices_before = choices; outcome = out } ∷ [] → IsAdded turn passed happens old op label new before after
+added_so turn passed happens old op kept label new before mid after by choices out whose many same did rest at = record {
+  event = record { by = by; op = kept; label = label; choices_before = choices; outcome = out };
   asked = same;
+  labelled = refl;
   active = whose;
+  choices = many;
   happens_so = did;
-  history = at ∙ ap (λ es. es ++ record { by = by; op = kept; outcome = out } ∷ []) rest;
+  history = at ∙ ap (λ es. es ++ record { by = by; op = kept; label = label; choices_before = choices; outcome = out } ∷ []) rest;
 }

@@ -3,6 +3,7 @@ use Rattle.std.specs.Prelude.{slice_get, option_map, ⊤, Result, Ok, Err}
 use Rattle.loom_objects.specs.declared.failure.Stop.{Stop as Halt}
 use Rattle.loom_objects.specs.declared.failure.Stop.TheVariants as halt
 use Rattle.loom_objects.specs.declared.failure.Failure.{Failure}
+use Rattle.loom_objects.specs.declared.label.Label.{Label}
 use Rattle.loom_objects.specs.declared.operation.Request.{Request}
 use Rattle.loom_objects.specs.declared.operation.Turn.{Turn}
 use Rattle.loom_objects.specs.declared.operation.Turn.TheVariants as turn
@@ -13,12 +14,12 @@ use Rattle.loom_engine.specs.Execution.{ExecutionState, ShowsCourse, SubmitsAt, 
 use Rattle.loom.specs.declared.runner.stop.Stop.{Stop}
 use Rattle.loom.specs.declared.runner.history.event.Event.{Event}
 use Rattle.loom.specs.Runner.Events.{IsAdded, last_event, end_after, end_in, outcome_by}
-use Rattle.loom.specs.Runner.Histories.{Moment, moment, first, active_at, answered, Handed, Happens, Leads, Kept, Goes, Log, Adds}
+use Rattle.loom.specs.Runner.Histories.{Moment, moment, first, active_at, answered, Handed, Happens, IsOf, Leads, Kept, Goes, Log, Adds, passed_at}
 
 -- a history goes on by one event
-pub leads_snoc : {D : Type 0} (m k n : Moment D) (es : List (Event D)) (e : Event D) → Leads m es k → e.by ≡ active_at k → Happens k e.op e.outcome n → Leads m (es ++ e ∷ []) n
+pub leads_snoc : {D : Type 0} (m k n : Moment D) (es : List (Event D)) (e : Event D) → Leads m es k → IsOf k e → Happens k e.op e.outcome n → Leads m (es ++ e ∷ []) n
 leads_snoc m k n [] e same by h =
-    let P : Moment _ → Type 0 = λ s. (mid : Moment _) × (e.by ≡ active_at s) × Happens s e.op e.outcome mid × (n ≡ mid) in
+    let P : Moment _ → Type 0 = λ s. (mid : Moment _) × IsOf s e × Happens s e.op e.outcome mid × (n ≡ mid) in
     subst P same (n, by, h, refl)
 leads_snoc m k n (x ∷ xs) e (mid, b, f, rest) by h = (mid, b, f, leads_snoc mid k n xs e rest by h)
 
@@ -42,12 +43,12 @@ over_snoc : {D : Type 0} (es : List (Event D)) (e : Event D) → over_after (ans
 over_snoc es e = over_is e.outcome ∙ ap (λ event. option_map halt.Failure (outcome_by end_after event)) (sym (last_snoc es e))
 
 -- a state that kept its facts keeps them over one event
-kept_snoc : {D : Type 0} (limits : Limits) (began : Route) (es : List (Event D)) (e : Event D) (op : Request D ⊤) (m n : Moment D)
-    → Kept limits began es None m → Goes m op e n → Kept limits began (es ++ e ∷ []) None n
-kept_snoc limits began es e op m n k g =
+kept_snoc : {D : Type 0} (limits : Limits) (began : Route) (es : List (Event D)) (e : Event D) (op : Request D ⊤) (label : Option Label) (m n : Moment D)
+    → Kept limits began es None m → Goes m op label e n → Kept limits began (es ++ e ∷ []) None n
+kept_snoc limits began es e op label m n k g =
     let h : Happens m e.op e.outcome n = (let P : Request _ ⊤ → Type 0 = λ o. Happens m o e.outcome n in subst P (sym g.asked) g.happens) in
     record {
-      leads = λ none. (let before = k.leads none in record { start = before.start; opens = before.opens; leads = leads_snoc _ m n es e before.leads g.active h });
+      leads = λ none. (let before = k.leads none in record { start = before.start; opens = before.opens; leads = leads_snoc _ m n es e before.leads g.of h });
       over = λ none. h.over ∙ over_snoc es e;
     }
 
@@ -89,26 +90,26 @@ happens_by m n op out live (s, same) =
     record { live = live; along = t.0; over = t.1; search = same }
 
 -- what was added, where the run goes on
-goes_by : {D : Type 0} (m n : Moment D) (op : Request D ⊤) (es es' : List (Event D)) (after : Option Stop) → m.state.over ≡ None → IfNone after (IsAdded active_at Handed m op n es es')
-    → IfNone after ((e : Event D) × Goes m op e n × (es' ≡ es ++ e ∷ []))
-goes_by m n op es es' None live added =
-    (added.event, record { asked = added.asked; active = added.active; happens = happens_by m n op added.event.outcome live added.happens_so }, added.history)
-goes_by m n op es es' (Some s) live added = tt
+goes_by : {D : Type 0} (m n : Moment D) (op : Request D ⊤) (label : Option Label) (es es' : List (Event D)) (after : Option Stop) → m.state.over ≡ None → IfNone after (IsAdded active_at passed_at Handed m op label n es es')
+    → IfNone after ((e : Event D) × Goes m op label e n × (es' ≡ es ++ e ∷ []))
+goes_by m n op label es es' None live added =
+    (added.event, record { asked = added.asked; labelled = added.labelled; of = (added.active, added.choices); happens = happens_by m n op added.event.outcome live added.happens_so }, added.history)
+goes_by m n op label es es' (Some s) live added = tt
 
 -- what an event was added to, or where none could be
-pub kept_after : {D : Type 0} (limits : Limits) (began : Route) (es es' : List (Event D)) (op : Request D ⊤) (m n : Moment D) (before after : Option Stop)
-    → before ≡ None → Kept limits began es before m → IfNone after ((e : Event D) × Goes m op e n × (es' ≡ es ++ e ∷ [])) → Kept limits began es' after n
-kept_after limits began es es' op m n before None b k added =
+pub kept_after : {D : Type 0} (limits : Limits) (began : Route) (es es' : List (Event D)) (op : Request D ⊤) (label : Option Label) (m n : Moment D) (before after : Option Stop)
+    → before ≡ None → Kept limits began es before m → IfNone after ((e : Event D) × Goes m op label e n × (es' ≡ es ++ e ∷ [])) → Kept limits began es' after n
+kept_after limits began es es' op label m n before None b k added =
     let e = added.0 in
     let k' : Kept limits began es None m = (let P : Option Stop → Type 0 = λ o. Kept limits began es o m in subst P b k) in
     let P : List (Event _) → Type 0 = λ xs. Kept limits began xs None n in
-    subst P (sym added.2) (kept_snoc limits began es e op m n k' added.1)
-kept_after limits began es es' op m n before (Some s) b k added = record { leads = λ none. cc none; over = λ none. cc none }
+    subst P (sym added.2) (kept_snoc limits began es e op label m n k' added.1)
+kept_after limits began es es' op label m n before (Some s) b k added = record { leads = λ none. cc none; over = λ none. cc none }
 
-pub adds_after : {D : Type 0} (log log' : Log D) (op : Request D ⊤) (after : Option Stop) → IfNone after ((e : Event D) × Goes log.now op e log'.now × (log'.history ≡ log.history ++ e ∷ []))
-    → OnSome after (log'.history ≡ log.history) → MatchOption after (Adds log op log') (λ stop. log'.history ≡ log.history)
-adds_after log log' op None added same = record { event = added.0; goes = added.1; history = added.2 }
-adds_after log log' op (Some s) added same = same
+pub adds_after : {D : Type 0} (log log' : Log D) (op : Request D ⊤) (label : Option Label) (after : Option Stop) → IfNone after ((e : Event D) × Goes log.now op label e log'.now × (log'.history ≡ log.history ++ e ∷ []))
+    → OnSome after (log'.history ≡ log.history) → MatchOption after (Adds log op label log') (λ stop. log'.history ≡ log.history)
+adds_after log log' op label None added same = record { event = added.0; goes = added.1; history = added.2 }
+adds_after log log' op label (Some s) added same = same
 
 -- the run goes on where the last event doesn't end it
 pub live_if : {D : Type 0} (limits : Limits) (began : Route) (es : List (Event D)) (spoiled : Option Stop) (now : Moment D) → Kept limits began es spoiled now
@@ -120,8 +121,8 @@ pub kept_spoiled : {D : Type 0} (limits : Limits) (began : Route) (es : List (Ev
 kept_spoiled limits began es stop now = record { leads = λ none. cc none; over = λ none. cc none }
 
 -- what was added, as the tests before it tell that the run goes on
-pub goes_after : {D : Type 0} (limits : Limits) (began : Route) (es es' : List (Event D)) (spoiled after : Option Stop) (m n : Moment D) (op : Request D ⊤) (end : Option Failure) (is_spoiled is_over : Bool)
+pub goes_after : {D : Type 0} (limits : Limits) (began : Route) (es es' : List (Event D)) (spoiled after : Option Stop) (m n : Moment D) (op : Request D ⊤) (label : Option Label) (end : Option Failure) (is_spoiled is_over : Bool)
     → Kept limits began es spoiled m → is_spoiled ≡ is_some spoiled → is_spoiled ≡ false → end ≡ end_in es → is_over ≡ is_some end → is_over ≡ false
-    → IfNone after (IsAdded active_at Handed m op n es es') → IfNone after ((e : Event D) × Goes m op e n × (es' ≡ es ++ e ∷ []))
-goes_after limits began es es' spoiled after m n op end is_spoiled is_over k a off b c on added =
-    goes_by m n op es es' after (live_if limits began es spoiled m k (none_is spoiled (sym a ∙ off)) (goes_on_by es end is_over b c on)) added
+    → IfNone after (IsAdded active_at passed_at Handed m op label n es es') → IfNone after ((e : Event D) × Goes m op label e n × (es' ≡ es ++ e ∷ []))
+goes_after limits began es es' spoiled after m n op label end is_spoiled is_over k a off b c on added =
+    goes_by m n op label es es' after (live_if limits began es spoiled m k (none_is spoiled (sym a ∙ off)) (goes_on_by es end is_over b c on)) added

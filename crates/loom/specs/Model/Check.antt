@@ -1,11 +1,12 @@
 -- What a check promises: what a report says of a body's runs, and of those that the visitor was given, is `Reports`. A check that
 -- begins with a path makes the runs that are left from it (`Left`), and one that is stopped says with which path to go on. Where
 -- the store gave no text, a report says besides what `Fresh.antt` says of a check from the beginning (`fresh`).
-use Rattle.std.specs.Prelude.{◌≡◌, ◌≤◌, ◌<◌, ℕ, Bool, false, List, [], ◌++◌, Option, Some, None, String, length, string_bytes}
+use Rattle.std.specs.Prelude.{◌≡◌, ◌≢◌, ◌≤◌, ◌<◌, ℕ, Bool, false, List, [], ◌++◌, Option, Some, None, String, length, string_bytes}
 use Rattle.std.specs.Duration.{as_nanos}
 use Rattle.std.specs.declared.alloc.Global.{Global}
 use Rattle.std.specs.declared.time.Duration.{Duration}
 use Rattle.loom_views.specs.declared.rt.failure.FailureKind.{FailureKind}
+use Rattle.loom_views.specs.declared.rt.failure.FailureKind.TheVariants.{OrdersEqual}
 use Rattle.loom_objects.specs.declared.choice.Choice.{Choice}
 use Rattle.loom_objects.specs.Tree.Tree.{Tree}
 use Rattle.loom_engine.specs.Walk.Path.{IsResting, Rest}
@@ -123,6 +124,14 @@ abbrev pub IsPlaced : Builder → Report → Type 0
 IsPlaced b (Complete count) = Unit {0}
 IsPlaced b (Stopped count limit checkpoint) = Unit {0}
 IsPlaced b (Failed count failure choices) = b.location ≡ false → failure.location ≡ None
+
+-- ---- failures
+
+-- no run failed because the orders of two stores are equal
+abbrev pub MeetsNoEqualOrders : Report → Type 0
+MeetsNoEqualOrders (Complete count) = Unit {0}
+MeetsNoEqualOrders (Stopped count limit checkpoint) = Unit {0}
+MeetsNoEqualOrders (Failed count failure choices) = failure.kind ≢ OrdersEqual
 
 -- ---- reports
 

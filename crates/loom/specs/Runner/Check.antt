@@ -1,4 +1,4 @@
--- What a check of closures promises. What one run is says `loom/specs/Made.antt`: a call of the closure has made it
+-- What a check of closures promises. What one run is says `loom/specs/Runner/Made.antt`: a call of the closure has made it
 -- (`MadeBy`), its history is one of the machine (`Settled`), and if it ended the visitor is given it (`Given`). Each run goes on
 -- where the last one's path steps to (`Rounds`). What a report says of them is `Reports`. What closures will hand over isn't known
 -- before they do, so a run's machine is that of its own history (`loom/specs/Runner/Chains.antt`).

@@ -2,6 +2,7 @@
 use Rattle.std.specs.Prelude.{ℕ, ◌≡◌, ◌<◌, ◌≤◌, ◌-◌, ◌+◌, ◌==◌, ◌&&◌, ⊤, Bool, true, false, cond, List, [], ◌∷◌, ◌++◌, length, Option, Some, None, Result, Ok, Err, slice_index, slice_get}
 use Rattle.loom_views.specs.declared.rt.failure.FailureKind.TheVariants.{Misuse}
 use Rattle.loom_objects.specs.declared.failure.Failure.{Failure}
+use Rattle.loom_objects.specs.declared.label.Label.{Label}
 use Rattle.loom_objects.specs.declared.operation.Request.{Request}
 use Rattle.loom_objects.specs.declared.operation.Request.TheVariants as request
 use Rattle.loom_objects.specs.declared.operation.Reply.{Reply}
@@ -146,11 +147,14 @@ module _ {D : Type 0} where
     pub threads : length counts ≡ 1 + made history
     pub counted : Counted counts history
 
-  -- the history goes on by one event: what a machine did with this operation, by the thread whose turn it was
-  pub record IsAdded {M : Type 0} (turn : M → ℕ) (happens : M → Request D ⊤ → Result (Turn D) Halt → M → Type 0) (old : M) (op : Request D ⊤) (new : M) (before after : List (Event D)) : Type 0 where
+  -- the history goes on by one event: what a machine did with this operation, of this label, by the thread whose turn it was, once
+  -- so many choices were made
+  pub record IsAdded {M : Type 0} (turn passed : M → ℕ) (happens : M → Request D ⊤ → Result (Turn D) Halt → M → Type 0) (old : M) (op : Request D ⊤) (label : Option Label) (new : M) (before after : List (Event D)) : Type 0 where
     pub event : Event D
     pub asked : event.op ≡ op
+    pub labelled : event.label ≡ label
     pub active : event.by ≡ turn old
+    pub choices : event.choices_before ≡ passed old
     pub happens_so : happens old op (answered event.outcome) new
     pub history : after ≡ before ++ event ∷ []
 

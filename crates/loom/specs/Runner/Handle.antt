@@ -1,5 +1,6 @@
 -- What the calls of a handle add to its thread's told list.
 use Rattle.std.specs.Prelude.{ℕ, ◌≡◌, ◌⊎◌, ◌&&◌, ⊤, Bool, true, false, cond, MatchBool, List, [], ◌∷◌, ◌++◌, Option, Some, None, is_some, IfSome, Result, Ok, Err, slice_get}
+use Rattle.loom_objects.specs.declared.operation.Name.{Name}
 use Rattle.loom_objects.specs.declared.operation.Request.{Request}
 use Rattle.loom_objects.specs.declared.operation.Request.TheVariants.{Thread}
 use Rattle.loom_objects.specs.declared.operation.Reply.{Reply}
@@ -21,9 +22,9 @@ module _ {D : Type 0} where
   abbrev pub with_open : List (Entry D) → Request D ⊤ → List (Entry D)
   with_open es op = cond (all_answered es) (es ++ entry op None ∷ []) es
 
-  -- a thread begins
-  abbrev pub spawning : Request D ⊤
-  spawning = Thread (Spawn tt None)
+  -- a thread begins, of this name if it has one
+  abbrev pub spawning : Option Name → Request D ⊤
+  spawning name = Thread (Spawn tt name)
 
   -- it gives its own values back
   abbrev pub exiting : Request D ⊤
@@ -41,16 +42,18 @@ is_memory (Some (Failure f)) = false
 is_memory (Some Refused) = false
 is_memory (Some Memory) = true
 
--- what contracts see of a handle: its thread, its told list, and whether a call of it was refused memory
+-- what contracts see of a handle: its thread, its told list, whether a call of it was refused memory, and the name of the thread that
+-- it spawns next
 pub record Teller (D : Type 0) : Type 0 where
   pub thread : ℕ
   pub told : List (Entry D)
   pub starved : Bool
+  pub name : Option Name
 
 module _ {D : Type 0} where
   -- a handle with an empty told list
   abbrev pub newcomer : ℕ → Teller D
-  newcomer n = record { thread = n; told = []; starved = false }
+  newcomer n = record { thread = n; told = []; starved = false; name = None }
 
   -- a handle remembers why its run stopped, if one of its calls was answered so
   pub record Remembers (told : List (Entry D)) (stop : Option Stop) : Type 0 where

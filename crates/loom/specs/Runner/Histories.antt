@@ -15,6 +15,7 @@ use Rattle.loom.specs.declared.runner.stop.Stop.{Stop}
 use Rattle.loom.specs.declared.runner.stop.Stop.TheVariants as stop
 use Rattle.loom.specs.declared.runner.history.event.Event.{Event}
 use Rattle.loom_objects.specs.declared.failure.Failure.{Failure}
+use Rattle.loom_objects.specs.declared.label.Label.{Label}
 pub use Rattle.loom.specs.Runner.Events.{answered, end_after, ended, ended_by, end_in, entry, failed_by, failing, IsNotAdded, IsReplied, last_event, made, or_else, outcome_by, part, Share, share, start_in, turn_in}
 
 -- ---- events
@@ -44,10 +45,18 @@ module _ {D : Type 0} where
   abbrev pub active_at : Moment D → ℕ
   active_at m = m.state.run.state.scene.active
 
+  -- how many choices were made
+  abbrev pub passed_at : Moment D → ℕ
+  passed_at m = m.route.position
+
+  -- the event is of this moment: of the thread whose turn it is, once so many choices were made
+  abbrev pub IsOf : Moment D → Event D → Type 0
+  IsOf m e = (e.by ≡ active_at m) × (e.choices_before ≡ passed_at m)
+
   -- the events lead from one moment to another, each of them by the thread whose turn it is
   abbrev pub Leads : Moment D → List (Event D) → Moment D → Type 0
   Leads m [] n = n ≡ m
-  Leads m (e ∷ es) n = (mid : Moment D) × (e.by ≡ active_at m) × Happens m e.op e.outcome mid × Leads mid es n
+  Leads m (e ∷ es) n = (mid : Moment D) × IsOf m e × Happens m e.op e.outcome mid × Leads mid es n
 
   -- the moment before any event
   abbrev pub first : Progress D → Route → Moment D
@@ -92,16 +101,17 @@ module _ {D : Type 0} where
   abbrev pub Starts : Log D → ℕ → Type 0
   Starts log n = (why_stopped log ≡ None) × (start_in log.history ≡ Some n)
 
-  -- the event of this operation, by the thread whose turn it is, leads from one moment to the other
-  pub record Goes (m : Moment D) (op : Request D ⊤) (e : Event D) (n : Moment D) : Type 0 where
+  -- the event of this operation and label, by the thread whose turn it is, leads from one moment to the other
+  pub record Goes (m : Moment D) (op : Request D ⊤) (label : Option Label) (e : Event D) (n : Moment D) : Type 0 where
     pub asked : e.op ≡ op
-    pub active : e.by ≡ active_at m
+    pub labelled : e.label ≡ label
+    pub of : IsOf m e
     pub happens : Happens m op e.outcome n
 
-  -- the history goes on by one event, of this operation
-  pub record Adds (log : Log D) (op : Request D ⊤) (log' : Log D) : Type 0 where
+  -- the history goes on by one event, of this operation and label
+  pub record Adds (log : Log D) (op : Request D ⊤) (label : Option Label) (log' : Log D) : Type 0 where
     pub event : Event D
-    pub goes : Goes log.now op event log'.now
+    pub goes : Goes log.now op label event log'.now
     pub history : log'.history ≡ log.history ++ event ∷ []
 
   -- the run began so, and the told list of each thread is its part of the history

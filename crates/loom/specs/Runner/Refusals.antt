@@ -32,6 +32,15 @@ module _ {D : Type 0} where
   abbrev pub IsUnsettled : Log D → Route → Limits → List (Share D) → Type 0
   IsUnsettled log began limits told = ((failure : Failure) × (log.spoiled ≡ Some (stop.Failure failure))) ⊎ ((Settles log began limits told → ⊥) ⊎ (end_in log.history ≡ None))
 
+module _ {D : Type 0} where
+  -- the history has no end, or memory was refused
+  abbrev pub IsOpenOrRefused : Log D → RunnerError → Type 0
+  IsOpenOrRefused log e = IsRefusedByHost e ⊎ ((e ≡ error.NotSettled) × (end_in log.history ≡ None))
+
+  -- why nothing is told of the state at the end of a run: the host has refused memory or a thread, or it isn't settled
+  abbrev pub IsNotTold : Limits → Route → Log D → List (Share D) → RunnerError → Type 0
+  IsNotTold limits began log told e = IsRefusedByHost e ⊎ ((e ≡ error.NotSettled) × IsUnsettled log began limits told)
+
 -- why the state at the end of a run makes no end of it, and that the visitor wasn't given it, unless that was where memory was refused
 module _ {D V : Type 0} (limits : Limits) where
   abbrev pub IsNotJudged : V → Route → Log D → List (Share D) → RunnerError → V → Type 0

@@ -123,7 +123,7 @@ impl Builder {
         ensures bound { OnOk result (IfSome self.now.preemption_bound (λ bound. bound ≤ 255)) }
         ensures interval { OnOk result (0 < self.now.checkpoint_interval) }
     {
-        if self.max_threads < 1 || self.max_threads > 5 {
+        if self.max_threads < 1 || self.max_threads > MAX_THREADS {
             return Err(CheckError::MaxThreads(self.max_threads));
         }
         if self.max_branches < 1 || self.max_branches > 1_000_000 {

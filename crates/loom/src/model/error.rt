@@ -62,7 +62,7 @@ pub enum CheckError {
     #[error("the checkpoint is JSON, but no path of a check: name another file, or delete it and begin anew")]
     WrongShape,
     /// It has this version.
-    #[error("the checkpoint has version {0}, and this loom reads 1: go on with the loom that wrote it, or delete it and begin anew")]
+    #[error("the checkpoint has version {0}, and this loom reads 2: go on with the loom that wrote it, or delete it and begin anew")]
     WrongVersion(u64),
     /// This setting differs.
     #[error("the checkpoint was written with another `{0}`: go on with the same one, or delete it and begin anew")]

@@ -1,5 +1,5 @@
 //! Who hears the operations of a run while it is made: for each failure's place, for an explanation, or nobody.
-ghost use Rattle.std.specs.Prelude.{ℕ, ◌≡◌, ⊤, Bool, false, None, OnOk};
+ghost use Rattle.std.specs.Prelude.{ℕ, ◌≡◌, ⊤, Bool, All, false, None, OnOk};
 ghost use Rattle.loom_objects.specs.Operation.Bare.{bare_op, bare_reply};
 ghost use Rattle.loom_objects.specs.Operation.Labelled.{Op};
 ghost use Rattle.loom_objects.specs.declared.operation.Reply.{Reply};
@@ -81,8 +81,10 @@ pub struct LastLocations {
 }
 
 impl LastLocations {
-    /// Before any operation.
-    pub fn new() -> LastLocations {
+    /// Before any operation no place is known.
+    pub fn new() -> LastLocations
+        ensures { All (λ location. location ≡ None) result.locations }
+    {
         LastLocations {
             locations: [None; MAX_THREADS],
         }

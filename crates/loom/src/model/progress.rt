@@ -6,8 +6,9 @@ use loom_objects::choice::Choice;
 /// The threads that became active in the run that the path has passed, one after another.
 pub(crate) fn log_switches<L: Log>(log: &L, path: &Path) {
     let mut active = 0u8;
-    for node in path.nodes().iter().take(path.position()) {
-        if let Choice::Thread(Some(thread)) = node.choice()
+    for place in 0..path.position() {
+        if let Some(node) = path.node(place)
+            && let Choice::Thread(Some(thread)) = node.choice()
             && thread != active
         {
             active = thread;

@@ -1,6 +1,5 @@
 //! What a check found, and how it is printed.
 
-use crate::choices::ShownChoices;
 use crate::model::Limit;
 use loom_objects::choice::Choice;
 use loom_objects::failure::Failure;
@@ -32,6 +31,35 @@ pub enum Report {
 #[derive(Clone, Copy)]
 struct RunCount(u64);
 
+/// How to see what happened in a run that failed.
+const TELLS: &str =
+    "to see what happened: `Builder::explain`, or `runner::explain` for closures, with these choices";
+
+/// So many choices of a long list are shown at each end.
+const SHOWN: usize = 30;
+
+/// Choices as a person reads them: the middle of a long list is left out.
+#[derive(Clone, Copy)]
+struct CutChoices<'a>(&'a [Choice]);
+
+impl fmt::Display for CutChoices<'_> {
+    fn fmt<W: fmt::Write>(&self, f: &mut fmt::Formatter<W>) -> fmt::Result {
+        let last = self.0.len().saturating_sub(SHOWN);
+        let left_out = last.saturating_sub(SHOWN);
+        for (place, choice) in self.0.iter().enumerate() {
+            if place == SHOWN && left_out > 0 {
+                write!(f, " .. ({left_out} choices) ..")?;
+            }
+            if place < SHOWN || place >= last {
+                let word = *choice;
+                let space = if place == 0 { "" } else { " " };
+                write!(f, "{space}{word}")?;
+            }
+        }
+        Ok(())
+    }
+}
+
 impl fmt::Display for RunCount {
     fn fmt<W: fmt::Write>(&self, f: &mut fmt::Formatter<W>) -> fmt::Result {
         let runs = self.0;
@@ -53,8 +81,9 @@ impl fmt::Display for Limit {
     }
 }
 
-/// How the check ended, after how many runs. Of a failure also why the run failed, and on a line of its own the choices that
-/// `Choices::parse` reads, and with which `replay` makes it again.
+/// How the check ended, after how many runs. Of a failure also which run failed and why, and on a line of its own the choices that
+/// `Choices::parse` reads, with which `replay` makes it again, and `explain` tells it. Of more than 60 choices the middle is left
+/// out.
 impl fmt::Display for Report {
     fn fmt<W: fmt::Write>(&self, f: &mut fmt::Formatter<W>) -> fmt::Result {
         match self {
@@ -71,9 +100,12 @@ impl fmt::Display for Report {
                 failure,
                 choices,
             } => {
-                let runs = RunCount(*runs);
-                let choices = ShownChoices(choices.as_slice());
-                write!(f, "failed after {runs}: {failure}\nreplay: {choices}")
+                let number = runs.saturating_add(1);
+                let choices = CutChoices(choices.as_slice());
+                write!(
+                    f,
+                    "failed in run {number}: {failure}\nreplay: {choices}\n{TELLS}"
+                )
             }
         }
     }

@@ -1,11 +1,12 @@
 //! One run of a body along a path, which a listener hears: the threads' bodies are resumed by turns, and what they hand over is
 //! submitted, until the run ends or fails. Its contract is the run of the body's tree of `loom_engine`, and its events are those of
 //! the body's story. Each run of a check, each replay and each explanation is made by it.
-ghost use Rattle.std.specs.Prelude.{◌≡◌, ◌≢◌, ◌≤◌, ◌+◌, [], None, Err, OnOk, OnErr, IfOk};
+ghost use Rattle.std.specs.Prelude.{◌≡◌, ◌≢◌, ◌≤◌, ◌+◌, Bool, [], None, Err, OnOk, OnErr, IfOk};
 ghost use Rattle.loom_objects.specs.Operation.Plain.{plain, started};
-ghost use Rattle.loom_engine.specs.Execution.{Along, over_after};
+ghost use Rattle.loom_engine.specs.Execution.{Along, ShowsCourse, over_after};
+ghost use Rattle.loom_engine.specs.Runs.Course.{opening};
 ghost use Rattle.loom_engine.specs.Runs.Machine.{submit as submitted};
-ghost use Rattle.loom_engine.specs.Path.Route.{IsAtStart, IsSameSearch, trail};
+ghost use Rattle.loom_engine.specs.Path.Route.{Route, IsAtStart, IsSameSearch, trail};
 ghost use Rattle.loom_engine.specs.Runs.Body.{runs as runs_of, with_child};
 ghost use Rattle.loom.specs.Explain.Story.{Story, story_of};
 ghost use Rattle.loom.specs.Model.Run.{RunsAlong, IsEndOf, IsLocated, MayBeRefusedBy};
@@ -38,10 +39,13 @@ pub struct Room<B: Body> {
 }
 
 impl<B: Body> Room<B> {
-    /// Room for a run.
+    /// Room for a run: it has no thread yet, and its execution is at the start.
     pub fn new(alloc: Global, limits: Limits) -> Result<Room<B>, AllocError>
         requires some { 1 ≤ limits.max_threads }
         requires few { limits.max_threads ≤ 5 }
+        ensures empty { IfOk result (λ room. room.bodies.items ≡ []) }
+        ensures opens { IfOk result (λ room. (explores : Bool) (path : Route) → IsAtStart explores path → ShowsCourse (opening explores limits.max_threads limits.max_steps) room.execution.run path) }
+        ensures over { IfOk result (λ room. room.execution.over ≡ None) }
     {
         Ok(Room {
             bodies: Vec::new(alloc),

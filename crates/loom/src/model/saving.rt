@@ -140,7 +140,7 @@ pub fn save<S: CheckpointStore>(
     ensures faults { Counts result (S.fault_count store.old) (S.fault_count store.new) }
 {
     path.well_formed_rests();
-    let _nodes = path.nodes();
+    let _words = path.words();
     let Ok(text) = to_text(alloc, path) else {
         return Err(StoreError::Memory);
     };

@@ -49,9 +49,31 @@ pub fn check<
     ensures refused { IfErr (tested builder.now) (λ e. (result ≡ Err (Settings e)) × (visitor.new ≡ visitor.old)) }
     ensures errors { IfErr result (IsNoReport (CalledAtMut F.FnMut) V.takes builder.now closure visitor.old visitor.new) }
 {
+    check_lent(rt, alloc, builder, &mut closure, visitor)
+}
+
+/// `check` of a closure that is called again afterwards.
+pub(crate) fn check_lent<
+    D: Exact + 'static,
+    R: Threads + Wait + Clone + Send + 'static,
+    F: FnMut(&mut Handle<D, R>) -> Result<D, Stop>,
+    V: Visitor<D>,
+>(
+    rt: &R,
+    alloc: Global,
+    builder: &Builder,
+    closure: &mut F,
+    visitor: &mut V,
+) -> Result<Report, RunnerError>
+    requires { F.IsAlwaysCallable closure.old }
+    ensures again { F.IsAlwaysCallable closure.new }
+    ensures reports { IfOk result (Reports (CalledAtMut F.FnMut) V.takes builder.now closure.old visitor.old visitor.new) }
+    ensures refused { IfErr (tested builder.now) (λ e. (result ≡ Err (Settings e)) × (visitor.new ≡ visitor.old)) }
+    ensures errors { IfErr result (IsNoReport (CalledAtMut F.FnMut) V.takes builder.now closure.old visitor.old visitor.new) }
+{
     builder.test()?;
     let mut path = fresh_path(alloc, builder);
-    make_runs(rt, alloc, builder, &mut path, &mut closure, visitor)
+    make_runs(rt, alloc, builder, &mut path, closure, visitor)
 }
 
 /// Makes one run of the closure after another, by settings in range, from this path on. It has several exits and owns nothing,
@@ -73,6 +95,7 @@ fn make_runs<
     requires few { builder.now.max_threads ≤ 5 }
     requires fresh { path.old ≡ fresh_path builder.now }
     requires callable { F.IsAlwaysCallable closure.old }
+    ensures again { F.IsAlwaysCallable closure.new }
     ensures reports { IfOk result (Reports (CalledAtMut F.FnMut) V.takes builder.now closure.old visitor.old visitor.new) }
     ensures errors { IfErr result (BreaksOff (CalledAtMut F.FnMut) V.takes builder.now closure.old visitor.old visitor.new) }
 {

@@ -1,6 +1,7 @@
 //! The handle by which a thread of a run hands over its operations and waits for their replies.
 ghost use Rattle.std.specs.Prelude.{◌≡◌, ◌++◌, ◌∷◌, [], IfOk, IfErr, IfSome, OnOk, MatchOption, Some, Ok, Err, true, false, slice_get};
 ghost use Rattle.loom_objects.specs.declared.operation.Reply.TheVariants as reply;
+ghost use Rattle.loom_objects.specs.Text.{first_text};
 ghost use Rattle.loom.specs.Runner.Errors.{IsRefusedByHost};
 ghost use Rattle.loom.specs.Runner.Histories.{entry};
 ghost use Rattle.loom.specs.Runner.Handle.{newcomer, with_open, failing, finishing, handed, is_reserved, spawning, ByStop, Closes, all_answered, is_memory, Leading};
@@ -25,7 +26,10 @@ use crate::runner::history::told::Told;
 use crate::runner::job::Job;
 use crate::runner::shared::{self, Children, Shared};
 use crate::runner::stop::Stop;
-use loom_objects::operation::{Reply, Request, ThreadOp};
+use loom_objects::label::{self, Label};
+use loom_objects::location::Location;
+use loom_objects::operation::{Name, Reply, Request, ThreadOp};
+use loom_objects::text::Text;
 use loom_ops::thread::JoinHandle;
 use std::alloc::{AllocError, Global};
 use std::marker::Model;
@@ -43,6 +47,10 @@ pub struct Handle<D, R> {
     told: Vec<Entry<D>>,
     stop: Option<Stop>,
     children: Children<D>,
+    // of the operation that comes next
+    label: Option<Label>,
+    // of the thread that is spawned next
+    name: Option<Name>,
 }
 
 impl<D, R> Model for Handle<D, R> {
@@ -50,7 +58,7 @@ impl<D, R> Model for Handle<D, R> {
 
     ghost Value = { Teller D };
 
-    ghost view = { λ h. record { thread = h.thread; told = h.told.items; starved = is_memory h.stop } };
+    ghost view = { λ h. record { thread = h.thread; told = h.told.items; starved = is_memory h.stop; name = h.name } };
 
     ghost invariant = { λ h. Remembers h.told.items h.stop };
 }
@@ -83,13 +91,48 @@ impl<D: Exact + 'static, R: Wait> Handle<D, R> {
         if !has_room(&mut self.told) {
             return self.give_up(Stop::Memory);
         }
-        let stop = shared::fail(&self.rt, &self.shared, self.thread);
+        let label = self.label.take();
+        let stop = shared::fail(&self.rt, &self.shared, self.thread, label);
         self.told.push_reserved(Entry {
             op: Request::Fail,
             reply: None,
         });
         self.stop = Some(stop);
         stop
+    }
+
+    /// The operation that comes next is called so where the run is told, as is what it makes: `handle.named("count").atomic(0)`
+    /// (own; in loom objects have no names). Of a name the first 24 bytes are kept, and a place that was given stays. It changes
+    /// nothing that the operation does.
+    pub fn named(&mut self, name: &str) -> &mut Self
+        ensures lent { result.ghost_name ≡ self.entry.ghost_name }
+        ensures same { result.now ≡ self.old }
+    {
+        self.label = label::named(self.label, Text::first(name));
+        self
+    }
+
+    /// The operation that comes next stands in this line of the file: `handle.at("src/queue.rs", 12).load(..)` (own; loom's
+    /// `track_caller`). Of the file's path the last 24 bytes are kept, and a name that was given stays. It changes nothing that the
+    /// operation does.
+    pub fn at(&mut self, file: &str, line: u32) -> &mut Self
+        ensures lent { result.ghost_name ≡ self.entry.ghost_name }
+        ensures same { result.now ≡ self.old }
+    {
+        self.label = label::placed(self.label, Location::new(file, line));
+        self
+    }
+
+    /// The thread that is spawned next has this name: `handle.thread("consumer").spawn(..)` (loom's `thread::Builder`). Of a name the
+    /// first 24 bytes are kept.
+    pub fn thread(&mut self, name: &str) -> &mut Self
+        ensures lent { result.ghost_name ≡ self.entry.ghost_name }
+        ensures named { result.now ≡ record self.old { name = Some (record { text = first_text name.now }) } }
+    {
+        self.name = Some(Name {
+            text: Text::first(name),
+        });
+        self
     }
 
     fn hand_over(&mut self, op: Request<D, ()>) -> Result<Reply<D>, Stop>
@@ -106,7 +149,8 @@ impl<D: Exact + 'static, R: Wait> Handle<D, R> {
             op.let_go();
             return Err(self.give_up(Stop::Memory));
         };
-        let answer = shared::hand_over(&self.rt, &self.shared, self.thread, op);
+        let label = self.label.take();
+        let answer = shared::hand_over(&self.rt, &self.shared, self.thread, op, label);
         match note(self.alloc, &mut self.told, kept, answer) {
             Ok(reply) => Ok(reply),
             Err(stop) => {
@@ -148,6 +192,8 @@ impl<D: Exact + 'static, R: Threads + Wait + Clone + Send + 'static> Handle<D, R
             told: Vec::new(alloc),
             stop: None,
             children: Vec::new(alloc),
+            label: None,
+            name: None,
         }
     }
 
@@ -157,8 +203,8 @@ impl<D: Exact + 'static, R: Threads + Wait + Clone + Send + 'static> Handle<D, R
         requires { J.ready job }
         ensures live { OnOk result (all_answered self.old.told ≡ true) }
         ensures thread { self.new.thread ≡ self.old.thread }
-        ensures answered { IfOk result (λ child. self.new.told ≡ self.old.told ++ entry spawning (Some (reply.Spawned child.thread child.name child.notifier)) ∷ []) }
-        ensures stopped { IfErr result (λ stop. ByStop stop (self.new.told ≡ with_open self.old.told spawning) (self.new.starved ≡ true)) }
+        ensures answered { IfOk result (λ child. self.new.told ≡ self.old.told ++ entry (spawning self.old.name) (Some (reply.Spawned child.thread child.name child.notifier)) ∷ []) }
+        ensures stopped { IfErr result (λ stop. ByStop stop (self.new.told ≡ with_open self.old.told (spawning self.old.name)) (self.new.starved ≡ true)) }
     {
         if let Some(stop) = self.stop {
             return Err(stop);
@@ -169,8 +215,15 @@ impl<D: Exact + 'static, R: Threads + Wait + Clone + Send + 'static> Handle<D, R
         if !has_room(&mut self.children) {
             return Err(self.give_up(Stop::Memory));
         }
-        let started = shared::start(&self.rt, self.alloc, &self.shared, self.thread, job);
-        match note_spawn(&mut self.told, &mut self.children, started) {
+        let name = self.name;
+        self.name = None;
+        let spawn = shared::Spawn {
+            by: self.thread,
+            label: self.label.take(),
+            name,
+        };
+        let started = shared::start(&self.rt, self.alloc, &self.shared, spawn, job);
+        match note_spawn(&mut self.told, &mut self.children, name, started) {
             Ok(handle) => Ok(handle),
             Err(stop) => {
                 self.stop = Some(stop);
@@ -235,6 +288,8 @@ impl<D: Exact + 'static, R: Threads + Wait + Clone + Send + 'static> Handle<D, R
             told,
             stop,
             children,
+            label: _,
+            name: _,
         } = self;
         let_go_of(shared);
         let others = shared::join_all(&rt, alloc, children);

@@ -5,6 +5,7 @@ pub mod event;
 mod last;
 pub mod shares;
 pub mod submit;
+pub mod telling;
 pub mod told;
 
 ghost use Rattle.std.specs.Prelude.{◌≡◌, ◌+◌, ◌<◌, ◌==◌, ◌-◌, ◌^◌, ℕ, [], if◌then◌else◌, IfOk, IfErr, IfNone, IfSome, OnOk, OnSome, length, vec_len, vec_capacity, slice_index};
@@ -16,6 +17,7 @@ use crate::runner::history::event::Event;
 use crate::runner::history::submit::Submit;
 use crate::runner::stop::Stop;
 use loom_objects::failure::Failure;
+use loom_objects::label::Label;
 use loom_objects::operation::{Reply, Request, Turn, copy_request};
 use loom_views::rt::failure::FailureKind;
 use std::alloc::{AllocError, Global};
@@ -76,15 +78,21 @@ impl<D> History<D> {
 }
 
 impl<D: Exact> History<D> {
-    /// Hands an operation of the thread whose turn it is over to the machine: one event more, or it is said why there is none
-    /// (own). `Memory` where a growth was refused, the failure `MISUSE` where that thread isn't there.
-    pub fn add<M: Submit<D>>(&mut self, machine: &mut M, op: Request<D, ()>) -> Option<Stop>
+    /// Hands an operation of the thread whose turn it is, with its label, over to the machine: one event more, or it is said why
+    /// there is none (own). `Memory` where a growth was refused, the failure `MISUSE` where that thread isn't there.
+    pub fn add<M: Submit<D>>(
+        &mut self,
+        machine: &mut M,
+        op: Request<D, ()>,
+        label: Option<Label>,
+    ) -> Option<Stop>
         requires { M.goes_on machine.old }
-        ensures added { IfNone result (IsAdded M.turn M.happens machine.old op machine.new self.old self.new) }
+        ensures added { IfNone result (IsAdded M.turn M.passed M.happens machine.old op label machine.new self.old self.new) }
         ensures stopped { OnSome result (self.new ≡ self.old) }
         ensures why { IfSome result (IsNotAdded (M.turn machine.old) (1 + made self.old)) }
     {
         let by = machine.active();
+        let choices_before = machine.passed();
         let kept = match prepare(by, &mut self.events, &mut self.counts, &op) {
             Ok(kept) => kept,
             Err(stop) => {
@@ -98,6 +106,8 @@ impl<D: Exact> History<D> {
                 let event = Event {
                     by,
                     op: kept,
+                    label,
+                    choices_before,
                     outcome,
                 };
                 self.events.push_reserved(event);

@@ -53,7 +53,7 @@ pub fn make_run<
 }
 
 /// Calls the closure as main, and closes its handle. Answers the threads' told lists, main's first.
-fn call_closure<
+pub(crate) fn call_closure<
     D: Exact + 'static,
     R: Threads + Wait + Clone + Send + 'static,
     F: FnMut(&mut Handle<D, R>) -> Result<D, Stop>,

@@ -14,7 +14,8 @@ use crate::runner::stop::Stop;
 use crate::runner::turns::Turns;
 use loom_engine::rt::execution::Limits;
 use loom_engine::rt::path::Path;
-use loom_objects::operation::{Reply, Request, ThreadOp};
+use loom_objects::label::Label;
+use loom_objects::operation::{Name, Reply, Request, ThreadOp};
 use loom_ops::thread::JoinHandle;
 use std::alloc::Global;
 use std::sync::{Arc, Condvar, Mutex, Wait};
@@ -69,21 +70,30 @@ pub struct Shared<D> {
     pub turned: Condvar,
 }
 
+/// A spawn: which thread hands it over, with which label, and the name of the thread that begins.
+#[derive(Clone, Copy)]
+pub(crate) struct Spawn {
+    pub(crate) by: u8,
+    pub(crate) label: Option<Label>,
+    pub(crate) name: Option<Name>,
+}
+
 /// A thread that was started.
 pub(crate) type Child<D> = thread::JoinHandle<Result<Vec<Told<D>>, RunnerError>>;
 
 /// The threads that a handle has started.
 pub(crate) type Children<D> = Vec<Child<D>>;
 
-/// Hands over an operation of the thread whose turn it is, and waits for its reply.
+/// Hands over an operation of the thread whose turn it is, with its label, and waits for its reply.
 pub(crate) fn hand_over<D: Exact, R: Wait>(
     rt: &R,
     shared: &Shared<D>,
     me: u8,
     op: Request<D, ()>,
+    label: Option<Label>,
 ) -> Result<Reply<D>, Stop> {
     let mut turns = shared.turns.lock(rt);
-    turns.submit(op);
+    turns.submit(op, label);
     shared.turned.notify_all();
     let turns = shared
         .turned
@@ -94,7 +104,7 @@ pub(crate) fn hand_over<D: Exact, R: Wait>(
 /// Hands over the thread's last operation, and waits for nothing.
 pub(crate) fn end<D: Exact, R: Wait>(rt: &R, shared: &Shared<D>) {
     let mut turns = shared.turns.lock(rt);
-    turns.submit(Request::Thread(ThreadOp::End));
+    turns.submit(Request::Thread(ThreadOp::End), None);
     shared.turned.notify_all();
 }
 
@@ -106,8 +116,13 @@ pub(crate) fn give_up<D: Exact, R: Wait>(rt: &R, shared: &Shared<D>, stop: Stop)
 }
 
 /// Hands over `fail`, and answers the stop.
-pub(crate) fn fail<D: Exact, R: Wait>(rt: &R, shared: &Shared<D>, me: u8) -> Stop {
-    match hand_over(rt, shared, me, Request::Fail) {
+pub(crate) fn fail<D: Exact, R: Wait>(
+    rt: &R,
+    shared: &Shared<D>,
+    me: u8,
+    label: Option<Label>,
+) -> Stop {
+    match hand_over(rt, shared, me, Request::Fail, label) {
         Ok(reply) => {
             reply.let_go();
             Stop::Refused
@@ -142,12 +157,12 @@ pub(crate) fn start<
     rt: &R,
     alloc: Global,
     shared: &Arc<Shared<D>, Global>,
-    me: u8,
+    spawn: Spawn,
     job: J,
 ) -> Result<(JoinHandle, Child<D>), Stop>
     requires { J.ready job }
 {
-    let handle = begin(rt, shared, me)?;
+    let handle = begin(rt, shared, spawn)?;
     let thread = handle.thread;
     let Ok(again) = rt.clone() else {
         return Err(Stop::Memory);
@@ -165,9 +180,9 @@ pub(crate) fn start<
 }
 
 /// Hands over a spawn, and answers the thread that begins.
-fn begin<D: Exact, R: Wait>(rt: &R, shared: &Shared<D>, me: u8) -> Result<JoinHandle, Stop> {
-    let spawn = Request::Thread(ThreadOp::Spawn((), None));
-    let reply = hand_over(rt, shared, me, spawn)?;
+fn begin<D: Exact, R: Wait>(rt: &R, shared: &Shared<D>, spawn: Spawn) -> Result<JoinHandle, Stop> {
+    let request = Request::Thread(ThreadOp::Spawn((), spawn.name));
+    let reply = hand_over(rt, shared, spawn.by, request, spawn.label)?;
     let handle = JoinHandle::from_reply(&reply);
     reply.let_go();
     match handle {

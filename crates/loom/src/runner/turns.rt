@@ -8,6 +8,7 @@ mod moment;
 
 use crate::runner::exact::Exact;
 use crate::runner::history::History;
+use crate::runner::history::event::Event;
 use crate::runner::history::shares::are_shares;
 use crate::runner::history::told::Told;
 use crate::runner::stop::Stop;
@@ -16,6 +17,7 @@ use loom_engine::rt::execution::{Execution, Limits};
 use loom_engine::rt::path::Path;
 use loom_objects::choice::Choice;
 use loom_objects::failure::Failure;
+use loom_objects::label::Label;
 use loom_objects::operation::{Reply, Request};
 use std::alloc::{AllocError, Global};
 use std::marker::Model;
@@ -71,14 +73,14 @@ impl<D: Exact> Turns<D> {
         })
     }
 
-    /// Hands over an operation of the thread whose turn it is: one event more. Once the run is over, or spoiled, it changes
+    /// Hands over an operation of the thread whose turn it is, with its label: one event more. Once the run is over, or spoiled, it changes
     /// nothing. Where memory is refused, or that thread isn't there, the run is spoiled by that reason (own).
-    pub fn submit(&mut self, op: Request<D, ()>)
+    pub fn submit(&mut self, op: Request<D, ()>, label: Option<Label>)
         ensures began { self.new.began ≡ self.old.began }
         ensures limits { self.new.limits ≡ self.old.limits }
         ensures over { IfSome (end_in self.old.history) (λ failure. self.new ≡ self.old) }
         ensures spoiled { IfSome self.old.spoiled (λ stop. self.new ≡ self.old) }
-        ensures adds { self.old.spoiled ≡ None → end_in self.old.history ≡ None → MatchOption self.new.spoiled (Adds self.old op self.new) (λ stop. self.new.history ≡ self.old.history) }
+        ensures adds { self.old.spoiled ≡ None → end_in self.old.history ≡ None → MatchOption self.new.spoiled (Adds self.old op label self.new) (λ stop. self.new.history ≡ self.old.history) }
         ensures why { self.old.spoiled ≡ None → end_in self.old.history ≡ None → IfSome self.new.spoiled (IsNotAdded (active_at self.old.now) self.old.threads) }
     {
         if self.spoiled.is_some() {
@@ -89,7 +91,7 @@ impl<D: Exact> Turns<D> {
             op.let_go();
             return;
         }
-        self.spoiled = self.history.add(&mut self.place, op);
+        self.spoiled = self.history.add(&mut self.place, op, label);
     }
 
     /// The run is spoiled, unless it is already (own).
@@ -157,6 +159,13 @@ impl<D: Exact> Turns<D> {
         ensures leads { self.now.spoiled ≡ None → IsHistory self.now.limits self.now.began self.now.history self.now.now }
     {
         self.spoiled
+    }
+
+    /// The events of the run, the first one first (own).
+    pub fn events(&self) -> &[Event<D>]
+        ensures { result.now ≡ self.now.history }
+    {
+        self.history.events()
     }
 
     /// The choices of the run. It fails only where a growth is refused (own).

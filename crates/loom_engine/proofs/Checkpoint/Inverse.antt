@@ -5,7 +5,7 @@ use Rattle.std.proofs.lemmas.Bool.{false≢true, eqb-true, eq-eqb}
 use Rattle.std.proofs.lemmas.Slice.Eq.{bytes_eq-Decides}
 use Rattle.std.proofs.lemmas.List.{length-map}
 use Rattle.serde_json.specs.Data.{unsigned, negative, float, Data, null, boolean, number, string, array, object, Members, no_members, member}
-use Rattle.serde_json.specs.Find.{as_bool, as_object}
+use Rattle.serde_json.specs.Find.{as_bool, as_str, as_object}
 use Rattle.serde_json.specs.View.{items_of}
 use Rattle.loom_engine.specs.declared.rt.path.node.Status.{Status}
 use Rattle.loom_engine.specs.declared.rt.path.node.Status.TheVariants.{Disabled, Skip, Yield, Pending, Active, Visited}
@@ -48,6 +48,14 @@ as_whole_or_null-gave (object ms) o e = cc
 pub as_whole_or_null-of : (o : Option ℕ) → as_whole_or_null (whole_or_null o) ≡ Some o
 as_whole_or_null-of None = refl
 as_whole_or_null-of (Some n) = refl
+
+pub as_str-gave : (d : Data) (s : List ℕ) → as_str d ≡ Some s → d ≡ string s
+as_str-gave null s e = cc
+as_str-gave (boolean c) s e = cc
+as_str-gave (number n) s e = cc
+as_str-gave (string t) s e = let p : t ≡ s = cc in ap string p
+as_str-gave (array ds) s e = cc
+as_str-gave (object ms) s e = cc
 
 pub as_list-gave : (d : Data) (l : List Data) → as_list d ≡ Some l → d ≡ list_data l
 as_list-gave null l e = cc

@@ -1,67 +1,69 @@
 -- The whole value: what is read was written, and a refused value is no path's.
 use Rattle.std.proofs.Common.{◌≡◌, ◌≢◌, ℕ, ◌≤◌, Bool, if◌then◌else◌, codes, List, [], ◌∷◌, length, map, Option, Some, None, ◌⊎◌, inl, inr, refl, sym, ap, ap₂, ◌∙◌, subst, arith}
 use Rattle.std.proofs.lemmas.List.{length-map}
-use Rattle.serde_json.specs.Data.{Data, boolean, object, Members, member}
-use Rattle.serde_json.specs.Find.{as_bool, as_object}
+use Rattle.serde_json.specs.Data.{Data, boolean, string, object, Members, member}
+use Rattle.serde_json.specs.Find.{as_bool, as_str, as_object}
 use Rattle.loom_engine.specs.declared.rt.path.node.Node.{Node}
 use Rattle.loom_engine.specs.Trees.Meeting.{Settings}
 use Rattle.loom_engine.specs.Path.WellFormed.{IsWellFormed, AreWellFormed, bare, AreAlike}
 use Rattle.loom_engine.specs.declared.rt.path.node.Node.TheVariants.{Schedule, Load, Spurious}
 use Rattle.loom_engine.specs.declared.rt.path.checkpoint.error.PathError.{PathError}
 use Rattle.loom_engine.specs.declared.rt.path.checkpoint.error.PathError.TheVariants.{NotJson, WrongShape, WrongVersion, OtherSettings, TooManyNodes, BadNode, Memory}
-use Rattle.loom_engine.specs.Checkpoint.Grammar.{whole, whole_or_null, list_data, node_data, shape_data, path_data}
+use Rattle.loom_engine.specs.Checkpoint.Grammar.{whole, whole_or_null, list_data, order_rule, node_data, shape_data, path_data}
 use Rattle.loom_engine.specs.declared.rt.path.checkpoint.error.Setting.{Setting}
-use Rattle.loom_engine.specs.declared.rt.path.checkpoint.error.Setting.TheVariants.{Reduce, PreemptionBound, Exploring}
+use Rattle.loom_engine.specs.declared.rt.path.checkpoint.error.Setting.TheVariants.{Order, Reduce, PreemptionBound, Exploring}
 use Rattle.loom_engine.specs.Checkpoint.Accepted.{DiffersIn, IsPathOf, version_of, HasNodes, IsRefused, IsMemory}
 use Rattle.loom_engine.specs.Checkpoint.Reader.{each, as_whole, as_list, as_whole_or_null, ends, taken, Shape, shape_of, node_of}
 use Rattle.loom_engine.proofs.Checkpoint.Lists.{list_of-items_of}
 use Rattle.loom_engine.proofs.Checkpoint.Chains.{with_step, with_map, test_passed}
-use Rattle.loom_engine.proofs.Checkpoint.Inverse.{each-gave, with_taken, as_bool-gave, as_whole-gave, as_list-gave, as_object-gave, as_whole_or_null-gave, as_whole_or_null-of, ends-gave}
+use Rattle.loom_engine.proofs.Checkpoint.Inverse.{each-gave, with_taken, as_bool-gave, as_whole-gave, as_str-gave, as_list-gave, as_object-gave, as_whole_or_null-gave, as_whole_or_null-of, ends-gave}
 use Rattle.loom_engine.proofs.Checkpoint.NodeLaws.{node_of-of, node_of-gave}
 
-abbrev pub shape : Bool → List Data → Option ℕ → Bool → ℕ → Shape
-shape exploring nodes bound reduce version = record { exploring = exploring; nodes = nodes; preemption_bound = bound; reduce = reduce; version = version }
+abbrev pub shape : Bool → List Data → List ℕ → Option ℕ → Bool → ℕ → Shape
+shape exploring nodes order bound reduce version = record { exploring = exploring; nodes = nodes; order = order; preemption_bound = bound; reduce = reduce; version = version }
 
-pub shape_of-of : (e : Bool) (nodes : List Data) (b : Option ℕ) (r : Bool) (v : ℕ) → shape_of (shape_data e nodes b r v) ≡ Some (shape e nodes b r v)
+pub shape_of-of : (e : Bool) (nodes : List Data) (o : List ℕ) (b : Option ℕ) (r : Bool) (v : ℕ) → shape_of (shape_data e nodes o b r v) ≡ Some (shape e nodes o b r v)
 unfolding shape_of shape_data taken
-shape_of-of e nodes b r v = rw (list_of-items_of nodes, as_whole_or_null-of b) refl
+shape_of-of e nodes o b r v = rw (list_of-items_of nodes, as_whole_or_null-of b) refl
 
-pub version_of-of : (e : Bool) (nodes : List Data) (b : Option ℕ) (r : Bool) (v : ℕ) → version_of (shape_data e nodes b r v) ≡ Some v
+pub version_of-of : (e : Bool) (nodes : List Data) (o : List ℕ) (b : Option ℕ) (r : Bool) (v : ℕ) → version_of (shape_data e nodes o b r v) ≡ Some v
 unfolding shape_data
-version_of-of e nodes b r v = refl
+version_of-of e nodes o b r v = refl
 
-shape_is : (d : Data) (ms m1 m2 m3 m4 m5 : Members) (e : Bool) (nodes : List Data) (b : Option ℕ) (r : Bool) (v : ℕ) (p : Shape)
-    → d ≡ object ms → ms ≡ member (codes "exploring") (boolean e) m1 → m1 ≡ member (codes "nodes") (list_data nodes) m2 → m2 ≡ member (codes "preemption_bound") (whole_or_null b) m3
-    → m3 ≡ member (codes "reduce") (boolean r) m4 → m4 ≡ member (codes "version") (whole v) m5
-    → (if ends m5 then Some (shape e nodes b r v) else None) ≡ Some p → d ≡ shape_data p.exploring p.nodes p.preemption_bound p.reduce p.version
+shape_is : (d : Data) (ms m1 m2 m3 m4 m5 m6 : Members) (e : Bool) (nodes : List Data) (o : List ℕ) (b : Option ℕ) (r : Bool) (v : ℕ) (p : Shape)
+    → d ≡ object ms → ms ≡ member (codes "exploring") (boolean e) m1 → m1 ≡ member (codes "nodes") (list_data nodes) m2 → m2 ≡ member (codes "order") (string o) m3
+    → m3 ≡ member (codes "preemption_bound") (whole_or_null b) m4 → m4 ≡ member (codes "reduce") (boolean r) m5 → m5 ≡ member (codes "version") (whole v) m6
+    → (if ends m6 then Some (shape e nodes o b r v) else None) ≡ Some p → d ≡ shape_data p.exploring p.nodes p.order p.preemption_bound p.reduce p.version
 unfolding shape_data
-shape_is d ms m1 m2 m3 m4 m5 e nodes b r v p is0 is1 is2 is3 is4 is5 passed =
-    let t = test_passed _ (shape e nodes b r v) p passed in
-    let whole' : d ≡ shape_data e nodes b r v = rw (is0, is1, is2, is3, is4, is5, ends-gave m5 t.0) refl in
-    whole' ∙ ap (λ q. shape_data q.exploring q.nodes q.preemption_bound q.reduce q.version) t.1
+shape_is d ms m1 m2 m3 m4 m5 m6 e nodes o b r v p is0 is1 is2 is3 is4 is5 is6 passed =
+    let t = test_passed _ (shape e nodes o b r v) p passed in
+    let whole' : d ≡ shape_data e nodes o b r v = rw (is0, is1, is2, is3, is4, is5, is6, ends-gave m6 t.0) refl in
+    whole' ∙ ap (λ q. shape_data q.exploring q.nodes q.order q.preemption_bound q.reduce q.version) t.1
 
-pub shape_of-gave : (d : Data) (p : Shape) → shape_of d ≡ Some p → d ≡ shape_data p.exploring p.nodes p.preemption_bound p.reduce p.version
+pub shape_of-gave : (d : Data) (p : Shape) → shape_of d ≡ Some p → d ≡ shape_data p.exploring p.nodes p.order p.preemption_bound p.reduce p.version
 unfolding shape_of
 shape_of-gave d p e =
     with_step (as_object d) _ p e (λ ms is e0.
     with_taken as_bool boolean as_bool-gave (codes "exploring") ms _ p e0 (λ exploring m1 is1 e1.
     with_taken as_list list_data as_list-gave (codes "nodes") m1 _ p e1 (λ nodes m2 is2 e2.
-    with_taken as_whole_or_null whole_or_null as_whole_or_null-gave (codes "preemption_bound") m2 _ p e2 (λ bound m3 is3 e3.
-    with_taken as_bool boolean as_bool-gave (codes "reduce") m3 _ p e3 (λ reduce m4 is4 e4.
-    with_taken as_whole whole as_whole-gave (codes "version") m4 _ p e4 (λ version m5 is5 e5.
-    shape_is d ms m1 m2 m3 m4 m5 exploring nodes bound reduce version p (as_object-gave d ms is) is1 is2 is3 is4 is5 e5))))))
+    with_taken as_str string as_str-gave (codes "order") m2 _ p e2 (λ order m3 is3 e3.
+    with_taken as_whole_or_null whole_or_null as_whole_or_null-gave (codes "preemption_bound") m3 _ p e3 (λ bound m4 is4 e4.
+    with_taken as_bool boolean as_bool-gave (codes "reduce") m4 _ p e4 (λ reduce m5 is5 e5.
+    with_taken as_whole whole as_whole-gave (codes "version") m5 _ p e5 (λ version m6 is6 e6.
+    shape_is d ms m1 m2 m3 m4 m5 m6 exploring nodes order bound reduce version p (as_object-gave d ms is) is1 is2 is3 is4 is5 is6 e6)))))))
 
 some_same : {A : Type 0} (p q : A) → Some p ≡ Some q → p ≡ q
 some_same p q e = cc
 
 -- the parts of a value are its own
-pub shape-same : (e f : Bool) (xs ys : List Data) (b c : Option ℕ) (r s : Bool) (v w : ℕ) → shape_data e xs b r v ≡ shape_data f ys c s w → shape e xs b r v ≡ shape f ys c s w
-shape-same e f xs ys b c r s v w same = some_same _ _ (sym (shape_of-of e xs b r v) ∙ ap shape_of same ∙ shape_of-of f ys c s w)
+pub shape-same : (e f : Bool) (xs ys : List Data) (o u : List ℕ) (b c : Option ℕ) (r s : Bool) (v w : ℕ)
+    → shape_data e xs o b r v ≡ shape_data f ys u c s w → shape e xs o b r v ≡ shape f ys u c s w
+shape-same e f xs ys o u b c r s v w same = some_same _ _ (sym (shape_of-of e xs o b r v) ∙ ap shape_of same ∙ shape_of-of f ys u c s w)
 
-two_versions : (o : Option ℕ) (v : ℕ) → o ≡ Some 1 → o ≡ Some v → v ≡ 1
+two_versions : (o : Option ℕ) (v : ℕ) → o ≡ Some 2 → o ≡ Some v → v ≡ 2
 two_versions o v e f = cc
 
-no_version : (o : Option ℕ) → o ≡ Some 1 → o ≡ None → ⊥
+no_version : (o : Option ℕ) → o ≡ Some 2 → o ≡ None → ⊥
 no_version o e f = cc
 
 -- ---- nodes
@@ -137,26 +139,27 @@ alike_length ns ms e = sym (length-map ns bare) ∙ ap length e ∙ length-map m
 -- ---- settings
 
 -- settings that are the same differ in none
-differs_nowhere : (s : Settings) (explores exploring : Bool) (bound : Option ℕ) (reduce : Bool) (setting : Setting) → DiffersIn s explores exploring bound reduce setting
-    → exploring ≡ explores → bound ≡ s.bound → reduce ≡ s.reduce → ⊥
-differs_nowhere s explores exploring bound reduce Reduce differs x b r = differs r
-differs_nowhere s explores exploring bound reduce PreemptionBound differs x b r = differs.1 b
-differs_nowhere s explores exploring bound reduce Exploring differs x b r = differs.2 x
+differs_nowhere : (s : Settings) (explores exploring : Bool) (order : List ℕ) (bound : Option ℕ) (reduce : Bool) (setting : Setting) → DiffersIn s explores exploring order bound reduce setting
+    → exploring ≡ explores → order ≡ order_rule → bound ≡ s.bound → reduce ≡ s.reduce → ⊥
+differs_nowhere s explores exploring order bound reduce Order differs x o b r = differs o
+differs_nowhere s explores exploring order bound reduce Reduce differs x o b r = differs.1 r
+differs_nowhere s explores exploring order bound reduce PreemptionBound differs x o b r = differs.2 b
+differs_nowhere s explores exploring order bound reduce Exploring differs x o b r = differs.3 x
 
 -- ---- a value and the nodes that it is of
 
 module _ (s : Settings) (explores : Bool) where
-  path_shape : (nodes : List Node) → path_data s explores nodes ≡ shape_data explores (map node_data nodes) s.bound s.reduce 1
+  path_shape : (nodes : List Node) → path_data s explores nodes ≡ shape_data explores (map node_data nodes) order_rule s.bound s.reduce 2
   unfolding path_data
   path_shape nodes = refl
 
   module _ (d : Data) where
     has_nodes : (items : List Data) (nodes : List Node) → d ≡ path_data s explores nodes → HasNodes s explores d items → items ≡ map node_data nodes
     has_nodes items nodes is has =
-        ap (λ p. p.nodes) (shape-same explores explores items (map node_data nodes) s.bound s.bound s.reduce s.reduce 1 1 (sym has ∙ is ∙ path_shape nodes))
+        ap (λ p. p.nodes) (shape-same explores explores items (map node_data nodes) order_rule order_rule s.bound s.bound s.reduce s.reduce 2 2 (sym has ∙ is ∙ path_shape nodes))
 
-    version_is : (nodes : List Node) → d ≡ path_data s explores nodes → version_of d ≡ Some 1
-    version_is nodes is = ap version_of (is ∙ path_shape nodes) ∙ version_of-of explores (map node_data nodes) s.bound s.reduce 1
+    version_is : (nodes : List Node) → d ≡ path_data s explores nodes → version_of d ≡ Some 2
+    version_is nodes is = ap version_of (is ∙ path_shape nodes) ∙ version_of-of explores (map node_data nodes) order_rule s.bound s.reduce 2
 
     -- ---- refusals
 
@@ -165,21 +168,21 @@ module _ (s : Settings) (explores : Bool) where
     refused-no_path WrongShape why other nodes path =
         elim why [
           | inl h ↦ no_version (version_of d) (version_is nodes path.value) h
-          | inr h ↦ h.1 explores (map node_data nodes) s.bound s.reduce 1 (path.value ∙ path_shape nodes)
+          | inr h ↦ h.1 explores (map node_data nodes) order_rule s.bound s.reduce 2 (path.value ∙ path_shape nodes)
         ]
     refused-no_path (WrongVersion version) why other nodes path = why.1 (two_versions (version_of d) version (version_is nodes path.value) why.0)
     refused-no_path (OtherSettings setting) why other nodes path =
-        let same = shape-same why.0 explores why.1 (map node_data nodes) why.2 s.bound why.3 s.reduce 1 1 (sym why.4 ∙ path.value ∙ path_shape nodes) in
-        differs_nowhere s explores why.0 why.2 why.3 setting why.5 (ap (λ p. p.exploring) same) (ap (λ p. p.preemption_bound) same) (ap (λ p. p.reduce) same)
+        let same = shape-same why.0 explores why.1 (map node_data nodes) why.2 order_rule why.3 s.bound why.4 s.reduce 2 2 (sym why.5 ∙ path.value ∙ path_shape nodes) in
+        differs_nowhere s explores why.0 why.2 why.3 why.4 setting why.6 (ap (λ p. p.exploring) same) (ap (λ p. p.order) same) (ap (λ p. p.preemption_bound) same) (ap (λ p. p.reduce) same)
     refused-no_path (TooManyNodes count) why other nodes path =
         let n : length why.0 ≡ length nodes = ap length (has_nodes why.0 nodes path.value why.1) ∙ length-map nodes node_data in
         omega (arith, path.fits, why.2, why.3)
     refused-no_path BadNode why other nodes path = why.3 nodes path.well_formed (has_nodes why.0 nodes path.value why.1)
     refused-no_path (Memory m) why other nodes path = other tt
 
-    pub with_settings : (p : Shape) → d ≡ shape_data p.exploring p.nodes p.preemption_bound p.reduce 1
-        → (p.exploring ≡ explores) × (p.preemption_bound ≡ s.bound) × (p.reduce ≡ s.reduce) → HasNodes s explores d p.nodes
-    with_settings p is same = is ∙ rw (same.0, same.1, same.2) refl
+    pub with_settings : (p : Shape) → d ≡ shape_data p.exploring p.nodes p.order p.preemption_bound p.reduce 2
+        → (p.exploring ≡ explores) × (p.order ≡ order_rule) × (p.preemption_bound ≡ s.bound) × (p.reduce ≡ s.reduce) → HasNodes s explores d p.nodes
+    with_settings p is same = is ∙ rw (same.0, same.1, same.2, same.3) refl
 
     module _ (items : List Data) (has : HasNodes s explores d items) (fits : length items ≤ s.max_branches) where
       -- the nodes were read, and the path has them
@@ -189,7 +192,7 @@ module _ (s : Settings) (explores : Bool) where
           let n : length items ≡ length read = ap length gave ∙ length-map read node_data in
           let m = alike_length nodes read alike in
           record {
-            value = has ∙ ap (λ l. shape_data explores l s.bound s.reduce 1) (gave ∙ sym (alike_data nodes read alike)) ∙ sym (path_shape nodes);
+            value = has ∙ ap (λ l. shape_data explores l order_rule s.bound s.reduce 2) (gave ∙ sym (alike_data nodes read alike)) ∙ sym (path_shape nodes);
             fits = omega (arith, n, m, fits);
             well_formed = alike_formed nodes read alike (nodes_well items read e);
           }
@@ -211,16 +214,18 @@ module _ (s : Settings) (explores : Bool) where
 none_some : (p : Shape) → None ≡ Some p → ⊥
 none_some p e = cc
 
--- a value without the five keys
-pub no_shape : (d : Data) → shape_of d ≡ None → (exploring : Bool) (nodes : List Data) (bound : Option ℕ) (reduce : Bool) (version : ℕ) → d ≢ shape_data exploring nodes bound reduce version
-no_shape d e exploring nodes bound reduce version is = none_some (shape exploring nodes bound reduce version) (sym e ∙ ap shape_of is ∙ shape_of-of exploring nodes bound reduce version)
+-- a value without the six keys
+pub no_shape : (d : Data) → shape_of d ≡ None → (exploring : Bool) (nodes : List Data) (order : List ℕ) (bound : Option ℕ) (reduce : Bool) (version : ℕ)
+    → d ≢ shape_data exploring nodes order bound reduce version
+no_shape d e exploring nodes order bound reduce version is =
+    none_some (shape exploring nodes order bound reduce version) (sym e ∙ ap shape_of is ∙ shape_of-of exploring nodes order bound reduce version)
 
--- a value of shape p, whose version has been read as 1
-pub shaped : (d : Data) (p : Shape) → shape_of d ≡ Some p → version_of d ≡ Some 1 → d ≡ shape_data p.exploring p.nodes p.preemption_bound p.reduce 1
-shaped d p e one =
+-- a value of shape p, whose version has been read as 2
+pub shaped : (d : Data) (p : Shape) → shape_of d ≡ Some p → version_of d ≡ Some 2 → d ≡ shape_data p.exploring p.nodes p.order p.preemption_bound p.reduce 2
+shaped d p e two =
     let is = shape_of-gave d p e in
-    let v : p.version ≡ 1 = two_versions (version_of d) p.version one (ap version_of is ∙ version_of-of p.exploring p.nodes p.preemption_bound p.reduce p.version) in
-    is ∙ ap (shape_data p.exploring p.nodes p.preemption_bound p.reduce) v
+    let v : p.version ≡ 2 = two_versions (version_of d) p.version two (ap version_of is ∙ version_of-of p.exploring p.nodes p.order p.preemption_bound p.reduce p.version) in
+    is ∙ ap (shape_data p.exploring p.nodes p.order p.preemption_bound p.reduce) v
 
 pub memory_refused : (s : Settings) (explores : Bool) (d : Data) (e : PathError) → IsMemory e → IsRefused s explores d e
 memory_refused s explores d NotJson m = m

@@ -11,7 +11,7 @@ use Rattle.loom_objects.specs.Rules.Uses.{use_at}
 use Rattle.loom_objects.specs.World.{World}
 use Rattle.loom_engine.specs.Runs.Course.{Course, accesses, carried, one_passed, used_in, with_order}
 use Rattle.loom_engine.proofs.Runs.Events.{EventOf, IsShut, Settles, StaysOpen, asks, closes, fails, fails_by_itself, goes, settles_at}
-use Rattle.loom_engine.proofs.Runs.Fairness.{IsFairResult}
+use Rattle.loom_engine.proofs.Runs.Fairness.{IsFairResult, own_met}
 use Rattle.loom_engine.proofs.Runs.Keeping.{Keeps}
 use Rattle.loom_engine.proofs.Runs.Keeping as keeping
 
@@ -53,7 +53,7 @@ module _ {D : Type 0} where
 
   -- ---- accesses
 
-  used_fair : (t : ℕ) (c : Course D) (o : Option Use) → IsFairResult (used_in t c o)
+  pub used_fair : (t : ℕ) (c : Course D) (o : Option Use) → IsFairResult (used_in t c o)
   used_fair t c None = tt
   used_fair t c (Some used) = by_thread (slice_get c.order.threads t)
     where
@@ -72,7 +72,7 @@ module _ {D : Type 0} where
       where
         by_order : (r : Result Order FailureKind) → IsFairResult r → EventOf Goes Over (came (with_order c r) >>= next)
         by_order (Ok order) fair = h order
-        by_order (Err kind) fair = fails kind fair
+        by_order (Err kind) fair = fails kind (own_met kind fair)
 
     pub accesses_keeps : {P : A → Type 0} → ((order : Order) → Keeps P (next (record c { order = order }))) → Keeps P (came (accesses t c) >>= next)
     accesses_keeps {P} h = by_order (used_in t c (use_at c.world.threads t))

@@ -34,10 +34,10 @@ use Rattle.loom_engine.proofs.Runs.Events.{Anything}
 use Rattle.loom_engine.proofs.Runs.Carrying.{InWorld, accesses_keeps, carried_keeps}
 use Rattle.loom_engine.proofs.Runs.Kinds.Notifiers.{enters_wait_keeping}
 use Rattle.loom_engine.proofs.Runs.States.{Aim, Kept, Out, Ready, Soundness, Taken, Told, TurnTo, freed_at}
-use Rattle.loom_engine.proofs.Runs.Ruling.{Entered, Entering, Fairly, Onward, Opened, Opening, PassedTo, ResumedTo, Telling}
+use Rattle.loom_engine.proofs.Runs.Ruling.{Entered, Entering, Freely, Onward, freely, Opened, Opening, PassedTo, ResumedTo, Telling}
 use Rattle.loom_engine.proofs.Runs.Replies.{reads_quiet, tells}
 
-came_keeps : {A : Type 0} {P : A → Type 0} (Q : A → Type 0) (r : Result A FailureKind) → Fairly Q r → ((a : A) → Q a → P a) → Keeps P (came r)
+came_keeps : {A : Type 0} {P : A → Type 0} (Q : A → Type 0) (r : Result A FailureKind) → Freely Q r → ((a : A) → Q a → P a) → Keeps P (came r)
 came_keeps Q (Ok a) q h = gives a (h a q)
 came_keeps Q (Err kind) fair h = fails kind
 
@@ -58,7 +58,7 @@ module _ {D : Type 0} (out : Aim) where
     read_kept : (slot : ℕ) → Keeps (PassedTo out) (read_slot load w slot >>= turned)
     read_kept slot =
         let told_so : Keeps (Told out) (came (reads load.access w slot)) =
-        came_keeps (Telling w) (reads load.access w slot) (tells w _ (reads_keeping load.access w slot) (reads_quiet load.access w slot)) (λ answered q. q out k) in
+        came_keeps (Telling w) (reads load.access w slot) (freely (Telling w) _ (tells w _ (reads_keeping load.access w slot) (reads_quiet load.access w slot))) (λ answered q. q out k) in
         turned_kept _ (then_keeps {Q = Told out} (came (reads load.access w slot)) told told_so told_kept)
 
     slot_kept : (o : Choice) → Keeps (PassedTo out) (slot_of o >>= (λ slot. read_slot load w slot >>= turned))
@@ -81,7 +81,7 @@ module _ {D : Type 0} (out : Aim) where
   -- ---- schedules, events, and histories
 
   closes_kept : (c : Course D) → Kept out c.world → Keeps (InWorld (TurnTo out)) (closes_run c)
-  closes_kept c k = check_keeps (all_ended c.world) _ _ (λ e. closes _ (carried_keeps c (ends c.world) (came_keeps (Ending c.world) (end_of c.world) (end_ending c.world) (λ answered q. q out k))))
+  closes_kept c k = check_keeps (all_ended c.world) _ _ (λ e. closes _ (carried_keeps c (ends c.world) (came_keeps (Ending c.world) (end_of c.world) (freely (Ending c.world) _ (end_ending c.world)) (λ answered q. q out k))))
 
   goes_by_kept : (t : ℕ) (c : Course D) → Kept out c.world → Keeps (InWorld (PassedTo out)) (goes_by t c)
   goes_by_kept t c k = carried_keeps (one_passed c) (resumes (is_on c.exploring) t c.world) (resumes_kept (is_on c.exploring) t c.world k)
@@ -111,7 +111,7 @@ module _ {D : Type 0} (out : Aim) where
   waits_kept : (n : ℕ) (c : Course D) (o : Choice) → Ready out c.world → Keeps (InWorld (TurnTo out)) (waits n c o)
   waits_kept n c (choice.Spurious answer) k =
       then_keeps {Q = InWorld (λ after. Ready out after.1)} (carried (one_passed c) (enters_wait answer n c.world)) _
-      (carried_keeps (one_passed c) (enters_wait answer n c.world) (came_keeps (Onward c.world) (entered answer n c.world) (enters_wait_keeping answer n c.world) (λ after q. q out k)))
+      (carried_keeps (one_passed c) (enters_wait answer n c.world) (came_keeps (Onward c.world) (entered answer n c.world) (freely (Onward c.world) _ (enters_wait_keeping answer n c.world)) (λ after q. q out k)))
       (λ (_, v) q. schedule_kept further_branches v q.kept)
   waits_kept n c (choice.Thread t) k = fails _
   waits_kept n c (choice.Load slot) k = fails _
@@ -126,7 +126,7 @@ module _ {D : Type 0} (out : Aim) where
   pub submit_kept : (todo : Request D ⊤) (c : Course D) → ((m : ℕ) → out ≡ Out m → returned_by todo ≡ Some m → ⊥) → Ready out c.world → Keeps (InWorld (TurnTo out)) (submit todo c)
   submit_kept todo c other k =
       then_keeps {Q = InWorld (Entered out)} (carried c (begins todo c.world)) _
-      (carried_keeps c (begins todo c.world) (came_keeps (Entering (returned_by todo) c.world) (counted todo c.world) (counted_entering todo c.world) (λ answered q. q out other k)))
+      (carried_keeps c (begins todo c.world) (came_keeps (Entering (returned_by todo) c.world) (counted todo c.world) (freely (Entering (returned_by todo) c.world) _ (counted_entering todo c.world)) (λ answered q. q out other k)))
       (λ (entry, v) q. goes_on_kept (entry, grown_from c.world v) q)
 
   -- one that takes the data of a mutex out at once
@@ -139,7 +139,7 @@ module _ {D : Type 0} (out : Aim) where
   pub submit_opens : (todo : Request D ⊤) (n : ℕ) (c : Course D) → opened_by todo ≡ Some n → Ready out c.world → Keeps (λ turned. Taken out n turned.1.world) (submit todo c)
   submit_opens todo n c e k =
       then_keeps {Q = InWorld (Opened out n)} (carried c (begins todo c.world)) _
-      (carried_keeps c (begins todo c.world) (came_keeps (Opening n c.world) (counted todo c.world) (counted_opening todo n c.world e) (λ answered q. q out k)))
+      (carried_keeps c (begins todo c.world) (came_keeps (Opening n c.world) (counted todo c.world) (freely (Opening n c.world) _ (counted_opening todo n c.world e)) (λ answered q. q out k)))
       (λ (entry, v) q. opens_kept n (entry, grown_from c.world v) q)
 
 -- main isn't about to wait

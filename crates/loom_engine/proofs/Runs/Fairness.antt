@@ -1,5 +1,5 @@
--- No rule of views fails because a path doesn't meet a tree.
-use Rattle.std.proofs.Common.{◌≢◌, ℕ, Bool, true, false, List, [], ◌∷◌, length, Option, Some, None}
+-- No rule of views fails because a path doesn't meet a tree, and none but a choice of a store because two orders are equal.
+use Rattle.std.proofs.Common.{◌≡◌, ◌≢◌, ◌⊎◌, ℕ, Bool, true, false, List, [], ◌∷◌, length, Option, Some, None, refl, ap, inl, inr}
 use Rattle.std.specs.Prelude.{◌||◌, if◌then◌else◌, nat_le, nat_lt, slice_get, Result, Ok, Err}
 use Rattle.std.specs.List.{list_any}
 use Rattle.std.specs.declared.sync.atomic.Ordering.{Ordering}
@@ -12,10 +12,44 @@ use Rattle.loom_views.specs.ThreadViews.{ThreadPoints}
 use Rattle.loom_views.specs.declared.rt.atomic.reader.Reader.{Reader}
 use Rattle.loom_views.specs.declared.rt.failure.FailureKind.{FailureKind}
 use Rattle.loom_views.specs.declared.rt.failure.FailureKind.TheVariants.{NotDeterministic, Race, OpenAccess, OrdersEqual, TooManyStores, TooManyThreads, TooManyVersions}
+use Rattle.loom_objects.specs.Rules.Rule.{◌>>=◌}
+
+-- the failure comes of choices: a path doesn't meet a tree, or two orders are equal where a store is chosen
+abbrev pub is_of_choices : FailureKind → Bool
+is_of_choices NotDeterministic = true
+is_of_choices OrdersEqual = true
+is_of_choices _ = false
+
+-- it doesn't
+abbrev pub IsOwn : FailureKind → Type 0
+IsOwn kind = is_of_choices kind ≡ true → ⊥
+
+-- by itself it isn't that a path doesn't meet a tree
+abbrev pub IsMet : FailureKind → Type 0
+IsMet kind = kind ≢ NotDeterministic
+
+pub own_met : (kind : FailureKind) → IsOwn kind → IsMet kind
+own_met kind own e = own (ap is_of_choices e)
+
+pub own_unequal : (kind : FailureKind) → IsOwn kind → kind ≢ OrdersEqual
+own_unequal kind own e = own (ap is_of_choices e)
+
+-- this holds of what it comes to, and that of its failure
+abbrev pub AnswersBy : {A : Type 0} → (FailureKind → Type 0) → (A → Type 0) → Result A FailureKind → Type 0
+AnswersBy F P (Ok answered) = P answered
+AnswersBy F P (Err kind) = F kind
+
+pub then_by : {A B : Type 0} (F : FailureKind → Type 0) (Q : B → Type 0) (P : A → Type 0) (r : Result B FailureKind) (next : B → Result A FailureKind) → AnswersBy F Q r
+    → ((b : B) → Q b → AnswersBy F P (next b)) → AnswersBy F P (r >>= next)
+then_by F Q P (Ok b) next q h = h b q
+then_by F Q P (Err kind) next q h = q
+
+pub failing_so : {A : Type 0} (F G : FailureKind → Type 0) (P : A → Type 0) (r : Result A FailureKind) → ((kind : FailureKind) → F kind → G kind) → AnswersBy F P r → AnswersBy G P r
+failing_so F G P (Ok a) h q = q
+failing_so F G P (Err kind) h q = h kind q
 
 abbrev pub IsFairResult : {A : Type 0} → Result A FailureKind → Type 0
-IsFairResult (Ok a) = Unit {0}
-IsFairResult (Err kind) = kind ≢ NotDeterministic
+IsFairResult r = AnswersBy IsOwn (λ a. Unit {0}) r
 
 pub either : {A : Type 0} (b : Bool) (one other : Result A FailureKind) → IsFairResult one → IsFairResult other → IsFairResult (if b then one else other)
 either true one other h i = h
@@ -35,15 +69,27 @@ spawn_fair p t = by_thread (slice_get p.threads t)
     by_thread None = λ e. cc
     by_thread (Some own) = either (nat_le 5 (length p.threads)) (Err TooManyThreads) _ (λ e. cc) (either (nat_lt (length (raised p.graph t)) 65534) _ (Err TooManyVersions) tt (λ e. cc))
 
-pub readable_fair : (p : Points) (t n : ℕ) (reader : Reader) → IsFairResult (readable_slots_of p t n reader)
+-- a choice of a store fails by itself, or because two orders are equal
+abbrev pub IsOfChoice : FailureKind → Type 0
+IsOfChoice kind = IsOwn kind ⊎ (kind ≡ OrdersEqual)
+
+pub of_choice_met : (kind : FailureKind) → IsOfChoice kind → IsMet kind
+of_choice_met kind (inl own) = own_met kind own
+of_choice_met kind (inr e) = λ f. absurd (cc (e, f))
+
+pub readable_fair : (p : Points) (t n : ℕ) (reader : Reader) → AnswersBy IsOfChoice (λ slots. Unit {0}) (readable_slots_of p t n reader)
 readable_fair p t n reader = by_thread (slice_get p.threads t) (slice_get p.places n)
   where
-    by_thread : (o : Option ThreadPoints) (place : Option Place) → IsFairResult (readable_by p t reader o place)
-    by_thread None place = λ e. cc
-    by_thread (Some own) None = λ e. cc
-    by_thread (Some own) (Some (Meets k)) = λ e. cc
-    by_thread (Some own) (Some (Records accesses)) = λ e. cc
-    by_thread (Some own) (Some (Keeps history)) = either (fails_by_orders p.graph t own reader history.stores) (Err OrdersEqual) _ (λ e. cc) tt
+    tested : (fails : Bool) (slots : List ℕ) → AnswersBy IsOfChoice (λ slots. Unit {0}) (if fails then Err OrdersEqual else Ok slots)
+    tested true slots = inr refl
+    tested false slots = tt
+
+    by_thread : (o : Option ThreadPoints) (place : Option Place) → AnswersBy IsOfChoice (λ slots. Unit {0}) (readable_by p t reader o place)
+    by_thread None place = inl (λ e. cc)
+    by_thread (Some own) None = inl (λ e. cc)
+    by_thread (Some own) (Some (Meets k)) = inl (λ e. cc)
+    by_thread (Some own) (Some (Records accesses)) = inl (λ e. cc)
+    by_thread (Some own) (Some (Keeps history)) = tested (fails_by_orders p.graph t own reader history.stores) _
 
 conflicts_fair : (s : Scene) (kinds : List (List ℕ)) (passed : Result Answer FailureKind) → IsFairResult passed → IsFairResult (conflicts s kinds passed)
 conflicts_fair s kinds passed h =

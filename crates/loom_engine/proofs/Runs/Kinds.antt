@@ -20,6 +20,7 @@ use Rattle.loom_objects.specs.Rules.Thread.{finish}
 use Rattle.loom_objects.specs.World.{World}
 use Rattle.loom_engine.specs.Runs.Histories.{returned_by}
 use Rattle.loom_engine.specs.Runs.Sound.{is_switch}
+use Rattle.loom_engine.specs.Runs.Stores.{access_in_task}
 use Rattle.loom_engine.proofs.Runs.Answering.{Answers, TellsActive, accesses_tells, by_passing, by_quiet, clones_waker_goes, drains_goes, drops_waker_goes, falls_asleep_passes, registers_goes, takes_waker_goes, told, tries_unwrap_passes, wakes_by_goes}
 use Rattle.loom_engine.proofs.Runs.Kinds.Atomics.{accesses_resuming, atomic_begins_keeping, fence_keeping}
 use Rattle.loom_engine.proofs.Runs.Kinds.Cells.{cell_begins_keeping}
@@ -32,7 +33,7 @@ use Rattle.loom_engine.proofs.Runs.Moving.{Within, accesses_moves, arc_moves, at
 use Rattle.loom_engine.proofs.Runs.Kinds.Mutexes.{lock_telling, mutex_begins_entering, mutex_unswitched, try_lock_telling}
 use Rattle.loom_engine.proofs.Runs.Kinds.Notifiers.{awaits_keeping, notifier_begins_keeping, notifies_keeping, wakes_early_keeping}
 use Rattle.loom_engine.proofs.Runs.Replies.{Unswitched, arc_quiet, atomic_quiet, awaits_quiet, cell_quiet, channel_quiet, child_finish_quiet, counts_quiet, enters, fence_quiet, gone_resuming, join_quiet, lazy_quiet, local_quiet, notifier_quiet, notifies_quiet, place_quiet, quiet_unswitched, quietly_resuming, receives_quiet, replied_resuming, rwlock_quiet, sends_quiet, tells_turn, thread_quiet, track_quiet, tries_unwrap_quiet, waker_quiet, wakes_early_quiet, wakes_quiet}
-use Rattle.loom_engine.proofs.Runs.Ruling.{Entering, Fairly, PassingBut, Resuming, misuse, then_fairly}
+use Rattle.loom_engine.proofs.Runs.Ruling.{Entering, Fairly, Freely, PassingBut, Resuming, freely, misuse, then_fairly}
 use Rattle.loom_engine.proofs.Runs.Kinds.RwLocks.{claims_telling, rwlock_begins_entering}
 use Rattle.loom_engine.proofs.Runs.States.{freed_by}
 use Rattle.loom_engine.proofs.Runs.Kinds.Threads.{child_finish_keeping, join_keeping, thread_begins_keeping}
@@ -120,34 +121,39 @@ module _ {D : Type 0} where
 
   -- ---- what was pending takes effect
 
-  -- locks stay sound, and it fails by itself
-  pub effect_resuming : (todo : Task D) (w : World D) → Fairly (Resuming (freed_by todo) w) (takes_effect todo w)
-  effect_resuming task.Start w = λ out other k. k
-  effect_resuming task.Body w = misuse
-  effect_resuming task.Continue w = λ out other k. (k, λ n e. absurd (cc e))
-  effect_resuming (task.Access access) w = accesses_resuming access w
-  effect_resuming (task.Lock locking n) w = tells_turn None _ w (lock_telling locking n w)
-  effect_resuming (task.TryLock n) w = tells_turn None _ w (try_lock_telling n w)
-  effect_resuming (task.Claim claim n) w = tells_turn None _ w (claims_telling claim n w)
-  effect_resuming (task.Wait locking n m value) w =
+  -- locks stay sound, and it fails by itself, where no atomic is accessed
+  pub effect_fairly : (todo : Task D) (w : World D) → access_in_task todo ≡ None → Fairly (Resuming (freed_by todo) w) (takes_effect todo w)
+  effect_fairly task.Start w none = λ out other k. k
+  effect_fairly task.Body w none = misuse
+  effect_fairly task.Continue w none = λ out other k. (k, λ n e. absurd (cc e))
+  effect_fairly (task.Access access) w none = absurd (cc none)
+  effect_fairly (task.Lock locking n) w none = tells_turn None _ w (lock_telling locking n w)
+  effect_fairly (task.TryLock n) w none = tells_turn None _ w (try_lock_telling n w)
+  effect_fairly (task.Claim claim n) w none = tells_turn None _ w (claims_telling claim n w)
+  effect_fairly (task.Wait locking n m value) w none =
       then_fairly (PassingBut m w) (Resuming (Some m) w) (falls_asleep locking n m value w) gone (falls_asleep_keeping locking n m value w) (λ answered onward out other k. onward out (λ e. other m e refl) k)
-  effect_resuming (task.Relock locking m) w = λ out other k. relocks_keeping locking m w out k
-  effect_resuming (task.Wake waking n) w = replied_resuming _ w (wakes_keeping waking n w) (wakes_quiet waking n w)
-  effect_resuming (task.Notify n) w = replied_resuming _ w (notifies_keeping n w) (notifies_quiet n w)
-  effect_resuming (task.Await n) w = replied_resuming _ w (awaits_keeping n w) (awaits_quiet n w)
-  effect_resuming (task.Rouse n) w = replied_resuming _ w (wakes_early_keeping n w) (wakes_early_quiet n w)
-  effect_resuming (task.Count todo n) w = replied_resuming _ w (counts_keeping todo n w) (counts_quiet todo n w)
-  effect_resuming (task.TryUnwrap n) w = gone_resuming _ w (tries_unwrap_keeping n w) (tries_unwrap_quiet n w)
-  effect_resuming (task.Join t n) w = replied_resuming _ w (join_keeping t n w) (join_quiet t n w)
-  effect_resuming (task.Finish n value) w = replied_resuming _ w (child_finish_keeping n value w) (child_finish_quiet n value w)
-  effect_resuming (task.Send n sent) w = replied_resuming _ w (sends_keeping n sent w) (sends_quiet n sent w)
-  effect_resuming (task.Receive by n) w = replied_resuming _ w (receives_keeping by n w) (receives_quiet by n w)
-  effect_resuming (task.Drain n taken) w = quietly_resuming _ w (drains_keeping n taken w) (drains_goes n taken w)
-  effect_resuming (task.WakeBy n c after) w = quietly_resuming _ w (wakes_by_keeping n c after w) (wakes_by_goes n c after w)
-  effect_resuming (task.CloneWaker c place) w = quietly_resuming _ w (clones_waker_keeping c place w) (clones_waker_goes c place w)
-  effect_resuming (task.DropWaker c after) w = quietly_resuming _ w (drops_waker_keeping c after w) (drops_waker_goes c after w)
-  effect_resuming (task.Register p c) w = quietly_resuming _ w (registers_keeping p c w) (registers_goes p c w)
-  effect_resuming (task.TakeWaker by p) w = quietly_resuming _ w (takes_waker_keeping by p w) (takes_waker_goes by p w)
+  effect_fairly (task.Relock locking m) w none = λ out other k. relocks_keeping locking m w out k
+  effect_fairly (task.Wake waking n) w none = replied_resuming _ w (wakes_keeping waking n w) (wakes_quiet waking n w)
+  effect_fairly (task.Notify n) w none = replied_resuming _ w (notifies_keeping n w) (notifies_quiet n w)
+  effect_fairly (task.Await n) w none = replied_resuming _ w (awaits_keeping n w) (awaits_quiet n w)
+  effect_fairly (task.Rouse n) w none = replied_resuming _ w (wakes_early_keeping n w) (wakes_early_quiet n w)
+  effect_fairly (task.Count todo n) w none = replied_resuming _ w (counts_keeping todo n w) (counts_quiet todo n w)
+  effect_fairly (task.TryUnwrap n) w none = gone_resuming _ w (tries_unwrap_keeping n w) (tries_unwrap_quiet n w)
+  effect_fairly (task.Join t n) w none = replied_resuming _ w (join_keeping t n w) (join_quiet t n w)
+  effect_fairly (task.Finish n value) w none = replied_resuming _ w (child_finish_keeping n value w) (child_finish_quiet n value w)
+  effect_fairly (task.Send n sent) w none = replied_resuming _ w (sends_keeping n sent w) (sends_quiet n sent w)
+  effect_fairly (task.Receive by n) w none = replied_resuming _ w (receives_keeping by n w) (receives_quiet by n w)
+  effect_fairly (task.Drain n taken) w none = quietly_resuming _ w (drains_keeping n taken w) (drains_goes n taken w)
+  effect_fairly (task.WakeBy n c after) w none = quietly_resuming _ w (wakes_by_keeping n c after w) (wakes_by_goes n c after w)
+  effect_fairly (task.CloneWaker c place) w none = quietly_resuming _ w (clones_waker_keeping c place w) (clones_waker_goes c place w)
+  effect_fairly (task.DropWaker c after) w none = quietly_resuming _ w (drops_waker_keeping c after w) (drops_waker_goes c after w)
+  effect_fairly (task.Register p c) w none = quietly_resuming _ w (registers_keeping p c w) (registers_goes p c w)
+  effect_fairly (task.TakeWaker by p) w none = quietly_resuming _ w (takes_waker_keeping by p w) (takes_waker_goes by p w)
+
+  -- the same, but for a failure because orders are equal, where one is
+  pub effect_resuming : (todo : Task D) (w : World D) → Freely (Resuming (freed_by todo) w) (takes_effect todo w)
+  effect_resuming (task.Access access) w = accesses_resuming access w
+  effect_resuming todo w = freely (Resuming (freed_by todo) w) (takes_effect todo w) (effect_fairly todo w refl)
 
   -- the active thread is told
   pub effect_tells : (todo : Task D) (w : World D) → Answers TellsActive (takes_effect todo w)

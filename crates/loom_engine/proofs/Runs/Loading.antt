@@ -1,19 +1,19 @@
 -- A load is told the value of one of the last seven stores of its atomic.
 use Rattle.std.proofs.Common.{◌≡◌, ◌⊎◌, ℕ, zero, suc, Bool, true, false, List, [], ◌∷◌, ◌++◌, map, length, Option, Some, None, refl, ap, sym, subst, ◌∙◌, inl, inr, arith}
-use Rattle.std.proofs.lemmas.List.{length-set}
 use Rattle.std.proofs.lemmas.Option.{slice_get_within}
 use Rattle.std.specs.Prelude.{if◌then◌else◌, is_some, nat_lt, slice_get, slice_index_or, slice_set, Result, Ok, Err, ⊤}
 use Rattle.std.specs.List.{list_any}
 use Rattle.std.specs.declared.sync.atomic.Ordering.{Ordering}
 use Rattle.loom_views.specs.AccessRecords.{races}
-use Rattle.loom_views.specs.Atomic.History.{Answer, History, Scene, StorePoints, blank, conflicts, in_slot, load_step, scene_loaded, scene_read, scene_recorded_load}
-use Rattle.loom_views.specs.Atomic.Slots.{number_in_slot, slot_set}
+use Rattle.loom_views.specs.Atomic.History.{Answer, History, Scene, blank, conflicts, in_slot, load_step, scene_loaded, scene_read, scene_recorded_load}
+use Rattle.loom_views.specs.Atomic.Slots.{slot_set}
 use Rattle.loom_views.specs.Laws.Views.{ReadsOneOfTheLast}
 use Rattle.loom_views.specs.ThreadViews.{ThreadPoints}
 use Rattle.loom_views.specs.Views.{Accessed, Keeps, Meets, Place, Points, Records, access_by, accessed, points_after_load, points_after_raise, points_of, readable_slots_of, scene_of}
 use Rattle.loom_views.specs.declared.rt.atomic.reader.Reader.TheVariants as reader
 use Rattle.loom_views.specs.declared.rt.failure.FailureKind.{FailureKind}
 use Rattle.loom_views.specs.declared.rt.failure.FailureKind.TheVariants.{Misuse, OpenAccess, Race, TooManySteps}
+use Rattle.loom_views.proofs.Atomic.Growth.{read-length, read-value}
 use Rattle.loom_views.proofs.Atomic.Table.Kept.{offered_slots_are_kept_law}
 use Rattle.loom_views.proofs.Atomic.Table.Lists.{get-set_other, get-set_same}
 use Rattle.loom_views.proofs.Atomic.TableLaws.Offered.{loads_read_kept_stores_law}
@@ -51,19 +51,12 @@ use Rattle.loom_engine.proofs.Runs.Keeping.{Keeps as KeepsAll, kept_value}
 use Rattle.loom_engine.proofs.Runs.Kinds.{effect_tells}
 use Rattle.loom_engine.proofs.Runs.Lifting.{EnteredTo, ReplyTo, ResumedTo, event_kept}
 use Rattle.loom_engine.proofs.Runs.Moving.{Within, enters_wait_moves, reads_moves}
-use Rattle.loom_engine.proofs.Runs.Offered.{Offers, ResumedBy, event_offers, offered_value}
+use Rattle.loom_engine.proofs.Runs.Offered.{AnyWay, Offers, ResumedBy, event_offers, offered_value}
 use Rattle.loom_engine.proofs.Runs.Pointing.{answered, by_points}
 use Rattle.loom_engine.proofs.Runs.Queues.{decided, map_there, more_there, set_stays, with_there}
 use Rattle.loom_engine.proofs.Runs.Threading.{KeptByThreads, counted_on, effect_on, end_on}
 
 -- ---- a load leaves the values of stores as they are
-
-set_value : (stores : List StorePoints) (k m : ℕ) (y : StorePoints) → y.value ≡ (slice_index_or stores k blank).value → (slice_index_or (slice_set stores k y) m blank).value ≡ (slice_index_or stores m blank).value
-set_value [] k m y e = refl
-set_value (x ∷ stores) zero zero y e = e
-set_value (x ∷ stores) zero (suc m) y e = refl
-set_value (x ∷ stores) (suc k) zero y e = refl
-set_value (x ∷ stores) (suc k) (suc m) y e = set_value stores k m y e
 
 -- an access whose tests pass leads where it is to lead
 passed_points : (s : Scene) (kinds : List (List ℕ)) (passed : Answer) (p : Points) (t n : ℕ) (after : Accessed) → accessed p t n (conflicts s kinds (Ok passed)) ≡ Ok after → after.points ≡ points_of p t n passed.scene
@@ -89,10 +82,8 @@ load_stays p t n slot value order after = go (slice_get p.threads t) (slice_get 
         let scene : Scene = scene_loaded (scene_read t (scene_recorded_load s) slot) (in_slot history.stores slot).sync order in
         let to : after.points ≡ points_of p t n scene = passed_points s (history.mutations ∷ []) _ p t n after e in
         let same : history ≡ r.history = cc (r.is) in
-        let number = number_in_slot (length history.stores) slot in
-        let read : StorePoints = slice_index_or scene.history.stores number blank in
-        let many : length scene.history.stores ≡ length r.history.stores = length-set history.stores number _ ∙ ap (λ (h : History). length h.stores) same in
-        let valued : (slice_index_or scene.history.stores r.number blank).value ≡ (slice_index_or history.stores r.number blank).value = set_value history.stores number r.number _ refl in
+        let many : length scene.history.stores ≡ length r.history.stores = read-length t (scene_recorded_load s) slot ∙ ap (λ (h : History). length h.stores) same in
+        let valued : (slice_index_or scene.history.stores r.number blank).value ≡ (slice_index_or history.stores r.number blank).value = read-value t (scene_recorded_load s) slot r.number in
         let were : (slice_index_or history.stores r.number blank).value ≡ value = subst (λ (h : History). (slice_index_or h.stores r.number blank).value ≡ value) (sym same) r.value in
         let made = r.made in let late = r.late in
         record {
@@ -327,10 +318,10 @@ module _ {D : Type 0} (t n : ℕ) (order : Ordering) where
   load_ends w k = answers_then Said (check_leak (first_leak w.objects)) _ (λ u. answers_then Said (takes_result 0 w) _ (λ taken. tt))
 
   -- an event of another thread, and the one that begins the load
-  other_event : (todo : Request D ⊤) (c : Course D) → Apart c.world → Offers (InWorld Said) (submit todo c)
+  other_event : (todo : Request D ⊤) (c : Course D) → Apart c.world → Offers AnyWay (λ last. InWorld Said) None (submit todo c)
   other_event todo c s = event_offers Pending Said load_chosen load_ends todo c (apart_entry (counted todo c.world) (counted_on Apart apart_by_threads todo c.world (λ asked v e h. (h.0, off_task (pending (task.Access asked) false) v.active t v.threads h.0 ∙ h.1)) s))
 
-  load_event : (c : Course D) → There c.world → c.world.active ≡ t → Offers (InWorld Said) (submit (op.Atomic (atomic_op.Load n order)) c)
+  load_event : (c : Course D) → There c.world → c.world.active ≡ t → Offers AnyWay (λ last. InWorld Said) None (submit (op.Atomic (atomic_op.Load n order)) c)
   load_event c there is_active =
       event_offers Pending Said load_chosen load_ends (op.Atomic (atomic_op.Load n order)) c
       (answers_then (EnteredTo Pending Said) (check (nat_lt 0 c.world.steps_left) TooManySteps) _ (λ u. answers_then (EnteredTo Pending Said) (an_atomic n c.world) _ (λ atomic.
@@ -349,13 +340,13 @@ module _ {D : Type 0} (t n : ℕ) (order : Ordering) where
 
   rest_told : (answer : Reply D) (c : Course D) (events : List (Event D)) (v : Course D) → Apart c.world → IsTold t answer c events v → Claim answer v.world
   rest_told answer c events v s (at_last before event after follows is_turn) =
-      told_so event.turn answer after.world is_turn (offered_value (submit event.op before) event.choices (event.turn, after) (other_event event.op before s) follows.options follows.happens)
+      told_so event.turn answer after.world is_turn (offered_value None (submit event.op before) event.choices (event.turn, after) (other_event event.op before s) follows.options follows.happens)
   rest_told answer c events v s (afterwards before event between more after follows off told) =
-      rest_told answer between more after (waits_on event.turn between.world off (offered_value (submit event.op before) event.choices (event.turn, between) (other_event event.op before s) follows.options follows.happens)) told
+      rest_told answer between more after (waits_on event.turn between.world off (offered_value None (submit event.op before) event.choices (event.turn, between) (other_event event.op before s) follows.options follows.happens)) told
 
   first_said : (event : Event D) (c v : Course D) → There c.world → c.world.active ≡ t → event.op ≡ op.Atomic (atomic_op.Load n order) → Follows c event v → Said (event.turn, v.world)
   first_said event c v there is_active is_op follows =
-      offered_value (submit (op.Atomic (atomic_op.Load n order)) c) event.choices (event.turn, v) (load_event c there is_active)
+      offered_value None (submit (op.Atomic (atomic_op.Load n order)) c) event.choices (event.turn, v) (load_event c there is_active)
       (subst (λ todo. AreOptions (submit todo c) event.choices) is_op follows.options) (subst (λ todo. ComesBy (submit todo c) event.choices (event.turn, v)) is_op follows.happens)
 
   load_claim : (answer : Reply D) (event : Event D) (events : List (Event D)) (c v : Course D) → There c.world → c.world.active ≡ t → event.op ≡ op.Atomic (atomic_op.Load n order)

@@ -56,6 +56,8 @@ use Rattle.loom_objects.specs.declared.rt.run.Entry.{Entry}
 use Rattle.loom_objects.specs.declared.rt.run.Entry.TheVariants.{Answered, AtBranch, Explores, Spurious as AtSpurious}
 use Rattle.loom_objects.specs.declared.rt.run.Passed.{Passed}
 use Rattle.loom_objects.specs.declared.rt.run.Passed.TheVariants as passed
+use Rattle.loom_objects.specs.declared.rt.run.Resumed.{Resumed}
+use Rattle.loom_objects.specs.declared.rt.run.Resumed.TheVariants as resumed
 use Rattle.loom_objects.specs.declared.rt.rwlock.RwLock.{RwLock}
 use Rattle.loom_objects.specs.declared.rt.waker.Wakers.{Wakers}
 use Rattle.loom_objects.specs.declared.rt.thread.AfterDrop.{AfterDrop}
@@ -101,32 +103,8 @@ use Rattle.loom_engine.specs.Runs.Machine.{submit}
 use Rattle.loom_engine.proofs.Runs.Answering.{Answers, answers_then}
 use Rattle.loom_engine.proofs.Runs.Carrying.{InWorld}
 use Rattle.loom_engine.proofs.Runs.Keeping.{Keeps}
-use Rattle.loom_engine.proofs.Runs.Lifting.{EnteredTo, ReplyTo, ResumedTo, event_kept}
-
--- what is answered is that, too
-pub answered : {A B : Type 0} (Q : A → Type 0) (r : Result B FailureKind) (next : B → Result A FailureKind) → ((b : B) → r ≡ Ok b → Answers Q (next b)) → Answers Q (r >>= next)
-answered Q (Ok b) next h = h b refl
-answered Q (Err kind) next h = tt
-
--- only points change
-pub by_points : {D A : Type 0} (Q : A → Type 0) (v : World D) (r : Result Points FailureKind) (next : World D → Result A FailureKind) → ((p : Points) → r ≡ Ok p → Answers Q (next (with_points p v)))
-    → Answers Q ((r >>= (λ p. Ok (with_points p v))) >>= next)
-by_points Q v (Ok p) next h = h p refl
-by_points Q v (Err kind) next h = tt
-
--- a move that may be left out: a fence by some ordering, or one that makes a store or changes its value
-pub data Does : Type 0 where
-  Fencing : Ordering → Does
-  Storing : Does
-
--- if the move is such a one, it may be made
-abbrev pub MayBy : (Does → Type 0) → {p q : Points} → Moves p q → Type 0
-MayBy May (fences t order raised e) = May (Fencing order)
-MayBy May (new_atomic t value) = May Storing
-MayBy May (stores t n value order raised after e f) = May Storing
-MayBy May (update t n slot value order raised read after e f g) = May Storing
-MayBy May (with_mut_end t n value after e) = May Storing
-MayBy May _ = Unit {0}
+use Rattle.loom_engine.proofs.Runs.Lifting.{EnteredTo, PassedTo, ReplyTo, ResumedTo, event_kept}
+pub use Rattle.loom_engine.proofs.Runs.Allowed.{Does, Fencing, MayBy, Reading, Storing, answered, by_points}
 
 -- A property of points that moves keep which may be made.
 module _ (D : Type 0) (P : Points → Type 0) (May : Does → Type 0) (step : (p q : Points) (move : Moves p q) → MayBy May move → P p → P q) where
@@ -204,43 +182,41 @@ module _ (D : Type 0) (P : Points → Type 0) (May : Does → Type 0) (step : (p
 
   -- an access that reads, from where its thread has raised
   module _ (w : World D) (raised : Points) (e : points_after_raise w.points w.active ≡ Ok raised) (m : May Storing) (s : P w.points) where
-    exchanges_if_points : (is_expected : Bool) (n new : ℕ) (exchange : Exchange) (slot value : ℕ) (read : Accessed) → points_after_update_read raised w.active n slot ≡ Ok read
+    exchanges_if_points : (is_expected : Bool) (n new : ℕ) (exchange : Exchange) (slot value : ℕ) (read : Accessed) → May (Reading raised w.active n reader.Update slot) → points_after_update_read raised w.active n slot ≡ Ok read
         → Answers In (exchanges_if is_expected n new exchange slot value (with_points read.points w))
-    exchanges_if_points true n new exchange slot value read f =
+    exchanges_if_points true n new exchange slot value read z f =
         by_accessed (with_points read.points w) (points_after_update_write read.points w.active n slot new exchange.success) _ (λ written g.
-        step w.points _ (update w.active n slot new exchange.success raised read written e f g) m s)
-    exchanges_if_points false n new exchange slot value read f = step w.points _ (update_fail w.active n slot exchange.failure raised read e f) tt s
+        step w.points _ (update w.active n slot new exchange.success raised read written e f g) (m, z) s)
+    exchanges_if_points false n new exchange slot value read z f = step w.points _ (update_fail w.active n slot exchange.failure raised read e f) z s
 
-    exchanges_points : (n : ℕ) (exchange : Exchange) (slot : ℕ) → Answers In (exchanges n exchange slot (with_points raised w))
-    exchanges_points n exchange slot =
+    exchanges_points : (n : ℕ) (exchange : Exchange) (slot : ℕ) → May (Reading raised w.active n reader.Update slot) → Answers In (exchanges n exchange slot (with_points raised w))
+    exchanges_points n exchange slot z =
         onward (an_atomic n (with_points raised w)) _ (λ atomic. answered In (points_after_update_read raised w.active n slot) _ (λ read f.
-        exchanges_if_points (read.value == fit atomic.numbers exchange.expected) n (fit atomic.numbers exchange.new) exchange slot read.value read f))
+        exchanges_if_points (read.value == fit atomic.numbers exchange.expected) n (fit atomic.numbers exchange.new) exchange slot read.value read z f))
 
-    reads_points : (access : AtomicOp) (slot : ℕ) → Answers In (reads access (with_points raised w) slot)
-    reads_points (atomic_op.Load n order) slot = answered In (points_after_load raised w.active n slot order) _ (λ loaded f. step w.points _ (load w.active n slot order raised loaded e f) tt s)
-    reads_points (atomic_op.Update n change order) slot =
+    -- the access may read the slot
+    abbrev MaySlot : AtomicOp → ℕ → Type 0
+    MaySlot (atomic_op.Load n order) slot = May (Reading raised w.active n (reader.Load order) slot)
+    MaySlot (atomic_op.Update n change order) slot = May (Reading raised w.active n reader.Update slot)
+    MaySlot (atomic_op.CompareExchange n exchange) slot = May (Reading raised w.active n reader.Update slot)
+    MaySlot (atomic_op.CompareAndSwap n expected new order) slot = May (Reading raised w.active n reader.Update slot)
+    MaySlot _ slot = Unit {0}
+
+    reads_points : (access : AtomicOp) (slot : ℕ) → MaySlot access slot → Answers In (reads access (with_points raised w) slot)
+    reads_points (atomic_op.Load n order) slot z = answered In (points_after_load raised w.active n slot order) _ (λ loaded f. step w.points _ (load w.active n slot order raised loaded e f) z s)
+    reads_points (atomic_op.Update n change order) slot z =
         onward (an_atomic n (with_points raised w)) _ (λ atomic. answered In (points_after_update_read raised w.active n slot) _ (λ read f.
         let value = fit atomic.numbers (changed_number atomic.numbers change read.value) in
-        by_accessed (with_points read.points w) (points_after_update_write read.points w.active n slot value order) _ (λ written g. step w.points _ (update w.active n slot value order raised read written e f g) m s)))
-    reads_points (atomic_op.CompareExchange n exchange) slot = from_there (exchanges n exchange slot (with_points raised w)) _ (exchanges_points n exchange slot) (λ there r. r)
-    reads_points (atomic_op.CompareAndSwap n expected new order) slot =
-        from_there (exchanges n (swap_of expected new order) slot (with_points raised w)) _ (exchanges_points n (swap_of expected new order) slot) (λ there r. r)
-    reads_points (atomic_op.New numbers value) slot = tt
-    reads_points (atomic_op.Store n value order) slot = tt
-    reads_points (atomic_op.UnsyncLoad n) slot = tt
-    reads_points (atomic_op.IntoInner n) slot = tt
-    reads_points (atomic_op.WithMut n) slot = tt
-    reads_points (atomic_op.WithMutEnd n value) slot = tt
-
-  opens_points : (n : ℕ) (reader : Reader) (access : AtomicOp) (w : World D) → May Storing → P w.points → Answers (ResumedTo At In) (opens n reader access w)
-  opens_points n reader access w m s =
-      by_points (ResumedTo At In) w (points_after_raise w.points w.active) _ (λ raised e. answers_then (ResumedTo At In) (an_atomic n (with_points raised w)) _ (λ atomic.
-      answers_then (ResumedTo At In) (readable_slots_of raised w.active n reader) _ (λ readable. answers_then (ResumedTo At In) (check (some_slot (slot_set readable)) Misuse) _ (λ u slot.
-      replying (reads access (with_points raised w) slot) (reads_points w raised e m s access slot)))))
-    where
-      replying : (r : Result (Reply D × World D) FailureKind) → Answers In r → Answers (ReplyTo At In) r
-      replying (Ok (reply, v)) h = h
-      replying (Err kind) h = tt
+        by_accessed (with_points read.points w) (points_after_update_write read.points w.active n slot value order) _ (λ written g. step w.points _ (update w.active n slot value order raised read written e f g) (m, z) s)))
+    reads_points (atomic_op.CompareExchange n exchange) slot z = from_there (exchanges n exchange slot (with_points raised w)) _ (exchanges_points n exchange slot z) (λ there r. r)
+    reads_points (atomic_op.CompareAndSwap n expected new order) slot z =
+        from_there (exchanges n (swap_of expected new order) slot (with_points raised w)) _ (exchanges_points n (swap_of expected new order) slot z) (λ there r. r)
+    reads_points (atomic_op.New numbers value) slot z = tt
+    reads_points (atomic_op.Store n value order) slot z = tt
+    reads_points (atomic_op.UnsyncLoad n) slot z = tt
+    reads_points (atomic_op.IntoInner n) slot z = tt
+    reads_points (atomic_op.WithMut n) slot z = tt
+    reads_points (atomic_op.WithMutEnd n value) slot z = tt
 
   -- ---- cells
 
@@ -692,58 +668,88 @@ module _ (D : Type 0) (P : Points → Type 0) (May : Does → Type 0) (step : (p
   begins_points op.Fail w f s = tt
   begins_points op.Unreachable w f s = tt
 
-  by_reply : (r : Result (Reply D × World D) FailureKind) → Answers In r → Answers (ResumedTo At In) (r >>= replied)
-  by_reply (Ok there) s = s
-  by_reply (Err kind) s = tt
-
-  by_passed : (r : Result (Passed D × World D) FailureKind) → Answers In r → Answers (ResumedTo At In) (r >>= gone)
-  by_passed (Ok (passed.Turn turn, v)) s = s
-  by_passed (Ok (passed.AtBranch, v)) s = s
-  by_passed (Err kind) s = tt
-
-  accesses_points : (access : AtomicOp) (w : World D) → May Storing → P w.points → Answers (ResumedTo At In) (accesses access w)
-  accesses_points (atomic_op.Store n value order) w m s = by_reply _ (store_points n value order w m s)
-  accesses_points (atomic_op.Load n order) w m s = opens_points n (reader.Load order) (atomic_op.Load n order) w m s
-  accesses_points (atomic_op.Update n change order) w m s = opens_points n reader.Update (atomic_op.Update n change order) w m s
-  accesses_points (atomic_op.CompareExchange n exchange) w m s = opens_points n reader.Update (atomic_op.CompareExchange n exchange) w m s
-  accesses_points (atomic_op.CompareAndSwap n expected new order) w m s = opens_points n reader.Update (atomic_op.CompareAndSwap n expected new order) w m s
-  accesses_points (atomic_op.New numbers value) w m s = tt
-  accesses_points (atomic_op.UnsyncLoad n) w m s = tt
-  accesses_points (atomic_op.IntoInner n) w m s = tt
-  accesses_points (atomic_op.WithMut n) w m s = tt
-  accesses_points (atomic_op.WithMutEnd n value) w m s = tt
-
   -- where it accesses an atomic it may make a store
   abbrev pub MayTake : Task D → Type 0
   MayTake (task.Access access) = May Storing
   MayTake _ = Unit {0}
 
-  pub effect_points : (todo : Task D) (w : World D) → MayTake todo → P w.points → Answers (ResumedTo At In) (takes_effect todo w)
-  effect_points task.Start w may s = s
-  effect_points task.Body w may s = tt
-  effect_points task.Continue w may s = s
-  effect_points (task.Access access) w may s = accesses_points access w may s
-  effect_points (task.Lock locking n) w may s = by_reply _ (lock_points locking n w s)
-  effect_points (task.TryLock n) w may s = by_reply _ (try_lock_points n w s)
-  effect_points (task.Claim claim n) w may s = by_reply _ (claims_points claim n w s)
-  effect_points (task.Wait locking n m value) w may s = by_passed _ (falls_asleep_points locking n m value w s)
-  effect_points (task.Relock locking m) w may s = s
-  effect_points (task.Wake waking n) w may s = by_reply _ (wakes_points waking n w s)
-  effect_points (task.Notify n) w may s = by_reply _ (from_there (notify n w) _ (notify_points n w s) (λ after r. r))
-  effect_points (task.Await n) w may s = by_reply _ (awaits_points n w s)
-  effect_points (task.Rouse n) w may s = by_reply _ (wakes_early_points n w s)
-  effect_points (task.Count todo n) w may s = by_reply _ (counts_points todo n w s)
-  effect_points (task.TryUnwrap n) w may s = by_passed _ (tries_unwrap_points n w s)
-  effect_points (task.Join t n) w may s = by_reply _ (join_points t n w s)
-  effect_points (task.Finish n value) w may s = by_reply _ (child_finish_points n value w s)
-  effect_points (task.Send n sent) w may s = by_reply _ (sends_points n sent w s)
-  effect_points (task.Receive by n) w may s = by_reply _ (receives_points by n w s)
-  effect_points (task.Drain n taken) w may s = by_passed _ (drains_points n taken w s)
-  effect_points (task.WakeBy n c after) w may s = by_passed _ (wakes_by_points n c after w s)
-  effect_points (task.CloneWaker c place) w may s = by_passed _ (clones_waker_points c place w s)
-  effect_points (task.DropWaker c after) w may s = by_passed _ (drops_waker_points c after w s)
-  effect_points (task.Register p c) w may s = by_passed _ (registers_points p c w s)
-  effect_points (task.TakeWaker by p) w may s = by_passed _ (takes_waker_points by p w s)
+  -- an access that reads may read each slot that is such a one, of those that it is offered
+  module _ (Offered : List Bool → ℕ → Type 0)
+      (may_read : (raised : Points) (t n : ℕ) (reads : Reader) (slots : List ℕ) (slot : ℕ) → readable_slots_of raised t n reads ≡ Ok slots → Offered (slot_set slots) slot → May (Reading raised t n reads slot)) where
+    -- what was pending took effect, or such a slot is to be chosen
+    abbrev pub ResumedIf : Resumed D × World D → Type 0
+    ResumedIf (resumed.Passed passed, w) = PassedTo At In (passed, w)
+    ResumedIf (resumed.Load loading, w) = (slot : ℕ) → Offered loading.readable slot → Answers (ReplyTo At In) (reads loading.access w slot)
+
+    by_reply : (r : Result (Reply D × World D) FailureKind) → Answers In r → Answers ResumedIf (r >>= replied)
+    by_reply (Ok there) s = s
+    by_reply (Err kind) s = tt
+
+    by_passed : (r : Result (Passed D × World D) FailureKind) → Answers In r → Answers ResumedIf (r >>= gone)
+    by_passed (Ok (passed.Turn turn, v)) s = s
+    by_passed (Ok (passed.AtBranch, v)) s = s
+    by_passed (Err kind) s = tt
+
+    opens_points : (n : ℕ) (reads_by : Reader) (access : AtomicOp) (w : World D) (m : May Storing) (s : P w.points)
+        → ((raised : Points) (e : points_after_raise w.points w.active ≡ Ok raised) (slot : ℕ) → May (Reading raised w.active n reads_by slot) → MaySlot w raised e m s access slot) → Answers ResumedIf (opens n reads_by access w)
+    opens_points n reads_by access w m s may =
+        by_points ResumedIf w (points_after_raise w.points w.active) _ (λ raised e. answers_then ResumedIf (an_atomic n (with_points raised w)) _ (λ atomic.
+        answered ResumedIf (readable_slots_of raised w.active n reads_by) _ (λ readable f. answers_then ResumedIf (check (some_slot (slot_set readable)) Misuse) _ (λ u slot offered.
+        replying (reads access (with_points raised w) slot) (reads_points w raised e m s access slot (may raised e slot (may_read raised w.active n reads_by readable slot f offered)))))))
+      where
+        replying : (r : Result (Reply D × World D) FailureKind) → Answers In r → Answers (ReplyTo At In) r
+        replying (Ok (reply, v)) h = h
+        replying (Err kind) h = tt
+
+    accesses_points : (access : AtomicOp) (w : World D) → May Storing → P w.points → Answers ResumedIf (accesses access w)
+    accesses_points (atomic_op.Store n value order) w m s = by_reply _ (store_points n value order w m s)
+    accesses_points (atomic_op.Load n order) w m s = opens_points n (reader.Load order) (atomic_op.Load n order) w m s (λ raised e slot z. z)
+    accesses_points (atomic_op.Update n change order) w m s = opens_points n reader.Update (atomic_op.Update n change order) w m s (λ raised e slot z. z)
+    accesses_points (atomic_op.CompareExchange n exchange) w m s = opens_points n reader.Update (atomic_op.CompareExchange n exchange) w m s (λ raised e slot z. z)
+    accesses_points (atomic_op.CompareAndSwap n expected new order) w m s = opens_points n reader.Update (atomic_op.CompareAndSwap n expected new order) w m s (λ raised e slot z. z)
+    accesses_points (atomic_op.New numbers value) w m s = tt
+    accesses_points (atomic_op.UnsyncLoad n) w m s = tt
+    accesses_points (atomic_op.IntoInner n) w m s = tt
+    accesses_points (atomic_op.WithMut n) w m s = tt
+    accesses_points (atomic_op.WithMutEnd n value) w m s = tt
+
+    pub effect_points : (todo : Task D) (w : World D) → MayTake todo → P w.points → Answers ResumedIf (takes_effect todo w)
+    effect_points task.Start w may s = s
+    effect_points task.Body w may s = tt
+    effect_points task.Continue w may s = s
+    effect_points (task.Access access) w may s = accesses_points access w may s
+    effect_points (task.Lock locking n) w may s = by_reply _ (lock_points locking n w s)
+    effect_points (task.TryLock n) w may s = by_reply _ (try_lock_points n w s)
+    effect_points (task.Claim claim n) w may s = by_reply _ (claims_points claim n w s)
+    effect_points (task.Wait locking n m value) w may s = by_passed _ (falls_asleep_points locking n m value w s)
+    effect_points (task.Relock locking m) w may s = s
+    effect_points (task.Wake waking n) w may s = by_reply _ (wakes_points waking n w s)
+    effect_points (task.Notify n) w may s = by_reply _ (from_there (notify n w) _ (notify_points n w s) (λ after r. r))
+    effect_points (task.Await n) w may s = by_reply _ (awaits_points n w s)
+    effect_points (task.Rouse n) w may s = by_reply _ (wakes_early_points n w s)
+    effect_points (task.Count todo n) w may s = by_reply _ (counts_points todo n w s)
+    effect_points (task.TryUnwrap n) w may s = by_passed _ (tries_unwrap_points n w s)
+    effect_points (task.Join t n) w may s = by_reply _ (join_points t n w s)
+    effect_points (task.Finish n value) w may s = by_reply _ (child_finish_points n value w s)
+    effect_points (task.Send n sent) w may s = by_reply _ (sends_points n sent w s)
+    effect_points (task.Receive by n) w may s = by_reply _ (receives_points by n w s)
+    effect_points (task.Drain n taken) w may s = by_passed _ (drains_points n taken w s)
+    effect_points (task.WakeBy n c after) w may s = by_passed _ (wakes_by_points n c after w s)
+    effect_points (task.CloneWaker c place) w may s = by_passed _ (clones_waker_points c place w s)
+    effect_points (task.DropWaker c after) w may s = by_passed _ (drops_waker_points c after w s)
+    effect_points (task.Register p c) w may s = by_passed _ (registers_points p c w s)
+    effect_points (task.TakeWaker by p) w may s = by_passed _ (takes_waker_points by p w s)
+
+    may_take : May Storing → (todo : Task D) → MayTake todo
+    may_take m (task.Access access) = m
+    may_take m _ = tt
+
+    pub chosen_points : May Storing → (t : ℕ) (w : World D) → P w.points → Answers ResumedIf (chosen t w)
+    chosen_points m t w s = by_chosen (chooses t w) (onward (found (slice_get w.threads t) Misuse) _ (λ thread. s))
+      where
+        by_chosen : (r : Result (Task D × World D) FailureKind) → Answers In r → Answers ResumedIf (r >>= (λ ready. takes_effect ready.0 ready.1))
+        by_chosen (Ok ready) h = effect_points ready.0 ready.1 (may_take m ready.0) h
+        by_chosen (Err kind) h = tt
 
   -- ---- events
 
@@ -754,21 +760,26 @@ module _ (D : Type 0) (P : Points → Type 0) (May : Does → Type 0) (step : (p
   by_entry (Ok (Explores todo, v)) h = h
   by_entry (Err kind) h = tt
 
-  may_take : May Storing → (todo : Task D) → MayTake todo
-  may_take m (task.Access access) = m
-  may_take m _ = tt
-
-  chosen_points : May Storing → (t : ℕ) (w : World D) → P w.points → Answers (ResumedTo At In) (chosen t w)
-  chosen_points m t w s = by_chosen (chooses t w) (onward (found (slice_get w.threads t) Misuse) _ (λ thread. s))
-    where
-      by_chosen : (r : Result (Task D × World D) FailureKind) → Answers In r → Answers (ResumedTo At In) (r >>= (λ ready. takes_effect ready.0 ready.1))
-      by_chosen (Ok ready) h = effect_points ready.0 ready.1 (may_take m ready.0) h
-      by_chosen (Err kind) h = tt
-
   pub end_points : (w : World D) → P w.points → Answers In (end_of w)
   end_points w s = onward (check_leak (first_leak w.objects)) _ (λ u. from_there (takes_result 0 w) _ (takes_result_points 0 w s) (λ taken r. r))
 
-  pub event_points : (todo : Request D ⊤) (c : Course D) → May Storing → MayBegin todo → P c.world.points → Keeps (InWorld In) (submit todo c)
-  event_points todo c m f s =
-      event_kept At In (chosen_points m) end_points todo c
-      (by_entry (counted todo c.world) (onward (check (nat_lt 0 c.world.steps_left) TooManySteps) _ (λ u. begins_points todo (record c.world { steps_left = c.world.steps_left - 1 }) f s)))
+  -- where any slot may be read
+  module _ (any : (raised : Points) (t n : ℕ) (reads : Reader) (slot : ℕ) → May (Reading raised t n reads slot)) where
+    abbrev Any : List Bool → ℕ → Type 0
+    Any readable slot = Unit {0}
+
+    any_read : (raised : Points) (t n : ℕ) (reads : Reader) (slots : List ℕ) (slot : ℕ) → readable_slots_of raised t n reads ≡ Ok slots → Any (slot_set slots) slot → May (Reading raised t n reads slot)
+    any_read raised t n reads slots slot e offered = any raised t n reads slot
+
+    to_any : (r : Result (Resumed D × World D) FailureKind) → Answers (ResumedIf Any any_read) r → Answers (ResumedTo At In) r
+    to_any (Ok (resumed.Passed passed, w)) h = h
+    to_any (Ok (resumed.Load loading, w)) h = λ slot. h slot tt
+    to_any (Err kind) h = tt
+
+    pub effect_any : (todo : Task D) (w : World D) → MayTake todo → P w.points → Answers (ResumedTo At In) (takes_effect todo w)
+    effect_any todo w may s = to_any (takes_effect todo w) (effect_points Any any_read todo w may s)
+
+    pub event_points : (todo : Request D ⊤) (c : Course D) → May Storing → MayBegin todo → P c.world.points → Keeps (InWorld In) (submit todo c)
+    event_points todo c m f s =
+        event_kept At In (λ t w k. to_any (chosen t w) (chosen_points Any any_read m t w k)) end_points todo c
+        (by_entry (counted todo c.world) (onward (check (nat_lt 0 c.world.steps_left) TooManySteps) _ (λ u. begins_points todo (record c.world { steps_left = c.world.steps_left - 1 }) f s)))

@@ -1,8 +1,8 @@
--- What each rule keeps, from each state of the machine: sound locks stay sound, and it never fails because a path isn't met.
-use Rattle.std.proofs.Common.{◌≡◌, ◌≢◌, ℕ, Bool, Option, Some, None, refl}
+-- What each rule keeps, from each state of the machine: sound locks stay sound, and it fails by itself.
+use Rattle.std.proofs.Common.{◌≡◌, ℕ, Bool, Option, Some, None, refl}
 use Rattle.std.specs.Prelude.{true, false, cond, slice_get, Result, Ok, Err, ⊤}
 use Rattle.loom_views.specs.declared.rt.failure.FailureKind.{FailureKind}
-use Rattle.loom_views.specs.declared.rt.failure.FailureKind.TheVariants.{Misuse, NotDeterministic}
+use Rattle.loom_views.specs.declared.rt.failure.FailureKind.TheVariants.{Misuse}
 use Rattle.loom_objects.specs.declared.operation.Reply.{Reply}
 use Rattle.loom_objects.specs.declared.rt.object.Object.{Object}
 use Rattle.loom_objects.specs.declared.rt.object.Object.TheVariants as object
@@ -19,33 +19,39 @@ use Rattle.loom_objects.specs.Rules.Moves.{a_mutex, a_rwlock, an_atomic, a_condv
 use Rattle.loom_objects.specs.Rules.Rule.{◌>>=◌, check, found}
 use Rattle.loom_objects.specs.World.{World}
 use Rattle.loom_engine.specs.Runs.Histories.{locked_by}
-use Rattle.loom_engine.proofs.Runs.Fairness.{IsFairResult}
+use Rattle.loom_engine.proofs.Runs.Fairness.{AnswersBy, IsFairResult, IsMet, IsOwn, failing_so, own_met}
 use Rattle.loom_engine.proofs.Runs.Keeping.{AreSound, SoundAt, IsSoundLock, IsSoundMutex, IsSoundRwLock, get_sound}
 use Rattle.loom_engine.proofs.Runs.States.{Aim, IsSettled, Kept, Out, Ready, Taken, Told, TurnTo, more_ready, set_ready}
 use Rattle.loom_objects.specs.Rules.Mutex.{lock}
 
-pub misuse : Misuse ≢ NotDeterministic
+pub misuse : IsOwn Misuse
 misuse e = cc
 
 whole_fair : {B : Type 0} (is_taken : Bool) (b : B) → IsFairResult {A = B} (cond is_taken (Err Misuse) (Ok b))
 whole_fair true b = misuse
 whole_fair false b = tt
 
--- this holds of what it comes to, and it doesn't fail because a path isn't met
+-- this holds of what it comes to, and it fails by itself
 abbrev pub Fairly : {A : Type 0} → (A → Type 0) → Result A FailureKind → Type 0
-Fairly P (Ok answered) = P answered
-Fairly P (Err kind) = kind ≢ NotDeterministic
+Fairly P r = AnswersBy IsOwn P r
+
+-- this holds of what it comes to, and it doesn't fail because a path isn't met
+abbrev pub Freely : {A : Type 0} → (A → Type 0) → Result A FailureKind → Type 0
+Freely P r = AnswersBy IsMet P r
+
+pub freely : {A : Type 0} (P : A → Type 0) (r : Result A FailureKind) → Fairly P r → Freely P r
+freely P r h = failing_so IsOwn IsMet P r own_met h
 
 pub fair_of : {A : Type 0} (P : A → Type 0) (r : Result A FailureKind) → Fairly P r → IsFairResult r
 fair_of P (Ok answered) h = tt
 fair_of P (Err kind) h = h
 
-pub check_fairly : {A : Type 0} (P : A → Type 0) (passes : Bool) (kind : FailureKind) (next : ⊤ → Result A FailureKind) → kind ≢ NotDeterministic
+pub check_fairly : {A : Type 0} (P : A → Type 0) (passes : Bool) (kind : FailureKind) (next : ⊤ → Result A FailureKind) → IsOwn kind
     → (passes ≡ true → Fairly P (next tt)) → Fairly P (check passes kind >>= next)
 check_fairly P true kind next fair h = h refl
 check_fairly P false kind next fair h = fair
 
-pub found_fairly : {A B : Type 0} (P : A → Type 0) (o : Option B) (kind : FailureKind) (next : B → Result A FailureKind) → kind ≢ NotDeterministic
+pub found_fairly : {A B : Type 0} (P : A → Type 0) (o : Option B) (kind : FailureKind) (next : B → Result A FailureKind) → IsOwn kind
     → ((b : B) → o ≡ Some b → Fairly P (next b)) → Fairly P (found o kind >>= next)
 found_fairly P None kind next fair h = fair
 found_fairly P (Some b) kind next fair h = h b refl
@@ -115,13 +121,13 @@ module _ {D : Type 0} where
   Keeping w r = Fairly (Onward w) r
 
   -- it goes on with what is found there
-  pub found_keeping : {A B : Type 0} (o : Option B) (kind : FailureKind) (next : B → Result (A × World D) FailureKind) (w : World D) → kind ≢ NotDeterministic
+  pub found_keeping : {A B : Type 0} (o : Option B) (kind : FailureKind) (next : B → Result (A × World D) FailureKind) (w : World D) → IsOwn kind
       → ((b : B) → o ≡ Some b → Keeping w (next b)) → Keeping w (found o kind >>= next)
   found_keeping None kind next w fair h = fair
   found_keeping (Some b) kind next w fair h = h b refl
 
   -- it goes on where the test passes
-  pub check_keeping : {A : Type 0} (passes : Bool) (kind : FailureKind) (next : ⊤ → Result (A × World D) FailureKind) (w : World D) → kind ≢ NotDeterministic
+  pub check_keeping : {A : Type 0} (passes : Bool) (kind : FailureKind) (next : ⊤ → Result (A × World D) FailureKind) (w : World D) → IsOwn kind
       → (passes ≡ true → Keeping w (next tt)) → Keeping w (check passes kind >>= next)
   check_keeping true kind next w fair h = h refl
   check_keeping false kind next w fair h = fair

@@ -41,12 +41,12 @@ use Rattle.loom_engine.proofs.Runs.Events.{Anything, GoesOn, HasEnded, IsEvent, 
 use Rattle.loom_engine.proofs.Runs.Tables.{Choosing, Ending, chosen_choosing, counted_entering, end_ending}
 use Rattle.loom_engine.proofs.Runs.Kinds.Notifiers.{enters_wait_keeping}
 use Rattle.loom_engine.specs.Runs.Histories.{returned_by}
-use Rattle.loom_engine.proofs.Runs.Ruling.{Entering, Fairly, Onward, misuse}
+use Rattle.loom_engine.proofs.Runs.Ruling.{Entering, Freely, Onward, freely}
 use Rattle.loom_engine.proofs.Runs.Kinds.{effect_tells}
 use Rattle.loom_objects.specs.declared.operation.Turn.TheVariants as turn
 
 -- a rule without a choice settles: it comes to something, or fails as itself
-came_settles : {A : Type 0} {P : A → Type 0} (Q : A → Type 0) (r : Result A FailureKind) → Fairly Q r → Answers P r → Settles P (came r)
+came_settles : {A : Type 0} {P : A → Type 0} (Q : A → Type 0) (r : Result A FailureKind) → Freely Q r → Answers P r → Settles P (came r)
 came_settles Q (Ok answered) kept h = settles_at answered h
 came_settles Q (Err kind) fair h = fails_by_itself kind fair
 
@@ -68,7 +68,7 @@ module _ {D : Type 0} where
 
   read_event : (load : Loading) (w : World D) (slot : ℕ) → IsEvent (read_slot load w slot)
   read_event load w slot =
-      then_event {Q = Anything} (came (reads load.access w slot)) told (came_settles (Onward w) (reads load.access w slot) (reads_keeping load.access w slot) (anything (reads load.access w slot))) (λ answered q. told_goes answered)
+      then_event {Q = Anything} (came (reads load.access w slot)) told (came_settles (Onward w) (reads load.access w slot) (freely (Onward w) _ (reads_keeping load.access w slot)) (anything (reads load.access w slot))) (λ answered q. told_goes answered)
 
   read_passes : (load : Loading) (w : World D) (slot : ℕ) → IsPass (read_slot load w slot >>= turned)
   read_passes load w slot = turned_pass _ (read_event load w slot)
@@ -84,7 +84,7 @@ module _ {D : Type 0} where
   slot_open load w (choice.Spurious answer) = tt
 
   asks_pass : (exploring : Bool) (load : Loading) (w : World D) (numbers : List ℕ) → length numbers ≤ 7 → IsPass (asks_slot exploring numbers >>= (λ slot. read_slot load w slot >>= turned))
-  asks_pass exploring load w [] few = fails Misuse misuse
+  asks_pass exploring load w [] few = fails Misuse (λ f. cc)
   asks_pass exploring load w (lowest ∷ others) few =
       asks _ _ (omega arith) (λ o h. slot_passes load w o (options_are_loads (lowest ∷ others) o h)) (slot_open load w) (λ e. absurd (cc e))
 
@@ -106,7 +106,7 @@ module _ {D : Type 0} where
   resumes_event exploring t w = then_event {Q = TellsActive} (came (chosen t w)) (asked exploring) (came_settles (Choosing w) (chosen t w) (chosen_choosing t w) (chosen_tells t w)) (asked_pass exploring)
 
   ends_settles : (w : World D) → Settles IsOver (ends w)
-  ends_settles w = came_settles (Ending w) (end_of w) (end_ending w) (end_over w)
+  ends_settles w = came_settles (Ending w) (end_of w) (freely (Ending w) _ (end_ending w)) (end_over w)
 
   -- ---- schedules
 
@@ -157,12 +157,12 @@ module _ {D : Type 0} where
 
   schedule_event : (more : ℕ) (c : Course D) → IsEvent (schedule more c)
   unfolding schedule
-  schedule_event zero c = further_event _ (λ v. fails Misuse misuse) c
+  schedule_event zero c = further_event _ (λ v. fails Misuse (λ f. cc)) c
   schedule_event (suc more) c = further_event (schedule more) (schedule_event more) c
 
   waits_event : (n : ℕ) (c : Course D) (o : Choice) → IsFlagChoice o → IsEvent (waits n c o)
   waits_event n c (choice.Spurious answer) h = then_event {Q = Anything} _ _
-      (carried_settles (one_passed c) _ (came_settles (Onward c.world) (entered answer n c.world) (enters_wait_keeping answer n c.world) (anything (entered answer n c.world))))
+      (carried_settles (one_passed c) _ (came_settles (Onward c.world) (entered answer n c.world) (freely (Onward c.world) _ (enters_wait_keeping answer n c.world)) (anything (entered answer n c.world))))
       (λ after q. schedule_event further_branches after.1)
   waits_event n c (choice.Thread t) h = absurd h
   waits_event n c (choice.Load slot) h = absurd h
@@ -183,5 +183,5 @@ module _ {D : Type 0} where
 
   pub submit_event : (todo : Request D ⊤) (c : Course D) → IsEvent (submit todo c)
   submit_event todo c = then_event (carried c (begins todo c.world)) _
-      (carried_settles c (begins todo c.world) (came_settles (Entering (returned_by todo) c.world) (counted todo c.world) (counted_entering todo c.world) (anything (counted todo c.world))))
+      (carried_settles c (begins todo c.world) (came_settles (Entering (returned_by todo) c.world) (counted todo c.world) (freely (Entering (returned_by todo) c.world) _ (counted_entering todo c.world)) (anything (counted todo c.world))))
       (λ entered q. goes_on_event (entered.0, grown_from c.world entered.1))

@@ -54,7 +54,7 @@ use Rattle.loom_engine.proofs.Runs.Kinds.{effect_tells}
 use Rattle.loom_engine.proofs.Runs.Lifting.{EnteredTo, ReplyTo, ResumedTo, event_kept}
 use Rattle.loom_engine.proofs.Runs.Loading.{There, chooses_of, here_task, map_task, off_task, reached_there, ready_at, task_at, with_task}
 use Rattle.loom_engine.proofs.Runs.Moving.{Within, enters_wait_moves, reads_moves}
-use Rattle.loom_engine.proofs.Runs.Pointing.{MayBegin, MayBy, MayTake, answered, begins_points, by_points, effect_points, end_points, enters_wait_points}
+use Rattle.loom_engine.proofs.Runs.Pointing.{MayBegin, MayBy, MayTake, answered, begins_points, by_points, effect_any, end_points, enters_wait_points}
 use Rattle.loom_engine.proofs.Runs.Queues.{cond_here, cond_off, decided, set_there}
 use Rattle.loom_engine.proofs.Runs.Storing.{NoStore, load_values, move_values, nothing_more, raise_values, store_values, unsync_load_values, update_fail_values, update_read_values, update_write_values, with_mut_end_values, with_mut_values}
 use Rattle.loom_engine.proofs.Runs.Threading.{KeptByThreads, counted_on, effect_on}
@@ -214,7 +214,7 @@ module _ {D : Type 0} (n : ℕ) (c : Course D) (event : Event D) where
 
   quiet_effect : (todo : Task D) (w : World D) → MayTake D SameAt NoStore same_so todo → Quiet w → SameAt w.points → Answers (ResumedTo Waits Said) (takes_effect todo w)
   quiet_effect todo w may q s =
-      both_resumed (takes_effect todo w) (effect_tells todo w) (effect_on Quiet quiet_by_threads todo w q) (effect_points D SameAt NoStore same_so todo w may s)
+      both_resumed (takes_effect todo w) (effect_tells todo w) (effect_on Quiet quiet_by_threads todo w q) (effect_any D SameAt NoStore same_so (λ raised t m reads slot. tt) todo w may s)
 
   -- ---- an access of an atomic
 

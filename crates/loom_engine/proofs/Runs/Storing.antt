@@ -11,7 +11,7 @@ use Rattle.loom_views.specs.CellAccesses.{Accesses, read_step, write_step}
 use Rattle.loom_views.specs.Graph.{Graph, raised}
 use Rattle.loom_views.specs.Limits.{most_stores}
 use Rattle.loom_views.specs.ThreadViews.{ThreadPoints}
-use Rattle.loom_views.specs.Atomic.History.{Answer, History, Scene, StorePoints, blank, conflicts, load_step, mutate_end_step, mutate_step, with_newest, store_step, unsync_load_step, update_read_step, update_write_step, with_room}
+use Rattle.loom_views.specs.Atomic.History.{Answer, History, Ordered, Scene, StorePoints, after_read, blank, conflicts, graph_after_read, load_step, mutate_end_step, mutate_step, order_raised, orders_raised, slots_above, stores_after_read, with_newest, store_step, unsync_load_step, update_read_step, update_write_step, with_room}
 use Rattle.loom_views.specs.Laws.Moves.{Moves, acquire, release, join, yielding, spawn, fence, new_point, new_stamp, stamp, release_to_stamp, acquire_from_stamp, new_atomic, load, store, update, update_fail, unsync_load, with_mut, with_mut_end, new_cell, begin_read, end_read, begin_write, end_write}
 use Rattle.loom_views.specs.Views.{Accessed, Keeps, Meets, Place, Points, Records, access, access_by, accessed, acquire_by, acquire_fence_by, add_cell_by, fence_by, join_by, meet_by, points_after_acquire_fence, points_after_fence, points_after_load, points_after_raise, points_after_read, points_after_release_fence, points_after_spawn, points_after_store, points_after_unsync_load, points_after_update_fail, points_after_update_read, points_after_update_write, points_after_with_mut, points_after_with_mut_end, points_after_write, points_of, record_by, recorded, release_by, scene_of, spawn_by, stamp_acquire_by, stamp_by, stamp_release_by, update_fail_by, yield_by}
 use Rattle.loom_views.specs.declared.rt.failure.FailureKind.{FailureKind}
@@ -20,7 +20,7 @@ use Rattle.loom_views.proofs.Atomic.Reaching.Moving.{from-ok}
 use Rattle.loom_views.proofs.Atomic.Reaching.Raising.{raise-leads}
 use Rattle.loom_views.proofs.Atomic.Table.Lists.{get-set_other, get-set_same}
 use Rattle.loom_engine.specs.Runs.Stores.{values_of, with_last}
-use Rattle.loom_engine.proofs.Runs.Pointing.{Does, Fencing, MayBy, Storing}
+use Rattle.loom_engine.proofs.Runs.Pointing.{Does, Fencing, MayBy, Reading, Storing}
 
 pub nothing_more : {A : Type 0} (xs : List A) → xs ++ [] ≡ xs
 nothing_more [] = refl
@@ -67,6 +67,16 @@ map_set (x ∷ stores) (suc k) y e = ap (λ list. x.value ∷ list) (map_set sto
 map_more : (stores : List StorePoints) (y : StorePoints) → map (λ (store : StorePoints). store.value) (stores ++ y ∷ []) ≡ map (λ (store : StorePoints). store.value) stores ++ y.value ∷ []
 map_more [] y = refl
 map_more (x ∷ stores) y = ap (λ list. x.value ∷ list) (map_more stores y)
+
+-- where orders move the values stay
+raised_values : (k : ℕ) (o : Ordered) (is : List ℕ) → map (λ (store : StorePoints). store.value) (orders_raised k o is).stores ≡ map (λ (store : StorePoints). store.value) o.stores
+raised_values k o [] = refl
+raised_values k o (i ∷ is) = raised_values k (order_raised k o i) is ∙ map_set o.stores _ _ refl
+
+-- and so where a store is read
+read_values : (g : Graph) (t : ℕ) (stores : List StorePoints) (a slot : ℕ) → map (λ (store : StorePoints). store.value) (after_read g t stores a slot).stores ≡ map (λ (store : StorePoints). store.value) stores
+read_values g t stores a slot =
+    raised_values (length g) (record { graph = graph_after_read g stores a slot; stores = stores_after_read g t stores a slot }) (slots_above g stores slot) ∙ map_set stores _ _ refl
 
 -- an access whose tests pass answers what it is to answer
 passes : (s : Scene) (kinds : List (List ℕ)) (passed answer : Answer) → conflicts s kinds (Ok passed) ≡ Ok answer → passed ≡ answer
@@ -118,11 +128,13 @@ of_answer passed answer values e h = subst (λ (a : Answer). map (λ (store : St
 
 pub load_values : (p : Points) (t m n slot : ℕ) (order : Ordering) (after : Accessed) → points_after_load p t m slot order ≡ Ok after → values_of (slice_get after.points.places n) ≡ values_of (slice_get p.places n)
 load_values p t m n slot order after e =
-    none_more (m == n) _ _ (access_values p t m n (λ s. load_step t s slot order) [] (λ s answer f. of_answer _ answer _ (passes s (s.history.mutations ∷ []) _ answer f) (as_were s _ (map_set s.history.stores _ _ refl))) after e)
+    none_more (m == n) _ _ (access_values p t m n (λ s. load_step t s slot order) []
+    (λ s answer f. of_answer _ answer _ (passes s (s.history.mutations ∷ []) _ answer f) (as_were s _ (read_values s.graph t s.history.stores s.thread.present slot))) after e)
 
 pub update_read_values : (p : Points) (t m n slot : ℕ) (after : Accessed) → points_after_update_read p t m slot ≡ Ok after → values_of (slice_get after.points.places n) ≡ values_of (slice_get p.places n)
 update_read_values p t m n slot after e =
-    none_more (m == n) _ _ (access_values p t m n (λ s. update_read_step t s slot) [] (λ s answer f. of_answer _ answer _ (passes s (s.history.mutations ∷ []) _ answer f) (as_were s _ (map_set s.history.stores _ _ refl))) after e)
+    none_more (m == n) _ _ (access_values p t m n (λ s. update_read_step t s slot) []
+    (λ s answer f. of_answer _ answer _ (passes s (s.history.mutations ∷ []) _ answer f) (as_were s _ (read_values s.graph t s.history.stores s.thread.present slot))) after e)
 
 pub unsync_load_values : (p : Points) (t m n : ℕ) (after : Accessed) → points_after_unsync_load p t m ≡ Ok after → values_of (slice_get after.points.places n) ≡ values_of (slice_get p.places n)
 unsync_load_values p t m n after e =
@@ -311,6 +323,7 @@ update_fail_values p t m n slot order = update_fail_stays n p t slot order (slic
 abbrev pub NoStore : Does → Type 0
 NoStore (Fencing order) = Unit {0}
 NoStore Storing = ⊥
+NoStore (Reading raised t n reads slot) = Unit {0}
 
 pub move_values : (n : ℕ) (p q : Points) (move : Moves p q) → MayBy NoStore move → Stays n p q
 move_values n p q (acquire t m) may = acquire_stays n p t (slice_get p.threads t) (slice_get p.places m)
@@ -327,7 +340,7 @@ move_values n p q (acquire_from_stamp t m) may = stamp_acquire_stays n p t (slic
 move_values n p q (new_atomic t value) may = absurd may
 move_values n p q (load t m slot order raised after e f) may = load_values raised t m n slot order after f ∙ raise_values p raised t n e
 move_values n p q (store t m value order raised after e f) may = absurd may
-move_values n p q (update t m slot value order raised read after e f g) may = absurd may
+move_values n p q (update t m slot value order raised read after e f g) may = absurd may.0
 move_values n p q (update_fail t m slot order raised read e f) may =
     update_fail_values read.points t m n slot order ∙ (update_read_values raised t m n slot read f ∙ raise_values p raised t n e)
 move_values n p q (unsync_load t m after e) may = unsync_load_values p t m n after e

@@ -1,8 +1,8 @@
--- The tables of the machine keep locks sound, and never fail because a path isn't met.
-use Rattle.std.proofs.Common.{◌≡◌, ◌≢◌, ℕ, Bool, List, [], ◌∷◌, Option, Some, None, subst, sym}
+-- The tables of the machine keep locks sound, and fail by themselves, but for a choice of a store.
+use Rattle.std.proofs.Common.{◌≡◌, ℕ, Bool, List, [], ◌∷◌, Option, Some, None, subst, sym}
 use Rattle.std.specs.Prelude.{◌-◌, true, false, if◌then◌else◌, slice_get, nat_lt, Result, Ok, Err, ⊤}
 use Rattle.loom_views.specs.declared.rt.failure.FailureKind.{FailureKind}
-use Rattle.loom_views.specs.declared.rt.failure.FailureKind.TheVariants.{LeakArc, LeakMessages, LeakTrack, Misuse, NotDeterministic, TooManySteps}
+use Rattle.loom_views.specs.declared.rt.failure.FailureKind.TheVariants.{LeakArc, LeakMessages, LeakTrack, Misuse, TooManySteps}
 use Rattle.loom_objects.specs.declared.operation.Request.{Request}
 use Rattle.loom_objects.specs.declared.operation.Request.TheVariants as op
 use Rattle.loom_objects.specs.declared.operation.Turn.{Turn}
@@ -16,7 +16,7 @@ use Rattle.loom_objects.specs.Rules.Leaks.{check_leak, first_leak, first_of, is_
 use Rattle.loom_objects.specs.Rules.Moves.{takes_result}
 use Rattle.loom_objects.specs.Schedule.Offers.{chooses}
 use Rattle.loom_objects.specs.World.{World}
-use Rattle.loom_engine.proofs.Runs.Fairness.{IsFairResult}
+use Rattle.loom_engine.proofs.Runs.Fairness.{IsFairResult, IsMet, IsOwn, then_by}
 use Rattle.loom_engine.proofs.Runs.Kinds.Mutexes.{get_mut_opening, into_inner_opening}
 use Rattle.loom_objects.specs.declared.rt.run.Resumed.{Resumed}
 use Rattle.loom_engine.specs.Runs.Histories.{returned_by, opened_by}
@@ -25,12 +25,12 @@ use Rattle.loom_objects.specs.Rules.RwLock.{rwlock_get_mut, rwlock_into_inner}
 use Rattle.loom_objects.specs.declared.operation.RwLockOp.TheVariants as lock_op
 use Rattle.loom_engine.proofs.Runs.Kinds.RwLocks.{get_mut_opening as rwlock_get_mut_opening, into_inner_opening as rwlock_into_inner_opening}
 use Rattle.loom_engine.proofs.Runs.States.{Aim, Kept, Out, Ready, TurnTo, chosen_ready, freed_at, freed_by, kept_by_threads, set_anew}
-use Rattle.loom_engine.proofs.Runs.Ruling.{Entering, Fairly, Opening, ResumedTo, Resuming, answer_fairly, check_fairly, found_fairly, misuse, then_fairly}
+use Rattle.loom_engine.proofs.Runs.Ruling.{Entering, Fairly, Freely, Opening, ResumedTo, Resuming, answer_fairly, check_fairly, found_fairly, freely, misuse, then_fairly}
 use Rattle.loom_engine.proofs.Runs.Kinds.{begins_entering, effect_resuming}
 
 abbrev pub IsFairLeak : Option FailureKind → Type 0
 IsFairLeak None = Unit {0}
-IsFairLeak (Some kind) = kind ≢ NotDeterministic
+IsFairLeak (Some kind) = IsOwn kind
 
 fair_if : (b : Bool) (one other : Option FailureKind) → IsFairLeak one → IsFairLeak other → IsFairLeak (if b then one else other)
 fair_if true one other h i = h
@@ -82,13 +82,13 @@ module _ {D : Type 0} where
   abbrev pub Chosen : World D → Task D × World D → Type 0
   Chosen w answered = (out : Aim) → Kept out w → ((m : ℕ) → out ≡ Out m → freed_by answered.0 ≡ Some m → ⊥) × Ready out answered.1
 
-  pub chosen_choosing : (t : ℕ) (w : World D) → Fairly (Choosing w) (chosen t w)
+  pub chosen_choosing : (t : ℕ) (w : World D) → Freely (Choosing w) (chosen t w)
   chosen_choosing t w =
-      then_fairly (Chosen w) (Choosing w) (chooses t w) _ (found_fairly (Chosen w) (slice_get w.threads t) Misuse _ misuse (λ thread e out k.
-      ((λ m o f. k.unfreed t m o (subst (λ x. freed_at x ≡ Some m) (sym e) f)), chosen_ready t thread w k)))
+      then_by IsMet (Chosen w) (Choosing w) (chooses t w) _ (freely (Chosen w) (chooses t w) (found_fairly (Chosen w) (slice_get w.threads t) Misuse _ misuse (λ thread e out k.
+      ((λ m o f. k.unfreed t m o (subst (λ x. freed_at x ≡ Some m) (sym e) f)), chosen_ready t thread w k))))
       (λ answered h. onward answered.0 answered.1 h (takes_effect answered.0 answered.1) (effect_resuming answered.0 answered.1))
     where
-      onward : (todo : Task D) (v : World D) → Chosen w (todo, v) → (r : Result (Resumed D × World D) FailureKind) → Fairly (Resuming (freed_by todo) v) r → Fairly (Choosing w) r
+      onward : (todo : Task D) (v : World D) → Chosen w (todo, v) → (r : Result (Resumed D × World D) FailureKind) → Freely (Resuming (freed_by todo) v) r → Freely (Choosing w) r
       onward todo v h (Ok answered) resuming = λ out k. resuming out (h out k).0 (h out k).1
       onward todo v h (Err kind) fair = fair
 

@@ -15,7 +15,7 @@ use Rattle.loom_engine.specs.Runs.Histories.{Event, Happens, IsReached, at_first
 use Rattle.loom_engine.specs.Runs.Machine.{submit}
 use Rattle.loom_engine.specs.Runs.Views.{GlobalPointLaw, MovesLaw}
 use Rattle.loom_engine.proofs.Runs.Keeping.{kept_value}
-use Rattle.loom_engine.proofs.Runs.Pointing.{Does, Fencing, MayBegin, MayBy, Storing, event_points}
+use Rattle.loom_engine.proofs.Runs.Pointing.{Does, Fencing, MayBegin, MayBy, Reading, Storing, event_points}
 
 -- ---- moves lead on
 
@@ -31,7 +31,7 @@ module _ {D : Type 0} where
 
   pub event_leads : (first : Points) (c v : Course D) (event : Event D) → Leads first c.world.points → Happens c event v → Leads first v.world.points
   event_leads first c v event leads happens =
-      kept_value (submit event.op c) event.choices (event.turn, v) (event_points D (Leads first) (λ does. Unit {0}) (leads_on first) event.op c tt (any_op first event.op) leads) happens
+      kept_value (submit event.op c) event.choices (event.turn, v) (event_points D (Leads first) (λ does. Unit {0}) (leads_on first) (λ raised t n reads slot. tt) event.op c tt (any_op first event.op) leads) happens
 
   pub reached_leads : (max_threads max_steps : ℕ) (c : Course D) → IsReached max_threads max_steps c → Leads first_points c.world.points
   reached_leads max_threads max_steps c (at_first explores) = none
@@ -49,6 +49,7 @@ moves_law max_threads max_steps c v event reached happens = record {
 abbrev pub NoSuchFence : Does → Type 0
 NoSuchFence (Fencing order) = order ≢ SeqCst
 NoSuchFence Storing = Unit {0}
+NoSuchFence (Reading raised t n reads slot) = Unit {0}
 
 -- a move that is no such fence leaves the global point where it was
 move_stays : (p q : Points) (move : Moves p q) → MayBy NoSuchFence move → q.global ≡ p.global
@@ -99,4 +100,4 @@ module _ {D : Type 0} where
 pub global_point_law : {D : Type 0} → GlobalPointLaw D
 global_point_law {D} max_threads max_steps c v event reached happens h =
     kept_value (submit event.op c) event.choices (event.turn, v)
-    (event_points D (λ p. p.global ≡ c.world.points.global) NoSuchFence (stays_so c.world.points.global) event.op c tt (no_such_fence c.world.points.global event.op h) refl) happens
+    (event_points D (λ p. p.global ≡ c.world.points.global) NoSuchFence (stays_so c.world.points.global) (λ raised t n reads slot. tt) event.op c tt (no_such_fence c.world.points.global event.op h) refl) happens

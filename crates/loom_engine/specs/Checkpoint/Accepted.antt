@@ -9,8 +9,8 @@ use Rattle.loom_engine.specs.Path.WellFormed.{AreWellFormed, AreAlike}
 use Rattle.loom_engine.specs.declared.rt.path.checkpoint.error.PathError.{PathError}
 use Rattle.loom_engine.specs.declared.rt.path.checkpoint.error.PathError.TheVariants.{NotJson, WrongShape, WrongVersion, OtherSettings, TooManyNodes, BadNode, Memory}
 use Rattle.loom_engine.specs.declared.rt.path.checkpoint.error.Setting.{Setting}
-use Rattle.loom_engine.specs.declared.rt.path.checkpoint.error.Setting.TheVariants.{Reduce, PreemptionBound, Exploring}
-use Rattle.loom_engine.specs.Checkpoint.Grammar.{node_data, shape_data, path_data}
+use Rattle.loom_engine.specs.declared.rt.path.checkpoint.error.Setting.TheVariants.{Order, Reduce, PreemptionBound, Exploring}
+use Rattle.loom_engine.specs.Checkpoint.Grammar.{order_rule, node_data, shape_data, path_data}
 
 -- the value is that of the path with these nodes, which are well formed, and no more than there may be
 pub record IsPathOf (s : Settings) (explores : Bool) (d : Data) (nodes : List Node) : Type 0 where
@@ -27,26 +27,28 @@ ValueLaw = (s : Settings) (explores : Bool) (nodes others : List Node) → AreWe
 abbrev pub version_of : Data → Option ℕ
 version_of d = option_and_then as_u64 (option_and_then as_number (get (codes "version") d))
 
--- the five keys, with the search's settings and these nodes
+-- the six keys, with the rule of orders, the search's settings and these nodes
 abbrev pub HasNodes : Settings → Bool → Data → List Data → Type 0
-HasNodes s explores d nodes = d ≡ shape_data explores nodes s.bound s.reduce 1
+HasNodes s explores d nodes = d ≡ shape_data explores nodes order_rule s.bound s.reduce 2
 
--- the first of the settings that differ: the search is reduced, its bound, whether runs begin to explore
-abbrev pub DiffersIn : Settings → Bool → Bool → Option ℕ → Bool → Setting → Type 0
-DiffersIn s explores exploring bound reduce Reduce = reduce ≢ s.reduce
-DiffersIn s explores exploring bound reduce PreemptionBound = (reduce ≡ s.reduce) × (bound ≢ s.bound)
-DiffersIn s explores exploring bound reduce Exploring = (reduce ≡ s.reduce) × (bound ≡ s.bound) × (exploring ≢ explores)
+-- the first of the settings that differ: the rule of orders, whether the search is reduced, its bound, whether runs begin to explore
+abbrev pub DiffersIn : Settings → Bool → Bool → List ℕ → Option ℕ → Bool → Setting → Type 0
+DiffersIn s explores exploring order bound reduce Order = order ≢ order_rule
+DiffersIn s explores exploring order bound reduce Reduce = (order ≡ order_rule) × (reduce ≢ s.reduce)
+DiffersIn s explores exploring order bound reduce PreemptionBound = (order ≡ order_rule) × (reduce ≡ s.reduce) × (bound ≢ s.bound)
+DiffersIn s explores exploring order bound reduce Exploring = (order ≡ order_rule) × (reduce ≡ s.reduce) × (bound ≡ s.bound) × (exploring ≢ explores)
 
 -- Why a value is refused. The reasons are tested in this order, and each implies that no earlier one holds.
 abbrev pub IsRefused : Settings → Bool → Data → PathError → Type 0
 IsRefused s explores d NotJson = ⊥
 IsRefused s explores d WrongShape =
     (version_of d ≡ None)
-    ⊎ ((version_of d ≡ Some 1) × ((exploring : Bool) (nodes : List Data) (bound : Option ℕ) (reduce : Bool) (version : ℕ) → d ≢ shape_data exploring nodes bound reduce version))
-IsRefused s explores d (WrongVersion version) = (version_of d ≡ Some version) × (version ≢ 1)
+    ⊎ ((version_of d ≡ Some 2)
+    × ((exploring : Bool) (nodes : List Data) (order : List ℕ) (bound : Option ℕ) (reduce : Bool) (version : ℕ) → d ≢ shape_data exploring nodes order bound reduce version))
+IsRefused s explores d (WrongVersion version) = (version_of d ≡ Some version) × (version ≢ 2)
 IsRefused s explores d (OtherSettings setting) =
-    (exploring : Bool) × (nodes : List Data) × (bound : Option ℕ) × (reduce : Bool) × (d ≡ shape_data exploring nodes bound reduce 1)
-    × DiffersIn s explores exploring bound reduce setting
+    (exploring : Bool) × (nodes : List Data) × (order : List ℕ) × (bound : Option ℕ) × (reduce : Bool) × (d ≡ shape_data exploring nodes order bound reduce 2)
+    × DiffersIn s explores exploring order bound reduce setting
 IsRefused s explores d (TooManyNodes count) = (nodes : List Data) × HasNodes s explores d nodes × (count ≡ length nodes) × (s.max_branches < count)
 IsRefused s explores d BadNode =
     (items : List Data) × HasNodes s explores d items × (length items ≤ s.max_branches) × ((nodes : List Node) → AreWellFormed nodes → items ≢ map node_data nodes)

@@ -1,9 +1,9 @@
--- The JSON value of a path between two runs, version 1.
+-- The JSON value of a path between two runs, version 2.
 use Rattle.std.specs.Prelude.{ℕ, Bool, List, map, codes, Option}
 use Rattle.serde_json.specs.Data.{Data, boolean, string, object, member, no_members}
 use Rattle.loom_objects.specs.Tree.Stores.{slots}
 use Rattle.loom_engine.specs.Trees.Meeting.{Settings}
-pub use Rattle.loom_engine.specs.Checkpoint.Shape.{whole, whole_or_null, list_data}
+pub use Rattle.loom_engine.specs.Checkpoint.Shape.{whole, whole_or_null, list_data, order_rule}
 unfoldable pub use Rattle.loom_engine.specs.Checkpoint.Shape.{shape_data}
 use Rattle.loom_engine.specs.declared.rt.path.node.Status.{Status}
 use Rattle.loom_engine.specs.declared.rt.path.node.Status.TheVariants.{Disabled, Skip, Yield, Pending, Active, Visited}
@@ -43,4 +43,4 @@ node_data (Spurious n) = spurious_data n.exploring n.answer
 
 -- the path with these nodes, of a search with these settings, whose runs begin to explore or don't
 unfoldable pub path_data : Settings → Bool → List Node → Data
-path_data s explores nodes = shape_data explores (map node_data nodes) s.bound s.reduce 1
+path_data s explores nodes = shape_data explores (map node_data nodes) order_rule s.bound s.reduce 2

@@ -137,6 +137,7 @@ node_of d = do
 pub record Shape : Type 0 where
   pub exploring : Bool
   pub nodes : List Data
+  pub order : List ℕ
   pub preemption_bound : Option ℕ
   pub reduce : Bool
   pub version : ℕ
@@ -146,7 +147,8 @@ shape_of d = do
   ms ← as_object d
   exploring ← taken as_bool (codes "exploring") ms
   nodes ← taken as_list (codes "nodes") exploring.1
-  bound ← taken as_whole_or_null (codes "preemption_bound") nodes.1
+  order ← taken as_str (codes "order") nodes.1
+  bound ← taken as_whole_or_null (codes "preemption_bound") order.1
   reduce ← taken as_bool (codes "reduce") bound.1
   version ← taken as_whole (codes "version") reduce.1
-  if ends version.1 then Some (record { exploring = exploring.0; nodes = nodes.0; preemption_bound = bound.0; reduce = reduce.0; version = version.0 }) else None
+  if ends version.1 then Some (record { exploring = exploring.0; nodes = nodes.0; order = order.0; preemption_bound = bound.0; reduce = reduce.0; version = version.0 }) else None

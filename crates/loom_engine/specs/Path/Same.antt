@@ -73,7 +73,7 @@ statuses_tell a b = (same_true status.the_type tt a b, true_same status.the_type
 switches_tell : Tells (switches.ghosts).eq
 switches_tell a b = (same_true exploring.the_type tt a b, true_same exploring.the_type a b)
 
-nodes_tell : Tells (nodes.ghosts).eq
+pub nodes_tell : Tells (nodes.ghosts).eq
 nodes_tell (node.Schedule a) (node.Schedule b) =
     within node.Schedule (λ s. cc s) (made_of
     (both unsigned_Decides (both numbers_tell (both numbers_tell (both numbers_tell (both booleans_Decides (pointwise_decides statuses_tell))))))

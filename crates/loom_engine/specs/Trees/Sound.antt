@@ -1,5 +1,6 @@
 -- What holds of the trees that are a body's runs.
 use Rattle.std.specs.Prelude.{◌≡◌, ◌≢◌, None}
+use Rattle.loom_views.specs.declared.rt.failure.FailureKind.{FailureKind}
 use Rattle.loom_views.specs.declared.rt.failure.FailureKind.TheVariants.{NotDeterministic}
 use Rattle.loom_objects.specs.declared.choice.Choice.{Choice}
 use Rattle.loom_objects.specs.declared.choice.Choice.TheVariants.{Thread}
@@ -34,6 +35,13 @@ IsFair (Gives value) = Unit {0}
 IsFair (Fails kind) = kind ≢ NotDeterministic
 IsFair (Closes rest) = IsFair rest
 IsFair (Asks question branches) = (choice : Choice) → Among choice (made_of question).options → IsFair (branches choice)
+
+-- no run fails so, by choices that are options
+abbrev pub NeverFails : {A : Type 0} → FailureKind → Tree A → Type 0
+NeverFails kind (Gives value) = Unit {0}
+NeverFails kind (Fails failure) = failure ≢ kind
+NeverFails kind (Closes rest) = NeverFails kind rest
+NeverFails kind (Asks question branches) = (choice : Choice) → Among choice (made_of question).options → NeverFails kind (branches choice)
 
 -- after a schedule without a default thread, which has no other option, it asks nothing
 abbrev pub EndsUnchosen : {A : Type 0} → Tree A → Type 0

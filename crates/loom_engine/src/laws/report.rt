@@ -1,6 +1,6 @@
 //! Laws of what a check reports, and of runs that are replayed. The definitions stand in `specs/Trees/Reports.antt`,
 //! `specs/Trees/Resuming.antt` for a check that begins with a path, and `specs/Trees/Replay.antt`.
-ghost use Rattle.loom_engine.specs.Trees.Replays.{AllowedReplayLaw, ReplayFollowsLaw};
+ghost use Rattle.loom_engine.specs.Trees.Replays.{AllowedReplayLaw, NoSuchFailureLaw, ReplayFollowsLaw};
 ghost use Rattle.loom_engine.specs.Trees.Reports.{CompleteReportLaw, FailedReportLaw, RefusedReplayLaw, SearchLaw, StoppedReportLaw};
 ghost use Rattle.loom_engine.specs.Trees.Resuming.{CompleteFromLaw, DefaultsLaw, FailedFromLaw, JoinedLaw, ResumedRunsLaw, StoppedFromLaw};
 
@@ -37,6 +37,12 @@ pub fn allowed_replay<A>()
 /// Choices replay as not deterministic only where one of them is no option, or is left over.
 pub fn refused_replay<A>()
     ensures { RefusedReplayLaw A }
+{}
+
+/// Where no run of a tree fails so by options, no choices lead to that failure, and none replay to it, unless it is one that a path
+/// alone brings about (own).
+pub fn no_such_failure<A>()
+    ensures { NoSuchFailureLaw A }
 {}
 
 /// A complete check that began with a path has made what was left from it, each run once, and none of that fails.

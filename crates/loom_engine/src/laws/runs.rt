@@ -1,6 +1,5 @@
-//! Laws of the runs of a body. What holds of them is said in `specs/Trees.antt`, what operations make in
-//! `specs/Growth.antt`; small bodies stand in `specs/Rows.antt`, and what a
-//! reduced search makes of some in `specs/Reduced.antt`.
+//! Laws of the runs of a body. The definitions stand in `specs/Runs`: small bodies in `Examples.antt`, and what a reduced search
+//! makes of some in `ReducedExamples.antt`.
 ghost use Rattle.loom_engine.specs.Runs.Growth.{GrowthLaw};
 ghost use Rattle.loom_engine.specs.Runs.Once.{MadeOnceLaw};
 ghost use Rattle.loom_engine.specs.Runs.Received.{InOrderLaw};

@@ -1,10 +1,13 @@
+//! The path of a search: the nodes at which its run has chosen, and what is left to try at each (loom's `rt/path.rs`).
 pub mod backtrack;
 pub mod checkpoint;
+pub mod list;
 pub mod making;
 pub mod node;
 pub mod nodes;
+pub mod word;
 
-ghost use Rattle.std.specs.Prelude.{◌≡◌, ◌≢◌, ◌≤◌, ◌<◌, ◌+◌, ◌↔◌, ℕ, List, [], ◌∷◌, ◌++◌, Option, Some, IfOk, IfErr, IfSome, IsTrue, slice_get, map, length, true};
+ghost use Rattle.std.specs.Prelude.{◌≡◌, ◌≢◌, ◌≤◌, ◌<◌, ◌+◌, ◌↔◌, ℕ, List, [], ◌∷◌, ◌++◌, Option, Some, IfOk, IfErr, IfSome, IsTrue, slice_get, map, length, take, true};
 ghost use Rattle.std.specs.List.{Contains};
 ghost use Rattle.std.specs.Option.{option_map};
 ghost use Rattle.loom_objects.specs.Tree.Question.{made_of};
@@ -18,7 +21,9 @@ ghost use Rattle.loom_engine.specs.Path.Nodes.{seen, seen_schedule, seen_load, s
 ghost use Rattle.loom_engine.specs.Path.Route.{Route, settings, at_rest, chosen, stored, trail, IsSame, Decides, Pushes, IsAtLoad, PassesLoad, Steps, Switches};
 ghost use Rattle.loom_engine.specs.Path.Tallies.{Notes, IsNotedAt, AreNoted, IsValueAt};
 ghost use Rattle.loom_engine.specs.Path.WellFormed.{AreAlike, AreAtRest, AreWellFormed, Appends};
+ghost use Rattle.loom_engine.specs.Path.Words.{word_of};
 
+use crate::rt::path::list::NodeList;
 use crate::rt::path::making::is_below;
 use crate::rt::path::node::{Load, Node, Schedule, Spurious, Tally};
 use crate::rt::path::nodes::{Nodes, step_nodes};
@@ -69,14 +74,14 @@ impl Model for Path {
     ghost view = { λ p. record {
       search = settings p.search;
       explores = p.search.explores;
-      nodes = p.nodes.list.items;
+      nodes = p.nodes.list;
       position = p.nodes.position;
       exploring = p.exploring;
       given = p.given.items;
     } };
 
-    ghost invariant = { λ p. (p.nodes.position ≤ length p.nodes.list.items) × (length p.nodes.list.items ≤ p.search.max_branches) × AreWell p.nodes.list.items
-        × AreNoted p.nodes.list.items × IsTally p.nodes.list.items p.nodes.position p.tally };
+    ghost invariant = { λ p. (p.nodes.position ≤ length p.nodes.list) × (length p.nodes.list ≤ p.search.max_branches) × AreWell p.nodes.list
+        × AreNoted p.nodes.list × IsTally p.nodes.list p.nodes.position p.tally };
 }
 
 /// Two paths are equal where callers see the same. Nothing is allocated, and each node is compared once at most.
@@ -94,7 +99,7 @@ impl PartialEq for Path {
         self.search == other.search
             && self.nodes.position == other.nodes.position
             && self.exploring == other.exploring
-            && self.nodes.list.as_slice() == other.nodes.list.as_slice()
+            && self.nodes.list.has_words_of(&other.nodes.list)
             && self.given.as_slice() == other.given.as_slice()
     }
 }
@@ -113,7 +118,7 @@ impl Path {
         Path {
             search,
             nodes: Nodes {
-                list: Vec::new(alloc),
+                list: NodeList::new(alloc),
                 position: 0,
             },
             exploring: Exploring::new(search.explores),
@@ -196,8 +201,7 @@ impl Path {
     pub fn try_clone(&self, alloc: Global) -> Result<Path, AllocError>
         ensures { IfOk result (λ path. path ≡ self.now) }
     {
-        let mut list = Vec::new(alloc);
-        list.extend_from_slice(&self.nodes.list)?;
+        let list = self.nodes.list.try_clone(alloc)?;
         let mut given = Vec::new(alloc);
         given.extend_from_slice(&self.given)?;
         Ok(Path {
@@ -220,12 +224,31 @@ impl Path {
         self.search
     }
 
-    /// The nodes, in order.
-    pub fn nodes(&self) -> &[Node]
-        ensures nodes { result.now ≡ self.now.nodes }
+    /// The nodes, in order, a word for each (own).
+    pub fn words(&self) -> &[u64]
+        ensures words { result.now ≡ map word_of self.now.nodes }
         ensures fits { length self.now.nodes ≤ self.now.search.max_branches }
     {
-        &self.nodes.list
+        self.nodes.list.words()
+    }
+
+    /// The nodes, in order. An error only where memory for them is refused.
+    pub fn nodes(&self, alloc: Global) -> Result<Vec<Node>, AllocError>
+        ensures nodes { IfOk result (λ nodes. nodes.items ≡ self.now.nodes) }
+        ensures fits { length self.now.nodes ≤ self.now.search.max_branches }
+    {
+        self.nodes.list.nodes(alloc)
+    }
+
+    /// The node at a place, or None past the last one.
+    pub fn node(&self, place: usize) -> Option<Node>
+        ensures { result ≡ slice_get self.now.nodes place }
+    {
+        if place < self.nodes.list.len() {
+            Some(self.nodes.list.get(place))
+        } else {
+            None
+        }
     }
 
     /// The nodes of a path are well formed where they are at rest, as a walk sees them, and have defaults.
@@ -265,6 +288,7 @@ impl Path {
     }
 
     /// Makes a node at the end, without passing it. Without memory for it the path stays as it was.
+    #[inline(always)]
     fn push(&mut self, node: Node) -> Result<(), AllocError>
         requires past { length self.old.nodes ≤ self.old.position }
         requires room { self.old.position < self.old.search.max_branches }
@@ -273,7 +297,7 @@ impl Path {
         ensures made { IfOk result (λ _. self.new ≡ record self.old { nodes = self.old.nodes ++ node ∷ [] }) }
         ensures same { IfErr result (λ _. self.new ≡ self.old) }
     {
-        self.nodes.push(node)?;
+        self.nodes.push(&node)?;
         Ok(())
     }
 
@@ -305,6 +329,7 @@ impl Path {
     }
 
     /// The run passes the schedule at the position.
+    #[inline(always)]
     fn pass(&mut self, schedule: &Schedule)
         requires { slice_get self.old.nodes self.old.position ≡ Some (Node.Schedule schedule.now) }
         ensures { self.new ≡ record self.old { position = self.old.position + 1 } }
@@ -314,6 +339,7 @@ impl Path {
     }
 
     /// The run passes the node at the position, which is no schedule.
+    #[inline(always)]
     fn pass_value(&mut self)
         requires { IsValueAt self.old.nodes self.old.position }
         ensures { self.new ≡ record self.old { position = self.old.position + 1 } }
@@ -365,7 +391,7 @@ impl Path {
     {
         let exploring = self.is_exploring();
         if self.nodes.position < self.nodes.list.len() {
-            let Node::Load(load) = self.nodes.list[self.nodes.position] else {
+            let Node::Load(load) = self.nodes.list.get(self.nodes.position) else {
                 return Err(failed(FailureKind::NotDeterministic));
             };
             if !load.meets(exploring, readable) {
@@ -393,11 +419,11 @@ impl Path {
         if self.nodes.position >= self.nodes.list.len() {
             return Err(failed(FailureKind::NotDeterministic));
         }
-        let Node::Load(load) = self.nodes.list[self.nodes.position] else {
+        let Choice::Load(slot) = self.nodes.list.choice(self.nodes.position) else {
             return Err(failed(FailureKind::NotDeterministic));
         };
         self.pass_value();
-        Ok(load.slot())
+        Ok(slot)
     }
 
     /// Passes a spurious wake-up: follows the stored node, or makes one. It answers whether the thread wakes without a
@@ -408,7 +434,7 @@ impl Path {
     {
         let exploring = self.is_exploring();
         if self.nodes.position < self.nodes.list.len() {
-            let Node::Spurious(spurious) = self.nodes.list[self.nodes.position] else {
+            let Node::Spurious(spurious) = self.nodes.list.get(self.nodes.position) else {
                 return Err(failed(FailureKind::NotDeterministic));
             };
             if !spurious.meets(exploring) {
@@ -486,7 +512,7 @@ impl Path {
         if self.nodes.position == 0 {
             return Ok(Vec::new(alloc));
         }
-        choices_at(alloc, &self.nodes.list[..self.nodes.position])
+        choices_at(alloc, &self.nodes.list, self.nodes.position)
     }
 
     /// After a run, goes on to the next one: the deepest node that has an option left takes it, and what follows it is
@@ -503,11 +529,16 @@ impl Path {
     }
 }
 
-/// What was chosen at each of these nodes.
-fn choices_at(alloc: Global, nodes: &[Node]) -> Result<Vec<Choice>, AllocError>
-    ensures { IfOk result (λ list. list.items ≡ map (λ node. (seen node).present) nodes.now) }
+/// What was chosen at each of the first so many nodes.
+fn choices_at(alloc: Global, nodes: &NodeList, count: usize) -> Result<Vec<Choice>, AllocError>
+    requires { count ≤ length nodes.now }
+    ensures { IfOk result (λ list. list.items ≡ map (λ node. (seen node).present) (take count nodes.now)) }
 {
-    nodes.iter().map(|node| node.choice()).collect(alloc)
+    let mut choices = Vec::with_capacity(alloc, count)?;
+    for place in 0..count {
+        choices.push(nodes.choice(place))?;
+    }
+    Ok(choices)
 }
 
 /// A new load: at the choice that was given for its place, if any, or else at its default.

@@ -63,9 +63,9 @@ fence_rows =
 -- of threads that update one atomic
 abbrev pub update_rows : List Named
 update_rows =
-    script (codes "fetch_add_atomic") atomics.fetch_add_atomic ∷ script (codes "orders_equal") atomics.orders_equal ∷
-    script (codes "three_adds") atomics.three_adds ∷ updates (codes "fetch_update_once") atomics.num_a atomics.num_b ∷
-    []
+    script (codes "fetch_add_atomic") atomics.fetch_add_atomic ∷ script (codes "two_rmw") atomics.two_rmw ∷
+    script (codes "orders_equal") atomics.orders_equal ∷ script (codes "three_adds") atomics.three_adds ∷
+    updates (codes "fetch_update_once") atomics.num_a atomics.num_b ∷ []
 
 -- of threads that wait for flags
 abbrev pub flag_rows : List Named

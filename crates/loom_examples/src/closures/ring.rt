@@ -28,16 +28,18 @@ pub fn through_ring<R: Threads + Wait + Clone + Send + 'static>(
     publish: Ordering,
 ) -> Result<u64, Stop> {
     let ring = new_ring(handle)?;
-    handle.spawn(move |handle| produce(handle, &ring, publish))?;
+    handle
+        .thread("producer")
+        .spawn(move |handle| produce(handle, &ring, publish))?;
     consume(handle, &ring)
 }
 
 /// A ring without an item.
 fn new_ring<R: Wait>(handle: &mut Handle<u64, R>) -> Result<Ring, Stop> {
-    let taken = handle.atomic(0u64)?;
-    let put = handle.atomic(0u64)?;
-    let even = handle.cell(0)?;
-    let odd = handle.cell(0)?;
+    let taken = handle.named("taken").atomic(0u64)?;
+    let put = handle.named("put").atomic(0u64)?;
+    let even = handle.named("even").cell(0)?;
+    let odd = handle.named("odd").cell(0)?;
     Ok(Ring {
         taken,
         put,

@@ -3,11 +3,15 @@ ghost use Rattle.std.specs.Prelude.{◌≡◌, ◌⊎◌, IfOk};
 ghost use Rattle.loom.specs.declared.model.report.Report.{Report};
 ghost use Rattle.loom_examples.specs.Rows.Line.{PrintedOf};
 
+use crate::closures::ring::through_ring;
 use crate::closures::scenes;
 use crate::rows::line::{self, ShownReport};
-use loom::model::Report;
+use loom::Choice;
+use loom::explain::Explanation;
 use loom::model::builder::Builder;
-use loom::runner::{Handle, NoVisitor, RunnerError, Stop, check};
+use loom::model::{Replay, Report};
+use loom::runner::{Handle, NoVisitor, RunnerError, Stop, check, explain, replay};
+use loom_ops::sync::atomic::Ordering::Relaxed;
 use std::alloc::Global;
 use std::io::{self, Write};
 use std::sync::Wait;
@@ -34,10 +38,12 @@ pub enum ClosureRow {
     Changes,
     /// Two threads store to an atomic each, and load from the other's.
     StoreBuffering,
+    /// Three items through a ring of two cells, of which the count is stored by `Relaxed`, where it takes `Release`.
+    RelaxedRing,
 }
 
 /// All rows.
-pub const ROWS: [ClosureRow; 9] = [
+pub const ROWS: [ClosureRow; 10] = [
     ClosureRow::TwoMutexesDeadlock,
     ClosureRow::FetchAddAtomic,
     ClosureRow::LockBeside,
@@ -47,6 +53,7 @@ pub const ROWS: [ClosureRow; 9] = [
     ClosureRow::Stops,
     ClosureRow::Changes,
     ClosureRow::StoreBuffering,
+    ClosureRow::RelaxedRing,
 ];
 
 impl ClosureRow {
@@ -62,6 +69,7 @@ impl ClosureRow {
             ClosureRow::Stops => "closure_stops",
             ClosureRow::Changes => "closure_changes",
             ClosureRow::StoreBuffering => "store_buffering_closures",
+            ClosureRow::RelaxedRing => "relaxed_ring_closures",
         }
     }
 
@@ -74,7 +82,7 @@ impl ClosureRow {
     }
 
     /// The settings of the row's check.
-    fn builder(self) -> Builder {
+    pub fn builder(self) -> Builder {
         let mut builder = Builder::new();
         match self {
             ClosureRow::TwoMutexesDeadlock
@@ -82,7 +90,8 @@ impl ClosureRow {
             | ClosureRow::GuardLeft
             | ClosureRow::Deaf
             | ClosureRow::Stops
-            | ClosureRow::StoreBuffering => {}
+            | ClosureRow::StoreBuffering
+            | ClosureRow::RelaxedRing => {}
             ClosureRow::LockBeside | ClosureRow::Changes => builder.reduce = false,
             ClosureRow::PingPong => builder.max_branches = 200,
         }
@@ -114,6 +123,30 @@ impl ClosureRow {
         check(rt, alloc, builder, main, &mut NoVisitor)
     }
 
+    /// One run of the row, by these choices and then by defaults.
+    pub fn replay<R: Threads + Wait + Clone + Send + 'static>(
+        self,
+        rt: &R,
+        alloc: Global,
+        builder: &Builder,
+        choices: &[Choice],
+    ) -> Result<Replay<u64>, RunnerError> {
+        let main = |handle: &mut Handle<u64, R>| self.run(handle, true);
+        replay(rt, alloc, builder, choices, main)
+    }
+
+    /// What happened in that run.
+    pub fn explain<R: Threads + Wait + Clone + Send + 'static>(
+        self,
+        rt: &R,
+        alloc: Global,
+        builder: &Builder,
+        choices: &[Choice],
+    ) -> Result<Explanation, RunnerError> {
+        let main = |handle: &mut Handle<u64, R>| self.run(handle, true);
+        explain(rt, alloc, builder, choices, main)
+    }
+
     /// What main does in a run: the first run, or a later one.
     fn run<R: Threads + Wait + Clone + Send + 'static>(
         self,
@@ -131,12 +164,13 @@ impl ClosureRow {
             ClosureRow::Changes if is_first => scenes::lock_beside(handle),
             ClosureRow::Changes => Ok(7),
             ClosureRow::StoreBuffering => scenes::store_buffering(handle),
+            ClosureRow::RelaxedRing => through_ring(handle, Relaxed),
         }
     }
 }
 
 /// The row of this name.
-fn named(name: &str) -> Option<ClosureRow> {
+pub fn named(name: &str) -> Option<ClosureRow> {
     for row in ROWS {
         if row.name() == name {
             return Some(row);
@@ -146,7 +180,7 @@ fn named(name: &str) -> Option<ClosureRow> {
 }
 
 /// Checks the row, prints the line of the report, and answers its status. Where there is no report, it prints which error came, and
-/// the status is 2.
+/// why, and the status is 2.
 pub fn run_row<R: AllocGlobal + Threads + Wait + Clone + Send + 'static, O: Write, E: Write>(
     rt: &R,
     row: ClosureRow,
@@ -161,10 +195,16 @@ pub fn run_row<R: AllocGlobal + Threads + Wait + Clone + Send + 'static, O: Writ
             writeln!(out, "{shown}")?;
             Ok(line::status_of(&report))
         }
-        Err(error) => {
-            let number = error.number();
-            writeln!(err, "error {number}")?;
-            Ok(2)
-        }
+        Err(error) => refuse_run(err, error),
     }
+}
+
+/// Prints which error came, and why.
+pub(crate) fn refuse_run<E: Write>(err: &mut E, error: RunnerError) -> io::Result<u8>
+    ensures { IfOk result (λ status. status ≡ 2) }
+{
+    let number = error.number();
+    writeln!(err, "error {number}")?;
+    writeln!(err, "{error}")?;
+    Ok(2)
 }

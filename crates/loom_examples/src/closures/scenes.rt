@@ -38,8 +38,7 @@ impl Part {
     }
 }
 
-/// Starts a thread that plays this part. (One closure serves all parts: each kind of closure is checked, and built, with all of the
-/// runner once more.)
+/// Starts a thread that plays this part.
 fn start<R: Threads + Wait + Clone + Send + 'static>(
     handle: &mut Handle<u64, R>,
     part: Part,

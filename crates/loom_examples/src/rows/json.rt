@@ -63,7 +63,7 @@ pub fn do_task<R: AllocGlobal + Clock + Files, O: Write, E: Write>(
             writeln!(out, "{text}")?;
             Ok(answer.status)
         }
-        Err(NoAnswer::Check(error)) => refuse_check(err, error),
+        Err(NoAnswer::Check(error)) => refuse_check(err, &builder, error),
         Err(NoAnswer::Memory) => Ok(2),
     }
 }

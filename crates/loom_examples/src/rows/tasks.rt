@@ -161,7 +161,7 @@ fn do_check<R: AllocGlobal + Files, B: Body<Data = u64>, O: Write, E: Write>(
             explain_report(rt, builder, body, &report, explains, out)?;
             Ok(status)
         }
-        Err(error) => refuse_check(err, error),
+        Err(error) => refuse_check(err, builder, error),
     }
 }
 
@@ -181,7 +181,7 @@ fn do_rise<R: AllocGlobal + Files, B: Body<Data = u64>, O: Write, E: Write>(
             explain_report(rt, builder, body, &risen.report, explains, out)?;
             Ok(status)
         }
-        Err(error) => refuse_check(err, error),
+        Err(error) => refuse_check(err, builder, error),
     }
 }
 
@@ -202,7 +202,7 @@ fn do_replay<R: AllocGlobal + Files, B: Body<Data = u64>, O: Write, E: Write>(
             explain_replay(rt, builder, body, &replay, explains, out)?;
             Ok(status)
         }
-        Err(error) => refuse_check(err, error),
+        Err(error) => refuse_check(err, builder, error),
     }
 }
 

@@ -7,11 +7,12 @@ use crate::rows::settings::Builds;
 use crate::rows::tasks::explain_report;
 use crate::rows::{Checked, Row, print_report, refuse_check};
 use crate::scripts::script::Script;
+use loom::checkpoint::file::file_store;
 use loom::model::Report;
 use loom::model::builder::Builder;
 use loom::model::error::CheckError;
 use loom::model::visitor::Visitor;
-use loom::{Body, Choice, FileStore};
+use loom::{Body, Choice};
 use std::alloc::AllocError;
 use std::io::{self, Write};
 use std::rt::{Clock, Files};
@@ -57,10 +58,7 @@ pub(crate) fn check<R: AllocGlobal + Clock + Files, B: Body<Data = u64>>(
         rt,
         start: Instant::now(rt).ok(),
     };
-    let mut store = match &builder.checkpoint_file {
-        Some(name) => Some(FileStore::new(rt, rt.alloc(), name.as_str())),
-        None => None,
-    };
+    let mut store = file_store(rt, rt.alloc(), &builder.checkpoint_file);
     let log = None::<HostRuntime>;
     builder.check_with(
         rt.alloc(),
@@ -109,6 +107,6 @@ fn check_body<R: AllocGlobal + Clock + Files, B: Body<Data = u64>, O: Write, E: 
             explain_report(rt, builder, body, &report, explains, out)?;
             Ok(status)
         }
-        Err(error) => refuse_check(err, error),
+        Err(error) => refuse_check(err, builder, error),
     }
 }

@@ -14,6 +14,9 @@ use std::alloc::{AllocError, Global};
 use std::io::{self, Write};
 use std::rt::{Clock, Files};
 
+// What clap writes behind some causes.
+const HINT: &str = "\n\nFor more information, try '--help'.";
+
 const HELP_BESIDE: &str =
     "error: the argument '--help' cannot be used with one or more of the other specified arguments";
 
@@ -116,8 +119,10 @@ fn run_asked<R: AllocGlobal + Clock + Files, O: Write, E: Write>(
     match Choices::parse(rt.alloc(), replay) {
         Ok(choices) => run_task(rt, Task::Replay(choices.as_slice()), asked, out, err),
         Err(error) => {
-            writeln!(err, "{error}")?;
-            Ok(2)
+            let cause = format!(in rt.alloc();
+                "error: invalid value '{replay}' for '--replay <CHOICES>': {error}"
+            )?;
+            refuse(err, cause.as_str())
         }
     }
 }
@@ -148,7 +153,7 @@ fn run_task<R: AllocGlobal + Clock + Files, O: Write, E: Write>(
     }
 }
 
-/// The words mean nothing: the usage and the cause, with the nearest name or option.
+/// The words mean nothing: the usage, the cause with the nearest name or option, and how to ask for all of them.
 pub(crate) fn refuse_words<E: Write>(
     alloc: Global,
     rows: &[Row],
@@ -200,8 +205,8 @@ fn nearest<'a>(alloc: Global, rows: &'a [Row], word: &str) -> Result<&'a str, Al
     Ok(nearest)
 }
 
-// The words are wrong, as clap says. Its text ends with the usage, which stands above already. Where it is the help, other words
-// stand beside `--help`.
+// The words are wrong, as clap says. Its text ends with the usage or with a hint, which both stand here already. Where it is the
+// help, other words stand beside `--help`.
 fn refuse_by<E: Write>(alloc: Global, err: &mut E, error: &Error) -> io::Result<u8>
     ensures { IfOk result (λ status. status ≡ 2) }
 {
@@ -209,17 +214,29 @@ fn refuse_by<E: Write>(alloc: Global, err: &mut E, error: &Error) -> io::Result<
         return refuse(err, HELP_BESIDE);
     }
     let text = format!(in alloc; "{error}")?;
-    match text.as_str().split_once("\n\nUsage: ") {
-        Some((cause, _)) => refuse(err, cause),
-        None => refuse(err, text.as_str().trim_end()),
+    refuse(
+        err,
+        before(before(text.as_str(), "\n\nUsage: "), HINT).trim_end(),
+    )
+}
+
+// What stands before this in the text, or all of it.
+fn before<'a>(text: &'a str, other: &str) -> &'a str {
+    match text.split_once(other) {
+        Some((before, _)) => before,
+        None => text,
     }
 }
 
-// Prints the usage and the cause.
+// Prints the usage, the cause, and where there is more to read.
 fn refuse<E: Write>(err: &mut E, cause: &str) -> io::Result<u8>
     ensures { IfOk result (λ status. status ≡ 2) }
 {
     writeln!(err, "usage: loom_rows NAME [FILE]")?;
     writeln!(err, "{cause}")?;
+    writeln!(
+        err,
+        "\nFor the options try '--help', and for the names '--list'."
+    )?;
     Ok(2)
 }

@@ -1,4 +1,4 @@
-// Copies of operations that have data, and of lists of data: with the data, and bare, where `()` stands in the place of each value.
+//! Copies of operations that have data, and of lists of data: with the data, and bare, where `()` stands in the place of each value.
 ghost use Rattle.std.specs.Prelude.{◌≡◌, IfOk, map};
 ghost use Rattle.loom_objects.specs.Operation.Bare.{bare_arc, bare_cell, bare_channel, bare_condvar, bare_lazy, bare_lazy_value, bare_local, bare_local_value, bare_mutex, bare_rwlock, bare_thread, bare_track, nothing};
 

@@ -1,6 +1,5 @@
-//! Each short form once, by one thread or two: what it answers. (A function's cost grows with the square of the calls that it hands
-//! an error on from, so few stand in one. Where answers are compared they aren't taken apart: after a stop each later call answers it
-//! again, and none is equal to a number.)
+//! Each short form once, by one thread or two: what it answers. (Where answers are compared they aren't taken apart: after a stop
+//! each later call answers it again, and none is equal to a number.)
 use crate::closures::children::{Task, start};
 use crate::closures::finding::{Counter, Main, passes};
 use loom::cell::{Cell, UnsafeCell};

@@ -1,40 +1,15 @@
-//! Tests that stand in loom's own documents and tests, as closures.
+//! What docs/GUIDE.md shows of closures, behind its first test: tests of loom's own as closures.
 use crate::closures::holds;
 use loom::model::builder::Builder;
 use loom::model::{Replay, Report};
-use loom::runner::{Handle, RunnerError, Stop, model, replay};
+use loom::runner::{Handle, NoVisitor, RunnerError, Stop, check, model, replay};
 use loom::sync::Mutex;
 use loom::sync::atomic::AtomicU64;
-use loom::sync::atomic::Ordering::{AcqRel, Acquire, Relaxed, Release};
-use loom::{Choice, Failure, FailureKind};
+use loom::sync::atomic::Ordering::{AcqRel, Acquire, Release};
+use loom::{Choice, Choices, Failure, FailureKind};
 use std::sync::Wait;
 use std::test::Fail;
 use std::thread::Threads;
-
-/// The first test of loom's README: two threads load a number, and store one more. One may load what the other has loaded.
-#[test]
-fn buggy_concurrent_inc(rt: HostRuntime) -> Result<(), Fail> {
-    let report = model(&rt, rt.alloc(), |handle: &mut Handle<(), HostRuntime>| {
-        let num = handle.atomic(0u64)?;
-        let first = handle.spawn(move |handle| increment(handle, &num))?;
-        let second = handle.spawn(move |handle| increment(handle, &num))?;
-        handle.join(&first)?;
-        handle.join(&second)?;
-        let total = handle.load(&num, Relaxed)?;
-        handle.assert(total == 2)
-    })?;
-    assert!(rt;
-        matches!(&report, Report::Failed { failure, .. } if failure.kind == FailureKind::Assertion),
-        "{report}"
-    );
-    Ok(())
-}
-
-/// Loads the number, and stores one more.
-fn increment<R: Wait>(handle: &mut Handle<(), R>, num: &AtomicU64) -> Result<(), Stop> {
-    let current = handle.load(num, Acquire)?;
-    handle.store(num, current.wrapping_add(1), Release)
-}
 
 /// A mutex keeps two threads apart: each finds in it what it finds in an atomic.
 #[test]
@@ -66,6 +41,47 @@ fn count_up<R: Wait>(
     handle.assert(count == before)?;
     handle.release(guard, count.wrapping_add(1))?;
     Ok(count)
+}
+
+/// A closure may print what it sees: here once in each run.
+#[test]
+fn a_closure_prints(rt: HostRuntime) -> Result<(), Fail> {
+    let report = model(&rt, rt.alloc(), |handle: &mut Handle<(), HostRuntime>| {
+        let flag = handle.atomic(false)?;
+        let child = handle.spawn(move |handle| handle.store(&flag, true, Release))?;
+        let seen = handle.load(&flag, Acquire)?;
+        let _ = println!(rt; "main loads {seen}");
+        handle.join(&child)
+    })?;
+    assert!(rt; report.is_complete(), "{report}");
+    Ok(())
+}
+
+/// Three threads make six updates each, and there are more runs than end within minutes. With few preemptions there are few.
+#[test]
+fn few_preemptions_make_few_runs(rt: HostRuntime) -> Result<(), Fail> {
+    let mut builder = Builder::new();
+    builder.preemption_bound = Some(1);
+    let main = |handle: &mut Handle<(), HostRuntime>| {
+        let num = handle.atomic(0u64)?;
+        let first = handle.spawn(move |handle| add_six(handle, &num))?;
+        let second = handle.spawn(move |handle| add_six(handle, &num))?;
+        add_six(handle, &num)?;
+        handle.join(&first)?;
+        handle.join(&second)
+    };
+    let report = check(&rt, rt.alloc(), &builder, main, &mut NoVisitor)?;
+    println!(rt; "{report}")?;
+    assert!(rt; report.is_complete(), "{report}");
+    Ok(())
+}
+
+/// Adds one to the number six times.
+fn add_six<R: Wait>(handle: &mut Handle<(), R>, num: &AtomicU64) -> Result<(), Stop> {
+    for _ in 0..6 {
+        handle.fetch_add(num, 1, AcqRel)?;
+    }
+    Ok(())
 }
 
 /// Two threads lock two mutexes in opposite order.
@@ -148,5 +164,15 @@ fn choices_that_are_none(rt: HostRuntime) -> Result<(), Fail> {
     let wrong = follow(&rt, &[Choice::Thread(Some(4))])?;
     holds(&rt, matches!(first, Replay::Ended { .. }));
     holds(&rt, fails_by(&wrong, FailureKind::NotDeterministic));
+    Ok(())
+}
+
+/// The choices of a report are a text, by which the run is made again.
+#[test]
+fn a_failure_comes_again_by_its_text(rt: HostRuntime) -> Result<(), Fail> {
+    let choices = Choices::parse(rt.alloc(), "t0 t1 t1 t-")?;
+    let main = |handle: &mut Handle<(), HostRuntime>| opposite_order(handle);
+    let again = replay(&rt, rt.alloc(), &Builder::new(), choices.as_slice(), main)?;
+    holds(&rt, fails_by(&again, FailureKind::Deadlock));
     Ok(())
 }

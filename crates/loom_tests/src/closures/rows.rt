@@ -8,7 +8,7 @@ use std::test::Fail;
 use std::thread::Threads;
 
 /// Each row's line and status.
-static LINES: [(&str, &str, u8); 9] = [
+static LINES: [(&str, &str, u8); 10] = [
     (
         "two_mutexes_deadlock_closures",
         "failed 2 3 t1 t1 t2 t2 t-\n",
@@ -22,6 +22,11 @@ static LINES: [(&str, &str, u8); 9] = [
     ("closure_stops", "failed 1 0\n", 1),
     ("closure_changes", "failed 20 1\n", 1),
     ("store_buffering_closures", "complete 30\n", 0),
+    (
+        "relaxed_ring_closures",
+        "failed 3 0 t0 l0 t1 t1 t1 t1 l0 t0 t0 l1\n",
+        1,
+    ),
 ];
 
 /// Whether the row prints this line and nothing besides, and has this status.

@@ -25,8 +25,7 @@ pub enum Shows {
     Values,
 }
 
-/// A body by its name, how it is checked, and what the check finds. Tables refer to settings, since each that holds them costs the
-/// proof more.
+/// A body by its name, how it is checked, and what the check finds.
 pub struct Case {
     pub name: &'static str,
     pub settings: &'static Settings,

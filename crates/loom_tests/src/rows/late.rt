@@ -61,7 +61,7 @@ const WRITE: Step = on!(RwLock, RwLockOp::Write(0));
 
 const RWLOCK_TAKEN: Step = on!(RwLock, RwLockOp::IntoInner(0));
 
-static LOCKS: [(Row, &str); 10] = [
+static LOCKS: [(Row, &str); 13] = [
     (row!("lock", late!(MUTEX; LOCK; MUTEX_TAKEN)), "t1 t0 t1"),
     (
         row!(
@@ -74,6 +74,13 @@ static LOCKS: [(Row, &str); 10] = [
         row!(
             "lock of what is out",
             late!(MUTEX; LOCK; on!(Mutex, MutexOp::GetMut(0)))
+        ),
+        "t1 t0 t1",
+    ),
+    (
+        row!(
+            "try_lock of what is out",
+            late!(MUTEX; on!(Mutex, MutexOp::TryLock(0)); on!(Mutex, MutexOp::GetMut(0)))
         ),
         "t1 t0 t1",
     ),
@@ -108,6 +115,13 @@ static LOCKS: [(Row, &str); 10] = [
         "t1 t0 t1",
     ),
     (
+        row!(
+            "try_read of what is out",
+            late!(RWLOCK; on!(RwLock, RwLockOp::TryRead(0)); on!(RwLock, RwLockOp::GetMut(0)))
+        ),
+        "t1 t0 t1",
+    ),
+    (
         row!("write", late!(RWLOCK; WRITE; RWLOCK_TAKEN)),
         "t1 t0 t1",
     ),
@@ -122,6 +136,13 @@ static LOCKS: [(Row, &str); 10] = [
         row!(
             "write of what is out",
             late!(RWLOCK; WRITE; on!(RwLock, RwLockOp::GetMut(0)))
+        ),
+        "t1 t0 t1",
+    ),
+    (
+        row!(
+            "try_write of what is out",
+            late!(RWLOCK; on!(RwLock, RwLockOp::TryWrite(0)); on!(RwLock, RwLockOp::GetMut(0)))
         ),
         "t1 t0 t1",
     ),
@@ -218,14 +239,16 @@ const DROP_ARC: Step = on!(Arc, ArcOp::Drop(0));
 
 const TRY_UNWRAP: Step = on!(Arc, ArcOp::TryUnwrap(0));
 
-static COUNTS: [(Row, &str); 7] = [
+const GET_MUT: Step = on!(Arc, ArcOp::GetMut(0));
+
+static COUNTS: [(Row, &str); 11] = [
     (
         row!("clone", late!(ARC; on!(Arc, ArcOp::Clone(0)); DROP_ARC)),
         "t1 t0 t0 t1",
     ),
     (row!("drop", late!(ARC; DROP_ARC; DROP_ARC)), "t1 t0 t0 t1"),
     (
-        row!("get_mut", late!(ARC; on!(Arc, ArcOp::GetMut(0)); DROP_ARC)),
+        row!("get_mut", late!(ARC; GET_MUT; DROP_ARC)),
         "t1 t0 t0 t1",
     ),
     (
@@ -237,9 +260,28 @@ static COUNTS: [(Row, &str); 7] = [
     ),
     (
         row!(
-            "drop of what is out",
-            late!(ARC; DROP_ARC; on!(Arc, ArcOp::GetMut(0)))
+            "clone of what is out",
+            late!(ARC; on!(Arc, ArcOp::Clone(0)); GET_MUT)
         ),
+        "t1 t0 t0 t1",
+    ),
+    (
+        row!("drop of what is out", late!(ARC; DROP_ARC; GET_MUT)),
+        "t1 t0 t0 t1",
+    ),
+    (
+        row!("get_mut of what is out", late!(ARC; GET_MUT; GET_MUT)),
+        "t1 t0 t0 t1",
+    ),
+    (
+        row!(
+            "strong_count of what is out",
+            late!(ARC; on!(Arc, ArcOp::StrongCount(0)); GET_MUT)
+        ),
+        "t1 t0 t0 t1",
+    ),
+    (
+        row!("try_unwrap of what is out", late!(ARC; TRY_UNWRAP; GET_MUT)),
         "t1 t0 t0 t1",
     ),
     (

@@ -9,6 +9,7 @@ mod folder;
 mod limits;
 mod measured;
 mod mutations;
+mod path_words;
 mod places;
 mod progress;
 mod rising;
@@ -38,20 +39,21 @@ use std::time::Duration;
 
 // The text with which a check of two threads goes on after its second run.
 const TWO_NODES: &str =
-    "{\"exploring\":true,\"nodes\":[{\"exploring\":true,\"first\":0,\"schedule\":[\"Visited\",\"Active\",\"Disabled\",\"Disabled\",\"Disabled\"]},{\"exploring\":true,\"first\":1,\"schedule\":[\"Active\",\"Visited\",\"Disabled\",\"Disabled\",\"Disabled\"]}],\"preemption_bound\":null,\"reduce\":false,\"version\":1}";
+    "{\"exploring\":true,\"nodes\":[{\"exploring\":true,\"first\":0,\"schedule\":[\"Visited\",\"Active\",\"Disabled\",\"Disabled\",\"Disabled\"]},{\"exploring\":true,\"first\":1,\"schedule\":[\"Active\",\"Visited\",\"Disabled\",\"Disabled\",\"Disabled\"]}],\"order\":\"all\",\"preemption_bound\":null,\"reduce\":false,\"version\":2}";
 
 // The text with which such a check goes on after its first run.
 const ONE_NODE: &str =
-    "{\"exploring\":true,\"nodes\":[{\"exploring\":true,\"first\":0,\"schedule\":[\"Visited\",\"Active\",\"Disabled\",\"Disabled\",\"Disabled\"]}],\"preemption_bound\":null,\"reduce\":false,\"version\":1}";
+    "{\"exploring\":true,\"nodes\":[{\"exploring\":true,\"first\":0,\"schedule\":[\"Visited\",\"Active\",\"Disabled\",\"Disabled\",\"Disabled\"]}],\"order\":\"all\",\"preemption_bound\":null,\"reduce\":false,\"version\":2}";
 
 // The text with which such a check goes on before any run.
 const NO_NODES: &str =
-    "{\"exploring\":true,\"nodes\":[],\"preemption_bound\":null,\"reduce\":false,\"version\":1}";
+    "{\"exploring\":true,\"nodes\":[],\"order\":\"all\",\"preemption_bound\":null,\"reduce\":false,\"version\":2}";
 
 // What stands before the nodes in such a text, and what stands behind them.
 const HEAD: &str = "{\"exploring\":true,\"nodes\":[";
 
-const WHOLE_END: &str = "],\"preemption_bound\":null,\"reduce\":false,\"version\":1}";
+const WHOLE_END: &str =
+    "],\"order\":\"all\",\"preemption_bound\":null,\"reduce\":false,\"version\":2}";
 
 static NAMES: [(&str, &str); 3] = [
     (NO_NODES, "no nodes"),

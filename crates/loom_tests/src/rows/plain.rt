@@ -50,11 +50,12 @@ const BOUNDED: &[Search] = &[
     (false, Some(2)),
 ];
 
-const UP_TO_ONE: &[Search] = &[
+const UP_TO_TWO: &[Search] = &[
     (true, Some(0)),
     (false, Some(0)),
     (true, Some(1)),
     (false, Some(1)),
+    (true, Some(2)),
 ];
 
 const WITHOUT_PREEMPTION: &[Search] = &[(true, Some(0)), (false, Some(0))];
@@ -62,7 +63,7 @@ const WITHOUT_PREEMPTION: &[Search] = &[(true, Some(0)), (false, Some(0))];
 static LARGE_BODIES: [(&str, &[Search]); 5] = [
     ("rwlock_writer_and_readers", REDUCED_OR_BOUNDED),
     ("notify_all", REDUCED_OR_BOUNDED),
-    ("orders_equal", UP_TO_ONE),
+    ("orders_equal", UP_TO_TWO),
     ("three_adds", BOUNDED),
     ("acq_rel", WITHOUT_PREEMPTION),
 ];

@@ -40,7 +40,7 @@ static FIRST: [Line; 16] = [
     ),
 ];
 
-static ATOMICS: [Line; 17] = [
+static ATOMICS: [Line; 18] = [
     ("u8_functions", "complete 1\n", 0),
     ("i8_functions", "complete 1\n", 0),
     ("bool_nand", "complete 1\n", 0),
@@ -52,11 +52,8 @@ static ATOMICS: [Line; 17] = [
     ("unsync_load_forever", "failed 12 0\n", 1),
     ("sb_fences", "complete 15\n", 0),
     ("fetch_add_atomic", "complete 4\n", 0),
-    (
-        "orders_equal",
-        "failed 13 172 t0 t1 t1 t1 t0 l2 t1 l2 t1 t2 t2 l3 t2\n",
-        1,
-    ),
+    ("two_rmw", "complete 115\n", 0),
+    ("orders_equal", "complete 3216\n", 0),
     ("three_adds", "complete 1981\n", 0),
     ("fetch_update_once", "complete 1\n", 0),
     ("acq_rel", "complete 412\n", 0),

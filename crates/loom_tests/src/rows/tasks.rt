@@ -17,43 +17,46 @@ const REFUSED: Settings = Settings {
     ..DEFAULTS
 };
 
-// Settings that are refused, and what is printed on standard error.
+// Settings that are refused, and what is printed on standard error: the error, and why.
 static SETTINGS: [(Settings, &str); 6] = [
     (
         Settings {
             max_threads: 0,
             ..REFUSED
         },
-        "error 1\n",
+        "error 1\n`max_threads` is 0: set it to 1 to 5, which counts main\n",
     ),
     (
         Settings {
             max_threads: 6,
             ..REFUSED
         },
-        "error 1\n",
+        "error 1\n`max_threads` is 6: set it to 1 to 5, which counts main\n",
     ),
     (
         Settings {
             max_branches: 0,
             ..REFUSED
         },
-        "error 2\n",
+        "error 2\n`max_branches` is 0: set it to 1 to 1000000\n",
     ),
     (
         Settings {
             max_branches: 1_000_001,
             ..REFUSED
         },
-        "error 2\n",
+        "error 2\n`max_branches` is 1000001: set it to 1 to 1000000\n",
     ),
-    (REFUSED, "error 3\n"),
+    (
+        REFUSED,
+        "error 3\n`preemption_bound` is 256: set it to 0 to 255, or set none\n",
+    ),
     (
         Settings {
             max_steps: 0,
             ..DEFAULTS
         },
-        "error 5\n",
+        "error 5\n`max_steps` is 0: set it to 1 or more, as 1000000\n",
     ),
 ];
 
@@ -87,12 +90,12 @@ fn prints(rt: &(impl AllocGlobal + Files), row: &Row, task: Task, printed: &Prin
     }
 }
 
-// The settings are refused by this line.
-fn refuses(rt: &(impl Abort + AllocGlobal + Files), settings: Settings, line: &str) {
+// The settings are refused by these lines.
+fn refuses(rt: &(impl Abort + AllocGlobal + Files), settings: Settings, lines: &str) {
     let printed = Printed {
         out: "",
         goes_on: false,
-        err: line,
+        err: lines,
         status: 2,
     };
     does(rt, "lock_beside", settings, Task::Check, &printed);

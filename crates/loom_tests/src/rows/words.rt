@@ -44,7 +44,11 @@ macro_rules! begins {
 // What is printed on standard error where the words are wrong.
 macro_rules! usage {
     ($cause:expr) => {
-        concat!("usage: loom_rows NAME [FILE]\nerror: ", $cause, "\n")
+        concat!(
+            "usage: loom_rows NAME [FILE]\nerror: ",
+            $cause,
+            "\n\nFor the options try '--help', and for the names '--list'.\n"
+        )
     };
 }
 
@@ -54,8 +58,9 @@ const NO_SUCH_ROW: &str = usage!(
     "no row is called 'lock_besides'\n\n  tip: the nearest name is 'lock_beside'"
 );
 
-const REFUSED: &str =
-    "word 1 is no choice: a choice is `t0` to `t4` or `t-`, `l0` to `l6`, `s0` or `s1`, with a space between two\n";
+const REFUSED: &str = usage!(
+    "invalid value 'x' for '--replay <CHOICES>': word 1 is no choice: a choice is `t0` to `t4` or `t-`, `l0` to `l6`, `s0` or `s1`, with a space between two"
+);
 
 static WORDS: [Said; 9] = [
     // Few preemptions come first.
@@ -131,9 +136,7 @@ static WRONG: [Said; 14] = [
     said!(
         &["--max-steps", "x", "lock_beside"],
         "",
-        usage!(
-            "invalid value 'x' for '--max-steps <N>': invalid digit found in string\n\nFor more information, try '--help'."
-        ),
+        usage!("invalid value 'x' for '--max-steps <N>': invalid digit found in string"),
         2
     ),
     said!(
@@ -197,7 +200,7 @@ static SETTINGS: [Said; 11] = [
     said!(
         &["--checkpoint-interval", "0", "lock_beside"],
         "",
-        "error 4\n",
+        "error 4\n`checkpoint_interval` is 0: set it to 1 or more, as 20000\n",
         2
     ),
     said!(
@@ -249,7 +252,7 @@ static OBJECTS: [Said; 4] = [
 ];
 
 // Choices are replayed. Where no run makes one, or it is left over at the end, the run fails behind those before it.
-static REPLAYS: [Said; 6] = [
+static REPLAYS: [Said; 8] = [
     said!(
         &["--replay", "t1 t1 t2 t2 t-", "two_mutexes_deadlock"],
         "failed 2 t1 t1 t2 t2 t-\n",
@@ -280,6 +283,24 @@ static REPLAYS: [Said; 6] = [
         "failed 20 t0 t1 t1 t-\n",
         "",
         1
+    ),
+    // No thread adds to the number that another one has added to. It adds to the sum.
+    said!(
+        &["--replay", "t1 t1 t1 l1 t1 t0 t0 l1 t0 l1 t0 t-", "two_rmw"],
+        "failed 20 t1 t1 t1 l1 t1 t0 t0 l1 t0\n",
+        "",
+        1
+    ),
+    said!(
+        &[
+            "--json",
+            "--replay",
+            "t1 t1 t1 l1 t1 t0 t0 l1 t0 l2 t0 t-",
+            "two_rmw"
+        ],
+        "{\"choices\":\"t1 t1 t1 l1 t1 t0 t0 l1 t0 l2 t0 t-\",\"result\":\"ended\",\"row\":\"two_rmw\",\"value\":21}\n",
+        "",
+        0
     ),
 ];
 

@@ -9,7 +9,7 @@ use Rattle.loom_views.specs.declared.rt.failure.FailureKind.TheVariants.{Race, O
 use Rattle.loom_views.specs.declared.rt.atomic.State.{State}
 use Rattle.loom_views.specs.declared.rt.atomic.Store.{Store}
 use Rattle.loom_views.specs.declared.rt.synchronize.ThreadViews.{ThreadViews}
-use Rattle.loom_views.specs.Graph.{Point, Graph, Shows, IsChained, IsPresent, moved}
+use Rattle.loom_views.specs.Graph.{Point, Graph, Shows, IsChained, IsPresent}
 use Rattle.loom_views.specs.Orderings.{is_acquire, is_release}
 use Rattle.std.proofs.lemmas.List.{get_or-set_same, get_or-set_other, length-set}
 use Rattle.loom_views.specs.Atomic.Slots.{number_in_slot}
@@ -19,29 +19,13 @@ use Rattle.loom_views.specs.ThreadViews.{ThreadPoints, ShowsThread, graph_after_
 use Rattle.loom_views.specs.Atomic.History.{Scene, Answer, in_slot, seen_orders, graph_with_order, graph_with_start, races, scene_read, scene_loaded, scene_made, scene_recorded_load, scene_recorded_store, scene_recorded_unsync_load, scene_recorded_mutation, load_step, store_step, update_read_step, update_write_step, unsync_load_step, mutate_step, mutate_end_step, new_step, newest_value, new_history, with_newest, blank, StorePoints}
 use Rattle.loom_views.specs.Atomic.Ring.{Accessed, store_at, state_read, state_made, views_loaded, load_now, store_now, load_passed, store_passed, update_read_now, update_read_passed, update_write_now, update_write_passed, unsync_load_now, value_passed, mutate_now, mutate_passed, mutate_end_now, ended, newest_slot, state_closed, state_blank, blank_store}
 use Rattle.loom_views.specs.Atomic.Shown.{ShowsStart, ShowsStore, ShowsRecord, ShowsScene}
-use Rattle.loom_views.proofs.Views.Views.{shows-old, shows-joined, chained-moved, present-old, present-new}
+use Rattle.loom_views.proofs.Views.Views.{shows-old, shows-joined, chained-moved, present-new}
 use Rattle.loom_views.proofs.Views.Records.{races-is, record-one, record-more}
-use Rattle.loom_views.proofs.Views.ThreadMoves.{touch-old, thread-old}
-use Rattle.loom_views.proofs.Atomic.Shown.{state-old, read-shown, make-shown}
-
--- a new point that raises nothing
-pub scene_grown : (t : ℕ) (s : Scene) (views : ThreadViews) (state : State) (js : List ℕ) → ShowsScene t s views state → ShowsScene t (record s { graph = moved s.graph js }) views state
-scene_grown t s views state js z = record {
-  chained = chained-moved s.graph js z.chained;
-  present = present-old (record { after = js; raises = None }) s.graph t s.thread.present refl z.present;
-  thread = thread-old (record { after = js; raises = None }) s.graph t s.thread views z.thread;
-  history = state-old (record { after = js; raises = None }) s.graph s.history state z.history;
-}
-
-pub scene_read-shown : (t : ℕ) (s : Scene) (views : ThreadViews) (state : State) (slot : ℕ) → t < 5 → slot < 7 → slot < length s.history.stores → ShowsScene t s views state → ShowsScene t (scene_read t s slot) views (state_read state t views slot)
-scene_read-shown t s views state slot l b d z =
-    let grown = scene_grown t s views state ((in_slot s.history.stores slot).order ∷ seen_orders s.graph s.history.stores s.thread.present (Some slot)) z in
-    record {
-      chained = grown.chained;
-      present = grown.present;
-      thread = grown.thread;
-      history = read-shown s.graph t s.thread views s.history state slot z.chained l b d z.thread z.history;
-    }
+use Rattle.loom_views.proofs.Views.ThreadMoves.{touch-old}
+use Rattle.loom_views.proofs.Views.Growth.{shows-grown}
+use Rattle.loom_views.proofs.Atomic.Growth.{scene_read-grown}
+use Rattle.loom_views.proofs.Atomic.Reads.{scene_grown, scene_read-shown}
+use Rattle.loom_views.proofs.Atomic.Shown.{state-old, make-shown}
 
 pub scene_loaded-shown : (t : ℕ) (s : Scene) (views : ThreadViews) (state : State) (k : ℕ) (sync : List ℕ) (order : Ordering) → Shows s.graph k sync → ShowsScene t s views state → ShowsScene t (scene_loaded s k order) (views_loaded views sync order) state
 scene_loaded-shown t s views state k sync order q z = ⊎_elim yes no (cases_Bool (is_acquire order))
@@ -168,7 +152,7 @@ load-agrees t s views state slot order l b d z =
     shown_read = scene_read-shown t (scene_recorded_load s) views state' slot l b d (recorded_load-shown t s views state z)
 
     sync_shown : Shows read.graph (in_slot s.history.stores slot).sync (store_at state.stores slot).sync
-    sync_shown = shows-old (record { after = (in_slot s.history.stores slot).order ∷ seen_orders s.graph s.history.stores s.thread.present (Some slot); raises = None }) s.graph (in_slot s.history.stores slot).sync (store_at state.stores slot).sync (z.history.stores slot b d).sync
+    sync_shown = shows-grown (scene_read-grown t (scene_recorded_load s) slot) (in_slot s.history.stores slot).sync (store_at state.stores slot).sync (z.history.stores slot b d).sync
 
 pub store-agrees : (t : ℕ) (s : Scene) (views : ThreadViews) (state : State) (value : ℕ) (order : Ordering) → t < 5 → ShowsScene t s views state → Agrees t (store_step t s value order) (store_now state t views value order)
 store-agrees t s views state value order l z =

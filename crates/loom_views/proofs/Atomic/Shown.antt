@@ -15,7 +15,7 @@ use Rattle.loom_views.specs.Versions.{join_all}
 use Rattle.loom_views.specs.Atomic.Slots.{slots, is_left_out, number_in_slot}
 use Rattle.loom_views.specs.ThreadViews.{ThreadPoints, ShowsTouch, ShowsThread, graph_after_store}
 use Rattle.loom_views.specs.Atomic.History.{StorePoints, History, in_slot, touch_of, is_touch_seen, is_seen, is_order_seen_from, seen_orders, touch, graph_after_read, stores_after_read, graph_with_order, graph_with_start, graph_after_make, stores_after_make}
-use Rattle.loom_views.specs.Atomic.Ring.{store_at, blank_store, is_version_seen, is_touch_in, is_order_seen, orders_seen, touch_version, store_read, state_read, vector_stored, store_made, state_made}
+use Rattle.loom_views.specs.Atomic.Ring.{store_at, blank_store, is_version_seen, is_touch_in, is_order_seen, orders_seen, touch_version, store_read, vector_stored, store_made, state_made}
 use Rattle.loom_views.specs.Atomic.Shown.{ShowsStore, ShowsState, ShowsStart}
 use Rattle.loom_views.proofs.Atomic.Loops.{all_upto, list_any-agree, filter-agree}
 use Rattle.loom_views.proofs.Atomic.SlotNumbers.{in_slot-new, in_slot-old, in_slot-set_same, in_slot-set_other}
@@ -62,10 +62,10 @@ seen-is g points store a view h s z = list_any-agree (λ t. is_touch_seen g t (t
     at t l = touch-is g t a (touch_of points t) (slice_index_or store.first_seen.versions t None) view h l s (z.touched t l)
 
 -- what holds of each slot in use
-all_slots : (P : ℕ → Type 0) (n : ℕ) → ((i : ℕ) → i < 7 → i < n → P i) → AllByRecursion P (slots n)
+pub all_slots : (P : ℕ → Type 0) (n : ℕ) → ((i : ℕ) → i < 7 → i < n → P i) → AllByRecursion P (slots n)
 all_slots P n h = all_upto P (min n 7) (λ i l. h i (omega arith) (omega arith))
 
-filtered : (P : ℕ → Type 0) (p : ℕ → Bool) (xs : List ℕ) → AllByRecursion P xs → AllByRecursion P (filter p xs)
+pub filtered : (P : ℕ → Type 0) (p : ℕ → Bool) (xs : List ℕ) → AllByRecursion P xs → AllByRecursion P (filter p xs)
 filtered P p [] h = tt
 filtered P p (x ∷ xs) h = ⊎_elim (λ e. rw e (h.0, filtered P p xs h.1)) (λ e. rw e (filtered P p xs h.1)) (cases_Bool (p x))
 
@@ -109,7 +109,7 @@ length-touch_version : (vs : List (Option ℕ)) (t n : ℕ) → length (touch_ve
 length-touch_version vs t n = ⊎_elim (λ q. rw q refl) (λ q. rw q (length-set vs t (Some n))) (cases_Bool (is_some (get_or vs t None)))
 
 -- the vectors of a store that is read, in the graph after the read
-store_read-shown : (g : Graph) (t : ℕ) (p : ThreadPoints) (views : ThreadViews) (h : History) (state : State) (slot : ℕ) → IsChained g → t < 5 → slot < 7 → slot < length h.stores → ShowsThread g t p views → ShowsState g h state → ShowsStore (graph_after_read g h.stores p.present slot) (record (in_slot h.stores slot) { order = length g; touched = touch (in_slot h.stores slot).touched t p.present }) (store_read state t views slot)
+pub store_read-shown : (g : Graph) (t : ℕ) (p : ThreadPoints) (views : ThreadViews) (h : History) (state : State) (slot : ℕ) → IsChained g → t < 5 → slot < 7 → slot < length h.stores → ShowsThread g t p views → ShowsState g h state → ShowsStore (graph_after_read g h.stores p.present slot) (record (in_slot h.stores slot) { order = length g; touched = touch (in_slot h.stores slot).touched t p.present }) (store_read state t views slot)
 store_read-shown g t p views h state slot c l b d th z =
     let before : ShowsStore g (in_slot h.stores slot) (store_at state.stores slot) = z.stores slot b d in
     let new : Point = record { after = (in_slot h.stores slot).order ∷ seen_orders g h.stores p.present (Some slot); raises = None } in
@@ -127,8 +127,8 @@ store_read-shown g t p views h state slot c l b d th z =
     own : (g : Graph) (t k : ℕ) (vs : List ℕ) → t < 5 → Shows g k vs → get_or vs t 0 ≡ version g k t
     own g t k vs l s = ap (λ ws. get_or ws t 0) s.counted ∙ counts-at g k t l
 
--- reading a store
-pub read-shown : (g : Graph) (t : ℕ) (p : ThreadPoints) (views : ThreadViews) (h : History) (state : State) (slot : ℕ) → IsChained g → t < 5 → slot < 7 → slot < length h.stores → ShowsThread g t p views → ShowsState g h state → ShowsState (graph_after_read g h.stores p.present slot) (record h { stores = stores_after_read g t h.stores p.present slot }) (state_read state t views slot)
+-- reading a store, before the orders above it are raised
+pub read-shown : (g : Graph) (t : ℕ) (p : ThreadPoints) (views : ThreadViews) (h : History) (state : State) (slot : ℕ) → IsChained g → t < 5 → slot < 7 → slot < length h.stores → ShowsThread g t p views → ShowsState g h state → ShowsState (graph_after_read g h.stores p.present slot) (record h { stores = stores_after_read g t h.stores p.present slot }) (record state { stores = set state.stores slot (store_read state t views slot) })
 read-shown g t p views h state slot c l b d th z =
     let new : Point = record { after = (in_slot h.stores slot).order ∷ seen_orders g h.stores p.present (Some slot); raises = None } in
     let old : ShowsState (new ∷ g) h state = state-old new g h state z in

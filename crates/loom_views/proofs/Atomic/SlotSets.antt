@@ -21,11 +21,11 @@ last-same true n i h = let e : (n == i) ≡ true = grind (arith, nat_tests) in r
 last-same false n i h = refl
 
 -- what isn't below the bound isn't in the set, and what is below is there where it passes
-has-beyond : (p : ℕ → Bool) (n i : ℕ) → n ≤ i → has_slot (filter p (upto n)) i ≡ false
+pub has-beyond : (p : ℕ → Bool) (n i : ℕ) → n ≤ i → has_slot (filter p (upto n)) i ≡ false
 has-beyond p zero i l = refl
 has-beyond p (suc n) i l = has-suc p n i ∙ or_from (has_slot (filter p (upto n)) i) (has_slot (cond (p n) (n ∷ []) []) i) (has-beyond p n i (omega arith)) (last-other (p n) n i (omega arith))
 
-has-below : (p : ℕ → Bool) (n i : ℕ) → i < n → has_slot (filter p (upto n)) i ≡ p i
+pub has-below : (p : ℕ → Bool) (n i : ℕ) → i < n → has_slot (filter p (upto n)) i ≡ p i
 has-below p zero i l = absurd (omega arith)
 has-below p (suc n) i l = has-suc p n i ∙ ⊎_elim same (λ d. other d (has-below p n i (omega arith))) (cases_eq n i)
   where

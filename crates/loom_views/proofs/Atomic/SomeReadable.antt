@@ -4,12 +4,11 @@ use Rattle.std.specs.List.{list_any, filter, AllByRecursion}
 use Rattle.std.proofs.lemmas.Bool.{cases_Bool, and_parts, and_from, or_from, true≢false, false_from_ne_true, not-true, not_from_false}
 use Rattle.loom_views.specs.declared.rt.atomic.reader.Reader.{Reader}
 use Rattle.loom_views.specs.declared.rt.atomic.reader.Reader.TheVariants.{Load, Update}
-use Rattle.loom_views.specs.Graph.{Graph, counts, inside, IsChained}
-use Rattle.loom_views.specs.VersionOrder.{within-transitive}
+use Rattle.loom_views.specs.Graph.{Graph, inside}
 use Rattle.loom_views.specs.Atomic.Slots.{upto, slots}
 use Rattle.loom_views.specs.ThreadViews.{ThreadPoints}
 use Rattle.loom_views.specs.Atomic.History.{StorePoints, in_slot, is_below, drops, drops_in_slot, readable}
-use Rattle.loom_views.proofs.Views.Views.{within-counts}
+use Rattle.loom_views.proofs.Atomic.Orders.Points.{inside-from, inside-gives}
 use Rattle.loom_views.proofs.Views.Counting.{all-weaker}
 
 data Among : ℕ → List ℕ → Type 0 where
@@ -50,8 +49,8 @@ kept-passes p (x ∷ xs) m (later a) e = λ f. ⊎_elim (λ q. nonempty (sym (ap
     nonempty : x ∷ filter p xs ≡ [] → ⊥
     nonempty g = cc
 
-inside-transitive : (g : Graph) (i j k : ℕ) → IsChained g → inside g i j ≡ true → inside g j k ≡ true → inside g i k ≡ true
-inside-transitive g i j k c a b = sym (within-counts g i k c) ∙ within-transitive (counts g i) (counts g j) (counts g k) (within-counts g i j c ∙ a) (within-counts g j k c ∙ b)
+inside-transitive : (g : Graph) (i j k : ℕ) → inside g i j ≡ true → inside g j k ≡ true → inside g i k ≡ true
+inside-transitive g i j k a b = inside-from g i k (λ x r h. inside-gives g j k x b r (inside-gives g i j x a r h))
 
 below-irreflexive : (g : Graph) (i : StorePoints) → is_below g i i ≡ false
 unfolding is_below
@@ -61,13 +60,13 @@ below-irreflexive g i = strict (inside g i.order i.order)
     strict true = refl
     strict false = refl
 
-below-transitive : (g : Graph) (i j k : StorePoints) → IsChained g → is_below g i j ≡ true → is_below g j k ≡ true → is_below g i k ≡ true
+below-transitive : (g : Graph) (i j k : StorePoints) → is_below g i j ≡ true → is_below g j k ≡ true → is_below g i k ≡ true
 unfolding is_below
-below-transitive g i j k c a b =
+below-transitive g i j k a b =
     let p = and_parts (inside g i.order j.order) (not (inside g j.order i.order)) a in
     let q = and_parts (inside g j.order k.order) (not (inside g k.order j.order)) b in
-    and_from (inside g i.order k.order) (not (inside g k.order i.order)) (inside-transitive g i.order j.order k.order c p.0 q.0)
-    (not_from_false (inside g k.order i.order) (false_from_ne_true (inside g k.order i.order) (λ h. true≢false (sym (inside-transitive g k.order i.order j.order c h p.0) ∙ not-true (inside g k.order j.order) q.1))))
+    and_from (inside g i.order k.order) (not (inside g k.order i.order)) (inside-transitive g i.order j.order k.order p.0 q.0)
+    (not_from_false (inside g k.order i.order) (false_from_ne_true (inside g k.order i.order) (λ h. true≢false (sym (inside-transitive g k.order i.order j.order h p.0) ∙ not-true (inside g k.order j.order) q.1))))
 
 drops-below : (g : Graph) (t : ℕ) (p : ThreadPoints) (reader : Reader) (i j : StorePoints) → drops g t p reader i j ≡ true → is_below g i j ≡ true
 unfolding drops
@@ -85,12 +84,12 @@ slots-some n h = some (min n 7) (omega arith)
         pushed [] y = (y, [], refl)
         pushed (z ∷ zs) y = (z, zs ++ y ∷ [], refl)
 
-pub some-readable : (g : Graph) (t : ℕ) (p : ThreadPoints) (reader : Reader) (stores : List StorePoints) → IsChained g → 0 < length stores → readable g t p reader stores ≢ []
-some-readable g t p reader stores c h =
+pub some-readable : (g : Graph) (t : ℕ) (p : ThreadPoints) (reader : Reader) (stores : List StorePoints) → 0 < length stores → readable g t p reader stores ≢ []
+some-readable g t p reader stores h =
     let n = length stores in
     let s = slots-some n h in
     let above : ℕ → ℕ → Bool = λ i j. is_below g (in_slot stores i) (in_slot stores j) in
-    let m = top above (λ i. below-irreflexive g (in_slot stores i)) (λ i j k. below-transitive g (in_slot stores i) (in_slot stores j) (in_slot stores k) c) s.0 s.1 in
+    let m = top above (λ i. below-irreflexive g (in_slot stores i)) (λ i j k. below-transitive g (in_slot stores i) (in_slot stores j) (in_slot stores k)) s.0 s.1 in
     let undropped : AllByRecursion (λ j. drops_in_slot g t p reader stores m.0 j ≡ false) (s.0 ∷ s.1) = all-weaker (λ j. is_below g (in_slot stores m.0) (in_slot stores j) ≡ false) (λ j. drops_in_slot g t p reader stores m.0 j ≡ false) (s.0 ∷ s.1) (λ j f. false_from_ne_true (drops_in_slot g t p reader stores m.0 j) (λ e. true≢false (sym (drops-below g t p reader (in_slot stores m.0) (in_slot stores j) e) ∙ f))) m.2 in
     let passes : not (list_any (drops_in_slot g t p reader stores m.0) (slots n)) ≡ true = not_from_false (list_any (drops_in_slot g t p reader stores m.0) (slots n)) (ap (list_any (drops_in_slot g t p reader stores m.0)) s.2 ∙ none-passes (drops_in_slot g t p reader stores m.0) (s.0 ∷ s.1) undropped) in
     kept-passes (λ i. not (list_any (drops_in_slot g t p reader stores i) (slots n))) (slots n) m.0 (subst (λ xs. Among m.0 xs) (sym s.2) m.1) passes

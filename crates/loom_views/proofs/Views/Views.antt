@@ -204,7 +204,7 @@ shows-raised g a t vs h l s = record { made = omega arith; counted = ap (λ ws. 
 pub shows-inside : (g : Graph) (i k : ℕ) (vs ws : List ℕ) → IsChained g → Shows g i vs → Shows g k ws → within vs ws ≡ inside g i k
 shows-inside g i k vs ws h s z = rw (s.counted, z.counted) (within-counts g i k h)
 
-list_any-at : (p : ℕ → Bool) (xs : List ℕ) → list_any p xs ≡ true → (Q : ℕ → Type 0) → AllByRecursion Q xs → (x : ℕ) × (p x ≡ true) × Q x
+pub list_any-at : (p : ℕ → Bool) (xs : List ℕ) → list_any p xs ≡ true → (Q : ℕ → Type 0) → AllByRecursion Q xs → (x : ℕ) × (p x ≡ true) × Q x
 list_any-at p [] e Q h = absurd (true≢false (sym e))
 list_any-at p (x ∷ xs) e Q h = ⊎_elim (λ a. (x, a, h.0)) (λ a. list_any-at p xs a Q h.1) (or_cases (p x) (list_any p xs) e)
 

@@ -1,5 +1,5 @@
 -- The history of an atomic, by points of the graph.
-use Rattle.std.specs.Prelude.{ℕ, ◌-◌, Bool, true, false, not, ◌&&◌, ◌||◌, nat_le, if◌then◌else◌, List, [], ◌∷◌, ◌++◌, length, map, slice_index_or, slice_set, nat_lt, Option, Some, None, is_some, Result, Ok, Err}
+use Rattle.std.specs.Prelude.{ℕ, ◌-◌, Bool, true, false, not, ◌&&◌, ◌||◌, ◌==◌, nat_le, if◌then◌else◌, List, [], ◌∷◌, ◌++◌, length, map, slice_index_or, slice_set, nat_lt, Option, Some, None, is_some, Result, Ok, Err}
 use Rattle.loom_views.specs.declared.rt.failure.FailureKind.{FailureKind}
 use Rattle.loom_views.specs.declared.rt.failure.FailureKind.TheVariants.{Race, OpenAccess, TooManyStores}
 use Rattle.std.specs.List.{list_any, find, filter}
@@ -115,6 +115,34 @@ stores_after_read g t stores a slot =
     let read = in_slot stores slot in
     slice_set stores (number_in_slot (length stores) slot) (record read { order = length g; touched = touch read.touched t a })
 
+-- the graph and the stores of an atomic, while order points move
+pub record Ordered : Type 0 where
+  pub graph : Graph
+  pub stores : List StorePoints
+
+-- the order point of the store in a slot moves to a point after itself and after point k
+abbrev pub order_raised : ℕ → Ordered → ℕ → Ordered
+order_raised k o i =
+    let store = in_slot o.stores i in
+    record { graph = moved o.graph (store.order ∷ k ∷ []); stores = slice_set o.stores (number_in_slot (length o.stores) i) (record store { order = length o.graph }) }
+
+-- so in each of these slots
+abbrev pub orders_raised : ℕ → Ordered → List ℕ → Ordered
+orders_raised k o [] = o
+orders_raised k o (i ∷ is) = orders_raised k (order_raised k o i) is
+
+-- slot i isn't this one, and the view of its store's order point holds that of this slot's
+abbrev pub is_order_above : Graph → List StorePoints → ℕ → ℕ → Bool
+is_order_above g stores slot i = not (i == slot) && inside g (in_slot stores slot).order (in_slot stores i).order
+
+-- the other kept stores whose order contains that of the store in a slot
+abbrev pub slots_above : Graph → List StorePoints → ℕ → List ℕ
+slots_above g stores slot = filter (is_order_above g stores slot) (slots (length stores))
+
+-- once the store in a slot is read, the order of each other kept store that contained its order before contains what it is then
+abbrev pub after_read : Graph → ℕ → List StorePoints → ℕ → ℕ → Ordered
+after_read g t stores a slot = orders_raised (length g) (record { graph = graph_after_read g stores a slot; stores = stores_after_read g t stores a slot }) (slots_above g stores slot)
+
 -- a new store's order point comes after the author's present point and the orders of the kept stores that are seen.
 -- Its synchronization point starts anew or as a copy, and is then stored to
 abbrev pub graph_with_order : Graph → List StorePoints → ThreadPoints → Graph
@@ -156,9 +184,13 @@ conflicts s kinds passed =
 abbrev pub scene_raised : ℕ → Scene → Scene
 scene_raised t s = record s { graph = moved_raising s.graph (s.thread.present ∷ []) t; thread = record s.thread { present = length s.graph } }
 
+-- comes to this graph and these stores
+abbrev pub scene_ordered : Scene → Ordered → Scene
+scene_ordered s o = record s { graph = o.graph; history = record s.history { stores = o.stores } }
+
 -- reads the store in a slot
 abbrev pub scene_read : ℕ → Scene → ℕ → Scene
-scene_read t s slot = record s { graph = graph_after_read s.graph s.history.stores s.thread.present slot; history = record s.history { stores = stores_after_read s.graph t s.history.stores s.thread.present slot } }
+scene_read t s slot = scene_ordered s (after_read s.graph t s.history.stores s.thread.present slot)
 
 -- a load by an ordering from a point
 abbrev pub scene_loaded : Scene → ℕ → Ordering → Scene

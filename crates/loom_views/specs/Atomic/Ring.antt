@@ -1,5 +1,5 @@
 -- What is kept of an atomic, in vectors.
-use Rattle.std.specs.Prelude.{ℕ, ◌+◌, ◌%◌, Bool, true, false, not, ◌&&◌, ◌||◌, nat_le, if◌then◌else◌, List, [], ◌∷◌, map, slice_index, slice_index_or, slice_set, Option, Some, None, is_some, Result, Ok, Err, nat_lt}
+use Rattle.std.specs.Prelude.{ℕ, ◌+◌, ◌%◌, Bool, true, false, not, ◌&&◌, ◌||◌, ◌==◌, nat_le, if◌then◌else◌, List, [], ◌∷◌, map, slice_index, slice_index_or, slice_set, Option, Some, None, is_some, Result, Ok, Err, nat_lt}
 use Rattle.std.specs.List.{list_all}
 use Rattle.loom_views.specs.Atomic.Untouched.{untouched}
 use Rattle.loom_views.specs.declared.rt.failure.FailureKind.{FailureKind}
@@ -91,9 +91,28 @@ store_read state t views slot =
     let read = store_at state.stores slot in
     record read { order = join_all read.order (orders_seen state.stores state.count views.present (Some slot)); first_seen = record { versions = touch_version read.first_seen.versions t (slice_index views.present t) } }
 
+-- the store in a slot takes in an order
+abbrev pub order_joined : List ℕ → List Store → ℕ → List Store
+order_joined order stores i = let store = store_at stores i in slice_set stores i (record store { order = join store.order order })
+
+-- so in each of these slots
+abbrev pub orders_joined : List ℕ → List Store → List ℕ → List Store
+orders_joined order stores [] = stores
+orders_joined order stores (i ∷ is) = orders_joined order (order_joined order stores i) is
+
+-- slot i isn't this one, and the order of its store contains this order
+abbrev pub is_slot_above : List ℕ → List Store → ℕ → ℕ → Bool
+is_slot_above order stores slot i = not (i == slot) && within order (store_at stores i).order
+
+-- of n stores, each kept one whose order contained an order, but for the slot that is left out, takes in another order
+abbrev pub raised_above : List Store → ℕ → ℕ → List ℕ → List ℕ → List Store
+raised_above stores n slot before after = orders_joined after stores (filter (is_slot_above before stores slot) (slots n))
+
 -- the atomic once thread t has read the store in a slot
 abbrev pub state_read : State → ℕ → ThreadViews → ℕ → State
-state_read state t views slot = record state { stores = slice_set state.stores slot (store_read state t views slot) }
+state_read state t views slot =
+    let read = store_read state t views slot in
+    record state { stores = raised_above (slice_set state.stores slot read) state.count slot (store_at state.stores slot).order read.order }
 
 -- a new store
 abbrev pub vector_stored : List ℕ → ThreadViews → Ordering → List ℕ

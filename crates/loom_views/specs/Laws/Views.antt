@@ -40,7 +40,7 @@ StandingLaw = (p : Point) (g : Graph) (k : ℕ) (vs : List ℕ) → Shows g k vs
 
 -- where there is a store, a reader has a slot to choose
 abbrev pub ReadableLaw : Type 0
-ReadableLaw = (g : Graph) (t : ℕ) (p : ThreadPoints) (reader : Reader) (stores : List StorePoints) → IsChained g → 0 < length stores → readable g t p reader stores ≢ []
+ReadableLaw = (g : Graph) (t : ℕ) (p : ThreadPoints) (reader : Reader) (stores : List StorePoints) → 0 < length stores → readable g t p reader stores ≢ []
 
 -- of what is kept of a run, a choice of slots offers one at least, unless it fails
 abbrev pub OfferingLaw : Type 0

@@ -12,7 +12,7 @@ ghost use Rattle.loom_views.specs.Versions.{join, join_all};
 ghost use Rattle.loom_views.specs.Atomic.Untouched.{untouched};
 ghost use Rattle.loom_views.specs.declared.rt.failure.FailureKind.TheVariants.{OrdersEqual, TooManyStores};
 ghost use Rattle.loom_views.specs.Atomic.Slots.{slots, slot_set, has_equal_order_at};
-ghost use Rattle.loom_views.specs.Atomic.Ring.{is_touch_in, is_version_before, touch_version, store_at, is_passed, drops_slot, is_same_slot, readable_now, fails_now, is_order_seen, orders_seen, state_read, state_made, load_tracked, store_tracked, unsync_load_tracked, unsync_mut_tracked, load_now, store_now, update_read_now, update_write_now, newest_slot, unsync_load_now, mutate_now, mutate_end_now, state_blank};
+ghost use Rattle.loom_views.specs.Atomic.Ring.{is_touch_in, is_version_before, touch_version, store_at, is_passed, drops_slot, is_same_slot, readable_now, fails_now, is_order_seen, orders_seen, is_slot_above, raised_above, state_read, state_made, load_tracked, store_tracked, unsync_load_tracked, unsync_mut_tracked, load_now, store_now, update_read_now, update_write_now, newest_slot, unsync_load_now, mutate_now, mutate_end_now, state_blank};
 ghost use Rattle.loom_views.specs.Graph.{Graph, IsChained, IsPresent};
 ghost use Rattle.loom_views.specs.ThreadViews.{ThreadPoints, ShowsThread};
 ghost use Rattle.loom_views.specs.Atomic.Fences.{standing_in, scene_at, after_store, acquire_fence_step};
@@ -177,8 +177,8 @@ impl State {
     }
 
     /// The set of the slots that the reader may choose: those of the stores that no kept store keeps it from. Where two orders
-    /// are equal on the way it is `OrdersEqual`. By law `crate::laws::some_slot_is_readable` there is always a slot (loom's
-    /// `rt/atomic.rs`).
+    /// are equal on the way it is `OrdersEqual`, which by law `crate::laws::choices_never_meet_equal_orders` no run comes to. By
+    /// law `crate::laws::some_slot_is_readable` there is always a slot (loom's `rt/atomic.rs`).
     pub fn readable(
         &self,
         thread: usize,
@@ -224,20 +224,43 @@ impl State {
         joined
     }
 
-    /// Reads the store in a slot. Its order takes in those of the other kept stores that are seen, and the thread touches it.
+    /// Whether the order of the store in slot `i` contains an order, and the slot isn't left out.
+    fn is_above(&self, before: &VersionVec, left_out: usize, i: usize) -> bool
+        requires { i < 7 }
+        ensures { result ≡ is_slot_above before.now self.now.stores left_out i }
+    {
+        i != left_out && before.is_within(&self.stores[i].order)
+    }
+
+    /// Each kept store but the one in a slot takes in an order, where its own contains what that one's order was before.
+    fn raise_above(&mut self, slot: usize, before: &VersionVec, order: &VersionVec)
+        ensures { self.new ≡ record self.old { stores = raised_above self.old.stores self.old.count slot before.now order.now } }
+    {
+        for i in 0..self.kept() {
+            if self.is_above(before, slot, i) {
+                self.stores[i].order.join(order);
+            }
+        }
+    }
+
+    /// Reads the store in a slot. Its order takes in those of the other kept stores that are seen, and the thread touches it. Then
+    /// each other kept store whose order contained that order before takes it in as it is now.
     fn read(&mut self, thread: usize, views: &ThreadViews, slot: usize) -> u64
         requires thread_in { thread < 5 }
         requires slot_in { slot < 7 }
         ensures state { self.new ≡ state_read self.old thread views.now slot }
         ensures value { result ≡ (store_at self.old.stores slot).value }
+        ensures sync { (store_at self.new.stores slot).sync ≡ (store_at self.old.stores slot).sync }
     {
-        let own_order = self.stores[slot].order;
-        let order = self.with_orders_seen(own_order, &views.present, Some(slot));
+        let before = self.stores[slot].order;
+        let order = self.with_orders_seen(before, &views.present, Some(slot));
         let version = views.present.version(thread);
         let store = &mut self.stores[slot];
         store.order = order;
         store.first_seen.touch(thread, version);
-        store.value
+        let value = store.value;
+        self.raise_above(slot, &before, &order);
+        value
     }
 
     /// Makes a store, whose synchronization starts with the given one.

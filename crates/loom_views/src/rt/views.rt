@@ -321,8 +321,8 @@ impl Views {
     }
 
     /// The slots of an atomic that a reader may choose, once the thread has raised its version. `OrdersEqual` where two stores
-    /// have equal places in the modification order, `Misuse` where there is no such thread or atomic (loom's
-    /// `rt/atomic.rs`).
+    /// have equal places in the modification order, which no run comes to (law `crate::laws::choices_never_meet_equal_orders`),
+    /// `Misuse` where there is no such thread or atomic (loom's `rt/atomic.rs`).
     pub fn readable(
         &self,
         thread: usize,

@@ -3,6 +3,7 @@
 
 ghost use Rattle.std.specs.Prelude.{◌≡◌, ℕ, ◌+◌, ◌<◌, ◌≤◌, ◌↔◌, false, IsTrue, slice_index, MatchOption};
 ghost use Rattle.std.specs.Bool.{OnTrue, OnFalse};
+ghost use Rattle.loom_views.specs.Lanes.{IsLaidOut};
 ghost use Rattle.loom_views.specs.Limits.{highest_version};
 ghost use Rattle.loom_views.specs.Versions.{IsCounted, zeros, join, within, raised_at, versions_cmp, versions_eq, IsFirstAhead, IsLeastUpperBound};
 ghost use Rattle.loom_views.specs.VersionOrder.{versions_partial_equiv, versions_equiv, versions_order};
@@ -11,27 +12,34 @@ use crate::rt::MAX_THREADS;
 use std::cmp::Ordering;
 use std::marker::Model;
 
+pub mod lanes;
+
 /// The most raises of one thread that a vector counts: 65,534 (own; loom's count overflows).
 pub const MAX_VERSION: u16 = 65_534;
 
 /// How often each thread has raised its version, as far as a view reaches: a count for each thread, none of them above
-/// `MAX_VERSION` (loom's `rt/vv.rs`).
+/// `MAX_VERSION` (loom's `rt/vv.rs`). It is one word, with a lane of 16 bits for each thread (own).
 #[derive(Clone, Copy)]
 pub struct VersionVec {
-    versions: [u16; MAX_THREADS],
+    word: u128,
 }
 
 impl Model for VersionVec {
-    ghost use Rattle.std.specs.Prelude.{ℕ, List};
+    ghost use Rattle.std.specs.Prelude.{ℕ, List, ◌<◌, ◌^◌};
+    ghost use Rattle.std.proofs.Common.{ap};
+    ghost use Rattle.loom_views.specs.Lanes.{counts_in, word_of, word_of-counts_in};
     ghost use Rattle.loom_views.specs.Versions.{IsCounted};
+    ghost use Rattle.loom_views.specs.declared.rt.vv.VersionVec.TheInside.{Inside};
 
     ghost Value = { List ℕ };
 
-    ghost view = { λ v. v.versions };
+    ghost view = { λ v. counts_in v.word };
 
-    ghost invariant = { λ v. IsCounted v.versions };
+    ghost invariant = { λ v. IsCounted (counts_in v.word) × (v.word < 2 ^ 80) };
 
-    ghost inverse = { λ vs. record { versions = vs } };
+    ghost inverse = { λ vs. record { word = word_of vs } };
+
+    ghost inverse_ok = { λ a h. ap (λ (w : ℕ). record { word = w }) (word_of-counts_in a.word h.1) };
 }
 
 impl VersionVec {
@@ -39,9 +47,7 @@ impl VersionVec {
     pub fn new() -> VersionVec
         ensures { result ≡ zeros }
     {
-        VersionVec {
-            versions: [0; MAX_THREADS],
-        }
+        VersionVec { word: 0 }
     }
 
     /// The counts in the order of the threads, none above `MAX_VERSION` (loom's `rt/vv.rs`).
@@ -49,8 +55,21 @@ impl VersionVec {
         ensures value { result ≡ self.now }
         ensures counted { IsCounted result }
     {
-        let VersionVec { versions } = *self;
-        versions
+        let word = self.word;
+        [
+            lanes::get(word, 0),
+            lanes::get(word, 1),
+            lanes::get(word, 2),
+            lanes::get(word, 3),
+            lanes::get(word, 4),
+        ]
+    }
+
+    /// The word: thread t's count in the bits 16 t to 16 t + 15, and zero in the bits 80 to 127 (own).
+    pub fn word(&self) -> u128
+        ensures { IsLaidOut self.now result }
+    {
+        self.word
     }
 
     /// A thread's count, at most `MAX_VERSION` (loom's `rt/vv.rs`, where it is an index).
@@ -59,7 +78,7 @@ impl VersionVec {
         ensures value { result ≡ slice_index self.now thread }
         ensures counted { result ≤ highest_version }
     {
-        self.versions()[thread]
+        lanes::get(self.word, thread)
     }
 
     /// Raises a thread's version by one. At `MAX_VERSION` it answers false instead, and changes nothing (loom's `rt/vv.rs`;
@@ -71,8 +90,9 @@ impl VersionVec {
         ensures unchanged { OnFalse result (self.new ≡ self.old) }
         ensures counted { slice_index self.old thread ≤ highest_version }
     {
-        if self.versions[thread] < MAX_VERSION {
-            self.versions[thread] += 1;
+        let version = lanes::get(self.word, thread);
+        if version < MAX_VERSION {
+            self.word = lanes::set(self.word, thread, version + 1);
             true
         } else {
             false
@@ -84,9 +104,7 @@ impl VersionVec {
         ensures joined { self.new ≡ join self.old other.now }
         ensures bound { IsLeastUpperBound self.old other.now self.new }
     {
-        for i in 0..MAX_THREADS {
-            self.versions[i] = self.versions[i].max(other.versions[i]);
-        }
+        self.word = lanes::larger(self.word, other.word);
     }
 
     /// The lowest thread whose count is larger in the other vector, and none exactly if the other one is inside this one
@@ -94,12 +112,7 @@ impl VersionVec {
     pub fn ahead(&self, other: &VersionVec) -> Option<usize>
         ensures { MatchOption result (IsTrue (within other.now self.now)) (IsFirstAhead self.now other.now) }
     {
-        for i in 0..MAX_THREADS {
-            if self.versions[i] < other.versions[i] {
-                return Some(i);
-            }
-        }
-        None
+        lanes::first_larger(self.word, other.word)
     }
 
     /// Whether no count here is above the other vector's (own; loom writes `<=`).

@@ -3,6 +3,7 @@ ghost use Rattle.std.specs.Prelude.{◌≡◌, IfOk, length};
 
 use loom_engine::rt::path::node::{Node, Status};
 use loom_explain::explanation::Options;
+use loom_views::rt::{MAX_ATOMIC_HISTORY, MAX_THREADS};
 use std::alloc::{AllocError, Global};
 
 /// What could be chosen at each of these nodes.
@@ -25,7 +26,7 @@ fn options_of(alloc: Global, node: &Node) -> Result<Options, AllocError> {
 }
 
 /// The threads that could go on.
-fn able(alloc: Global, statuses: &[Status; 5]) -> Result<Vec<u8>, AllocError> {
+fn able(alloc: Global, statuses: &[Status; MAX_THREADS]) -> Result<Vec<u8>, AllocError> {
     let mut threads = Vec::new(alloc);
     for (thread, status) in statuses.iter().enumerate() {
         match status {
@@ -39,7 +40,7 @@ fn able(alloc: Global, statuses: &[Status; 5]) -> Result<Vec<u8>, AllocError> {
 }
 
 /// The slots that could be read.
-fn readable(alloc: Global, slots: &[bool; 7]) -> Result<Vec<u8>, AllocError> {
+fn readable(alloc: Global, slots: &[bool; MAX_ATOMIC_HISTORY]) -> Result<Vec<u8>, AllocError> {
     let mut readable = Vec::new(alloc);
     for (slot, is_readable) in slots.iter().enumerate() {
         if *is_readable {

@@ -1,4 +1,4 @@
-// Short forms for counted references: each makes an operation, and takes its reply apart.
+//! Short forms for counted references: each makes an operation, and takes its reply apart.
 ghost use Rattle.std.specs.Prelude.{◌≡◌, IfOk, IfErr, None};
 ghost use Rattle.loom.specs.Runner.Asking.{Tells, Stops, done_in, loaded_in, given_in, left_in};
 ghost use Rattle.loom_objects.specs.declared.operation.Request.TheVariants as op;

@@ -1,4 +1,4 @@
-// Short forms for atomics: each makes an operation, and takes its reply apart.
+//! Short forms for atomics: each makes an operation, and takes its reply apart.
 ghost use Rattle.std.specs.Prelude.{◌≡◌, IfOk, IfErr, None};
 ghost use Rattle.loom.specs.Runner.Asking.{Tells, Stops, done_in, exchanged_in, loaded_in, as_loaded};
 ghost use Rattle.loom_objects.specs.declared.operation.Request.TheVariants as op;

@@ -1,4 +1,4 @@
-// Short forms for cells: each makes an operation, or the two of an access, and takes the replies apart.
+//! Short forms for cells: each makes an operation, or the two of an access, and takes the replies apart.
 ghost use Rattle.std.specs.Prelude.{◌≡◌, IfOk, IfErr, None};
 ghost use Rattle.std.specs.Fn.{FnOnceReturnsAt, FnOnceReturnsAtMut};
 ghost use Rattle.loom.specs.Runner.Asking.{Tells, Stops, done_in, given_in};

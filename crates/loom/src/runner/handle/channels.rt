@@ -1,4 +1,4 @@
-// Short forms for channels: each makes an operation, and takes its reply apart.
+//! Short forms for channels: each makes an operation, and takes its reply apart.
 ghost use Rattle.std.specs.Prelude.{◌≡◌, IfOk, IfErr, None};
 ghost use Rattle.loom.specs.Runner.Asking.{Tells, Stops, done_in, channel_in, drained_in, received_in, sent_in, tried_receive_in};
 ghost use Rattle.loom_objects.specs.declared.operation.Request.TheVariants as op;

@@ -1,4 +1,4 @@
-// How a thread's told list grows: by an operation, with its reply if there is one.
+//! How a thread's told list grows: by an operation, with its reply if there is one.
 ghost use Rattle.std.specs.Prelude.{◌≡◌, ◌++◌, ◌∷◌, ◌<◌, [], IfOk, IfErr, IfSome, OnSome, None, Some, true, vec_len, vec_capacity};
 ghost use Rattle.loom_objects.specs.declared.operation.Reply.TheVariants as reply;
 ghost use Rattle.loom.specs.Runner.Histories.{entry};
@@ -9,7 +9,7 @@ use crate::runner::handle::calls::keep;
 use crate::runner::history::event::Entry;
 use crate::runner::shared::{Child, Children};
 use crate::runner::stop::Stop;
-use loom_objects::operation::{Reply, Request, ThreadOp, copy_request};
+use loom_objects::operation::{Name, Reply, Request, ThreadOp, copy_request};
 use loom_ops::thread::JoinHandle;
 use std::alloc::Global;
 
@@ -55,21 +55,22 @@ pub(crate) fn note<D: Exact>(
     answer
 }
 
-/// Adds a spawn, and the thread that it has started.
+/// Adds a spawn of a thread of this name, and the thread that it has started.
 pub(crate) fn note_spawn<D: Drop>(
     told: &mut Vec<Entry<D>>,
     children: &mut Children<D>,
+    name: Option<Name>,
     started: Result<(JoinHandle, Child<D>), Stop>,
 ) -> Result<JoinHandle, Stop>
     requires room { vec_len told.old < vec_capacity told.old }
     requires beside { vec_len children.old < vec_capacity children.old }
-    ensures answered { IfOk result (λ child. told.new.items ≡ told.old.items ++ entry spawning (Some (reply.Spawned child.thread child.name child.notifier)) ∷ []) }
-    ensures stopped { IfErr result (λ stop. told.new.items ≡ told.old.items ++ entry spawning None ∷ []) }
+    ensures answered { IfOk result (λ child. told.new.items ≡ told.old.items ++ entry (spawning name) (Some (reply.Spawned child.thread child.name child.notifier)) ∷ []) }
+    ensures stopped { IfErr result (λ stop. told.new.items ≡ told.old.items ++ entry (spawning name) None ∷ []) }
 {
     match started {
         Ok((handle, child)) => {
             told.push_reserved(Entry {
-                op: Request::Thread(ThreadOp::Spawn((), None)),
+                op: Request::Thread(ThreadOp::Spawn((), name)),
                 reply: Some(Reply::Spawned(handle.thread, handle.name, handle.notifier)),
             });
             children.push_reserved(child);
@@ -77,7 +78,7 @@ pub(crate) fn note_spawn<D: Drop>(
         }
         Err(stop) => {
             told.push_reserved(Entry {
-                op: Request::Thread(ThreadOp::Spawn((), None)),
+                op: Request::Thread(ThreadOp::Spawn((), name)),
                 reply: None,
             });
             Err(stop)

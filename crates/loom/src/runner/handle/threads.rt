@@ -1,4 +1,4 @@
-// Short forms for threads and the search: each makes an operation, and takes its reply apart.
+//! Short forms for threads and the search: each makes an operation, and takes its reply apart.
 ghost use Rattle.std.specs.Prelude.{◌≡◌, ◌++◌, ◌∷◌, [], IfOk, IfErr, OnOk, None, Ok, Err, Some, true, false};
 ghost use Rattle.std.specs.Fn.{CalledAtMut};
 ghost use Rattle.loom.specs.Runner.Asking.{Tells, Stops, Fails, done_in, joined_in};
@@ -148,8 +148,8 @@ impl<D: Exact + 'static, R: Threads + Wait + Clone + Send + 'static> Handle<D, R
         requires { F.IsAlwaysCallable closure }
         ensures live { OnOk result (all_answered self.old.told ≡ true) }
         ensures thread { self.new.thread ≡ self.old.thread }
-        ensures answered { IfOk result (λ child. self.new.told ≡ self.old.told ++ entry spawning (Some (reply.Spawned child.thread child.name child.notifier)) ∷ []) }
-        ensures stopped { IfErr result (λ stop. ByStop stop (self.new.told ≡ with_open self.old.told spawning) (self.new.starved ≡ true)) }
+        ensures answered { IfOk result (λ child. self.new.told ≡ self.old.told ++ entry (spawning self.old.name) (Some (reply.Spawned child.thread child.name child.notifier)) ∷ []) }
+        ensures stopped { IfErr result (λ stop. ByStop stop (self.new.told ≡ with_open self.old.told (spawning self.old.name)) (self.new.starved ≡ true)) }
     {
         self.spawn_job(Call(closure))
     }

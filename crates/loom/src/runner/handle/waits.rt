@@ -1,4 +1,4 @@
-// Short forms for condition variables and notifiers: each makes an operation, and takes its reply apart.
+//! Short forms for condition variables and notifiers: each makes an operation, and takes its reply apart.
 ghost use Rattle.std.specs.Prelude.{◌≡◌, IfOk, IfErr, None};
 ghost use Rattle.std.specs.Fn.{CalledAt};
 ghost use Rattle.loom.specs.Runner.Asking.{Tells, Stops, done_in, guard_in};

@@ -1,5 +1,6 @@
 //! An event of a run, and an entry of a thread's told list.
 use loom_objects::failure::Failure;
+use loom_objects::label::Label;
 use loom_objects::operation::{Reply, Request, Turn};
 
 /// An operation of the thread whose turn it is, up to the next turn (own).
@@ -9,6 +10,10 @@ pub struct Event<D> {
     pub by: u8,
     /// What it handed over.
     pub op: Request<D, ()>,
+    /// What its closure calls that, and where. It changes nothing that the operation does.
+    pub label: Option<Label>,
+    /// How many choices the run had made when it was handed over.
+    pub choices_before: usize,
     /// The next turn, or why the run fails by it.
     pub outcome: Result<Turn<D>, Failure>,
 }

@@ -15,12 +15,19 @@ pub trait Submit<D> {
     /// Whose turn it is.
     ghost turn: { Self → ℕ };
 
+    /// How many choices were made.
+    ghost passed: { Self → ℕ };
+
     /// What an operation does: the machine before it, what it answers, and the machine after it.
     ghost happens: { Self → Request D ⊤ → Result (Turn D) Stop → Self → Type 0 };
 
     /// Whose turn it is.
     fn active(&self) -> u8
         ensures { result ≡ turn self.now };
+
+    /// How many choices were made.
+    fn passed(&self) -> usize
+        ensures { result ≡ passed self.now };
 
     /// One operation, up to the next turn, or the run fails.
     fn submit(&mut self, op: Request<D, ()>) -> Result<Turn<D>, Stop>

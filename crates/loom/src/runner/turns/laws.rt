@@ -1,5 +1,5 @@
-//! Laws of runs one after another, of which only the histories are known. The definitions stand in `specs/Chains.antt`, what is
-//! known of such runs in `specs/Laws.antt`.
+//! Laws of runs one after another, of which only the histories are known. The definitions stand in `specs/Runner/Chains.antt`,
+//! what is known of such runs in `specs/Runner/Laws.antt`.
 ghost use Rattle.loom.specs.Runner.Laws.{AlternativesLaw, FailureLaw, OnceLaw};
 
 /// No list of choices comes twice.

@@ -1,4 +1,4 @@
-// A run's execution and its path: the machine to which its threads hand over their operations.
+//! A run's execution and its path: the machine to which its threads hand over their operations.
 ghost use Rattle.std.specs.Prelude.{◌≡◌, None};
 
 use crate::runner::exact::Exact;
@@ -25,16 +25,22 @@ impl<D> Model for Place<D> {
 }
 
 impl<D: Exact> Submit<D> for Place<D> {
-    ghost use Rattle.loom.specs.Runner.Histories.{Handed, active_at};
+    ghost use Rattle.loom.specs.Runner.Histories.{Handed, active_at, passed_at};
 
     ghost goes_on = { λ m. m.state.over ≡ None };
 
     ghost turn = { active_at };
 
+    ghost passed = { passed_at };
+
     ghost happens = { Handed };
 
     fn active(&self) -> u8 {
         self.execution.active()
+    }
+
+    fn passed(&self) -> usize {
+        self.path.position()
     }
 
     fn submit(&mut self, op: Request<D, ()>) -> Result<Turn<D>, Stop>

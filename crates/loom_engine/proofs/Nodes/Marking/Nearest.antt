@@ -22,6 +22,19 @@ got_node [] k n d h e = absurd (omega arith)
 got_node (x ∷ nodes) zero n d h e = ap Some e
 got_node (x ∷ nodes) (suc k) n d h e = got_node nodes k n d (omega arith) e
 
+-- the first so many nodes
+
+pub front_length : (nodes : List Node) (n : ℕ) → n ≤ length nodes → length (take n nodes) ≡ n
+front_length nodes zero h = refl
+front_length [] (suc n) h = absurd (omega arith)
+front_length (x ∷ nodes) (suc n) h = ap suc (front_length nodes n (omega arith))
+
+pub front_got : (nodes : List Node) (n i : ℕ) (x : Node) → i < n → x ≡ get_or nodes i x → get_or (take n nodes) i x ≡ x
+front_got nodes zero i x h e = absurd (omega arith)
+front_got [] (suc n) i x h e = refl
+front_got (y ∷ nodes) (suc n) zero x h e = sym e
+front_got (y ∷ nodes) (suc n) (suc i) x h e = front_got nodes n i x (omega arith) e
+
 pub passed_at : (nodes : List Node) (i : ℕ) (n d : Node) → i < length nodes → get_or nodes i d ≡ n → slice_get (passes_in nodes) i ≡ Some (pass_of (seen n))
 passed_at [] i n d h e = absurd (omega arith)
 passed_at (x ∷ nodes) zero n d h e = ap (λ (m : Node). Some (pass_of (seen m))) e

@@ -1,5 +1,6 @@
 -- The last node of a path goes on, or is dropped.
 use Rattle.std.proofs.Common.{◌≡◌, ◌≢◌, ◌≤◌, ℕ, zero, suc, List, [], ◌∷◌, length, take, get_or, slice_set, Option, Some, None, true, false, nat_eq, ◌-◌, refl, ap, sym, ◌∙◌, subst, arith}
+use Rattle.std.specs.Prelude.{slice_get, IsSomeAnd}
 use Rattle.std.proofs.lemmas.Bool.{eqb-true, eqb-false}
 use Rattle.loom_engine.specs.Walk.Path.{Stored, advance, step}
 use Rattle.loom_engine.specs.declared.rt.path.node.Node.{Node}
@@ -25,10 +26,10 @@ well_front (x ∷ nodes) (suc i) w = (w.0, well_front nodes i w.1)
 
 -- ---- how many there are
 
-pub fewer_front : (nodes : List Node) (i : ℕ) (n : Node) → length (take i (slice_set nodes i n)) ≤ length nodes
-fewer_front nodes zero n = omega arith
-fewer_front [] (suc i) n = omega arith
-fewer_front (x ∷ nodes) (suc i) n = omega (arith, fewer_front nodes i n)
+pub fewer_front : (nodes : List Node) (i : ℕ) → length (take i nodes) ≤ length nodes
+fewer_front nodes zero = omega arith
+fewer_front [] (suc i) = omega arith
+fewer_front (x ∷ nodes) (suc i) = omega (arith, fewer_front nodes i)
 
 -- ---- the step
 
@@ -56,14 +57,22 @@ step_moved (x ∷ y ∷ nodes) zero n next h e a = absurd (omega arith)
 step_moved (x ∷ nodes) (suc i) n next h e a = under_is (seen x) (stored nodes) ∙ ap (under (seen x)) (step_moved nodes i n next (omega arith) e a)
 
 -- the last node can't, and the rest goes on without it
-pub step_dropped : (nodes : List Node) (i : ℕ) (n next : Node) → suc i ≡ length nodes → n ≡ get_or nodes i n → advance (seen n) ≡ None
-    → step (stored nodes) ≡ step (stored (take i (slice_set nodes i next)))
+pub step_dropped : (nodes : List Node) (i : ℕ) (n : Node) → suc i ≡ length nodes → n ≡ get_or nodes i n → advance (seen n) ≡ None
+    → step (stored nodes) ≡ step (stored (take i nodes))
 unfolding step under
-step_dropped [] i n next h e a = absurd (omega arith)
-step_dropped (x ∷ []) zero n next h e a = lone (seen x) None (ap (λ (k : Node). advance (seen k)) (sym e) ∙ a)
-step_dropped (x ∷ y ∷ nodes) zero n next h e a = absurd (omega arith)
-step_dropped (x ∷ nodes) (suc i) n next h e a =
-    under_is (seen x) (stored nodes) ∙ ap (under (seen x)) (step_dropped nodes i n next (omega arith) e a) ∙ sym (under_is (seen x) (stored (take i (slice_set nodes i next))))
+step_dropped [] i n h e a = absurd (omega arith)
+step_dropped (x ∷ []) zero n h e a = lone (seen x) None (ap (λ (k : Node). advance (seen k)) (sym e) ∙ a)
+step_dropped (x ∷ y ∷ nodes) zero n h e a = absurd (omega arith)
+step_dropped (x ∷ nodes) (suc i) n h e a =
+    under_is (seen x) (stored nodes) ∙ ap (under (seen x)) (step_dropped nodes i n (omega arith) e a) ∙ sym (under_is (seen x) (stored (take i nodes)))
+
+pub step_done : (nodes : List Node) (i : ℕ) → suc i ≡ length nodes → IsSomeAnd (slice_get (stored nodes) i) (λ n. advance n ≡ None)
+    → step (stored nodes) ≡ step (stored (take i nodes))
+unfolding step under
+step_done [] i h a = absurd (omega arith)
+step_done (x ∷ []) zero h a = lone (seen x) None a
+step_done (x ∷ y ∷ nodes) zero h a = absurd (omega arith)
+step_done (x ∷ nodes) (suc i) h a = under_is (seen x) (stored nodes) ∙ ap (under (seen x)) (step_done nodes i (omega arith) a) ∙ sym (under_is (seen x) (stored (take i nodes)))
 
 pub step_empty : (nodes : List Node) → length nodes ≡ 0 → step (stored nodes) ≡ None
 unfolding step

@@ -14,6 +14,10 @@ use Rattle.loom_engine.specs.Path.Tallies.{last_switch, AreNoted}
 use Rattle.loom_engine.proofs.Nodes.Marking.Nearest.{got_node, is_no_thread}
 use Rattle.loom_engine.proofs.Path.Marking.Noted.{schedule_within, is_schedule, well_got, added_off, added_at_bound, switch_here}
 
+-- a schedule that was passed is one of the nodes
+pub passed_within : (p old : Route) → p ≡ old → (place : ℕ) → IsScheduleAt (passes_of (trail old)) place → place < length p.nodes
+passed_within p old view place asked = (schedule_within p.position place p.nodes (subst (λ r. IsScheduleAt (passes_of (trail r)) place) (sym view) asked)).1
+
 -- the path that is held, as its value, has a schedule at the place
 module _ (p old : Route) (view : p ≡ old) (place : ℕ) (asked : IsScheduleAt (passes_of (trail old)) place) (got : Node) (value : got ≡ get_or p.nodes place got) where
   asked_here : IsScheduleAt (passes_of (trail p)) place

@@ -5,6 +5,7 @@ use Rattle.std.specs.Option.{option_map}
 use Rattle.std.proofs.lemmas.List.{length-map}
 use Rattle.loom_views.specs.declared.rt.failure.FailureKind.TheVariants.{NotDeterministic, TooManyBranches}
 use Rattle.loom_objects.specs.declared.choice.Choice.{Choice}
+use Rattle.loom_objects.specs.declared.choice.Choice.TheVariants.{Load}
 use Rattle.loom_objects.specs.Tree.Question.{Question, made_of}
 use Rattle.loom_objects.specs.Tree.Stores.{asked_store}
 use Rattle.loom_engine.specs.Walk.Path.{Stored, choices}
@@ -12,9 +13,13 @@ use Rattle.loom_engine.specs.Walk.Choices.{pick}
 use Rattle.loom_engine.specs.Trees.Comparing.{same_made}
 use Rattle.loom_engine.specs.Trees.Meeting.{Settings, every_at}
 use Rattle.loom_engine.specs.Trees.Drive.{Trail, Answer, passes_of, branch, branch_at, lengthen, new_node}
+use Rattle.loom_engine.specs.Walk.Machine.{is_thread}
 use Rattle.loom_engine.specs.declared.rt.path.node.Node.{Node}
+use Rattle.loom_engine.specs.declared.rt.path.node.Node.TheVariants as node
 use Rattle.loom_engine.specs.Path.Nodes.{seen, IsWell, AreWell}
+use Rattle.loom_engine.specs.Path.Tallies.{IsValueAt}
 use Rattle.loom_engine.specs.Path.Route.{Route, stored, trail, choice_here, passed, Grows, Decides}
+use Rattle.loom_engine.proofs.Nodes.Marking.Nearest.{is_no_thread}
 use Rattle.loom_engine.proofs.Nodes.Notes.{node_within}
 use Rattle.loom_engine.proofs.Nodes.Nodes.Picks.{pick_yes, pick_no}
 
@@ -194,3 +199,25 @@ passes_one s path question = go (slice_get path.nodes path.position)
 -- the path has passed one node more
 pub says_position : {A : Type 0} (choice : A → Choice) (old : Route) (question : Question) (answer : A) (new : Route) → Decides choice old question (Ok answer) new → new.position ≡ old.position + 1
 says_position choice old question answer new h = subst (PassesOne (trail old)) h (passes_one old.search (trail old) question)
+
+-- ---- the choice of a node that is read as a choice
+
+-- one choice more
+pub chosen_next : (nodes : List Node) (i : ℕ) (x : Choice) → option_map (λ (n : Stored). n.present) (slice_get (stored nodes) i) ≡ Some x
+    → map (λ (n : Node). (seen n).present) (take i nodes) ++ x ∷ [] ≡ map (λ (n : Node). (seen n).present) (take (suc i) nodes)
+chosen_next [] i x h = absurd (cc h)
+chosen_next (n ∷ nodes) zero x h = (let e : (seen n).present ≡ x = cc h in ap (λ (c : Choice). c ∷ []) (sym e))
+chosen_next (n ∷ nodes) (suc i) x h = ap (λ (l : List Choice). (seen n).present ∷ l) (chosen_next nodes i x h)
+
+load_no_thread : (n : Node) (slot : ℕ) → (seen n).present ≡ Load slot → is_thread (seen n).made.default ≡ false
+load_no_thread n slot h = is_no_thread n (λ s e. let c : (seen (node.Schedule s)).present ≡ Load slot = ap (λ (m : Node). (seen m).present) (sym e) ∙ h in cc c)
+
+-- where the choice is a slot no schedule stands
+pub value_chosen : (nodes : List Node) (i slot : ℕ) → option_map (λ (n : Stored). n.present) (slice_get (stored nodes) i) ≡ Some (Load slot) → IsValueAt nodes i
+value_chosen [] i slot h = absurd (cc h)
+value_chosen (n ∷ nodes) zero slot h = (let e : (seen n).present ≡ Load slot = cc h in load_no_thread n slot e)
+value_chosen (n ∷ nodes) (suc i) slot h = value_chosen nodes i slot h
+
+-- the choice is that of the node there
+pub choice_got : (nodes : List Node) (i : ℕ) (x : Choice) (n : Node) → i < length nodes → n ≡ get_or nodes i n → x ≡ (seen n).present → option_map (λ (s : Stored). s.present) (slice_get (stored nodes) i) ≡ Some x
+choice_got nodes i x n h e c = ap (option_map (λ (s : Stored). s.present)) (stored_at nodes i n h e) ∙ ap Some (sym c)

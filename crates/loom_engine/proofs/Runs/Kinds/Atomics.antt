@@ -1,27 +1,28 @@
 -- What is done to atomics, and a fence, keeps locks sound. Which store is read is asked among seven slots at most.
-use Rattle.std.proofs.Common.{◌≡◌, ℕ, Bool, refl, None}
+use Rattle.std.proofs.Common.{◌≡◌, ◌≢◌, ℕ, Bool, List, refl, ap, inl, inr, None}
 use Rattle.std.specs.Prelude.{◌==◌, true, false, not, Result, Ok, Err}
 use Rattle.loom_views.specs.declared.rt.failure.FailureKind.{FailureKind}
-use Rattle.loom_views.specs.declared.rt.failure.FailureKind.TheVariants.{Misuse, RelaxedFence}
+use Rattle.loom_views.specs.declared.rt.failure.FailureKind.TheVariants.{Misuse, OrdersEqual, RelaxedFence}
 use Rattle.std.specs.declared.sync.atomic.Ordering.{Ordering}
 use Rattle.loom_views.specs.Changes.{fit, changed}
 use Rattle.loom_views.specs.Atomic.Slots.{slot_set}
 use Rattle.loom_views.specs.declared.rt.num.change.Change.{Change}
 use Rattle.loom_views.specs.declared.rt.atomic.reader.Reader.{Reader}
-use Rattle.loom_views.specs.Views.{Accessed, Points, points_after_load, points_after_store, points_after_update_read, points_after_update_write, points_after_unsync_load, points_after_with_mut, points_after_with_mut_end, readable_slots_of}
+use Rattle.loom_views.specs.Views.{Accessed, Points, points_after_load, points_after_raise, points_after_store, points_after_update_read, points_after_update_write, points_after_unsync_load, points_after_with_mut, points_after_with_mut_end, readable_slots_of}
 use Rattle.loom_objects.specs.declared.operation.AtomicOp.{AtomicOp}
 use Rattle.loom_objects.specs.declared.operation.AtomicOp.TheVariants as atomic_op
 use Rattle.loom_objects.specs.declared.operation.Exchange.{Exchange}
 use Rattle.loom_objects.specs.Rules.Atomic.{access_begins, atomic_begins, exchanges, exchanges_if, fence, is_relaxed, opens, reads, some_slot, store, swap_of, tells_exchanged, tells_read, updates, writes, accesses}
 use Rattle.loom_objects.specs.Rules.Moves.{an_atomic, is_number, with_points}
 use Rattle.loom_objects.specs.Operation.Accessed.{accessed}
-use Rattle.loom_objects.specs.Rules.Rule.{◌>>=◌}
+use Rattle.loom_objects.specs.Rules.Rule.{◌>>=◌, check}
 use Rattle.loom_objects.specs.World.{World}
-use Rattle.loom_engine.proofs.Runs.Fairness.{IsFairResult, readable_fair, load_fair, store_fair, update_read_fair, update_write_fair, unsync_load_fair, with_mut_fair, with_mut_end_fair}
+use Rattle.loom_engine.proofs.Runs.Fairness.{AnswersBy, IsFairResult, IsMet, IsOfChoice, IsOwn, failing_so, of_choice_met, own_met, raise_fair, readable_fair, then_by, load_fair, store_fair, update_read_fair, update_write_fair, unsync_load_fair, with_mut_fair, with_mut_end_fair}
 use Rattle.loom_engine.proofs.Runs.Raising.{raises_keeping}
 use Rattle.loom_objects.specs.declared.rt.thread.Task.TheVariants as task
 use Rattle.loom_engine.proofs.Runs.States.{pends_ready}
-use Rattle.loom_engine.proofs.Runs.Ruling.{Keeping, atomic_fair, chained, check_keeping, fair_keeping, found_keeping, misuse, new_keeping, set_keeping, then_keeping, Fairly, Resuming}
+use Rattle.loom_engine.proofs.Runs.Ruling.{Keeping, atomic_fair, chained, check_keeping, fair_keeping, fair_of, found_keeping, freely, misuse, new_keeping, set_keeping, then_keeping, Freely, Onward, Resuming}
+use Rattle.loom_engine.proofs.Runs.Events.{Anything}
 use Rattle.loom_engine.proofs.Runs.Replies.{IsLoading, opens_loads, replied_resuming, store_quiet}
 use Rattle.loom_engine.proofs.Runs.Answering.{Answers}
 use Rattle.loom_objects.specs.declared.rt.run.Resumed.{Resumed}
@@ -62,10 +63,36 @@ module _ {D : Type 0} where
       raises_keeping w _ (λ p. fair_keeping (an_atomic n (with_points p w)) _ w (atomic_fair n (with_points p w)) (λ atomic.
       fair_keeping (points_after_store p w.active n (fit atomic.numbers value) order) _ w (store_fair p w.active n (fit atomic.numbers value) order) (λ stored out k. k)))
 
-  pub opens_keeping : (n : ℕ) (reader : Reader) (access : AtomicOp) (w : World D) → Keeping w (opens n reader access w)
-  opens_keeping n reader access w =
-      raises_keeping w _ (λ p. fair_keeping (an_atomic n (with_points p w)) _ w (atomic_fair n (with_points p w)) (λ atomic.
-      fair_keeping (readable_slots_of p w.active n reader) _ w (readable_fair p w.active n reader) (λ readable. check_keeping (some_slot (slot_set readable)) Misuse _ w misuse (λ e out k. k))))
+  -- a choice of a store fails as that is said to
+  pub opens_by : (F : FailureKind → Type 0) → ((kind : FailureKind) → IsOwn kind → F kind) → (n : ℕ) (reader : Reader) (access : AtomicOp) (w : World D)
+      → ((p : Points) → points_after_raise w.points w.active ≡ Ok p → AnswersBy F Anything (readable_slots_of p w.active n reader)) → AnswersBy F (Onward w) (opens n reader access w)
+  opens_by F own n reader access w readable = by_raise (points_after_raise w.points w.active) (raise_fair w.points w.active) readable
+    where
+      test : (p : Points) (slots : List ℕ) → AnswersBy F (Onward {A = Resumed D} w) (check (some_slot (slot_set slots)) Misuse >>= (λ u. Ok (resumed.Load (record { access = access; readable = slot_set slots }), with_points p w)))
+      test p slots = failing_so IsOwn F (Onward {A = Resumed D} w) _ own (check_keeping (some_slot (slot_set slots)) Misuse _ w misuse (λ e out k. k))
+
+      by_raise : (r : Result Points FailureKind) → IsFairResult r → ((p : Points) → r ≡ Ok p → AnswersBy F Anything (readable_slots_of p w.active n reader))
+          → AnswersBy F (Onward {A = Resumed D} w) ((r >>= (λ p. Ok (with_points p w))) >>= (λ v. an_atomic n v >>= (λ atomic. readable_slots_of v.points v.active n reader >>= (λ slots.
+          check (some_slot (slot_set slots)) Misuse >>= (λ u. Ok (resumed.Load (record { access = access; readable = slot_set slots }), v))))))
+      by_raise (Ok p) fair h =
+          then_by F (λ atomic. Unit {0}) (Onward w) (an_atomic n (with_points p w)) _ (failing_so IsOwn F (λ atomic. Unit {0}) _ own (atomic_fair n (with_points p w))) (λ atomic q.
+          then_by F Anything (Onward w) (readable_slots_of p w.active n reader) _ (h p refl) (λ slots z. test p slots))
+      by_raise (Err kind) fair h = own kind fair
+
+  opens_freely : (n : ℕ) (reader : Reader) (access : AtomicOp) (w : World D) → Freely (Onward w) (opens n reader access w)
+  opens_freely n reader access w =
+      opens_by IsMet own_met n reader access w (λ p e. failing_so IsOfChoice IsMet Anything _ of_choice_met (readable_fair p w.active n reader))
+
+  -- where no orders are equal it fails by itself
+  pub opens_fair : (n : ℕ) (reader : Reader) (access : AtomicOp) (w : World D) → ((p : Points) → points_after_raise w.points w.active ≡ Ok p → readable_slots_of p w.active n reader ≢ Err OrdersEqual)
+      → IsFairResult (opens n reader access w)
+  opens_fair n reader access w unequal =
+      fair_of (Onward w) _ (opens_by IsOwn (λ kind own. own) n reader access w (λ p e. by_readable (readable_slots_of p w.active n reader) (readable_fair p w.active n reader) (unequal p e)))
+    where
+      by_readable : (r : Result (List ℕ) FailureKind) → AnswersBy IsOfChoice (λ slots. Unit {0}) r → r ≢ Err OrdersEqual → AnswersBy IsOwn Anything r
+      by_readable (Ok slots) h n = tt
+      by_readable (Err kind) (inl own) n = own
+      by_readable (Err kind) (inr e) n = absurd (n (ap Err e))
 
   writes_keeping : {A : Type 0} (n value : ℕ) (order : Ordering) (slot : ℕ) (w v : World D) (next : World D → Result (A × World D) FailureKind) → v.objects ≡ w.objects
       → ((p : Points) → Keeping w (next (with_points p v))) → Keeping w (writes n value order slot v >>= next)
@@ -105,22 +132,22 @@ module _ {D : Type 0} where
   reads_keeping (atomic_op.WithMut n) w slot = misuse
   reads_keeping (atomic_op.WithMutEnd n value) w slot = misuse
 
-  opens_resuming : (n : ℕ) (reader : Reader) (access : AtomicOp) (w : World D) → Fairly (Resuming None w) (opens n reader access w)
-  opens_resuming n reader access w = loading (opens n reader access w) (opens_keeping n reader access w) (opens_loads n reader access w)
+  opens_resuming : (n : ℕ) (reader : Reader) (access : AtomicOp) (w : World D) → Freely (Resuming None w) (opens n reader access w)
+  opens_resuming n reader access w = loading (opens n reader access w) (opens_freely n reader access w) (opens_loads n reader access w)
     where
-      loading : (r : Result (Resumed D × World D) FailureKind) → Keeping w r → Answers IsLoading r → Fairly (Resuming None w) r
+      loading : (r : Result (Resumed D × World D) FailureKind) → Freely (Onward w) r → Answers IsLoading r → Freely (Resuming None w) r
       loading (Ok (resumed.Load load, v)) kept loads = λ out other k. kept out k
       loading (Ok (resumed.Passed passed, v)) kept loads = absurd loads
       loading (Err kind) kept loads = kept
 
-  pub accesses_resuming : (access : AtomicOp) (w : World D) → Fairly (Resuming None w) (accesses access w)
-  accesses_resuming (atomic_op.Store n value order) w = replied_resuming (store n value order w) w (store_keeping n value order w) (store_quiet n value order w)
+  pub accesses_resuming : (access : AtomicOp) (w : World D) → Freely (Resuming None w) (accesses access w)
+  accesses_resuming (atomic_op.Store n value order) w = freely (Resuming None w) _ (replied_resuming (store n value order w) w (store_keeping n value order w) (store_quiet n value order w))
   accesses_resuming (atomic_op.Load n order) w = opens_resuming n (reader.Load order) (atomic_op.Load n order) w
   accesses_resuming (atomic_op.Update n change order) w = opens_resuming n reader.Update (atomic_op.Update n change order) w
   accesses_resuming (atomic_op.CompareExchange n exchange) w = opens_resuming n reader.Update (atomic_op.CompareExchange n exchange) w
   accesses_resuming (atomic_op.CompareAndSwap n expected new order) w = opens_resuming n reader.Update (atomic_op.CompareAndSwap n expected new order) w
-  accesses_resuming (atomic_op.New numbers value) w = misuse
-  accesses_resuming (atomic_op.UnsyncLoad n) w = misuse
-  accesses_resuming (atomic_op.IntoInner n) w = misuse
-  accesses_resuming (atomic_op.WithMut n) w = misuse
-  accesses_resuming (atomic_op.WithMutEnd n value) w = misuse
+  accesses_resuming (atomic_op.New numbers value) w = own_met Misuse misuse
+  accesses_resuming (atomic_op.UnsyncLoad n) w = own_met Misuse misuse
+  accesses_resuming (atomic_op.IntoInner n) w = own_met Misuse misuse
+  accesses_resuming (atomic_op.WithMut n) w = own_met Misuse misuse
+  accesses_resuming (atomic_op.WithMutEnd n value) w = own_met Misuse misuse

@@ -1,8 +1,8 @@
 -- What is done to cells keeps locks sound.
-use Rattle.std.proofs.Common.{◌≢◌, ℕ, Bool, Option, Some, None}
+use Rattle.std.proofs.Common.{ℕ, Bool, Option, Some, None}
 use Rattle.std.specs.Prelude.{◌==◌, ◌-◌, ◌^◌, true, false, nat_lt, is_none, Result, Ok, Err}
 use Rattle.loom_views.specs.declared.rt.failure.FailureKind.{FailureKind}
-use Rattle.loom_views.specs.declared.rt.failure.FailureKind.TheVariants.{Misuse, NotDeterministic, OpenAccess, TooManySteps}
+use Rattle.loom_views.specs.declared.rt.failure.FailureKind.TheVariants.{Misuse, OpenAccess, TooManySteps}
 use Rattle.loom_views.specs.Views.{Points, points_after_read, points_after_write}
 use Rattle.loom_objects.specs.declared.operation.CellOp.{CellOp}
 use Rattle.loom_objects.specs.declared.operation.CellOp.TheVariants as cell_op
@@ -13,12 +13,12 @@ use Rattle.loom_objects.specs.Lent.{value_in}
 use Rattle.loom_objects.specs.Rules.Moves.{a_cell, is_number, with_points}
 use Rattle.loom_objects.specs.Rules.Rule.{◌>>=◌, found}
 use Rattle.loom_objects.specs.World.{World}
-use Rattle.loom_engine.proofs.Runs.Fairness.{IsFairResult, either, cell_read_fair, cell_write_fair}
+use Rattle.loom_engine.proofs.Runs.Fairness.{IsFairResult, IsOwn, either, cell_read_fair, cell_write_fair}
 use Rattle.loom_engine.proofs.Runs.Raising.{raises_keeping}
 use Rattle.loom_engine.proofs.Runs.States.{set_ready}
 use Rattle.loom_engine.proofs.Runs.Ruling.{Keeping, cell_fair, check_keeping, fair_keeping, found_keeping, misuse, new_keeping, set_keeping, then_keeping}
 
-open_access : OpenAccess ≢ NotDeterministic
+open_access : IsOwn OpenAccess
 open_access e = cc
 
 module _ {D : Type 0} where

@@ -48,7 +48,7 @@ impl Path {
     fn exploring_from(&self, place: usize) -> Option<usize>
         ensures { IsNearest (passes_of (trail self.now)) place result }
     {
-        exploring_in(&self.nodes.list[..self.nodes.position], place)
+        exploring_in(&self.nodes.list, self.nodes.position, place)
     }
 
     /// The thread is added at the schedule of this place, unless its count is the bound. It answers where the run went over to
@@ -59,11 +59,12 @@ impl Path {
         ensures switch { result ≡ last_switch place (passes_of (trail self.old)) }
     {
         let bound = self.search.bound;
-        let Node::Schedule(schedule) = &mut self.nodes.list[place] else {
+        let Node::Schedule(mut schedule) = self.nodes.list.get(place) else {
             return None;
         };
-        add_off_bound(schedule, bound, thread);
+        add_off_bound(&mut schedule, bound, thread);
         are_five(&schedule.statuses);
+        self.nodes.list.set(place, &Node::Schedule(schedule));
         schedule.switch
     }
 }

@@ -4,3 +4,9 @@ pub mod read;
 pub mod text;
 pub mod value;
 pub mod write;
+
+/// The version of the format. Own.
+pub const VERSION: u64 = 2;
+
+/// The rule of orders under which paths are made: raising one store's order raises all above it. Own.
+pub const ORDER: &str = "all";

@@ -71,6 +71,16 @@ pub struct Spurious {
     pub answer: bool,
 }
 
+/// The places that a schedule notes: of its fields those that stand beside its word (own).
+#[derive(Clone, Copy)]
+pub struct Places {
+    /// The place of the last schedule before it that explores and chose another thread than the one before that one; or else of
+    /// the first of all, if that explores.
+    pub switch: Option<u32>,
+    /// The place of the nearest schedule before it that explores.
+    pub nearest: Option<u32>,
+}
+
 /// What a schedule that is made next notes of those that the run has passed.
 #[derive(Clone, Copy)]
 pub struct Tally {
@@ -97,6 +107,7 @@ pub enum Node {
 }
 
 /// Whether the two are the same thread, or both none.
+#[inline(always)]
 pub fn is_same_thread(one: Option<u8>, other: Option<u8>) -> bool
     ensures { IsTrue result ↔ (one ≡ other) }
 {
@@ -104,6 +115,7 @@ pub fn is_same_thread(one: Option<u8>, other: Option<u8>) -> bool
 }
 
 /// Whether the threads offer the same in both.
+#[inline(always)]
 fn are_same_abilities(one: &[Ability; MAX_THREADS], other: &[Ability; MAX_THREADS]) -> bool
     ensures { IsTrue result ↔ (one.now ≡ other.now) }
 {
@@ -117,6 +129,7 @@ fn are_same_abilities(one: &[Ability; MAX_THREADS], other: &[Ability; MAX_THREAD
 
 impl Status {
     /// What the thread offered when the node was made.
+    #[inline(always)]
     fn ability(self) -> Ability
         ensures { result ≡ ability_of self }
     {
@@ -128,6 +141,7 @@ impl Status {
     }
 
     /// Whether the thread is the choice.
+    #[inline(always)]
     pub fn is_active(self) -> bool
         ensures { result ≡ is_active self }
     {
@@ -135,7 +149,8 @@ impl Status {
     }
 
     /// Whether the thread is to be tried.
-    fn is_pending(self) -> bool
+    #[inline(always)]
+    pub fn is_pending(self) -> bool
         ensures { result ≡ is_pending self }
     {
         matches!(self, Status::Pending)
@@ -159,6 +174,7 @@ pub fn with_status(
 
 impl Schedule {
     /// The thread that is the choice.
+    #[inline(always)]
     pub fn active(&self) -> Option<u8>
         ensures present { Choice.Thread result ≡ (seen_schedule self.now).present }
         ensures within { IfSome result (λ thread. thread < 5) }
@@ -168,6 +184,7 @@ impl Schedule {
     }
 
     /// The place of the thread that is the choice.
+    #[inline(always)]
     fn active_place(&self) -> Option<usize>
         ensures lowest { result ≡ position_from is_active 0 self.now.statuses }
         ensures within { IfSome result (λ thread. thread < 5) }
@@ -176,6 +193,7 @@ impl Schedule {
     }
 
     /// The place of the lowest thread that is to be tried.
+    #[inline(always)]
     fn pending_place(&self) -> Option<usize>
         ensures lowest { result ≡ position_from is_pending 0 self.now.statuses }
         ensures within { IfSome result (λ thread. thread < 5) }
@@ -184,6 +202,7 @@ impl Schedule {
     }
 
     /// Whether it is the schedule that would be made now, whatever was tried there.
+    #[inline(always)]
     pub fn meets(&self, exploring: bool, offers: &Offers) -> bool
         ensures { (places : List (Option ℕ)) → IsTrue result ↔ ((seen_schedule self.now).made ≡ made_of (which_thread exploring offers.now places)) }
     {
@@ -193,6 +212,7 @@ impl Schedule {
     }
 
     /// Another thread is the choice, and the one that was is visited.
+    #[inline(always)]
     pub fn choose(&mut self, thread: usize)
         requires rests { IsWellSchedule self.old }
         requires left { IsSomeAnd (slice_get self.old.statuses thread) (λ status. is_left status ≡ true) }
@@ -205,6 +225,7 @@ impl Schedule {
     }
 
     /// Takes the lowest thread that is to be tried, if the run explores here and there is one.
+    #[inline(always)]
     fn advance(&mut self) -> bool
         requires { IsWellSchedule self.old }
         ensures advances { Advances (seen_schedule self.old) result (seen_schedule self.new) }
@@ -226,6 +247,7 @@ impl Schedule {
 
 impl Tally {
     /// No schedule was passed.
+    #[inline(always)]
     pub fn new() -> Tally
         ensures { Tallies 0 [] result }
     {
@@ -238,43 +260,49 @@ impl Tally {
     }
 
     /// Whether the run passes over the schedule's default, which the schedule before it chose, or where it is the first.
-    fn preempts(&self, schedule: &Schedule) -> bool
+    #[inline(always)]
+    fn preempts(&self, schedule: &Schedule, chosen: Option<u8>) -> bool
+        requires { Choice.Thread chosen ≡ (seen_schedule schedule.now).present }
         ensures { result ≡ preempts (option_map Choice.Thread self.now.last) (seen_schedule schedule.now).made.default (seen_schedule schedule.now).present }
     {
         let was_last = match self.last {
             Some(last) => is_same_thread(last, schedule.first),
             None => true,
         };
-        was_last && !is_same_thread(schedule.active(), schedule.first)
+        was_last && !is_same_thread(chosen, schedule.first)
     }
 
     /// Whether the schedule explores and chose another thread than the one before it, or is the first.
-    fn switches(&self, schedule: &Schedule) -> bool
+    #[inline(always)]
+    fn switches(&self, schedule: &Schedule, chosen: Option<u8>) -> bool
+        requires { Choice.Thread chosen ≡ (seen_schedule schedule.now).present }
         ensures { result ≡ ((seen_schedule schedule.now).made.exploring && goes_over (option_map Choice.Thread self.now.last) (seen_schedule schedule.now).present) }
     {
         let goes_over = match self.last {
-            Some(last) => !is_same_thread(schedule.active(), last),
+            Some(last) => !is_same_thread(chosen, last),
             None => true,
         };
         schedule.exploring && goes_over
     }
 
     /// The schedule at this place is passed.
+    #[inline(always)]
     pub fn pass(&mut self, schedule: &Schedule, place: u32)
         requires { self.old.preemptions + 1 < 2 ^ 32 }
         ensures { (passes : List (Made × Choice)) → length passes ≡ place → Tallies place passes self.old
             → Tallies (place + 1) (passes ++ pass_of (seen_schedule schedule.now) ∷ []) self.new }
     {
-        if self.preempts(schedule) {
+        let chosen = schedule.active();
+        if self.preempts(schedule, chosen) {
             self.preemptions += 1;
         }
-        if self.switches(schedule) {
+        if self.switches(schedule, chosen) {
             self.switch = Some(place);
         }
         if schedule.exploring {
             self.nearest = Some(place);
         }
-        self.last = Some(schedule.active());
+        self.last = Some(chosen);
     }
 }
 

@@ -131,7 +131,18 @@ fetch_add_atomic =
     Do 0 (op.Atomic (atomic.Update 0 (Add 1) Relaxed)) ∷ Do 0 (op.Thread (threads.Finish (Held 0))) ∷ exit ∷
     end ∷ []
 
--- Three threads whose stores and loads come to two stores with equal places in the modification order.
+-- Main and a thread each store, and each add 1 to what they read. Main loads between the two. It finishes with ten times what it
+-- added to and what the other thread added to.
+abbrev pub two_rmw : List Written
+two_rmw =
+    Do 0 (op.Atomic (atomic.New numbers.U64 0)) ∷ SpawnAt 1 (codes "child") ∷
+    Do 0 (op.Atomic (atomic.Store 0 10 Relaxed)) ∷ Do 0 (op.Atomic (atomic.Load 0 Relaxed)) ∷
+    Do 0 (op.Atomic (atomic.Update 0 (Add 1) Relaxed)) ∷ Do 1 (op.Thread (threads.Join 1 1)) ∷
+    Do 0 (op.Thread (threads.Finish (Both 0 1))) ∷ exit ∷ end ∷ Label (codes "child") ∷
+    Do 0 (op.Atomic (atomic.Store 0 1 Relaxed)) ∷ Do 0 (op.Atomic (atomic.Update 0 (Add 1) Relaxed)) ∷
+    Do 0 (op.Thread (threads.Finish (Held 0))) ∷ exit ∷ end ∷ []
+
+-- Three threads whose stores and loads come to two stores with equal places in loom's modification order.
 abbrev pub orders_equal : List Written
 orders_equal =
     Do 0 (op.Atomic (atomic.New numbers.U64 0)) ∷ SpawnAt 1 (codes "first") ∷

@@ -224,7 +224,27 @@ pub const FETCH_ADD_ATOMIC: &[Step] = &[
     END,
 ];
 
-/// Three threads whose stores and loads come to two stores with equal places in the modification order.
+/// Main and a thread each store, and each add 1 to what they read. Main loads between the two. It finishes with ten times what it
+/// added to and what the other thread added to.
+pub const TWO_RMW: &[Step] = &[
+    Step::Do(0, Request::Atomic(AtomicOp::New(Numbers::U64, 0))),
+    Step::SpawnAt(1, "child"),
+    Step::Do(0, Request::Atomic(AtomicOp::Store(0, 10, Relaxed))),
+    Step::Do(0, Request::Atomic(AtomicOp::Load(0, Relaxed))),
+    Step::Do(0, Request::Atomic(AtomicOp::Update(0, Add(1), Relaxed))),
+    Step::Do(1, Request::Thread(ThreadOp::Join(1, 1))),
+    Step::Do(0, Request::Thread(ThreadOp::Finish(Value::Both(0, 1)))),
+    EXIT,
+    END,
+    Step::Label("child"),
+    Step::Do(0, Request::Atomic(AtomicOp::Store(0, 1, Relaxed))),
+    Step::Do(0, Request::Atomic(AtomicOp::Update(0, Add(1), Relaxed))),
+    Step::Do(0, Request::Thread(ThreadOp::Finish(Value::Held(0)))),
+    EXIT,
+    END,
+];
+
+/// Three threads whose stores and loads come to two stores with equal places in loom's modification order.
 pub const ORDERS_EQUAL: &[Step] = &[
     Step::Do(0, Request::Atomic(AtomicOp::New(Numbers::U64, 0))),
     Step::SpawnAt(1, "first"),
@@ -359,8 +379,9 @@ pub fn fences() -> &'static [Row]
     &FENCES
 }
 
-static UPDATES: [Row; 4] = [
+static UPDATES: [Row; 5] = [
     row!("fetch_add_atomic", FETCH_ADD_ATOMIC),
+    row!("two_rmw", TWO_RMW),
     row!("orders_equal", ORDERS_EQUAL),
     row!("three_adds", THREE_ADDS),
     Row {

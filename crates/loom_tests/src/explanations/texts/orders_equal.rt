@@ -1,8 +1,8 @@
 //! What is told of the body `orders_equal`.
-pub const TEXT: &str = r#"failed: equal orders, at event 16
-  thread 2 is about to read atomic #0 ("hits"): two of its last seven stores have equal places
-  in the modification order, so which of them is later can't be said
-replay: t0 t1 t1 t1 t0 l2 t1 l2 t1 t2 t2 l3 t2
+pub const TEXT: &str = r#"failed: choices that don't fit, after event 11
+  the run met 7 of the choices that were given: choice 8 is none of those that stand there
+  the choices are another body's, or those of another form of this one
+replay: t0 t1 t1 t1 t0 l2 t1
 
       thread  operation                                                           choice
   1   t0      AtomicU64::new(0) = #0 "hits"
@@ -17,11 +17,4 @@ replay: t0 t1 t1 t1 t0 l2 t1 l2 t1 t2 t2 l3 t2
   9   t0      finish()
  10   t0      exit()
  11   t0      end()                                                               t1 of t1 t2
-      t1        event 8 reads store 2 (event 6): 0                                l2 of l2 l3
- 12   t1      finish()                                                            t1 of t1 t2
- 13   t1      exit()
- 14   t1      end()                                                               t2 of t2
- 15   t2      #0.load(Relaxed)                                                    t2 of t2
-      t2        reads store 3 (event 7): 0                                        l3 of l1 l2 l3 l4
- 16 ! t2      #0.compare_exchange(2, 2): equal orders                             t2 of t2
 "#;

@@ -165,5 +165,5 @@ fn check_calls(rt: &(impl Abort + AllocGlobal)) -> u64 {
 fn a_failing_file_ends_a_check(rt: HostRuntime) {
     let calls = check_calls(&rt);
     // The file is looked for. Three texts are written in pieces, and each takes three calls more.
-    holds(&rt, calls == 43, "each call of a check has failed");
+    holds(&rt, calls == 46, "each call of a check has failed");
 }

@@ -13,7 +13,7 @@ const FILE: &str = "loom_tests.json";
 // The words after the program's name, what it prints, what it writes on standard error, and its status.
 static CALLS: [Call; 9] = [
     (&["lock_beside_two", FILE], "stopped 2\n", "", 0),
-    (&["lock_beside_reduced", FILE], "", "error 10\n", 2),
+    (&["lock_beside_reduced", FILE], "", OTHER_SETTINGS, 2),
     (&["stop_exploring", FILE], "failed 20 0\n", "", 1),
     (&["stop_exploring_twice", FILE], "failed 19 0\n", "", 1),
     (&["lock_beside_two", FILE], "complete 1\n", "", 0),
@@ -21,17 +21,26 @@ static CALLS: [Call; 9] = [
     (
         &["lock_beside_two", FILE, FILE],
         "",
-        "usage: loom_rows NAME [FILE]\nerror: unexpected argument 'loom_tests.json' found\n",
+        "usage: loom_rows NAME [FILE]\nerror: unexpected argument 'loom_tests.json' found\n\nFor the options try '--help', and for the names '--list'.\n",
         2,
     ),
-    (&["lock_beside_two", "."], "", "error 13\n", 2),
+    (
+        &["lock_beside_two", "."],
+        "",
+        "error 13\n.: the checkpoint could not be read or saved: see that its file may be read and written, and that the disk has room\n",
+        2,
+    ),
     (
         &["lock_beside_two", "no_such_folder/file"],
         "",
-        "error 13\n",
+        "error 13\nno_such_folder/file: the checkpoint could not be read or saved: see that its file may be read and written, and that the disk has room\n",
         2,
     ),
 ];
+
+// The file, what is wrong with it, and that it is as it was.
+const OTHER_SETTINGS: &str =
+    "error 10\nloom_tests.json: the checkpoint was written with another `reduce`: go on with the same one, or delete it and begin anew. No run was made, and the file is as it was.\n";
 
 type Call = (&'static [&'static str], &'static str, &'static str, u8);
 

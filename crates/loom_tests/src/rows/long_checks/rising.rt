@@ -79,7 +79,7 @@ fn rises(
 // Before the failing run are the default run, three in which thread 2 goes on once thread 1 has ended, and one in which it does
 // when thread 1 has sent.
 const FAILS: &str =
-    "bound 1\nfailed after 5 runs: an assertion of the body failed: replay its choices to see how the run came there\nreplay: t0 l0 t1 t2\n";
+    "bound 1\nfailed in run 6: an assertion of the body failed: replay its choices to see how the run came there\nreplay: t0 l0 t1 t2\nto see what happened: `Builder::explain`, or `runner::explain` for closures, with these choices\n";
 
 // Up to which bound it is checked, and what that gives.
 static FAILING: [(usize, &str); 3] = [
@@ -132,11 +132,18 @@ fn put_replay_of(
     put_replay(rt.alloc(), &Builder::new(), &body, choices.as_slice(), page);
 }
 
-// The choices at the end of the report.
+// The choices in the report.
 fn choices_of(report: &str) -> &str {
     match report.split_once("replay: ") {
-        Some((_, choices)) => choices,
+        Some((_, choices)) => first_line(choices),
         None => "",
+    }
+}
+
+fn first_line(text: &str) -> &str {
+    match text.split_once("\n") {
+        Some((line, _)) => line,
+        None => text,
     }
 }
 

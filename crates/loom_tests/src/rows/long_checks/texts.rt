@@ -33,8 +33,8 @@ static TEXTS: [(&[u8], &str); 9] = [
     (b"[]", "error 8\n"),
     (b"{}", "error 8\n"),
     (b"{\"version\":\"1\"}", "error 8\n"),
-    (b"{\"version\":1}", "error 8\n"),
-    (b"{\"version\":2}", "error 9\n"),
+    (b"{\"version\":1}", "error 9\n"),
+    (b"{\"version\":2}", "error 8\n"),
     (b"{\"version\":7}", "error 9\n"),
 ];
 
@@ -52,14 +52,23 @@ fn whole_texts(rt: &(impl Abort + AllocGlobal)) {
 }
 
 // A part of the text of two nodes, what stands in its place, and what a check gives.
-static CHANGES: [(&str, &str, &str); 22] = [
+static CHANGES: [(&str, &str, &str); 26] = [
     (
         "{\"exploring\":true,\"nodes\"",
         "{\"exploring\":\"true\",\"nodes\"",
         "error 8\n",
     ),
-    ("\"reduce\"", "\"sixth\":0,\"reduce\"", "error 8\n"),
-    ("\"version\":1", "\"version\":2", "error 9\n"),
+    ("\"reduce\"", "\"seventh\":0,\"reduce\"", "error 8\n"),
+    ("\"order\":\"all\",", "", "error 8\n"),
+    ("\"all\"", "1", "error 8\n"),
+    ("\"all\"", "\"one\"", "error 10\n"),
+    ("\"version\":2", "\"version\":1", "error 9\n"),
+    // Such a check's text in version 1.
+    (
+        "\"order\":\"all\",\"preemption_bound\":null,\"reduce\":false,\"version\":2",
+        "\"preemption_bound\":null,\"reduce\":false,\"version\":1",
+        "error 9\n",
+    ),
     ("\"reduce\":false", "\"reduce\":true", "error 10\n"),
     ("null", "1", "error 10\n"),
     (
@@ -167,7 +176,8 @@ const ONE_PENDING: &str =
 const LOAD: &str = "{\"at\":0,\"exploring\":true,\"load\":[0,1]}";
 
 // What stands behind the nodes where the search is reduced.
-const REDUCED_END: &str = "],\"preemption_bound\":null,\"reduce\":true,\"version\":1}";
+const REDUCED_END: &str =
+    "],\"order\":\"all\",\"preemption_bound\":null,\"reduce\":true,\"version\":2}";
 
 // A script, how it is checked, the parts of the text with which that begins, and what it gives.
 struct Begun {

@@ -197,7 +197,7 @@ module _ (p : Points) (five : length p.threads ≤ 5) where
       tested a cell false = (more-none cell.reads, record { more = a ∷ []; is = refl })
 
   -- an access of an atomic, by what it does where there is one
-  access-if : (P : Accessed → Type 0) (t n : ℕ) (step : Scene → Result Answer FailureKind) → ((own : ThreadPoints) (history : History) → slice_get p.threads t ≡ Some own → slice_get p.places n ≡ Some (Keeps history) → IfOk (accessed p t n (step (scene_of p own history))) P) → IfOk (access p t n step) P
+  pub access-if : (P : Accessed → Type 0) (t n : ℕ) (step : Scene → Result Answer FailureKind) → ((own : ThreadPoints) (history : History) → slice_get p.threads t ≡ Some own → slice_get p.places n ≡ Some (Keeps history) → IfOk (accessed p t n (step (scene_of p own history))) P) → IfOk (access p t n step) P
   access-if P t n step h = go (slice_get p.threads t) (slice_get p.places n) refl refl
     where
       go : (o : Option ThreadPoints) (q : Option Place) → slice_get p.threads t ≡ o → slice_get p.places n ≡ q → IfOk (access_by p t n step o q) P

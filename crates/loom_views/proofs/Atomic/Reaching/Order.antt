@@ -31,7 +31,7 @@ adding_law p q five l =
       stored = λ n. ((h.places n).stored.more, (h.places n).stored.is);
     }
 
-all-at : (P : ℕ → Type 0) (xs : List ℕ) (k : ℕ) → AllByRecursion P xs → is_among k xs ≡ true → P k
+pub all-at : (P : ℕ → Type 0) (xs : List ℕ) (k : ℕ) → AllByRecursion P xs → is_among k xs ≡ true → P k
 all-at P [] k h e = absurd (false≢true e)
 all-at P (x ∷ xs) k h e = ⊎_elim (λ q. subst P (eqb-true x k q) h.0) (λ q. all-at P xs k h.1 q) (or_cases (x == k) (is_among k xs) e)
 

@@ -51,7 +51,7 @@ pub raising-extends : (g g' : Graph) (k : ℕ) → Extends g g' → is_raising g
 raising-extends g g' k h e = rw h.is (raising-appended h.added g k e)
 
 -- an element of a list that passes a test
-member-passes : (p : ℕ → Bool) (xs : List ℕ) → list_any p xs ≡ true → (x : ℕ) × (is_among x xs ≡ true) × (p x ≡ true)
+pub member-passes : (p : ℕ → Bool) (xs : List ℕ) → list_any p xs ≡ true → (x : ℕ) × (is_among x xs ≡ true) × (p x ≡ true)
 member-passes p [] h = absurd (false≢true h)
 member-passes p (x ∷ xs) h = ⊎_elim
     (λ e. (x, or_left (x == x) (is_among x xs) (eq-eqb x x refl), e))
@@ -71,7 +71,7 @@ staying_law earlier later k h e =
     let t = member-passes (λ t. is_among k (raised later t)) threads raises in
     record { raises = raises; reaching = λ a. raising-inside later k a t.0 t.1 t.2 }
 
-is-thread : (t : ℕ) → t < 5 → is_among t threads ≡ true
+pub is-thread : (t : ℕ) → t < 5 → is_among t threads ≡ true
 is-thread zero l = refl
 is-thread (suc zero) l = refl
 is-thread (suc (suc zero)) l = refl

@@ -16,13 +16,12 @@ use Rattle.loom_views.specs.declared.rt.views.Kept.TheVariants.{Atomic}
 use Rattle.loom_views.specs.declared.rt.views.Views.{Views}
 use Rattle.loom_views.specs.Graph.{Graph, IsChained, IsPresent}
 use Rattle.loom_views.specs.ThreadViews.{ThreadPoints, ShowsThread}
-use Rattle.loom_views.specs.Atomic.History.{History, Scene, Answer, in_slot, races, new_history, new_step, conflicts, load_step, store_step, readable, fails_by_orders, drops_in_slot, scene_read, scene_loaded, scene_made, scene_recorded_load, scene_recorded_store, StorePoints, touch}
+use Rattle.loom_views.specs.Atomic.History.{History, Scene, Answer, in_slot, races, new_history, new_step, conflicts, load_step, store_step, readable, fails_by_orders, drops_in_slot, scene_read, scene_loaded, scene_made, scene_recorded_load, scene_recorded_store, StorePoints}
 use Rattle.loom_views.specs.Atomic.Shown.{ShowsScene, AnswersAs, FinishesAs}
 use Rattle.loom_views.specs.Views.{Place, Meets, Keeps, Records, has_slot, readable_by, Points, ShowsViews, LoadsAs, StoresAs, OffersAs, IsSlotKept, scene_of, points_of, accessed, slot_set, points_with_atomic, points_after_load, points_after_store, readable_slots_of}
-use Rattle.loom_views.specs.Atomic.Slots.{number_in_slot}
 use Rattle.loom_views.proofs.Atomic.Choices.{readable-bounds}
 use Rattle.loom_views.proofs.Views.Growth.{GrownBy, shows-grown, grown-joined}
-use Rattle.loom_views.proofs.Atomic.Growth.{scene_read-grown, scene_loaded-grown, scene_made-grown}
+use Rattle.loom_views.proofs.Atomic.Growth.{read-length, scene_read-grown, scene_loaded-grown, scene_made-grown}
 use Rattle.loom_views.proofs.Atomic.Table.Carried.{Found, found, FoundAtomic, found_atomic, threads-set, places-set, places-grown, stamps-grown, place-added}
 
 -- what holds of the scene that an access leads to, if it leads to one
@@ -64,9 +63,7 @@ load-grows t s slot order =
     load-leads (Grows t s.graph) t s slot order (grown-joined (scene_read-grown t (scene_recorded_load s) slot) (scene_loaded-grown t (scene_read t (scene_recorded_load s) slot) k order))
 
 pub load-stores : (t : ℕ) (s : Scene) (slot : ℕ) (order : Ordering) → HasStore s → LeadsTo HasStore (load_step t s slot order)
-load-stores t s slot order h =
-    let read = in_slot s.history.stores slot in
-    load-leads HasStore t s slot order (subst (λ n. 0 < n) (sym (length-set s.history.stores (number_in_slot (length s.history.stores) slot) (record read { order = length s.graph; touched = touch read.touched t s.thread.present }))) h)
+load-stores t s slot order h = load-leads HasStore t s slot order (subst (λ n. 0 < n) (sym (read-length t (scene_recorded_load s) slot)) h)
 
 pub store-grows : (t : ℕ) (s : Scene) (value : ℕ) (order : Ordering) → LeadsTo (Grows t s.graph) (store_step t s value order)
 store-grows t s value order = store-leads (Grows t s.graph) t s value order (scene_made-grown t (scene_recorded_store s) value None order)

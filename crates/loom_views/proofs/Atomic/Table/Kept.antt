@@ -2,14 +2,13 @@
 use Rattle.std.proofs.Common.{zero, suc, ◌≡◌, ℕ, ◌<◌, Bool, true, false, List, [], ◌∷◌, length, set, refl, subst, sym, Option, Some, None, Ok, Err}
 use Rattle.std.specs.Prelude.{if◌then◌else◌}
 use Rattle.std.specs.List.{slice_get, list_any}
-use Rattle.std.proofs.lemmas.List.{length-set}
 use Rattle.std.proofs.lemmas.Option.{slice_get_within}
 use Rattle.loom_views.specs.declared.rt.failure.FailureKind.TheVariants.{Race, OpenAccess}
-use Rattle.loom_views.specs.Atomic.Slots.{number_in_slot}
 use Rattle.loom_views.specs.ThreadViews.{ThreadPoints}
-use Rattle.loom_views.specs.Atomic.History.{Scene, Answer, StorePoints, History, in_slot, touch, races, conflicts, scene_read, scene_recorded_load, update_read_step}
+use Rattle.loom_views.specs.Atomic.History.{Scene, Answer, History, races, conflicts, scene_read, scene_recorded_load, update_read_step}
 use Rattle.loom_views.specs.Views.{Place, Meets, Keeps, Records, Points, Accessed, IsSlotKept, has_slot, slot_set, scene_of, points_of, accessed, access_by}
 use Rattle.loom_views.specs.Laws.Kept.{KeepingLaw, SlotsStayLaw}
+use Rattle.loom_views.proofs.Atomic.Growth.{read-length}
 use Rattle.loom_views.proofs.Atomic.Table.Accesses.{readable-kept}
 use Rattle.loom_views.proofs.Atomic.Table.Lists.{get-set_same}
 
@@ -45,9 +44,7 @@ reading_keeps_slots_law p t n slot after = go (slice_get p.threads t) (slice_get
     go (Some own) (Some (Records cell)) a e b = absurd (cc)
     go (Some own) (Some (Keeps history)) a e b =
         let s = scene_of p own history in
-        let read = in_slot history.stores slot in
-        let written : StorePoints = record read { order = length p.graph; touched = touch read.touched t own.present } in
         let new : History = (scene_read t (scene_recorded_load s) slot).history in
         let there : slice_get (set p.places n (Keeps new)) n ≡ Some (Keeps new) = get-set_same p.places n (Keeps new) (slice_get_within p.places n (Keeps history) a) in
-        let kept : slot < length new.stores = subst (λ m. slot < m) (sym (length-set history.stores (number_in_slot (length history.stores) slot) written)) b.1 in
+        let kept : slot < length new.stores = subst (λ m. slot < m) (sym (read-length t (scene_recorded_load s) slot)) b.1 in
         passed-after (λ made. IsSlotKept (slice_get made.points.places n) slot) s (history.mutations ∷ []) _ p t n after e (rw there (b.0, kept))

@@ -11,12 +11,11 @@ use Rattle.loom_views.specs.declared.rt.synchronize.ThreadViews.{ThreadViews}
 use Rattle.loom_views.specs.declared.rt.views.Kept.{Kept}
 use Rattle.loom_views.specs.declared.rt.views.Kept.TheVariants.{Atomic}
 use Rattle.loom_views.specs.declared.rt.views.Views.{Views}
-use Rattle.loom_views.specs.Atomic.History.{Scene, Answer, in_slot, blank, touch, scene_read, scene_loaded, scene_made, scene_recorded_load, scene_recorded_store, update_read_step, update_write_step, update_fail_step, unsync_load_step, mutate_step, with_newest, mutate_end_step}
-use Rattle.loom_views.specs.Atomic.Slots.{number_in_slot}
+use Rattle.loom_views.specs.Atomic.History.{Scene, Answer, in_slot, blank, scene_read, scene_loaded, scene_made, scene_recorded_load, scene_recorded_store, update_read_step, update_write_step, update_fail_step, unsync_load_step, mutate_step, with_newest, mutate_end_step}
 use Rattle.loom_views.specs.Atomic.Shown.{ShowsScene, AnswersAs, FinishesAs}
 use Rattle.loom_views.specs.Views.{Keeps, Points, ShowsViews, LoadsAs, StoresAs, IsSlotKept, scene_of, access, points_after_update_read, points_after_update_write, points_after_update_fail, points_after_unsync_load, points_after_with_mut, points_after_with_mut_end}
 use Rattle.loom_views.proofs.Views.Growth.{same, grown-joined}
-use Rattle.loom_views.proofs.Atomic.Growth.{scene_read-grown, scene_loaded-grown, scene_made-grown}
+use Rattle.loom_views.proofs.Atomic.Growth.{read-length, scene_read-grown, scene_loaded-grown, scene_made-grown}
 use Rattle.loom_views.proofs.Atomic.Table.Lists.{set-same}
 use Rattle.loom_views.proofs.Atomic.Table.Carried.{found, found_atomic, thread-stepped}
 use Rattle.loom_views.proofs.Atomic.Table.Accesses.{LeadsTo, Grows, HasStore, conflicts-leads, some-pushed, scene-shown, answers-stepped, finishes-stepped}
@@ -28,9 +27,7 @@ pub record IsKeeping (t : ℕ) (step : Scene → Result Answer FailureKind) : Ty
 
 -- the store that is read is written where it stood
 read-stores : (t : ℕ) (s : Scene) (slot : ℕ) → HasStore s → HasStore (scene_read t s slot)
-read-stores t s slot h =
-    let read = in_slot s.history.stores slot in
-    subst (λ n. 0 < n) (sym (length-set s.history.stores (number_in_slot (length s.history.stores) slot) (record read { order = length s.graph; touched = touch read.touched t s.thread.present }))) h
+read-stores t s slot h = subst (λ n. 0 < n) (sym (read-length t s slot)) h
 
 room-leads : (P : Scene → Type 0) (a : Bool) (made : Result Answer FailureKind) → LeadsTo P made → LeadsTo P (if a then made else Err TooManyStores)
 room-leads P true made m = m

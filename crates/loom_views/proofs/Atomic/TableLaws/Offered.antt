@@ -38,7 +38,7 @@ some_slot_is_offered_law p v t n reader z = go (slice_get p.threads t) (slice_ge
     go (Some own) None a e = cc
     go (Some own) (Some (Meets k)) a e = cc
     go (Some own) (Some (Records cell)) a e = cc
-    go (Some own) (Some (Keeps history)) a e = chosen (fails_by_orders p.graph t own reader history.stores) (readable p.graph t own reader history.stores) (some-readable p.graph t own reader history.stores z.chained (atomic-stored p v n history z a)) e
+    go (Some own) (Some (Keeps history)) a e = chosen (fails_by_orders p.graph t own reader history.stores) (readable p.graph t own reader history.stores) (some-readable p.graph t own reader history.stores (atomic-stored p v n history z a)) e
 
 -- an access whose tests pass answers what it is to answer
 passed-value : (s : Scene) (kinds : List (List ℕ)) (passed : Answer) (p : Points) (t n : ℕ) (after : Accessed) → accessed p t n (conflicts s kinds (Ok passed)) ≡ Ok after → passed.value ≡ after.value

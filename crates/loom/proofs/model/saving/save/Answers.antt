@@ -15,7 +15,7 @@ returns-clause-saved g c =
         (
           path_data p.search p.explores p.nodes,
           rw c.in-Ok.is at c.to_text.ensures.reads_back,
-          record { value = refl; fits = c.nodes-nodes.ensures.fits; well_formed = c.well_formed_rests.ensures.1 (all_resting (stored p.nodes) c.requires.rests c.requires.defaults) },
+          record { value = refl; fits = c.words-words.ensures.fits; well_formed = c.well_formed_rests.ensures.1 (all_resting (stored p.nodes) c.requires.rests c.requires.defaults) },
         ),
       );
       compact = rw c.in-Ok.is at c.to_text.ensures.text;

@@ -3,9 +3,11 @@ use std::alloc::AllocError;
 use std::fmt;
 use thiserror::Error;
 
-/// A setting that a path's text has, by its name in a builder.
+/// A setting that a path's text has, by its name in a builder or, where none has it, in the text.
 #[derive(Clone, Copy, Debug, PartialEq, Eq)]
 pub enum Setting {
+    /// The rule of orders, which no builder sets.
+    Order,
     /// Whether the search is reduced.
     Reduce,
     /// The bound on preemptions.
@@ -17,6 +19,7 @@ pub enum Setting {
 impl fmt::Display for Setting {
     fn fmt<W: fmt::Write>(&self, f: &mut fmt::Formatter<W>) -> fmt::Result {
         match self {
+            Setting::Order => write!(f, "order"),
             Setting::Reduce => write!(f, "reduce"),
             Setting::PreemptionBound => write!(f, "preemption_bound"),
             Setting::Exploring => write!(f, "expect_explicit_explore"),
@@ -34,7 +37,7 @@ pub enum PathError {
     #[error("the checkpoint has the wrong shape")]
     WrongShape,
     /// The value is of another version, this one.
-    #[error("the checkpoint has version {0}, and not 1")]
+    #[error("the checkpoint has version {0}, and not 2")]
     WrongVersion(u64),
     /// The path is of a search with other settings. This is the first that differs.
     #[error("the checkpoint was made with another `{0}`")]

@@ -2,7 +2,7 @@
 ghost use Rattle.std.specs.Prelude.{◌≡◌, ◌==◌, ◌↔◌, IsTrue, count_by, Some, option_map, map, drop};
 ghost use Rattle.loom_engine.specs.Path.Nodes.{is_active};
 ghost use Rattle.loom_engine.specs.Path.WellFormed.{is_tried, is_marked, is_at, is_well_formed_schedule, is_well_formed_load, is_well_formed_spurious};
-ghost use Rattle.serde_json.specs.Find.{as_bool};
+ghost use Rattle.serde_json.specs.Find.{as_bool, as_str};
 ghost use Rattle.serde_json.specs.View.{view, members_view};
 ghost use Rattle.loom_engine.specs.Checkpoint.Accepted.{version_of};
 ghost use Rattle.loom_engine.specs.Checkpoint.Reader.{as_whole, as_list, as_whole_or_null, taken, expected, ends, status_named, status_of, statuses_of, marks_of, list_of, is_number, begins_with, schedule_of, load_of, spurious_of, node_of, shape_of};
@@ -103,6 +103,14 @@ fn take_list<'v>(members: &mut Iter<'v, String, Value>, key: &str) -> Option<&'v
         ≡ option_map (λ v. (map view v.now.items, members_view members.new)) result }
 {
     read_list(expect_member(members, key)?)
+}
+
+#[tactic(auto, unfolding(crate::specs::Checkpoint::Reader::taken))]
+fn take_text<'v>(members: &mut Iter<'v, String, Value>, key: &str) -> Option<&'v str>
+    ensures { taken as_str key.now (members_view members.old)
+        ≡ option_map (λ s. (s.now, members_view members.new)) result }
+{
+    expect_member(members, key)?.as_str()
 }
 
 fn status_named(text: &str) -> Option<Status>
@@ -329,6 +337,7 @@ pub(crate) fn read_node(value: &Value) -> Option<Node>
 pub(crate) struct Parts<'v> {
     pub(crate) exploring: bool,
     pub(crate) nodes: &'v Vec<Value>,
+    pub(crate) order: &'v str,
     pub(crate) preemption_bound: Option<u64>,
     pub(crate) reduce: bool,
     pub(crate) version: u64,
@@ -339,6 +348,7 @@ pub(crate) fn read_parts(value: &Value) -> Option<Parts<'_>>
     ensures { shape_of (view value.now) ≡ option_map (λ p. record {
       exploring = p.exploring;
       nodes = map view p.nodes.now.items;
+      order = p.order.now;
       preemption_bound = p.preemption_bound;
       reduce = p.reduce;
       version = p.version;
@@ -347,6 +357,7 @@ pub(crate) fn read_parts(value: &Value) -> Option<Parts<'_>>
     let mut members = value.as_object()?.iter();
     let exploring = take_flag(&mut members, "exploring")?;
     let nodes = take_list(&mut members, "nodes")?;
+    let order = take_text(&mut members, "order")?;
     let preemption_bound = take_bound(&mut members, "preemption_bound")?;
     let reduce = take_flag(&mut members, "reduce")?;
     let version = take_number(&mut members, "version")?;
@@ -356,6 +367,7 @@ pub(crate) fn read_parts(value: &Value) -> Option<Parts<'_>>
     Some(Parts {
         exploring,
         nodes,
+        order,
         preemption_bound,
         reduce,
         version,

@@ -5,12 +5,13 @@ ghost use Rattle.loom_engine.specs.declared.rt.path.node.Node.{Node};
 ghost use Rattle.loom_engine.specs.Path.Route.{at_rest, settings};
 ghost use Rattle.loom_engine.specs.Path.WellFormed.{AreWellFormed};
 ghost use Rattle.loom_engine.specs.Checkpoint.Accepted.{DiffersIn, IsPathOf, IsRefused, IsMemory, ValueLaw};
-ghost use Rattle.loom_engine.specs.Checkpoint.Grammar.{path_data};
+ghost use Rattle.loom_engine.specs.Checkpoint.Grammar.{order_rule, path_data};
 ghost use Rattle.loom_engine.specs.Checkpoint.Reader.{each, node_of};
 
 use crate::rt::path::checkpoint::error::{PathError, Setting};
 use crate::rt::path::checkpoint::read::{Parts, is_bound, read_node, read_parts, read_version};
 use crate::rt::path::checkpoint::write::{write_nodes, write_shape};
+use crate::rt::path::checkpoint::{ORDER, VERSION};
 use crate::rt::path::node::Node;
 use crate::rt::path::{Path, Search};
 use serde_json::Value;
@@ -24,7 +25,7 @@ impl Path {
         ensures fits { IfOk result (λ _. length self.now.nodes ≤ self.now.search.max_branches) }
     {
         let search = self.search();
-        let nodes = write_nodes(alloc, self.nodes())?;
+        let nodes = write_nodes(alloc, &self.nodes(alloc)?)?;
         write_shape(alloc, nodes, search)
     }
 
@@ -73,7 +74,7 @@ fn find_path(alloc: Global, value: &Value, search: Search) -> Result<Path, PathE
     match read_version(value) {
         None => return Err(PathError::WrongShape),
         Some(version) => {
-            if version != 1 {
+            if version != VERSION {
                 return Err(PathError::WrongVersion(version));
             }
         }
@@ -102,11 +103,15 @@ fn find_path(alloc: Global, value: &Value, search: Search) -> Result<Path, PathE
 
 /// The first setting of a path's text that this search has otherwise.
 fn other_setting(parts: Parts<'_>, search: Search) -> Option<Setting>
-    ensures some { IfSome result (λ setting. DiffersIn (settings search) search.explores parts.entry.exploring parts.entry.preemption_bound parts.entry.reduce setting) }
+    ensures some { IfSome result (λ setting. DiffersIn (settings search) search.explores parts.entry.exploring parts.entry.order.now parts.entry.preemption_bound parts.entry.reduce setting) }
     ensures none { result ≡ None → (parts.entry.exploring ≡ search.explores)
+        × (parts.entry.order.now ≡ order_rule)
         × (parts.entry.preemption_bound ≡ search.bound)
         × (parts.entry.reduce ≡ search.reduce) }
 {
+    if parts.order != ORDER {
+        return Some(Setting::Order);
+    }
     if parts.reduce != search.reduce {
         return Some(Setting::Reduce);
     }

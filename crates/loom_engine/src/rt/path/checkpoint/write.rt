@@ -1,11 +1,12 @@
 //! Writing a path and its parts.
 ghost use Rattle.std.specs.Prelude.{◌≡◌, IfOk, map, codes, length};
 ghost use Rattle.serde_json.specs.View.{view};
-ghost use Rattle.loom_engine.specs.Checkpoint.Shape.{shape_data};
+ghost use Rattle.loom_engine.specs.Checkpoint.Shape.{order_rule, shape_data};
 ghost use Rattle.loom_objects.specs.Tree.Stores.{slots};
 ghost use Rattle.loom_engine.specs.Checkpoint.Grammar.{status_text, status_data, whole, node_data, schedule_data, load_data, spurious_data, whole_or_null};
 
 use crate::rt::path::Search;
+use crate::rt::path::checkpoint::{ORDER, VERSION};
 use crate::rt::path::node::{Load, Node, Schedule, Spurious, Status};
 use loom_views::rt::{MAX_ATOMIC_HISTORY, MAX_THREADS};
 use serde_json::{Value, json};
@@ -14,14 +15,15 @@ use std::alloc::{AllocError, Global};
 /// The value of a path of such a search, whose nodes have these values.
 #[tactic(auto, unfolding(crate::specs::Checkpoint::Shape::shape_data))]
 pub fn write_shape(alloc: Global, nodes: Vec<Value>, search: Search) -> Result<Value, AllocError>
-    ensures { IfOk result (λ value. view value ≡ shape_data search.explores (map view nodes.items) search.bound search.reduce 1) }
+    ensures { IfOk result (λ value. view value ≡ shape_data search.explores (map view nodes.items) order_rule search.bound search.reduce 2) }
 {
     json!(in alloc; {
         "exploring": search.explores,
         "nodes": nodes,
+        "order": ORDER,
         "preemption_bound": search.bound,
         "reduce": search.reduce,
-        "version": 1u64,
+        "version": VERSION,
     })
 }
 

@@ -14,9 +14,9 @@ add-self-inside-requires-after_bounds g c = λ κs inner.
 
 pub invariant_of-self : goal.invariant_of-self
 invariant_of-self g c =
-    kept_after c.self.inside.limits c.self.inside.began c.self.inside.history c.add-self-inside.new.self c.args.op c.self.inside.place c.add-self-inside.new.machine c.self.inside.spoiled
+    kept_after c.self.inside.limits c.self.inside.began c.self.inside.history c.add-self-inside.new.self c.args.op c.args.label c.self.inside.place c.add-self-inside.new.machine c.self.inside.spoiled
     c.add-self-inside.result (none_is c.self.inside.spoiled (sym c.is_some.ensures ∙ c.if-is_some.false)) c.self.invariant
-    (goes_after c.self.inside.limits c.self.inside.began c.self.inside.history c.add-self-inside.new.self c.self.inside.spoiled c.add-self-inside.result c.self.inside.place c.add-self-inside.new.machine c.args.op
+    (goes_after c.self.inside.limits c.self.inside.began c.self.inside.history c.add-self-inside.new.self c.self.inside.spoiled c.add-self-inside.result c.self.inside.place c.add-self-inside.new.machine c.args.op c.args.label
     c.end.result c.is_some.result c.is_some-2.result c.self.invariant c.is_some.ensures c.if-is_some.false c.end.ensures c.is_some-2.ensures c.if-is_some-2.false c.add-self-inside.ensures.added)
 
 pub returns-clause-over : goal.returns-clause-over
@@ -30,8 +30,8 @@ returns-clause-spoiled g c =
 
 pub returns-clause-adds : goal.returns-clause-adds
 returns-clause-adds g c none live =
-    rw (← c.self.view_is) (adds_after _ _ c.args.op c.add-self-inside.result
-    (goes_after c.self.inside.limits c.self.inside.began c.self.inside.history c.add-self-inside.new.self c.self.inside.spoiled c.add-self-inside.result c.self.inside.place c.add-self-inside.new.machine c.args.op
+    rw (← c.self.view_is) (adds_after _ _ c.args.op c.args.label c.add-self-inside.result
+    (goes_after c.self.inside.limits c.self.inside.began c.self.inside.history c.add-self-inside.new.self c.self.inside.spoiled c.add-self-inside.result c.self.inside.place c.add-self-inside.new.machine c.args.op c.args.label
     c.end.result c.is_some.result c.is_some-2.result c.self.invariant c.is_some.ensures c.if-is_some.false c.end.ensures c.is_some-2.ensures c.if-is_some-2.false c.add-self-inside.ensures.added)
     c.add-self-inside.ensures.stopped)
 

@@ -14,7 +14,7 @@ use Rattle.loom_engine.proofs.Nodes.Notes.{node_last}
 use Rattle.loom_engine.proofs.rt.path.Path.branch_thread.Goals as goal
 
 pub stored_schedule-requires : goal.stored_schedule-requires
-stored_schedule-requires c = omega (arith, c.self.inside.nodes.list.ok.0)
+stored_schedule-requires c = omega arith
 
 pub pass-requires : goal.pass-requires
 pass-requires c =
@@ -25,7 +25,7 @@ pub pass-requires-in-Ok-push : goal.pass-requires-in-Ok-push
 pass-requires-in-Ok-push c =
     let p : Route = c.args.self.now in
     let n : Node = node.Schedule c.in-Some.schedule in
-    let held : length (the_view c.self.inside).nodes ≤ (the_view c.self.inside).position = omega (arith, c.self.inside.nodes.list.ok.0) in
+    let held : length (the_view c.self.inside).nodes ≤ (the_view c.self.inside).position = omega arith in
     let last : p.position ≡ length p.nodes = end_of (the_view c.self.inside) p c.self.view_is c.self.invariant.0 held in
     subst (λ (r : Route). slice_get r.nodes r.position ≡ Some n) (sym c.in-Ok-push.ensures.made) (node_last p.nodes p.position n last)
 
@@ -51,7 +51,7 @@ returns-in-Ok-clause-says c = λ places.
 pub returns-then-is_full-clause-says : goal.returns-then-is_full-clause-says
 returns-then-is_full-clause-says c = λ places.
     let p : Route = c.args.self.now in
-    let held : length (the_view c.self.inside).nodes ≤ (the_view c.self.inside).position = omega (arith, c.self.inside.nodes.list.ok.0) in
+    let held : length (the_view c.self.inside).nodes ≤ (the_view c.self.inside).position = omega arith in
     let past : length p.nodes ≤ p.position = past_end (the_view c.self.inside) p c.self.view_is held in
     rw c.failed.ensures (full p (which_thread (is_on p.exploring) c.args.offers.now places) past (c.if-is_full.ensures.0 refl), refl)
 
@@ -59,7 +59,7 @@ pub returns-in_default-clause-says : goal.returns-in_default-clause-says
 returns-in_default-clause-says c = λ places.
     let p : Route = c.args.self.now in
     let question : Question = which_thread (is_on p.exploring) c.args.offers.now places in
-    let held : length (the_view c.self.inside).nodes ≤ (the_view c.self.inside).position = omega (arith, c.self.inside.nodes.list.ok.0) in
+    let held : length (the_view c.self.inside).nodes ≤ (the_view c.self.inside).position = omega arith in
     let past : length p.nodes ≤ p.position = past_end (the_view c.self.inside) p c.self.view_is held in
     let room : p.position < p.search.max_branches = search rules in
     rw c.failed-in_default.ensures (refuses p question past room _ refl (c.in_default.ensures.made places), refl)
@@ -68,7 +68,7 @@ pub returns-in-Err-push-clause-says : goal.returns-in-Err-push-clause-says
 returns-in-Err-push-clause-says c = λ places.
     let p : Route = c.args.self.now in
     let question : Question = which_thread (is_on p.exploring) c.args.offers.now places in
-    let held : length (the_view c.self.inside).nodes ≤ (the_view c.self.inside).position = omega (arith, c.self.inside.nodes.list.ok.0) in
+    let held : length (the_view c.self.inside).nodes ≤ (the_view c.self.inside).position = omega arith in
     let past : length p.nodes ≤ p.position = past_end (the_view c.self.inside) p c.self.view_is held in
     let room : p.position < p.search.max_branches = search rules in
     (c.in-Err-push.ensures.same, grows p question past room _ refl (node.Schedule c.in-Some.schedule) (c.in-Some.ensures.made places))
@@ -77,7 +77,7 @@ pub returns-in-Ok-push-clause-says : goal.returns-in-Ok-push-clause-says
 returns-in-Ok-push-clause-says c = λ places.
     let p : Route = c.args.self.now in
     let question : Question = which_thread (is_on p.exploring) c.args.offers.now places in
-    let held : length (the_view c.self.inside).nodes ≤ (the_view c.self.inside).position = omega (arith, c.self.inside.nodes.list.ok.0) in
+    let held : length (the_view c.self.inside).nodes ≤ (the_view c.self.inside).position = omega arith in
     let past : length p.nodes ≤ p.position = past_end (the_view c.self.inside) p c.self.view_is held in
     let room : p.position < p.search.max_branches = search rules in
     makes p question past room _ refl (node.Schedule c.in-Some.schedule) (Thread c.active-in-Ok-push.result) c.pass-in-Ok-push.new.self

@@ -10,6 +10,6 @@ use Rattle.loom_engine.proofs.rt.path.Path.choices.Goals as goal
 pub returns-clause-list : goal.returns-clause-list
 returns-clause-list c =
     let p = c.self.inside in
-    let same : map (λ (n : Node). (seen n).present) (take p.nodes.position c.deref.result.now) ≡ chosen c.args.self.now =
-    ap (λ l. map (λ (n : Node). (seen n).present) (take p.nodes.position l)) c.deref.ensures.value ∙ sym (taken p.nodes.position p.nodes.list.items) ∙ ap chosen c.self.view_is in
+    let same : map (λ (n : Node). (seen n).present) (take p.nodes.position p.nodes.list) ≡ chosen c.args.self.now =
+    sym (taken p.nodes.position p.nodes.list) ∙ ap chosen c.self.view_is in
     subst (λ (l : List Choice). IfOk c.choices_at.result (λ list. list.items ≡ l)) same c.choices_at.ensures

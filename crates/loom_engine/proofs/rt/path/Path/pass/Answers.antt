@@ -10,14 +10,14 @@ use Rattle.loom_engine.proofs.rt.path.Path.pass.Goals as goal
 pub pass-requires : goal.pass-requires
 pass-requires c =
     let p = c.self.inside in
-    let here : slice_get p.nodes.list.items p.nodes.position ≡ Some (node.Schedule c.args.schedule.now) =
+    let here : slice_get p.nodes.list p.nodes.position ≡ Some (node.Schedule c.args.schedule.now) =
     subst (λ (r : Route). slice_get r.nodes r.position ≡ Some (node.Schedule c.args.schedule.now)) (sym c.self.view_is) c.requires in
-    omega (arith, tally_within p.nodes.list.items p.nodes.position p.tally c.self.invariant.0 c.self.invariant.4, node_within p.nodes.list.items p.nodes.position (node.Schedule c.args.schedule.now) here, c.self.invariant.1)
+    omega (arith, tally_within p.nodes.list p.nodes.position p.tally c.self.invariant.0 c.self.invariant.4, node_within p.nodes.list p.nodes.position (node.Schedule c.args.schedule.now) here, c.self.invariant.1)
 
 pub invariant_of-self : goal.invariant_of-self
 invariant_of-self c =
     let p = c.self.inside in
-    let nodes = p.nodes.list.items in
+    let nodes = p.nodes.list in
     let n = node.Schedule c.args.schedule.now in
     let here : slice_get nodes p.nodes.position ≡ Some n =
     subst (λ (r : Route). slice_get r.nodes r.position ≡ Some n) (sym c.self.view_is) c.requires in

@@ -7,7 +7,7 @@ use Rattle.loom_engine.proofs.rt.path.Path.pass_value.Goals as goal
 pub invariant_of-self : goal.invariant_of-self
 invariant_of-self c =
     let p = c.self.inside in
-    let nodes = p.nodes.list.items in
+    let nodes = p.nodes.list in
     let value : IsValueAt nodes p.nodes.position = subst (λ (r : Route). IsValueAt r.nodes r.position) (sym c.self.view_is) c.requires in
     let within : p.nodes.position < length nodes = value_within nodes p.nodes.position value in (
       omega arith,

@@ -18,7 +18,7 @@ use Rattle.loom_engine.proofs.rt.path.Path.push_load.Goals as goal
 pub meets-requires-clause-well : goal.meets-requires-clause-well
 meets-requires-clause-well c =
     let p : Route = the_view c.self.inside in
-    (well_at p.nodes p.position (node.Load c.in-Load.load) (omega (arith, c.self.inside.nodes.list.ok.0)) (rw c.in-Load.is at c.index.ensures) c.self.invariant.2).0
+    (well_at p.nodes p.position (node.Load c.in-Load.load) (omega arith) c.in-Load.ensures c.self.invariant.2).0
 
 pub returns-then-not-meets-clause-pushes : goal.returns-then-not-meets-clause-pushes
 returns-then-not-meets-clause-pushes c =
@@ -26,7 +26,7 @@ returns-then-not-meets-clause-pushes c =
     let n : Node = node.Load c.in-Load.load in
     let on : c.is_exploring-exploring.result ≡ is_on p.exploring = c.is_exploring-exploring.ensures ∙ ap (λ (r : Route). is_on r.exploring) (sym c.self.view_is) in
     rw (c.failed-then-not-meets.ensures, ← c.self.view_is) (
-      differs p (which_store (is_on p.exploring) c.args.readable.now) n (omega (arith, c.self.inside.nodes.list.ok.0)) (rw c.in-Load.is at c.index.ensures)
+      differs p (which_store (is_on p.exploring) c.args.readable.now) n (omega arith) c.in-Load.ensures
           (λ e. let met = c.if-not-meets.ensures.1 (e ∙ ap (λ b. made_of (which_store b c.args.readable.now)) (sym on)) in cc met),
       refl,
     )
@@ -35,12 +35,12 @@ pub returns-then-self-len-clause-pushes : goal.returns-then-self-len-clause-push
 returns-then-self-len-clause-pushes c =
     let p : Route = the_view c.self.inside in
     let n : Node = node.Load c.in-Load.load in
-    let inside : p.position < length p.nodes = omega (arith, c.self.inside.nodes.list.ok.0) in
+    let inside : p.position < length p.nodes = omega arith in
     let on : c.is_exploring-exploring.result ≡ is_on p.exploring = c.is_exploring-exploring.ensures ∙ ap (λ (r : Route). is_on r.exploring) (sym c.self.view_is) in
     rw (← c.self.view_is) (
       (seen n).present,
-      choice_stored p n inside (rw c.in-Load.is at c.index.ensures),
-      follows p (which_store (is_on p.exploring) c.args.readable.now) n (seen n).present inside (rw c.in-Load.is at c.index.ensures) (c.if-not-meets.ensures.0 refl ∙ ap (λ b. made_of (which_store b c.args.readable.now)) on) refl,
+      choice_stored p n inside c.in-Load.ensures,
+      follows p (which_store (is_on p.exploring) c.args.readable.now) n (seen n).present inside c.in-Load.ensures (c.if-not-meets.ensures.0 refl ∙ ap (λ b. made_of (which_store b c.args.readable.now)) on) refl,
     )
 
 pub returns-then-self-len-clause-readable : goal.returns-then-self-len-clause-readable
@@ -48,19 +48,19 @@ returns-then-self-len-clause-readable c =
     let p : Route = the_view c.self.inside in
     let load : Load = c.in-Load.load in
     let slot : ℕ = slice_index (slots load.readable) load.position in
-    let inside : p.position < length p.nodes = omega (arith, c.self.inside.nodes.list.ok.0) in
+    let inside : p.position < length p.nodes = omega arith in
     rw (← c.self.view_is) (
       slot,
-      choice_stored p (node.Load load) inside (rw c.in-Load.is at c.index.ensures),
+      choice_stored p (node.Load load) inside c.in-Load.ensures,
       load_readable load.exploring c.is_exploring-exploring.result load.readable c.args.readable.now load.position slot
-          (well_at p.nodes p.position (node.Load load) inside (rw c.in-Load.is at c.index.ensures) c.self.invariant.2).0
+          (well_at p.nodes p.position (node.Load load) inside c.in-Load.ensures c.self.invariant.2).0
           (some_slot c.args.readable.now c.requires.some) refl (c.if-not-meets.ensures.0 refl),
     )
 
 pub returns-then-is_full-clause-pushes : goal.returns-then-is_full-clause-pushes
 returns-then-is_full-clause-pushes c =
     let p : Route = c.args.self.now in
-    let held : length (the_view c.self.inside).nodes ≤ (the_view c.self.inside).position = omega (arith, c.self.inside.nodes.list.ok.0) in
+    let held : length (the_view c.self.inside).nodes ≤ (the_view c.self.inside).position = omega arith in
     let past : length p.nodes ≤ p.position = past_end (the_view c.self.inside) p c.self.view_is held in
     rw c.failed-then-is_full.ensures (full p (which_store (is_on p.exploring) c.args.readable.now) past (c.if-is_full.ensures.0 refl), refl)
 
@@ -68,7 +68,7 @@ pub returns-in_default-new_load-clause-pushes : goal.returns-in_default-new_load
 returns-in_default-new_load-clause-pushes c =
     let p : Route = c.args.self.now in
     let question : Question = which_store (is_on p.exploring) c.args.readable.now in
-    let held : length (the_view c.self.inside).nodes ≤ (the_view c.self.inside).position = omega (arith, c.self.inside.nodes.list.ok.0) in
+    let held : length (the_view c.self.inside).nodes ≤ (the_view c.self.inside).position = omega arith in
     let past : length p.nodes ≤ p.position = past_end (the_view c.self.inside) p c.self.view_is held in
     let room : p.position < p.search.max_branches = search rules in
     rw c.failed-in_default-new_load.ensures
@@ -79,7 +79,7 @@ returns-in-Ok-clause-pushes c =
     let p : Route = c.args.self.now in
     let question : Question = which_store (is_on p.exploring) c.args.readable.now in
     let n : Node = node.Load c.in-Some.load in
-    let held : length (the_view c.self.inside).nodes ≤ (the_view c.self.inside).position = omega (arith, c.self.inside.nodes.list.ok.0) in
+    let held : length (the_view c.self.inside).nodes ≤ (the_view c.self.inside).position = omega arith in
     let past : length p.nodes ≤ p.position = past_end (the_view c.self.inside) p c.self.view_is held in
     let room : p.position < p.search.max_branches = search rules in (
       (seen n).present,
@@ -93,7 +93,7 @@ returns-in-Ok-clause-readable c =
     let p : Route = c.args.self.now in
     let load : Load = c.in-Some.load in
     let slot : ℕ = slice_index (slots load.readable) load.position in
-    let held : length (the_view c.self.inside).nodes ≤ (the_view c.self.inside).position = omega (arith, c.self.inside.nodes.list.ok.0) in (
+    let held : length (the_view c.self.inside).nodes ≤ (the_view c.self.inside).position = omega arith in (
       slot,
       choice_made p c.push.new.self (node.Load load) (end_of (the_view c.self.inside) p c.self.view_is c.self.invariant.0 held) c.in-Ok.ensures.made,
       load_readable load.exploring c.is_exploring-exploring.result load.readable c.args.readable.now load.position slot c.in-Some.ensures.well (some_slot c.args.readable.now c.requires.some) refl
@@ -113,7 +113,7 @@ pub returns-in-Err-clause-pushes : goal.returns-in-Err-clause-pushes
 returns-in-Err-clause-pushes c =
     let p : Route = c.args.self.now in
     let question : Question = which_store (is_on p.exploring) c.args.readable.now in
-    let held : length (the_view c.self.inside).nodes ≤ (the_view c.self.inside).position = omega (arith, c.self.inside.nodes.list.ok.0) in
+    let held : length (the_view c.self.inside).nodes ≤ (the_view c.self.inside).position = omega arith in
     let past : length p.nodes ≤ p.position = past_end (the_view c.self.inside) p c.self.view_is held in
     let room : p.position < p.search.max_branches = search rules in (
       c.in-Err.ensures.same,

@@ -6,4 +6,4 @@ use Rattle.loom_engine.proofs.Path.WellFormed.{formed_at_rest}
 use Rattle.loom_engine.proofs.rt.path.Path.well_formed_rests.Goals as goal
 
 pub returns : goal.returns
-returns c = subst (λ (r : Route). AreWellFormed r.nodes ↔ AreAtRest (stored r.nodes)) c.self.view_is (formed_at_rest c.self.inside.nodes.list.items c.self.invariant.2)
+returns c = subst (λ (r : Route). AreWellFormed r.nodes ↔ AreAtRest (stored r.nodes)) c.self.view_is (formed_at_rest c.self.inside.nodes.list c.self.invariant.2)

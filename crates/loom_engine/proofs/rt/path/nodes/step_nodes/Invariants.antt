@@ -8,11 +8,11 @@ use Rattle.loom_engine.proofs.rt.path.nodes.step_nodes.Given as goal
 -- the nodes that are left are the first ones, and what they lead to is what all lead to
 abbrev pub invariant-loop-nodes : goal.invariant-loop-nodes
 invariant-loop-nodes l = record {
-  well : AreWell l.nodes.items;
-  noted : AreNoted l.nodes.items;
-  fewer : length l.nodes.items ≤ length l.fn.nodes.items;
-  same : step (stored l.fn.nodes.items) ≡ step (stored l.nodes.items);
+  well : AreWell l.nodes;
+  noted : AreNoted l.nodes;
+  fewer : length l.nodes ≤ length l.fn.nodes;
+  same : step (stored l.fn.nodes) ≡ step (stored l.nodes);
 }
 
 abbrev pub decreases-loop-nodes : goal.decreases-loop-nodes
-decreases-loop-nodes l = length l.nodes.items
+decreases-loop-nodes l = length l.nodes

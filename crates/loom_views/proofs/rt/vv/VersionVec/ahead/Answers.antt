@@ -1,6 +1,5 @@
-use Rattle.std.proofs.Common.{arith}
-use Rattle.loom_views.proofs.Views.VersionLists.{within-from_places}
+use Rattle.loom_views.proofs.Views.Lanes.{ahead-is}
 use Rattle.loom_views.proofs.rt.vv.VersionVec.ahead.Goals as goal
 
 pub returns : goal.returns
-returns c = rw (← c.self.view_is, ← c.other.view_is) (within-from_places c.other.inside.versions c.self.inside.versions (omega arith) (λ k h. c.loop-i.invariant k (omega arith)))
+returns c = rw (← c.self.view_is, ← c.other.view_is) (ahead-is c.first_larger.result c.self.inside.word c.other.inside.word c.other.invariant.1 c.first_larger.ensures)

@@ -1,16 +1,13 @@
-use Rattle.std.proofs.Common.{◌≡◌, arith}
-use Rattle.loom_views.specs.Versions.{join}
-use Rattle.loom_views.proofs.Views.Counted.{counted-joined}
-use Rattle.loom_views.proofs.Views.VersionLists.{join-from_places, join-bound}
+use Rattle.std.proofs.Common.{arith, refl}
+use Rattle.loom_views.proofs.Views.Lanes.{counts_joined, joined_kept}
+use Rattle.loom_views.proofs.Views.VersionLists.{join-bound}
 use Rattle.loom_views.proofs.rt.vv.VersionVec.join.Goals as goal
 
 pub returns-clause-joined : goal.returns-clause-joined
-returns-clause-joined c = rw (← c.self.view_is, ← c.other.view_is) (join-from_places c.loop-i.self-inside.versions c.self.inside.versions c.other.inside.versions (omega arith) (omega arith) (λ k h. c.loop-i.invariant.joined k (omega arith)))
+returns-clause-joined c = rw (← c.self.view_is, ← c.other.view_is) (counts_joined c.self.inside.word c.other.inside.word c.larger-self-inside.result c.larger-self-inside.ensures)
 
 pub returns-clause-bound : goal.returns-clause-bound
-returns-clause-bound c =
-    let e : c.loop-i.self-inside.versions ≡ join c.self.inside.versions c.other.inside.versions = join-from_places c.loop-i.self-inside.versions c.self.inside.versions c.other.inside.versions (omega arith) (omega arith) (λ k h. c.loop-i.invariant.joined k (omega arith)) in
-    rw (← c.self.view_is, ← c.other.view_is, e) (join-bound c.self.inside.versions c.other.inside.versions (omega arith))
+returns-clause-bound c = rw (← c.self.view_is, ← c.other.view_is, counts_joined c.self.inside.word c.other.inside.word c.larger-self-inside.result c.larger-self-inside.ensures) (join-bound _ _ refl)
 
 pub invariant_of-self : goal.invariant_of-self
-invariant_of-self c = counted-joined c.loop-i.self-inside.versions c.self.inside.versions c.other.inside.versions 5 c.self.invariant c.other.invariant (λ k l. c.loop-i.invariant.joined k (omega arith)) (λ k l. c.loop-i.invariant.rest k (omega arith))
+invariant_of-self c = joined_kept c.self.inside.word c.other.inside.word c.larger-self-inside.result c.self.invariant c.other.invariant (omega arith) c.larger-self-inside.ensures

@@ -10,23 +10,23 @@ use Rattle.loom_engine.proofs.rt.path.checkpoint.value.find_path.Goals as goal
 
 pub returns-in-None-read_parts-clause-err : goal.returns-in-None-read_parts-clause-err
 returns-in-None-read_parts-clause-err c =
-    let one : version_of (view c.args.value.now) ≡ Some 1 = sym c.in-Some.ensures ∙ ap Some c.if-version-ne1.false in
-    inr (one, no_shape (view c.args.value.now) c.in-None-read_parts.ensures)
+    let two : version_of (view c.args.value.now) ≡ Some 2 = sym c.in-Some.ensures ∙ ap Some c.if-version-ne-VERSION.false in
+    inr (two, no_shape (view c.args.value.now) c.in-None-read_parts.ensures)
 
 pub returns-in-Some-other_setting-clause-err : goal.returns-in-Some-other_setting-clause-err
 returns-in-Some-other_setting-clause-err c =
-    let one : version_of (view c.args.value.now) ≡ Some 1 = sym c.in-Some.ensures ∙ ap Some c.if-version-ne1.false in
+    let two : version_of (view c.args.value.now) ≡ Some 2 = sym c.in-Some.ensures ∙ ap Some c.if-version-ne-VERSION.false in
     let p = c.in-Some-read_parts.parts in
-    let is = shaped (view c.args.value.now) _ c.in-Some-read_parts.ensures one in
-    (p.exploring, map view p.nodes.now.items, p.preemption_bound, p.reduce, is, c.in-Some-other_setting.ensures.some)
+    let is = shaped (view c.args.value.now) _ c.in-Some-read_parts.ensures two in
+    (p.exploring, map view p.nodes.now.items, p.order.now, p.preemption_bound, p.reduce, is, c.in-Some-other_setting.ensures.some)
 
 pub returns-then-is_too_many-clause-err : goal.returns-then-is_too_many-clause-err
 returns-then-is_too_many-clause-err c =
-    let one : version_of (view c.args.value.now) ≡ Some 1 = sym c.in-Some.ensures ∙ ap Some c.if-version-ne1.false in
+    let two : version_of (view c.args.value.now) ≡ Some 2 = sym c.in-Some.ensures ∙ ap Some c.if-version-ne-VERSION.false in
     let p = c.in-Some-read_parts.parts in
-    let is = shaped (view c.args.value.now) _ c.in-Some-read_parts.ensures one in
+    let is = shaped (view c.args.value.now) _ c.in-Some-read_parts.ensures two in
     let items = map view p.nodes.now.items in
-    let parts = shape p.exploring items p.preemption_bound p.reduce p.version in
+    let parts = shape p.exploring items p.order.now p.preemption_bound p.reduce p.version in
     let s = settings c.args.search in
     let explores = c.args.search.explores in
     let d = view c.args.value.now in
@@ -36,11 +36,11 @@ returns-then-is_too_many-clause-err c =
 
 pub returns-in-Err-clause-err : goal.returns-in-Err-clause-err
 returns-in-Err-clause-err c =
-    let one : version_of (view c.args.value.now) ≡ Some 1 = sym c.in-Some.ensures ∙ ap Some c.if-version-ne1.false in
+    let two : version_of (view c.args.value.now) ≡ Some 2 = sym c.in-Some.ensures ∙ ap Some c.if-version-ne-VERSION.false in
     let p = c.in-Some-read_parts.parts in
-    let is = shaped (view c.args.value.now) _ c.in-Some-read_parts.ensures one in
+    let is = shaped (view c.args.value.now) _ c.in-Some-read_parts.ensures two in
     let items = map view p.nodes.now.items in
-    let parts = shape p.exploring items p.preemption_bound p.reduce p.version in
+    let parts = shape p.exploring items p.order.now p.preemption_bound p.reduce p.version in
     let s = settings c.args.search in
     let explores = c.args.search.explores in
     let d = view c.args.value.now in
@@ -60,11 +60,11 @@ from_nodes-requires-clause-well_formed c = rw c.deref.ensures.value (nodes_well 
 
 pub returns-in-Ok-from_nodes-clause-ok : goal.returns-in-Ok-from_nodes-clause-ok
 returns-in-Ok-from_nodes-clause-ok c =
-    let one : version_of (view c.args.value.now) ≡ Some 1 = sym c.in-Some.ensures ∙ ap Some c.if-version-ne1.false in
+    let two : version_of (view c.args.value.now) ≡ Some 2 = sym c.in-Some.ensures ∙ ap Some c.if-version-ne-VERSION.false in
     let p = c.in-Some-read_parts.parts in
-    let is = shaped (view c.args.value.now) _ c.in-Some-read_parts.ensures one in
+    let is = shaped (view c.args.value.now) _ c.in-Some-read_parts.ensures two in
     let items = map view p.nodes.now.items in
-    let parts = shape p.exploring items p.preemption_bound p.reduce p.version in
+    let parts = shape p.exploring items p.order.now p.preemption_bound p.reduce p.version in
     let s = settings c.args.search in
     let explores = c.args.search.explores in
     let d = view c.args.value.now in

@@ -1,0 +1,21 @@
+use Rattle.std.proofs.Common.{inl, inr, refl, sym}
+use Rattle.std.specs.Fn.{CalledAtMut}
+use Rattle.loom.specs.declared.runner.error.RunnerError.TheVariants as error
+use Rattle.loom.proofs.Closures.Explaining.{explained_by}
+use Rattle.loom.proofs.Closures.Refusing.{handed_on, no_replays}
+use Rattle.loom.proofs.runner.explanations.explain_lent.Goals as goal
+
+pub returns-in_err-test-clause-errors : goal.returns-in_err-test-clause-errors
+returns-in_err-test-clause-errors g c =
+    handed_on c.from_residual.result (error.Settings c.in_err-test.field-0.0) _ c.from_residual.ensures.1 (inl (c.in_err-test.field-0.0, refl, sym c.in_err-test.ensures.tested))
+
+pub returns-in_default-clause-errors : goal.returns-in_default-clause-errors
+returns-in_default-clause-errors g c = inr (sym c.in_ok-test.ensures.tested, inl (inl refl))
+
+pub returns-clause-explains : goal.returns-clause-explains
+returns-clause-explains g c =
+    explained_by (CalledAtMut g.F.FnMut) c.args.builder.now c.args.choices.now c.args.closure.now _ _ c.explain_along.result refl c.in-Ok.ensures c.explain_along.ensures.explains
+
+pub returns-clause-errors : goal.returns-clause-errors
+returns-clause-errors g c =
+    no_replays (CalledAtMut g.F.FnMut) c.args.builder.now c.args.choices.now c.args.closure.now _ _ c.explain_along.result (sym c.in_ok-test.ensures.tested) refl c.in-Ok.ensures c.explain_along.ensures.errors

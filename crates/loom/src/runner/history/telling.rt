@@ -1,0 +1,49 @@
+//! The events of a history, as an explanation tells them.
+ghost use Rattle.std.specs.Prelude.{◌≡◌, IfOk};
+ghost use Rattle.loom.specs.Runner.Explained.{told_by, told_event, told_events};
+
+use crate::runner::history::event::Event;
+use loom_explain::event::Event as Told;
+use loom_objects::failure::Failure;
+use loom_objects::operation::{Labelled, Reply, Turn, bare_reply, bare_request};
+use std::alloc::{AllocError, Global};
+
+/// The events of a history, each with what its thread was told before. Data are `()` (own).
+pub fn told_events<D>(alloc: Global, history: &[Event<D>]) -> Result<Vec<Told>, AllocError>
+    ensures { IfOk result (λ events. events.items ≡ told_events history.now) }
+{
+    let mut events = Vec::new(alloc);
+    let mut told = Reply::Start;
+    let mut rest = history;
+    while let Some((first, tail)) = rest.split_first() {
+        events.push(told_event(told, first))?;
+        told = told_by(alloc, &first.outcome)?;
+        rest = tail;
+    }
+    Ok(events)
+}
+
+/// The thread, which was told this, has handed over the operation.
+fn told_event<D>(told: Reply<()>, event: &Event<D>) -> Told
+    ensures { result ≡ told_event told event.now }
+{
+    Told {
+        thread: event.by,
+        told,
+        op: Labelled {
+            request: bare_request(&event.op),
+            label: event.label,
+        },
+        choices_before: event.choices_before,
+    }
+}
+
+/// What the thread is told whose turn comes.
+fn told_by<D>(alloc: Global, outcome: &Result<Turn<D>, Failure>) -> Result<Reply<()>, AllocError>
+    ensures { IfOk result (λ told. told ≡ told_by outcome.now) }
+{
+    match outcome {
+        Ok(Turn::Reply(_, reply)) => bare_reply(alloc, reply),
+        Ok(Turn::Start(_)) | Ok(Turn::Ended(_)) | Err(_) => Ok(Reply::Start),
+    }
+}

@@ -1,0 +1,9 @@
+pub mod Sets
+pub mod Points
+pub mod Reading
+pub mod Making
+pub mod Steps
+pub mod Moving
+pub mod Whole
+pub mod Differ
+pub mod Once

@@ -1,0 +1,67 @@
+//! A word of 128 bits as eight lanes of 16 bits, of which a version vector gives one to each thread (own). Only this file knows
+//! which bits a lane is.
+
+ghost use Rattle.std.specs.Prelude.{◌≡◌, ◌≢◌, ℕ, ◌<◌, ◌≤◌, MatchOption, max};
+ghost use Rattle.loom_views.specs.Lanes.{lane, lanes_in, word_of, IsFirstLarger};
+
+use std::simd::{u16x8, u64x2};
+
+/// The number in a lane (own).
+pub fn get(word: u128, thread: usize) -> u16
+    requires { thread < 8 }
+    ensures { result ≡ lane word thread }
+{
+    lanes(word).to_array()[thread]
+}
+
+/// The word with another number in a lane. Nothing else in it has changed (own).
+pub fn set(word: u128, thread: usize, count: u16) -> u128
+    requires { thread < 8 }
+    ensures set { lane result thread ≡ count }
+    ensures others { (t : ℕ) → t ≢ thread → lane result t ≡ lane word t }
+{
+    let mut counts = lanes(word).to_array();
+    counts[thread] = count;
+    word_of(u16x8::from_array(counts))
+}
+
+/// The word with the larger number of each lane (own).
+pub fn larger(word: u128, other: u128) -> u128
+    ensures { (t : ℕ) → lane result t ≡ max (lane word t) (lane other t) }
+{
+    let own = lanes(word);
+    let others = lanes(other);
+    word_of(own.simd_max(others))
+}
+
+/// The lowest lane of which the other word has the larger number, and none exactly if there is no such lane (own).
+pub fn first_larger(word: u128, other: u128) -> Option<usize>
+    ensures { MatchOption result ((t : ℕ) → lane other t ≤ lane word t) (IsFirstLarger word other) }
+{
+    let own = lanes(word);
+    let others = lanes(other);
+    // A bit for each lane.
+    let ahead = own.simd_lt(others).to_bitmask();
+    if ahead == 0 {
+        None
+    } else {
+        Some(ahead.trailing_zeros() as usize)
+    }
+}
+
+/// The lanes of a word.
+fn lanes(word: u128) -> u16x8
+    ensures { result ≡ lanes_in word }
+{
+    let low = (word % 0x1_0000_0000_0000_0000) as u64;
+    let high = (word >> 64) as u64;
+    u16x8::from_le_bytes(u64x2::from_array([low, high]).to_le_bytes())
+}
+
+/// The word of some lanes.
+fn word_of(lanes: u16x8) -> u128
+    ensures { result ≡ word_of lanes }
+{
+    let [low, high] = u64x2::from_le_bytes(lanes.to_le_bytes()).to_array();
+    u128::from(high) * 0x1_0000_0000_0000_0000 + u128::from(low)
+}
