@@ -1,4 +1,9 @@
+pub mod Alike
+pub mod Comparing
+pub mod Alone
+pub mod Erring
 pub mod Explaining
 pub mod Making
 pub mod Reporting
 pub mod Refusing
+pub mod Together

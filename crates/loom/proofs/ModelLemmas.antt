@@ -1,3 +1,4 @@
+pub mod Among
 pub mod BoundExample
 pub mod Bounds
 pub mod Called

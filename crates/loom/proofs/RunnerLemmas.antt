@@ -8,4 +8,5 @@ pub mod Made
 pub mod Once
 pub mod Paths
 pub mod Remembering
+pub mod Tried
 pub mod Trying

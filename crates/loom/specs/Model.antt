@@ -1,3 +1,4 @@
+pub mod Among
 pub mod Begun
 pub mod BoundExample
 pub mod Called

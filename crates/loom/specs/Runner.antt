@@ -1,7 +1,9 @@
+pub mod Alike
 pub mod Asking
 pub mod Calls
 pub mod Chains
 pub mod Check
+pub mod Comparing
 pub mod Errors
 pub mod Events
 pub mod Expected
@@ -12,6 +14,7 @@ pub mod Histories
 pub mod Kinds
 pub mod Laws
 pub mod Made
+pub mod Next
 pub mod Refusals
 pub mod Replay
 pub mod Run

@@ -2,6 +2,7 @@
 pub mod file;
 pub mod files;
 pub mod memory;
+pub mod named;
 pub mod store;
 
 pub use crate::checkpoint::file::FileStore;

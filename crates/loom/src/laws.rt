@@ -1,10 +1,29 @@
 //! Laws of checks that go on where others stopped.
 pub mod preemptions;
 
+ghost use Rattle.std.specs.Fn.{CalledAtMut};
 ghost use Rattle.loom.specs.Model.Check.{TogetherLaw};
+ghost use Rattle.loom.specs.Runner.Check.{TogetherLaw as ClosuresLaw};
+
+use crate::model::visitor::Visitor;
+use crate::runner::exact::Exact;
+use crate::runner::handle::Handle;
+use crate::runner::stop::Stop;
+use std::sync::Wait;
 
 /// The runs of a check that was stopped and of those that went on, one after another, up to one that is complete, are the
 /// reachable runs, each once.
 pub fn resumed_checks<D>()
     ensures { TogetherLaw D }
+{}
+
+/// The runs of a check of closures that was stopped and of those that went on, one after another: no list of choices comes twice, and
+/// where the last one is complete, each alternative that a run calls for was made.
+pub fn resumed_closures<
+    D: Exact + 'static,
+    R: Wait,
+    F: FnMut(&mut Handle<D, R>) -> Result<D, Stop>,
+    V: Visitor<D>,
+>()
+    ensures { ClosuresLaw (CalledAtMut F.FnMut) V.takes }
 {}

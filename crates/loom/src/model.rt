@@ -1,4 +1,5 @@
 //! Checks of a body, and replays.
+pub mod among;
 pub mod beginning;
 pub mod builder;
 pub mod clock;
@@ -15,7 +16,7 @@ pub mod rounds;
 pub mod run;
 pub mod runs;
 pub mod saving;
-mod search;
+pub mod search;
 pub mod visitor;
 
 ghost use Rattle.std.specs.Prelude.{◌≡◌, ◌≢◌, ◌⊎◌, None, Err, IfOk, IfErr, OnErr, true};
@@ -26,8 +27,7 @@ ghost use Rattle.loom.specs.Model.Replayed.{ReplaysNoEqualOrders};
 ghost use Rattle.loom.specs.Model.Refusals.{CountsFaults, IsNoReport, StillHolds};
 ghost use Rattle.loom.specs.Model.Settings.{defaults, explores, tested};
 
-use crate::checkpoint::file::file_store;
-use crate::checkpoint::memory::MemoryStore;
+use crate::checkpoint::files::HostFiles;
 use crate::checkpoint::store::CheckpointStore;
 pub use crate::model::builder::Builder;
 use crate::model::clock::{Clock, NoClock};
@@ -68,8 +68,8 @@ pub enum Replay<D> {
 
 impl Builder {
     /// A check in which nobody is given the runs. It begins with the path in the `checkpoint_file`, if one is set, and saves its
-    /// checkpoints there: it is `check_alone` with the `FileStore` of that name. It has no clock: only a `max_duration` of zero
-    /// stops it. Errors are those of `check_with`.
+    /// checkpoints there: it is `check_among` with the files of the host. It has no clock: only a `max_duration` of zero stops it.
+    /// Errors are those of `check_with`.
     pub fn check<R: Files, B: Body>(
         &self,
         rt: &R,
@@ -82,10 +82,8 @@ impl Builder {
         ensures errors { IfErr result (IsNoReport self.now (gives_file self.now.checkpoint_file) (Unit {0})) }
         ensures no_store { self.now.checkpoint_file ≡ None → result ≢ Err CheckError.Store }
     {
-        match file_store(rt, alloc, &self.checkpoint_file) {
-            Some(mut store) => self.check_alone(alloc, body, &mut store),
-            None => self.check_alone(alloc, body, &mut None::<MemoryStore>),
-        }
+        let (answer, _) = self.check_among(alloc, body, HostFiles::new(rt));
+        answer
     }
 
     /// A check in which nobody is given the runs, with this store, as one `FileStore`; without a clock and a log. Errors are those

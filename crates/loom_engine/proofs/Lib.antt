@@ -1,5 +1,6 @@
 pub mod Asking
 pub mod Checkpoint
+pub mod Covering
 pub mod Execution
 pub mod Nodes
 pub mod Path

@@ -23,6 +23,7 @@ pub mod Moving
 pub mod Lifting
 pub mod Allowed
 pub mod Pointing
+pub mod Advancing
 pub mod Offered
 pub mod Threading
 pub mod Viewing

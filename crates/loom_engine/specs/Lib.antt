@@ -1,4 +1,5 @@
 pub mod Checkpoint
+pub mod Covering
 pub mod Execution
 pub mod Path
 pub mod Runs

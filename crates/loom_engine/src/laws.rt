@@ -1,5 +1,6 @@
 //! What is proved of the definitions: the contract of each function is a law.
 
+pub mod cover;
 pub mod locks;
 pub mod orders;
 pub mod report;

@@ -11,7 +11,7 @@ pub mod options;
 pub mod settings;
 pub mod tables;
 pub mod tasks;
-mod timed;
+pub(crate) mod timed;
 pub mod words;
 
 use crate::rows::line::ShownReport;
@@ -213,15 +213,24 @@ pub(crate) fn refuse_check<W: Write>(
 {
     let number = error.number();
     writeln!(err, "error {number}")?;
+    tell_error(err, builder, error)?;
+    Ok(2)
+}
+
+/// Prints why the error came, and of which file it speaks.
+pub(crate) fn tell_error<W: Write>(
+    err: &mut W,
+    builder: &Builder,
+    error: CheckError,
+) -> io::Result<()> {
     match &builder.checkpoint_file {
         Some(file) if is_of_text(error) => writeln!(
             err,
             "{file}: {error}. No run was made, and the file is as it was."
-        )?,
-        Some(file) if error == CheckError::Store => writeln!(err, "{file}: {error}")?,
-        _ => writeln!(err, "{error}")?,
+        ),
+        Some(file) if error == CheckError::Store => writeln!(err, "{file}: {error}"),
+        _ => writeln!(err, "{error}"),
     }
-    Ok(2)
 }
 
 // Whether the text of a checkpoint is refused, which comes before any run.

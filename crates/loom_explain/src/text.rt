@@ -1,6 +1,7 @@
 //! The text of an explanation: why the run failed, the choices that make it again, and its events in columns.
 mod answers;
 mod calls;
+pub mod changes;
 mod forms;
 mod layout;
 mod lines;

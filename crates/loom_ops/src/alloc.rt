@@ -3,6 +3,7 @@ ghost use Rattle.std.specs.Prelude.{◌≡◌, None};
 ghost use Rattle.loom_ops.specs.Alloc.{track_handle};
 ghost use Rattle.loom_objects.specs.Operation.Labelled.{bare};
 
+use crate::answers::answer::Answer;
 use loom_objects::operation::{Op, Reply, Request, TrackOp};
 
 /// A value that the run must drop, or take out, before it ends, else it fails as `LeakTrack` (loom's `alloc.rs`). A handle
@@ -66,5 +67,17 @@ impl Track {
         ensures { result ≡ bare (Request.Track (TrackOp.Drop self.number)) }
     {
         Op::new(Request::Track(TrackOp::Drop(self.number)))
+    }
+}
+
+impl<D: Drop> Answer<D> for Track {
+    ghost held = { track_handle };
+
+    fn from_reply(reply: Reply<D>) -> Option<Track>
+        ensures { result ≡ track_handle reply }
+    {
+        let track = Track::from_reply(&reply);
+        reply.let_go();
+        track
     }
 }

@@ -2,5 +2,5 @@
 //! operations of one kind of object reply stands beside its handle, and is named here too. `loom::runner` uses it.
 pub mod answer;
 
-pub use crate::cell;
 pub use crate::sync::{arc, mpsc};
+pub use crate::{cell, lazy_static, thread};

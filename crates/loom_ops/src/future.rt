@@ -2,9 +2,11 @@
 ghost use Rattle.std.specs.Prelude.{◌≡◌, None};
 ghost use Rattle.loom_ops.specs.Waker.{block_on_handle, waker_handle};
 ghost use Rattle.loom_objects.specs.Operation.Labelled.{bare};
+ghost use Rattle.loom_ops.specs.Answers.{taken_in};
 
 pub mod atomic_waker;
 
+use crate::answers::answer::Answer;
 pub use crate::future::atomic_waker::AtomicWaker;
 use loom_objects::operation::{Op, Reply, Request, WakerOp};
 
@@ -108,5 +110,34 @@ impl Waker {
         ensures { result ≡ bare (Request.Waker (WakerOp.Drop self.number)) }
     {
         Op::new(Request::Waker(WakerOp::Drop(self.number)))
+    }
+}
+
+impl<D: Drop> Answer<D> for BlockOn {
+    ghost held = { block_on_handle };
+
+    fn from_reply(reply: Reply<D>) -> Option<BlockOn>
+        ensures { result ≡ block_on_handle reply }
+    {
+        let block_on = BlockOn::from_reply(&reply);
+        reply.let_go();
+        block_on
+    }
+}
+
+impl<D: Drop> Answer<D> for Option<Waker> {
+    ghost held = { taken_in };
+
+    fn from_reply(reply: Reply<D>) -> Option<Option<Waker>>
+        ensures { result ≡ taken_in reply }
+    {
+        match reply {
+            Reply::Waker(number) => Some(Some(Waker { number })),
+            Reply::NoWaker => Some(None),
+            other => {
+                other.let_go();
+                None
+            }
+        }
     }
 }

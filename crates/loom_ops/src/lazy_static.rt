@@ -1,9 +1,11 @@
 //! Values that are made once a run.
 ghost use Rattle.std.specs.Prelude.{◌≡◌, Some, None, codes};
 ghost use Rattle.loom_objects.specs.Operation.Labelled.{bare};
+ghost use Rattle.loom_ops.specs.Answers.{standing_in};
 
+use crate::answers::answer::Answer;
 pub use crate::thread::{AccessError, yield_now};
-use loom_objects::operation::{LazyOp, Op, Request};
+use loom_objects::operation::{LazyOp, Op, Reply, Request};
 use std::fmt;
 
 /// A value that is made once a run, by the first thread that gives it (loom's `lazy_static.rs`). In loom it has a function that
@@ -12,6 +14,15 @@ use std::fmt;
 pub struct Lazy {
     /// The number that it is named by.
     pub key: usize,
+}
+
+/// The value that stands once one was given (own).
+#[derive(Drop)]
+pub struct Standing<D> {
+    /// A copy of it.
+    pub value: D,
+    /// The one that was given, if another stood before.
+    pub spare: Option<D>,
 }
 
 impl fmt::Debug for Lazy {
@@ -44,5 +55,25 @@ impl Lazy {
         ensures { result ≡ bare (Request.Lazy (LazyOp.Init self.key value)) }
     {
         Op::new(Request::Lazy(LazyOp::Init(self.key, value)))
+    }
+}
+
+impl<D: Drop> Answer<D> for Standing<D> {
+    ghost held = { standing_in };
+
+    fn from_reply(reply: Reply<D>) -> Option<Standing<D>>
+        ensures { result ≡ standing_in reply }
+    {
+        match reply {
+            Reply::Data(value) => Some(Standing { value, spare: None }),
+            Reply::Stood(value, spare) => Some(Standing {
+                value,
+                spare: Some(spare),
+            }),
+            other => {
+                other.let_go();
+                None
+            }
+        }
     }
 }

@@ -4,7 +4,7 @@ ghost use Rattle.std.specs.Option.{option_map};
 ghost use Rattle.loom_objects.specs.Text.{shown, first_text};
 ghost use Rattle.loom_ops.specs.Thread.{access_error, join_handle, leave, thread_handle, named};
 ghost use Rattle.loom_objects.specs.Operation.Labelled.{bare};
-ghost use Rattle.loom_ops.specs.Answers.{joined_in};
+ghost use Rattle.loom_ops.specs.Answers.{joined_in, present_in, tried_local_in};
 
 use crate::answers::answer::Answer;
 use crate::fail;
@@ -70,6 +70,14 @@ pub struct AccessError;
 
 /// The result of a thread that was joined (own).
 pub struct Joined<D>(pub D);
+
+/// A key's value, if it has one (own).
+#[derive(Drop)]
+pub struct Present<D>(pub Option<D>);
+
+/// A thread's own value, if it has one, or that it was given back (own).
+#[derive(Drop)]
+pub struct TriedLocal<D>(pub Result<Option<D>, AccessError>);
 
 impl fmt::Debug for LocalKey {
     ghost debug_output = { λ _. Some (codes "LocalKey { .. }") };
@@ -339,6 +347,41 @@ impl<D: Drop> Answer<D> for Joined<D> {
     {
         match reply {
             Reply::Data(value) => Some(Joined(value)),
+            other => {
+                other.let_go();
+                None
+            }
+        }
+    }
+}
+
+impl<D: Drop> Answer<D> for Present<D> {
+    ghost held = { present_in };
+
+    fn from_reply(reply: Reply<D>) -> Option<Present<D>>
+        ensures { result ≡ present_in reply }
+    {
+        match reply {
+            Reply::Data(value) => Some(Present(Some(value))),
+            Reply::Absent => Some(Present(None)),
+            other => {
+                other.let_go();
+                None
+            }
+        }
+    }
+}
+
+impl<D: Drop> Answer<D> for TriedLocal<D> {
+    ghost held = { tried_local_in };
+
+    fn from_reply(reply: Reply<D>) -> Option<TriedLocal<D>>
+        ensures { result ≡ tried_local_in reply }
+    {
+        match reply {
+            Reply::Data(value) => Some(TriedLocal(Ok(Some(value)))),
+            Reply::Absent => Some(TriedLocal(Ok(None))),
+            Reply::AccessError => Some(TriedLocal(Err(AccessError))),
             other => {
                 other.let_go();
                 None

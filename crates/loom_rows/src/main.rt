@@ -1,7 +1,6 @@
 //! The program: it prints what a check of a named row finds, a check with rising bounds, or a run by given choices, and may keep a
 //! checkpoint in a file. The row's name is its first word but for options, and the file the next one, if there is one. The rows,
-//! the words and the printed lines stand in `loom_examples::rows`, and the rows that are closures, which have no file and no options,
-//! in `loom_examples::closures`. Tests stand in `loom_tests`. By `--tour` the program takes a first look at a row
+//! the words and the printed lines stand in `loom_examples::rows`, and the rows that are closures in `loom_examples::closures`. Tests stand in `loom_tests`. By `--tour` the program takes a first look at a row
 //! and at the bodies of `loom_examples`. By `--measure` it checks bodies again and again, and prints how long that took.
 #![tactic(auto)]
 
@@ -35,8 +34,8 @@ fn run<
         .map(|word| word.as_str())
         .collect::<Vec<_>>(rt.alloc())?;
     let words = words.as_slice();
-    if let Some(row) = ClosureRow::meant_by(words) {
-        return run_row(rt, row, out, err);
+    if let Some((row, file)) = ClosureRow::meant_by(words) {
+        return run_row(rt, row, file, out, err);
     }
     if words::has_option(words) {
         match options::read(rt.alloc(), words) {

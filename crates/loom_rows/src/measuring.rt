@@ -73,7 +73,7 @@ pub(crate) fn measure_all<
 /// Checks the closures as often as they say, and prints what `measure` does and how many threads a run starts. Answers the exit
 /// status: 2 where there is no report, and 1 where a run fails.
 fn measure_closures<
-    R: AllocGlobal + Clock + Threads + Wait + Clone + Send + 'static,
+    R: AllocGlobal + Clock + Files + Threads + Wait + Clone + Send + 'static,
     O: Write,
     E: Write,
 >(rt: &R, closures: &Closures, out: &mut O, err: &mut E) -> io::Result<u8> {
@@ -93,7 +93,7 @@ fn measure_closures<
 }
 
 /// The report of the last check, once all checks were made.
-fn check_closures<R: AllocGlobal + Threads + Wait + Clone + Send + 'static>(
+fn check_closures<R: AllocGlobal + Clock + Files + Threads + Wait + Clone + Send + 'static>(
     rt: &R,
     closures: &Closures,
 ) -> Option<Report> {

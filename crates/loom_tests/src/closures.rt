@@ -3,14 +3,17 @@ ghost use Rattle.std.specs.Prelude.{◌≡◌};
 
 mod ample;
 mod bodies;
+mod changes;
 mod children;
 mod ends;
 mod explained;
 mod finding;
 mod forms;
 mod forms_in_children;
+mod forms_of_values;
 mod guide;
 mod others;
+mod resumed;
 mod rows;
 mod turns;
 

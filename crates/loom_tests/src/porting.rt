@@ -2,12 +2,11 @@
 use loom::FailureKind;
 use loom::cell::UnsafeCell;
 use loom::model::Report;
-use loom::runner::{Handle, RunnerError, Stop, model};
+use loom::runner::{Handle, Host, RunnerError, Stop, model};
 use loom::sync::atomic::AtomicBool;
 use loom::sync::atomic::Ordering::{self, Acquire, Relaxed, Release};
 use std::sync::Wait;
 use std::test::Fail;
-use std::thread::Threads;
 
 /// A number behind a spin lock. It is copied like a number, since its fields are handles.
 #[derive(Clone, Copy)]
@@ -41,10 +40,7 @@ impl SpinLock {
 }
 
 /// Two threads add one each, and main finds both.
-fn check_lock<R: AllocGlobal + Threads + Wait + Clone + Send + 'static>(
-    rt: &R,
-    free: Ordering,
-) -> Result<Report, RunnerError> {
+fn check_lock<R: Host>(rt: &R, free: Ordering) -> Result<Report, RunnerError> {
     model(rt, rt.alloc(), |handle: &mut Handle<u64, R>| {
         let lock = SpinLock::new(handle)?;
         let child = handle.spawn(move |handle| lock.add_one(handle, free))?;

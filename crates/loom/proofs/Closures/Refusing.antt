@@ -1,5 +1,5 @@
 -- Why a run gives no end, and a check no report.
-use Rattle.std.proofs.Common.{◌≡◌, ◌<◌, ◌∙◌, ℕ, List, refl, sym, ap, subst, inl, inr, arith, length, Option, Some, None, Result, Ok, Err, IfErr}
+use Rattle.std.proofs.Common.{◌≡◌, ◌<◌, ◌∙◌, ◌⊎◌, ℕ, List, refl, sym, ap, subst, inl, inr, arith, length, Option, Some, None, Result, Ok, Err, IfErr}
 use Rattle.std.specs.Prelude.{⊤, Vec}
 use Rattle.std.specs.declared.alloc.Global.{Global}
 use Rattle.std.specs.Result.{IsErrAnd}
@@ -14,12 +14,12 @@ use Rattle.loom.specs.declared.runner.error.RunnerError.{RunnerError}
 use Rattle.loom.specs.declared.runner.error.RunnerError.TheVariants as error
 use Rattle.loom.specs.declared.runner.stop.Stop.{Stop}
 use Rattle.loom.specs.declared.runner.stop.Stop.TheVariants as stop
-use Rattle.loom.specs.Runner.Errors.{IsRefusedByHost, error_by}
+use Rattle.loom.specs.Runner.Errors.{IsRefusedByHost, error_by, of_check}
 use Rattle.loom.specs.Runner.Events.{ended, end_after, end_in, ended_by, failed_by, failing, last_event, outcome_by}
 use Rattle.loom.specs.Runner.Handle.{Teller, newcomer}
 use Rattle.loom.specs.Runner.Histories.{Log, Share}
 use Rattle.loom.specs.Runner.Check.{limits_of}
-use Rattle.loom.specs.Runner.Refusals.{BreaksOff, IsNoReplay, IsNoReplayAlong, IsNoReport, IsNoRun, IsNotJudged}
+use Rattle.loom.specs.Runner.Refusals.{CountsFaults, GivesUp, IsNoReplay, IsNoReplayAlong, IsNoReport, IsNoEnd, IsNoReportAlone, IsNoRun, IsNoSave, IsNotJudged}
 use Rattle.loom.specs.Runner.Replay.{HasKept, following}
 use Rattle.loom.specs.declared.runner.run_end.RunEnd.{RunEnd}
 use Rattle.loom.specs.declared.runner.run_end.RunEnd.TheVariants.{Ended}
@@ -28,7 +28,8 @@ use Rattle.loom.specs.declared.runner.history.event.Event.{Event}
 use Rattle.loom_objects.specs.declared.failure.Failure.{Failure}
 use Rattle.loom_objects.specs.declared.operation.Turn.{Turn}
 use Rattle.loom_objects.specs.declared.operation.Turn.TheVariants as turn
-use Rattle.loom.proofs.Closures.Reporting.{SoFar}
+use Rattle.loom.proofs.Closures.Erring.{made_error, no_fault, settings_on}
+use Rattle.loom.proofs.Closures.Reporting.{IsChecking}
 use Rattle.loom.proofs.RunnerLemmas.Made.{made_by, made_of}
 
 -- an error that a call hands on
@@ -71,6 +72,7 @@ module _ {D F V : Type 0} (called : F → Teller D → Result D Stop → F → T
   pub unjudged : (limits : Limits) (f f' : F) (v v' : V) (began : Route) (log : Log D) (told : List (Share D)) → WasCalled called f f' told → (e : RunnerError)
       → IsNotJudged limits v began log told e v' → IsNoRun called takes limits f v began e v'
   unjudged limits f f' v v' began log told was (error.Settings why) without = without
+  unjudged limits f f' v v' began log told was (error.Changed change) without = without
   unjudged limits f f' v v' began log told was error.Refused without = without
   unjudged limits f f' v v' began log told was error.NotSettled without = (record { after = f'; log = log; told = told; call = was; unsettled = without.0 }, without.1)
   unjudged limits f f' v v' began log told was error.Memory (inl same) = inl same
@@ -82,31 +84,92 @@ module _ {D F V : Type 0} (called : F → Teller D → Result D Stop → F → T
     value = came.1;
   })
 
-  -- a check breaks off where its next run gives no end
-  pub breaks_off : {b : Builder} {f0 : F} {v0 : V} {f : F} {v : V} {path : Route} {count : ℕ} (so : SoFar called takes b f0 v0 f v path count) (most : ℕ) → most ≡ most_runs b → count < most
-      → (v' : V) (e : RunnerError) → IsNoRun called takes (limits_of b) f v path e v' → BreaksOff called takes b f0 v0 v' e
-  breaks_off {b} {f0} {v0} {f} {v} {path} {count} so most is few v' e why = record {
-    runs = so.runs;
-    before = f;
-    visitor = v;
-    next = path;
-    given = so.given;
-    few = omega (arith, so.counted, is, few);
-    why = why;
-  }
+  -- no run meets a fault of the store
+  pub run_faultless : {A : Type 0} (limits : Limits) (f : F) (v v' : V) (began : Route) (r : Result A RunnerError) (e : RunnerError) (old new : ℕ) → IsErrAnd r (λ x. x ≡ e)
+      → IsNoEnd called takes limits f v began e v' → new ≡ old → CountsFaults r old new
+  run_faultless limits f v v' began r e old new is (inl changed) same = no_fault r e old new (made_error r e is) (λ h. cc (changed.1, h)) same
+  run_faultless limits f v v' began r (error.Settings why) old new is (inr without) same = absurd without
+  run_faultless limits f v v' began r (error.Changed change) old new is (inr without) same = absurd without
+  run_faultless limits f v v' began r error.Refused old new is (inr without) same = no_fault r error.Refused old new (made_error r error.Refused is) (λ h. cc h) same
+  run_faultless limits f v v' began r error.NotSettled old new is (inr without) same = no_fault r error.NotSettled old new (made_error r error.NotSettled is) (λ h. cc h) same
+  run_faultless limits f v v' began r error.Memory old new is (inr without) same = no_fault r error.Memory old new (made_error r error.Memory is) (λ h. cc h) same
+
+  -- ---- checks
+
+  module _ (b : Builder) (gives : Option (List ℕ) → Type 0) (faulted : Type 0) (f0 : F) (v0 : V) (holds : Option (List ℕ) → Type 0) (f : F) (v : V) (path : Route) (count most : ℕ)
+      (z : IsChecking called takes b gives f0 v0 holds f v path count most) where
+    breaks : (v' : V) (e : RunnerError) → ((length z.runs < most_runs b) × IsNoEnd called takes (limits_of b) f v path e v') ⊎ (IsNoSave faulted e × (v' ≡ v)) → GivesUp called takes b gives faulted f0 v0 v' e
+    breaks v' e why = inr (record {
+      text = z.text;
+      gave = z.gave;
+      path = z.start;
+      reads = z.reads;
+      runs = z.runs;
+      before = f;
+      visitor = v;
+      next = path;
+      given = z.given;
+      why = why;
+    })
+
+    -- a check breaks off where its next run gives no end
+    pub breaks_off : (v' : V) (e : RunnerError) → count < most_runs b → IsNoEnd called takes (limits_of b) f v path e v' → GivesUp called takes b gives faulted f0 v0 v' e
+    breaks_off v' e few why = breaks v' e (inl (omega (arith, z.counted, few), why))
+
+    -- or where the path isn't saved
+    pub not_saved : (e : RunnerError) → IsNoSave faulted e → GivesUp called takes b gives faulted f0 v0 v e
+    not_saved e why = breaks v e (inr (why, refl))
 
   -- a setting out of range
-  pub refused : {A : Type 0} (b : Builder) (f : F) (v v' : V) (r : Result A RunnerError) (why : CheckError) → IsErrAnd r (λ e. e ≡ error.Settings why) → tested b ≡ Err why → v' ≡ v
-      → IfErr r (IsNoReport called takes b f v v')
-  refused b f v v' r why is without same = handed_on r (error.Settings why) (IsNoReport called takes b f v v') is (inl (why, refl, without, same))
+  pub refused : {A : Type 0} (b : Builder) (gives : Option (List ℕ) → Type 0) (faulted : Type 0) (f : F) (v v' : V) (r : Result A RunnerError) (why : CheckError) → IsErrAnd r (λ e. e ≡ of_check why)
+      → tested b ≡ Err why → v' ≡ v → IfErr r (IsNoReport called takes b gives faulted f v v')
+  refused b gives faulted f v v' r why is without same = settings_on b r why (IsNoReport called takes b gives faulted f v v') is without (inl (why, refl, without, same))
 
   -- all are in range
-  pub broken : {A : Type 0} (b : Builder) (f : F) (v v' : V) (r : Result A RunnerError) → tested b ≡ Ok tt → IfErr r (BreaksOff called takes b f v v') → IfErr r (IsNoReport called takes b f v v')
-  broken b f v v' r fine without = weaker r (BreaksOff called takes b f v v') (IsNoReport called takes b f v v') (λ e broke. inr (fine, broke)) without
+  pub broken : {A : Type 0} (b : Builder) (gives : Option (List ℕ) → Type 0) (faulted : Type 0) (f : F) (v v' : V) (r : Result A RunnerError) → tested b ≡ Ok tt
+      → IfErr r (GivesUp called takes b gives faulted f v v') → IfErr r (IsNoReport called takes b gives faulted f v v')
+  broken b gives faulted f v v' r fine without =
+      weaker r (GivesUp called takes b gives faulted f v v') (IsNoReport called takes b gives faulted f v v') (λ e broke. inr (fine, broke)) without
+
+  -- no store meets a fault
+  unfaulted : (faulted : Type 0) → (faulted → ⊥) → (e : RunnerError) → IsNoSave faulted e → IsNoSave ⊥ e
+  unfaulted faulted none e (inl is) = inl is
+  unfaulted faulted none e (inr is) = absurd (none is.1)
+
+  gives_up_alone : (b : Builder) (gives : Option (List ℕ) → Type 0) (faulted : Type 0) → (faulted → ⊥) → (f : F) (v v' : V) (e : RunnerError) → GivesUp called takes b gives faulted f v v' e → GivesUp called takes b gives ⊥ f v v' e
+  gives_up_alone b gives faulted none f v v' e (inl (same, inl is)) = inl (same, inl (unfaulted faulted none e is))
+  gives_up_alone b gives faulted none f v v' e (inl (same, inr refused)) = inl (same, inr refused)
+  gives_up_alone b gives faulted none f v v' e (inr broke) = inr (record {
+    text = broke.text;
+    gave = broke.gave;
+    path = broke.path;
+    reads = broke.reads;
+    runs = broke.runs;
+    before = broke.before;
+    visitor = broke.visitor;
+    next = broke.next;
+    given = broke.given;
+    why = go broke.why;
+  })
+    where
+      go : ((length broke.runs < most_runs b) × IsNoEnd called takes (limits_of b) broke.before broke.visitor broke.next e v') ⊎ (IsNoSave faulted e × (v' ≡ broke.visitor))
+          → ((length broke.runs < most_runs b) × IsNoEnd called takes (limits_of b) broke.before broke.visitor broke.next e v') ⊎ (IsNoSave ⊥ e × (v' ≡ broke.visitor))
+      go (inl run) = inl run
+      go (inr save) = inr (unfaulted faulted none e save.0, save.1)
+
+  -- where there is no store
+  pub none_alone : {A : Type 0} (b : Builder) (gives : Option (List ℕ) → Type 0) (faulted : Type 0) → (faulted → ⊥) → (f : F) (v v' : V) (r : Result A RunnerError) → IfErr r (IsNoReport called takes b gives faulted f v v')
+      → IfErr r (IsNoReport called takes b gives ⊥ f v v')
+  none_alone b gives faulted none f v v' r without = weaker r (IsNoReport called takes b gives faulted f v v') (IsNoReport called takes b gives ⊥ f v v') go without
+    where
+      go : (e : RunnerError) → IsNoReport called takes b gives faulted f v v' e → IsNoReport called takes b gives ⊥ f v v' e
+      go e (inl out) = inl out
+      go e (inr up) = inr (up.0, gives_up_alone b gives faulted none f v v' e up.1)
 
   -- a replay, whose visitor keeps what it is given
   pub no_replay : (limits : Limits) (f : F) (v v' : V) (start : Route) (e : RunnerError) → IsNoRun called takes limits f v start e v' → IsNoReplayAlong called limits start f e
   no_replay limits f v v' start (error.Settings why) without = absurd without
+  no_replay limits f v v' start (error.Changed change) without = absurd without
   no_replay limits f v v' start error.Refused without = inl (inr refl)
   no_replay limits f v v' start error.NotSettled without = inr (refl, without.0)
   no_replay limits f v v' start error.Memory without = inl (inl refl)
@@ -128,11 +191,11 @@ no_replays called b given f limits start r fine is along without =
 
 -- the defaults are in range
 pub by_defaults : {D F : Type 0} (called : F → Teller D → Result D Stop → F → Teller D → Type 0) (takes : NoVisitor → List Choice → D → NoVisitor → Type 0) {A : Type 0} (b : Builder) (f : F) (v v' : NoVisitor) (r : Result A RunnerError)
-    → b ≡ defaults → IfErr r (IsNoReport called takes b f v v') → IfErr r (λ e. (w w' : NoVisitor) × BreaksOff called takes defaults f w w' e)
+    → b ≡ defaults → IfErr r (IsNoReportAlone called takes b f v v') → IfErr r (λ e. (w w' : NoVisitor) × GivesUp called takes defaults (λ text. text ≡ None) ⊥ f w w' e)
 by_defaults {D} {F} called takes b f v v' r is reported =
-    weaker r (IsNoReport called takes defaults f v v') (λ e. (w w' : NoVisitor) × BreaksOff called takes defaults f w w' e) go
-    (subst (λ (x : Builder). IfErr r (IsNoReport called takes x f v v')) is reported)
+    weaker r (IsNoReportAlone called takes defaults f v v') (λ e. (w w' : NoVisitor) × GivesUp called takes defaults (λ text. text ≡ None) ⊥ f w w' e) go
+    (subst (λ (x : Builder). IfErr r (IsNoReportAlone called takes x f v v')) is reported)
   where
-    go : (e : RunnerError) → IsNoReport called takes defaults f v v' e → (w w' : NoVisitor) × BreaksOff called takes defaults f w w' e
+    go : (e : RunnerError) → IsNoReportAlone called takes defaults f v v' e → (w w' : NoVisitor) × GivesUp called takes defaults (λ text. text ≡ None) ⊥ f w w' e
     go e (inl out) = let h : ◌≡◌ {A = Result ⊤ CheckError} (Ok tt) (Err out.0) = out.2 in absurd (cc h)
-    go e (inr broke) = (v, v', broke.1)
+    go e (inr up) = (v, v', up.1)

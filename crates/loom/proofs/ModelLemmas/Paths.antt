@@ -186,7 +186,7 @@ stored_bare [] = refl
 stored_bare (n ∷ nodes) = ap₂ (λ (m : Stored) (p : List Stored). m ∷ p) (seen_bare n) (stored_bare nodes)
 
 -- a text has no two paths that a walk tells apart
-same_stored : (s : Settings) (explores : Bool) (text : List ℕ) (nodes others : List Node) → IsTextOf s explores text nodes → IsTextOf s explores text others → stored nodes ≡ stored others
+pub same_stored : (s : Settings) (explores : Bool) (text : List ℕ) (nodes others : List Node) → IsTextOf s explores text nodes → IsTextOf s explores text others → stored nodes ≡ stored others
 same_stored s explores text nodes others one other =
     let d : one.1.0 ≡ other.1.0 = some_same one.1.0 other.1.0 (sym one.1.1 ∙ other.1.1) in
     let alike : AreAlike nodes others = same_nodes s explores other.1.0 nodes others (subst (λ (d : Data). IsPathOf s explores d nodes) d one.1.2) other.1.2 in

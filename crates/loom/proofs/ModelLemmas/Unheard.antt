@@ -1,7 +1,6 @@
 -- Checks in which nobody is given the runs.
 use Rattle.std.proofs.Common.{◌≡◌, ℕ, inl, inr, List, [], ◌∷◌, refl, ap}
-use Rattle.std.specs.Prelude.{◌≢◌, ◌⊎◌, Option, Some, None, String, Result, Ok, Err, IfOk, IfErr}
-use Rattle.std.specs.declared.alloc.Global.{Global}
+use Rattle.std.specs.Prelude.{◌≢◌, ◌⊎◌, Option, Some, None, Result, Ok, Err, IfOk, IfErr}
 use Rattle.loom_objects.specs.declared.choice.Choice.{Choice}
 use Rattle.loom_objects.specs.Tree.Tree.{Tree}
 use Rattle.loom_engine.specs.declared.rt.path.node.Node.{Node}
@@ -84,11 +83,6 @@ pub unheard_errors : {A : Type 0} (b : Builder) (gives : Option (List ℕ) → T
 unheard_errors b gives no_run (Ok report) z = z
 unheard_errors b gives no_run (Err e) (inl z) = inl z
 unheard_errors b gives no_run (Err e) (inr z) = inr (z.0, tt)
-
--- a file may give anything
-pub file_gives : (name : Option (String Global)) → name ≢ None → (P : (Option (List ℕ) → Type 0) → Type 0) → P (λ text. Unit {0}) → P (gives_file name)
-file_gives None named P z = absurd (named refl)
-file_gives (Some name) named P z = z
 
 -- a check with the defaults has no text to refuse and no store
 pub default_errors : {A : Type 0} (answer : Result A CheckError) → IfErr answer (IsNoReport defaults (gives_file None) (Unit {0})) → answer ≢ Err Store

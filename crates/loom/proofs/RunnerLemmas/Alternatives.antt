@@ -1,19 +1,24 @@
 -- Each alternative was tried, where nothing is left to try.
-use Rattle.std.proofs.Common.{◌≡◌, ◌⊎◌, Bool, List, [], ◌∷◌, ◌++◌, Some, None, refl, ap, sym, ◌∙◌, subst, inl, inr, true}
+use Rattle.std.proofs.Common.{◌≡◌, ◌⊎◌, Bool, List, [], ◌∷◌, ◌++◌, Option, Some, None, refl, ap, sym, ◌∙◌, subst, inl, inr, false}
+use Rattle.std.specs.Prelude.{IsSomeAnd}
 use Rattle.loom_objects.specs.declared.choice.Choice.{Choice}
-use Rattle.loom_engine.specs.Walk.Driven.{Driven, last_run, one_run, IsOneOf, ToBeTried}
+use Rattle.loom_engine.specs.Walk.Driven.{Driven, last_run, one_run, IsOneOf}
 use Rattle.loom_engine.specs.Walk.Lists.{Begins}
-use Rattle.loom_engine.specs.Walk.Path.{Stored, choices, node_at, after_run}
+use Rattle.loom_engine.specs.Walk.Path.{Skip, Visited, Stored, choices, node_at, after_run}
 use Rattle.loom_engine.specs.Walk.Runs.{Alternative}
 use Rattle.loom_engine.specs.Trees.Marks.{marking}
 use Rattle.loom_engine.specs.Trees.Meeting.{Settings}
-use Rattle.loom_engine.proofs.Walk.Driven.{driven_law}
 use Rattle.loom_engine.specs.Path.Route.{Route, at_rest, stored}
 use Rattle.loom_engine.specs.declared.rt.execution.Limits.{Limits}
 use Rattle.loom.specs.Runner.Chains.{Run, choices_of, tree_of, machine, Follow, IsAmong}
-use Rattle.loom.specs.Runner.Laws.{AlternativesLaw}
-use Rattle.loom.proofs.RunnerLemmas.Trying.{alternative_tried}
-use Rattle.loom.proofs.RunnerLemmas.Following.{IsKnown, begins_fine, each_known, is_machine, rests, chosen_so, left_so, left_by}
+use Rattle.loom.specs.Runner.Laws.{AllTriedFrom, AlternativesLaw, HadTried, IsTried}
+use Rattle.loom.proofs.RunnerLemmas.Tried.{Tries, each_tried}
+use Rattle.loom.proofs.RunnerLemmas.Trying.{IsSkipped, IsToBeTried, alternative_tried, skips_own}
+use Rattle.loom.proofs.RunnerLemmas.Following.{IsFine, IsKnown, read_fine, begins_fine, each_known, is_machine, rests, chosen_so, left_so, left_by}
+
+-- the path's node says that the option was tried
+abbrev HasVisited : List Stored → List Choice → Choice → Type 0
+HasVisited p before o = (n : Stored) × (node_at p before ≡ Some n) × (n.status o ≡ Visited)
 
 module _ {D : Type 0} where
   -- the paths that the runs left, the oldest first, in front of others
@@ -46,45 +51,60 @@ module _ {D : Type 0} where
       go (inr (inl e)) = inl (r, inl refl, e)
       go (inr (inr z)) = inr z
 
-  module _ (limits : Limits) (s : Settings) (explores : Bool) where
-    driven_from : (runs : List (Run D)) (later : Route) → Follow limits (at_rest s explores []) runs (Some later) → (paths : List (List Stored)) → Driven (stored later.nodes) paths → Driven [] (onto runs paths)
+  module _ (limits : Limits) (s : Settings) (explores : Bool) (start : Route) (good : IsFine s explores start) where
+    driven_from : (runs : List (Run D)) (later : Route) → Follow limits start runs (Some later) → (paths : List (List Stored)) → Driven (stored later.nodes) paths → Driven (stored start.nodes) (onto runs paths)
     unfolding onto
-    driven_from [] later h paths d = let same : later ≡ at_rest s explores [] = cc h in subst (λ (t : Route). Driven (stored t.nodes) paths) same d
+    driven_from [] later h paths d = let same : later ≡ start = cc h in subst (λ (t : Route). Driven (stored t.nodes) paths) same d
     driven_from (r ∷ runs) later (before, ended, goes) paths d =
         driven_from runs r.began before (stored r.now.route.nodes ∷ paths)
-        (one_run (stored r.began.nodes) (stored r.now.route.nodes) (stored later.nodes) paths (left_by s explores limits r (begins_fine s explores limits runs r.began before) ended) goes.0 d)
+        (one_run (stored r.began.nodes) (stored r.now.route.nodes) (stored later.nodes) paths (left_by s explores limits r (begins_fine s explores limits start good runs r.began before) ended) goes.0 d)
 
-    all_driven : (runs : List (Run D)) → Follow limits (at_rest s explores []) runs None → Driven [] (onto runs [])
+    all_driven : (runs : List (Run D)) → Follow limits start runs None → Driven (stored start.nodes) (onto runs [])
     unfolding onto
     all_driven [] h = absurd (cc h)
     all_driven (r ∷ runs) (before, ended, goes) =
         driven_from runs r.began before (stored r.now.route.nodes ∷ [])
-        (last_run (stored r.began.nodes) (stored r.now.route.nodes) (left_by s explores limits r (begins_fine s explores limits runs r.began before) ended) goes)
+        (last_run (stored r.began.nodes) (stored r.now.route.nodes) (left_by s explores limits r (begins_fine s explores limits start good runs r.began before) ended) goes)
 
-    tried : (runs : List (Run D)) → Follow limits (at_rest s explores []) runs None → (r : Run D) → IsAmong r runs → IsKnown s explores limits r
-        → (before : List Choice) (o : Choice) → Alternative (machine limits s r) (choices_of r) before o → (x : Run D) × IsAmong x runs × Begins (before ++ o ∷ []) (choices_of x)
+    tried : (runs : List (Run D)) → Follow limits start runs None → (r : Run D) → IsAmong r runs → IsKnown s explores limits start good (IsSkipped s (stored start.nodes)) r
+        → (before : List Choice) (o : Choice) → Alternative (machine limits s r) (choices_of r) before o → IsTried runs before o ⊎ HadTried s start.nodes before o
     unfolding Left
-    tried runs h r among known before o alt = go (one_of_runs runs [] made.0 made.1)
+    tried runs h r among known before o alt =
+        by_path (alternative_tried s (marking s.bound) (tree_of limits r) (IsSkipped s (stored start.nodes)) (is_machine s explores limits r known.fine) (stored r.began.nodes) (rests s explores limits r known.fine known.ended) known.only before o
+        (subst (λ (c : List Choice). Alternative (machine limits s r) c before o) (chosen_so s explores limits r known.fine known.ended) alt))
       where
-        left_is : stored r.now.route.nodes ≡ after_run (machine limits s r) (stored r.began.nodes)
+        q : List Stored
+        q = after_run (machine limits s r) (stored r.began.nodes)
+
+        left_is : stored r.now.route.nodes ≡ q
         left_is = left_so s explores limits r known.fine known.ended
 
-        there : (n : Stored) × (node_at (after_run (machine limits s r) (stored r.began.nodes)) before ≡ Some n) × (n.made.exploring ≡ true) × ToBeTried (n.status o)
-        there =
-            alternative_tried s (marking s.bound) (tree_of limits r) (is_machine s explores limits r known.fine) (stored r.began.nodes) (rests s explores limits r known.fine known.ended) known.fine.skips_none before o
-            (subst (λ (c : List Choice). Alternative (machine limits s r) c before o) (chosen_so s explores limits r known.fine known.ended) alt)
+        says : (n : Stored) → node_at (stored start.nodes) before ≡ Some n → ((n.status o ≡ Visited) ⊎ ((s.reduce ≡ false) × (n.status o ≡ Skip))) → HadTried s start.nodes before o
+        says n at so = subst (λ (x : Option Stored). IsSomeAnd x (λ (y : Stored). (y.status o ≡ Visited) ⊎ ((s.reduce ≡ false) × (y.status o ≡ Skip)))) (sym at) so
 
-        made : (x : List Stored) × IsOneOf x (onto runs []) × Begins (before ++ o ∷ []) (choices x)
-        made =
-            driven_law (onto runs []) (all_driven runs h) (stored r.now.route.nodes) (among_paths runs [] r among) before there.0 o
-            (ap (λ (l : List Stored). node_at l before) left_is ∙ there.1) there.2 there.3
+        by_run : Tries (onto runs []) before o → IsTried runs before o
+        by_run made = go (one_of_runs runs [] made.0 made.1)
+          where
+            go : (((y : Run D) × IsAmong y runs × (made.0 ≡ stored y.now.route.nodes)) ⊎ ⊥) → IsTried runs before o
+            go (inr z) = absurd z
+            go (inl (y, a, e)) =
+                let k = each_known s explores limits start good (IsSkipped s (stored start.nodes)) (skips_own s (stored start.nodes) good.well.rest) runs None h y a in
+                let same : choices made.0 ≡ choices_of y = ap choices (e ∙ left_so s explores limits y k.fine k.ended) ∙ sym (chosen_so s explores limits y k.fine k.ended) in
+                (y, a, subst (Begins (before ++ o ∷ [])) same made.2)
 
-        go : (((y : Run D) × IsAmong y runs × (made.0 ≡ stored y.now.route.nodes)) ⊎ ⊥) → (x : Run D) × IsAmong x runs × Begins (before ++ o ∷ []) (choices_of x)
-        go (inr z) = absurd z
-        go (inl (y, a, e)) =
-            let k = each_known s explores limits runs None h y a in
-            let same : choices made.0 ≡ choices_of y = ap choices (e ∙ left_so s explores limits y k.fine k.ended) ∙ sym (chosen_so s explores limits y k.fine k.ended) in
-            (y, a, subst (Begins (before ++ o ∷ [])) same made.2)
+        by_walk : HasVisited (stored start.nodes) before o ⊎ Tries (onto runs []) before o → IsTried runs before o ⊎ HadTried s start.nodes before o
+        by_walk (inl z) = inr (says z.0 z.1 (inl z.2))
+        by_walk (inr z) = inl (by_run z)
+
+        by_path : IsToBeTried s (marking s.bound) (tree_of limits r) (IsSkipped s (stored start.nodes)) q before o ⊎ IsSkipped s (stored start.nodes) before o → IsTried runs before o ⊎ HadTried s start.nodes before o
+        by_path (inr z) = inr (says z.0 z.1 (inr (z.2, z.3)))
+        by_path (inl z) =
+            by_walk (each_tried (HasVisited (stored start.nodes)) (stored start.nodes) (onto runs []) (all_driven runs h) (λ b n c at e. (n, at, e)) (stored r.now.route.nodes) (among_paths runs [] r among) before z.node o
+            (ap (λ (l : List Stored). node_at l before) left_is ∙ z.at) z.exploring z.tried)
+
+    pub all_tried : (runs : List (Run D)) → Follow limits start runs None → AllTriedFrom limits s start.nodes runs
+    all_tried runs h r among before o alt =
+        tried runs h r among (each_known s explores limits start good (IsSkipped s (stored start.nodes)) (skips_own s (stored start.nodes) good.well.rest) runs None h r among) before o alt
 
 pub alternatives_law : {D : Type 0} → AlternativesLaw D
-alternatives_law limits s explores runs h r among before o alt = tried limits s explores runs h r among (each_known s explores limits runs None h r among) before o alt
+alternatives_law limits s explores text path runs reads h = all_tried limits s explores (at_rest s explores path) (read_fine s explores text path reads) runs h

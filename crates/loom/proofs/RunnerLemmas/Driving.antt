@@ -11,13 +11,13 @@ use Rattle.loom_objects.specs.Tree.Tree.{Tree, Gives}
 use Rattle.loom_engine.specs.Trees.Drive.{drive}
 use Rattle.loom_engine.specs.Trees.Marks.{marking}
 use Rattle.loom_engine.specs.Trees.Meeting.{Settings}
-use Rattle.loom_engine.specs.Trees.Sound.{IsFair, IsQuiet}
+use Rattle.loom_engine.specs.Trees.Sound.{EndsUnchosen, IsFair, IsQuiet}
 use Rattle.loom_engine.proofs.Trees.Binding.{drive_then, drive_fails}
 use Rattle.loom_engine.specs.Runs.Course.{Course, opening}
 use Rattle.loom_engine.specs.Runs.Machine.{submit}
 use Rattle.loom_engine.specs.Runs.Body.{at_turn}
 use Rattle.loom_engine.specs.Runs.Sound.{IsRunTree}
-use Rattle.loom_engine.proofs.Runs.Events.{IsGoing, IsOver, failing_run, event_then}
+use Rattle.loom_engine.proofs.Runs.Events.{IsGoing, IsOver, failing_run, event_then, event_unchosen}
 use Rattle.loom_engine.proofs.Runs.Steps.{submit_event}
 use Rattle.loom_engine.specs.Path.Route.{Route, IsSameSearch, trail}
 use Rattle.loom_engine.specs.declared.rt.execution.Limits.{Limits}
@@ -46,6 +46,20 @@ module _ {D : Type 0} where
   handing_run (op ∷ ops) c =
       event_then _ (submit op c) (submit_event op c)
       (λ turned going. turn_run turned.0 turned.1 (handing ops turned.1) (handing_run ops turned.1) going)
+      (λ turned over. turn_rests turned.0 turned.1 (handing ops turned.1) over)
+
+  turn_unchosen : (turned : Turn D) (c : Course D) (go : Tree D) → EndsUnchosen go → IsGoing (turned, c) → EndsUnchosen (at_turn (λ thread answer. go) (λ value. Gives value) turned)
+  turn_unchosen (turn.Reply thread answer) c go h going = h
+  turn_unchosen (turn.Start thread) c go h going = h
+  turn_unchosen (turn.Ended value) c go h going = absurd going
+
+  -- after a schedule without a default thread it asks nothing
+  pub handing_unchosen : (ops : List (Request D ⊤)) (c : Course D) → EndsUnchosen (handing ops c)
+  unfolding handing
+  handing_unchosen [] c = tt
+  handing_unchosen (op ∷ ops) c =
+      event_unchosen _ (submit op c) (submit_event op c)
+      (λ turned going. turn_unchosen turned.0 turned.1 (handing ops turned.1) (handing_unchosen ops turned.1) going)
       (λ turned over. turn_rests turned.0 turned.1 (handing ops turned.1) over)
 
   -- ---- what a history comes to

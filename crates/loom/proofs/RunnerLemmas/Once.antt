@@ -15,27 +15,27 @@ use Rattle.loom_engine.specs.declared.rt.execution.Limits.{Limits}
 use Rattle.loom.specs.Runner.Chains.{Run, HasEnded, HasFailed, GoesTo, choices_of, tree_of, machine, Follow}
 use Rattle.loom.specs.Runner.Laws.{OnceLaw}
 use Rattle.loom.proofs.RunnerLemmas.Paths.{WasMade, still_made, made_on, now_made, not_made}
-use Rattle.loom.proofs.RunnerLemmas.Following.{IsFine, begins_fine, is_machine, chosen_so, left_so, left_by, begins, failed_from}
+use Rattle.loom.proofs.RunnerLemmas.Following.{IsFine, read_fine, begins_fine, is_machine, chosen_so, left_so, left_by, begins, failed_from}
 
-module _ {D : Type 0} (limits : Limits) (s : Settings) (explores : Bool) where
+module _ {D : Type 0} (limits : Limits) (s : Settings) (explores : Bool) (start : Route) (good : IsFine s explores start) where
   -- the run was made by the path to which the search goes on from it
   last_made : (r : Run D) → IsFine s explores r.began → HasEnded limits r → (later : Route) → GoesTo r.now.route (Some later) → WasMade (stored later.nodes) (choices_of r)
   last_made r fine ended later goes =
       let same : choices_of r ≡ choices (stored r.now.route.nodes) = chosen_so s explores limits r fine ended ∙ ap choices (sym (left_so s explores limits r fine ended)) in
       subst (WasMade (stored later.nodes)) (sym same) (now_made (stored r.now.route.nodes) (stored later.nodes) goes.0)
 
-  made_all : (runs : List (Run D)) (later : Route) → Follow limits (at_rest s explores []) runs (Some later) → (x : List Choice) → Member x (map choices_of runs) → WasMade (stored later.nodes) x
+  made_all : (runs : List (Run D)) (later : Route) → Follow limits start runs (Some later) → (x : List Choice) → Member x (map choices_of runs) → WasMade (stored later.nodes) x
   made_all [] later h x member = absurd member
-  made_all (r ∷ runs) later (before, ended, goes) x (inl e) = subst (WasMade (stored later.nodes)) (sym e) (last_made r (begins_fine s explores limits runs r.began before) ended later goes)
+  made_all (r ∷ runs) later (before, ended, goes) x (inl e) = subst (WasMade (stored later.nodes)) (sym e) (last_made r (begins_fine s explores limits start good runs r.began before) ended later goes)
   made_all (r ∷ runs) later (before, ended, goes) x (inr member) =
       made_on (stored r.now.route.nodes) (stored later.nodes) x goes.0
-      (still_made (stored r.began.nodes) (stored r.now.route.nodes) x (left_by s explores limits r (begins_fine s explores limits runs r.began before) ended) (made_all runs r.began before x member))
+      (still_made (stored r.began.nodes) (stored r.now.route.nodes) x (left_by s explores limits r (begins_fine s explores limits start good runs r.began before) ended) (made_all runs r.began before x member))
 
-  once : (runs : List (Run D)) (later : Option Route) → Follow limits (at_rest s explores []) runs later → IsOnce (map choices_of runs)
+  pub once : (runs : List (Run D)) (later : Option Route) → Follow limits start runs later → IsOnce (map choices_of runs)
   once [] later h = tt
   once (r ∷ runs) later (before, ended, goes) =
-      let fine = begins_fine s explores limits runs r.began before in (
-        λ member. not_made (stored r.began.nodes) (choices_of r) fine.nodes_rest (made_all runs r.began before (choices_of r) member) (inl (begins s explores limits r fine ended)),
+      let fine = begins_fine s explores limits start good runs r.began before in (
+        λ member. not_made (stored r.began.nodes) (choices_of r) fine.well.rest (made_all runs r.began before (choices_of r) member) (inl (begins s explores limits r fine ended)),
         once runs (Some r.began) before,
       )
 
@@ -46,7 +46,7 @@ module _ {D : Type 0} (limits : Limits) (s : Settings) (explores : Bool) where
       stops : IsPartedAt (machine limits s r) (stored r.began.nodes) (choices_of r) → ⊥
       stops parted =
           let b = node_chooses (stored r.began.nodes) (choices_of r) parted.node parted.stands in
-          not_made (stored r.began.nodes) (choices_of r) fine.nodes_rest z (inr (parted.node.present ∷ b.0, b.1))
+          not_made (stored r.began.nodes) (choices_of r) fine.well.rest z (inr (parted.node.present ∷ b.0, b.1))
 
       go : HasFailedFrom s (marking s.bound) (tree_of limits r) (stored r.began.nodes) [] failure.kind (choices_of r) → ⊥
       go (own i) =
@@ -56,10 +56,16 @@ module _ {D : Type 0} (limits : Limits) (s : Settings) (explores : Bool) where
       go (fails_early i) = stops i.parted
 
 pub once_law : {D : Type 0} → OnceLaw D
-once_law limits s explores runs later h = (
-  once limits s explores runs later h,
+once_law limits s explores text path runs later reads h = (
+  once limits s explores start good runs later h,
   λ r failure e f member. (
-      let before = subst (Follow limits (at_rest s explores []) runs) e h in
-      failing_new limits s explores r failure (begins_fine s explores limits runs r.began before) f (made_all limits s explores runs r.began before (choices_of r) member)
+      let before = subst (Follow limits start runs) e h in
+      failing_new limits s explores start good r failure (begins_fine s explores limits start good runs r.began before) f (made_all limits s explores start good runs r.began before (choices_of r) member)
       ),
 )
+  where
+    start : Route
+    start = at_rest s explores path
+
+    good : IsFine s explores (at_rest s explores path)
+    good = read_fine s explores text path reads

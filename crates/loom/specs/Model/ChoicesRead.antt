@@ -1,9 +1,23 @@
 -- What a text of choices is read as.
-use Rattle.std.specs.Prelude.{ℕ, ◌≡◌, ◌<◌, cond, List, [], ◌∷◌, Option, Some, None}
+use Rattle.std.specs.Prelude.{ℕ, ◌≡◌, Bool, true, cond, nat_lt, List, [], ◌∷◌, Option, Some, None}
+use Rattle.std.specs.List.{list_all}
+use Rattle.std.specs.Option.{option_and_then}
 use Rattle.loom_objects.specs.declared.choice.Choice.{Choice}
 use Rattle.loom_objects.specs.declared.choice.Choice.TheVariants.{Thread, Load, Spurious}
 use Rattle.loom_objects.specs.Choice.{after_word, is_space}
+use Rattle.loom_objects.specs.World.{MAX_THREADS}
 use Rattle.loom.specs.Model.ChoicesText.{choices_text}
+
+-- a run has threads 0 to 4 at most, and a load slots 0 to 6
+abbrev pub may_come : Choice → Bool
+may_come (Thread None) = true
+may_come (Thread (Some thread)) = nat_lt thread MAX_THREADS
+may_come (Load slot) = nat_lt slot 7
+may_come (Spurious wakes) = true
+
+-- the choice of the word that begins with this letter, if a run may make it
+abbrev pub first_choice : ℕ → List ℕ → Option Choice
+first_choice letter after = option_and_then (λ choice. cond (may_come choice) (Some choice) None) (after_word letter after)
 
 abbrev pub before : Option Choice → Option (List Choice) → Option (List Choice)
 before None choices = None
@@ -14,19 +28,8 @@ before (Some choice) (Some choices) = Some (choice ∷ choices)
 abbrev pub choices_in : List ℕ → Option (List Choice)
 choices_in [] = Some []
 choices_in (letter ∷ []) = cond (is_space letter) (Some []) None
-choices_in (letter ∷ sign ∷ rest) = cond (is_space letter) (choices_in (sign ∷ rest)) (before (after_word letter (sign ∷ rest)) (choices_in rest))
-
--- its number has one digit
-abbrev pub IsShort : Choice → Type 0
-IsShort (Thread None) = Unit {0}
-IsShort (Thread (Some thread)) = thread < 10
-IsShort (Load slot) = slot < 10
-IsShort (Spurious wakes) = Unit {0}
-
-abbrev pub AreShort : List Choice → Type 0
-AreShort [] = Unit {0}
-AreShort (choice ∷ choices) = IsShort choice × AreShort choices
+choices_in (letter ∷ sign ∷ rest) = cond (is_space letter) (choices_in (sign ∷ rest)) (before (first_choice letter (sign ∷ rest)) (choices_in rest))
 
 -- what is written is read back
 abbrev pub ReadsBackLaw : Type 0
-ReadsBackLaw = (choices : List Choice) → AreShort choices → choices_in (choices_text choices) ≡ Some choices
+ReadsBackLaw = (choices : List Choice) → list_all may_come choices ≡ true → choices_in (choices_text choices) ≡ Some choices

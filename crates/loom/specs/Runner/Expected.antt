@@ -7,9 +7,9 @@ use Rattle.loom.specs.declared.runner.defaults.NoVisitor.{NoVisitor}
 use Rattle.loom.specs.declared.runner.expecting.Incomplete.{Incomplete}
 use Rattle.loom.specs.declared.runner.expecting.Incomplete.TheVariants.{NoReport, Found}
 use Rattle.loom.specs.declared.runner.stop.Stop.{Stop}
-use Rattle.loom.specs.Runner.Check.{Reports}
+use Rattle.loom.specs.Runner.Check.{ReportsAlone}
 use Rattle.loom.specs.Runner.Handle.{Teller}
-use Rattle.loom.specs.Runner.Refusals.{IsNoReport}
+use Rattle.loom.specs.Runner.Refusals.{IsNoReportAlone}
 
 -- nobody is given the runs
 abbrev pub ignores : {D : Type 0} → NoVisitor → List Choice → D → NoVisitor → Type 0
@@ -17,6 +17,6 @@ ignores old choices value new = Unit {0}
 
 -- the number of runs, where the check of the closure is complete; else why there is no report, or another report
 abbrev pub IsAnswered : {D F : Type 0} → (F → Teller D → Result D Stop → F → Teller D → Type 0) → Builder → F → Result ℕ Incomplete → Type 0
-IsAnswered called b f (Ok runs) = (v v' : NoVisitor) × Reports called ignores b f v v' (Complete runs)
-IsAnswered called b f (Err (NoReport e)) = (v v' : NoVisitor) × IsNoReport called ignores b f v v' e
-IsAnswered called b f (Err (Found report)) = (v v' : NoVisitor) × Reports called ignores b f v v' report × ((runs : ℕ) → report ≢ Complete runs)
+IsAnswered called b f (Ok runs) = (v v' : NoVisitor) × ReportsAlone called ignores b f v v' (Complete runs)
+IsAnswered called b f (Err (NoReport e)) = (v v' : NoVisitor) × IsNoReportAlone called ignores b f v v' e
+IsAnswered called b f (Err (Found report)) = (v v' : NoVisitor) × ReportsAlone called ignores b f v v' report × ((runs : ℕ) → report ≢ Complete runs)

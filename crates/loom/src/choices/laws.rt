@@ -1,8 +1,7 @@
 //! What is written is read back.
 ghost use Rattle.loom.specs.Model.ChoicesRead.{ReadsBackLaw};
 
-/// The text of choices is read as these choices, where each number has one digit. So it is in every run: there are five threads
-/// at most, and seven slots.
+/// The text of choices that a run may make is read as these choices.
 pub fn reads_back()
     ensures { ReadsBackLaw }
 {}

@@ -83,7 +83,7 @@ where
 }
 
 /// Saves the path where it is time for that. Answers how many runs are made until the next time.
-fn keep<S: CheckpointStore, L: Log>(
+pub fn keep<S: CheckpointStore, L: Log>(
     alloc: Global,
     path: &Path,
     store: &mut S,

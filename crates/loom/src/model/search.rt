@@ -66,7 +66,7 @@ impl Builder {
     }
 
     /// The limit that a check has reached after so many runs, if any. The clock is asked where a duration is set.
-    fn reached<C: Clock>(&self, runs: u64, clock: &mut C) -> Option<Limit>
+    pub(crate) fn reached<C: Clock>(&self, runs: u64, clock: &mut C) -> Option<Limit>
         ensures reached { HasReached (C.answered clock.new) self.now runs result }
         ensures fits { result ≡ None → runs < 2 ^ 64 - 1 }
     {
@@ -185,7 +185,7 @@ impl<'a, B: Body, L: Log> BodyRuns<'a, B, L> {
 }
 
 /// The check is complete with so many runs, and logs that.
-fn complete<L: Log>(log: &L, runs: u64) -> Report
+pub(crate) fn complete<L: Log>(log: &L, runs: u64) -> Report
     ensures { result ≡ Complete runs }
 {
     log_runs(log, "completed in ", runs, " iterations");

@@ -1,25 +1,26 @@
-//! The check of a closure: one run after another, up to a report.
-ghost use Rattle.std.specs.Prelude.{◌≡◌, ◌≤◌, Err, IfOk, IfErr, IfSome};
+//! Checks of a closure: one run after another, up to a report.
+ghost use Rattle.std.specs.Prelude.{◌≡◌, IfOk, IfErr, OnErr};
 ghost use Rattle.std.specs.Fn.{CalledAtMut};
 ghost use Rattle.loom.specs.Model.Settings.{tested};
+ghost use Rattle.loom.specs.Model.Stores.{HasRisen};
 ghost use Rattle.loom.specs.declared.runner.error.RunnerError.TheVariants.{Settings};
-ghost use Rattle.loom.specs.Runner.Check.{Reports, fresh_path};
-ghost use Rattle.loom.specs.Runner.Refusals.{BreaksOff, IsNoReport};
+ghost use Rattle.loom.specs.Runner.Alike.{IsChangedSo, ReportsAlike};
+ghost use Rattle.loom.specs.Runner.Check.{Reports, ReportsAlone, limits_of};
+ghost use Rattle.loom.specs.Runner.Refusals.{CountsFaults, IsNoReport, IsNoReportAlone, StillHolds};
 
-use crate::model::Limit;
+use crate::checkpoint::memory::MemoryStore;
+use crate::checkpoint::store::CheckpointStore;
 use crate::model::builder::Builder;
-use crate::model::limits::most_runs;
-use crate::model::paths::path_search;
+use crate::model::clock::{Clock, NoClock};
 use crate::model::report::Report;
 use crate::model::visitor::Visitor;
 use crate::runner::error::RunnerError;
 use crate::runner::exact::Exact;
 use crate::runner::handle::Handle;
-use crate::runner::run::make_run;
-use crate::runner::run_end::RunEnd;
+use crate::runner::last_run::LastRun;
+use crate::runner::rounds::make_rounds;
 use crate::runner::stop::Stop;
-use loom_engine::rt::execution::Limits;
-use loom_engine::rt::path::Path;
+use log::Log;
 use std::alloc::Global;
 use std::sync::Wait;
 use std::thread::Threads;
@@ -30,8 +31,9 @@ use std::thread::Threads;
 ///
 /// A setting out of range is refused before any run, as `Settings`. Besides, an error comes only where a growth or a thread was
 /// refused, as `Memory` and `Refused`, or where a run's end isn't settled, as `NotSettled`: mostly where the threads' told lists
-/// aren't those of its history. Then the visitor was given just the runs that had ended before. A closure whose runs differ under
-/// the same choices may fail as `NotDeterministic`. Saves nothing, and asks no clock.
+/// aren't those of its history. Then the visitor was given just the runs that had ended before. So it was where a thread hands over
+/// another operation than in the run before, after the same choices: that is `Changed`, unless the run fails as `NotDeterministic`,
+/// since its path says otherwise. Saves nothing, and has no clock: only a `max_duration` of zero stops it.
 pub fn check<
     D: Exact + 'static,
     R: Threads + Wait + Clone + Send + 'static,
@@ -45,9 +47,11 @@ pub fn check<
     visitor: &mut V,
 ) -> Result<Report, RunnerError>
     requires { F.IsAlwaysCallable closure }
-    ensures reports { IfOk result (Reports (CalledAtMut F.FnMut) V.takes builder.now closure visitor.old visitor.new) }
+    ensures reports { IfOk result (ReportsAlone (CalledAtMut F.FnMut) V.takes builder.now closure visitor.old visitor.new) }
+    ensures alike { IfOk result (ReportsAlike (CalledAtMut F.FnMut) V.takes (limits_of builder.now) closure) }
+    ensures changed { IfErr result (IsChangedSo (CalledAtMut F.FnMut) V.takes (limits_of builder.now) closure) }
     ensures refused { IfErr (tested builder.now) (λ e. (result ≡ Err (Settings e)) × (visitor.new ≡ visitor.old)) }
-    ensures errors { IfErr result (IsNoReport (CalledAtMut F.FnMut) V.takes builder.now closure visitor.old visitor.new) }
+    ensures errors { IfErr result (IsNoReportAlone (CalledAtMut F.FnMut) V.takes builder.now closure visitor.old visitor.new) }
 {
     check_lent(rt, alloc, builder, &mut closure, visitor)
 }
@@ -67,75 +71,97 @@ pub(crate) fn check_lent<
 ) -> Result<Report, RunnerError>
     requires { F.IsAlwaysCallable closure.old }
     ensures again { F.IsAlwaysCallable closure.new }
-    ensures reports { IfOk result (Reports (CalledAtMut F.FnMut) V.takes builder.now closure.old visitor.old visitor.new) }
+    ensures reports { IfOk result (ReportsAlone (CalledAtMut F.FnMut) V.takes builder.now closure.old visitor.old visitor.new) }
+    ensures alike { IfOk result (ReportsAlike (CalledAtMut F.FnMut) V.takes (limits_of builder.now) closure.old) }
+    ensures changed { IfErr result (IsChangedSo (CalledAtMut F.FnMut) V.takes (limits_of builder.now) closure.old) }
     ensures refused { IfErr (tested builder.now) (λ e. (result ≡ Err (Settings e)) × (visitor.new ≡ visitor.old)) }
-    ensures errors { IfErr result (IsNoReport (CalledAtMut F.FnMut) V.takes builder.now closure.old visitor.old visitor.new) }
+    ensures errors { IfErr result (IsNoReportAlone (CalledAtMut F.FnMut) V.takes builder.now closure.old visitor.old visitor.new) }
 {
-    builder.test()?;
-    let mut path = fresh_path(alloc, builder);
-    make_runs(rt, alloc, builder, &mut path, closure, visitor)
+    let mut store = None::<MemoryStore>;
+    let log = None::<HostRuntime>;
+    check_lent_with(
+        rt,
+        alloc,
+        builder,
+        closure,
+        visitor,
+        &mut NoClock,
+        &mut store,
+        &log,
+    )
 }
 
-/// Makes one run of the closure after another, by settings in range, from this path on. It has several exits and owns nothing,
-/// since what a function owns is let go at each.
-fn make_runs<
+/// Makes one run of the closure after another, until nothing is left that the search tries, a run fails or a limit is reached,
+/// and gives each that ended without a failure to the visitor (own; for bodies it is `Builder::check_with`). It begins with the
+/// path that the store holds, if there is one, and saves its path before each run whose number is a multiple of the interval, and
+/// where it stops. The clock is asked once before each run, where a duration is set. `None` is no store and no log.
+///
+/// A setting out of range is refused before any run, the first one first, and then a text that is no path of this check, both as
+/// `Settings`; a fault of the store is one too. Its other errors are those of `check`. After an error only visitor, clock, store and
+/// log have moved, and the store holds what it held, or a text of a path that the check has come to. Where the path that the store
+/// held is one of another closure, the first run may fail as `NotDeterministic`.
+pub fn check_with<
     D: Exact + 'static,
     R: Threads + Wait + Clone + Send + 'static,
     F: FnMut(&mut Handle<D, R>) -> Result<D, Stop>,
     V: Visitor<D>,
+    C: Clock,
+    S: CheckpointStore,
+    L: Log,
 >(
     rt: &R,
     alloc: Global,
     builder: &Builder,
-    path: &mut Path,
-    closure: &mut F,
+    mut closure: F,
     visitor: &mut V,
+    clock: &mut C,
+    store: &mut S,
+    log: &L,
 ) -> Result<Report, RunnerError>
-    requires some { 1 ≤ builder.now.max_threads }
-    requires few { builder.now.max_threads ≤ 5 }
-    requires fresh { path.old ≡ fresh_path builder.now }
-    requires callable { F.IsAlwaysCallable closure.old }
-    ensures again { F.IsAlwaysCallable closure.new }
-    ensures reports { IfOk result (Reports (CalledAtMut F.FnMut) V.takes builder.now closure.old visitor.old visitor.new) }
-    ensures errors { IfErr result (BreaksOff (CalledAtMut F.FnMut) V.takes builder.now closure.old visitor.old visitor.new) }
+    requires { F.IsAlwaysCallable closure }
+    ensures reports { IfOk result (Reports (CalledAtMut F.FnMut) V.takes builder.now closure visitor.old visitor.new (S.gives store.old) (S.holds store.new) (C.answered clock.new)) }
+    ensures alike { IfOk result (ReportsAlike (CalledAtMut F.FnMut) V.takes (limits_of builder.now) closure) }
+    ensures changed { IfErr result (IsChangedSo (CalledAtMut F.FnMut) V.takes (limits_of builder.now) closure) }
+    ensures refused { IfErr (tested builder.now) (λ e. (result ≡ Err (Settings e)) × (visitor.new ≡ visitor.old)) }
+    ensures errors { IfErr result (IsNoReport (CalledAtMut F.FnMut) V.takes builder.now (S.gives store.old) (HasRisen (S.fault_count store.old) (S.fault_count store.new)) closure visitor.old visitor.new) }
+    ensures left { OnErr result (StillHolds (CalledAtMut F.FnMut) V.takes builder.now (S.gives store.old) (S.holds store.old) (S.holds store.new) closure visitor.old) }
+    ensures faults { CountsFaults result (S.fault_count store.old) (S.fault_count store.new) }
 {
-    let limits = Limits {
-        max_threads: builder.max_threads,
-        max_steps: builder.max_steps,
-    };
-    let most = most_runs(builder.max_permutations);
-    for runs in 0..most {
-        let end = make_run(rt, alloc, limits, path, closure, visitor)?;
-        match end {
-            RunEnd::Failed(failure, choices) => {
-                return Ok(Report::Failed {
-                    runs,
-                    failure,
-                    choices,
-                });
-            }
-            RunEnd::Ended(None) => return Ok(Report::Complete { runs: runs + 1 }),
-            RunEnd::Ended(Some(next)) => *path = next,
-        }
-    }
-    Ok(Report::Stopped {
-        runs: most,
-        limit: Limit::Permutations,
-        checkpoint: String::new(alloc),
-    })
+    check_lent_with(rt, alloc, builder, &mut closure, visitor, clock, store, log)
 }
 
-/// The path with which a check begins.
-fn fresh_path(alloc: Global, builder: &Builder) -> Path
-    requires branches { builder.now.max_branches ≤ 1000000 }
-    requires bound { IfSome builder.now.preemption_bound (λ bound. bound ≤ 255) }
-    ensures { result ≡ fresh_path builder.now }
+/// `check_with` of a closure that is called again afterwards.
+pub(crate) fn check_lent_with<
+    D: Exact + 'static,
+    R: Threads + Wait + Clone + Send + 'static,
+    F: FnMut(&mut Handle<D, R>) -> Result<D, Stop>,
+    V: Visitor<D>,
+    C: Clock,
+    S: CheckpointStore,
+    L: Log,
+>(
+    rt: &R,
+    alloc: Global,
+    builder: &Builder,
+    closure: &mut F,
+    visitor: &mut V,
+    clock: &mut C,
+    store: &mut S,
+    log: &L,
+) -> Result<Report, RunnerError>
+    requires { F.IsAlwaysCallable closure.old }
+    ensures again { F.IsAlwaysCallable closure.new }
+    ensures reports { IfOk result (Reports (CalledAtMut F.FnMut) V.takes builder.now closure.old visitor.old visitor.new (S.gives store.old) (S.holds store.new) (C.answered clock.new)) }
+    ensures alike { IfOk result (ReportsAlike (CalledAtMut F.FnMut) V.takes (limits_of builder.now) closure.old) }
+    ensures changed { IfErr result (IsChangedSo (CalledAtMut F.FnMut) V.takes (limits_of builder.now) closure.old) }
+    ensures refused { IfErr (tested builder.now) (λ e. (result ≡ Err (Settings e)) × (visitor.new ≡ visitor.old)) }
+    ensures errors { IfErr result (IsNoReport (CalledAtMut F.FnMut) V.takes builder.now (S.gives store.old) (HasRisen (S.fault_count store.old) (S.fault_count store.new)) closure.old visitor.old visitor.new) }
+    ensures left { OnErr result (StillHolds (CalledAtMut F.FnMut) V.takes builder.now (S.gives store.old) (S.holds store.old) (S.holds store.new) closure.old visitor.old) }
+    ensures faults { CountsFaults result (S.fault_count store.old) (S.fault_count store.new) }
 {
-    let search = path_search(
-        builder.reduce,
-        builder.preemption_bound,
-        builder.max_branches,
-        builder.expect_explicit_explore,
-    );
-    Path::new(alloc, search)
+    builder.test()?;
+    let mut last = LastRun::none(alloc);
+    make_rounds(
+        rt, alloc, builder, &mut last, closure, visitor, clock, store, log,
+    )
 }

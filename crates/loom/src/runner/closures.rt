@@ -1,6 +1,6 @@
 //! Calls of closures, and what stands behind a loop of them that has no end. What a closure is given is a type parameter here, since
 //! the borrow checker doesn't cover a call of a closure that is given a type with references in it.
-ghost use Rattle.std.specs.Fn.{CalledAtMut};
+ghost use Rattle.std.specs.Fn.{CalledAtMut, CalledWithState};
 
 use std::sync::Wait;
 
@@ -11,6 +11,19 @@ pub fn ask_closure<H, T, F: FnMut(&mut H) -> T>(closure: &mut F, handle: &mut H)
     ensures again { F.IsAlwaysCallable closure.new }
 {
     closure(handle)
+}
+
+/// Calls a future's closure, and hands it this (own).
+pub fn poll_closure<H, A, T, F: FnMut(&mut H, A) -> T>(
+    closure: &mut F,
+    handle: &mut H,
+    given: A,
+) -> T
+    requires { F.IsAlwaysCallable closure.old }
+    ensures called { CalledWithState F.FnMut closure.old handle.old given result closure.new handle.new }
+    ensures again { F.IsAlwaysCallable closure.new }
+{
+    closure(handle, given)
 }
 
 /// Waits, and never comes back. It stands behind more rounds than a run can make.

@@ -1,9 +1,9 @@
 //! The check of a closure by the default settings, and the visitor that looks at no run.
-ghost use Rattle.std.specs.Prelude.{◌≡◌, IfOk, IfErr};
+ghost use Rattle.std.specs.Prelude.{◌≡◌, None, IfOk, IfErr};
 ghost use Rattle.std.specs.Fn.{CalledAtMut};
 ghost use Rattle.loom.specs.Model.Settings.{defaults};
-ghost use Rattle.loom.specs.Runner.Check.{Reports};
-ghost use Rattle.loom.specs.Runner.Refusals.{BreaksOff};
+ghost use Rattle.loom.specs.Runner.Check.{ReportsAlone};
+ghost use Rattle.loom.specs.Runner.Refusals.{GivesUp};
 
 use crate::model::builder::Builder;
 use crate::model::report::Report;
@@ -38,8 +38,8 @@ pub fn model<
     F: FnMut(&mut Handle<D, R>) -> Result<D, Stop>,
 >(rt: &R, alloc: Global, closure: F) -> Result<Report, RunnerError>
     requires { F.IsAlwaysCallable closure }
-    ensures reports { IfOk result (λ report. (v v' : NoVisitor) × Reports (CalledAtMut F.FnMut) (λ old choices value new. Unit {0}) defaults closure v v' report) }
-    ensures errors { IfErr result (λ e. (v v' : NoVisitor) × BreaksOff (CalledAtMut F.FnMut) (λ old choices value new. Unit {0}) defaults closure v v' e) }
+    ensures reports { IfOk result (λ report. (v v' : NoVisitor) × ReportsAlone (CalledAtMut F.FnMut) (λ old choices value new. Unit {0}) defaults closure v v' report) }
+    ensures errors { IfErr result (λ e. (v v' : NoVisitor) × GivesUp (CalledAtMut F.FnMut) (λ old choices value new. Unit {0}) defaults (λ text. text ≡ None) ⊥ closure v v' e) }
 {
     check(rt, alloc, &Builder::new(), closure, &mut NoVisitor)
 }

@@ -15,7 +15,10 @@ mod channels;
 mod entries;
 mod locks;
 mod threads;
+mod tracks;
+mod values;
 mod waits;
+mod wakers;
 
 use crate::runner::error::RunnerError;
 use crate::runner::exact::Exact;
@@ -142,6 +145,7 @@ impl<D: Exact + 'static, R: Wait> Handle<D, R> {
         ensures stopped { IfErr result (λ stop. ByStop stop (self.new.told ≡ with_open self.old.told op) (self.new.starved ≡ true)) }
     {
         if let Some(stop) = self.stop {
+            shared::answer_again(&self.rt, &self.shared, self.thread);
             op.let_go();
             return Err(stop);
         }

@@ -77,6 +77,15 @@ impl<D> History<D> {
     }
 }
 
+impl<D: Drop> History<D> {
+    /// The events themselves, the first one first (own).
+    pub fn into_events(self) -> Vec<Event<D>>
+        ensures { result.items ≡ self }
+    {
+        self.events
+    }
+}
+
 impl<D: Exact> History<D> {
     /// Hands an operation of the thread whose turn it is, with its label, over to the machine: one event more, or it is said why
     /// there is none (own). `Memory` where a growth was refused, the failure `MISUSE` where that thread isn't there.

@@ -2,8 +2,10 @@
 ghost use Rattle.std.specs.Prelude.{◌≡◌, ◌≤◌, ◌<◌, IfOk, IfErr, length, slice_get};
 ghost use Rattle.std.specs.Fn.{CalledAtMut};
 ghost use Rattle.loom_engine.specs.Path.Route.{IsAtStart};
+ghost use Rattle.loom.specs.Runner.Alike.{Follows};
 ghost use Rattle.loom.specs.Runner.Errors.{IsRefusedByHost};
-ghost use Rattle.loom.specs.Runner.Refusals.{IsNoRun, IsNotJudged};
+ghost use Rattle.loom.specs.Runner.Refusals.{IsNoRun};
+ghost use Rattle.loom.specs.Runner.Next.{IsNoNextRun, IsNotJudgedNext, MakesNext};
 ghost use Rattle.loom.specs.Runner.Run.{Judged, WasCalled, WasMade};
 
 use crate::model::visitor::Visitor;
@@ -12,6 +14,7 @@ use crate::runner::error::{RunnerError, error_by};
 use crate::runner::exact::Exact;
 use crate::runner::handle::Handle;
 use crate::runner::history::told::Told;
+use crate::runner::last_run::LastRun;
 use crate::runner::run_end::{RunEnd, next_path};
 use crate::runner::shared::{Shared, main_handle, share};
 use crate::runner::stop::Stop;
@@ -46,10 +49,49 @@ pub fn make_run<
     ensures made { IfOk result (λ end. WasMade (CalledAtMut F.FnMut) V.takes limits closure.old visitor.old path.now end closure.new visitor.new) }
     ensures errors { IfErr result (λ e. IsNoRun (CalledAtMut F.FnMut) V.takes limits closure.old visitor.old path.now e visitor.new) }
 {
+    let mut last = LastRun::none(alloc);
+    make_next_run(rt, alloc, limits, path, 1, &mut last, closure, visitor)
+}
+
+/// `make_run` of the run of this number after another one. `Changed` besides, where a thread hands over another operation than in that
+/// one, after the same choices, and the run didn't fail as not deterministic: then the visitor isn't given it (own).
+pub fn make_next_run<
+    D: Exact + 'static,
+    R: Threads + Wait + Clone + Send + 'static,
+    F: FnMut(&mut Handle<D, R>) -> Result<D, Stop>,
+    V: Visitor<D>,
+>(
+    rt: &R,
+    alloc: Global,
+    limits: Limits,
+    path: &Path,
+    number: u64,
+    last: &mut LastRun<D>,
+    closure: &mut F,
+    visitor: &mut V,
+) -> Result<RunEnd, RunnerError>
+    requires some { 1 ≤ limits.max_threads }
+    requires few { limits.max_threads ≤ 5 }
+    requires starts { IsAtStart path.now.explores path.now }
+    requires callable { F.IsAlwaysCallable closure.old }
+    ensures again { F.IsAlwaysCallable closure.new }
+    ensures made { IfOk result (λ end. WasMade (CalledAtMut F.FnMut) V.takes limits closure.old visitor.old path.now end closure.new visitor.new) }
+    ensures next { IfOk result (λ end. MakesNext (CalledAtMut F.FnMut) V.takes limits closure.old last.old end closure.new last.new) }
+    ensures errors { IfErr result (λ e. IsNoNextRun (CalledAtMut F.FnMut) V.takes limits closure.old visitor.old path.now last.old number e visitor.new) }
+{
     let shared = share(alloc, limits, path)?;
     let told = call_closure(rt, alloc, &shared, closure)?;
-    let turns = shared.turns.lock(rt);
-    judge(limits, path, &*turns, told.as_slice(), visitor)
+    let mut turns = shared.turns.lock(rt);
+    judge(
+        alloc,
+        limits,
+        path,
+        number,
+        &mut *turns,
+        told.as_slice(),
+        last,
+        visitor,
+    )
 }
 
 /// Calls the closure as main, and closes its handle. Answers the threads' told lists, main's first.
@@ -100,16 +142,20 @@ fn place_of<D>(told: &[Told<D>], thread: usize) -> usize
     thread
 }
 
-/// Whether the run is settled. If it ended the visitor is given it, and the next path is made.
+/// Whether the run is settled, and like the last one. If it ended the visitor is given it, and the next path is made.
 fn judge<D: Exact, V: Visitor<D>>(
+    alloc: Global,
     limits: Limits,
     path: &Path,
-    turns: &Turns<D>,
+    number: u64,
+    turns: &mut Turns<D>,
     told: &[Told<D>],
+    last: &mut LastRun<D>,
     visitor: &mut V,
 ) -> Result<RunEnd, RunnerError>
-    ensures judged { IfOk result (λ end. Judged V.takes limits visitor.old path.now turns.now told.now end visitor.new) }
-    ensures errors { IfErr result (λ e. IsNotJudged limits visitor.old path.now turns.now told.now e visitor.new) }
+    ensures judged { IfOk result (λ end. Judged V.takes limits visitor.old path.now turns.old told.now end visitor.new) }
+    ensures next { IfOk result (λ end. Follows last.old turns.old end last.new) }
+    ensures errors { IfErr result (λ e. IsNotJudgedNext limits visitor.old path.now last.old number turns.old told.now e visitor.new) }
 {
     if let Some(stop) = turns.spoiled() {
         return Err(error_by(stop));
@@ -120,6 +166,7 @@ fn judge<D: Exact, V: Visitor<D>>(
     let Ok(choices) = turns.choices() else {
         return Err(RunnerError::Memory);
     };
+    last.compare(alloc, number, choices.as_slice(), &*turns)?;
     if let Some(failure) = turns.failure() {
         return Ok(RunEnd::Failed(failure, choices));
     }
@@ -132,8 +179,12 @@ fn judge<D: Exact, V: Visitor<D>>(
     let Ok(next) = turns.path() else {
         return Err(RunnerError::Memory);
     };
+    let Ok(events) = turns.take_events() else {
+        return Err(RunnerError::Memory);
+    };
     if visitor.run(choices.as_slice(), value).is_err() {
         return Err(RunnerError::Memory);
     }
+    *last = LastRun::new(choices, events);
     Ok(RunEnd::Ended(next_path(next)))
 }

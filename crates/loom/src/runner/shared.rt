@@ -140,6 +140,12 @@ pub(crate) fn heed<D: Exact, R: Wait>(rt: &R, shared: &Shared<D>, stop: Stop) {
     }
 }
 
+/// A call of the thread was answered by the same stop as one before it.
+pub(crate) fn answer_again<D: Exact, R: Wait>(rt: &R, shared: &Shared<D>, me: u8) {
+    let mut turns = shared.turns.lock(rt);
+    turns.answer_again(me);
+}
+
 /// Waits until the thread may start. False if it never may.
 fn is_started<D: Exact, R: Wait>(rt: &R, shared: &Shared<D>, me: u8) -> bool {
     let turns = shared
@@ -210,6 +216,20 @@ fn run_job<D: Exact + 'static, R: Threads + Wait + Clone + Send + 'static, J: Jo
     handle.close(answer)
 }
 
+/// What the host refused where a thread that was joined answered this error. It was started, so it answers as its handle's `close`, and
+/// nothing but that memory or a thread was refused.
+fn refusal_in(error: &RunnerError) -> RunnerError
+    ensures { IsRefusedByHost result }
+{
+    match error {
+        RunnerError::Memory => RunnerError::Memory,
+        RunnerError::Refused
+        | RunnerError::NotSettled
+        | RunnerError::Settings(_)
+        | RunnerError::Changed(_) => RunnerError::Refused,
+    }
+}
+
 /// Joins all threads, also behind an error.
 pub(crate) fn join_all<D: Exact + 'static, R: Threads>(
     rt: &R,
@@ -227,11 +247,7 @@ pub(crate) fn join_all<D: Exact + 'static, R: Threads>(
                     error = Some(RunnerError::Memory);
                 }
             }
-            Err(RunnerError::Memory) => error = Some(RunnerError::Memory),
-            // A thread that was started answers as its handle's `close`, so nothing but that a thread was refused.
-            Err(RunnerError::Refused)
-            | Err(RunnerError::NotSettled)
-            | Err(RunnerError::Settings(_)) => error = Some(RunnerError::Refused),
+            Err(e) => error = Some(refusal_in(&e)),
         }
     }
     match error {

@@ -1,8 +1,9 @@
 //! The state of a run that its threads share.
-ghost use Rattle.std.specs.Prelude.{◌≡◌, ◌↔◌, ◌≤◌, [], IfOk, IfSome, IsTrue, MatchOption, None, Some};
+ghost use Rattle.std.specs.Prelude.{◌≡◌, ◌↔◌, ◌≤◌, [], IfOk, IfSome, IsTrue, MatchOption, None, OnErr, Some};
 ghost use Rattle.loom_engine.specs.Path.Route.{IsAtStart, chosen};
 ghost use Rattle.loom.specs.Runner.Histories.{active_at, Adds, Answers, IsDecided, IsHistory, IsNotAdded, Settles, Starts, last_event, end_in, ended_by, failed_by, or_else, why_stopped};
 
+mod ignored;
 pub mod laws;
 mod moment;
 
@@ -12,6 +13,7 @@ use crate::runner::history::event::Event;
 use crate::runner::history::shares::are_shares;
 use crate::runner::history::told::Told;
 use crate::runner::stop::Stop;
+use crate::runner::turns::ignored::Ignored;
 use crate::runner::turns::moment::Place;
 use loom_engine::rt::execution::{Execution, Limits};
 use loom_engine::rt::path::Path;
@@ -21,6 +23,7 @@ use loom_objects::label::Label;
 use loom_objects::operation::{Reply, Request};
 use std::alloc::{AllocError, Global};
 use std::marker::Model;
+use std::mem;
 
 /// A run so far, and how it came there: what its threads share under one lock (own). Unless a call was refused memory or a
 /// thread, the history leads from the run's beginning to the state.
@@ -34,6 +37,8 @@ pub struct Turns<D> {
     history: History<D>,
     // why the run goes no further, where that is no event of it
     spoiled: Option<Stop>,
+    // the stops that threads were answered again
+    ignored: Ignored,
 }
 
 impl<D> Model for Turns<D> {
@@ -70,6 +75,7 @@ impl<D: Exact> Turns<D> {
             limits,
             history,
             spoiled: None,
+            ignored: Ignored::new(),
         })
     }
 
@@ -166,6 +172,33 @@ impl<D: Exact> Turns<D> {
         ensures { result.now ≡ self.now.history }
     {
         self.history.events()
+    }
+
+    /// The events of the run, the first one first. It goes no further, and has none any more (own). An error where memory is refused, by
+    /// which nothing is changed.
+    pub(crate) fn take_events(&mut self) -> Result<Vec<Event<D>>, AllocError>
+        ensures events { IfOk result (λ events. events.items ≡ self.old.history) }
+        ensures refused { OnErr result (self.new ≡ self.old) }
+    {
+        let none = History::new(self.alloc)?;
+        self.spoiled = Some(Stop::Refused);
+        let history = mem::replace(&mut self.history, none);
+        Ok(history.into_events())
+    }
+
+    /// A call of the thread was answered by the same stop as one before it (own).
+    pub fn answer_again(&mut self, thread: u8)
+        ensures { self.new ≡ self.old }
+    {
+        self.ignored.count(thread);
+    }
+
+    /// A thread that goes on although the run has stopped: a thousand of its calls were answered by the same stop as one before
+    /// them. It is told once (own).
+    pub fn goes_on(&mut self) -> Option<u8>
+        ensures { self.new ≡ self.old }
+    {
+        self.ignored.tell()
     }
 
     /// The choices of the run. It fails only where a growth is refused (own).

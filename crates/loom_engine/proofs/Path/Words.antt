@@ -13,9 +13,9 @@ use Rattle.loom_engine.specs.declared.rt.path.node.Load.{Load}
 use Rattle.loom_engine.specs.declared.rt.path.node.Places.{Places}
 use Rattle.loom_objects.specs.declared.choice.Choice.{Choice}
 use Rattle.loom_engine.specs.Walk.Path.{Stored, advance}
-use Rattle.loom_engine.specs.Path.Nodes.{seen, stored}
+use Rattle.loom_engine.specs.Path.Nodes.{seen, stored, IsWell, AreWell}
 use Rattle.loom_engine.specs.Path.WellFormed.{bare, AreAlike}
-use Rattle.loom_engine.specs.Path.Words.{bits, bit, beside, first_number, status_number, first_of, status_of, is_one, kind_in, node_in, nodes_in, word_of, places_of, IsSet, IsFit, AreLaidOut}
+use Rattle.loom_engine.specs.Path.Words.{bits, bit, beside, first_number, status_number, first_of, status_of, is_one, kind_in, schedule_in, node_in, nodes_in, word_of, places_of, IsSet, IsFit, AreLaidOut}
 
 -- ---- a word by its parts: what is below some bits, what they are, and what is above them
 
@@ -445,9 +445,39 @@ laid_choice (v ∷ ws) (p ∷ ps) (suc i) w x h l e c = laid_choice ws ps i w x 
 
 -- ---- what is seen to have nothing left to try
 
+-- whatever stands beside a word, its node is well, or isn't
+well_kind : (k w : ℕ) (p q : Places) → IsWell (kind_in k w p) → IsWell (kind_in k w q)
+well_kind zero w p q h = h
+well_kind (suc zero) w p q h = h
+well_kind (suc (suc n)) w p q h = h
+
+pub laid_well : (ws : List ℕ) (ps : List Places) (i w : ℕ) → AreLaidOut ws ps → i < length ws → w ≡ get_or ws i w → AreWell (nodes_in ws ps)
+    → (q : Places) → IsWell (node_in w q)
+laid_well [] ps i w h l e a q = absurd (omega arith)
+laid_well (v ∷ ws) [] i w h l e a q = absurd h
+laid_well (v ∷ ws) (p ∷ ps) zero w h l e a q = subst (λ (k : ℕ). IsWell (node_in k q)) (sym e) (well_kind (bits v 0 2) v p q a.0)
+laid_well (v ∷ ws) (p ∷ ps) (suc i) w h l e a q = laid_well ws ps i w h.1 (omega arith) e a.1 q
+
 pub laid_done : (ws : List ℕ) (ps : List Places) (i w : ℕ) → AreLaidOut ws ps → i < length ws → w ≡ get_or ws i w
     → ((p : Places) → advance (seen (node_in w p)) ≡ None) → IsSomeAnd (slice_get (stored (nodes_in ws ps)) i) (λ n. advance n ≡ None)
 laid_done [] ps i w h l e d = absurd (omega arith)
 laid_done (v ∷ ws) [] i w h l e d = absurd h
 laid_done (v ∷ ws) (p ∷ ps) zero w h l e d = ap (λ (k : ℕ). advance (seen (node_in k p))) (sym e) ∙ d p
 laid_done (v ∷ ws) (p ∷ ps) (suc i) w h l e d = laid_done ws ps i w h.1 (omega arith) e d
+
+-- ---- the schedule that stands there
+
+schedule_of : (k w : ℕ) (p : Places) (n : Schedule) → kind_in k w p ≡ node.Schedule n → schedule_in w p ≡ n
+schedule_of zero w p n e = cc e
+schedule_of (suc zero) w p n e = absurd (cc e)
+schedule_of (suc (suc k)) w p n e = absurd (cc e)
+
+-- what holds of its word, whatever stands beside that, holds of it
+pub laid_schedule : (ws : List ℕ) (ps : List Places) (i w : ℕ) (n : Schedule) (A : Schedule → Type 0) → AreLaidOut ws ps → i < length ws → w ≡ get_or ws i w
+    → slice_get (nodes_in ws ps) i ≡ Some (node.Schedule n) → ((p : Places) → A (schedule_in w p)) → A n
+laid_schedule [] ps i w n A h l e s a = absurd (omega arith)
+laid_schedule (v ∷ ws) [] i w n A h l e s a = absurd h
+laid_schedule (v ∷ ws) (p ∷ ps) zero w n A h l e s a =
+    let is : node_in v p ≡ node.Schedule n = cc s in
+    subst A (ap (λ (k : ℕ). schedule_in k p) e ∙ schedule_of (bits v 0 2) v p n is) (a p)
+laid_schedule (v ∷ ws) (p ∷ ps) (suc i) w n A h l e s a = laid_schedule ws ps i w n A h.1 (omega arith) e s a

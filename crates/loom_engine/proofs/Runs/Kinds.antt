@@ -1,6 +1,10 @@
 -- What each kind of operation keeps, a line for each.
-use Rattle.std.proofs.Common.{◌≡◌, ℕ, false, List, Some, None, refl}
-use Rattle.std.specs.Prelude.{⊤}
+use Rattle.std.proofs.Common.{◌≡◌, ℕ, Bool, false, List, Some, None, refl}
+use Rattle.std.specs.Prelude.{Ok, ⊤}
+use Rattle.loom_views.specs.Atomic.Slots.{slot_set}
+use Rattle.loom_views.specs.Laws.Moves.{Moves}
+use Rattle.loom_views.specs.Views.{Points, readable_slots_of}
+use Rattle.loom_views.specs.declared.rt.atomic.reader.Reader.{Reader}
 use Rattle.loom_objects.specs.declared.operation.AtomicOp.{AtomicOp}
 use Rattle.loom_objects.specs.declared.operation.ChannelOp.{ChannelOp}
 use Rattle.loom_objects.specs.declared.operation.LazyOp.{LazyOp}
@@ -32,6 +36,7 @@ use Rattle.loom_engine.proofs.Runs.Kept.{KeptByMoves}
 use Rattle.loom_engine.proofs.Runs.Moving.{Within, accesses_moves, arc_moves, atomic_moves, awaits_moves, cell_moves, child_finish_moves, claims_moves, clones_waker_moves, condvar_moves, counts_moves, drops_waker_moves, falls_asleep_moves, fence_moves, join_moves, local_moves, lock_moves, mutex_moves, notifier_moves, notifies_moves, passed_so, place_moves, registers_moves, relocks_moves, replied_so, rwlock_moves, takes_waker_moves, thread_moves, track_moves, tries_unwrap_moves, try_lock_moves, waker_moves, wakes_by_moves, wakes_early_moves, wakes_moves}
 use Rattle.loom_engine.proofs.Runs.Kinds.Mutexes.{lock_telling, mutex_begins_entering, mutex_unswitched, try_lock_telling}
 use Rattle.loom_engine.proofs.Runs.Kinds.Notifiers.{awaits_keeping, notifier_begins_keeping, notifies_keeping, wakes_early_keeping}
+use Rattle.loom_engine.proofs.Runs.Pointing.{Does, In, MayBegin, MayBy, MayTake, Reading, ResumedIf, accesses_points, arc_points, atomic_points, awaits_points, by_passed, by_reply, cell_points, channel_points, child_finish_points, claims_points, clones_waker_points, condvar_points, counts_points, drains_points, drops_waker_points, falls_asleep_points, fence_points, join_points, lazy_points, local_points, lock_points, mutex_points, notifier_points, notifies_points, place_points, receives_points, registers_points, rwlock_points, sends_points, takes_waker_points, thread_points, track_points, tries_unwrap_points, try_lock_points, waker_points, wakes_by_points, wakes_early_points, wakes_points}
 use Rattle.loom_engine.proofs.Runs.Replies.{Unswitched, arc_quiet, atomic_quiet, awaits_quiet, cell_quiet, channel_quiet, child_finish_quiet, counts_quiet, enters, fence_quiet, gone_resuming, join_quiet, lazy_quiet, local_quiet, notifier_quiet, notifies_quiet, place_quiet, quiet_unswitched, quietly_resuming, receives_quiet, replied_resuming, rwlock_quiet, sends_quiet, tells_turn, thread_quiet, track_quiet, tries_unwrap_quiet, waker_quiet, wakes_early_quiet, wakes_quiet}
 use Rattle.loom_engine.proofs.Runs.Ruling.{Entering, Fairly, Freely, PassingBut, Resuming, freely, misuse, then_fairly}
 use Rattle.loom_engine.proofs.Runs.Kinds.RwLocks.{claims_telling, rwlock_begins_entering}
@@ -233,3 +238,55 @@ module _ {D : Type 0} (R : World D → Type 0) (k : KeptByMoves R) where
   effect_moves (task.DropWaker d after) w a b c s = passed_so R k _ (drops_waker_moves R k d after w s)
   effect_moves (task.Register p d) w a b c s = passed_so R k _ (registers_moves R k p d w s)
   effect_moves (task.TakeWaker by p) w a b c s = passed_so R k _ (takes_waker_moves R k by p w s)
+
+-- a property of points is kept that moves keep which may be made
+module _ (D : Type 0) (P : Points → Type 0) (May : Does → Type 0) (step : (p q : Points) (move : Moves p q) → MayBy May move → P p → P q) where
+  pub begins_points : (todo : Request D ⊤) (w : World D) → MayBegin D P May step todo → P w.points → Answers (In D P May step) (op_begins todo w)
+  begins_points (op.Atomic todo) w f s = atomic_points D P May step todo w f s
+  begins_points (op.Fence order) w f s = fence_points D P May step order w f s
+  begins_points (op.Cell todo) w f s = cell_points D P May step todo w s
+  begins_points (op.Arc todo) w f s = arc_points D P May step todo w s
+  begins_points (op.Track todo) w f s = track_points D P May step todo w s
+  begins_points (op.Mutex todo) w f s = mutex_points D P May step todo w s
+  begins_points (op.RwLock todo) w f s = rwlock_points D P May step todo w s
+  begins_points (op.Condvar todo) w f s = condvar_points D P May step todo w s
+  begins_points (op.Notify todo) w f s = notifier_points D P May step todo w s
+  begins_points (op.Channel todo) w f s = channel_points D P May step todo w s
+  begins_points (op.Waker todo) w f s = waker_points D P May step todo w s
+  begins_points (op.AtomicWaker todo) w f s = place_points D P May step todo w s
+  begins_points (op.Local todo) w f s = local_points D P May step todo w s
+  begins_points (op.Lazy todo) w f s = lazy_points D P May step todo w s
+  begins_points (op.Explore todo) w f s = s
+  begins_points (op.Thread todo) w f s = thread_points D P May step todo w s
+  begins_points op.Fail w f s = tt
+  begins_points op.Unreachable w f s = tt
+
+  -- an access that reads may read each slot that is such a one, of those that it is offered
+  module _ (Offered : List Bool → ℕ → Type 0)
+      (may_read : (raised : Points) (t n : ℕ) (reads : Reader) (slots : List ℕ) (slot : ℕ) → readable_slots_of raised t n reads ≡ Ok slots → Offered (slot_set slots) slot → May (Reading raised t n reads slot)) where
+    pub effect_points : (todo : Task D) (w : World D) → MayTake D P May step todo → P w.points → Answers (ResumedIf D P May step Offered may_read) (takes_effect todo w)
+    effect_points task.Start w may s = s
+    effect_points task.Body w may s = tt
+    effect_points task.Continue w may s = s
+    effect_points (task.Access access) w may s = accesses_points D P May step Offered may_read access w may s
+    effect_points (task.Lock locking n) w may s = by_reply D P May step Offered may_read _ (lock_points D P May step locking n w s)
+    effect_points (task.TryLock n) w may s = by_reply D P May step Offered may_read _ (try_lock_points D P May step n w s)
+    effect_points (task.Claim claim n) w may s = by_reply D P May step Offered may_read _ (claims_points D P May step claim n w s)
+    effect_points (task.Wait locking n m value) w may s = by_passed D P May step Offered may_read _ (falls_asleep_points D P May step locking n m value w s)
+    effect_points (task.Relock locking m) w may s = s
+    effect_points (task.Wake waking n) w may s = by_reply D P May step Offered may_read _ (wakes_points D P May step waking n w s)
+    effect_points (task.Notify n) w may s = by_reply D P May step Offered may_read _ (notifies_points D P May step n w s)
+    effect_points (task.Await n) w may s = by_reply D P May step Offered may_read _ (awaits_points D P May step n w s)
+    effect_points (task.Rouse n) w may s = by_reply D P May step Offered may_read _ (wakes_early_points D P May step n w s)
+    effect_points (task.Count todo n) w may s = by_reply D P May step Offered may_read _ (counts_points D P May step todo n w s)
+    effect_points (task.TryUnwrap n) w may s = by_passed D P May step Offered may_read _ (tries_unwrap_points D P May step n w s)
+    effect_points (task.Join t n) w may s = by_reply D P May step Offered may_read _ (join_points D P May step t n w s)
+    effect_points (task.Finish n value) w may s = by_reply D P May step Offered may_read _ (child_finish_points D P May step n value w s)
+    effect_points (task.Send n sent) w may s = by_reply D P May step Offered may_read _ (sends_points D P May step n sent w s)
+    effect_points (task.Receive by n) w may s = by_reply D P May step Offered may_read _ (receives_points D P May step by n w s)
+    effect_points (task.Drain n taken) w may s = by_passed D P May step Offered may_read _ (drains_points D P May step n taken w s)
+    effect_points (task.WakeBy n c after) w may s = by_passed D P May step Offered may_read _ (wakes_by_points D P May step n c after w s)
+    effect_points (task.CloneWaker c place) w may s = by_passed D P May step Offered may_read _ (clones_waker_points D P May step c place w s)
+    effect_points (task.DropWaker c after) w may s = by_passed D P May step Offered may_read _ (drops_waker_points D P May step c after w s)
+    effect_points (task.Register p c) w may s = by_passed D P May step Offered may_read _ (registers_points D P May step p c w s)
+    effect_points (task.TakeWaker by p) w may s = by_passed D P May step Offered may_read _ (takes_waker_points D P May step by p w s)

@@ -41,12 +41,13 @@ use Rattle.loom_engine.specs.Trees.Sound.{NeverFails}
 use Rattle.loom_engine.proofs.Runs.Answering.{Answers, answers_then}
 use Rattle.loom_engine.proofs.Runs.Carrying.{InWorld}
 use Rattle.loom_engine.proofs.Runs.Fairness.{AnswersBy, IsFairResult, IsOwn, own_unequal, then_by}
-use Rattle.loom_engine.proofs.Runs.Kinds.{effect_fairly}
+use Rattle.loom_engine.proofs.Runs.Kinds.{begins_points, effect_fairly}
 use Rattle.loom_engine.proofs.Runs.Kinds.Atomics.{opens_fair, reads_keeping, store_keeping}
 use Rattle.loom_engine.proofs.Runs.Kinds.Notifiers.{enters_wait_keeping}
 use Rattle.loom_engine.proofs.Runs.Lifting.{ReplyTo}
 use Rattle.loom_engine.proofs.Runs.Offered.{EnteredSo, Offers, ResumedSo, asks, closes, event_offers_so, fails, gives, offered_value}
-use Rattle.loom_engine.proofs.Runs.Pointing.{Does, Fencing, MayBegin, MayBy, Reading, ResumedIf, Storing, begins_points, chosen_points, end_points, enters_wait_points}
+use Rattle.loom_engine.proofs.Runs.Advancing.{chosen_points}
+use Rattle.loom_engine.proofs.Runs.Pointing.{Does, Fencing, MayBegin, MayBy, Reading, ResumedIf, Storing, end_points, enters_wait_points}
 use Rattle.loom_engine.proofs.Runs.Replies.{replied_resuming, store_quiet}
 use Rattle.loom_engine.proofs.Runs.Ruling.{Onward, Resuming, fair_of, found_fairly, misuse}
 use Rattle.loom_engine.proofs.Runs.States.{freed_by}

@@ -1,7 +1,7 @@
 -- What each rule does to the points of a run: moves, one after another. So a property of points that moves keep is kept by every
--- rule, and by each event.
+-- rule.
 use Rattle.std.proofs.Common.{◌≡◌, ℕ, Bool, true, false, List, [], ◌∷◌, ◌++◌, length, Option, Some, None, refl}
-use Rattle.std.specs.Prelude.{◌==◌, ◌-◌, ◌&&◌, is_none, is_some, nat_lt, not, slice_get, Result, Ok, Err, ⊤}
+use Rattle.std.specs.Prelude.{◌==◌, ◌&&◌, is_none, is_some, nat_lt, not, slice_get, Result, Ok, Err, ⊤}
 use Rattle.std.specs.declared.sync.atomic.Ordering.{Ordering}
 use Rattle.std.specs.declared.sync.atomic.Ordering.TheVariants.{Release, AcqRel}
 use Rattle.loom_views.specs.Changes.{changed as changed_number, fit}
@@ -53,7 +53,6 @@ use Rattle.loom_objects.specs.declared.rt.mpsc.Channel.{Channel}
 use Rattle.loom_objects.specs.declared.rt.notify.Notify.{Notify}
 use Rattle.loom_objects.specs.declared.rt.notify.Spurious.TheVariants.{Waking as RousedBy}
 use Rattle.loom_objects.specs.declared.rt.run.Entry.{Entry}
-use Rattle.loom_objects.specs.declared.rt.run.Entry.TheVariants.{Answered, AtBranch, Explores, Spurious as AtSpurious}
 use Rattle.loom_objects.specs.declared.rt.run.Passed.{Passed}
 use Rattle.loom_objects.specs.declared.rt.run.Passed.TheVariants as passed
 use Rattle.loom_objects.specs.declared.rt.run.Resumed.{Resumed}
@@ -89,21 +88,15 @@ use Rattle.loom_objects.specs.Rules.Locals.{are_open, is_taken, is_working, lazy
 use Rattle.loom_objects.specs.Rules.Moves.{a_cell, a_condvar, a_mutex, a_notify, a_rwlock, a_track, a_wakers, active_thread, an_arc, an_atomic, an_atomic_waker, acquires, is_number, joined_points, rouses, rouses_all, some_wakers, takes_result, unparks, with_points, yields}
 use Rattle.loom_objects.specs.Rules.Mpsc.{by_receiver, by_sender, channel_begins, delivers, drains, drains_from, drains_if, drains_on, first_of, fits_behind, receives, receives_from, sends, takes as takes_message, tries_recv, wakes_if as wakes_receiver_if, blocks_if}
 use Rattle.loom_objects.specs.Rules.Mutex.{free_value, frees, lock, locks_unless, mutex_begins, try_lock}
-use Rattle.loom_objects.specs.Rules.Notify.{awaits, comes_to_wait, enters_wait, has_waker, is_alone, is_for_waits, may_be_spurious, notify, notify_begins, wait_begins as notifier_wait_begins, waits_or_rouses, wakes_early, with_notify}
+use Rattle.loom_objects.specs.Rules.Notify.{awaits, comes_to_wait, enters_wait, has_waker, is_alone, is_for_waits, may_be_spurious, notifies, notify, notify_begins, wait_begins as notifier_wait_begins, waits_or_rouses, wakes_early, with_notify}
 use Rattle.loom_objects.specs.Rules.Replied.{gone, replied}
 use Rattle.loom_objects.specs.Rules.Rule.{◌>>=◌, check, found}
 use Rattle.loom_objects.specs.Rules.RwLock.{claim_begins, claims, guards_of, is_refused, is_unread as is_unread_lock, reads_lock, rwlock_begins, takes_unless, unlocked_value, wakes_if, with_one_fewer, writes_lock}
-use Rattle.loom_objects.specs.Rules.Tables.{chosen, counted, op_begins, takes_effect}
 use Rattle.loom_objects.specs.Rules.Thread.{child_finish, finish_as, has_own, is_exited, is_finished, join, parks_unless, thread_begins, if_other}
 use Rattle.loom_objects.specs.Rules.Waker.{acquires_if, after_clone, after_drop, after_wake, atomic_waker_begins, clones_waker, drops_waker, frees_place, has_taken, holds_place, registers, registers_if, take_begins, takes_place, takes_waker, wake_begins as wake_by_begins, waker_begins, waker_pends, wakes_by}
-use Rattle.loom_objects.specs.Schedule.Offers.{chooses}
 use Rattle.loom_objects.specs.World.{World, MAX_THREADS}
-use Rattle.loom_engine.specs.Runs.Course.{Course}
-use Rattle.loom_engine.specs.Runs.Machine.{submit}
 use Rattle.loom_engine.proofs.Runs.Answering.{Answers, answers_then}
-use Rattle.loom_engine.proofs.Runs.Carrying.{InWorld}
-use Rattle.loom_engine.proofs.Runs.Keeping.{Keeps}
-use Rattle.loom_engine.proofs.Runs.Lifting.{EnteredTo, PassedTo, ReplyTo, ResumedTo, event_kept}
+use Rattle.loom_engine.proofs.Runs.Lifting.{PassedTo, ReplyTo}
 pub use Rattle.loom_engine.proofs.Runs.Allowed.{Does, Fencing, MayBy, Reading, Storing, answered, by_points}
 
 -- A property of points that moves keep which may be made.
@@ -114,10 +107,10 @@ module _ (D : Type 0) (P : Points → Type 0) (May : Does → Type 0) (step : (p
   abbrev pub In : {A : Type 0} → A × World D → Type 0
   In answered = P answered.1.points
 
-  onward : {A B : Type 0} (r : Result B FailureKind) (next : B → Result (A × World D) FailureKind) → ((b : B) → Answers In (next b)) → Answers In (r >>= next)
+  pub onward : {A B : Type 0} (r : Result B FailureKind) (next : B → Result (A × World D) FailureKind) → ((b : B) → Answers In (next b)) → Answers In (r >>= next)
   onward r next h = answers_then In r next h
 
-  from_there : {A B : Type 0} (r : Result (B × World D) FailureKind) (next : B × World D → Result (A × World D) FailureKind) → Answers In r
+  pub from_there : {A B : Type 0} (r : Result (B × World D) FailureKind) (next : B × World D → Result (A × World D) FailureKind) → Answers In r
       → ((there : B × World D) → P there.1.points → Answers In (next there)) → Answers In (r >>= next)
   from_there (Ok there) next s h = h there s
   from_there (Err kind) next s h = tt
@@ -129,13 +122,13 @@ module _ (D : Type 0) (P : Points → Type 0) (May : Does → Type 0) (step : (p
 
   -- ---- moves
 
-  acquired : (p : Points) (t n : ℕ) → P p → P (points_after_acquire p t n)
+  pub acquired : (p : Points) (t n : ℕ) → P p → P (points_after_acquire p t n)
   acquired p t n s = step p _ (acquire t n) tt s
 
-  released : (p : Points) (t n : ℕ) → P p → P (points_after_release p t n Release)
+  pub released : (p : Points) (t n : ℕ) → P p → P (points_after_release p t n Release)
   released p t n s = step p _ (release t n Release) tt s
 
-  joined : (p : Points) (t : Option ℕ) (active : ℕ) → P p → P (joined_points t active p)
+  pub joined : (p : Points) (t : Option ℕ) (active : ℕ) → P p → P (joined_points t active p)
   joined p None active s = s
   joined p (Some t) active s = step p _ (joins t active) tt s
 
@@ -171,7 +164,7 @@ module _ (D : Type 0) (P : Points → Type 0) (May : Does → Type 0) (step : (p
   atomic_points (atomic_op.CompareExchange n exchange) w m s = access_points (atomic_op.CompareExchange n exchange) w s
   atomic_points (atomic_op.CompareAndSwap n expected new order) w m s = access_points (atomic_op.CompareAndSwap n expected new order) w s
 
-  fence_points : (order : Ordering) (w : World D) → May (Fencing order) → P w.points → Answers In (fence order w)
+  pub fence_points : (order : Ordering) (w : World D) → May (Fencing order) → P w.points → Answers In (fence order w)
   fence_points order w allowed s =
       by_points In w (points_after_raise w.points w.active) _ (λ raised e. onward (check (not (is_relaxed order)) RelaxedFence) _ (λ u. step w.points _ (fences w.active order raised e) allowed s))
 
@@ -236,7 +229,7 @@ module _ (D : Type 0) (P : Points → Type 0) (May : Does → Type 0) (step : (p
   swap_points false n m w s =
       from_there (opens_write n w) _ (opens_write_points n w s) (λ opened r. from_there (opens_write m opened.1) _ (opens_write_points m opened.1 r) (λ both z. exchanges_cells_points n m both.1 z))
 
-  cell_points : (todo : CellOp D) (w : World D) → P w.points → Answers In (cell_begins todo w)
+  pub cell_points : (todo : CellOp D) (w : World D) → P w.points → Answers In (cell_begins todo w)
   cell_points (cell_op.New value) w s = step w.points _ (new_cell w.active) tt s
   cell_points (cell_op.Read n) w s =
       onward (a_cell n w) _ (λ cell. by_points In w (points_after_raise w.points w.active) _ (λ raised e. onward (check (is_none cell.content.lent) OpenAccess) _ (λ u.
@@ -268,7 +261,7 @@ module _ (D : Type 0) (P : Points → Type 0) (May : Does → Type 0) (step : (p
   comes_to_points : (todo : Task D) (n : ℕ) (w : World D) → P w.points → Answers In (comes_to todo n w)
   comes_to_points todo n w s = onward (an_arc n w) _ (λ arc. onward (check (nat_lt 0 arc.count) Misuse) _ (λ u. s))
 
-  arc_points : (todo : ArcOp D) (w : World D) → P w.points → Answers In (arc_begins todo w)
+  pub arc_points : (todo : ArcOp D) (w : World D) → P w.points → Answers In (arc_begins todo w)
   arc_points (arc_op.New value) w s = step w.points _ new_point tt s
   arc_points (arc_op.Get n) w s = onward (an_arc n w) _ (λ arc. onward (check (is_free_arc arc) Misuse) _ (λ u. onward (found (value_in arc.content) Misuse) _ (λ value. s)))
   arc_points (arc_op.Put n value) w s = onward (an_arc n w) _ (λ arc. onward (check (is_number arc.content.lent w.active) Misuse) _ (λ u. s))
@@ -285,7 +278,7 @@ module _ (D : Type 0) (P : Points → Type 0) (May : Does → Type 0) (step : (p
   decrements_points : (n : ℕ) (w : World D) → P w.points → Answers In (decrements n w)
   decrements_points n w s = onward (an_arc n w) _ (λ arc. onward (sole_value arc) _ (λ value. drops_points value n _ (released w.points w.active n s)))
 
-  counts_points : (todo : Counting) (n : ℕ) (w : World D) → P w.points → Answers In (counts todo n w)
+  pub counts_points : (todo : Counting) (n : ℕ) (w : World D) → P w.points → Answers In (counts todo n w)
   counts_points counting.Clone n w s = onward (an_arc n w) _ (λ arc. onward (may_grow arc) _ (λ u. s))
   counts_points counting.Drop n w s = decrements_points n w s
   counts_points counting.GetMut n w s = onward (an_arc n w) _ (λ arc. onward (sole_value arc) _ (λ value. acquired w.points w.active n s))
@@ -296,14 +289,14 @@ module _ (D : Type 0) (P : Points → Type 0) (May : Does → Type 0) (step : (p
   unwraps_points false n w s = s
   unwraps_points true n w s = s
 
-  tries_unwrap_points : (n : ℕ) (w : World D) → P w.points → Answers In (tries_unwrap n w)
+  pub tries_unwrap_points : (n : ℕ) (w : World D) → P w.points → Answers In (tries_unwrap n w)
   tries_unwrap_points n w s =
       onward (an_arc n w) _ (λ arc. onward (check (is_free_arc arc) Misuse) _ (λ u. unwraps_points (arc.count == 1) n (acquires n w) (acquired w.points w.active n s)))
 
   take_points : (n : ℕ) (w : World D) → P w.points → Answers In (track_take n w)
   take_points n w s = onward (a_track n w) _ (λ track. onward (found (value_in track.content) Misuse) _ (λ value. s))
 
-  track_points : (todo : TrackOp D) (w : World D) → P w.points → Answers In (track_begins todo w)
+  pub track_points : (todo : TrackOp D) (w : World D) → P w.points → Answers In (track_begins todo w)
   track_points (track_op.New value) w s = step w.points _ new_point tt s
   track_points (track_op.GetRef n) w s = onward (a_track n w) _ (λ track. onward (found (value_in track.content) Misuse) _ (λ value. s))
   track_points (track_op.GetMut n) w s = onward (a_track n w) _ (λ track. onward (found (value_in track.content) Misuse) _ (λ value. s))
@@ -313,20 +306,20 @@ module _ (D : Type 0) (P : Points → Type 0) (May : Does → Type 0) (step : (p
 
   -- ---- locks
 
-  lock_points : (locking : Locking) (n : ℕ) (w : World D) → P w.points → Answers In (lock locking n w)
+  pub lock_points : (locking : Locking) (n : ℕ) (w : World D) → P w.points → Answers In (lock locking n w)
   lock_points locking n w s = onward (a_mutex n w) _ (λ mutex. onward (found (free_value mutex) Misuse) _ (λ value. acquired w.points w.active n s))
 
   locks_unless_points : (is_held : Bool) (n : ℕ) (w : World D) → P w.points → Answers In (locks_unless is_held n w)
   locks_unless_points true n w s = s
   locks_unless_points false n w s = lock_points Untimed n w s
 
-  try_lock_points : (n : ℕ) (w : World D) → P w.points → Answers In (try_lock n w)
+  pub try_lock_points : (n : ℕ) (w : World D) → P w.points → Answers In (try_lock n w)
   try_lock_points n w s = onward (a_mutex n w) _ (λ mutex. onward (check (is_none mutex.content.lent) Misuse) _ (λ u. locks_unless_points (is_some mutex.holder) n w s))
 
   frees_points : (n : ℕ) (value : D) (w : World D) → P w.points → Answers In (frees n value w)
   frees_points n value w s = onward (a_mutex n w) _ (λ mutex. onward (check (is_number mutex.holder w.active) Misuse) _ (λ u. released w.points w.active n s))
 
-  mutex_points : (todo : MutexOp D) (w : World D) → P w.points → Answers In (mutex_begins todo w)
+  pub mutex_points : (todo : MutexOp D) (w : World D) → P w.points → Answers In (mutex_begins todo w)
   mutex_points (mutex_op.New value) w s = step w.points _ new_point tt s
   mutex_points (mutex_op.Lock n) w s = onward (a_mutex n w) _ (λ mutex. s)
   mutex_points (mutex_op.TryLock n) w s = onward (a_mutex n w) _ (λ mutex. s)
@@ -342,7 +335,7 @@ module _ (D : Type 0) (P : Points → Type 0) (May : Does → Type 0) (step : (p
   wakes_if_points true n w s = s
   wakes_if_points false n w s = s
 
-  rwlock_points : (todo : RwLockOp D) (w : World D) → P w.points → Answers In (rwlock_begins todo w)
+  pub rwlock_points : (todo : RwLockOp D) (w : World D) → P w.points → Answers In (rwlock_begins todo w)
   rwlock_points (lock_op.New value) w s = step w.points _ new_point tt s
   rwlock_points (lock_op.Read n) w s = claim_points Read n w s
   rwlock_points (lock_op.TryRead n) w s = claim_points TryRead n w s
@@ -372,7 +365,7 @@ module _ (D : Type 0) (P : Points → Type 0) (May : Does → Type 0) (step : (p
   takes_points false Write n lock w s = writes_lock_points n lock w s
   takes_points false TryWrite n lock w s = writes_lock_points n lock w s
 
-  claims_points : (claim : Claim) (n : ℕ) (w : World D) → P w.points → Answers In (claims claim n w)
+  pub claims_points : (claim : Claim) (n : ℕ) (w : World D) → P w.points → Answers In (claims claim n w)
   claims_points claim n w s = onward (a_rwlock n w) _ (λ lock. onward (check (is_none lock.content.lent) Misuse) _ (λ u. takes_points (is_refused claim lock) claim n lock w s))
 
   -- ---- condition variables and notifiers
@@ -380,14 +373,14 @@ module _ (D : Type 0) (P : Points → Type 0) (May : Does → Type 0) (step : (p
   wait_points : (locking : Locking) (n m : ℕ) (value : D) (w : World D) → P w.points → Answers In (wait_begins locking n m value w)
   wait_points locking n m value w s = onward (a_condvar n w) _ (λ condvar. onward (a_mutex m w) _ (λ mutex. onward (check (is_number mutex.holder w.active) Misuse) _ (λ u. s)))
 
-  condvar_points : (todo : CondvarOp D) (w : World D) → P w.points → Answers In (condvar_begins todo w)
+  pub condvar_points : (todo : CondvarOp D) (w : World D) → P w.points → Answers In (condvar_begins todo w)
   condvar_points condvar_op.New w s = step w.points _ new_point tt s
   condvar_points (condvar_op.Wait n m value) w s = wait_points Untimed n m value w s
   condvar_points (condvar_op.WaitTimeout n m value) w s = wait_points Timed n m value w s
   condvar_points (condvar_op.NotifyOne n) w s = onward (a_condvar n w) _ (λ condvar. s)
   condvar_points (condvar_op.NotifyAll n) w s = onward (a_condvar n w) _ (λ condvar. s)
 
-  falls_asleep_points : (locking : Locking) (n m : ℕ) (value : D) (w : World D) → P w.points → Answers In (falls_asleep locking n m value w)
+  pub falls_asleep_points : (locking : Locking) (n m : ℕ) (value : D) (w : World D) → P w.points → Answers In (falls_asleep locking n m value w)
   falls_asleep_points locking n m value w s =
       onward (a_condvar n w) _ (λ condvar. onward (check (nat_lt (length condvar.waiters.items) MAX_THREADS) Misuse) _ (λ u.
       let queued = with_waiters n (condvar.waiters.items ++ w.active ∷ []) w in from_there (frees m value queued) _ (frees_points m value queued s) (λ freed r. r)))
@@ -396,7 +389,7 @@ module _ (D : Type 0) (P : Points → Type 0) (May : Does → Type 0) (step : (p
   rouses_points [] w s = s
   rouses_points (t ∷ threads) w s = rouses_points threads (rouses t w) (joined w.points (Some t) w.active s)
 
-  wakes_points : (waking : Waking) (n : ℕ) (w : World D) → P w.points → Answers In (wakes waking n w)
+  pub wakes_points : (waking : Waking) (n : ℕ) (w : World D) → P w.points → Answers In (wakes waking n w)
   wakes_points waking n w s = onward (a_condvar n w) _ (λ condvar. rouses_points (woken_by waking condvar.waiters.items) _ s)
 
   comes_to_wait_points : (may_be : Bool) (n : ℕ) (notifier : Notify) (w : World D) → P w.points → Answers In (comes_to_wait may_be n notifier w)
@@ -408,7 +401,7 @@ module _ (D : Type 0) (P : Points → Type 0) (May : Does → Type 0) (step : (p
       onward (a_notify n w) _ (λ notifier. onward (check (is_for_waits notifier.spurious) Misuse) _ (λ u. onward (check (is_alone w.active notifier) SecondWaiter) _ (λ v.
       comes_to_wait_points (may_be_spurious notifier.spurious) n notifier w s)))
 
-  notifier_points : (todo : NotifyOp) (w : World D) → P w.points → Answers In (notify_begins todo w)
+  pub notifier_points : (todo : NotifyOp) (w : World D) → P w.points → Answers In (notify_begins todo w)
   notifier_points notify_op.New w s = step w.points _ new_point tt s
   notifier_points (notify_op.Notify n) w s = onward (a_notify n w) _ (λ notifier. onward (check (is_for_waits notifier.spurious) Misuse) _ (λ u. s))
   notifier_points (notify_op.Wait n) w s = notifier_wait_points n w s
@@ -423,10 +416,13 @@ module _ (D : Type 0) (P : Points → Type 0) (May : Does → Type 0) (step : (p
   notify_points : (n : ℕ) (w : World D) → P w.points → Answers In (notify n w)
   notify_points n w s = onward (a_notify n w) _ (λ notifier. joined _ notifier.waiter w.active (released w.points w.active n s))
 
-  awaits_points : (n : ℕ) (w : World D) → P w.points → Answers In (awaits n w)
+  pub notifies_points : (n : ℕ) (w : World D) → P w.points → Answers In (notifies n w)
+  notifies_points n w s = from_there (notify n w) _ (notify_points n w s) (λ after r. r)
+
+  pub awaits_points : (n : ℕ) (w : World D) → P w.points → Answers In (awaits n w)
   awaits_points n w s = onward (a_notify n w) _ (λ notifier. onward (has_waker notifier.wakers w) _ (λ v. onward (check notifier.notified Misuse) _ (λ u. acquired w.points w.active n s)))
 
-  wakes_early_points : (n : ℕ) (w : World D) → P w.points → Answers In (wakes_early n w)
+  pub wakes_early_points : (n : ℕ) (w : World D) → P w.points → Answers In (wakes_early n w)
   wakes_early_points n w s = onward (a_notify n w) _ (λ notifier. onward (has_waker notifier.wakers w) _ (λ u. s))
 
   -- ---- channels
@@ -443,7 +439,7 @@ module _ (D : Type 0) (P : Points → Type 0) (May : Does → Type 0) (step : (p
   wakes_receiver_points true n w s = s
   wakes_receiver_points false n w s = s
 
-  channel_points : (todo : ChannelOp D) (w : World D) → P w.points → Answers In (channel_begins todo w)
+  pub channel_points : (todo : ChannelOp D) (w : World D) → P w.points → Answers In (channel_begins todo w)
   channel_points channel_op.New w s = step w.points _ new_point tt s
   channel_points (channel_op.Send n value) w s = onward (by_sender n w) _ (λ channel. step w.points _ new_stamp tt s)
   channel_points (channel_op.Recv n) w s = onward (by_receiver n w) _ (λ channel. s)
@@ -458,7 +454,7 @@ module _ (D : Type 0) (P : Points → Type 0) (May : Does → Type 0) (step : (p
       onward (check (fits_behind channel.messages sent) TooManySteps) _ (λ u.
       wakes_receiver_points (is_none_left channel.messages) n _ (step _ _ (stamp n message.stamp) tt (released w.points w.active n s)))
 
-  sends_points : (n : ℕ) (sent : List (Message D)) (w : World D) → P w.points → Answers In (sends n sent w)
+  pub sends_points : (n : ℕ) (sent : List (Message D)) (w : World D) → P w.points → Answers In (sends n sent w)
   sends_points n sent w s = onward (by_sender n w) _ (λ channel. onward (found (first_of sent) Misuse) _ (λ message. delivers_points channel.has_receiver channel n sent message w s))
 
   blocks_points : (blocks : Bool) (n : ℕ) (w : World D) → P w.points → P (blocks_if blocks n w).points
@@ -472,7 +468,7 @@ module _ (D : Type 0) (P : Points → Type 0) (May : Does → Type 0) (step : (p
   receives_from_points by n channel [] w s = s
   receives_from_points by n channel (message ∷ rest) w s = onward (found (first_of message.value) Misuse) _ (λ value. takes_message_points n channel message rest w s)
 
-  receives_points : (by : Receiving) (n : ℕ) (w : World D) → P w.points → Answers In (receives by n w)
+  pub receives_points : (by : Receiving) (n : ℕ) (w : World D) → P w.points → Answers In (receives by n w)
   receives_points by n w s = onward (by_receiver n w) _ (λ channel. receives_from_points by n channel channel.messages w s)
 
   drains_on_points : (is_last : Bool) (n : ℕ) (taken : List D) (w : World D) → P w.points → Answers In (drains_on is_last n taken w)
@@ -484,7 +480,7 @@ module _ (D : Type 0) (P : Points → Type 0) (May : Does → Type 0) (step : (p
   drains_from_points n taken channel (message ∷ rest) w s =
       onward (check (fits_behind taken message.value) TooManySteps) _ (λ u. drains_on_points (is_none_left rest) n (taken ++ message.value) _ (takes_message_points n channel message rest w s))
 
-  drains_points : (n : ℕ) (taken : List D) (w : World D) → P w.points → Answers In (drains n taken w)
+  pub drains_points : (n : ℕ) (taken : List D) (w : World D) → P w.points → Answers In (drains n taken w)
   drains_points n taken w s = onward (by_receiver n w) _ (λ channel. drains_from_points n taken channel channel.messages w s)
 
   -- ---- wakers, and places for them
@@ -495,7 +491,7 @@ module _ (D : Type 0) (P : Points → Type 0) (May : Does → Type 0) (step : (p
   wake_by_points : (after : AfterWake) (c : ℕ) (w : World D) → P w.points → Answers In (wake_by_begins after c w)
   wake_by_points after c w s = onward (some_wakers c w) _ (λ wakers. s)
 
-  waker_points : (todo : WakerOp) (w : World D) → P w.points → Answers In (waker_begins todo w)
+  pub waker_points : (todo : WakerOp) (w : World D) → P w.points → Answers In (waker_begins todo w)
   waker_points waker_op.New w s = step _ _ new_point tt (step w.points _ new_point tt s)
   waker_points (waker_op.Wait c) w s = onward (some_wakers c w) _ (λ wakers. notifier_wait_points wakers.notifier w s)
   waker_points (waker_op.Finish c) w s = waker_pends_points (task.DropWaker c dropped.Done) c w s
@@ -507,7 +503,7 @@ module _ (D : Type 0) (P : Points → Type 0) (May : Does → Type 0) (step : (p
   take_begins_points : (by : Taking) (p : ℕ) (w : World D) → P w.points → Answers In (take_begins by p w)
   take_begins_points by p w s = onward (an_atomic_waker p w) _ (λ place. s)
 
-  place_points : (todo : AtomicWakerOp) (w : World D) → P w.points → Answers In (atomic_waker_begins todo w)
+  pub place_points : (todo : AtomicWakerOp) (w : World D) → P w.points → Answers In (atomic_waker_begins todo w)
   place_points place_op.New w s = step w.points _ new_point tt s
   place_points (place_op.Register p c) w s = onward (an_atomic_waker p w) _ (λ place. waker_pends_points (task.Register p c) c w s)
   place_points (place_op.RegisterByRef p c) w s = onward (an_atomic_waker p w) _ (λ place. waker_pends_points (task.CloneWaker c (Some p)) c w s)
@@ -525,14 +521,14 @@ module _ (D : Type 0) (P : Points → Type 0) (May : Does → Type 0) (step : (p
   after_wake_points woken.Done c w s = s
   after_wake_points (woken.Drop after) c w s = s
 
-  wakes_by_points : (n c : ℕ) (after : AfterWake) (w : World D) → P w.points → Answers In (wakes_by n c after w)
+  pub wakes_by_points : (n c : ℕ) (after : AfterWake) (w : World D) → P w.points → Answers In (wakes_by n c after w)
   wakes_by_points n c after w s = onward (some_wakers c w) _ (λ wakers. from_there (notify n w) _ (notify_points n w s) (λ notified r. after_wake_points after c notified.1 r))
 
   after_clone_points : (place : Option ℕ) (c : ℕ) (w : World D) → P w.points → Answers In (after_clone place c w)
   after_clone_points None c w s = s
   after_clone_points (Some p) c w s = s
 
-  clones_waker_points : (c : ℕ) (place : Option ℕ) (w : World D) → P w.points → Answers In (clones_waker c place w)
+  pub clones_waker_points : (c : ℕ) (place : Option ℕ) (w : World D) → P w.points → Answers In (clones_waker c place w)
   clones_waker_points c place w s = onward (some_wakers c w) _ (λ wakers. onward (check (nat_lt wakers.count highest_count) TooManySteps) _ (λ u. after_clone_points place c _ s))
 
   after_drop_points : (after : AfterDrop) (w : World D) → P w.points → Answers In (after_drop after w)
@@ -544,7 +540,7 @@ module _ (D : Type 0) (P : Points → Type 0) (May : Does → Type 0) (step : (p
   acquires_if_points true c w s = acquired w.points w.active c s
   acquires_if_points false c w s = s
 
-  drops_waker_points : (c : ℕ) (after : AfterDrop) (w : World D) → P w.points → Answers In (drops_waker c after w)
+  pub drops_waker_points : (c : ℕ) (after : AfterDrop) (w : World D) → P w.points → Answers In (drops_waker c after w)
   drops_waker_points c after w s = onward (some_wakers c w) _ (λ wakers. after_drop_points after _ (acquires_if_points (wakers.count == 1) c _ (released w.points w.active c s)))
 
   takes_place_points : (p c : ℕ) (place : AtomicWaker) (old : Option ℕ) (w : World D) → P w.points → Answers In (takes_place p c place old w)
@@ -555,7 +551,7 @@ module _ (D : Type 0) (P : Points → Type 0) (May : Does → Type 0) (step : (p
   registers_if_points true p c place wakers w s = takes_place_points p c place place.waker w s
   registers_if_points false p c place wakers w s = s
 
-  registers_points : (p c : ℕ) (w : World D) → P w.points → Answers In (registers p c w)
+  pub registers_points : (p c : ℕ) (w : World D) → P w.points → Answers In (registers p c w)
   registers_points p c w s = onward (an_atomic_waker p w) _ (λ place. onward (some_wakers c w) _ (λ wakers. registers_if_points (is_none place.holder) p c place wakers w s))
 
   has_taken_points : (by : Taking) (waker : Option ℕ) (w : World D) → P w.points → Answers In (has_taken by waker w)
@@ -563,7 +559,7 @@ module _ (D : Type 0) (P : Points → Type 0) (May : Does → Type 0) (step : (p
   has_taken_points taking.Wake None w s = s
   has_taken_points taking.Wake (Some c) w s = onward (a_wakers c w) _ (λ wakers. s)
 
-  takes_waker_points : (by : Taking) (p : ℕ) (w : World D) → P w.points → Answers In (takes_waker by p w)
+  pub takes_waker_points : (by : Taking) (p : ℕ) (w : World D) → P w.points → Answers In (takes_waker by p w)
   takes_waker_points by p w s =
       onward (an_atomic_waker p w) _ (λ place. onward (check (is_none place.holder) Misuse) _ (λ u.
       has_taken_points by place.waker _ (frees_place_points p (record place { waker = None }) (holds_place p place w) (holds_points p place w s))))
@@ -585,7 +581,7 @@ module _ (D : Type 0) (P : Points → Type 0) (May : Does → Type 0) (step : (p
   puts_local_points key value None w s = tt
   puts_local_points key value (Some local) w s = s
 
-  local_points : (todo : LocalOp D) (w : World D) → P w.points → Answers In (local_begins todo w)
+  pub local_points : (todo : LocalOp D) (w : World D) → P w.points → Answers In (local_begins todo w)
   local_points (local_op.With key) w s = local_or_points _ key w tt s
   local_points (local_op.TryWith key) w s = local_or_points _ key w s s
   local_points (local_op.Init key value) w s = onward (active_thread w) _ (λ thread. onward (check (not (is_taken key thread)) KeyTaken) _ (λ u. s))
@@ -599,7 +595,7 @@ module _ (D : Type 0) (P : Points → Type 0) (May : Does → Type 0) (step : (p
   makes_lazy_points key value None w s = step _ _ (release_to_stamp w.active (length w.points.stamps) AcqRel) tt (step w.points _ new_stamp tt s)
   makes_lazy_points key value (Some lazy) w s = step w.points _ (acquire_from_stamp w.active lazy.stamp) tt s
 
-  lazy_points : (todo : LazyOp D) (w : World D) → P w.points → Answers In (lazy_begins todo w)
+  pub lazy_points : (todo : LazyOp D) (w : World D) → P w.points → Answers In (lazy_begins todo w)
   lazy_points (lazy_op.Get key) w s = onward (check (are_open w) LazyShutdown) _ (λ u. reads_lazy_points (lazy_at key w) w s)
   lazy_points (lazy_op.Init key value) w s = onward (check (are_open w) LazyShutdown) _ (λ u. makes_lazy_points key value (lazy_at key w) w s)
 
@@ -616,7 +612,7 @@ module _ (D : Type 0) (P : Points → Type 0) (May : Does → Type 0) (step : (p
   unparks_points : (t : ℕ) (w : World D) → P w.points → Answers In (unparks t w)
   unparks_points t w s = onward (found (slice_get w.threads t) Misuse) _ (λ thread. s)
 
-  thread_points : (todo : ThreadOp D ⊤) (w : World D) → P w.points → Answers In (thread_begins todo w)
+  pub thread_points : (todo : ThreadOp D ⊤) (w : World D) → P w.points → Answers In (thread_begins todo w)
   thread_points (thread_op.Spawn body name) w s =
       onward (check (nat_lt (length w.threads) w.max_threads) TooManyThreads) _ (λ u. answered In (points_after_spawn w.points w.active) _ (λ points e.
       step points _ new_point tt (step w.points _ (spawn w.active points e) tt s)))
@@ -633,40 +629,20 @@ module _ (D : Type 0) (P : Points → Type 0) (May : Does → Type 0) (step : (p
   takes_result_points : (t : ℕ) (w : World D) → P w.points → Answers In (takes_result t w)
   takes_result_points t w s = onward (found (slice_get w.threads t) Misuse) _ (λ thread. onward (found thread.result Misuse) _ (λ value. s))
 
-  join_points : (t n : ℕ) (w : World D) → P w.points → Answers In (join t n w)
+  pub join_points : (t n : ℕ) (w : World D) → P w.points → Answers In (join t n w)
   join_points t n w s =
       onward (a_notify n w) _ (λ notifier. onward (check notifier.notified Misuse) _ (λ u. from_there (takes_result t w) _ (takes_result_points t w s) (λ taken r. acquired taken.1.points taken.1.active n r)))
 
-  child_finish_points : (n : ℕ) (value : D) (w : World D) → P w.points → Answers In (child_finish n value w)
+  pub child_finish_points : (n : ℕ) (value : D) (w : World D) → P w.points → Answers In (child_finish n value w)
   child_finish_points n value w s = from_there (notify n w) _ (notify_points n w s) (λ after r. r)
 
-  -- ---- each operation, and each effect
+  -- ---- what each operation, and each effect, may do
 
   -- what it does at once it may do
   abbrev pub MayBegin : Request D ⊤ → Type 0
   MayBegin (op.Fence order) = May (Fencing order)
   MayBegin (op.Atomic todo) = MayMake todo
   MayBegin _ = Unit {0}
-
-  pub begins_points : (todo : Request D ⊤) (w : World D) → MayBegin todo → P w.points → Answers In (op_begins todo w)
-  begins_points (op.Atomic todo) w f s = atomic_points todo w f s
-  begins_points (op.Fence order) w f s = fence_points order w f s
-  begins_points (op.Cell todo) w f s = cell_points todo w s
-  begins_points (op.Arc todo) w f s = arc_points todo w s
-  begins_points (op.Track todo) w f s = track_points todo w s
-  begins_points (op.Mutex todo) w f s = mutex_points todo w s
-  begins_points (op.RwLock todo) w f s = rwlock_points todo w s
-  begins_points (op.Condvar todo) w f s = condvar_points todo w s
-  begins_points (op.Notify todo) w f s = notifier_points todo w s
-  begins_points (op.Channel todo) w f s = channel_points todo w s
-  begins_points (op.Waker todo) w f s = waker_points todo w s
-  begins_points (op.AtomicWaker todo) w f s = place_points todo w s
-  begins_points (op.Local todo) w f s = local_points todo w s
-  begins_points (op.Lazy todo) w f s = lazy_points todo w s
-  begins_points (op.Explore todo) w f s = s
-  begins_points (op.Thread todo) w f s = thread_points todo w s
-  begins_points op.Fail w f s = tt
-  begins_points op.Unreachable w f s = tt
 
   -- where it accesses an atomic it may make a store
   abbrev pub MayTake : Task D → Type 0
@@ -681,11 +657,11 @@ module _ (D : Type 0) (P : Points → Type 0) (May : Does → Type 0) (step : (p
     ResumedIf (resumed.Passed passed, w) = PassedTo At In (passed, w)
     ResumedIf (resumed.Load loading, w) = (slot : ℕ) → Offered loading.readable slot → Answers (ReplyTo At In) (reads loading.access w slot)
 
-    by_reply : (r : Result (Reply D × World D) FailureKind) → Answers In r → Answers ResumedIf (r >>= replied)
+    pub by_reply : (r : Result (Reply D × World D) FailureKind) → Answers In r → Answers ResumedIf (r >>= replied)
     by_reply (Ok there) s = s
     by_reply (Err kind) s = tt
 
-    by_passed : (r : Result (Passed D × World D) FailureKind) → Answers In r → Answers ResumedIf (r >>= gone)
+    pub by_passed : (r : Result (Passed D × World D) FailureKind) → Answers In r → Answers ResumedIf (r >>= gone)
     by_passed (Ok (passed.Turn turn, v)) s = s
     by_passed (Ok (passed.AtBranch, v)) s = s
     by_passed (Err kind) s = tt
@@ -701,7 +677,7 @@ module _ (D : Type 0) (P : Points → Type 0) (May : Does → Type 0) (step : (p
         replying (Ok (reply, v)) h = h
         replying (Err kind) h = tt
 
-    accesses_points : (access : AtomicOp) (w : World D) → May Storing → P w.points → Answers ResumedIf (accesses access w)
+    pub accesses_points : (access : AtomicOp) (w : World D) → May Storing → P w.points → Answers ResumedIf (accesses access w)
     accesses_points (atomic_op.Store n value order) w m s = by_reply _ (store_points n value order w m s)
     accesses_points (atomic_op.Load n order) w m s = opens_points n (reader.Load order) (atomic_op.Load n order) w m s (λ raised e slot z. z)
     accesses_points (atomic_op.Update n change order) w m s = opens_points n reader.Update (atomic_op.Update n change order) w m s (λ raised e slot z. z)
@@ -713,73 +689,5 @@ module _ (D : Type 0) (P : Points → Type 0) (May : Does → Type 0) (step : (p
     accesses_points (atomic_op.WithMut n) w m s = tt
     accesses_points (atomic_op.WithMutEnd n value) w m s = tt
 
-    pub effect_points : (todo : Task D) (w : World D) → MayTake todo → P w.points → Answers ResumedIf (takes_effect todo w)
-    effect_points task.Start w may s = s
-    effect_points task.Body w may s = tt
-    effect_points task.Continue w may s = s
-    effect_points (task.Access access) w may s = accesses_points access w may s
-    effect_points (task.Lock locking n) w may s = by_reply _ (lock_points locking n w s)
-    effect_points (task.TryLock n) w may s = by_reply _ (try_lock_points n w s)
-    effect_points (task.Claim claim n) w may s = by_reply _ (claims_points claim n w s)
-    effect_points (task.Wait locking n m value) w may s = by_passed _ (falls_asleep_points locking n m value w s)
-    effect_points (task.Relock locking m) w may s = s
-    effect_points (task.Wake waking n) w may s = by_reply _ (wakes_points waking n w s)
-    effect_points (task.Notify n) w may s = by_reply _ (from_there (notify n w) _ (notify_points n w s) (λ after r. r))
-    effect_points (task.Await n) w may s = by_reply _ (awaits_points n w s)
-    effect_points (task.Rouse n) w may s = by_reply _ (wakes_early_points n w s)
-    effect_points (task.Count todo n) w may s = by_reply _ (counts_points todo n w s)
-    effect_points (task.TryUnwrap n) w may s = by_passed _ (tries_unwrap_points n w s)
-    effect_points (task.Join t n) w may s = by_reply _ (join_points t n w s)
-    effect_points (task.Finish n value) w may s = by_reply _ (child_finish_points n value w s)
-    effect_points (task.Send n sent) w may s = by_reply _ (sends_points n sent w s)
-    effect_points (task.Receive by n) w may s = by_reply _ (receives_points by n w s)
-    effect_points (task.Drain n taken) w may s = by_passed _ (drains_points n taken w s)
-    effect_points (task.WakeBy n c after) w may s = by_passed _ (wakes_by_points n c after w s)
-    effect_points (task.CloneWaker c place) w may s = by_passed _ (clones_waker_points c place w s)
-    effect_points (task.DropWaker c after) w may s = by_passed _ (drops_waker_points c after w s)
-    effect_points (task.Register p c) w may s = by_passed _ (registers_points p c w s)
-    effect_points (task.TakeWaker by p) w may s = by_passed _ (takes_waker_points by p w s)
-
-    may_take : May Storing → (todo : Task D) → MayTake todo
-    may_take m (task.Access access) = m
-    may_take m _ = tt
-
-    pub chosen_points : May Storing → (t : ℕ) (w : World D) → P w.points → Answers ResumedIf (chosen t w)
-    chosen_points m t w s = by_chosen (chooses t w) (onward (found (slice_get w.threads t) Misuse) _ (λ thread. s))
-      where
-        by_chosen : (r : Result (Task D × World D) FailureKind) → Answers In r → Answers ResumedIf (r >>= (λ ready. takes_effect ready.0 ready.1))
-        by_chosen (Ok ready) h = effect_points ready.0 ready.1 (may_take m ready.0) h
-        by_chosen (Err kind) h = tt
-
-  -- ---- events
-
-  by_entry : (r : Result (Entry D × World D) FailureKind) → Answers In r → Answers (EnteredTo At In) r
-  by_entry (Ok (Answered reply, v)) h = h
-  by_entry (Ok (AtBranch, v)) h = h
-  by_entry (Ok (AtSpurious n, v)) h = λ is_spurious. enters_wait_points is_spurious n v h
-  by_entry (Ok (Explores todo, v)) h = h
-  by_entry (Err kind) h = tt
-
   pub end_points : (w : World D) → P w.points → Answers In (end_of w)
   end_points w s = onward (check_leak (first_leak w.objects)) _ (λ u. from_there (takes_result 0 w) _ (takes_result_points 0 w s) (λ taken r. r))
-
-  -- where any slot may be read
-  module _ (any : (raised : Points) (t n : ℕ) (reads : Reader) (slot : ℕ) → May (Reading raised t n reads slot)) where
-    abbrev Any : List Bool → ℕ → Type 0
-    Any readable slot = Unit {0}
-
-    any_read : (raised : Points) (t n : ℕ) (reads : Reader) (slots : List ℕ) (slot : ℕ) → readable_slots_of raised t n reads ≡ Ok slots → Any (slot_set slots) slot → May (Reading raised t n reads slot)
-    any_read raised t n reads slots slot e offered = any raised t n reads slot
-
-    to_any : (r : Result (Resumed D × World D) FailureKind) → Answers (ResumedIf Any any_read) r → Answers (ResumedTo At In) r
-    to_any (Ok (resumed.Passed passed, w)) h = h
-    to_any (Ok (resumed.Load loading, w)) h = λ slot. h slot tt
-    to_any (Err kind) h = tt
-
-    pub effect_any : (todo : Task D) (w : World D) → MayTake todo → P w.points → Answers (ResumedTo At In) (takes_effect todo w)
-    effect_any todo w may s = to_any (takes_effect todo w) (effect_points Any any_read todo w may s)
-
-    pub event_points : (todo : Request D ⊤) (c : Course D) → May Storing → MayBegin todo → P c.world.points → Keeps (InWorld In) (submit todo c)
-    event_points todo c m f s =
-        event_kept At In (λ t w k. to_any (chosen t w) (chosen_points Any any_read m t w k)) end_points todo c
-        (by_entry (counted todo c.world) (onward (check (nat_lt 0 c.world.steps_left) TooManySteps) _ (λ u. begins_points todo (record c.world { steps_left = c.world.steps_left - 1 }) f s)))

@@ -50,11 +50,12 @@ use Rattle.loom_engine.proofs.Runs.Carrying.{InWorld}
 use Rattle.loom_engine.proofs.Runs.Events.{IsOver}
 use Rattle.loom_engine.proofs.Runs.Keeping.{Keeps, kept_value}
 use Rattle.loom_engine.proofs.Runs.Kept.{is_calling}
-use Rattle.loom_engine.proofs.Runs.Kinds.{effect_tells}
+use Rattle.loom_engine.proofs.Runs.Kinds.{begins_points, effect_tells}
 use Rattle.loom_engine.proofs.Runs.Lifting.{EnteredTo, ReplyTo, ResumedTo, event_kept}
 use Rattle.loom_engine.proofs.Runs.Loading.{There, chooses_of, here_task, map_task, off_task, reached_there, ready_at, task_at, with_task}
 use Rattle.loom_engine.proofs.Runs.Moving.{Within, enters_wait_moves, reads_moves}
-use Rattle.loom_engine.proofs.Runs.Pointing.{MayBegin, MayBy, MayTake, answered, begins_points, by_points, effect_any, end_points, enters_wait_points}
+use Rattle.loom_engine.proofs.Runs.Advancing.{effect_any}
+use Rattle.loom_engine.proofs.Runs.Pointing.{MayBegin, MayBy, MayTake, answered, by_points, end_points, enters_wait_points}
 use Rattle.loom_engine.proofs.Runs.Queues.{cond_here, cond_off, decided, set_there}
 use Rattle.loom_engine.proofs.Runs.Storing.{NoStore, load_values, move_values, nothing_more, raise_values, store_values, unsync_load_values, update_fail_values, update_read_values, update_write_values, with_mut_end_values, with_mut_values}
 use Rattle.loom_engine.proofs.Runs.Threading.{KeptByThreads, counted_on, effect_on}

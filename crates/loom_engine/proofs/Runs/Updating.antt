@@ -55,7 +55,8 @@ use Rattle.loom_engine.proofs.Runs.Fairness.{AnswersBy}
 use Rattle.loom_engine.proofs.Runs.Lifting.{ReplyTo}
 use Rattle.loom_engine.proofs.Runs.Offered.{AnyWay, EnteredSo, Offers, ResumedSo, any_way, event_offers_so, last_of, offered_value}
 use Rattle.loom_engine.proofs.Runs.Ordering.{MayNow, Offered, follows_led, followed_led, led_joined, led_on, may_read}
-use Rattle.loom_engine.proofs.Runs.Pointing.{Does, Fencing, MayBegin, MayBy, Reading, ResumedIf, Storing, answered, begins_points, by_points, effect_points, end_points, enters_wait_points}
+use Rattle.loom_engine.proofs.Runs.Kinds.{begins_points, effect_points}
+use Rattle.loom_engine.proofs.Runs.Pointing.{Does, Fencing, MayBegin, MayBy, Reading, ResumedIf, Storing, answered, by_points, end_points, enters_wait_points}
 use Rattle.loom_engine.proofs.Runs.Queues.{cond_off, decided}
 use Rattle.loom_engine.proofs.Runs.Stored.{stores_law}
 use Rattle.loom_engine.proofs.Runs.Storing.{NoStore, load_values, move_values, nothing_more, raise_values, update_fail_values, update_read_values, update_write_values}

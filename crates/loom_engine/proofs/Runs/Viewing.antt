@@ -15,7 +15,8 @@ use Rattle.loom_engine.specs.Runs.Histories.{Event, Happens, IsReached, at_first
 use Rattle.loom_engine.specs.Runs.Machine.{submit}
 use Rattle.loom_engine.specs.Runs.Views.{GlobalPointLaw, MovesLaw}
 use Rattle.loom_engine.proofs.Runs.Keeping.{kept_value}
-use Rattle.loom_engine.proofs.Runs.Pointing.{Does, Fencing, MayBegin, MayBy, Reading, Storing, event_points}
+use Rattle.loom_engine.proofs.Runs.Advancing.{event_points}
+use Rattle.loom_engine.proofs.Runs.Pointing.{Does, Fencing, MayBegin, MayBy, Reading, Storing}
 
 -- ---- moves lead on
 

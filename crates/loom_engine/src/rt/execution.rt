@@ -207,15 +207,11 @@ fn start<D: Data>(run: &mut Progress<D>, op: Request<D, ()>) -> Result<Entry<D>,
         let threads = run.state.scene.thread_count().saturating_sub(threads);
         let objects = run.state.scene.object_count().saturating_sub(objects);
         if run.dependence.grow(parent, threads, objects).is_err() {
-            let_go(answer);
             return Err(Stop::Memory);
         }
     }
     answer
 }
-
-/// Lets an answer go, with the data that it may hold.
-fn let_go<D: Drop>(_answer: Result<Entry<D>, Stop>) {}
 
 /// The path explores from now on, or doesn't.
 fn switch<D: Data>(run: &mut Progress<D>, path: &mut Path, op: ExploreOp) -> Result<Turn<D>, Stop>

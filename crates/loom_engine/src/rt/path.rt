@@ -174,7 +174,7 @@ impl Path {
             Node::Schedule(schedule) => {
                 let schedule = self.noted(schedule);
                 self.push(Node::Schedule(schedule))?;
-                self.pass(&schedule);
+                self.pass(&schedule, schedule.active());
             }
             Node::Load(_) | Node::Spurious(_) => {
                 self.push(node)?;
@@ -328,13 +328,15 @@ impl Path {
         }
     }
 
-    /// The run passes the schedule at the position.
+    /// The run passes the schedule at the position, at which this was chosen.
     #[inline(always)]
-    fn pass(&mut self, schedule: &Schedule)
-        requires { slice_get self.old.nodes self.old.position ≡ Some (Node.Schedule schedule.now) }
+    fn pass(&mut self, schedule: &Schedule, chosen: Option<u8>)
+        requires stands { slice_get self.old.nodes self.old.position ≡ Some (Node.Schedule schedule.now) }
+        requires chosen { Choice.Thread chosen ≡ (seen_schedule schedule.now).present }
         ensures { self.new ≡ record self.old { position = self.old.position + 1 } }
     {
-        self.tally.pass(schedule, self.nodes.position as u32);
+        self.tally
+            .pass(schedule, chosen, self.nodes.position as u32);
         self.nodes.position += 1;
     }
 
@@ -358,8 +360,9 @@ impl Path {
         if self.nodes.position < self.nodes.list.len() {
             return match self.nodes.stored_schedule(exploring, offers) {
                 Ok(schedule) => {
-                    self.pass(&schedule);
-                    Ok(schedule.active())
+                    let chosen = schedule.active();
+                    self.pass(&schedule, chosen);
+                    Ok(chosen)
                 }
                 Err(stop) => Err(stop),
             };
@@ -372,8 +375,9 @@ impl Path {
         };
         match self.push(Node::Schedule(schedule)) {
             Ok(()) => {
-                self.pass(&schedule);
-                Ok(schedule.active())
+                let chosen = schedule.active();
+                self.pass(&schedule, chosen);
+                Ok(chosen)
             }
             Err(_) => Err(Stop::Memory),
         }

@@ -6,14 +6,18 @@ ghost use Rattle.loom_examples.specs.Rows.Line.{PrintedOf};
 use crate::closures::ring::through_ring;
 use crate::closures::scenes;
 use crate::rows::line::{self, ShownReport};
+use crate::rows::tell_error;
+use crate::rows::timed::HostClock;
 use loom::Choice;
+use loom::checkpoint::file::file_store;
 use loom::explain::Explanation;
 use loom::model::builder::Builder;
 use loom::model::{Replay, Report};
-use loom::runner::{Handle, NoVisitor, RunnerError, Stop, check, explain, replay};
+use loom::runner::{Handle, NoVisitor, RunnerError, Stop, check_with, explain, replay};
 use loom_ops::sync::atomic::Ordering::Relaxed;
-use std::alloc::Global;
+use std::alloc::{AllocError, Global};
 use std::io::{self, Write};
+use std::rt::{Clock, Files};
 use std::sync::Wait;
 use std::thread::Threads;
 
@@ -73,10 +77,12 @@ impl ClosureRow {
         }
     }
 
-    /// The row that the words mean: one word, which is its name. A row of closures has no checkpoint file.
-    pub fn meant_by(words: &[&str]) -> Option<ClosureRow> {
+    /// The row that the words mean, and the file that they name: the first of one or two words is the name of the row, and the
+    /// second that of its checkpoint file.
+    pub fn meant_by<'a>(words: &[&'a str]) -> Option<(ClosureRow, Option<&'a str>)> {
         match words {
-            [name] => named(*name),
+            [name] => Some((named(*name)?, None)),
+            [name, file] => Some((named(*name)?, Some(*file))),
             _ => None,
         }
     }
@@ -98,17 +104,18 @@ impl ClosureRow {
         builder
     }
 
-    /// What a check of the row finds, by its own settings.
-    pub fn check<R: Threads + Wait + Clone + Send + 'static>(
-        self,
-        rt: &R,
-        alloc: Global,
-    ) -> Result<Report, RunnerError> {
-        self.check_by(rt, alloc, &self.builder())
+    /// The settings, with the checkpoint file of this name, if one is given.
+    pub fn builder_with(self, alloc: Global, file: Option<&str>) -> Result<Builder, AllocError> {
+        let mut builder = self.builder();
+        if let Some(file) = file {
+            builder.checkpoint_file(alloc, file)?;
+        }
+        Ok(builder)
     }
 
-    /// What a check of the row finds, by these settings.
-    pub fn check_by<R: Threads + Wait + Clone + Send + 'static>(
+    /// What a check of the row finds, by these settings and the host's clock. It goes on from the checkpoint file, and keeps its
+    /// checkpoints there, if one is set.
+    pub fn check_by<R: Clock + Files + Threads + Wait + Clone + Send + 'static>(
         self,
         rt: &R,
         alloc: Global,
@@ -120,7 +127,19 @@ impl ClosureRow {
             is_first = false;
             self.run(handle, was_first)
         };
-        check(rt, alloc, builder, main, &mut NoVisitor)
+        let mut clock = HostClock::start(rt);
+        let mut store = file_store(rt, alloc, &builder.checkpoint_file);
+        let log = None::<HostRuntime>;
+        check_with(
+            rt,
+            alloc,
+            builder,
+            main,
+            &mut NoVisitor,
+            &mut clock,
+            &mut store,
+            &log,
+        )
     }
 
     /// One run of the row, by these choices and then by defaults.
@@ -179,32 +198,39 @@ pub fn named(name: &str) -> Option<ClosureRow> {
     None
 }
 
-/// Checks the row, prints the line of the report, and answers its status. Where there is no report, it prints which error came, and
-/// why, and the status is 2.
-pub fn run_row<R: AllocGlobal + Threads + Wait + Clone + Send + 'static, O: Write, E: Write>(
-    rt: &R,
-    row: ClosureRow,
-    out: &mut O,
-    err: &mut E,
-) -> io::Result<u8>
+/// Checks the row with this checkpoint file, if one is given, prints the line of the report, and answers its status. Where there is
+/// no report, it prints which error came, and why, and the status is 2.
+pub fn run_row<
+    R: AllocGlobal + Clock + Files + Threads + Wait + Clone + Send + 'static,
+    O: Write,
+    E: Write,
+>(rt: &R, row: ClosureRow, file: Option<&str>, out: &mut O, err: &mut E) -> io::Result<u8>
     ensures { IfOk result (λ status. (status ≡ 2) ⊎ ((report : Report) × PrintedOf report (O.contents out.old) (O.contents out.new) status)) }
 {
-    match row.check(rt, rt.alloc()) {
+    let builder = row.builder_with(rt.alloc(), file)?;
+    match row.check_by(rt, rt.alloc(), &builder) {
         Ok(report) => {
             let shown = ShownReport(&report);
             writeln!(out, "{shown}")?;
             Ok(line::status_of(&report))
         }
-        Err(error) => refuse_run(err, error),
+        Err(error) => refuse_run(err, &builder, error),
     }
 }
 
 /// Prints which error came, and why.
-pub(crate) fn refuse_run<E: Write>(err: &mut E, error: RunnerError) -> io::Result<u8>
+pub(crate) fn refuse_run<E: Write>(
+    err: &mut E,
+    builder: &Builder,
+    error: RunnerError,
+) -> io::Result<u8>
     ensures { IfOk result (λ status. status ≡ 2) }
 {
     let number = error.number();
     writeln!(err, "error {number}")?;
-    writeln!(err, "{error}")?;
+    match &error {
+        RunnerError::Settings(why) => tell_error(err, builder, *why)?,
+        _ => writeln!(err, "{error}")?,
+    }
     Ok(2)
 }

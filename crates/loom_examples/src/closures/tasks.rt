@@ -4,31 +4,30 @@ use crate::closures::rows::{ClosureRow, refuse_run};
 use crate::rows::line::{self, ShownReport};
 use crate::rows::options::RowAsked;
 use crate::rows::tasks::ShownReplay;
+use crate::rows::words::{refuse, refuse_choices};
 use loom::model::builder::Builder;
 use loom::model::{Replay, Report};
 use loom::{Choice, Choices};
 use std::io::{self, Write};
+use std::rt::{Clock, Files};
 use std::sync::Wait;
 use std::thread::Threads;
 
-/// Does what is asked of a row of closures, prints what comes of it, and answers the exit status. Such a row has no file, no rising
-/// bounds, no limit in time and no JSON.
-pub fn run_asked<R: AllocGlobal + Threads + Wait + Clone + Send + 'static, O: Write, E: Write>(
-    rt: &R,
-    row: ClosureRow,
-    asked: RowAsked,
-    out: &mut O,
-    err: &mut E,
-) -> io::Result<u8> {
-    if asked.rises || asked.json || asked.file.is_some() || asked.changes.max_duration.is_some() {
-        writeln!(err, "usage: loom_rows NAME [FILE]")?;
-        writeln!(
+/// Does what is asked of a row of closures, prints what comes of it, and answers the exit status. Such a row has no rising bounds
+/// and no JSON.
+pub fn run_asked<
+    R: AllocGlobal + Clock + Files + Threads + Wait + Clone + Send + 'static,
+    O: Write,
+    E: Write,
+>(rt: &R, row: ClosureRow, asked: RowAsked, out: &mut O, err: &mut E) -> io::Result<u8> {
+    if asked.rises || asked.json {
+        return refuse(
             err,
-            "error: a row of closures has no FILE, no '--rising', no '--json' and no '--max-duration'"
-        )?;
-        return Ok(2);
+            "error: a row of closures has no '--rising' and no '--json'",
+        );
     }
-    let builder = asked.changes.change(row.builder());
+    let builder = row.builder_with(rt.alloc(), asked.file)?;
+    let builder = asked.changes.change(builder);
     match asked.replay {
         None => check_row(rt, row, &builder, asked.explains, out, err),
         Some(text) => match Choices::parse(rt.alloc(), text) {
@@ -41,16 +40,17 @@ pub fn run_asked<R: AllocGlobal + Threads + Wait + Clone + Send + 'static, O: Wr
                 out,
                 err,
             ),
-            Err(error) => {
-                writeln!(err, "{error}")?;
-                Ok(2)
-            }
+            Err(error) => refuse_choices(rt.alloc(), text, error, err),
         },
     }
 }
 
 /// Checks the row, and explains a failure, where that is asked for.
-fn check_row<R: AllocGlobal + Threads + Wait + Clone + Send + 'static, O: Write, E: Write>(
+fn check_row<
+    R: AllocGlobal + Clock + Files + Threads + Wait + Clone + Send + 'static,
+    O: Write,
+    E: Write,
+>(
     rt: &R,
     row: ClosureRow,
     builder: &Builder,
@@ -67,7 +67,7 @@ fn check_row<R: AllocGlobal + Threads + Wait + Clone + Send + 'static, O: Write,
             }
             Ok(line::status_of(&report))
         }
-        Err(error) => refuse_run(err, error),
+        Err(error) => refuse_run(err, builder, error),
     }
 }
 
@@ -95,7 +95,7 @@ fn replay_row<R: AllocGlobal + Threads + Wait + Clone + Send + 'static, O: Write
                 }
             }
         }
-        Err(error) => refuse_run(err, error),
+        Err(error) => refuse_run(err, builder, error),
     }
 }
 

@@ -20,9 +20,19 @@ use std::time::{Duration, Instant};
 
 /// The host's clock, from the begin of a check on. If it fails the time is over.
 #[derive(Drop)]
-struct HostClock<'a, R> {
+pub(crate) struct HostClock<'a, R> {
     rt: &'a R,
     start: Option<Instant>,
+}
+
+impl<'a, R: Clock> HostClock<'a, R> {
+    /// The clock of a check that begins now.
+    pub(crate) fn start(rt: &'a R) -> HostClock<'a, R> {
+        HostClock {
+            rt,
+            start: Instant::now(rt).ok(),
+        }
+    }
 }
 
 impl<R: Clock> loom::Clock for HostClock<'_, R> {
@@ -54,10 +64,7 @@ pub(crate) fn check<R: AllocGlobal + Clock + Files, B: Body<Data = u64>>(
     builder: &Builder,
     body: &B,
 ) -> Result<Report, CheckError> {
-    let mut clock = HostClock {
-        rt,
-        start: Instant::now(rt).ok(),
-    };
+    let mut clock = HostClock::start(rt);
     let mut store = file_store(rt, rt.alloc(), &builder.checkpoint_file);
     let log = None::<HostRuntime>;
     builder.check_with(

@@ -9,7 +9,7 @@ use crate::rows::options::{Asked, RowAsked, is_option, read};
 use crate::rows::tasks::{Task, do_changed};
 use crate::rows::{self, Row, json, row_of, timed};
 use clap::Error;
-use loom::Choices;
+use loom::{Choices, ChoicesError};
 use std::alloc::{AllocError, Global};
 use std::io::{self, Write};
 use std::rt::{Clock, Files};
@@ -118,13 +118,23 @@ fn run_asked<R: AllocGlobal + Clock + Files, O: Write, E: Write>(
     };
     match Choices::parse(rt.alloc(), replay) {
         Ok(choices) => run_task(rt, Task::Replay(choices.as_slice()), asked, out, err),
-        Err(error) => {
-            let cause = format!(in rt.alloc();
-                "error: invalid value '{replay}' for '--replay <CHOICES>': {error}"
-            )?;
-            refuse(err, cause.as_str())
-        }
+        Err(error) => refuse_choices(rt.alloc(), replay, error, err),
     }
+}
+
+/// What stands behind `--replay` is no list of choices: the usage, and which word is none.
+pub(crate) fn refuse_choices<E: Write>(
+    alloc: Global,
+    text: &str,
+    error: ChoicesError,
+    err: &mut E,
+) -> io::Result<u8>
+    ensures { IfOk result (λ status. status ≡ 2) }
+{
+    let cause = format!(in alloc;
+        "error: invalid value '{text}' for '--replay <CHOICES>': {error}"
+    )?;
+    refuse(err, cause.as_str())
 }
 
 fn run_task<R: AllocGlobal + Clock + Files, O: Write, E: Write>(
@@ -174,8 +184,10 @@ fn refuse_name<E: Write>(alloc: Global, rows: &[Row], name: &str, err: &mut E) -
     ensures { IfOk result (λ status. status ≡ 2) }
 {
     let nearest = nearest(alloc, rows, name)?;
-    let cause = if nearest == name {
-        format!(in alloc; "error: '{name}' is a row of closures, which has no file and no options")?
+    let cause = if nearest.is_empty() {
+        format!(in alloc; "error: no row is called '{name}'")?
+    } else if nearest == name {
+        format!(in alloc; "error: '{name}' is a row of closures, which doesn't take these words")?
     } else {
         format!(in alloc;
             "error: no row is called '{name}'\n\n  tip: the nearest name is '{nearest}'"
@@ -184,20 +196,20 @@ fn refuse_name<E: Write>(alloc: Global, rows: &[Row], name: &str, err: &mut E) -
     refuse(err, cause.as_str())
 }
 
-// The row's name that is reached from this word by the fewest changes of a letter.
+// The row's name that is reached from this word by the fewest changes of a letter, or nothing, where no name keeps a letter.
 fn nearest<'a>(alloc: Global, rows: &'a [Row], word: &str) -> Result<&'a str, AllocError> {
     let mut nearest = "";
     let mut least = usize::MAX;
     for row in rows {
         let distance = strsim::levenshtein(alloc, row.name, word)?;
-        if distance < least {
+        if distance < least.min(row.name.len()) {
             nearest = row.name;
             least = distance;
         }
     }
     for row in ROWS {
         let distance = strsim::levenshtein(alloc, row.name(), word)?;
-        if distance < least {
+        if distance < least.min(row.name().len()) {
             nearest = row.name();
             least = distance;
         }
@@ -228,8 +240,8 @@ fn before<'a>(text: &'a str, other: &str) -> &'a str {
     }
 }
 
-// Prints the usage, the cause, and where there is more to read.
-fn refuse<E: Write>(err: &mut E, cause: &str) -> io::Result<u8>
+/// Prints the usage, the cause, and where there is more to read.
+pub(crate) fn refuse<E: Write>(err: &mut E, cause: &str) -> io::Result<u8>
     ensures { IfOk result (λ status. status ≡ 2) }
 {
     writeln!(err, "usage: loom_rows NAME [FILE]")?;

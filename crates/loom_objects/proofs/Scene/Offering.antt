@@ -1,12 +1,14 @@
 -- What threads offer to a schedule: its default thread is able, and without one no thread is.
-use Rattle.std.proofs.Common.{◌≡◌, ◌≢◌, ◌≤◌, ◌<◌, ℕ, zero, suc, ◌+◌, Bool, true, false, List, [], ◌∷◌, length, map, Option, Some, None, refl, ap, ◌∙◌, subst, arith}
+use Rattle.std.proofs.Common.{◌≡◌, ◌≢◌, ◌≤◌, ◌<◌, ℕ, zero, suc, ◌+◌, Bool, true, false, List, [], ◌∷◌, length, map, Option, Some, None, refl, ap, sym, ◌∙◌, subst, arith}
 use Rattle.std.specs.Prelude.{cond, nat_lt, slice_get, slice_set}
 use Rattle.std.specs.List.{position_from}
 use Rattle.loom_objects.specs.declared.rt.schedule.Ability.{Ability}
 use Rattle.loom_objects.specs.declared.rt.schedule.Ability.TheVariants.{Able, Yielding, Unable}
 use Rattle.loom_objects.specs.declared.rt.schedule.Offers.{Offers}
 use Rattle.loom_objects.specs.Tree.Sound.{AreSoundOffers}
-use Rattle.loom_objects.specs.Schedule.Offers.{ability_in, with_able, offers_of}
+use Rattle.loom_objects.specs.declared.rt.thread.State.TheVariants.{Runnable}
+use Rattle.loom_objects.specs.declared.rt.thread.Thread.{Thread}
+use Rattle.loom_objects.specs.Schedule.Offers.{ability_of, ability_in, with_able, offers_of, standing_of, standing_at}
 use Rattle.loom_objects.specs.Schedule.Defaults.{is_able, is_yielding, better, fewest, or_else, default_thread}
 
 -- ---- what is found stands in the list
@@ -85,7 +87,7 @@ by_active active standings false e = by_fewest standings (fewest None 0 standing
 pub offers_sound : (active : ℕ) (standings : List (Ability × ℕ)) → AreSoundOffers (offers_of active standings).default (offers_of active standings).abilities
 offers_sound active standings = by_active active standings (is_able (slice_get standings active)) refl
 
-abbrev made : Option ℕ → List Ability → Offers
+abbrev pub made : Option ℕ → List Ability → Offers
 made default abilities = record { default = default; abilities = abilities }
 
 -- the offers that are made of these parts
@@ -93,3 +95,34 @@ pub offered_as : (active : ℕ) (standings : List (Ability × ℕ)) (default : O
     → able ≡ with_able default abilities → made default able ≡ offers_of active standings
 offered_as active standings default abilities able e f g =
     ap (made default) (g ∙ ap (with_able default) f) ∙ ap (λ (d : Option ℕ). made d (with_able d (map ability_in standings))) e
+
+-- ---- where the active thread can go on
+
+set_same : (standings : List (Ability × ℕ)) (k : ℕ) → is_able (slice_get standings k) ≡ true → slice_set (map ability_in standings) k Able ≡ map ability_in standings
+set_same [] k e = refl
+set_same ((Able, yields) ∷ rest) zero e = refl
+set_same ((Yielding, yields) ∷ rest) zero e = absurd (cc e)
+set_same ((Unable, yields) ∷ rest) zero e = absurd (cc e)
+set_same (standing ∷ rest) (suc k) e = ap (λ (l : List Ability). ability_in standing ∷ l) (set_same rest k e)
+
+-- it is the default, and what the others can do is offered as it is
+offered_by_active : (active : ℕ) (standings : List (Ability × ℕ)) → is_able (slice_get standings active) ≡ true → made (Some active) (map ability_in standings) ≡ offers_of active standings
+offered_by_active active standings e =
+    ap (made (Some active)) (sym (set_same standings active e))
+    ∙ ap (λ (b : Bool). let d = cond b (Some active) (or_else (fewest None 0 standings) (position_from is_yielding 0 standings)) in made d (with_able d (map ability_in standings))) (sym e)
+
+-- of five threads
+able_active : {D : Type 0} (threads : List (Thread D)) (active : ℕ) (thread : Thread D) → active < 5 → slice_get threads active ≡ Some thread → thread.state ≡ Runnable
+    → is_able (slice_get (map (standing_at threads) (0 ∷ 1 ∷ 2 ∷ 3 ∷ 4 ∷ [])) active) ≡ true
+able_active threads zero thread l h r = ap (λ o. is_able (Some (standing_of o))) h ∙ ap (λ s. is_able (Some (ability_of s, thread.yields))) r
+able_active threads (suc zero) thread l h r = ap (λ o. is_able (Some (standing_of o))) h ∙ ap (λ s. is_able (Some (ability_of s, thread.yields))) r
+able_active threads (suc (suc zero)) thread l h r = ap (λ o. is_able (Some (standing_of o))) h ∙ ap (λ s. is_able (Some (ability_of s, thread.yields))) r
+able_active threads (suc (suc (suc zero))) thread l h r = ap (λ o. is_able (Some (standing_of o))) h ∙ ap (λ s. is_able (Some (ability_of s, thread.yields))) r
+able_active threads (suc (suc (suc (suc zero)))) thread l h r = ap (λ o. is_able (Some (standing_of o))) h ∙ ap (λ s. is_able (Some (ability_of s, thread.yields))) r
+able_active threads (suc (suc (suc (suc (suc k))))) thread l h r = absurd (omega arith)
+
+-- what is offered then
+pub offered_now : {D : Type 0} (threads : List (Thread D)) (active : ℕ) (thread : Thread D) (abilities : List Ability) → active < 5 → slice_get threads active ≡ Some thread → thread.state ≡ Runnable
+    → abilities ≡ map ability_in (map (standing_at threads) (0 ∷ 1 ∷ 2 ∷ 3 ∷ 4 ∷ [])) → made (Some active) abilities ≡ offers_of active (map (standing_at threads) (0 ∷ 1 ∷ 2 ∷ 3 ∷ 4 ∷ []))
+offered_now threads active thread abilities l h r e =
+    ap (made (Some active)) e ∙ offered_by_active active (map (standing_at threads) (0 ∷ 1 ∷ 2 ∷ 3 ∷ 4 ∷ [])) (able_active threads active thread l h r)

@@ -75,6 +75,8 @@ fn is_relaxed(order: Ordering) -> bool
 }
 
 /// The active thread raises its version, and makes a fence.
+// Inlined, so that other operations make no room for its answer.
+#[inline(always)]
 pub fn fence<D: Drop>(scene: &mut Scene<D>, order: Ordering) -> Result<Entry<D>, FailureKind>
     ensures { Does (rules.fence order) scene.old result scene.new }
 {
@@ -167,18 +169,19 @@ pub fn atomic_begins<D: Drop>(
     ensures does { IfOk result (λ answer. Does (rules.atomic_begins op) scene.old answer scene.new) }
     ensures growth { OnErr result (rules.needs_memory op ≡ true) }
 {
-    match op {
-        AtomicOp::New(numbers, value) => Ok(Ok(atomic_new(scene, numbers, value)?)),
-        AtomicOp::UnsyncLoad(number) => Ok(unsync_load(scene, number)),
-        AtomicOp::IntoInner(number) => Ok(into_inner(scene, number)),
-        AtomicOp::WithMut(number) => Ok(with_mut(scene, number)),
-        AtomicOp::WithMutEnd(number, value) => Ok(with_mut_end(scene, number, value)),
+    let begun = match op {
+        AtomicOp::New(numbers, value) => Ok(atomic_new(scene, numbers, value)?),
+        AtomicOp::UnsyncLoad(number) => unsync_load(scene, number),
+        AtomicOp::IntoInner(number) => into_inner(scene, number),
+        AtomicOp::WithMut(number) => with_mut(scene, number),
+        AtomicOp::WithMutEnd(number, value) => with_mut_end(scene, number, value),
         AtomicOp::Load(..)
         | AtomicOp::Store(..)
         | AtomicOp::Update(..)
         | AtomicOp::CompareExchange(..)
-        | AtomicOp::CompareAndSwap(..) => Ok(access_begins(scene, op)),
-    }
+        | AtomicOp::CompareAndSwap(..) => access_begins(scene, op),
+    };
+    Ok(begun)
 }
 
 fn atomic_new<D: Drop>(

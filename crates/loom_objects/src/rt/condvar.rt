@@ -108,17 +108,18 @@ pub fn condvar_begins<D: Drop>(
     ensures does { IfOk result (λ answer. Does (rules.condvar_begins op) scene.old answer scene.new) }
     ensures growth { OnErr result (rules.needs_memory op ≡ true) }
 {
-    match op {
-        CondvarOp::New => Ok(Ok(condvar_new(scene)?)),
+    let begun = match op {
+        CondvarOp::New => Ok(condvar_new(scene)?),
         CondvarOp::Wait(number, mutex, value) => {
-            Ok(condvar_wait_begins(scene, Locking::Untimed, number, mutex, value))
+            condvar_wait_begins(scene, Locking::Untimed, number, mutex, value)
         }
         CondvarOp::WaitTimeout(number, mutex, value) => {
-            Ok(condvar_wait_begins(scene, Locking::Timed, number, mutex, value))
+            condvar_wait_begins(scene, Locking::Timed, number, mutex, value)
         }
-        CondvarOp::NotifyOne(number) => Ok(wake_begins(scene, Waking::One, number)),
-        CondvarOp::NotifyAll(number) => Ok(wake_begins(scene, Waking::All, number)),
-    }
+        CondvarOp::NotifyOne(number) => wake_begins(scene, Waking::One, number),
+        CondvarOp::NotifyAll(number) => wake_begins(scene, Waking::All, number),
+    };
+    Ok(begun)
 }
 
 fn condvar_new<D: Drop>(scene: &mut Scene<D>) -> Result<Entry<D>, AllocError>

@@ -122,15 +122,16 @@ pub fn mutex_begins<D: Drop>(
     ensures does { IfOk result (λ answer. Does (rules.mutex_begins op) scene.old answer scene.new) }
     ensures growth { OnErr result (rules.needs_memory op ≡ true) }
 {
-    match op {
-        MutexOp::New(value) => Ok(Ok(mutex_new(scene, value)?)),
-        MutexOp::Lock(number) => Ok(lock_begins(scene, number)),
-        MutexOp::TryLock(number) => Ok(try_lock_begins(scene, number)),
-        MutexOp::Release(number, value) => Ok(release(scene, number, value)),
-        MutexOp::GetMut(number) => Ok(mutex_get_mut(scene, number)),
-        MutexOp::Put(number, value) => Ok(mutex_put(scene, number, value)),
-        MutexOp::IntoInner(number) => Ok(mutex_into_inner(scene, number)),
-    }
+    let begun = match op {
+        MutexOp::New(value) => Ok(mutex_new(scene, value)?),
+        MutexOp::Lock(number) => lock_begins(scene, number),
+        MutexOp::TryLock(number) => try_lock_begins(scene, number),
+        MutexOp::Release(number, value) => release(scene, number, value),
+        MutexOp::GetMut(number) => mutex_get_mut(scene, number),
+        MutexOp::Put(number, value) => mutex_put(scene, number, value),
+        MutexOp::IntoInner(number) => mutex_into_inner(scene, number),
+    };
+    Ok(begun)
 }
 
 fn mutex_new<D: Drop>(scene: &mut Scene<D>, value: D) -> Result<Entry<D>, AllocError>
@@ -164,6 +165,7 @@ fn try_lock_begins<D: Drop>(scene: &mut Scene<D>, number: usize) -> Result<Entry
 }
 
 /// The active thread holds the mutex from now on and acquires, and who is pending on it is blocked.
+#[inline(always)]
 pub fn lock<D: Drop>(
     scene: &mut Scene<D>,
     locking: Locking,
@@ -194,6 +196,7 @@ pub fn try_lock<D: Drop>(scene: &mut Scene<D>, number: usize) -> Result<Reply<D>
 }
 
 /// The active thread releases, the mutex is free and has its data back, and who is pending on it is woken.
+#[inline(always)]
 pub fn set_free<D: Drop>(scene: &mut Scene<D>, number: usize, value: D) -> Result<(), FailureKind>
     ensures { Does (rules.frees number value) scene.old result scene.new }
 {
@@ -210,6 +213,7 @@ pub fn set_free<D: Drop>(scene: &mut Scene<D>, number: usize, value: D) -> Resul
     Ok(())
 }
 
+#[inline(always)]
 fn release<D: Drop>(scene: &mut Scene<D>, number: usize, value: D) -> Result<Entry<D>, FailureKind>
     ensures { Does (rules.release number value) scene.old result scene.new }
 {

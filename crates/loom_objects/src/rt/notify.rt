@@ -110,6 +110,7 @@ impl<D: Drop> Scene<D> {
 }
 
 /// The active thread releases and notifies: who waits takes in its view, and is woken. `Misuse` where there is no such notifier.
+#[inline(always)]
 pub fn notify_waiter<D: Drop>(scene: &mut Scene<D>, number: usize) -> Result<(), FailureKind>
     ensures { Does (rules.notify number) scene.old result scene.new }
 {

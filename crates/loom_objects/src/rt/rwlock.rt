@@ -289,18 +289,19 @@ pub fn rwlock_begins<D: Drop>(
     ensures does { IfOk result (λ answer. Does (rules.rwlock_begins op) scene.old answer scene.new) }
     ensures growth { OnErr result (rules.needs_memory op ≡ true) }
 {
-    match op {
-        RwLockOp::New(value) => Ok(Ok(rwlock_new(scene, value)?)),
-        RwLockOp::Read(number) => Ok(claim_begins(scene, Claim::Read, number)),
-        RwLockOp::TryRead(number) => Ok(claim_begins(scene, Claim::TryRead, number)),
-        RwLockOp::ReadRelease(number) => Ok(read_release(scene, number)),
-        RwLockOp::Write(number) => Ok(claim_begins(scene, Claim::Write, number)),
-        RwLockOp::TryWrite(number) => Ok(claim_begins(scene, Claim::TryWrite, number)),
-        RwLockOp::WriteRelease(number, value) => Ok(write_release(scene, number, value)),
-        RwLockOp::GetMut(number) => Ok(rwlock_get_mut(scene, number)),
-        RwLockOp::Put(number, value) => Ok(rwlock_put(scene, number, value)),
-        RwLockOp::IntoInner(number) => Ok(rwlock_into_inner(scene, number)),
-    }
+    let begun = match op {
+        RwLockOp::New(value) => Ok(rwlock_new(scene, value)?),
+        RwLockOp::Read(number) => claim_begins(scene, Claim::Read, number),
+        RwLockOp::TryRead(number) => claim_begins(scene, Claim::TryRead, number),
+        RwLockOp::ReadRelease(number) => read_release(scene, number),
+        RwLockOp::Write(number) => claim_begins(scene, Claim::Write, number),
+        RwLockOp::TryWrite(number) => claim_begins(scene, Claim::TryWrite, number),
+        RwLockOp::WriteRelease(number, value) => write_release(scene, number, value),
+        RwLockOp::GetMut(number) => rwlock_get_mut(scene, number),
+        RwLockOp::Put(number, value) => rwlock_put(scene, number, value),
+        RwLockOp::IntoInner(number) => rwlock_into_inner(scene, number),
+    };
+    Ok(begun)
 }
 
 fn rwlock_new<D: Drop>(scene: &mut Scene<D>, value: D) -> Result<Entry<D>, AllocError>

@@ -89,7 +89,7 @@ impl<D: Drop> Scene<D> {
         ensures opens { (points : Points) → (left : ℕ) → world_of points left self.new ≡ record (opening max_threads left) { points = points } }
         ensures views { ShowsViews first_points self.new.views }
     {
-        only_main(&mut self.threads, self.alloc);
+        only_main(&mut self.threads);
         self.objects.clear();
         self.views.restart();
         self.lazies.clear();
@@ -204,12 +204,12 @@ impl<D: Drop> Scene<D> {
 }
 
 /// Leaves main alone, which is about to hand over its first operation.
-fn only_main<D: Drop>(threads: &mut Sequence<Thread<D>>, alloc: Global)
+fn only_main<D: Drop>(threads: &mut Sequence<Thread<D>>)
     requires { 0 < length threads.old }
     ensures { threads.new ≡ main_thread ∷ [] }
 {
     threads.keep_first();
-    *threads.at_mut(0) = Thread::main(alloc);
+    threads.at_mut(0).restart();
 }
 
 /// A thread that has yielded can go on again.

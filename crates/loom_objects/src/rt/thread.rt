@@ -215,3 +215,21 @@ impl<D> Thread<D> {
         }
     }
 }
+
+impl<D: Drop> Thread<D> {
+    /// It is main, about to hand over its first operation. The room for its values stays.
+    pub(crate) fn restart(&mut self)
+        ensures { self.new ≡ main_thread }
+    {
+        self.state = State::Runnable;
+        self.phase = Phase::Working;
+        self.task = Task::Body;
+        self.notifier = None;
+        self.result = None;
+        self.yields = 0;
+        self.has_token = false;
+        self.name = None;
+        self.keys.clear();
+        self.locals.clear();
+    }
+}

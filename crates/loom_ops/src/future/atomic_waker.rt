@@ -3,6 +3,7 @@ ghost use Rattle.std.specs.Prelude.{◌≡◌, None};
 ghost use Rattle.loom_ops.specs.Waker.{atomic_waker_handle};
 ghost use Rattle.loom_objects.specs.Operation.Labelled.{bare};
 
+use crate::answers::answer::Answer;
 use crate::future::Waker;
 use loom_objects::operation::{AtomicWakerOp, Op, Reply, Request};
 
@@ -67,5 +68,17 @@ impl AtomicWaker {
         ensures { result ≡ bare (Request.AtomicWaker (AtomicWakerOp.Drop self.number)) }
     {
         Op::new(Request::AtomicWaker(AtomicWakerOp::Drop(self.number)))
+    }
+}
+
+impl<D: Drop> Answer<D> for AtomicWaker {
+    ghost held = { atomic_waker_handle };
+
+    fn from_reply(reply: Reply<D>) -> Option<AtomicWaker>
+        ensures { result ≡ atomic_waker_handle reply }
+    {
+        let place = AtomicWaker::from_reply(&reply);
+        reply.let_go();
+        place
     }
 }

@@ -2,7 +2,7 @@
 ghost use Rattle.std.specs.Prelude.{◌≡◌, ◌==◌, None};
 ghost use Rattle.loom_ops.specs.Arc.{arc_handle};
 ghost use Rattle.loom_objects.specs.Operation.Labelled.{bare};
-ghost use Rattle.loom_ops.specs.Answers.{left_in};
+ghost use Rattle.loom_ops.specs.Answers.{alone_in, left_in};
 
 use crate::answers::answer::Answer;
 use loom_objects::operation::{ArcOp, Op, Reply, Request};
@@ -18,6 +18,10 @@ pub struct Arc {
 /// The value of a reference that was dropped, if it was the last one (own).
 #[derive(Drop)]
 pub struct Left<D>(pub Option<D>);
+
+/// The value of a reference, if it is the only one (own).
+#[derive(Drop)]
+pub struct Alone<D>(pub Option<D>);
 
 impl Arc {
     /// A new counted reference to this value, the only one (loom's `sync/arc.rs`).
@@ -120,6 +124,23 @@ impl<D: Drop> Answer<D> for Left<D> {
         match reply {
             Reply::Data(value) => Some(Left(Some(value))),
             Reply::Done => Some(Left(None)),
+            other => {
+                other.let_go();
+                None
+            }
+        }
+    }
+}
+
+impl<D: Drop> Answer<D> for Alone<D> {
+    ghost held = { alone_in };
+
+    fn from_reply(reply: Reply<D>) -> Option<Alone<D>>
+        ensures { result ≡ alone_in reply }
+    {
+        match reply {
+            Reply::Data(value) => Some(Alone(Some(value))),
+            Reply::Shared => Some(Alone(None)),
             other => {
                 other.let_go();
                 None

@@ -2,6 +2,7 @@
 ghost use Rattle.std.specs.Prelude.{◌≡◌, None};
 ghost use Rattle.loom_objects.specs.Operation.Labelled.{bare};
 ghost use Rattle.loom_ops.specs.Condvar.{condvar_handle, timeout_in};
+ghost use Rattle.loom_ops.specs.Answers.{waited_in};
 
 use crate::answers::answer::Answer;
 use crate::sync::mutex::MutexGuard;
@@ -96,5 +97,23 @@ impl<D: Drop> Answer<D> for Condvar {
         let condvar = Condvar::from_reply(&reply);
         reply.let_go();
         condvar
+    }
+}
+
+impl<D: Drop> Answer<D> for ((MutexGuard, D), WaitTimeoutResult) {
+    ghost held = { waited_in };
+
+    fn from_reply(reply: Reply<D>) -> Option<((MutexGuard, D), WaitTimeoutResult)>
+        ensures { result ≡ waited_in reply }
+    {
+        match reply {
+            Reply::Waited(number, value, timed_out) => {
+                Some(((MutexGuard { number }, value), WaitTimeoutResult(timed_out)))
+            }
+            other => {
+                other.let_go();
+                None
+            }
+        }
     }
 }

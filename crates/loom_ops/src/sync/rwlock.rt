@@ -2,6 +2,7 @@
 ghost use Rattle.std.specs.Prelude.{◌≡◌, None};
 ghost use Rattle.loom_ops.specs.RwLock.{rwlock_handle, read_guard_handle, read_guard_taken, write_guard_handle, write_guard_taken};
 ghost use Rattle.loom_objects.specs.Operation.Labelled.{bare};
+ghost use Rattle.loom_ops.specs.Answers.{tried_read_in, tried_write_in};
 
 use crate::answers::answer::Answer;
 use loom_objects::operation::{Op, Reply, Request, RwLockOp};
@@ -191,5 +192,39 @@ impl<D: Drop> Answer<D> for (RwLockWriteGuard, D) {
         ensures { result ≡ write_guard_taken reply }
     {
         RwLockWriteGuard::take(reply)
+    }
+}
+
+impl<D: Drop> Answer<D> for Option<(RwLockReadGuard, D)> {
+    ghost held = { tried_read_in };
+
+    fn from_reply(reply: Reply<D>) -> Option<Option<(RwLockReadGuard, D)>>
+        ensures { result ≡ tried_read_in reply }
+    {
+        match reply {
+            Reply::ReadLocked(number, value) => Some(Some((RwLockReadGuard { number }, value))),
+            Reply::WouldBlock => Some(None),
+            other => {
+                other.let_go();
+                None
+            }
+        }
+    }
+}
+
+impl<D: Drop> Answer<D> for Option<(RwLockWriteGuard, D)> {
+    ghost held = { tried_write_in };
+
+    fn from_reply(reply: Reply<D>) -> Option<Option<(RwLockWriteGuard, D)>>
+        ensures { result ≡ tried_write_in reply }
+    {
+        match reply {
+            Reply::WriteLocked(number, value) => Some(Some((RwLockWriteGuard { number }, value))),
+            Reply::WouldBlock => Some(None),
+            other => {
+                other.let_go();
+                None
+            }
+        }
     }
 }

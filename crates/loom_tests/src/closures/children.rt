@@ -1,9 +1,10 @@
 //! What the threads do that main starts, all by one type of job: each type is checked, and built, with all of the runner once more.
 //! (Closures that are spawned stand in `guide` and in `loom_examples::closures`.)
 use crate::closures::finding::Counter;
-use crate::closures::forms::{self, Signals};
+use crate::closures::forms::{self, Signals, Timed};
 use crate::closures::forms_in_children::{self, Change, Form};
-use crate::closures::turns;
+use crate::closures::forms_of_values::{self, Gate};
+use crate::closures::{changes, turns};
 use loom::runner::{Handle, Job, Stop};
 use loom::sync::Mutex;
 use loom::sync::atomic::AtomicU64;
@@ -20,8 +21,18 @@ pub(super) enum Task {
     LockBoth(Mutex, Mutex),
     /// Counts that it has started, and adds 1.
     Add(AtomicU64),
+    /// Counts that it has started, and adds 2.
+    AddTwo(AtomicU64),
+    /// Updates the number.
+    Update(AtomicU64),
     /// Gives each signal.
     Signal(Signals),
+    /// Changes the data that another thread waits for with a time.
+    Change(Timed),
+    /// Has values that are named by keys.
+    Values,
+    /// Opens the gate.
+    Open(Gate),
     /// What a form does.
     Form(Form),
     /// Waits for the change.
@@ -44,7 +55,12 @@ impl<R: Wait> Job<u64, R> for Child {
             Task::Start => Ok(turns::count_start(counter)),
             Task::LockBoth(outer, inner) => turns::lock_to_stop(handle, &outer, &inner, counter),
             Task::Add(number) => turns::add_one(handle, &number, counter),
+            Task::AddTwo(number) => changes::add_two(handle, &number, counter),
+            Task::Update(number) => forms::update_once(handle, &number),
             Task::Signal(signals) => forms::give_signals(handle, &signals),
+            Task::Change(timed) => forms::change_in_time(handle, &timed),
+            Task::Values => forms_of_values::use_values(handle, 5),
+            Task::Open(gate) => forms_of_values::open_gate(handle, &gate),
             Task::Form(form) => form.play(handle),
             Task::AwaitChange(change) => forms_in_children::await_change(handle, &change),
             Task::MakeChange(change) => forms_in_children::make_change(handle, &change),

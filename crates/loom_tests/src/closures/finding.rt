@@ -1,18 +1,17 @@
 //! Checks of the mains of these tests, all by one closure.
 use crate::closures::forms_in_children::{self, Form};
-use crate::closures::{ends, forms, holds, turns};
+use crate::closures::{changes, ends, forms, forms_of_values, holds, turns};
 use loom::model::Report;
 use loom::model::builder::Builder;
 use loom::model::visitor::Visitor;
-use loom::runner::{Handle, RunnerError, Stop, check};
+use loom::runner::{Handle, Host, RunnerError, Stop, check};
 use loom::{Choice, FailureKind};
 use loom_examples::closures::scenes;
 use std::alloc::{AllocError, Global};
 use std::process::Abort;
+use std::sync::Arc;
 use std::sync::atomic::{AtomicU64, Ordering};
-use std::sync::{Arc, Wait};
 use std::test::Fail;
-use std::thread::Threads;
 
 /// What the closures of all threads count together.
 pub(super) type Counter = Arc<AtomicU64, Global>;
@@ -32,6 +31,24 @@ pub(super) enum Main {
     NoMessages,
     /// One thread waits for another.
     Waits,
+    /// Two threads update one number.
+    TwoUpdates,
+    /// One thread waits for another with a time.
+    WaitsWithTime,
+    /// Tracked values.
+    Tracks,
+    /// A tracked value that is left.
+    TrackLeft,
+    /// Values that are named by keys, in two threads.
+    Values,
+    /// Wakers, by one thread.
+    Wakers,
+    /// A future, which another thread wakes.
+    Future,
+    /// Main reaches what is never to be.
+    Unreachable,
+    /// A thread reaches what is never to be.
+    UnreachableInChild,
     /// Main does what a form does.
     Form(Form),
     /// A thread does what a form does.
@@ -58,17 +75,23 @@ pub(super) enum Main {
     Starves,
     /// Main does something else in its second run.
     Changes,
+    /// Main loads more from its second run on.
+    LoadsMore,
+    /// A thread adds more from the third run on.
+    ChildAddsMore,
+    /// Main passes over many stops.
+    Swallows,
     /// Main does nothing.
     Nothing,
 }
 
 impl Main {
-    /// What main does where it is called for the first time, or later.
-    fn run<R: Threads + Wait + Clone + Send + 'static>(
+    /// What main does where it is called for the time of this number, from 1.
+    fn run<R: Host>(
         self,
         handle: &mut Handle<u64, R>,
         counter: &Counter,
-        is_first: bool,
+        call: u64,
     ) -> Result<u64, Stop> {
         match self {
             Main::Updates => forms::updates(handle),
@@ -77,6 +100,17 @@ impl Main {
             Main::Messages => forms::messages(handle),
             Main::NoMessages => forms::no_messages(handle),
             Main::Waits => forms::waits(handle, counter),
+            Main::TwoUpdates => forms::two_updates(handle, counter),
+            Main::WaitsWithTime => forms::waits_with_time(handle, counter),
+            Main::Tracks => forms_of_values::tracks(handle),
+            Main::TrackLeft => forms_of_values::track_left(handle),
+            Main::Values => forms_of_values::values(handle, counter),
+            Main::Wakers => forms_of_values::wakers(handle),
+            Main::Future => forms_of_values::future(handle, counter),
+            Main::Unreachable => Form::Unreachable.play(handle),
+            Main::UnreachableInChild => {
+                forms_in_children::in_child(handle, Form::Unreachable, counter)
+            }
             Main::Form(form) => form.play(handle),
             Main::FormInChild(form) => forms_in_children::in_child(handle, form, counter),
             Main::WaitsWhile => forms_in_children::main_waits(handle, counter),
@@ -89,8 +123,11 @@ impl Main {
             Main::Deaf => ends::pass_over_stops(handle, counter),
             Main::Stops => Err(Stop::Refused),
             Main::Starves => Err(Stop::Memory),
-            Main::Changes if is_first => turns::lock_beside(handle, counter),
+            Main::Changes if call == 1 => turns::lock_beside(handle, counter),
             Main::Changes => Ok(7),
+            Main::LoadsMore => changes::load_more(handle, counter, call),
+            Main::ChildAddsMore => changes::child_adds_more(handle, counter, call),
+            Main::Swallows => changes::swallow_stops(handle, counter),
             Main::Nothing => Ok(0),
         }
     }
@@ -159,6 +196,16 @@ impl Found {
         }
     }
 
+    /// Whether the check ended since this thread has changed in this run, by this text.
+    fn changes(&self, run: u64, thread: u8, text: &str) -> bool {
+        match &self.report {
+            Err(RunnerError::Changed(change)) => change.run == run
+                && change.thread == thread
+                && change.text.as_str() == text,
+            _ => false,
+        }
+    }
+
     /// Whether main was called so often, and so much was counted.
     pub(super) fn counts(&self, calls: u64, counted: u64) -> bool {
         self.calls == calls && self.counted == counted
@@ -169,6 +216,7 @@ impl Found {
         match wanted {
             Wanted::Complete(count) => self.completes(count),
             Wanted::Fails(kind, count, list) => self.fails(kind, count, list),
+            Wanted::Changes(run, thread, text) => self.changes(run, thread, text),
             Wanted::NoSettings => matches!(&self.report, Err(RunnerError::Settings(_))),
             Wanted::NoMemory => matches!(&self.report, Err(RunnerError::Memory)),
         }
@@ -182,6 +230,8 @@ pub(super) enum Wanted<'a> {
     Complete(u64),
     /// It finds this failure after so many runs, under these choices.
     Fails(FailureKind, u64, &'a [Choice]),
+    /// In this run this thread has changed, by this text.
+    Changes(u64, u8, &'a str),
     /// Its settings are refused.
     NoSettings,
     /// It ends for want of memory.
@@ -189,11 +239,7 @@ pub(super) enum Wanted<'a> {
 }
 
 /// A check of main by these settings.
-pub(super) fn find<R: AllocGlobal + Threads + Wait + Clone + Send + 'static>(
-    rt: &R,
-    builder: &Builder,
-    main: Main,
-) -> Result<Found, AllocError> {
+pub(super) fn find<R: Host>(rt: &R, builder: &Builder, main: Main) -> Result<Found, AllocError> {
     let alloc: Global = rt.alloc();
     let counter = Arc::new(alloc, AtomicU64::new(0))?;
     let mut keeper = Keeper {
@@ -207,7 +253,7 @@ pub(super) fn find<R: AllocGlobal + Threads + Wait + Clone + Send + 'static>(
         builder,
         |handle: &mut Handle<u64, R>| {
             calls = calls.wrapping_add(1);
-            main.run(handle, &counter, calls == 1)
+            main.run(handle, &counter, calls)
         },
         &mut keeper,
     );
@@ -221,11 +267,7 @@ pub(super) fn find<R: AllocGlobal + Threads + Wait + Clone + Send + 'static>(
 }
 
 /// A check of main by the defaults is complete, the visitor is given each run, one at least, and so much is counted in each.
-pub(super) fn passes<R: Abort + AllocGlobal + Threads + Wait + Clone + Send + 'static>(
-    rt: &R,
-    main: Main,
-    counted: u64,
-) -> Result<(), Fail> {
+pub(super) fn passes<R: Abort + Host>(rt: &R, main: Main, counted: u64) -> Result<(), Fail> {
     let found = find(rt, &Builder::new(), main)?;
     let runs = found.runs.len() as u64;
     holds(rt, runs > 0 && found.completes(runs));
@@ -234,7 +276,7 @@ pub(super) fn passes<R: Abort + AllocGlobal + Threads + Wait + Clone + Send + 's
 }
 
 /// A check of main by these settings comes to this, calls main so often, and so much is counted.
-pub(super) fn comes_to<R: Abort + AllocGlobal + Threads + Wait + Clone + Send + 'static>(
+pub(super) fn comes_to<R: Abort + Host>(
     rt: &R,
     builder: &Builder,
     main: Main,

@@ -3,7 +3,7 @@
 use crate::closures::children::{Task, start};
 use crate::closures::finding::{Counter, Main, passes};
 use loom::cell::{Cell, UnsafeCell};
-use loom::runner::{Handle, Stop, TryRecvError};
+use loom::runner::{Handle, Host, Stop, TryRecvError};
 use loom::sync::atomic::AtomicU64;
 use loom::sync::atomic::Ordering::{AcqRel, Acquire, Relaxed, SeqCst};
 use loom::sync::mpsc::{Receiver, Sender};
@@ -13,7 +13,6 @@ use loom_ops::answers::answer::Loaded;
 use std::mem;
 use std::sync::Wait;
 use std::test::Fail;
-use std::thread::Threads;
 
 /// The read-modify-writes of one number after another.
 pub(super) fn updates<R: Wait>(handle: &mut Handle<u64, R>) -> Result<u64, Stop> {
@@ -26,10 +25,71 @@ pub(super) fn updates<R: Wait>(handle: &mut Handle<u64, R>) -> Result<u64, Stop>
         handle.fetch_or(&number, 4, AcqRel).ok(),
     ];
     handle.assert(before == [Some(6), Some(12), Some(15), Some(14), Some(10)])?;
-    exchanges(handle, &number)
+    exchanges(handle, &number)?;
+    other_updates(handle, &number)?;
+    mutate(handle, number)
 }
 
-/// An update without a short form, the compare-exchanges, a fence, and a load.
+/// The others, and a load that doesn't synchronize.
+fn other_updates<R: Wait>(handle: &mut Handle<u64, R>, number: &AtomicU64) -> Result<(), Stop> {
+    let read = [
+        handle.swap(number, 12, AcqRel).ok(),
+        handle.fetch_xor(number, 10, AcqRel).ok(),
+        handle.fetch_nand(number, 3, AcqRel).ok(),
+        handle.fetch_min(number, 9, AcqRel).ok(),
+        handle.fetch_max(number, 20, AcqRel).ok(),
+        handle.compare_and_swap(number, 20, 7, SeqCst).ok(),
+        handle.compare_and_swap(number, 20, 1, SeqCst).ok(),
+        handle.unsync_load(number).ok(),
+    ];
+    let complement = Some(u64::MAX - 2);
+    let wanted = [
+        Some(1),
+        Some(12),
+        Some(6),
+        complement,
+        Some(9),
+        Some(20),
+        Some(7),
+        Some(7),
+    ];
+    handle.assert(read == wanted)
+}
+
+/// Closures change the number, which is then taken out.
+fn mutate<R: Wait>(handle: &mut Handle<u64, R>, number: AtomicU64) -> Result<u64, Stop> {
+    let before = handle.with_mut_atomic(&number, |value| mem::replace(value, 9))?;
+    let replaced = handle.fetch_update(&number, AcqRel, Acquire, |value| value.checked_add(1))?;
+    let kept = handle.fetch_update(&number, AcqRel, Acquire, |value| value.checked_sub(11))?;
+    let last = handle.into_inner_atomic(number)?;
+    handle.assert(before == 7 && replaced == Ok(9) && kept == Err(10) && last == 10)?;
+    Ok(last)
+}
+
+/// Adds one by an update, and answers what was there before, or else 9.
+pub(super) fn update_once<R: Wait>(
+    handle: &mut Handle<u64, R>,
+    number: &AtomicU64,
+) -> Result<u64, Stop> {
+    let replaced = handle.fetch_update(number, AcqRel, Acquire, |value| value.checked_add(1))?;
+    Ok(replaced.unwrap_or(9))
+}
+
+/// Two threads update the same number: each replaces what the other has left.
+pub(super) fn two_updates<R: Host>(
+    handle: &mut Handle<u64, R>,
+    counter: &Counter,
+) -> Result<u64, Stop> {
+    let number = handle.atomic(0u64)?;
+    let child = start(handle, Task::Update(number), counter)?;
+    let before = update_once(handle, &number)?;
+    let other = handle.join(&child)?;
+    let total = handle.load(&number, Acquire)?;
+    handle.assert(total == 2 && before.wrapping_add(other) == 1)?;
+    Ok(total)
+}
+
+/// An update that is asked for as any operation is, the compare-exchanges, a fence, and a load.
 fn exchanges<R: Wait>(handle: &mut Handle<u64, R>, number: &AtomicU64) -> Result<u64, Stop> {
     let Loaded(before) = handle.ask::<Loaded<u64>>(number.fetch_max(20, AcqRel).request)?;
     let read = [
@@ -52,7 +112,50 @@ pub(super) fn locks<R: Wait>(handle: &mut Handle<u64, R>) -> Result<u64, Stop> {
     let lock = handle.rw_lock(3)?;
     write(handle, &lock)?;
     read_twice(handle, &lock)?;
-    replace(handle, &mutex)
+    try_both_ways(handle, &lock)?;
+    change_lock(handle, lock)?;
+    replace(handle, &mutex)?;
+    change_mutex(handle, mutex)
+}
+
+/// A read-write lock is tried while it is read, and while it is written.
+fn try_both_ways<R: Wait>(handle: &mut Handle<u64, R>, lock: &RwLock) -> Result<(), Stop> {
+    let (guard, _) = handle.read(lock)?;
+    let Some((second, value)) = handle.try_read(lock)? else {
+        return Err(handle.fail());
+    };
+    let none = handle.try_write(lock)?;
+    handle.assert(value == 4 && none.is_none())?;
+    handle.release_read(second)?;
+    handle.release_read(guard)?;
+    try_written(handle, lock)
+}
+
+/// A read-write lock is tried while nobody holds it, and while it is written.
+fn try_written<R: Wait>(handle: &mut Handle<u64, R>, lock: &RwLock) -> Result<(), Stop> {
+    let Some((guard, value)) = handle.try_write(lock)? else {
+        return Err(handle.fail());
+    };
+    let none = handle.try_read(lock)?;
+    handle.assert(value == 4 && none.is_none())?;
+    handle.release_write(guard, 6)
+}
+
+/// A read-write lock is written and read by closures, changed without a lock, and taken apart.
+fn change_lock<R: Wait>(handle: &mut Handle<u64, R>, lock: RwLock) -> Result<(), Stop> {
+    let before = handle.with_write(&lock, |data| mem::replace(data, 7))?;
+    let seen = handle.with_read(&lock, |data| *data)?;
+    let again = handle.get_mut_rw_lock(&lock, |data| mem::replace(data, 8))?;
+    let last = handle.into_inner_rw_lock(lock)?;
+    handle.assert([before, seen, again, last] == [6, 7, 7, 8])
+}
+
+/// A mutex is changed without a lock, and taken apart.
+fn change_mutex<R: Wait>(handle: &mut Handle<u64, R>, mutex: Mutex) -> Result<u64, Stop> {
+    let before = handle.get_mut_mutex(&mutex, |data| mem::replace(data, 6))?;
+    let last = handle.into_inner_mutex(mutex)?;
+    handle.assert([before, last] == [5, 6])?;
+    Ok(last)
 }
 
 /// A mutex is tried while it is held.
@@ -103,7 +206,24 @@ pub(super) fn data<R: Wait>(handle: &mut Handle<u64, R>) -> Result<u64, Stop> {
     open_and_end(handle, &open)?;
     let cell = handle.cell(3)?;
     set(handle, &cell)?;
-    counted(handle)
+    exchange_cells(handle, cell)?;
+    let last = handle.into_inner_unsafe_cell(open)?;
+    handle.assert(last == 2)?;
+    counted(handle)?;
+    alone(handle)
+}
+
+/// Cells give what they hold for other data, exchange it, and are taken apart.
+fn exchange_cells<R: Wait>(handle: &mut Handle<u64, R>, cell: Cell) -> Result<(), Stop> {
+    let other = handle.cell(8)?;
+    let replaced = handle.replace(&cell, 5)?;
+    let taken = handle.take(&cell, 6)?;
+    handle.swap_cells(&cell, &other)?;
+    let (one, two) = (
+        handle.into_inner_cell(cell)?,
+        handle.into_inner_cell(other)?,
+    );
+    handle.assert([replaced, taken, one, two] == [4, 5, 8, 6])
 }
 
 /// A cell is changed and read by closures.
@@ -116,10 +236,11 @@ fn look<R: Wait>(handle: &mut Handle<u64, R>, cell: &UnsafeCell) -> Result<(), S
 /// A cell is read and written by accesses that are ended.
 fn open_and_end<R: Wait>(handle: &mut Handle<u64, R>, cell: &UnsafeCell) -> Result<(), Stop> {
     let (pointer, value) = handle.get(cell)?;
+    let same = handle.deref_pointer(&pointer)?;
     handle.end(pointer)?;
     let (pointer, again) = handle.get_mut(cell)?;
     handle.end_mut(pointer, again)?;
-    handle.assert([value, again] == [2, 2])
+    handle.assert([value, same, again] == [2, 2, 2])
 }
 
 /// A cell is written and read by accesses that end at once.
@@ -146,6 +267,20 @@ fn drop_both<R: Wait>(handle: &mut Handle<u64, R>, arc: Arc, other: Arc) -> Resu
     handle.assert(left.is_none())?;
     let left = handle.drop_arc(arc)?;
     handle.assert(left == Some(6))
+}
+
+/// A counted reference is changed and taken apart where it is alone, and only there.
+fn alone<R: Wait>(handle: &mut Handle<u64, R>) -> Result<u64, Stop> {
+    let arc = handle.arc(6)?;
+    let other = handle.clone_arc(&arc)?;
+    let none = handle.get_mut_arc(&arc, |value| mem::replace(value, 0))?;
+    let shared = handle.try_unwrap(other)?;
+    handle.assert(arc.ptr_eq(other) && none.is_none() && shared.is_none())?;
+    handle.drop_arc(other)?;
+    let before = handle.get_mut_arc(&arc, |value| mem::replace(value, 7))?;
+    let last = handle.try_unwrap(arc)?;
+    handle.assert(before == Some(6) && last == Some(7))?;
+    Ok(7)
 }
 
 /// A channel with two senders, whose ends are dropped.
@@ -206,10 +341,7 @@ pub(super) struct Signals {
 }
 
 /// A thread waits for another by each signal.
-pub(super) fn waits<R: Threads + Wait + Clone + Send + 'static>(
-    handle: &mut Handle<u64, R>,
-    counter: &Counter,
-) -> Result<u64, Stop> {
+pub(super) fn waits<R: Host>(handle: &mut Handle<u64, R>, counter: &Counter) -> Result<u64, Stop> {
     let signals = new_signals(handle)?;
     let child = start(handle, Task::Signal(signals), counter)?;
     await_signals(handle, &signals)?;
@@ -254,9 +386,48 @@ fn await_signals<R: Wait>(handle: &mut Handle<u64, R>, signals: &Signals) -> Res
     handle.assert(value == 1)
 }
 
+/// What one thread waits for, with a time that never runs out.
+#[derive(Clone, Copy)]
+pub(super) struct Timed {
+    mutex: Mutex,
+    condvar: Condvar,
+}
+
+/// Main waits with a time for what a thread does.
+pub(super) fn waits_with_time<R: Host>(
+    handle: &mut Handle<u64, R>,
+    counter: &Counter,
+) -> Result<u64, Stop> {
+    let mutex = handle.mutex(0)?;
+    let condvar = handle.condvar()?;
+    let timed = Timed { mutex, condvar };
+    let (guard, value) = handle.lock(&mutex)?;
+    let child = start(handle, Task::Change(timed), counter)?;
+    let ((guard, changed), result) = handle.wait_timeout(&condvar, guard, value)?;
+    handle.release(guard, changed)?;
+    handle.assert(changed == 1 && !result.timed_out())?;
+    handle.join(&child)
+}
+
+/// Changes the data, and says so.
+pub(super) fn change_in_time<R: Wait>(
+    handle: &mut Handle<u64, R>,
+    timed: &Timed,
+) -> Result<u64, Stop> {
+    handle.with_lock(&timed.mutex, |data| *data = 1)?;
+    handle.notify_one(&timed.condvar)?;
+    handle.spin_loop()?;
+    Ok(1)
+}
+
 #[test]
 fn changes_of_atomics(rt: HostRuntime) -> Result<(), Fail> {
     passes(&rt, Main::Updates, 0)
+}
+
+#[test]
+fn updates_by_two_threads(rt: HostRuntime) -> Result<(), Fail> {
+    passes(&rt, Main::TwoUpdates, 0)
 }
 
 #[test]
@@ -278,4 +449,9 @@ fn channels(rt: HostRuntime) -> Result<(), Fail> {
 #[test]
 fn threads_that_wait(rt: HostRuntime) -> Result<(), Fail> {
     passes(&rt, Main::Waits, 0)
+}
+
+#[test]
+fn a_wait_with_a_time(rt: HostRuntime) -> Result<(), Fail> {
+    passes(&rt, Main::WaitsWithTime, 0)
 }

@@ -7,7 +7,7 @@ use crate::closures::finding::Wanted::{Complete, Fails, NoMemory};
 use crate::closures::finding::{Counter, Main, comes_to, find};
 use crate::closures::{NONE, ONE, ZERO, holds};
 use loom::model::builder::Builder;
-use loom::runner::{Handle, Stop};
+use loom::runner::{Handle, Host, Stop};
 use loom::sync::{Condvar, Mutex};
 use loom::{Choice, FailureKind};
 use std::alloc::AllocError;
@@ -15,7 +15,6 @@ use std::mem;
 use std::process::Abort;
 use std::sync::Wait;
 use std::test::Fail;
-use std::thread::Threads;
 
 /// What a thread does by itself.
 #[derive(Clone, Copy)]
@@ -40,6 +39,8 @@ pub(super) enum Form {
     Allocated,
     /// Was refused memory.
     Refused,
+    /// Reaches what is never to be.
+    Unreachable,
 }
 
 impl Form {
@@ -56,6 +57,10 @@ impl Form {
             Form::CloneSender => send_by_second(handle),
             Form::Allocated => handle.allocated(Ok(5)),
             Form::Refused => handle.allocated(Err(AllocError)),
+            Form::Unreachable => {
+                handle.unreachable_unchecked()?;
+                Ok(0)
+            }
         }
     }
 }
@@ -123,7 +128,7 @@ fn send_by_second<R: Wait>(handle: &mut Handle<u64, R>) -> Result<u64, Stop> {
 }
 
 /// Main starts a thread that does this, and answers what it has answered.
-pub(super) fn in_child<R: Threads + Wait + Clone + Send + 'static>(
+pub(super) fn in_child<R: Host>(
     handle: &mut Handle<u64, R>,
     form: Form,
     counter: &Counter,
@@ -169,7 +174,7 @@ fn new_change<R: Wait>(handle: &mut Handle<u64, R>) -> Result<Change, Stop> {
 }
 
 /// Main waits, and the thread that it starts makes the change.
-pub(super) fn main_waits<R: Threads + Wait + Clone + Send + 'static>(
+pub(super) fn main_waits<R: Host>(
     handle: &mut Handle<u64, R>,
     counter: &Counter,
 ) -> Result<u64, Stop> {
@@ -182,7 +187,7 @@ pub(super) fn main_waits<R: Threads + Wait + Clone + Send + 'static>(
 }
 
 /// The thread that main starts waits, and main makes the change once it does.
-pub(super) fn child_waits<R: Threads + Wait + Clone + Send + 'static>(
+pub(super) fn child_waits<R: Host>(
     handle: &mut Handle<u64, R>,
     counter: &Counter,
 ) -> Result<u64, Stop> {
@@ -208,7 +213,7 @@ static MAIN_WAITS: [Choice; 10] = [ZERO, ZERO, ONE, ONE, ONE, ONE, ZERO, ZERO, Z
 static CHILD_WAITS: [Choice; 11] = [ONE, ONE, ONE, ZERO, ZERO, ZERO, ONE, ONE, ONE, ZERO, NONE];
 
 /// The check makes one run, which comes to this value by these choices.
-fn runs_once<R: Abort + AllocGlobal + Threads + Wait + Clone + Send + 'static>(
+fn runs_once<R: Abort + Host>(
     rt: &R,
     main: Main,
     value: u64,
@@ -224,7 +229,7 @@ fn runs_once<R: Abort + AllocGlobal + Threads + Wait + Clone + Send + 'static>(
 }
 
 /// In main and in a thread the form has so many branch points, and comes to this value.
-fn comes_to_in_both<R: Abort + AllocGlobal + Threads + Wait + Clone + Send + 'static>(
+fn comes_to_in_both<R: Abort + Host>(
     rt: &R,
     form: Form,
     value: u64,

@@ -2,14 +2,13 @@
 use crate::closures::holds;
 use loom::model::builder::Builder;
 use loom::model::{Replay, Report};
-use loom::runner::{Handle, NoVisitor, RunnerError, Stop, check, model, replay};
+use loom::runner::{Handle, Host, NoVisitor, RunnerError, Stop, check, model, replay};
 use loom::sync::Mutex;
 use loom::sync::atomic::AtomicU64;
 use loom::sync::atomic::Ordering::{AcqRel, Acquire, Release};
 use loom::{Choice, Choices, Failure, FailureKind};
 use std::sync::Wait;
 use std::test::Fail;
-use std::thread::Threads;
 
 /// A mutex keeps two threads apart: each finds in it what it finds in an atomic.
 #[test]
@@ -85,9 +84,7 @@ fn add_six<R: Wait>(handle: &mut Handle<(), R>, num: &AtomicU64) -> Result<(), S
 }
 
 /// Two threads lock two mutexes in opposite order.
-fn opposite_order<R: Threads + Wait + Clone + Send + 'static>(
-    handle: &mut Handle<(), R>,
-) -> Result<(), Stop> {
+fn opposite_order<R: Host>(handle: &mut Handle<(), R>) -> Result<(), Stop> {
     let one = handle.mutex(())?;
     let other = handle.mutex(())?;
     let child = handle.spawn(move |handle| lock_both(handle, &one, &other))?;
@@ -107,11 +104,14 @@ fn lock_both<R: Wait>(
     handle.release(outer, ())
 }
 
+/// A check of that by these settings.
+fn check_locks<R: Host>(rt: &R, builder: &Builder) -> Result<Report, RunnerError> {
+    let main = |handle: &mut Handle<(), R>| opposite_order(handle);
+    check(rt, rt.alloc(), builder, main, &mut NoVisitor)
+}
+
 /// One run of that by these choices, and then by defaults.
-fn follow<R: AllocGlobal + Threads + Wait + Clone + Send + 'static>(
-    rt: &R,
-    choices: &[Choice],
-) -> Result<Replay<()>, RunnerError> {
+fn follow<R: Host>(rt: &R, choices: &[Choice]) -> Result<Replay<()>, RunnerError> {
     let main = |handle: &mut Handle<(), R>| opposite_order(handle);
     replay(rt, rt.alloc(), &Builder::new(), choices, main)
 }
@@ -130,11 +130,7 @@ fn is_again(run: &Replay<()>, wanted: &Failure, list: &[Choice]) -> bool {
 }
 
 /// Whether the check has found a failure of this kind, and its choices make it again.
-fn comes_again<R: AllocGlobal + Threads + Wait + Clone + Send + 'static>(
-    rt: &R,
-    report: &Report,
-    kind: FailureKind,
-) -> Result<bool, RunnerError> {
+fn comes_again<R: Host>(rt: &R, report: &Report, kind: FailureKind) -> Result<bool, RunnerError> {
     match report {
         Report::Failed {
             failure,
@@ -154,6 +150,16 @@ fn a_failure_comes_again(rt: HostRuntime) -> Result<(), Fail> {
     let main = |handle: &mut Handle<(), HostRuntime>| opposite_order(handle);
     let report = model(&rt, rt.alloc(), main)?;
     holds(&rt, comes_again(&rt, &report, FailureKind::Deadlock)?);
+    Ok(())
+}
+
+/// Without a preemption no thread is left that could go on, so each has both locks in turn.
+#[test]
+fn no_preemption_makes_no_deadlock(rt: HostRuntime) -> Result<(), Fail> {
+    let mut builder = Builder::new();
+    builder.preemption_bound = Some(0);
+    let report = check_locks(&rt, &builder)?;
+    assert!(rt; report.is_complete(), "{report}");
     Ok(())
 }
 

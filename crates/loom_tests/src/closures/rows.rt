@@ -1,8 +1,11 @@
 //! What the program prints of the rows that are closures.
 use crate::closures::holds;
 use loom_examples::closures::rows::{ClosureRow, ROWS, run_row};
+use loom_examples::closures::tasks::run_asked;
+use loom_examples::rows::options::{Asked, read};
 use std::io;
 use std::process::Abort;
+use std::rt::{Clock, Files};
 use std::sync::Wait;
 use std::test::Fail;
 use std::thread::Threads;
@@ -30,35 +33,36 @@ static LINES: [(&str, &str, u8); 10] = [
 ];
 
 /// Whether the row prints this line and nothing besides, and has this status.
-fn is_printed<R: AllocGlobal + Threads + Wait + Clone + Send + 'static>(
+fn is_printed<R: AllocGlobal + Clock + Files + Threads + Wait + Clone + Send + 'static>(
     rt: &R,
     row: ClosureRow,
+    file: Option<&str>,
     line: &str,
     status: u8,
 ) -> io::Result<bool> {
     let mut out = Vec::new(rt.alloc());
     let mut err = Vec::new(rt.alloc());
-    let answer = run_row(rt, row, &mut out, &mut err)?;
+    let answer = run_row(rt, row, file, &mut out, &mut err)?;
     Ok(answer == status && out.as_slice() == line.as_bytes() && err.is_empty())
 }
 
 /// The row of this name prints this line and nothing besides, and has this status.
-fn prints<R: Abort + AllocGlobal + Threads + Wait + Clone + Send + 'static>(
+fn prints<R: Abort + AllocGlobal + Clock + Files + Threads + Wait + Clone + Send + 'static>(
     rt: &R,
     name: &str,
     line: &str,
     status: u8,
 ) -> Result<(), Fail> {
-    let Some(row) = ClosureRow::meant_by(&[name]) else {
+    let Some((row, file)) = ClosureRow::meant_by(&[name]) else {
         panic!(rt; "no row {name}");
     };
-    let is_printed = is_printed(rt, row, line, status)?;
+    let is_printed = is_printed(rt, row, file, line, status)?;
     assert!(rt; is_printed, "{name}");
     Ok(())
 }
 
 /// Each row once.
-fn print_all<R: Abort + AllocGlobal + Threads + Wait + Clone + Send + 'static>(
+fn print_all<R: Abort + AllocGlobal + Clock + Files + Threads + Wait + Clone + Send + 'static>(
     rt: &R,
 ) -> Result<(), Fail> {
     for (name, line, status) in &LINES {
@@ -77,13 +81,37 @@ fn rows_print_the_same_a_hundred_times(rt: HostRuntime) -> Result<(), Fail> {
     Ok(())
 }
 
-/// A row of closures has no checkpoint file, so two words mean none.
+/// The second of two words is the checkpoint file.
 #[test]
-fn words_that_mean_no_row(rt: HostRuntime) {
+fn words_that_mean_a_row(rt: HostRuntime) {
+    let two = ClosureRow::meant_by(&["lock_beside_closures", "file"]);
     holds(
         &rt,
-        ClosureRow::meant_by(&["lock_beside_closures", "file"]).is_none(),
+        matches!(two, Some((ClosureRow::LockBeside, Some("file")))),
     );
+    let three = ClosureRow::meant_by(&["lock_beside_closures", "file", "more"]);
+    holds(&rt, three.is_none());
     holds(&rt, ClosureRow::meant_by(&["lock_beside"]).is_none());
     holds(&rt, ClosureRow::meant_by(&[]).is_none());
+}
+
+/// What is printed where the first word behind `--replay` is no choice.
+static NO_THREAD: &str =
+    "usage: loom_rows NAME [FILE]\nerror: invalid value 't9 l0' for '--replay <CHOICES>': word 1 is no choice: a choice is `t0` to `t4` or `t-`, `l0` to `l6`, `s0` or `s1`, with a space between two\n\nFor the options try '--help', and for the names '--list'.\n";
+
+/// Choices that no run can make are refused with the usage, as of any other row.
+#[test]
+fn choices_that_no_run_makes_are_refused(rt: HostRuntime) -> Result<(), Fail> {
+    let mut out = Vec::new(rt.alloc());
+    let mut err = Vec::new(rt.alloc());
+    let words = ["--replay", "t9 l0", "lock_beside_closures"];
+    let status = match read(rt.alloc(), &words) {
+        Ok(Asked::Row(asked)) => {
+            run_asked(&rt, ClosureRow::LockBeside, asked, &mut out, &mut err)?
+        }
+        _ => 0,
+    };
+    holds(&rt, status == 2 && out.is_empty());
+    holds(&rt, err.as_slice() == NO_THREAD.as_bytes());
+    Ok(())
 }

@@ -62,7 +62,15 @@ const REFUSED: &str = usage!(
     "invalid value 'x' for '--replay <CHOICES>': word 1 is no choice: a choice is `t0` to `t4` or `t-`, `l0` to `l6`, `s0` or `s1`, with a space between two"
 );
 
-static WORDS: [Said; 9] = [
+const NO_THREAD: &str = usage!(
+    "invalid value 't9 l0' for '--replay <CHOICES>': word 1 is no choice: a choice is `t0` to `t4` or `t-`, `l0` to `l6`, `s0` or `s1`, with a space between two"
+);
+
+const NO_SLOT: &str = usage!(
+    "invalid value 't4 l7' for '--replay <CHOICES>': word 2 is no choice: a choice is `t0` to `t4` or `t-`, `l0` to `l6`, `s0` or `s1`, with a space between two"
+);
+
+static WORDS: [Said; 11] = [
     // Few preemptions come first.
     said!(
         &["--rising", "two_mutexes_deadlock"],
@@ -79,6 +87,8 @@ static WORDS: [Said; 9] = [
         1
     ),
     said!(&["--replay", "x", "finish_only"], "", REFUSED, 2),
+    said!(&["--replay", "t9 l0", "lock_beside"], "", NO_THREAD, 2),
+    said!(&["--replay=t4 l7", "lock_beside"], "", NO_SLOT, 2),
     begins!(&["--help"], "Checks the body that is called NAME", 0),
     begins!(&["-h"], "Checks the body that is called NAME", 0),
     said!(&["--", "lock_beside"], "complete 3\n", "", 0),
@@ -86,9 +96,11 @@ static WORDS: [Said; 9] = [
 ];
 
 // Wrong words, and why they are refused.
-static WRONG: [Said; 14] = [
+static WRONG: [Said; 16] = [
     said!(&[], "", NO_NAME, 2),
     said!(&["lock_besides"], "", NO_SUCH_ROW, 2),
+    said!(&[""], "", usage!("no row is called ''"), 2),
+    said!(&["-"], "", usage!("no row is called '-'"), 2),
     said!(
         &["no_such_row", "lock_beside", "lock_beside"],
         "",
@@ -157,7 +169,7 @@ static WRONG: [Said; 14] = [
         &["--json", "two_mutexes_deadlock_closures"],
         "",
         usage!(
-            "'two_mutexes_deadlock_closures' is a row of closures, which has no file and no options"
+            "'two_mutexes_deadlock_closures' is a row of closures, which doesn't take these words"
         ),
         2
     ),

@@ -2,7 +2,7 @@
 ghost use Rattle.std.specs.Prelude.{◌≡◌, IfOk, IfErr, None};
 ghost use Rattle.std.specs.Fn.{FnOnceReturnsAt, FnOnceReturnsAtMut};
 ghost use Rattle.loom.specs.Runner.Asking.{Tells, Stops, done_in, given_in};
-ghost use Rattle.loom.specs.Runner.Forms.{IsGivenBack, StopsWithin, reading, read_ending, writing, write_ending};
+ghost use Rattle.loom.specs.Runner.Forms.{IsGivenBack, StopsWithin, beside, reading, read_ending, writing, write_ending};
 ghost use Rattle.loom_objects.specs.declared.operation.Request.TheVariants as op;
 ghost use Rattle.loom_objects.specs.declared.operation.CellOp.TheVariants as cell_op;
 ghost use Rattle.loom_ops.specs.Cell.{cell_handle, unsafe_cell_handle, reader_taken, writer_taken};
@@ -32,8 +32,8 @@ impl<D: Exact + 'static, R: Wait> Handle<D, R> {
     ) -> Result<T, Stop>
         requires { F.IsAlwaysCallable look }
         ensures thread { self.new.thread ≡ self.old.thread }
-        ensures within { IfOk result (IsGivenBack reader_taken (reading cell.now) read_ending (λ found answer left. FnOnceReturnsAt F.FnOnce look found answer) self.old.told self.new.told) }
-        ensures stopped { IfErr result (StopsWithin reader_taken (reading cell.now) read_ending (λ found answer left. FnOnceReturnsAt F.FnOnce look found answer) self.old.told self.new) }
+        ensures within { IfOk result (IsGivenBack reader_taken beside (reading cell.now) read_ending (λ found answer left. FnOnceReturnsAt F.FnOnce look found answer) self.old.told self.new.told) }
+        ensures stopped { IfErr result (StopsWithin reader_taken beside (reading cell.now) read_ending (λ found answer left. FnOnceReturnsAt F.FnOnce look found answer) self.old.told self.new) }
     {
         let (pointer, value) = self.get(cell)?;
         let answer = look(&value);
@@ -49,8 +49,8 @@ impl<D: Exact + 'static, R: Wait> Handle<D, R> {
     ) -> Result<T, Stop>
         requires { F.IsAlwaysCallable change }
         ensures thread { self.new.thread ≡ self.old.thread }
-        ensures within { IfOk result (IsGivenBack writer_taken (writing cell.now) write_ending (FnOnceReturnsAtMut F.FnOnce change) self.old.told self.new.told) }
-        ensures stopped { IfErr result (StopsWithin writer_taken (writing cell.now) write_ending (FnOnceReturnsAtMut F.FnOnce change) self.old.told self.new) }
+        ensures within { IfOk result (IsGivenBack writer_taken beside (writing cell.now) write_ending (FnOnceReturnsAtMut F.FnOnce change) self.old.told self.new.told) }
+        ensures stopped { IfErr result (StopsWithin writer_taken beside (writing cell.now) write_ending (FnOnceReturnsAtMut F.FnOnce change) self.old.told self.new) }
     {
         let (pointer, mut value) = self.get_mut(cell)?;
         let answer = change(&mut value);
@@ -94,6 +94,27 @@ impl<D: Exact + 'static, R: Wait> Handle<D, R> {
         self.ask(pointer.end(value).request)
     }
 
+    /// Another copy of the data, in a read that is open: in loom the pointer's `deref` (loom's `cell/unsafe_cell.rs`).
+    pub fn deref_pointer(&mut self, pointer: &ConstPtr) -> Result<D, Stop>
+        ensures thread { self.new.thread ≡ self.old.thread }
+        ensures tells { IfOk result (λ answer. Tells given_in (op.Cell (cell_op.Deref pointer.now.number)) self.old.told self.new.told (record { 0 = answer })) }
+        ensures stopped { IfErr result (Stops given_in (op.Cell (cell_op.Deref pointer.now.number)) self.old.told self.new) }
+    {
+        let Given(value) = self.ask(pointer.deref().request)?;
+        Ok(value)
+    }
+
+    /// What the cell held, and it is no more: a later operation of it is a misuse. While an access is open that is the failure
+    /// `OpenAccess` (loom's `cell/unsafe_cell.rs`).
+    pub fn into_inner_unsafe_cell(&mut self, cell: UnsafeCell) -> Result<D, Stop>
+        ensures thread { self.new.thread ≡ self.old.thread }
+        ensures tells { IfOk result (λ answer. Tells given_in (op.Cell (cell_op.IntoInner cell.number)) self.old.told self.new.told (record { 0 = answer })) }
+        ensures stopped { IfErr result (Stops given_in (op.Cell (cell_op.IntoInner cell.number)) self.old.told self.new) }
+    {
+        let Given(value) = self.ask(cell.into_inner().request)?;
+        Ok(value)
+    }
+
     /// A new cell with this data, whose accesses end at once (loom's `cell/cell.rs`).
     pub fn cell(&mut self, value: D) -> Result<Cell, Stop>
         ensures thread { self.new.thread ≡ self.old.thread }
@@ -121,5 +142,43 @@ impl<D: Exact + 'static, R: Wait> Handle<D, R> {
     {
         let Given(_) = self.ask(cell.set(value).request)?;
         Ok(())
+    }
+    /// Writes the cell's data, and answers what was there before (loom's `cell/cell.rs`).
+    pub fn replace(&mut self, cell: &Cell, value: D) -> Result<D, Stop>
+        ensures thread { self.new.thread ≡ self.old.thread }
+        ensures tells { IfOk result (λ answer. Tells given_in (op.Cell (cell_op.Replace cell.now.number value)) self.old.told self.new.told (record { 0 = answer })) }
+        ensures stopped { IfErr result (Stops given_in (op.Cell (cell_op.Replace cell.now.number value)) self.old.told self.new) }
+    {
+        let Given(before) = self.ask(cell.replace(value).request)?;
+        Ok(before)
+    }
+
+    /// Takes the cell's data, and leaves this in its place, where loom leaves the type's default (loom's `cell/cell.rs`).
+    pub fn take(&mut self, cell: &Cell, left: D) -> Result<D, Stop>
+        ensures thread { self.new.thread ≡ self.old.thread }
+        ensures tells { IfOk result (λ answer. Tells given_in (op.Cell (cell_op.Replace cell.now.number left)) self.old.told self.new.told (record { 0 = answer })) }
+        ensures stopped { IfErr result (Stops given_in (op.Cell (cell_op.Replace cell.now.number left)) self.old.told self.new) }
+    {
+        let Given(before) = self.ask(cell.take(left).request)?;
+        Ok(before)
+    }
+
+    /// Exchanges the data of the two cells: in loom `swap` (loom's `cell/cell.rs`).
+    pub fn swap_cells(&mut self, one: &Cell, other: &Cell) -> Result<(), Stop>
+        ensures thread { self.new.thread ≡ self.old.thread }
+        ensures tells { IfOk result (Tells done_in (op.Cell (cell_op.Swap one.now.number other.now.number)) self.old.told self.new.told) }
+        ensures stopped { IfErr result (Stops done_in (op.Cell (cell_op.Swap one.now.number other.now.number)) self.old.told self.new) }
+    {
+        self.ask(one.swap(*other).request)
+    }
+
+    /// What the cell held, and it is no more: a later operation of it is a misuse (loom's `cell/cell.rs`).
+    pub fn into_inner_cell(&mut self, cell: Cell) -> Result<D, Stop>
+        ensures thread { self.new.thread ≡ self.old.thread }
+        ensures tells { IfOk result (λ answer. Tells given_in (op.Cell (cell_op.IntoInner cell.number)) self.old.told self.new.told (record { 0 = answer })) }
+        ensures stopped { IfErr result (Stops given_in (op.Cell (cell_op.IntoInner cell.number)) self.old.told self.new) }
+    {
+        let Given(value) = self.ask(cell.into_inner().request)?;
+        Ok(value)
     }
 }

@@ -17,6 +17,7 @@ use crate::runner::handle::Handle;
 use crate::runner::job::Call;
 use crate::runner::stop::Stop;
 use loom_ops::answers::answer::Joined;
+use loom_ops::hint::{spin_loop, unreachable_unchecked};
 use loom_ops::thread::{JoinHandle, Thread, current, park, yield_now};
 use loom_ops::{explore, skip_branch, stop_exploring};
 use std::alloc::AllocError;
@@ -41,6 +42,24 @@ impl<D: Exact + 'static, R: Wait> Handle<D, R> {
         ensures stopped { IfErr result (Stops done_in (op.Thread thread_op.Yield) self.old.told self.new) }
     {
         self.ask(yield_now().request)
+    }
+
+    /// The thread yields, as by `yield_now` (loom's `hint.rs`).
+    pub fn spin_loop(&mut self) -> Result<(), Stop>
+        ensures thread { self.new.thread ≡ self.old.thread }
+        ensures tells { IfOk result (Tells done_in (op.Thread thread_op.Yield) self.old.told self.new.told) }
+        ensures stopped { IfErr result (Stops done_in (op.Thread thread_op.Yield) self.old.told self.new) }
+    {
+        self.ask(spin_loop().request)
+    }
+
+    /// Code was reached that is never to be, which ends the run as `Unreachable` (loom's `hint.rs`).
+    pub fn unreachable_unchecked(&mut self) -> Result<(), Stop>
+        ensures thread { self.new.thread ≡ self.old.thread }
+        ensures tells { IfOk result (Tells done_in (op.Unreachable) self.old.told self.new.told) }
+        ensures stopped { IfErr result (Stops done_in (op.Unreachable) self.old.told self.new) }
+    {
+        self.ask(unreachable_unchecked().request)
     }
 
     /// Asks the closure again and again, and yields in between, until it answers true or a stop, or the yield does (own; in loom a

@@ -1,7 +1,7 @@
 //! Short forms for condition variables and notifiers: each makes an operation, and takes its reply apart.
 ghost use Rattle.std.specs.Prelude.{◌≡◌, IfOk, IfErr, None};
 ghost use Rattle.std.specs.Fn.{CalledAt};
-ghost use Rattle.loom.specs.Runner.Asking.{Tells, Stops, done_in, guard_in};
+ghost use Rattle.loom.specs.Runner.Asking.{Tells, Stops, done_in, guard_in, waited_in};
 ghost use Rattle.loom.specs.Runner.Forms.{Wakes, StopsSleeping};
 ghost use Rattle.loom_objects.specs.declared.operation.Request.TheVariants as op;
 ghost use Rattle.loom_objects.specs.declared.operation.CondvarOp.TheVariants as condvar_op;
@@ -13,7 +13,7 @@ use crate::runner::closures::wait_for_ever;
 use crate::runner::exact::Exact;
 use crate::runner::handle::Handle;
 use crate::runner::stop::Stop;
-use loom_ops::sync::condvar::Condvar;
+use loom_ops::sync::condvar::{Condvar, WaitTimeoutResult};
 use loom_ops::sync::mutex::MutexGuard;
 use loom_ops::sync::notify::Notify;
 use std::sync::Wait;
@@ -40,6 +40,21 @@ impl<D: Exact + 'static, R: Wait> Handle<D, R> {
         ensures stopped { IfErr result (Stops guard_in (op.Condvar (condvar_op.Wait condvar.now.number guard.number value)) self.old.told self.new) }
     {
         self.ask(condvar.wait(guard, value).request)
+    }
+
+    /// Waits as `wait` does, and also answers that the time didn't run out: it never does, as in loom, and so no time is given (loom's
+    /// `sync/condvar.rs`).
+    pub fn wait_timeout(
+        &mut self,
+        condvar: &Condvar,
+        guard: MutexGuard,
+        value: D,
+    ) -> Result<((MutexGuard, D), WaitTimeoutResult), Stop>
+        ensures thread { self.new.thread ≡ self.old.thread }
+        ensures tells { IfOk result (Tells waited_in (op.Condvar (condvar_op.WaitTimeout condvar.now.number guard.number value)) self.old.told self.new.told) }
+        ensures stopped { IfErr result (Stops waited_in (op.Condvar (condvar_op.WaitTimeout condvar.now.number guard.number value)) self.old.told self.new) }
+    {
+        self.ask(condvar.wait_timeout(guard, value).request)
     }
 
     /// Waits again and again, while the closure says so of the data, up to a stop (std's `Condvar::wait_while`).

@@ -53,6 +53,7 @@ impl Path {
 
     /// The thread is added at the schedule of this place, unless its count is the bound. It answers where the run went over to
     /// another thread before it.
+    #[inline(always)]
     fn add(&mut self, place: usize, thread: usize) -> Option<u32>
         requires { IsScheduleAt (passes_of (trail self.old)) place }
         ensures added { Adds self.old place thread self.new }
@@ -62,7 +63,9 @@ impl Path {
         let Node::Schedule(mut schedule) = self.nodes.list.get(place) else {
             return None;
         };
-        add_off_bound(&mut schedule, bound, thread);
+        if !add_off_bound(&mut schedule, bound, thread) {
+            return schedule.switch;
+        }
         are_five(&schedule.statuses);
         self.nodes.list.set(place, &Node::Schedule(schedule));
         schedule.switch
@@ -79,17 +82,17 @@ fn is_off_bound(bound: Option<u8>, preemptions: u32) -> bool
     }
 }
 
-/// The thread is added at the schedule, unless its count is the bound.
-fn add_off_bound(schedule: &mut Schedule, bound: Option<u8>, thread: usize)
+/// The thread is added at the schedule, unless its count is the bound. False only where nothing changes.
+#[inline(always)]
+fn add_off_bound(schedule: &mut Schedule, bound: Option<u8>, thread: usize) -> bool
     requires { IsWellSchedule schedule.old }
     ensures added { is_off_bound bound schedule.old.preemptions ≡ true → seen_schedule schedule.new ≡ mark_added thread (seen_schedule schedule.old) }
     ensures same { is_off_bound bound schedule.old.preemptions ≡ false → schedule.new ≡ schedule.old }
+    ensures unchanged { result ≡ false → schedule.new ≡ schedule.old }
     ensures rests { IsWellSchedule schedule.new }
     ensures noted { (schedule.new.preemptions ≡ schedule.old.preemptions) × (schedule.new.switch ≡ schedule.old.switch) × (schedule.new.nearest ≡ schedule.old.nearest) }
 {
-    if is_off_bound(bound, schedule.preemptions) {
-        add_thread(schedule, thread);
-    }
+    is_off_bound(bound, schedule.preemptions) && add_thread(schedule, thread)
 }
 
 /// The status of a thread that is to be tried too: what was to be skipped is pending.
@@ -121,20 +124,28 @@ fn marked_statuses(statuses: &[Status; MAX_THREADS]) -> [Status; MAX_THREADS]
 }
 
 /// The thread is added: it is to be tried unless it was, or, where it can't go on, each thread that can is. Nothing where
-/// the run doesn't explore.
-fn add_thread(schedule: &mut Schedule, thread: usize)
+/// the run doesn't explore. False only where nothing changes.
+#[inline(always)]
+fn add_thread(schedule: &mut Schedule, thread: usize) -> bool
     requires { IsWellSchedule schedule.old }
     ensures added { seen_schedule schedule.new ≡ mark_added thread (seen_schedule schedule.old) }
+    ensures unchanged { result ≡ false → schedule.new ≡ schedule.old }
     ensures rests { IsWellSchedule schedule.new }
     ensures noted { (schedule.new.preemptions ≡ schedule.old.preemptions) × (schedule.new.switch ≡ schedule.old.switch) × (schedule.new.nearest ≡ schedule.old.nearest) }
 {
     are_five(&schedule.statuses);
     if !schedule.exploring || thread >= MAX_THREADS {
-        return;
+        return false;
     }
     match schedule.statuses[thread] {
-        Status::Disabled => schedule.statuses = marked_statuses(&schedule.statuses),
-        Status::Skip => schedule.statuses[thread] = Status::Pending,
-        Status::Yield | Status::Pending | Status::Active | Status::Visited => {}
+        Status::Disabled => {
+            schedule.statuses = marked_statuses(&schedule.statuses);
+            true
+        }
+        Status::Skip => {
+            schedule.statuses[thread] = Status::Pending;
+            true
+        }
+        Status::Yield | Status::Pending | Status::Active | Status::Visited => false,
     }
 }

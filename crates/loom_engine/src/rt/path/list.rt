@@ -1,15 +1,19 @@
 //! The nodes of a path in order, a word for each (own).
 
-ghost use Rattle.std.specs.Prelude.{◌≡◌, ◌<◌, ◌==◌, ◌↔◌, ◌++◌, ◌∷◌, [], IfOk, IfErr, IsSomeAnd, IsTrue, None, length, map, slice_get, slice_set, slice_index_or, take, Some};
+ghost use Rattle.std.specs.Prelude.{◌≡◌, ◌<◌, ◌==◌, ◌↔◌, ◌++◌, ◌∷◌, ℕ, List, Option, [], IfOk, IfErr, IsSomeAnd, IsTrue, None, length, map, slice_get, slice_set, slice_index_or, take, Some};
 ghost use Rattle.std.specs.Option.{option_map};
 ghost use Rattle.loom_engine.specs.Walk.Path.{advance};
-ghost use Rattle.loom_engine.specs.Path.Nodes.{stored};
+ghost use Rattle.loom_objects.specs.Tree.Question.{made_of};
+ghost use Rattle.loom_objects.specs.Tree.Asked.{which_thread};
+ghost use Rattle.loom_engine.specs.declared.rt.path.node.Schedule.{Schedule};
+ghost use Rattle.loom_engine.specs.Path.Nodes.{seen_schedule, stored, AreWell};
 ghost use Rattle.loom_engine.specs.Path.WellFormed.{AreAlike};
 ghost use Rattle.loom_engine.specs.Path.Words.{word_of, IsFit};
 
 use crate::rt::path::node::{Node, Places};
 use crate::rt::path::word;
 use loom_objects::choice::Choice;
+use loom_objects::rt::schedule::Offers;
 use std::alloc::{AllocError, Global};
 use std::marker::Model;
 
@@ -87,13 +91,24 @@ impl NodeList {
     /// Whether the node at a place is seen to have nothing left to try (own).
     #[inline(always)]
     pub fn is_done(&self, place: usize) -> bool
-        requires { place < length self.now }
+        requires within { place < length self.now }
+        requires well { AreWell self.now }
         ensures { IsTrue result → IsSomeAnd (slice_get (stored self.now) place) (λ node. advance node ≡ None) }
     {
         word::is_done(self.words[place])
     }
 
+    /// Whether the schedule at a place is the one that would be made now, whatever was tried there (own).
+    #[inline(always)]
+    pub fn meets(&self, place: usize, exploring: bool, offers: &Offers) -> bool
+        requires { place < length self.now }
+        ensures { (n : Schedule) → slice_get self.now place ≡ Some (Node.Schedule n) → (places : List (Option ℕ)) → IsTrue result ↔ ((seen_schedule n).made ≡ made_of (which_thread exploring offers.now places)) }
+    {
+        word::meets(self.words[place], exploring, offers)
+    }
+
     /// Another node stands at the place (own).
+    #[inline(always)]
     pub fn set(&mut self, place: usize, node: &Node)
         requires within { place < length self.old }
         requires fit { IsFit node.now }

@@ -116,7 +116,7 @@ pub fn is_same_thread(one: Option<u8>, other: Option<u8>) -> bool
 
 /// Whether the threads offer the same in both.
 #[inline(always)]
-fn are_same_abilities(one: &[Ability; MAX_THREADS], other: &[Ability; MAX_THREADS]) -> bool
+pub fn are_same_abilities(one: &[Ability; MAX_THREADS], other: &[Ability; MAX_THREADS]) -> bool
     ensures { IsTrue result ↔ (one.now ≡ other.now) }
 {
     for place in 0..MAX_THREADS {
@@ -130,7 +130,7 @@ fn are_same_abilities(one: &[Ability; MAX_THREADS], other: &[Ability; MAX_THREAD
 impl Status {
     /// What the thread offered when the node was made.
     #[inline(always)]
-    fn ability(self) -> Ability
+    pub fn ability(self) -> Ability
         ensures { result ≡ ability_of self }
     {
         match self {
@@ -199,16 +199,6 @@ impl Schedule {
         ensures within { IfSome result (λ thread. thread < 5) }
     {
         self.statuses.iter().position(|status| status.is_pending())
-    }
-
-    /// Whether it is the schedule that would be made now, whatever was tried there.
-    #[inline(always)]
-    pub fn meets(&self, exploring: bool, offers: &Offers) -> bool
-        ensures { (places : List (Option ℕ)) → IsTrue result ↔ ((seen_schedule self.now).made ≡ made_of (which_thread exploring offers.now places)) }
-    {
-        self.exploring == exploring
-            && is_same_thread(self.first, offers.default)
-            && are_same_abilities(&self.statuses.map(Status::ability), &offers.abilities)
     }
 
     /// Another thread is the choice, and the one that was is visited.
@@ -285,14 +275,14 @@ impl Tally {
         schedule.exploring && goes_over
     }
 
-    /// The schedule at this place is passed.
+    /// The schedule at this place is passed, at which this was chosen.
     #[inline(always)]
-    pub fn pass(&mut self, schedule: &Schedule, place: u32)
-        requires { self.old.preemptions + 1 < 2 ^ 32 }
+    pub fn pass(&mut self, schedule: &Schedule, chosen: Option<u8>, place: u32)
+        requires counted { self.old.preemptions + 1 < 2 ^ 32 }
+        requires chosen { Choice.Thread chosen ≡ (seen_schedule schedule.now).present }
         ensures { (passes : List (Made × Choice)) → length passes ≡ place → Tallies place passes self.old
             → Tallies (place + 1) (passes ++ pass_of (seen_schedule schedule.now) ∷ []) self.new }
     {
-        let chosen = schedule.active();
         if self.preempts(schedule, chosen) {
             self.preemptions += 1;
         }

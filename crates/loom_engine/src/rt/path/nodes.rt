@@ -47,7 +47,7 @@ impl Nodes {
         let Node::Schedule(schedule) = self.list.get(self.position) else {
             return Err(failed(FailureKind::NotDeterministic));
         };
-        if !schedule.meets(exploring, offers) {
+        if !self.list.meets(self.position, exploring, offers) {
             return Err(failed(FailureKind::NotDeterministic));
         }
         Ok(schedule)

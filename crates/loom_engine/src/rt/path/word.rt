@@ -1,14 +1,20 @@
 //! A node of a path as a word of 64 bits, and the fields of that word (own). Only this file knows which bits a field is. Its
 //! functions are inlined, so that who asks for one field of a node reads no other.
 
-ghost use Rattle.std.specs.Prelude.{◌≡◌, ◌<◌, ◌≤◌, ◌+◌, ◌*◌, ◌^◌, ℕ, List, IfSome, IsTrue, None, map, length};
+ghost use Rattle.std.specs.Prelude.{◌≡◌, ◌<◌, ◌≤◌, ◌+◌, ◌*◌, ◌^◌, ◌↔◌, ℕ, List, Option, IfSome, IsTrue, None, map, length};
 ghost use Rattle.std.specs.List.{position_from};
 ghost use Rattle.loom_engine.specs.Walk.Path.{advance};
-ghost use Rattle.loom_engine.specs.Path.Nodes.{active_thread, is_pending, seen};
-ghost use Rattle.loom_engine.specs.Path.Words.{bits, bit, beside, first_number, status_number, first_of, status_of, is_one, status_in, statuses_in, may_read_in, explores_in, schedule_in, load_in, spurious_in, node_in, word_of, places_of, IsSet, IsFit};
+ghost use Rattle.loom_objects.specs.Tree.Question.{made_of};
+ghost use Rattle.loom_objects.specs.Tree.Asked.{which_thread};
+ghost use Rattle.loom_objects.specs.Tree.Stores.{slots};
+ghost use Rattle.loom_engine.specs.Path.Nodes.{ability_of, active_thread, is_pending, seen, seen_load, seen_schedule, IsWell, IsWellLoad};
+ghost use Rattle.loom_engine.specs.Path.Words.{bits, bit, beside, first_number, status_number, first_of, status_of, is_one, status_in, statuses_in, may_read_in, readable_in, explores_in, schedule_in, load_in, spurious_in, node_in, word_of, places_of, IsSet, IsFit};
 
-use crate::rt::path::node::{Load, Node, Places, Schedule, Spurious, Status};
+use crate::rt::path::node::{
+    Load, Node, Places, Schedule, Spurious, Status, are_same_abilities, is_same_thread,
+};
 use loom_objects::choice::Choice;
+use loom_objects::rt::schedule::{Ability, Offers};
 use loom_views::rt::{MAX_ATOMIC_HISTORY, MAX_THREADS};
 
 // which kind of node a word is, in its bits 0 and 1
@@ -89,6 +95,30 @@ pub fn status(word: u64, thread: usize) -> Status
     ensures { result ≡ status_in word thread }
 {
     status_of(bits(word, 6 + 3 * thread as u32, 3))
+}
+
+/// What the threads offered when the schedule was made (own).
+#[inline(always)]
+fn abilities(word: u64) -> [Ability; MAX_THREADS]
+    ensures { result ≡ map ability_of (statuses_in word) }
+{
+    [
+        status(word, 0).ability(),
+        status(word, 1).ability(),
+        status(word, 2).ability(),
+        status(word, 3).ability(),
+        status(word, 4).ability(),
+    ]
+}
+
+/// Whether the schedule that a word is is the one that would be made now, whatever was tried there (own).
+#[inline(always)]
+pub fn meets(word: u64, exploring: bool, offers: &Offers) -> bool
+    ensures { (notes : Places) (places : List (Option ℕ)) → IsTrue result ↔ ((seen_schedule (schedule_in word notes)).made ≡ made_of (which_thread exploring offers.now places)) }
+{
+    explores(word) == exploring
+        && is_same_thread(first(word), offers.default)
+        && are_same_abilities(&abilities(word), &offers.abilities)
 }
 
 /// The thread that is the choice at a schedule (own).
@@ -219,12 +249,52 @@ pub fn node(word: u64, places: Places) -> Node
     }
 }
 
-/// Whether the node that a word is is seen to have nothing left to try: it is a schedule, and no thread of it is pending (own).
+/// How many slots a load may read (own).
+#[inline(always)]
+fn slot_count(word: u64) -> u64
+    ensures { result ≡ length (slots (readable_in word)) }
+{
+    number(may_read(word, 0))
+        + number(may_read(word, 1))
+        + number(may_read(word, 2))
+        + number(may_read(word, 3))
+        + number(may_read(word, 4))
+        + number(may_read(word, 5))
+        + number(may_read(word, 6))
+}
+
+/// Whether the place is the last of so many, or above.
+#[inline(always)]
+fn is_last(place: u8, count: u64) -> bool
+    ensures { IsTrue result → count ≤ place + 1 }
+{
+    count <= place as u64 + 1
+}
+
+/// Whether a load has nothing left to read: the run doesn't explore there, or no slot comes after its choice (own).
+#[inline(always)]
+fn is_read(word: u64) -> bool
+    requires { IsWellLoad (load_in word) }
+    ensures { IsTrue result → advance (seen_load (load_in word)) ≡ None }
+{
+    if !explores(word) {
+        return true;
+    }
+    is_last(position(word), slot_count(word))
+}
+
+/// Whether the node that a word is is seen to have nothing left to try: no thread of a schedule is pending, or no slot of a
+/// load comes after its choice (own).
 #[inline(always)]
 pub fn is_done(word: u64) -> bool
+    requires { (places : Places) → IsWell (node_in word places) }
     ensures { IsTrue result → (places : Places) → advance (seen (node_in word places)) ≡ None }
 {
-    bits(word, 0, 2) == SCHEDULE && pending(word).is_none()
+    match bits(word, 0, 2) {
+        SCHEDULE => pending(word).is_none(),
+        LOAD => is_read(word),
+        _ => false,
+    }
 }
 
 /// What was chosen at the node that a word is, whatever stands beside it (own).

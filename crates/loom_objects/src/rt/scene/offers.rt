@@ -1,5 +1,5 @@
 //! What the threads of a run offer to a schedule.
-ghost use Rattle.std.specs.Prelude.{ℕ, ◌≡◌, map};
+ghost use Rattle.std.specs.Prelude.{ℕ, ◌≡◌, ◌∷◌, [], map};
 ghost use Rattle.loom_objects.specs.Tree.Sound.{AreSoundOffers};
 ghost use Rattle.loom_objects.specs.Schedule.Offers as rules;
 ghost use Rattle.loom_objects.specs.Scene.Stage.{world_of};
@@ -30,6 +30,16 @@ fn standing_at<D>(threads: &Sequence<Thread<D>>, place: usize) -> (Ability, u64)
     }
     let thread = threads.at(place);
     (ability_of(thread.state), thread.yields)
+}
+
+/// What the thread's state lets it do.
+fn ability_at<D>(threads: &Sequence<Thread<D>>, place: usize) -> Ability
+    ensures { result ≡ rules.ability_in (rules.standing_at threads.now place) }
+{
+    if place >= threads.len() {
+        return Ability::Unable;
+    }
+    ability_of(threads.at(place).state)
 }
 
 fn ability_in(standing: (Ability, u64)) -> Ability
@@ -70,8 +80,38 @@ impl<D: Drop> Scene<D> {
         ]
     }
 
+    /// What the five threads' states let them do.
+    fn abilities(&self) -> [Ability; MAX_THREADS]
+        ensures { result ≡ map rules.ability_in (map (rules.standing_at self.now.threads) (0 ∷ 1 ∷ 2 ∷ 3 ∷ 4 ∷ [])) }
+    {
+        [
+            ability_at(&self.threads, 0),
+            ability_at(&self.threads, 1),
+            ability_at(&self.threads, 2),
+            ability_at(&self.threads, 3),
+            ability_at(&self.threads, 4),
+        ]
+    }
+
     /// What the threads offer to a schedule, and which one goes on by itself.
     pub fn offers(&self) -> Offers
+        ensures offers { (points : Points) → (left : ℕ) → result ≡ rules.offers (world_of points left self.now) }
+        ensures sound { AreSoundOffers result.default result.abilities }
+    {
+        // Where the active thread can go on, nobody's yields are asked.
+        match self.active_thread().state {
+            State::Runnable => Offers {
+                default: Some(self.active),
+                abilities: self.abilities(),
+            },
+            State::Yielding | State::Blocked | State::Parked | State::Sleeping | State::Ended =>
+                self.offers_by_yields(),
+        }
+    }
+
+    /// What the threads offer to a schedule, and which one goes on by itself, by what they can do and how often they have
+    /// yielded.
+    fn offers_by_yields(&self) -> Offers
         ensures offers { (points : Points) → (left : ℕ) → result ≡ rules.offers (world_of points left self.now) }
         ensures sound { AreSoundOffers result.default result.abilities }
     {

@@ -11,6 +11,8 @@ use loom_views::rt::MAX_THREADS;
 use loom_views::sequence::Sequence;
 
 /// What the pending operation of the thread at this place does to its object; none where there is no such thread.
+// Inlined: it is asked of five threads at each schedule of a reduced search.
+#[inline(always)]
 fn use_at<D>(threads: &Sequence<Thread<D>>, place: usize) -> Option<Use>
     ensures { result ≡ rules.use_at threads.now place }
 {

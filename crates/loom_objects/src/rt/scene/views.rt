@@ -18,6 +18,7 @@ use std::sync::atomic::Ordering;
 
 impl<D: Drop> Scene<D> {
     /// A new object, at which no thread has synchronized. It answers its number.
+    #[inline(always)]
     pub fn add(&mut self, object: Object<D>) -> Result<usize, AllocError>
         ensures number { OnOk result (result ≡ Ok (length self.old.objects)) }
         ensures views { (p : Points) → ShowsViews p self.old.views → OnOk result (ShowsViews (table.points_with_point p) self.new.views) }

@@ -34,17 +34,18 @@ pub fn thread_begins<D: Drop>(
     ensures does { IfOk result (λ answer. Does (rules.thread_begins op) scene.old answer scene.new) }
     ensures growth { OnErr result (rules.needs_memory op ≡ true) }
 {
-    match op {
-        ThreadOp::Spawn((), name) => spawn(scene, name),
-        ThreadOp::Join(thread, notifier) => Ok(join_begins(scene, thread, notifier)),
-        ThreadOp::Finish(value) => Ok(finish(scene, value)),
-        ThreadOp::Exit => Ok(exit(scene)),
-        ThreadOp::End => Ok(end(scene)),
-        ThreadOp::Current => Ok(Ok(park::current(scene))),
-        ThreadOp::Park => Ok(Ok(park::park(scene))),
-        ThreadOp::Unpark(thread) => Ok(park::unpark(scene, thread)),
-        ThreadOp::Yield => Ok(park::yield_now(scene)),
-    }
+    let begun = match op {
+        ThreadOp::Spawn((), name) => return spawn(scene, name),
+        ThreadOp::Join(thread, notifier) => join_begins(scene, thread, notifier),
+        ThreadOp::Finish(value) => finish(scene, value),
+        ThreadOp::Exit => exit(scene),
+        ThreadOp::End => end(scene),
+        ThreadOp::Current => Ok(park::current(scene)),
+        ThreadOp::Park => Ok(park::park(scene)),
+        ThreadOp::Unpark(thread) => park::unpark(scene, thread),
+        ThreadOp::Yield => park::yield_now(scene),
+    };
+    Ok(begun)
 }
 
 /// A thread more, with its parent's view and a notifier of its own.

@@ -171,7 +171,7 @@ fn is_read(rt: &(impl Abort + AllocGlobal), text: &str, again: &str) {
     same(rt, page.text.as_str(), again, text);
 }
 
-static TEXTS: [(&str, &str); 13] = [
+static TEXTS: [(&str, &str); 16] = [
     ("", "\n"),
     (" \t\n", "\n"),
     ("t0", "t0\n"),
@@ -180,6 +180,9 @@ static TEXTS: [(&str, &str); 13] = [
     ("t", "NotAChoice(1)\n"),
     ("t0t1", "NotAChoice(1)\n"),
     ("t0 t12", "NotAChoice(2)\n"),
+    ("t9 l0", "NotAChoice(1)\n"),
+    ("t4 t5", "NotAChoice(2)\n"),
+    ("l6 l7", "NotAChoice(2)\n"),
     ("t0 s2", "NotAChoice(2)\n"),
     ("t0 l- t1", "NotAChoice(2)\n"),
     ("T0", "NotAChoice(1)\n"),

@@ -1,13 +1,14 @@
-use Rattle.std.proofs.Common.{refl, sym}
 use Rattle.std.specs.Fn.{CalledAtMut}
-use Rattle.loom.proofs.Closures.Refusing.{broken, refused}
+use Rattle.std.specs.Prelude.{ℕ, ◌≡◌, List, Option, None}
+use Rattle.loom.proofs.Closures.Alone.{none_risen, reports_alone}
+use Rattle.loom.proofs.Closures.Refusing.{none_alone}
 use Rattle.loom.proofs.runner.checks.check_lent.Goals as goal
 
-pub returns-in_err-test-clause-errors : goal.returns-in_err-test-clause-errors
-returns-in_err-test-clause-errors g c =
-    refused (CalledAtMut g.F.FnMut) g.V.Visitor.takes c.args.builder.now c.args.closure.now c.args.visitor.now c.args.visitor.now c.from_residual.result c.in_err-test.field-0.0 c.from_residual.ensures.1
-    (sym c.in_err-test.ensures.tested) refl
+pub returns-clause-reports : goal.returns-clause-reports
+returns-clause-reports g c =
+    reports_alone (CalledAtMut g.F.FnMut) g.V.Visitor.takes c.args.builder.now c.args.closure.now c.args.visitor.now c.check_lent_with.new.visitor _ _ _ c.check_lent_with.result c.check_lent_with.ensures.reports
 
 pub returns-clause-errors : goal.returns-clause-errors
 returns-clause-errors g c =
-    broken (CalledAtMut g.F.FnMut) g.V.Visitor.takes c.args.builder.now c.args.closure.now c.args.visitor.now c.make_runs.new.visitor c.make_runs.result (sym c.in_ok-test.ensures.tested) c.make_runs.ensures.errors
+    none_alone (CalledAtMut g.F.FnMut) g.V.Visitor.takes c.args.builder.now (λ (text : Option (List ℕ)). text ≡ None) _ (none_risen c.check_lent_with.new.store) c.args.closure.now c.args.visitor.now
+    c.check_lent_with.new.visitor c.check_lent_with.result c.check_lent_with.ensures.errors

@@ -1,13 +1,16 @@
 use Rattle.std.proofs.Common.{inl, inr, refl, sym}
 use Rattle.std.specs.Fn.{CalledAtMut}
-use Rattle.loom.specs.declared.runner.error.RunnerError.TheVariants as error
 use Rattle.loom.proofs.Closures.Explaining.{explained_by}
-use Rattle.loom.proofs.Closures.Refusing.{handed_on, no_replays}
+use Rattle.loom.proofs.Closures.Erring.{refused_alone, settings_on}
+use Rattle.loom.proofs.Closures.Refusing.{no_replays}
 use Rattle.loom.proofs.runner.explanations.explain_lent.Goals as goal
 
 pub returns-in_err-test-clause-errors : goal.returns-in_err-test-clause-errors
 returns-in_err-test-clause-errors g c =
-    handed_on c.from_residual.result (error.Settings c.in_err-test.field-0.0) _ c.from_residual.ensures.1 (inl (c.in_err-test.field-0.0, refl, sym c.in_err-test.ensures.tested))
+    settings_on c.args.builder.now c.from_residual.result c.in_err-test.field-0.0 _ c.from_residual.ensures.1 (sym c.in_err-test.ensures.tested) (inl (c.in_err-test.field-0.0, refl, sym c.in_err-test.ensures.tested))
+
+pub returns-in_err-test-clause-refused : goal.returns-in_err-test-clause-refused
+returns-in_err-test-clause-refused g c = refused_alone c.args.builder.now c.from_residual.result c.in_err-test.field-0.0 c.from_residual.ensures.1 (sym c.in_err-test.ensures.tested)
 
 pub returns-in_default-clause-errors : goal.returns-in_default-clause-errors
 returns-in_default-clause-errors g c = inr (sym c.in_ok-test.ensures.tested, inl (inl refl))

@@ -1,22 +1,13 @@
 use Rattle.loom_objects.proofs.rt.mutex.mutex_begins.Goals as goal
+use Rattle.loom_objects.proofs.rt.mutex.mutex_begins.Goals.{in-New+in_ok-mutex_new-in-New, in-Lock, in-TryLock, in-Release, in-GetMut, in-Put, in-IntoInner}
 
-pub returns-in_ok-mutex_new-in-New-clause-does : goal.returns-in_ok-mutex_new-in-New-clause-does
-returns-in_ok-mutex_new-in-New-clause-does g c = rw c.in-New.is c.in_ok-mutex_new-in-New.ensures
-
-pub returns-in-Lock-clause-does : goal.returns-in-Lock-clause-does
-returns-in-Lock-clause-does g c = rw c.in-Lock.is c.lock_begins.ensures
-
-pub returns-in-TryLock-clause-does : goal.returns-in-TryLock-clause-does
-returns-in-TryLock-clause-does g c = rw c.in-TryLock.is c.try_lock_begins.ensures
-
-pub returns-in-Release-clause-does : goal.returns-in-Release-clause-does
-returns-in-Release-clause-does g c = rw c.in-Release.is c.release.ensures
-
-pub returns-in-GetMut-clause-does : goal.returns-in-GetMut-clause-does
-returns-in-GetMut-clause-does g c = rw c.in-GetMut.is c.mutex_get_mut.ensures
-
-pub returns-in-Put-clause-does : goal.returns-in-Put-clause-does
-returns-in-Put-clause-does g c = rw c.in-Put.is c.mutex_put.ensures
-
-pub returns-in-IntoInner-clause-does : goal.returns-in-IntoInner-clause-does
-returns-in-IntoInner-clause-does g c = rw c.in-IntoInner.is c.mutex_into_inner.ensures
+pub returns-clause-does : goal.returns-clause-does
+returns-clause-does g c = elim c.match-op.branch [
+  | in-New+in_ok-mutex_new-in-New w ↦ rw (w.in-New.is, w.begun-is, w.scene-is) w.in_ok-mutex_new-in-New.ensures
+  | in-Lock w ↦ rw (w.in-Lock.is, w.begun-is, w.scene-is) w.lock_begins-begun.ensures
+  | in-TryLock w ↦ rw (w.in-TryLock.is, w.begun-is, w.scene-is) w.try_lock_begins-begun.ensures
+  | in-Release w ↦ rw (w.in-Release.is, w.begun-is, w.scene-is) w.release-begun.ensures
+  | in-GetMut w ↦ rw (w.in-GetMut.is, w.begun-is, w.scene-is) w.mutex_get_mut-begun.ensures
+  | in-Put w ↦ rw (w.in-Put.is, w.begun-is, w.scene-is) w.mutex_put-begun.ensures
+  | in-IntoInner w ↦ rw (w.in-IntoInner.is, w.begun-is, w.scene-is) w.mutex_into_inner-begun.ensures
+]

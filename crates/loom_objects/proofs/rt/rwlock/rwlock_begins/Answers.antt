@@ -1,31 +1,16 @@
 use Rattle.loom_objects.proofs.rt.rwlock.rwlock_begins.Goals as goal
+use Rattle.loom_objects.proofs.rt.rwlock.rwlock_begins.Goals.{in-New+in_ok-rwlock_new-in-New, in-Read, in-TryRead, in-ReadRelease, in-Write, in-TryWrite, in-WriteRelease, in-GetMut, in-Put, in-IntoInner}
 
-pub returns-in_ok-rwlock_new-in-New-clause-does : goal.returns-in_ok-rwlock_new-in-New-clause-does
-returns-in_ok-rwlock_new-in-New-clause-does g c = rw c.in-New.is c.in_ok-rwlock_new-in-New.ensures
-
-pub returns-in-Read-clause-does : goal.returns-in-Read-clause-does
-returns-in-Read-clause-does g c = rw c.in-Read.is c.claim_begins.ensures
-
-pub returns-in-TryRead-clause-does : goal.returns-in-TryRead-clause-does
-returns-in-TryRead-clause-does g c = rw c.in-TryRead.is c.claim_begins-in-TryRead.ensures
-
-pub returns-in-ReadRelease-clause-does : goal.returns-in-ReadRelease-clause-does
-returns-in-ReadRelease-clause-does g c = rw c.in-ReadRelease.is c.read_release.ensures
-
-pub returns-in-Write-clause-does : goal.returns-in-Write-clause-does
-returns-in-Write-clause-does g c = rw c.in-Write.is c.claim_begins-in-Write.ensures
-
-pub returns-in-TryWrite-clause-does : goal.returns-in-TryWrite-clause-does
-returns-in-TryWrite-clause-does g c = rw c.in-TryWrite.is c.claim_begins-in-TryWrite.ensures
-
-pub returns-in-WriteRelease-clause-does : goal.returns-in-WriteRelease-clause-does
-returns-in-WriteRelease-clause-does g c = rw c.in-WriteRelease.is c.write_release.ensures
-
-pub returns-in-GetMut-clause-does : goal.returns-in-GetMut-clause-does
-returns-in-GetMut-clause-does g c = rw c.in-GetMut.is c.rwlock_get_mut.ensures
-
-pub returns-in-Put-clause-does : goal.returns-in-Put-clause-does
-returns-in-Put-clause-does g c = rw c.in-Put.is c.rwlock_put.ensures
-
-pub returns-in-IntoInner-clause-does : goal.returns-in-IntoInner-clause-does
-returns-in-IntoInner-clause-does g c = rw c.in-IntoInner.is c.rwlock_into_inner.ensures
+pub returns-clause-does : goal.returns-clause-does
+returns-clause-does g c = elim c.match-op.branch [
+  | in-New+in_ok-rwlock_new-in-New w ↦ rw (w.in-New.is, w.begun-is, w.scene-is) w.in_ok-rwlock_new-in-New.ensures
+  | in-Read w ↦ rw (w.in-Read.is, w.begun-is, w.scene-is) w.claim_begins-begun.ensures
+  | in-TryRead w ↦ rw (w.in-TryRead.is, w.begun-is, w.scene-is) w.claim_begins-begun-in-TryRead.ensures
+  | in-ReadRelease w ↦ rw (w.in-ReadRelease.is, w.begun-is, w.scene-is) w.read_release-begun.ensures
+  | in-Write w ↦ rw (w.in-Write.is, w.begun-is, w.scene-is) w.claim_begins-begun-in-Write.ensures
+  | in-TryWrite w ↦ rw (w.in-TryWrite.is, w.begun-is, w.scene-is) w.claim_begins-begun-in-TryWrite.ensures
+  | in-WriteRelease w ↦ rw (w.in-WriteRelease.is, w.begun-is, w.scene-is) w.write_release-begun.ensures
+  | in-GetMut w ↦ rw (w.in-GetMut.is, w.begun-is, w.scene-is) w.rwlock_get_mut-begun.ensures
+  | in-Put w ↦ rw (w.in-Put.is, w.begun-is, w.scene-is) w.rwlock_put-begun.ensures
+  | in-IntoInner w ↦ rw (w.in-IntoInner.is, w.begun-is, w.scene-is) w.rwlock_into_inner-begun.ensures
+]

@@ -1,4 +1,4 @@
-use Rattle.std.proofs.Common.{◌≡◌, ◌≤◌, length, Some, refl, ap, ◌∙◌, subst, sym, arith}
+use Rattle.std.proofs.Common.{◌≡◌, ◌≤◌, length, Some, refl, ap, ◌∙◌, subst, arith}
 use Rattle.loom_objects.specs.declared.choice.Choice.TheVariants.{Load}
 use Rattle.loom_engine.specs.Path.Route.{Route, choice_here}
 use Rattle.loom_engine.specs.Path.Tallies.{IsValueAt}

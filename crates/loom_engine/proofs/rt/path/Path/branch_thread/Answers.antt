@@ -16,13 +16,13 @@ use Rattle.loom_engine.proofs.rt.path.Path.branch_thread.Goals as goal
 pub stored_schedule-requires : goal.stored_schedule-requires
 stored_schedule-requires c = omega arith
 
-pub pass-requires : goal.pass-requires
-pass-requires c =
+pub pass-requires-clause-stands : goal.pass-requires-clause-stands
+pass-requires-clause-stands c =
     let n : Node = node.Schedule c.in-Ok.schedule in
     subst (λ (r : Route). slice_get r.nodes r.position ≡ Some n) c.self.view_is (c.in-Ok.ensures []).0
 
-pub pass-requires-in-Ok-push : goal.pass-requires-in-Ok-push
-pass-requires-in-Ok-push c =
+pub pass-requires-in-Ok-push-clause-stands : goal.pass-requires-in-Ok-push-clause-stands
+pass-requires-in-Ok-push-clause-stands c =
     let p : Route = c.args.self.now in
     let n : Node = node.Schedule c.in-Some.schedule in
     let held : length (the_view c.self.inside).nodes ≤ (the_view c.self.inside).position = omega arith in
@@ -44,8 +44,8 @@ returns-in-Ok-clause-says c = λ places.
     let p : Route = the_view c.self.inside in
     let n : Node = node.Schedule c.in-Ok.schedule in
     let question : Question = which_thread (is_on c.args.self.now.exploring) c.args.offers.now places in
-    passed_on p c.args.self.now question (Thread c.active.result) c.pass.new.self c.self.view_is
-    (follows_there p question n (Thread c.active.result) (c.in-Ok.ensures []).0 ((c.in-Ok.ensures places).1 ∙ ap (λ b. made_of (which_thread b c.args.offers.now places)) c.is_exploring-exploring.ensures) c.active.ensures.present)
+    passed_on p c.args.self.now question (Thread c.active-chosen.result) c.pass.new.self c.self.view_is
+    (follows_there p question n (Thread c.active-chosen.result) (c.in-Ok.ensures []).0 ((c.in-Ok.ensures places).1 ∙ ap (λ b. made_of (which_thread b c.args.offers.now places)) c.is_exploring-exploring.ensures) c.active-chosen.ensures.present)
     c.pass.ensures
 
 pub returns-then-is_full-clause-says : goal.returns-then-is_full-clause-says
@@ -80,6 +80,6 @@ returns-in-Ok-push-clause-says c = λ places.
     let held : length (the_view c.self.inside).nodes ≤ (the_view c.self.inside).position = omega arith in
     let past : length p.nodes ≤ p.position = past_end (the_view c.self.inside) p c.self.view_is held in
     let room : p.position < p.search.max_branches = search rules in
-    makes p question past room _ refl (node.Schedule c.in-Some.schedule) (Thread c.active-in-Ok-push.result) c.pass-in-Ok-push.new.self
-    (c.in-Some.ensures.made places) c.active-in-Ok-push.ensures.present
+    makes p question past room _ refl (node.Schedule c.in-Some.schedule) (Thread c.active-chosen-in-Ok-push.result) c.pass-in-Ok-push.new.self
+    (c.in-Some.ensures.made places) c.active-chosen-in-Ok-push.ensures.present
     (c.pass-in-Ok-push.ensures ∙ ap (λ (r : Route). record r { position = r.position + 1 }) c.in-Ok-push.ensures.made)

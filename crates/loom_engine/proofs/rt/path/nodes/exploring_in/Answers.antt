@@ -1,5 +1,5 @@
-use Rattle.std.proofs.Common.{◌≡◌, ◌-◌, ◌<◌, ◌≤◌, suc, length, take, get_or, ap, subst, sym, ◌∙◌, arith, rules}
-use Rattle.std.specs.Prelude.{min, slice_get, Some, None}
+use Rattle.std.proofs.Common.{◌≡◌, ◌-◌, suc, length, take, ap, subst, sym, ◌∙◌, arith}
+use Rattle.std.specs.Prelude.{min, Some, None}
 use Rattle.loom_engine.specs.Trees.Marks.{from_exploring}
 use Rattle.std.proofs.lemmas.List.{length-map}
 use Rattle.loom_engine.specs.Trees.Drive.{pass_of}

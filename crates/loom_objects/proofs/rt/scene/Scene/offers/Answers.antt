@@ -1,17 +1,24 @@
-use Rattle.std.proofs.Common.{ℕ, sym, ap, ◌∙◌, subst}
+use Rattle.std.proofs.Common.{◌≡◌, ◌<◌, ℕ, ◌∷◌, [], map, Some, sym, ap, ◌∙◌, subst, arith}
 use Rattle.loom_objects.specs.declared.rt.schedule.Offers.{Offers}
+use Rattle.loom_objects.specs.Scene.Stage.{Stage}
 use Rattle.loom_objects.specs.Tree.Sound.{AreSoundOffers}
-use Rattle.loom_objects.specs.Schedule.Offers.{offers_of}
-use Rattle.loom_objects.proofs.Scene.Offering.{offered_as, offers_sound}
+use Rattle.loom_objects.specs.Schedule.Offers.{standing_at}
+use Rattle.loom_objects.proofs.Scene.Offering.{made, offered_now, offers_sound}
 use Rattle.loom_objects.proofs.rt.scene.Scene.offers.Goals as goal
 
-pub returns-clause-offers : goal.returns-clause-offers
-returns-clause-offers g c = λ points left.
-    offered_as c.active.result c.standings-standings.result c.default_thread-default.result c.abilities.result c.with_able.result c.default_thread-default.ensures c.abilities.ensures c.with_able.ensures
-    ∙ ap (λ (active : ℕ). offers_of active c.standings-standings.result) c.active.ensures ∙ ap (offers_of c.args.self.now.active) (c.standings-standings.ensures points left)
+pub returns-in-Runnable-clause-offers : goal.returns-in-Runnable-clause-offers
+returns-in-Runnable-clause-offers g c = λ points left.
+    let s = c.args.self.now in
+    let few : s.active < 5 = subst (λ (z : Stage g.row.D.Denot). z.active < 5) c.self.view_is (omega (arith, c.self.invariant.0, c.self.invariant.1, c.self.invariant.2)) in
+    let is : c.self.inside.active ≡ s.active = ap (λ (z : Stage g.row.D.Denot). z.active) c.self.view_is in
+    ap (λ (a : ℕ). made (Some a) c.abilities.result) is
+    ∙ offered_now s.threads s.active c.active_thread.result.now c.abilities.result few c.active_thread.ensures c.in-Runnable.is c.abilities.ensures
 
-pub returns-clause-sound : goal.returns-clause-sound
-returns-clause-sound g c =
-    subst (λ (o : Offers). AreSoundOffers o.default o.abilities)
-    (sym (offered_as c.active.result c.standings-standings.result c.default_thread-default.result c.abilities.result c.with_able.result c.default_thread-default.ensures c.abilities.ensures c.with_able.ensures))
-    (offers_sound c.active.result c.standings-standings.result)
+pub returns-in-Runnable-clause-sound : goal.returns-in-Runnable-clause-sound
+returns-in-Runnable-clause-sound g c =
+    let s = c.args.self.now in
+    let few : s.active < 5 = subst (λ (z : Stage g.row.D.Denot). z.active < 5) c.self.view_is (omega (arith, c.self.invariant.0, c.self.invariant.1, c.self.invariant.2)) in
+    let is : c.self.inside.active ≡ s.active = ap (λ (z : Stage g.row.D.Denot). z.active) c.self.view_is in
+    let offered = ap (λ (a : ℕ). made (Some a) c.abilities.result) is
+    ∙ offered_now s.threads s.active c.active_thread.result.now c.abilities.result few c.active_thread.ensures c.in-Runnable.is c.abilities.ensures in
+    subst (λ (o : Offers). AreSoundOffers o.default o.abilities) (sym offered) (offers_sound s.active (map (standing_at s.threads) (0 ∷ 1 ∷ 2 ∷ 3 ∷ 4 ∷ [])))

@@ -1,7 +1,6 @@
-use Rattle.std.proofs.Common.{◌≡◌, ◌<◌, List, length, get_or, refl, sym, ap, ◌∙◌, subst, arith}
+use Rattle.std.proofs.Common.{◌<◌, List, length, sym, subst, arith}
 use Rattle.loom_engine.specs.declared.rt.path.node.Node.{Node}
-use Rattle.loom_engine.specs.declared.rt.path.node.Places.{Places}
-use Rattle.loom_engine.specs.Path.Words.{node_in, nodes_in}
+use Rattle.loom_engine.specs.Path.Words.{nodes_in}
 use Rattle.loom_engine.proofs.Path.Words.{laid_nodes, laid_choice}
 use Rattle.loom_engine.proofs.rt.path.list.NodeList.choice.Goals as goal
 

@@ -1,11 +1,9 @@
-use Rattle.std.proofs.Common.{◌≡◌, Bool, List, map, sym, ap, ap₂, ◌∙◌, subst}
-use Rattle.std.specs.Prelude.{◌↔◌, IsTrue, nat_eq}
+use Rattle.std.proofs.Common.{◌≡◌, map, sym, ap, ap₂, ◌∙◌}
+use Rattle.std.specs.Prelude.{nat_eq}
 use Rattle.std.specs.Cmp.{unsigned_Decides}
 use Rattle.std.specs.Cmp.Lexicographic.{pointwise, pointwise_decides}
 use Rattle.std.proofs.lemmas.Bool.Decides.{Decides-at}
-use Rattle.loom_engine.specs.declared.rt.path.node.Node.{Node}
-use Rattle.loom_engine.specs.Path.WellFormed.{AreAlike}
-use Rattle.loom_engine.specs.Path.Words.{nodes_in, word_of}
+use Rattle.loom_engine.specs.Path.Words.{word_of}
 use Rattle.loom_engine.proofs.Path.Words.{laid_words, same_words}
 use Rattle.loom_engine.proofs.rt.path.list.NodeList.has_words_of.Goals as goal
 

@@ -42,12 +42,12 @@ returns c = λ passes size held.
           ∙ ap (λ (b : Bool). record c.if-switches.self { nearest = cond b (Some place) old.nearest }) (sym w.if-schedule.false)
     ] in
     let next : suc place ≡ place + 1 = omega arith in
-    let new : Tally = record { preemptions = c.if-schedule.self.preemptions; last = Some c.active-chosen.result; switch = c.if-schedule.self.switch; nearest = c.if-schedule.self.nearest } in
+    let new : Tally = record { preemptions = c.if-schedule.self.preemptions; last = Some c.args.chosen; switch = c.if-schedule.self.switch; nearest = c.if-schedule.self.nearest } in
     subst (λ (j : ℕ). Tallies j (passes ++ pass_of seen ∷ []) new) next
     (tallied place passes (pass_of seen) size old held new refl
     (ap (λ (t : Tally). t.preemptions) (explored ∙ ap (λ (t : Tally). record t { nearest = cond seen.made.exploring (Some place) old.nearest }) (switched ∙ ap (λ (t : Tally). record t { switch = cond c.switches.result (Some place) old.switch }) counted))
     ∙ ap (λ (b : Bool). cond b (suc old.preemptions) old.preemptions) c.preempts.ensures)
-    (ap Some c.active-chosen.ensures.present)
+    (ap Some c.requires.chosen)
     (ap (λ (t : Tally). t.switch) (explored ∙ ap (λ (t : Tally). record t { nearest = cond seen.made.exploring (Some place) old.nearest }) switched)
     ∙ ap (λ (b : Bool). cond b (Some place) old.switch) c.switches.ensures
     ∙ ap (λ (o : Option (Option ℕ)). cond (seen.made.exploring && goes_over (option_map Thread o) seen.present) (Some place) old.switch) (ap (λ (t : Tally). t.last) counted))

@@ -18,11 +18,12 @@ returns-then-not-meets c = λ places.
     let n = node.Schedule c.in-Schedule.schedule in
     let there : slice_get nodes.list nodes.position ≡ Some n = got_node nodes.list nodes.position n n c.requires (sym c.in-Schedule.ensures) in (
       c.failed-then-not-meets.ensures,
-      made_otherwise nodes.list nodes.position n (made_of (which_thread c.args.exploring c.args.offers.now places)) there (λ e. let met = (c.if-not-meets.ensures places).1 e in cc met),
+      made_otherwise nodes.list nodes.position n (made_of (which_thread c.args.exploring c.args.offers.now places)) there (λ e. let met = (c.if-not-meets.ensures c.in-Schedule.schedule there places).1 e in cc met),
     )
 
 pub returns : goal.returns
 returns c = λ places.
     let nodes = c.args.self.now in
     let n = node.Schedule c.in-Schedule.schedule in
-    (got_node nodes.list nodes.position n n c.requires (sym c.in-Schedule.ensures), (c.if-not-meets.ensures places).0 refl)
+    let there : slice_get nodes.list nodes.position ≡ Some n = got_node nodes.list nodes.position n n c.requires (sym c.in-Schedule.ensures) in
+    (there, (c.if-not-meets.ensures c.in-Schedule.schedule there places).0 refl)

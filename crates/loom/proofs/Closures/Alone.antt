@@ -1,0 +1,73 @@
+-- Checks without a store.
+use Rattle.std.proofs.Common.{◌≡◌, ℕ, List, inl, inr, arith, subst, sym, Option, Result, Ok, Err}
+use Rattle.std.specs.Option.{option_map_or}
+use Rattle.std.specs.Prelude.{IfOk}
+use Rattle.std.specs.declared.time.Duration.{Duration}
+use Rattle.loom_objects.specs.declared.choice.Choice.{Choice}
+use Rattle.loom_engine.specs.declared.rt.path.node.Node.{Node}
+use Rattle.loom.specs.declared.model.builder.Builder.{Builder}
+use Rattle.loom.specs.declared.model.report.Report.{Report}
+use Rattle.loom.specs.declared.model.report.Report.TheVariants as report
+use Rattle.loom.specs.declared.runner.stop.Stop.{Stop}
+use Rattle.loom.specs.Model.Settings.{defaults}
+use Rattle.loom.specs.Model.Stores.{HasRisen}
+use Rattle.loom.specs.declared.runner.defaults.NoVisitor.{NoVisitor}
+use Rattle.loom.specs.Runner.Handle.{Teller}
+use Rattle.loom.specs.Runner.Check.{Made, IsHeld, Reports, ReportsAlone, Says}
+use Rattle.loom.proofs.ModelLemmas.Errors.{no_count}
+
+-- a store in memory, or none, counts no fault
+pub none_risen : {S : Type 0} (store : Option S) → HasRisen 0 (option_map_or {T = S} {U = ℕ} (λ s. 0) store 0) → ⊥
+none_risen store risen = go (subst (HasRisen 0) (no_count store) risen)
+  where
+    go : HasRisen 0 0 → ⊥
+    go (inl less) = absurd (omega (arith, less))
+    go (inr most) = absurd (omega (arith, most))
+
+module _ {D F V : Type 0} (called : F → Teller D → Result D Stop → F → Teller D → Type 0) (takes : V → List Choice → D → V → Type 0) (b : Builder) where
+  -- ---- where nothing is known of what the store holds
+
+  says_unknown : (path : List Node) (holds : Option (List ℕ) → Type 0) (f : F) (v : V) (runs : List (Made D)) (f' : F) (v' : V) (r : Report) → Says called takes b path holds f v runs f' v' r
+      → Says called takes b path (λ text. Unit {0}) f v runs f' v' r
+  says_unknown path holds f v runs f' v' (report.Complete count) z = z
+  says_unknown path holds f v runs f' v' (report.Stopped count limit checkpoint) z = record { last = z.last; given = z.given; reads = z.reads; compact = z.compact; held = tt }
+  says_unknown path holds f v runs f' v' (report.Failed count failure choices) z = z
+
+  held_unknown : (path : List Node) (holds : Option (List ℕ) → Type 0) (f : F) (v : V) (runs : List (Made D)) (most : ℕ) → IsHeld called takes b path holds f v runs most
+      → IsHeld called takes b path (λ text. Unit {0}) f v runs most
+  held_unknown path holds f v runs most z = record {
+    text = z.text;
+    held = tt;
+    last = z.last;
+    reads = z.reads;
+    behind = z.behind;
+    before = z.before;
+    splits = z.splits;
+    few = z.few;
+    closure = z.closure;
+    visitor = z.visitor;
+    given = z.given;
+  }
+
+  pub reports_alone : (f : F) (v v' : V) (gives holds : Option (List ℕ) → Type 0) (answered : Duration → Type 0) {E : Type 0} (answer : Result Report E) → IfOk answer (Reports called takes b f v v' gives holds answered)
+      → IfOk answer (Reports called takes b f v v' gives (λ text. Unit {0}) answered)
+  reports_alone f v v' gives holds answered (Ok r) z = record {
+    text = z.text;
+    gave = z.gave;
+    path = z.path;
+    reads = z.reads;
+    after = z.after;
+    runs = z.runs;
+    counted = z.counted;
+    once = z.once;
+    says = says_unknown z.path holds f v z.runs z.after v' r z.says;
+    limits = z.limits;
+    held = held_unknown z.path holds f v z.runs b.checkpoint_interval z.held;
+  }
+  reports_alone f v v' gives holds answered (Err e) z = z
+
+-- the defaults
+pub reports_default : {D F : Type 0} (called : F → Teller D → Result D Stop → F → Teller D → Type 0) (takes : NoVisitor → List Choice → D → NoVisitor → Type 0) (b : Builder) (f : F) (v v' : NoVisitor) {E : Type 0}
+    (answer : Result Report E) → b ≡ defaults → IfOk answer (ReportsAlone called takes b f v v') → IfOk answer (λ report. (w w' : NoVisitor) × ReportsAlone called takes defaults f w w' report)
+reports_default called takes b f v v' (Ok r) is z = (v, v', subst (λ (x : Builder). ReportsAlone called takes x f v v' r) is z)
+reports_default called takes b f v v' (Err e) is z = z

@@ -1,0 +1,25 @@
+use Rattle.std.proofs.Common.{refl, inr}
+use Rattle.std.proofs.lemmas.Result.{err_from_is_err_and}
+use Rattle.loom.proofs.runner.handle.Handle.with_mut_atomic.Goals as goal
+
+pub returns-in_err-ask-clause-stopped : goal.returns-in_err-ask-clause-stopped
+returns-in_err-ask-clause-stopped g c =
+    let p = err_from_is_err_and c.from_residual-in_err-ask.result c.from_residual-in_err-ask.ensures.1 in
+    rw (p.1, p.2)
+    (inr (record {
+      guard = tt;
+      left = _;
+      answer = c.change-answer.result;
+      mid = c.ask.new.self.told;
+      taken = record { found = c.in_ok-value.field-0.0; taken = rw c.with_mut.ensures at c.in_ok-value.ensures.tells; changed = record { shown = _; shows = refl; left = _; met = c.change-answer.ensures; leaves = refl } };
+      kept = rw c.with_mut_end.ensures at c.in_err-ask.ensures.stopped;
+    }))
+
+pub returns-clause-within : goal.returns-clause-within
+returns-clause-within g c = record {
+  guard = tt;
+  left = _;
+  mid = c.ask.new.self.told;
+  taken = record { found = c.in_ok-value.field-0.0; taken = rw c.with_mut.ensures at c.in_ok-value.ensures.tells; changed = record { shown = _; shows = refl; left = _; met = c.change-answer.ensures; leaves = refl } };
+  given = rw c.with_mut_end.ensures at c.in_ok-ask.ensures.tells;
+}

@@ -1,0 +1,9 @@
+-- A search that remembers states: what it has covered when nothing is left to be tried.
+pub mod World
+pub mod Sound
+pub mod Covered
+pub mod Cut
+pub mod Alike
+pub mod Moments
+pub mod States
+pub mod Seen

@@ -1,0 +1,44 @@
+-- What runs cover that were cut off where they came to a state that was noted.
+use Rattle.std.specs.Prelude.{◌≡◌, ◌≢◌, Bool, true, List, [], ◌∷◌, Some, None, Ok, Result, ◌⊎◌}
+use Rattle.loom_objects.specs.declared.choice.Choice.{Choice}
+use Rattle.loom_objects.specs.Tree.Question.{Made}
+use Rattle.loom_engine.specs.Walk.Path.{Skip, Stored, choices, node_at}
+use Rattle.loom_engine.specs.Walk.Driven.{Driven, IsOneOf}
+use Rattle.loom_views.specs.declared.rt.failure.FailureKind.{FailureKind}
+use Rattle.loom_engine.specs.Covering.World.{World, IsCalled, Ends, IsLimit}
+use Rattle.loom_engine.specs.Covering.Sound.{IsSound}
+
+-- the run with these choices and this value is one of them
+abbrev pub IsGiven : {A : Type 0} → List Choice → A → List (List Choice × A) → Type 0
+IsGiven c value [] = ⊥
+IsGiven c value (run ∷ runs) = ((c ≡ run.0) × (value ≡ run.1)) ⊎ IsGiven c value runs
+
+-- each option of a node that explores is to be tried, or was
+abbrev pub SkipsNone : List Stored → Type 0
+SkipsNone p = (before : List Choice) (n : Stored) (o : Choice) → node_at p before ≡ Some n → n.made.exploring ≡ true → n.status o ≢ Skip
+
+module _ {A K : Type 0} (w : World A) (key : List Choice → K) (left : List (List Stored)) (runs : List (List Choice × A)) where
+  -- how the run that left the path q came to its end
+  pub data IsEnd (q : List Stored) : Type 0 where
+    -- it was over, and the visitor was given it
+    ended : (value : A) → w.node (choices q) ≡ None → w.outcome (choices q) ≡ Some (Ok value) → IsGiven (choices q) value runs → IsEnd q
+    -- it came to a state that was noted, at a node of this run or of another, made before or after it
+    met : (n : Made) → w.node (choices q) ≡ Some n → (y : List Stored) (b : List Choice) (k : Stored) → IsOneOf y left → node_at y b ≡ Some k → key b ≡ key (choices q) → IsEnd q
+
+  -- The runs of a search that remembers states, by the paths that they left, once nothing is left to be tried.
+  pub record Remembers : Type 0 where
+    pub driven : Driven [] left
+    pub tries : (q : List Stored) → IsOneOf q left → SkipsNone q
+    pub meets : (q : List Stored) → IsOneOf q left → (before : List Choice) (n : Stored) → node_at q before ≡ Some n → w.node before ≡ Some n.made
+    pub ends : (q : List Stored) → IsOneOf q left → IsEnd q
+
+-- Whatever a run of v comes to after called choices, it is a limit, or what a run of w came to that the visitor was given.
+abbrev pub Covers : {A : Type 0} → (FailureKind → Bool) → World A → World A → List (List Choice × A) → Type 0
+Covers {A} limits w v runs = (c : List Choice) (r : Result A FailureKind) → IsCalled v c → v.outcome c ≡ Some r
+    → IsLimit limits r ⊎ ((made : List Choice) × (value : A) × IsGiven made value runs × (w.outcome made ≡ Some (Ok value)) × (r ≡ Ok value))
+
+-- With sound keys the runs of such a search cover each run, and none fails but by a limit. The search is of w, and covers w itself,
+-- and each v whose runs have the same states: so it may be of few operations, and cover runs of many.
+abbrev pub CoverLaw : Type 0 → Type 0 → Type 0
+CoverLaw A K = (limits : FailureKind → Bool) (w v : World A) (key other : List Choice → K) (left : List (List Stored)) (runs : List (List Choice × A)) → Ends w → Ends v
+    → IsSound limits w v key other → Remembers w key left runs → Covers limits w v runs
