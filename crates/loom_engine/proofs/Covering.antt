@@ -1,9 +1,11 @@
 -- Proofs of the laws of a search that remembers states.
 pub mod Worlds
 pub mod Covered
+pub mod Ways
 pub mod Left
 pub mod Cut
 pub mod Joined
+pub mod Table
 pub mod Then
 pub mod Alike
 pub mod Unfolding
@@ -11,3 +13,8 @@ pub mod Schedules
 pub mod Standing
 pub mod States
 pub mod Seen
+pub mod Rules
+pub mod Kinds
+pub mod Tables
+pub mod Points
+pub mod Themselves

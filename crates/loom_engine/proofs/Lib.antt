@@ -3,6 +3,7 @@ pub mod Checkpoint
 pub mod Covering
 pub mod Execution
 pub mod Nodes
+pub mod Parts
 pub mod Path
 pub mod Runs
 pub mod Trees

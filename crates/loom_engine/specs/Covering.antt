@@ -2,8 +2,11 @@
 pub mod World
 pub mod Sound
 pub mod Covered
+pub mod Ways
 pub mod Cut
+pub mod Table
 pub mod Alike
 pub mod Moments
 pub mod States
 pub mod Seen
+pub mod Points

@@ -3,6 +3,7 @@
 pub mod cover;
 pub mod locks;
 pub mod orders;
+pub mod parts;
 pub mod report;
 pub mod runs;
 pub mod tree;

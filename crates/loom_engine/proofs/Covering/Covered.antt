@@ -29,30 +29,30 @@ Tries left before o = (x : List Stored) × IsOneOf x left × Begins (before ++ o
 
 -- ---- nodes that are the same
 
-same_some : (x y : Option Made) (m n : Made) → x ≡ Some m → y ≡ Some n → MeetsSame x y → OffersSame m n
+pub same_some : (x y : Option Made) (m n : Made) → x ≡ Some m → y ≡ Some n → MeetsSame x y → OffersSame m n
 same_some None y m n e f h = absurd (cc e)
 same_some (Some k) None m n e f h = absurd h
 same_some (Some k) (Some l) m n e f h = let p : k ≡ m = cc e in let q : l ≡ n = cc f in subst (λ z. OffersSame m z) q (subst (λ z. OffersSame z l) p h)
 
-not_same : (x y : Option Made) (n : Made) → x ≡ None → y ≡ Some n → MeetsSame x y → ⊥
+pub not_same : (x y : Option Made) (n : Made) → x ≡ None → y ≡ Some n → MeetsSame x y → ⊥
 not_same None None n e f h = cc f
 not_same None (Some l) n e f h = h
 not_same (Some k) y n e f h = cc e
 
-not_over : (x y : Option Made) (m : Made) → x ≡ Some m → y ≡ None → MeetsSame x y → ⊥
+pub not_over : (x y : Option Made) (m : Made) → x ≡ Some m → y ≡ None → MeetsSame x y → ⊥
 not_over None y m e f h = cc e
 not_over (Some k) None m e f h = h
 not_over (Some k) (Some l) m e f h = cc f
 
 module _ {A : Type 0} (w : World A) where
-  called_front : (c e : List Choice) → IsCalled w (c ++ e) → IsCalled w c
+  pub called_front : (c e : List Choice) → IsCalled w (c ++ e) → IsCalled w c
   called_front c e h before o after g = h before o (after ++ e) (ap (λ t. t ++ e) g ∙ append_assoc before (o ∷ after) e)
 
   -- where a run meets a node, it hasn't failed
-  goes_on : (limits : FailureKind → Bool) → Ends w → (c : List Choice) (n : Made) → w.node c ≡ Some n → IsStopped w limits c → ⊥
+  pub goes_on : (limits : FailureKind → Bool) → Ends w → (c : List Choice) (n : Made) → w.node c ≡ Some n → IsStopped w limits c → ⊥
   goes_on limits ends c n e s = cc (ends c (Err s.0) s.1, e)
 
-  came_well : (limits : FailureKind → Bool) (c : List Choice) (value : A) → w.outcome c ≡ Some (Ok value) → IsStopped w limits c → ⊥
+  pub came_well : (limits : FailureKind → Bool) (c : List Choice) (value : A) → w.outcome c ≡ Some (Ok value) → IsStopped w limits c → ⊥
   came_well limits c value e s = cc (s.1, e)
 
   stops_limit : (limits : FailureKind → Bool) (c : List Choice) (r : Result A FailureKind) → w.outcome c ≡ Some r → IsStopped w limits c → IsLimit limits r
@@ -60,13 +60,13 @@ module _ {A : Type 0} (w : World A) where
 
 module _ {A K : Type 0} (limits : FailureKind → Bool) (w v : World A) (key other : List Choice → K) (left : List (List Stored)) (runs : List (List Choice × A)) (ends : Ends w) (ends_too : Ends v) (sound : IsSound limits w v key other) (r : Remembers w key left runs) where
   -- what a run chose was called for
-  path_called : (q : List Stored) → IsOneOf q left → IsCalled w (choices q)
+  pub path_called : (q : List Stored) → IsOneOf q left → IsCalled w (choices q)
   path_called q i before o after g =
       let z = chooses_node q before o after g in
       let rest = left_rests [] left r.driven q i before z.0 z.1 in
       (z.0.made, r.meets q i before z.0 z.1, subst (λ u. Among u z.0.made.options) z.2 (rest.closed z.0.present (λ e. cc (rest.active, e))), λ f. sym z.2 ∙ (rest.fixed f).0)
 
-  node_called : (q : List Stored) → IsOneOf q left → (b : List Choice) (n : Stored) → node_at q b ≡ Some n → IsCalled w b
+  pub node_called : (q : List Stored) → IsOneOf q left → (b : List Choice) (n : Stored) → node_at q b ≡ Some n → IsCalled w b
   node_called q i b n at = let a = node_chooses q b n at in called_front w b (n.present ∷ a.0) (subst (IsCalled w) a.1 (path_called q i))
 
   -- what may be chosen at a node that a run passed, some run chooses there
@@ -93,7 +93,7 @@ module _ {A K : Type 0} (limits : FailureKind → Bool) (w v : World A) (key oth
           (q, i, (a.0, a.1 ∙ ap (λ u. b ++ u ∷ a.0) chosen ∙ sym (snoc_append b o a.0)))
 
   -- no run that was made has failed by a limit
-  unstopped : (x : List Stored) → IsOneOf x left → (d e : List Choice) → choices x ≡ d ++ e → IsStopped w limits d → ⊥
+  pub unstopped : (x : List Stored) → IsOneOf x left → (d e : List Choice) → choices x ≡ d ++ e → IsStopped w limits d → ⊥
   unstopped x i d [] h s = at_the_end (r.ends x i)
     where
       here : IsStopped w limits (choices x)
@@ -106,7 +106,7 @@ module _ {A K : Type 0} (limits : FailureKind → Bool) (w v : World A) (key oth
 
   -- After the choices c a run of v has failed by a limit; or some run that was made passes a node in the same state, or was over in
   -- the same state, and the visitor was given it.
-  data Reached (c : List Choice) : Type 0 where
+  pub data Reached (c : List Choice) : Type 0 where
     stopped : IsStopped v limits c → Reached c
     at_node : (q : List Stored) (b : List Choice) (n : Stored) → IsOneOf q left → node_at q b ≡ Some n → key b ≡ other c → Reached c
     at_end : (q : List Stored) (value : A) → IsOneOf q left → w.node (choices q) ≡ None → w.outcome (choices q) ≡ Some (Ok value) → IsGiven (choices q) value runs
@@ -151,7 +151,7 @@ module _ {A K : Type 0} (limits : FailureKind → Bool) (w v : World A) (key oth
           let same : OffersSame k.made n = same_some (w.node b) (v.node c) k.made n (r.meets q i b k at) e h.0 in
           next (tried q i b k o at (subst (λ os. Among o os) (sym same.0) am) (λ f. let g : n.exploring ≡ false = sym same.1 ∙ f in only g ∙ sym (same.2 g)))
 
-  all_on : (more c : List Choice) → IsCalled v (c ++ more) → Reached c → Reached (c ++ more)
+  pub all_on : (more c : List Choice) → IsCalled v (c ++ more) → Reached c → Reached (c ++ more)
   all_on [] c h d = subst Reached (sym (append-nil c)) d
   all_on (o ∷ more) c h d =
       let a = h c o more refl in
@@ -159,7 +159,7 @@ module _ {A K : Type 0} (limits : FailureKind → Bool) (w v : World A) (key oth
       let called : IsCalled v ((c ++ o ∷ []) ++ more) = subst (IsCalled v) (sym next) h in
       subst Reached next (all_on more (c ++ o ∷ []) called (one_on c o a.0 (called_front v (c ++ o ∷ []) more called) a.1 a.2 a.3 d))
 
-  at_start : Reached []
+  pub at_start : Reached []
   at_start = go (some_left [] left r.driven) sound.start
     where
       go : (q : List Stored) × IsOneOf q left → Unless limits w v [] [] (key [] ≡ other []) → Reached []

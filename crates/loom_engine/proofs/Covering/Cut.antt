@@ -22,9 +22,8 @@ use Rattle.loom_engine.proofs.Trees.Machines.{machine_law}
 use Rattle.loom_engine.proofs.Trees.Rounds.{AfterDrive, driven, empty_rests}
 use Rattle.loom_views.specs.declared.rt.failure.FailureKind.{FailureKind}
 use Rattle.loom_views.specs.declared.rt.failure.FailureKind.TheVariants.{TooManyBranches}
-use Rattle.loom_engine.specs.Covering.World.{World, Ends, world_of}
-use Rattle.loom_engine.specs.Covering.Sound.{IsSound}
-use Rattle.loom_engine.specs.Covering.Covered.{IsGiven, SkipsNone, IsEnd, ended, met as was_met, Remembers, Covers}
+use Rattle.loom_engine.specs.Covering.World.{world_of}
+use Rattle.loom_engine.specs.Covering.Covered.{IsGiven, SkipsNone, IsEnd, ended, met as was_met, Remembers}
 use Rattle.loom_engine.specs.Covering.Cut.{cut, with_run, IsStop, Checks, last_check, one_check, CheckLaw, FailLaw}
 use Rattle.loom_engine.proofs.Covering.Covered.{cover_law}
 use Rattle.loom_engine.proofs.Covering.Left.{none_visited, none_skipped, step_rests, step_skips_none, empty_skips_none}

@@ -7,7 +7,7 @@ use Rattle.loom_engine.specs.Walk.Driven.{IsOneOf}
 use Rattle.loom_engine.specs.Trees.Meeting.{Marking}
 use Rattle.loom_engine.specs.Covering.Cut.{with_run, IsStop, Checks, last_check, one_check, Begun, none_yet, one_more, JoinedLaw}
 
-in_front : (x : List Stored) (xs ys : List (List Stored)) → IsOneOf x xs → IsOneOf x (xs ++ ys)
+pub in_front : (x : List Stored) (xs ys : List (List Stored)) → IsOneOf x xs → IsOneOf x (xs ++ ys)
 in_front x [] ys i = absurd i
 in_front x (y ∷ xs) ys (inl i) = inl i
 in_front x (y ∷ xs) ys (inr i) = inr (in_front x xs ys i)
@@ -26,7 +26,7 @@ module _ {A K : Type 0} (room : ℕ) (adds : Marking) (tree : Tree A) (key : Lis
   checks_more some all sub p left runs (one_check _ later stop came path rest more s h next checks) =
       one_check p later stop came path rest more (stop_more some all p stop sub s) h next (checks_more some all sub later rest more checks)
 
-  joined : (all left : List (List Stored)) (runs : List (List Choice × A)) (p : List Stored) → Begun room adds tree key left runs p → ((y : List Stored) → IsOneOf y left → IsOneOf y all)
+  pub joined : (all left : List (List Stored)) (runs : List (List Choice × A)) (p : List Stored) → Begun room adds tree key left runs p → ((y : List Stored) → IsOneOf y left → IsOneOf y all)
       → (rest : List (List Stored)) (more : List (List Choice × A)) → Checks room adds tree key all p rest more → Checks room adds tree key all [] (left ++ rest) (runs ++ more)
   joined all left runs p none_yet sub rest more c = c
   joined all left runs p (one_more front first old _ stop came path b s h next) sub rest more c =

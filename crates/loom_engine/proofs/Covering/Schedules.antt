@@ -1,10 +1,10 @@
 -- From one schedule to the next: where what is seen is the same, the same comes, limits aside.
-use Rattle.std.proofs.Common.{◌≡◌, ◌≢◌, ◌⊎◌, ◌<◌, arith, ℕ, zero, suc, Bool, true, false, List, [], ◌∷◌, ◌++◌, length, Option, Some, None, refl, ap, ap₂, sym, ◌∙◌, subst, inl, inr}
-use Rattle.std.specs.Prelude.{◌-◌, cond, nat_lt, slice_get, slice_set, Result, Ok, Err, ⊤}
+use Rattle.std.proofs.Common.{◌≡◌, ◌⊎◌, arith, ℕ, zero, suc, Bool, true, false, List, [], ◌∷◌, ◌++◌, length, Option, Some, None, refl, ap, ap₂, sym, ◌∙◌, subst, inl, inr}
+use Rattle.std.specs.Prelude.{◌-◌, cond, slice_get, slice_set, Result, Ok, Err}
 use Rattle.loom_views.specs.Graph.{Graph}
 use Rattle.loom_views.specs.declared.rt.failure.FailureKind.{FailureKind}
-use Rattle.loom_views.specs.declared.rt.failure.FailureKind.TheVariants.{Deadlock, Misuse, NotDeterministic, TooManySteps, TooManyVersions}
-use Rattle.loom_objects.specs.Dependence.Order.{Order, after_access, after_raise, children, copies, last_before, used_by}
+use Rattle.loom_views.specs.declared.rt.failure.FailureKind.TheVariants.{Deadlock, Misuse, TooManySteps, TooManyVersions}
+use Rattle.loom_objects.specs.Dependence.Order.{Order, after_raise, children, copies, used_by}
 use Rattle.loom_objects.specs.declared.choice.Choice.{Choice}
 use Rattle.loom_objects.specs.declared.choice.Choice.TheVariants as choice
 use Rattle.loom_objects.specs.declared.operation.ExploreOp.{ExploreOp}
@@ -27,11 +27,11 @@ use Rattle.loom_objects.specs.Rules.Uses.{use_at}
 use Rattle.loom_objects.specs.Schedule.Offers.{offers}
 use Rattle.loom_objects.specs.Tree.Asked.{which_thread}
 use Rattle.loom_objects.specs.Tree.Question.{made_of}
-use Rattle.loom_objects.specs.Tree.Tree.{Tree, Gives, Fails, Closes, Asks, ◌>>=◌, came, check, found}
+use Rattle.loom_objects.specs.Tree.Tree.{Tree, Gives, Closes, ◌>>=◌, came, check, found}
 use Rattle.loom_objects.specs.World.{World}
-use Rattle.loom_engine.specs.Runs.Body.{Meaning, at_turn, with_child}
+use Rattle.loom_engine.specs.Runs.Body.{Meaning, with_child}
 use Rattle.loom_engine.specs.Runs.Course.{Course, accesses, carried, grown_from, one_passed, used_in, with_order}
-use Rattle.loom_engine.specs.Runs.Machine.{chooses, closes, flag_of, further_branches, goes_by, turned}
+use Rattle.loom_engine.specs.Runs.Machine.{chooses, closes, further_branches, goes_by, turned}
 use Rattle.loom_engine.specs.Covering.Sound.{OffersSame}
 use Rattle.loom_engine.specs.Covering.Alike.{AreAlike}
 use Rattle.loom_engine.specs.Covering.Moments.{Moment, Next, RunEnds, Stands, at_branch, at_next, at_schedule, entered, from_schedule, gone_on, handing, question_at, to_schedule, woken}

@@ -5,12 +5,11 @@ use Rattle.std.specs.List.{position_from}
 use Rattle.loom_views.specs.declared.rt.failure.FailureKind.{FailureKind}
 use Rattle.loom_views.specs.declared.rt.failure.FailureKind.TheVariants.{Misuse}
 use Rattle.loom_objects.specs.declared.choice.Choice.{Choice}
-use Rattle.loom_objects.specs.declared.operation.Turn.{Turn}
 use Rattle.loom_objects.specs.declared.operation.Turn.TheVariants.{Ended}
 use Rattle.loom_objects.specs.declared.rt.schedule.Ability.{Ability}
 use Rattle.loom_objects.specs.declared.rt.schedule.Ability.TheVariants.{Able, Yielding, Unable}
 use Rattle.loom_objects.specs.declared.rt.thread.Thread.{Thread}
-use Rattle.loom_objects.specs.Rules.Ending.{all_ended, end_of}
+use Rattle.loom_objects.specs.Rules.Ending.{all_ended}
 use Rattle.loom_objects.specs.Rules.Leaks.{check_leak, first_leak}
 use Rattle.loom_objects.specs.Rules.Moves.{takes_result}
 use Rattle.loom_objects.specs.Rules.Rule.{◌>>=◌, found}
@@ -30,7 +29,7 @@ use Rattle.loom_engine.specs.Covering.Seen.{without_active, without_turn, WholeL
 -- ---- the whole state
 
 module _ {A : Type 0} (limits : FailureKind → Bool) (Same : A → A → Type 0) (same : (a : A) → Same a a) where
-  alike_self : (t : Tree A) → AreAlike limits Same t t
+  pub alike_self : (t : Tree A) → AreAlike limits Same t t
   alike_self (Gives a) = same a
   alike_self (Fails kind) = inl refl
   alike_self (Closes rest) = alike_self rest
@@ -38,7 +37,7 @@ module _ {A : Type 0} (limits : FailureKind → Bool) (Same : A → A → Type 0
 
 module _ {D : Type 0} where
   -- a run that ends does so with a result
-  ended_by : (r : Result ⊤ FailureKind) (s : Result (D × World D) FailureKind) (limits : FailureKind → Bool)
+  pub ended_by : (r : Result ⊤ FailureKind) (s : Result (D × World D) FailureKind) (limits : FailureKind → Bool)
       → EndsAlike limits (turn_of (r >>= (λ u. s >>= (λ (value, taken). Ok (Ended value, taken))))) (turn_of (r >>= (λ u. s >>= (λ (value, taken). Ok (Ended value, taken)))))
   ended_by (Ok u) (Ok (value, taken)) limits = (value, refl, refl)
   ended_by (Ok u) (Err kind) limits = inl refl
@@ -176,10 +175,18 @@ module _ {D : Type 0} where
   leak_by (Ok u) o after before = thread_by o after before
   leak_by (Err kind) o after before = refl
 
-  end_without : (w : World D) → end_alone (without_active w) ≡ end_alone w
-  end_without w = leak_by (check_leak (first_leak w.objects)) (slice_get w.threads 0)
-      (λ (thread : Thread D). record (without_active w) { threads = slice_set w.threads 0 (record thread { result = None }) })
+  -- a run's end depends on its threads and objects alone
+  pub end_of_like : (w v : World D) → w.threads ≡ v.threads → w.objects ≡ v.objects → end_alone w ≡ end_alone v
+  end_of_like w v e f =
+      leak_by (check_leak (first_leak w.objects)) (slice_get w.threads 0)
       (λ (thread : Thread D). record w { threads = slice_set w.threads 0 (record thread { result = None }) })
+      (λ (thread : Thread D). record v { threads = slice_set v.threads 0 (record thread { result = None }) })
+      ∙ ap (λ o. turn_of (check_leak (first_leak w.objects) >>= (λ u. (found o Misuse >>= (λ (thread : Thread D). found thread.result Misuse >>= (λ value. Ok (value, record v { threads = slice_set v.threads 0 (record thread { result = None }) })))) >>= (λ (value, taken). Ok (Ended value, taken)))))
+      (ap (λ ts. slice_get ts 0) e)
+      ∙ ap (λ os. turn_of (check_leak (first_leak os) >>= (λ u. takes_result 0 v >>= (λ (value, taken). Ok (Ended value, taken))))) f
+
+  end_without : (w : World D) → end_alone (without_active w) ≡ end_alone w
+  end_without w = end_of_like (without_active w) w refl refl
 
   options_without : (w : World D) → (made_of (which_thread true (offers (without_active w)) [])).options ≡ (made_of (which_thread true (offers w) [])).options
   options_without w = same_options (standings w) 0 w.active

@@ -1,24 +1,24 @@
 -- Equal states have equal futures.
-use Rattle.std.proofs.Common.{◌≡◌, ◌⊎◌, ℕ, suc, Bool, true, false, List, [], ◌∷◌, ◌++◌, Option, Some, None, Ok, Err, refl, ap, ap₂, sym, ◌∙◌, subst, inl, inr, append_assoc}
+use Rattle.std.proofs.Common.{◌≡◌, ◌⊎◌, ℕ, suc, Bool, false, List, [], ◌∷◌, ◌++◌, Option, Some, None, Ok, Err, refl, ap, ap₂, sym, ◌∙◌, subst, inl, inr, append_assoc}
 use Rattle.std.specs.Option.{option_map}
 use Rattle.loom_objects.specs.declared.choice.Choice.{Choice}
 use Rattle.loom_objects.specs.declared.operation.Reply.TheVariants as reply
 use Rattle.loom_objects.specs.Tree.Question.{Made, Question, Among, made_of}
-use Rattle.loom_objects.specs.Tree.Tree.{Tree, Gives, Fails, Closes, Asks, ◌>>=◌}
-use Rattle.loom_objects.specs.World.{World as State_of_machine, opening as first_world}
+use Rattle.loom_objects.specs.Tree.Tree.{Tree, Gives, Fails, Closes, Asks}
+use Rattle.loom_objects.specs.World.{World as State_of_machine}
 use Rattle.loom_views.specs.declared.rt.failure.FailureKind.{FailureKind}
-use Rattle.loom_engine.specs.Runs.Body.{Meaning, play, runs}
+use Rattle.loom_engine.specs.Runs.Body.{Meaning, runs}
 use Rattle.loom_engine.specs.Runs.Course.{opening}
 use Rattle.loom_engine.specs.Covering.World.{World, IsCalled, IsStopped, world_of}
-use Rattle.loom_engine.specs.Covering.Sound.{OffersSame, MeetsSame, Unless, IsSound}
+use Rattle.loom_engine.specs.Covering.Sound.{MeetsSame, Unless, IsSound}
 use Rattle.loom_engine.specs.Covering.Alike.{AreAlike}
 use Rattle.loom_engine.specs.Covering.Moments.{Moment, Next, RunEnds, Stands, Stand, at_schedule, by_choice, first_part, first_stand, settled, stand_after}
 use Rattle.loom_engine.specs.Covering.States.{State, state_of, seen_in, state_after, TellsFuture, AreLimits, LooksSame, StatesLaw, CoveredBodyLaw}
-use Rattle.loom_engine.proofs.Covering.Alike.{Leads, leads_alike, CoursesAlike}
+use Rattle.loom_engine.proofs.Covering.Alike.{Leads, leads_alike}
 use Rattle.loom_engine.proofs.Covering.Cut.{check_law}
 use Rattle.loom_engine.proofs.Covering.Schedules.{NextAlike, at_schedule_alike, to_schedule_alike}
-use Rattle.loom_engine.proofs.Covering.Standing.{IsSettled, part_of, IsStand, settles, on_from, settled_runs, stand_then, asks_ahead, Goes, goes}
-use Rattle.loom_engine.proofs.Covering.Unfolding.{runs_from, asked_runs, play_runs}
+use Rattle.loom_engine.proofs.Covering.Standing.{part_of, IsStand, settles, on_from, settled_runs, stand_then, asks_ahead, Goes, goes}
+use Rattle.loom_engine.proofs.Covering.Unfolding.{asked_runs, play_runs}
 use Rattle.loom_engine.proofs.Covering.Worlds.{world_ends}
 use Rattle.loom_engine.proofs.Runs.Bodies.{run_tree_law}
 

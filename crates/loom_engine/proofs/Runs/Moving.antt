@@ -461,16 +461,7 @@ module _ {D : Type 0} (R : World D → Type 0) (k : KeptByMoves R) where
       by_object : (o : Option (Object D)) → slice_get w.objects c ≡ o → Answers (Within R) ((looked_up wakers_in o >>= (λ wakers. check (nat_lt 0 wakers.count) Misuse >>= (λ u. Ok wakers))) >>= next)
       by_object None e = tt
       by_object (Some (object.Wakers wakers)) e = by_count (nat_lt 0 wakers.count) wakers (subst AwayAt (sym e) tt)
-      by_object (Some (object.Atomic atomic)) e = tt
-      by_object (Some (object.Mutex mutex)) e = tt
-      by_object (Some (object.RwLock lock)) e = tt
-      by_object (Some (object.Condvar condvar)) e = tt
-      by_object (Some (object.Notify notifier)) e = tt
-      by_object (Some (object.Cell cell)) e = tt
-      by_object (Some (object.Arc arc)) e = tt
-      by_object (Some (object.Track track)) e = tt
-      by_object (Some (object.Channel channel)) e = tt
-      by_object (Some (object.AtomicWaker place)) e = tt
+      by_object (Some _) e = tt
 
   waker_pends_moves : (todo : Task D) (c : ℕ) (w : World D) → is_calling todo ≡ false → R w → Answers (Within R) (waker_pends todo c w)
   waker_pends_moves todo c w idle s = some_moves c w _ (λ wakers there. pends_so todo false w idle s)

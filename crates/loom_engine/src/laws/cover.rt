@@ -1,12 +1,20 @@
 //! Laws of a search that remembers states: what it has covered when nothing is left to be tried. The definitions stand in
 //! `specs/Covering`.
 ghost use Rattle.loom_engine.specs.Covering.Cut.{CheckLaw, FailLaw, JoinedLaw, ThenLaw};
+ghost use Rattle.loom_engine.specs.Covering.Points.{PointsLaw, ThemselvesLaw};
 ghost use Rattle.loom_engine.specs.Covering.Seen.{TurnLaw, WholeLaw};
 ghost use Rattle.loom_engine.specs.Covering.States.{CoveredBodyLaw, StatesLaw};
+ghost use Rattle.loom_engine.specs.Covering.Table.{TableLaw};
+ghost use Rattle.loom_engine.specs.Covering.Ways.{WaysLaw};
 
 /// A complete check whose runs may be cut off at states that were noted has covered each run of the tree (own).
 pub fn check_covers<A, K>()
     ensures { CheckLaw A K }
+{}
+
+/// Where each state that such a check has met has a way to an end, each run can come to one, limits aside (own).
+pub fn ways_lead_to_ends<A, K>()
+    ensures { WaysLaw A K }
 {}
 
 /// A run of such a check that fails is one of the tree (own).
@@ -17,6 +25,11 @@ pub fn cut_run_fails<A>()
 /// A check that is stopped may be gone on with, without what was noted (own).
 pub fn covers_join<A, K>()
     ensures { JoinedLaw A K }
+{}
+
+/// Runs with a table of the states that were noted are such a check (own).
+pub fn table_makes_a_check<A, K>()
+    ensures { TableLaw A K }
 {}
 
 /// A run goes through one tree and then another, each of which may be cut (own).
@@ -42,4 +55,14 @@ pub fn whole_state_tells_the_future<D>()
 /// Whose turn it is may be left out of a state where the search explores (own).
 pub fn turn_may_be_left_out<D, K, F>()
     ensures { TurnLaw D K F }
+{}
+
+/// Where what is seen of points tells their moves, the state with that in place of the points tells the future (own).
+pub fn sight_of_points_tells_the_future<D, V>()
+    ensures { PointsLaw D V }
+{}
+
+/// The points themselves tell their moves: so there is something that can be seen of them and tells that (own).
+pub fn points_tell_their_moves()
+    ensures { ThemselvesLaw }
 {}

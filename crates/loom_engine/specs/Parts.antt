@@ -1,0 +1,5 @@
+-- A search that is cut into parts.
+pub mod Cuts
+pub mod Floors
+pub mod Works
+pub mod Slices
