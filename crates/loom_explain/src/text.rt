@@ -4,12 +4,13 @@ mod calls;
 pub mod changes;
 mod forms;
 mod layout;
-mod lines;
+pub(crate) mod lines;
+pub(crate) mod links;
 mod names;
 mod objects;
-mod page;
-mod reasons;
-mod world;
+pub(crate) mod page;
+pub(crate) mod reasons;
+pub(crate) mod world;
 
 use crate::explanation::Explanation;
 use crate::text::lines::Lines;
@@ -35,7 +36,7 @@ pub fn text_of(alloc: Global, explanation: &Explanation) -> Result<String, Alloc
 }
 
 /// How the run ended, and why, a line each.
-fn put_head(alloc: Global, page: &mut Page, scene: &Scene<'_>) {
+pub(crate) fn put_head(alloc: Global, page: &mut Page, scene: &Scene<'_>) {
     let mut head = Page::new(alloc);
     reasons::put_reasons(&mut head, scene);
     page.wrapped(&head, 4);

@@ -1,8 +1,10 @@
 //! The events of a run as lines, each of one thread.
 use crate::event::Event;
 use crate::explanation::{Explanation, Options};
+use crate::picture::Spot;
 use crate::text::answers::Answer;
 use crate::text::forms::{Call, Kind, call_of};
+use crate::text::links::Links;
 use crate::text::objects::{At, Store};
 use crate::text::page::Page;
 use crate::text::world::World;
@@ -16,6 +18,8 @@ use std::alloc::Global;
 pub(crate) struct Line {
     /// The event's number, where an operation is handed over.
     pub(crate) event: Option<usize>,
+    /// The number of the event that it tells of.
+    pub(crate) of: usize,
     pub(crate) thread: usize,
     pub(crate) text: Page,
     /// What follows the text where there is room.
@@ -29,6 +33,8 @@ pub(crate) struct Line {
 pub(crate) struct Lines {
     alloc: Global,
     pub(crate) list: Vec<Line>,
+    /// What comes of what.
+    pub(crate) links: Links,
     /// Whether memory was refused for a line.
     pub(crate) is_refused: bool,
 }
@@ -48,15 +54,17 @@ impl Lines {
         Lines {
             alloc,
             list: Vec::new(alloc),
+            links: Links::new(alloc),
             is_refused: false,
         }
     }
 
-    /// A line without text.
-    fn line(&self, event: Option<usize>, thread: usize) -> Line {
+    /// A line without text, of the event and its thread.
+    fn line(&self, event: Option<usize>, of: At) -> Line {
         Line {
             event,
-            thread,
+            of: of.event,
+            thread: of.thread,
             text: Page::new(self.alloc),
             tail: Page::new(self.alloc),
             choice: Page::new(self.alloc),
@@ -69,6 +77,27 @@ impl Lines {
         }
         if self.list.push(line).is_err() {
             self.is_refused = true;
+        }
+    }
+
+    /// The spot of the thread in the line that comes next.
+    fn next_spot(&self, thread: usize) -> Spot {
+        Spot {
+            thread,
+            row: self.list.len(),
+        }
+    }
+
+    /// The spot at which what is pending takes effect: in the line that comes next, or in its own where that is the last one and
+    /// has room for what comes of it.
+    fn effect_spot(&self, pending: &Pending<'_>, answer: Answer) -> Spot {
+        let next = self.next_spot(pending.at.thread);
+        if pending.before.is_some() || matches!(answer, Answer::Read(..)) {
+            return next;
+        }
+        Spot {
+            row: next.row.saturating_sub(1),
+            ..next
         }
     }
 
@@ -196,12 +225,28 @@ fn tell_reply(
         let place = event.choices_before.wrapping_sub(1);
         let slot = slot_at(explanation, place);
         let answer = world.settle(pending.at, pending.op, &event.told, slot);
+        let by_itself = wakes_by_itself(explanation, pending.at.event);
+        let spot = lines.effect_spot(&pending, answer);
+        let Pending { at, op, .. } = pending;
+        let links = &mut lines.links;
+        links.settle(at.event, op, &event.told, answer, by_itself, spot);
         if let Answer::Read(store, _) = answer {
             tell_read(explanation, place, &pending, store, answer, lines);
         } else if answer.is_shown(pending.before.is_some()) {
             tell_answer(&pending, answer, lines);
         }
     }
+}
+
+/// Whether the thread of this event wakes from its wait without a notification, by the first choice at the event.
+fn wakes_by_itself(explanation: &Explanation, number: usize) -> bool {
+    let Some(event) = explanation.event(number) else {
+        return false;
+    };
+    matches!(
+        explanation.choices.get(event.choices_before),
+        Some(Choice::Spurious(true))
+    )
 }
 
 /// The event of an operation before what came of it, if its line isn't the one above.
@@ -222,7 +267,7 @@ fn tell_read(
     answer: Answer,
     lines: &mut Lines,
 ) {
-    let mut line = lines.line(None, pending.at.thread);
+    let mut line = lines.line(None, pending.at);
     put_before(&mut line.text, pending.before, " ");
     line.text.number("reads store ", store.number);
     if store.order.is_some() {
@@ -237,7 +282,7 @@ fn tell_read(
 
 fn tell_answer(pending: &Pending<'_>, answer: Answer, lines: &mut Lines) {
     if pending.before.is_some() {
-        let mut line = lines.line(None, pending.at.thread);
+        let mut line = lines.line(None, pending.at);
         put_before(&mut line.text, pending.before, ": ");
         line.text.answer(answer);
         lines.push(line);
@@ -257,9 +302,11 @@ fn tell_call(
 ) {
     let bound = choices_after(explanation, at.event);
     let call = call_of(&event.op.request, world);
-    let mut line = lines.line(Some(at.event), at.thread);
+    let mut line = lines.line(Some(at.event), at);
     line.text.call("", &event.op.request, world);
-    world.hand_over(at, lines.list.len(), call, &event.op);
+    let spot = lines.next_spot(at.thread);
+    lines.links.hand_over(event, spawned_by(call), spot);
+    world.hand_over(at, spot.row, call, &event.op);
     put_made(&mut line.text, call, world);
     put_label(&mut line, event.op.label);
     if call.form.waits.is_some() && !is_offered(explanation, event, bound) {
@@ -269,6 +316,14 @@ fn tell_call(
         put_chosen(&mut line.choice, explanation, event.choices_before);
     }
     lines.push(line);
+}
+
+/// The thread that the call spawns, if it does.
+fn spawned_by(call: Call) -> Option<usize> {
+    match call.made() {
+        Some(Kind::Joining) => Some(call.number),
+        _ => None,
+    }
 }
 
 /// The number of what was made just now.
@@ -333,9 +388,9 @@ fn tell_choice(
             tell_stage(explanation, place, usize::from(*thread), world, lines);
         }
         (Some(Choice::Spurious(true)), _) => {
-            tell_alone(explanation, place, at.thread, "  wakes by itself", lines);
+            tell_alone(explanation, place, at, "  wakes by itself", lines);
         }
-        _ => tell_alone(explanation, place, at.thread, "", lines),
+        _ => tell_alone(explanation, place, at, "", lines),
     }
 }
 
@@ -345,14 +400,8 @@ fn is_last(explanation: &Explanation, at: At, place: usize) -> bool {
 }
 
 /// A choice beside these words.
-fn tell_alone(
-    explanation: &Explanation,
-    place: usize,
-    thread: usize,
-    words: &str,
-    lines: &mut Lines,
-) {
-    let mut line = lines.line(None, thread);
+fn tell_alone(explanation: &Explanation, place: usize, at: At, words: &str, lines: &mut Lines) {
+    let mut line = lines.line(None, at);
     line.text.words(words);
     put_chosen(&mut line.choice, explanation, place);
     lines.push(line);
@@ -369,6 +418,8 @@ fn tell_open_read(
 ) {
     if let Some(pending) = pending_of(explanation, world, lines, thread) {
         if let Some(store) = world.store_of(call_of(&pending.op.request, world), slot) {
+            let spot = lines.next_spot(thread);
+            lines.links.read(store, spot);
             tell_read(explanation, place, &pending, store, Answer::Nothing, lines);
         }
     }
@@ -384,8 +435,11 @@ fn tell_stage(
 ) {
     if let Some(pending) = pending_of(explanation, world, lines, thread) {
         let passes = call_of(&pending.op.request, world).form.passes;
-        let words = stage_words(pending.op, passes, world.pass(thread, pending.op));
-        let mut line = lines.line(None, thread);
+        let stage = world.pass(thread, pending.op);
+        let spot = lines.next_spot(thread);
+        lines.links.pass(pending.op, stage, spot);
+        let words = stage_words(pending.op, passes, stage);
+        let mut line = lines.line(None, pending.at);
         put_before(&mut line.text, pending.before, ": ");
         line.text.words(words);
         put_chosen(&mut line.choice, explanation, place);

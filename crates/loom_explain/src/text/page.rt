@@ -53,6 +53,12 @@ impl Page {
         }
     }
 
+    pub(crate) fn sign(&mut self, sign: char) {
+        if self.text.push(sign).is_err() {
+            self.is_refused = true;
+        }
+    }
+
     /// Words with a number in place of each `$`: `thread $ holds it since event $`.
     pub(crate) fn put(&mut self, words: &str, numbers: &[usize]) {
         let mut next = 0usize;
@@ -78,6 +84,12 @@ impl Page {
     pub(crate) fn bits(&mut self, words: &str, bits: u64) {
         self.words(words);
         if write!(self.text, "{bits}").is_err() {
+            self.is_refused = true;
+        }
+    }
+
+    pub(crate) fn hexadecimal(&mut self, number: u32) {
+        if write!(self.text, "{number:x}").is_err() {
             self.is_refused = true;
         }
     }

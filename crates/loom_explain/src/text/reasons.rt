@@ -1,6 +1,6 @@
 //! Why a run failed.
 mod bodies;
-mod deadlock;
+pub(crate) mod deadlock;
 mod leaks;
 mod limits;
 mod misuse;
@@ -219,7 +219,7 @@ fn is_at_end(kind: FailureKind) -> bool {
 }
 
 /// What a failure is called.
-fn title_of(kind: FailureKind) -> &'static str {
+pub(crate) fn title_of(kind: FailureKind) -> &'static str {
     match kind {
         FailureKind::Assertion => "assertion",
         FailureKind::Deadlock => "deadlock",

@@ -10,16 +10,18 @@ use loom_objects::operation::Request;
 pub(crate) fn put_deadlock(out: &mut Page, scene: &Scene<'_>) {
     for (thread, member) in scene.world.threads.iter().enumerate() {
         out.titled("  ", thread, member.name);
-        put_thread(out, scene, thread, member);
+        out.words(": ");
+        put_left(out, scene, thread, member);
+        out.words("\n");
     }
 }
 
-fn put_thread(out: &mut Page, scene: &Scene<'_>, thread: usize, member: &Member) {
+/// Where the run left the thread: what it waits for, since when, and who has that.
+pub(crate) fn put_left(out: &mut Page, scene: &Scene<'_>, thread: usize, member: &Member) {
     match scene.explanation.event(member.pending) {
-        None => out.words(": has not begun\n"),
-        Some(event) if is_end(&event.op.request) => out.words(": has ended\n"),
+        None => out.words("has not begun"),
+        Some(event) if is_end(&event.op.request) => out.words("has ended"),
         Some(event) => {
-            out.words(": ");
             let waited_for = put_wait(out, scene.world, &event.op.request, member.stage);
             out.number(" since event ", member.pending);
             put_holder(out, scene.world, thread, waited_for);
@@ -52,16 +54,16 @@ fn put_waited_for(out: &mut Page, world: &World, call: Call) {
     }
 }
 
-/// Who has the object, if there is one and a thread has it, and the line's end.
+/// Who has the object, if there is one and a thread has it.
 fn put_holder(out: &mut Page, world: &World, thread: usize, object: Option<usize>) {
     match object.and_then(|object| world.holder(object)) {
         Some(hold) if hold.thread == thread => {
-            out.between("; it holds it itself since event ", hold.event, "\n");
+            out.number("; it holds it itself since event ", hold.event);
         }
         Some(hold) => out.put(
-            "; thread $ holds it since event $\n",
+            "; thread $ holds it since event $",
             &[hold.thread, hold.event],
         ),
-        None => out.words("\n"),
+        None => {}
     }
 }

@@ -1,0 +1,379 @@
+//! What comes of what: which store is read, who gave a lock free that another thread has next, and who began or woke a thread.
+use crate::event::Event;
+use crate::picture::{Spot, Tie};
+use crate::text::answers::Answer;
+use crate::text::objects::Store;
+use loom_objects::operation::{
+    AtomicWakerOp, ChannelOp, CondvarOp, MutexOp, NotifyOp, Op, Reply, Request, RwLockOp, ThreadOp,
+    WakerOp,
+};
+use std::alloc::Global;
+
+/// What comes of an earlier line. The rows of its spots are lines.
+#[derive(Clone, Copy)]
+pub(crate) struct Link {
+    pub(crate) tie: Tie,
+    pub(crate) from: Spot,
+    pub(crate) to: Spot,
+}
+
+/// Who a later line finds what was left at.
+#[derive(Clone, Copy, PartialEq, Eq)]
+enum At {
+    Object(usize),
+    Thread(usize),
+}
+
+/// What a line leaves for a later one: a lock that is free, a message, a notification, a token or a thread.
+#[derive(Clone, Copy)]
+struct Left {
+    tie: Tie,
+    at: At,
+    spot: Spot,
+}
+
+/// A thread that sleeps on a condvar, and who has woken it.
+#[derive(Clone, Copy)]
+struct Sleeper {
+    condvar: usize,
+    thread: usize,
+    woken: Option<Spot>,
+}
+
+/// A waker that has a place.
+#[derive(Clone, Copy)]
+struct Registered {
+    place: usize,
+    wakers: usize,
+}
+
+/// The links of a run's lines.
+#[derive(Drop)]
+pub(crate) struct Links {
+    pub(crate) list: Vec<Link>,
+    /// Where each event took effect, or is handed over as long as it hasn't.
+    spots: Vec<Spot>,
+    left: Vec<Left>,
+    sleepers: Vec<Sleeper>,
+    registered: Vec<Registered>,
+    /// Whether memory was refused for something of this.
+    pub(crate) is_refused: bool,
+}
+
+impl Links {
+    pub(crate) fn new(alloc: Global) -> Links {
+        Links {
+            list: Vec::new(alloc),
+            spots: Vec::new(alloc),
+            left: Vec::new(alloc),
+            sleepers: Vec::new(alloc),
+            registered: Vec::new(alloc),
+            is_refused: false,
+        }
+    }
+
+    /// The event is handed over at this spot, and spawns this thread, if it does.
+    pub(crate) fn hand_over(&mut self, event: &Event, spawned: Option<usize>, spot: Spot) {
+        if self.spots.push(spot).is_err() {
+            self.is_refused = true;
+        }
+        if let Reply::Start = event.told {
+            self.tie_last(Tie::Spawn, At::Thread(spot.thread), spot);
+        }
+        if let Some(thread) = spawned {
+            self.leave(Tie::Spawn, At::Thread(thread), spot);
+        }
+    }
+
+    /// A stage of the operation has passed at this spot: the thread falls asleep on a condvar, or was woken.
+    pub(crate) fn pass(&mut self, op: &Op<(), ()>, stage: u8, spot: Spot) {
+        if let Request::Condvar(
+            CondvarOp::Wait(condvar, mutex, _) | CondvarOp::WaitTimeout(condvar, mutex, _),
+        ) = &op.request
+        {
+            if stage == 0 {
+                self.leave(Tie::Lock, At::Object(*mutex), spot);
+                self.sleep(*condvar, spot.thread);
+            } else {
+                self.rouse(*condvar, spot);
+            }
+        }
+    }
+
+    /// The event's operation took effect at this spot, with this reply, of which this is shown; or its thread woke by itself.
+    pub(crate) fn settle(
+        &mut self,
+        event: usize,
+        op: &Op<(), ()>,
+        reply: &Reply<()>,
+        answer: Answer,
+        by_itself: bool,
+        spot: Spot,
+    ) {
+        if let Some(place) = self.spots.get_mut(event.wrapping_sub(1)) {
+            *place = spot;
+        }
+        if let Answer::Read(store, _) = answer {
+            self.read(store, spot);
+        }
+        if let Some(lock) = locked_by(reply) {
+            self.tie_next(lock, spot);
+        }
+        match &op.request {
+            Request::Mutex(op) => self.settle_mutex(op, spot),
+            Request::RwLock(op) => self.settle_rwlock(op, spot),
+            Request::Condvar(op) => self.settle_condvar(op, spot),
+            Request::Notify(op) => self.settle_notify(*op, by_itself, spot),
+            Request::Channel(op) => self.settle_channel(op, reply, spot),
+            Request::Waker(op) => self.settle_waker(*op, by_itself, spot),
+            Request::AtomicWaker(op) => self.settle_place(*op, spot),
+            Request::Thread(op) => self.settle_thread(op, spot),
+            Request::Atomic(_)
+            | Request::Fence(_)
+            | Request::Cell(_)
+            | Request::Arc(_)
+            | Request::Track(_)
+            | Request::Local(_)
+            | Request::Lazy(_)
+            | Request::Explore(_)
+            | Request::Fail
+            | Request::Unreachable => {}
+        }
+    }
+
+    /// The store is read at this spot.
+    pub(crate) fn read(&mut self, store: Store, spot: Spot) {
+        if let Some(from) = self.spots.get(store.at.event.wrapping_sub(1)).copied() {
+            self.tie(Tie::Read, from, spot);
+        }
+    }
+
+    fn settle_mutex(&mut self, op: &MutexOp<()>, spot: Spot) {
+        match op {
+            MutexOp::Release(mutex, _) => self.leave(Tie::Lock, At::Object(*mutex), spot),
+            MutexOp::New(_)
+            | MutexOp::Lock(_)
+            | MutexOp::TryLock(_)
+            | MutexOp::GetMut(_)
+            | MutexOp::Put(..)
+            | MutexOp::IntoInner(_) => {}
+        }
+    }
+
+    fn settle_rwlock(&mut self, op: &RwLockOp<()>, spot: Spot) {
+        match op {
+            RwLockOp::ReadRelease(lock) | RwLockOp::WriteRelease(lock, _) => {
+                self.leave(Tie::Lock, At::Object(*lock), spot);
+            }
+            RwLockOp::New(_)
+            | RwLockOp::Read(_)
+            | RwLockOp::TryRead(_)
+            | RwLockOp::Write(_)
+            | RwLockOp::TryWrite(_)
+            | RwLockOp::GetMut(_)
+            | RwLockOp::Put(..)
+            | RwLockOp::IntoInner(_) => {}
+        }
+    }
+
+    fn settle_condvar(&mut self, op: &CondvarOp<()>, spot: Spot) {
+        match op {
+            CondvarOp::NotifyOne(condvar) => self.wake(*condvar, 1, spot),
+            CondvarOp::NotifyAll(condvar) => self.wake(*condvar, usize::MAX, spot),
+            CondvarOp::New | CondvarOp::Wait(..) | CondvarOp::WaitTimeout(..) => {}
+        }
+    }
+
+    fn settle_notify(&mut self, op: NotifyOp, by_itself: bool, spot: Spot) {
+        match op {
+            NotifyOp::Notify(notifier) => self.leave(Tie::Wake, At::Object(notifier), spot),
+            NotifyOp::Wait(notifier) if !by_itself => self.tie_last(
+                Tie::Wake,
+                At::Object(notifier),
+                spot,
+            ),
+            NotifyOp::New | NotifyOp::Wait(_) => {}
+        }
+    }
+
+    fn settle_waker(&mut self, op: WakerOp, by_itself: bool, spot: Spot) {
+        match op {
+            WakerOp::Wake(wakers) | WakerOp::WakeByRef(wakers) => {
+                self.leave(Tie::Wake, At::Object(wakers), spot);
+            }
+            WakerOp::Wait(wakers) if !by_itself => self.tie_last(
+                Tie::Wake,
+                At::Object(wakers),
+                spot,
+            ),
+            WakerOp::New
+            | WakerOp::Wait(_)
+            | WakerOp::Finish(_)
+            | WakerOp::Clone(_)
+            | WakerOp::Drop(_) => {}
+        }
+    }
+
+    fn settle_place(&mut self, op: AtomicWakerOp, spot: Spot) {
+        match op {
+            AtomicWakerOp::Register(place, wakers) | AtomicWakerOp::RegisterByRef(place, wakers) =>
+                self.register(place, wakers),
+            AtomicWakerOp::Wake(place) => {
+                if let Some(wakers) = self.registered_at(place) {
+                    self.leave(Tie::Wake, At::Object(wakers), spot);
+                }
+            }
+            AtomicWakerOp::New | AtomicWakerOp::TakeWaker(_) | AtomicWakerOp::Drop(_) => {}
+        }
+    }
+
+    fn settle_channel(&mut self, op: &ChannelOp<()>, reply: &Reply<()>, spot: Spot) {
+        match (op, reply) {
+            (ChannelOp::Send(channel, _), Reply::Done) => {
+                self.leave(Tie::Message, At::Object(*channel), spot);
+            }
+            (ChannelOp::Recv(channel) | ChannelOp::TryRecv(channel), Reply::Data(_)) => {
+                self.tie_first(Tie::Message, At::Object(*channel), spot);
+            }
+            _ => {}
+        }
+    }
+
+    fn settle_thread(&mut self, op: &ThreadOp<(), ()>, spot: Spot) {
+        match op {
+            ThreadOp::Unpark(thread) => {
+                self.leave(Tie::Wake, At::Thread(usize::from(*thread)), spot);
+            }
+            ThreadOp::Park => self.tie_last(Tie::Wake, At::Thread(spot.thread), spot),
+            ThreadOp::Join(thread, _) => {
+                if let Some(from) = self.last_of(usize::from(*thread)) {
+                    self.tie(Tie::Join, from, spot);
+                }
+            }
+            ThreadOp::Spawn(..)
+            | ThreadOp::Current
+            | ThreadOp::Yield
+            | ThreadOp::Finish(_)
+            | ThreadOp::Exit
+            | ThreadOp::End => {}
+        }
+    }
+
+    fn tie(&mut self, tie: Tie, from: Spot, to: Spot) {
+        if self.list.push(Link { tie, from, to }).is_err() {
+            self.is_refused = true;
+        }
+    }
+
+    fn leave(&mut self, tie: Tie, at: At, spot: Spot) {
+        if self.left.push(Left { tie, at, spot }).is_err() {
+            self.is_refused = true;
+        }
+    }
+
+    /// What was left last goes to this spot, and isn't there any more.
+    fn tie_last(&mut self, tie: Tie, at: At, to: Spot) {
+        let place = self.left.iter().rposition(|left| left.is_of(tie, at));
+        self.tie_from(tie, place, to);
+    }
+
+    /// What was left first goes to this spot, and isn't there any more.
+    fn tie_first(&mut self, tie: Tie, at: At, to: Spot) {
+        let place = self.left.iter().position(|left| left.is_of(tie, at));
+        self.tie_from(tie, place, to);
+    }
+
+    fn tie_from(&mut self, tie: Tie, place: Option<usize>, to: Spot) {
+        if let Some(place) = place {
+            if place < self.left.len() {
+                let left = self.left.remove(place);
+                self.tie(tie, left.spot, to);
+            }
+        }
+    }
+
+    /// The thread has the lock now, which another one has given free, or itself.
+    fn tie_next(&mut self, lock: usize, to: Spot) {
+        let mut left = self.left.iter().rev();
+        let last = left
+            .find(|left| left.is_of(Tie::Lock, At::Object(lock)))
+            .copied();
+        if let Some(left) = last {
+            if left.spot.thread != to.thread {
+                self.tie(Tie::Lock, left.spot, to);
+            }
+        }
+    }
+
+    /// The spot of the thread's last event.
+    fn last_of(&self, thread: usize) -> Option<Spot> {
+        let mut spots = self.spots.iter().rev();
+        spots.find(|spot| spot.thread == thread).copied()
+    }
+
+    fn sleep(&mut self, condvar: usize, thread: usize) {
+        let sleeper = Sleeper {
+            condvar,
+            thread,
+            woken: None,
+        };
+        if self.sleepers.push(sleeper).is_err() {
+            self.is_refused = true;
+        }
+    }
+
+    /// The first sleepers on the condvar are woken, at most so many.
+    fn wake(&mut self, condvar: usize, most: usize, spot: Spot) {
+        let mut count = 0usize;
+        for sleeper in self.sleepers.iter_mut() {
+            if sleeper.condvar == condvar && sleeper.woken.is_none() && count < most {
+                sleeper.woken = Some(spot);
+                count = count.saturating_add(1);
+            }
+        }
+    }
+
+    /// The thread sleeps on the condvar no more.
+    fn rouse(&mut self, condvar: usize, to: Spot) {
+        let place = self.sleepers.iter().position(|sleeper| sleeper.condvar == condvar
+            && sleeper.thread == to.thread);
+        if let Some(place) = place {
+            if place < self.sleepers.len() {
+                let sleeper = self.sleepers.remove(place);
+                if let Some(from) = sleeper.woken {
+                    self.tie(Tie::Wake, from, to);
+                }
+            }
+        }
+    }
+
+    fn register(&mut self, place: usize, wakers: usize) {
+        if self.registered.push(Registered { place, wakers }).is_err() {
+            self.is_refused = true;
+        }
+    }
+
+    /// The wakers of which one was registered last at the place.
+    fn registered_at(&self, place: usize) -> Option<usize> {
+        let mut registered = self.registered.iter().rev();
+        let last = registered.find(|registered| registered.place == place)?;
+        Some(last.wakers)
+    }
+}
+
+impl Left {
+    fn is_of(&self, tie: Tie, at: At) -> bool {
+        self.tie == tie && self.at == at
+    }
+}
+
+/// The lock that the thread has by this reply.
+fn locked_by(reply: &Reply<()>) -> Option<usize> {
+    match reply {
+        Reply::Locked(number, _)
+        | Reply::Waited(number, _, _)
+        | Reply::ReadLocked(number, _)
+        | Reply::WriteLocked(number, _) => Some(*number),
+        _ => None,
+    }
+}
