@@ -7,3 +7,4 @@ pub mod Making
 pub mod Reporting
 pub mod Refusing
 pub mod Together
+pub mod Rising

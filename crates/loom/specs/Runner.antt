@@ -17,4 +17,5 @@ pub mod Made
 pub mod Next
 pub mod Refusals
 pub mod Replay
+pub mod Rising
 pub mod Run

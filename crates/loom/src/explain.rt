@@ -17,6 +17,7 @@ use crate::model::run::Room;
 use loom_engine::rt::path::Path;
 pub use loom_explain::event::{End, Event};
 pub use loom_explain::explanation::{Explanation, Options};
+pub use loom_explain::picture::{Arrow, Form, Lane, Mark, Picture, Row, Shown, Spot, Tie};
 use loom_explain::text::text_of;
 use loom_objects::body::Body;
 use loom_objects::choice::Choice;

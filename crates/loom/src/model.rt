@@ -8,7 +8,7 @@ pub mod error;
 pub mod limits;
 pub mod listener;
 pub mod paths;
-mod progress;
+pub(crate) mod progress;
 pub mod receiver;
 pub mod report;
 pub mod rising;

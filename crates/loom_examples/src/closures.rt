@@ -5,4 +5,5 @@ pub mod ring;
 pub mod rows;
 pub mod scenes;
 pub mod spin;
+pub mod stack;
 pub mod tasks;

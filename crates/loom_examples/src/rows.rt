@@ -5,6 +5,7 @@ ghost use Rattle.loom_examples.specs.Rows.Line.{PrintedOf};
 ghost use Rattle.loom_examples.specs.Rows.Printed.{PrintedChecked, PrintedNamed, PrintedRow};
 
 pub mod changes;
+pub mod drawing;
 pub mod json;
 pub mod line;
 pub mod options;

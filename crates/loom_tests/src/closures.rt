@@ -12,6 +12,7 @@ mod forms;
 mod forms_in_children;
 mod forms_of_values;
 mod guide;
+mod logs;
 mod others;
 mod resumed;
 mod rows;

@@ -1,7 +1,8 @@
--- Checks without a store.
-use Rattle.std.proofs.Common.{◌≡◌, ℕ, List, inl, inr, arith, subst, sym, Option, Result, Ok, Err}
+-- Checks without a store, or with a file.
+use Rattle.std.proofs.Common.{◌≡◌, ◌≢◌, ℕ, List, inl, inr, arith, refl, subst, sym, Option, Some, None, Result, Ok, Err}
 use Rattle.std.specs.Option.{option_map_or}
-use Rattle.std.specs.Prelude.{IfOk}
+use Rattle.std.specs.Prelude.{IfOk, String}
+use Rattle.std.specs.declared.alloc.Global.{Global}
 use Rattle.std.specs.declared.time.Duration.{Duration}
 use Rattle.loom_objects.specs.declared.choice.Choice.{Choice}
 use Rattle.loom_engine.specs.declared.rt.path.node.Node.{Node}
@@ -9,12 +10,21 @@ use Rattle.loom.specs.declared.model.builder.Builder.{Builder}
 use Rattle.loom.specs.declared.model.report.Report.{Report}
 use Rattle.loom.specs.declared.model.report.Report.TheVariants as report
 use Rattle.loom.specs.declared.runner.stop.Stop.{Stop}
+use Rattle.loom.specs.Model.Check.{gives_file}
 use Rattle.loom.specs.Model.Settings.{defaults}
 use Rattle.loom.specs.Model.Stores.{HasRisen}
 use Rattle.loom.specs.declared.runner.defaults.NoVisitor.{NoVisitor}
 use Rattle.loom.specs.Runner.Handle.{Teller}
-use Rattle.loom.specs.Runner.Check.{Made, IsHeld, Reports, ReportsAlone, Says}
+use Rattle.loom.specs.Model.Rising.{bounded}
+use Rattle.loom.specs.Runner.Check.{Made, IsHeld, Reports, ReportsUnsaved, Says}
+use Rattle.loom.specs.Runner.Expected.{ignores}
+use Rattle.loom.specs.Runner.Rising.{ReportsAt}
 use Rattle.loom.proofs.ModelLemmas.Errors.{no_count}
+
+-- a file may give anything
+pub file_gives : (name : Option (String Global)) → name ≢ None → (P : (Option (List ℕ) → Type 0) → Type 0) → P (λ text. Unit {0}) → P (gives_file name)
+file_gives None named P z = absurd (named refl)
+file_gives (Some name) named P z = z
 
 -- a store in memory, or none, counts no fault
 pub none_risen : {S : Type 0} (store : Option S) → HasRisen 0 (option_map_or {T = S} {U = ℕ} (λ s. 0) store 0) → ⊥
@@ -68,6 +78,12 @@ module _ {D F V : Type 0} (called : F → Teller D → Result D Stop → F → T
 
 -- the defaults
 pub reports_default : {D F : Type 0} (called : F → Teller D → Result D Stop → F → Teller D → Type 0) (takes : NoVisitor → List Choice → D → NoVisitor → Type 0) (b : Builder) (f : F) (v v' : NoVisitor) {E : Type 0}
-    (answer : Result Report E) → b ≡ defaults → IfOk answer (ReportsAlone called takes b f v v') → IfOk answer (λ report. (w w' : NoVisitor) × ReportsAlone called takes defaults f w w' report)
-reports_default called takes b f v v' (Ok r) is z = (v, v', subst (λ (x : Builder). ReportsAlone called takes x f v v' r) is z)
+    (answer : Result Report E) → b ≡ defaults → IfOk answer (ReportsUnsaved called takes b f v v') → IfOk answer (λ report. (w w' : NoVisitor) × ReportsUnsaved called takes defaults f w w' report)
+reports_default called takes b f v v' (Ok r) is z = (v, v', subst (λ (x : Builder). ReportsUnsaved called takes x f v v' r) is z)
 reports_default called takes b f v v' (Err e) is z = z
+
+-- a check with a bound
+pub reports_at : {D F : Type 0} (called : F → Teller D → Result D Stop → F → Teller D → Type 0) (b : Builder) (bound : ℕ) (bounded_so : Builder) (f : F) (v v' : NoVisitor) {E : Type 0} (answer : Result Report E)
+    → bounded_so ≡ bounded b bound → IfOk answer (ReportsUnsaved called ignores bounded_so f v v') → IfOk answer (ReportsAt called b bound)
+reports_at called b bound bounded_so f v v' (Ok r) is z = (f, v, v', subst (λ (x : Builder). ReportsUnsaved called ignores x f v v' r) is z)
+reports_at called b bound bounded_so f v v' (Err e) is z = z

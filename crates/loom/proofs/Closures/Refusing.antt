@@ -19,7 +19,7 @@ use Rattle.loom.specs.Runner.Events.{ended, end_after, end_in, ended_by, failed_
 use Rattle.loom.specs.Runner.Handle.{Teller, newcomer}
 use Rattle.loom.specs.Runner.Histories.{Log, Share}
 use Rattle.loom.specs.Runner.Check.{limits_of}
-use Rattle.loom.specs.Runner.Refusals.{CountsFaults, GivesUp, IsNoReplay, IsNoReplayAlong, IsNoReport, IsNoEnd, IsNoReportAlone, IsNoRun, IsNoSave, IsNotJudged}
+use Rattle.loom.specs.Runner.Refusals.{CountsFaults, GivesUp, IsNoReplay, IsNoReplayAlong, IsNoReport, IsNoEnd, IsNoReportUnsaved, IsNoRun, IsNoSave, IsNotJudged}
 use Rattle.loom.specs.Runner.Replay.{HasKept, following}
 use Rattle.loom.specs.declared.runner.run_end.RunEnd.{RunEnd}
 use Rattle.loom.specs.declared.runner.run_end.RunEnd.TheVariants.{Ended}
@@ -131,15 +131,16 @@ module _ {D F V : Type 0} (called : F → Teller D → Result D Stop → F → T
   broken b gives faulted f v v' r fine without =
       weaker r (GivesUp called takes b gives faulted f v v') (IsNoReport called takes b gives faulted f v v') (λ e broke. inr (fine, broke)) without
 
-  -- no store meets a fault
-  unfaulted : (faulted : Type 0) → (faulted → ⊥) → (e : RunnerError) → IsNoSave faulted e → IsNoSave ⊥ e
-  unfaulted faulted none e (inl is) = inl is
-  unfaulted faulted none e (inr is) = absurd (none is.1)
+  -- ---- where something else is known of the store's faults
 
-  gives_up_alone : (b : Builder) (gives : Option (List ℕ) → Type 0) (faulted : Type 0) → (faulted → ⊥) → (f : F) (v v' : V) (e : RunnerError) → GivesUp called takes b gives faulted f v v' e → GivesUp called takes b gives ⊥ f v v' e
-  gives_up_alone b gives faulted none f v v' e (inl (same, inl is)) = inl (same, inl (unfaulted faulted none e is))
-  gives_up_alone b gives faulted none f v v' e (inl (same, inr refused)) = inl (same, inr refused)
-  gives_up_alone b gives faulted none f v v' e (inr broke) = inr (record {
+  faulted_as : (faulted other : Type 0) → (faulted → other) → (e : RunnerError) → IsNoSave faulted e → IsNoSave other e
+  faulted_as faulted other to e (inl is) = inl is
+  faulted_as faulted other to e (inr is) = inr (is.0, to is.1)
+
+  gives_up_as : (b : Builder) (gives : Option (List ℕ) → Type 0) (faulted other : Type 0) → (faulted → other) → (f : F) (v v' : V) (e : RunnerError) → GivesUp called takes b gives faulted f v v' e → GivesUp called takes b gives other f v v' e
+  gives_up_as b gives faulted other to f v v' e (inl (same, inl is)) = inl (same, inl (faulted_as faulted other to e is))
+  gives_up_as b gives faulted other to f v v' e (inl (same, inr refused)) = inl (same, inr refused)
+  gives_up_as b gives faulted other to f v v' e (inr broke) = inr (record {
     text = broke.text;
     gave = broke.gave;
     path = broke.path;
@@ -153,18 +154,18 @@ module _ {D F V : Type 0} (called : F → Teller D → Result D Stop → F → T
   })
     where
       go : ((length broke.runs < most_runs b) × IsNoEnd called takes (limits_of b) broke.before broke.visitor broke.next e v') ⊎ (IsNoSave faulted e × (v' ≡ broke.visitor))
-          → ((length broke.runs < most_runs b) × IsNoEnd called takes (limits_of b) broke.before broke.visitor broke.next e v') ⊎ (IsNoSave ⊥ e × (v' ≡ broke.visitor))
+          → ((length broke.runs < most_runs b) × IsNoEnd called takes (limits_of b) broke.before broke.visitor broke.next e v') ⊎ (IsNoSave other e × (v' ≡ broke.visitor))
       go (inl run) = inl run
-      go (inr save) = inr (unfaulted faulted none e save.0, save.1)
+      go (inr save) = inr (faulted_as faulted other to e save.0, save.1)
 
-  -- where there is no store
-  pub none_alone : {A : Type 0} (b : Builder) (gives : Option (List ℕ) → Type 0) (faulted : Type 0) → (faulted → ⊥) → (f : F) (v v' : V) (r : Result A RunnerError) → IfErr r (IsNoReport called takes b gives faulted f v v')
-      → IfErr r (IsNoReport called takes b gives ⊥ f v v')
-  none_alone b gives faulted none f v v' r without = weaker r (IsNoReport called takes b gives faulted f v v') (IsNoReport called takes b gives ⊥ f v v') go without
+  -- so with a whole check
+  pub errors_as : {A : Type 0} (b : Builder) (gives : Option (List ℕ) → Type 0) (faulted other : Type 0) → (faulted → other) → (f : F) (v v' : V) (r : Result A RunnerError) → IfErr r (IsNoReport called takes b gives faulted f v v')
+      → IfErr r (IsNoReport called takes b gives other f v v')
+  errors_as b gives faulted other to f v v' r without = weaker r (IsNoReport called takes b gives faulted f v v') (IsNoReport called takes b gives other f v v') go without
     where
-      go : (e : RunnerError) → IsNoReport called takes b gives faulted f v v' e → IsNoReport called takes b gives ⊥ f v v' e
+      go : (e : RunnerError) → IsNoReport called takes b gives faulted f v v' e → IsNoReport called takes b gives other f v v' e
       go e (inl out) = inl out
-      go e (inr up) = inr (up.0, gives_up_alone b gives faulted none f v v' e up.1)
+      go e (inr up) = inr (up.0, gives_up_as b gives faulted other to f v v' e up.1)
 
   -- a replay, whose visitor keeps what it is given
   pub no_replay : (limits : Limits) (f : F) (v v' : V) (start : Route) (e : RunnerError) → IsNoRun called takes limits f v start e v' → IsNoReplayAlong called limits start f e
@@ -191,11 +192,11 @@ no_replays called b given f limits start r fine is along without =
 
 -- the defaults are in range
 pub by_defaults : {D F : Type 0} (called : F → Teller D → Result D Stop → F → Teller D → Type 0) (takes : NoVisitor → List Choice → D → NoVisitor → Type 0) {A : Type 0} (b : Builder) (f : F) (v v' : NoVisitor) (r : Result A RunnerError)
-    → b ≡ defaults → IfErr r (IsNoReportAlone called takes b f v v') → IfErr r (λ e. (w w' : NoVisitor) × GivesUp called takes defaults (λ text. text ≡ None) ⊥ f w w' e)
+    → b ≡ defaults → IfErr r (IsNoReportUnsaved called takes b f v v') → IfErr r (λ e. (w w' : NoVisitor) × GivesUp called takes defaults (λ text. text ≡ None) ⊥ f w w' e)
 by_defaults {D} {F} called takes b f v v' r is reported =
-    weaker r (IsNoReportAlone called takes defaults f v v') (λ e. (w w' : NoVisitor) × GivesUp called takes defaults (λ text. text ≡ None) ⊥ f w w' e) go
-    (subst (λ (x : Builder). IfErr r (IsNoReportAlone called takes x f v v')) is reported)
+    weaker r (IsNoReportUnsaved called takes defaults f v v') (λ e. (w w' : NoVisitor) × GivesUp called takes defaults (λ text. text ≡ None) ⊥ f w w' e) go
+    (subst (λ (x : Builder). IfErr r (IsNoReportUnsaved called takes x f v v')) is reported)
   where
-    go : (e : RunnerError) → IsNoReportAlone called takes defaults f v v' e → (w w' : NoVisitor) × GivesUp called takes defaults (λ text. text ≡ None) ⊥ f w w' e
+    go : (e : RunnerError) → IsNoReportUnsaved called takes defaults f v v' e → (w w' : NoVisitor) × GivesUp called takes defaults (λ text. text ≡ None) ⊥ f w w' e
     go e (inl out) = let h : ◌≡◌ {A = Result ⊤ CheckError} (Ok tt) (Err out.0) = out.2 in absurd (cc h)
     go e (inr up) = (v, v', up.1)

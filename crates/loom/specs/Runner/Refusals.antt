@@ -10,6 +10,7 @@ use Rattle.loom_engine.specs.Path.Route.{Route}
 use Rattle.loom.specs.declared.model.builder.Builder.{Builder}
 use Rattle.loom.specs.declared.model.error.CheckError.{CheckError}
 use Rattle.loom.specs.declared.model.error.CheckError.TheVariants.{Store}
+use Rattle.loom.specs.Model.Check.{gives_file}
 use Rattle.loom.specs.Model.Refusals.{IsRefusedBy}
 use Rattle.loom.specs.Model.Settings.{explores, most_runs, search_of, tested}
 use Rattle.loom.specs.Model.StoredText.{ReadsAs}
@@ -136,9 +137,14 @@ module _ {D F V : Type 0} (called : F → Teller D → Result D Stop → F → T
   abbrev pub StillHolds : (Option (List ℕ) → Type 0) → (Option (List ℕ) → Type 0) → F → V → Type 0
   StillHolds old new f v = Keeps old new ⊎ HeldBack new f v
 
--- why there is no report where no store is
-abbrev pub IsNoReportAlone : {D F V : Type 0} → (F → Teller D → Result D Stop → F → Teller D → Type 0) → (V → List Choice → D → V → Type 0) → Builder → F → V → V → RunnerError → Type 0
-IsNoReportAlone called takes b f v v' e = IsNoReport called takes b (λ text. text ≡ None) ⊥ f v v' e
+module _ {D F V : Type 0} (called : F → Teller D → Result D Stop → F → Teller D → Type 0) (takes : V → List Choice → D → V → Type 0) (b : Builder) where
+  -- why there is no report where no store is
+  abbrev pub IsNoReportUnsaved : F → V → V → RunnerError → Type 0
+  IsNoReportUnsaved f v v' e = IsNoReport called takes b (λ text. text ≡ None) ⊥ f v v' e
+
+  -- and where the checkpoint file is the store, if one is named
+  abbrev pub IsNoReportAlone : F → V → V → RunnerError → Type 0
+  IsNoReportAlone f v v' e = IsNoReport called takes b (gives_file b.checkpoint_file) (b.checkpoint_file ≢ None) f v v' e
 
 -- ---- replays
 

@@ -1,12 +1,13 @@
 //! How a check is done: its settings, their defaults, and which values they may have.
-ghost use Rattle.std.specs.Prelude.{◌≡◌, ◌≤◌, ◌<◌, OnOk, IfOk, IfErr, IfSome, Some, None, String, string_bytes};
+ghost use Rattle.std.specs.Prelude.{◌≡◌, ◌≤◌, ◌<◌, Ok, OnOk, IfOk, IfErr, IfSome, Some, None, String, string_bytes};
 ghost use Rattle.loom.specs.Model.Environment.{numbers_of, of_environment};
 ghost use Rattle.loom.specs.Model.Settings.{defaults, tested, tested_bound};
 
-use crate::model::env::{Env, number_or, optional, seconds};
+use crate::model::env::{Env, EnvError, number_or, optional, seconds};
 use crate::model::error::{CheckError, Variable};
 use loom_views::rt::MAX_THREADS;
 use std::alloc::{AllocError, Global};
+use std::rt::Env as HostEnv;
 use std::time::Duration;
 
 /// How a check is done (loom's `model::Builder`).
@@ -82,6 +83,16 @@ impl Builder {
             checkpoint_file: env.checkpoint_file,
             ..said
         })
+    }
+
+    /// `from_env` of the variables that the process has (loom's `Builder::new`). `NotRead` where one isn't UTF-8, or memory for it is
+    /// refused, and `NotANumber` where `from_env` answers that.
+    pub fn from_process<R: AllocGlobal + HostEnv>(rt: &R) -> Result<Builder, EnvError>
+        ensures { IfOk result (λ builder. (env : Env) × (of_environment env ≡ Ok builder)) }
+    {
+        let env = Env::of_process(rt)?;
+        let builder = Builder::from_env(env)?;
+        Ok(builder)
     }
 
     /// The defaults, with the numbers that the variables say.

@@ -78,7 +78,7 @@ impl Builder {
     }
 
     /// These settings, but with this bound, and without a file.
-    fn with_bound(&self, bound: usize) -> Builder
+    pub(crate) fn with_bound(&self, bound: usize) -> Builder
         ensures { result ≡ bounded self.now bound }
     {
         Builder {

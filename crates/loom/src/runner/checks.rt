@@ -5,9 +5,10 @@ ghost use Rattle.loom.specs.Model.Settings.{tested};
 ghost use Rattle.loom.specs.Model.Stores.{HasRisen};
 ghost use Rattle.loom.specs.declared.runner.error.RunnerError.TheVariants.{Settings};
 ghost use Rattle.loom.specs.Runner.Alike.{IsChangedSo, ReportsAlike};
-ghost use Rattle.loom.specs.Runner.Check.{Reports, ReportsAlone, limits_of};
-ghost use Rattle.loom.specs.Runner.Refusals.{CountsFaults, IsNoReport, IsNoReportAlone, StillHolds};
+ghost use Rattle.loom.specs.Runner.Check.{Reports, ReportsAlone, ReportsUnsaved, limits_of};
+ghost use Rattle.loom.specs.Runner.Refusals.{CountsFaults, IsNoReport, IsNoReportAlone, IsNoReportUnsaved, StillHolds};
 
+use crate::checkpoint::file::file_store;
 use crate::checkpoint::memory::MemoryStore;
 use crate::checkpoint::store::CheckpointStore;
 use crate::model::builder::Builder;
@@ -16,12 +17,15 @@ use crate::model::report::Report;
 use crate::model::visitor::Visitor;
 use crate::runner::error::RunnerError;
 use crate::runner::exact::Exact;
+use crate::runner::failures::tell_failure;
 use crate::runner::handle::Handle;
 use crate::runner::last_run::LastRun;
 use crate::runner::rounds::make_rounds;
 use crate::runner::stop::Stop;
+use crate::runner::watcher::Watcher;
 use log::Log;
 use std::alloc::Global;
+use std::rt::Files;
 use std::sync::Wait;
 use std::thread::Threads;
 
@@ -33,10 +37,13 @@ use std::thread::Threads;
 /// refused, as `Memory` and `Refused`, or where a run's end isn't settled, as `NotSettled`: mostly where the threads' told lists
 /// aren't those of its history. Then the visitor was given just the runs that had ended before. So it was where a thread hands over
 /// another operation than in the run before, after the same choices: that is `Changed`, unless the run fails as `NotDeterministic`,
-/// since its path says otherwise. Saves nothing, and has no clock: only a `max_duration` of zero stops it.
+/// since its path says otherwise. It has no clock: only a `max_duration` of zero stops it.
+///
+/// It begins with the path in the `checkpoint_file`, if one is set, and saves its checkpoints there, as `check_with` does with the
+/// `FileStore` of that name.
 pub fn check<
     D: Exact + 'static,
-    R: Threads + Wait + Clone + Send + 'static,
+    R: Files + Threads + Wait + Clone + Send + 'static,
     F: FnMut(&mut Handle<D, R>) -> Result<D, Stop>,
     V: Visitor<D>,
 >(
@@ -59,7 +66,7 @@ pub fn check<
 /// `check` of a closure that is called again afterwards.
 pub(crate) fn check_lent<
     D: Exact + 'static,
-    R: Threads + Wait + Clone + Send + 'static,
+    R: Files + Threads + Wait + Clone + Send + 'static,
     F: FnMut(&mut Handle<D, R>) -> Result<D, Stop>,
     V: Visitor<D>,
 >(
@@ -76,6 +83,43 @@ pub(crate) fn check_lent<
     ensures changed { IfErr result (IsChangedSo (CalledAtMut F.FnMut) V.takes (limits_of builder.now) closure.old) }
     ensures refused { IfErr (tested builder.now) (λ e. (result ≡ Err (Settings e)) × (visitor.new ≡ visitor.old)) }
     ensures errors { IfErr result (IsNoReportAlone (CalledAtMut F.FnMut) V.takes builder.now closure.old visitor.old visitor.new) }
+{
+    let log = None::<HostRuntime>;
+    match file_store(rt, alloc, &builder.checkpoint_file) {
+        Some(mut store) => check_lent_with(
+            rt,
+            alloc,
+            builder,
+            closure,
+            visitor,
+            &mut NoClock,
+            &mut store,
+            &log,
+        ),
+        None => check_unsaved(rt, alloc, builder, closure, visitor),
+    }
+}
+
+/// `check_lent` without a file.
+pub(crate) fn check_unsaved<
+    D: Exact + 'static,
+    R: Threads + Wait + Clone + Send + 'static,
+    F: FnMut(&mut Handle<D, R>) -> Result<D, Stop>,
+    V: Visitor<D>,
+>(
+    rt: &R,
+    alloc: Global,
+    builder: &Builder,
+    closure: &mut F,
+    visitor: &mut V,
+) -> Result<Report, RunnerError>
+    requires { F.IsAlwaysCallable closure.old }
+    ensures again { F.IsAlwaysCallable closure.new }
+    ensures reports { IfOk result (ReportsUnsaved (CalledAtMut F.FnMut) V.takes builder.now closure.old visitor.old visitor.new) }
+    ensures alike { IfOk result (ReportsAlike (CalledAtMut F.FnMut) V.takes (limits_of builder.now) closure.old) }
+    ensures changed { IfErr result (IsChangedSo (CalledAtMut F.FnMut) V.takes (limits_of builder.now) closure.old) }
+    ensures refused { IfErr (tested builder.now) (λ e. (result ≡ Err (Settings e)) × (visitor.new ≡ visitor.old)) }
+    ensures errors { IfErr result (IsNoReportUnsaved (CalledAtMut F.FnMut) V.takes builder.now closure.old visitor.old visitor.new) }
 {
     let mut store = None::<MemoryStore>;
     let log = None::<HostRuntime>;
@@ -96,6 +140,11 @@ pub(crate) fn check_lent<
 /// path that the store holds, if there is one, and saves its path before each run whose number is a multiple of the interval, and
 /// where it stops. The clock is asked once before each run, where a duration is set. `None` is no store and no log.
 ///
+/// The log is a handle, whose clones tell the same reader. It hears of a run's number before each save, and how many were made; by the
+/// builder's `log` which threads go on, at Debug; as a warning of a thread that goes on after a run has stopped, once a thousand of its
+/// calls were answered so, and of one that holds the turn for ten seconds; and as an error of a run that failed, with what happened in
+/// it, for which the closure is called once more. A thread of the host looks at the runs once a second for the warnings.
+///
 /// A setting out of range is refused before any run, the first one first, and then a text that is no path of this check, both as
 /// `Settings`; a fault of the store is one too. Its other errors are those of `check`. After an error only visitor, clock, store and
 /// log have moved, and the store holds what it held, or a text of a path that the check has come to. Where the path that the store
@@ -107,7 +156,7 @@ pub fn check_with<
     V: Visitor<D>,
     C: Clock,
     S: CheckpointStore,
-    L: Log,
+    L: Log + Clone + Send + 'static,
 >(
     rt: &R,
     alloc: Global,
@@ -138,7 +187,7 @@ pub(crate) fn check_lent_with<
     V: Visitor<D>,
     C: Clock,
     S: CheckpointStore,
-    L: Log,
+    L: Log + Clone + Send + 'static,
 >(
     rt: &R,
     alloc: Global,
@@ -161,7 +210,11 @@ pub(crate) fn check_lent_with<
 {
     builder.test()?;
     let mut last = LastRun::none(alloc);
-    make_rounds(
-        rt, alloc, builder, &mut last, closure, visitor, clock, store, log,
-    )
+    let watcher = Watcher::start(rt, alloc, builder.log, log);
+    let answer = make_rounds(
+        rt, alloc, builder, &watcher, &mut last, closure, visitor, clock, store, log,
+    );
+    watcher.end(rt);
+    tell_failure(rt, alloc, builder, &answer, closure, log);
+    answer
 }

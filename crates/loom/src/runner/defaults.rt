@@ -2,13 +2,13 @@
 ghost use Rattle.std.specs.Prelude.{◌≡◌, None, IfOk, IfErr};
 ghost use Rattle.std.specs.Fn.{CalledAtMut};
 ghost use Rattle.loom.specs.Model.Settings.{defaults};
-ghost use Rattle.loom.specs.Runner.Check.{ReportsAlone};
+ghost use Rattle.loom.specs.Runner.Check.{ReportsUnsaved};
 ghost use Rattle.loom.specs.Runner.Refusals.{GivesUp};
 
 use crate::model::builder::Builder;
 use crate::model::report::Report;
 use crate::model::visitor::Visitor;
-use crate::runner::checks::check;
+use crate::runner::checks::check_unsaved;
 use crate::runner::error::RunnerError;
 use crate::runner::exact::Exact;
 use crate::runner::handle::Handle;
@@ -36,10 +36,10 @@ pub fn model<
     D: Exact + 'static,
     R: Threads + Wait + Clone + Send + 'static,
     F: FnMut(&mut Handle<D, R>) -> Result<D, Stop>,
->(rt: &R, alloc: Global, closure: F) -> Result<Report, RunnerError>
+>(rt: &R, alloc: Global, mut closure: F) -> Result<Report, RunnerError>
     requires { F.IsAlwaysCallable closure }
-    ensures reports { IfOk result (λ report. (v v' : NoVisitor) × ReportsAlone (CalledAtMut F.FnMut) (λ old choices value new. Unit {0}) defaults closure v v' report) }
+    ensures reports { IfOk result (λ report. (v v' : NoVisitor) × ReportsUnsaved (CalledAtMut F.FnMut) (λ old choices value new. Unit {0}) defaults closure v v' report) }
     ensures errors { IfErr result (λ e. (v v' : NoVisitor) × GivesUp (CalledAtMut F.FnMut) (λ old choices value new. Unit {0}) defaults (λ text. text ≡ None) ⊥ closure v v' e) }
 {
-    check(rt, alloc, &Builder::new(), closure, &mut NoVisitor)
+    check_unsaved(rt, alloc, &Builder::new(), &mut closure, &mut NoVisitor)
 }

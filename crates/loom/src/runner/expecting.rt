@@ -14,6 +14,7 @@ use crate::runner::handle::Handle;
 use crate::runner::stop::Stop;
 use loom_objects::choice::Choice;
 use std::alloc::Global;
+use std::rt::Files;
 use std::sync::Wait;
 use std::thread::Threads;
 use thiserror::Error;
@@ -33,7 +34,7 @@ pub enum Incomplete {
 /// the report, and of a run that failed what happened in it, as `explain` tells it; and the error makes the test fail (own).
 pub fn expect_complete<
     D: Exact + 'static,
-    R: Print + Threads + Wait + Clone + Send + 'static,
+    R: Files + Print + Threads + Wait + Clone + Send + 'static,
     F: FnMut(&mut Handle<D, R>) -> Result<D, Stop>,
 >(rt: &R, alloc: Global, builder: &Builder, mut closure: F) -> Result<u64, Incomplete>
     requires { F.IsAlwaysCallable closure }

@@ -61,6 +61,7 @@ pub(crate) fn explain_lent<
     closure: &mut F,
 ) -> Result<Explanation, RunnerError>
     requires { F.IsAlwaysCallable closure.old }
+    ensures again { F.IsAlwaysCallable closure.new }
     ensures explains { IfOk result (Explains (CalledAtMut F.FnMut) builder.now choices.now closure.old) }
     ensures refused { IfErr (tested builder.now) (λ e. result ≡ Err (Settings e)) }
     ensures errors { IfErr result (IsNoReplay (CalledAtMut F.FnMut) builder.now choices.now closure.old) }
@@ -96,6 +97,7 @@ fn explain_along<
     requires few { limits.max_threads ≤ 5 }
     requires starts { IsAtStart path.now.explores path.now }
     requires callable { F.IsAlwaysCallable closure.old }
+    ensures again { F.IsAlwaysCallable closure.new }
     ensures explains { IfOk result (ExplainsAlong (CalledAtMut F.FnMut) limits builder.now path.now closure.old) }
     ensures errors { IfErr result (IsNoReplayAlong (CalledAtMut F.FnMut) limits path.now closure.old) }
 {

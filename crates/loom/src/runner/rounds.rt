@@ -20,6 +20,7 @@ use crate::runner::last_run::LastRun;
 use crate::runner::run::make_next_run;
 use crate::runner::run_end::RunEnd;
 use crate::runner::stop::Stop;
+use crate::runner::watcher::Watcher;
 use log::Log;
 use loom_engine::rt::execution::Limits;
 use std::alloc::Global;
@@ -27,7 +28,7 @@ use std::sync::Wait;
 use std::thread::Threads;
 
 /// Makes one run of the closure after another, by settings in range, from the path on that the store holds, each of them like the
-/// last one.
+/// last one. The watcher is shown each of them.
 pub(crate) fn make_rounds<
     D: Exact + 'static,
     R: Threads + Wait + Clone + Send + 'static,
@@ -35,11 +36,12 @@ pub(crate) fn make_rounds<
     V: Visitor<D>,
     C: Clock,
     S: CheckpointStore,
-    L: Log,
+    L: Log + Clone + Send + 'static,
 >(
     rt: &R,
     alloc: Global,
     builder: &Builder,
+    watcher: &Watcher<D, L>,
     last: &mut LastRun<D>,
     closure: &mut F,
     visitor: &mut V,
@@ -75,7 +77,9 @@ pub(crate) fn make_rounds<
         let left = keep(alloc, &path, store, log, &pace)?;
         pace.until_save = left;
         let number = pace.runs + 1;
-        let end = make_next_run(rt, alloc, limits, &path, number, last, closure, visitor)?;
+        let end = make_next_run(
+            rt, alloc, limits, &path, number, watcher, last, closure, visitor,
+        )?;
         match end {
             RunEnd::Ended(Some(next)) => {
                 path = next;

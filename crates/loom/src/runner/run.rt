@@ -19,6 +19,8 @@ use crate::runner::run_end::{RunEnd, next_path};
 use crate::runner::shared::{Shared, main_handle, share};
 use crate::runner::stop::Stop;
 use crate::runner::turns::Turns;
+use crate::runner::watcher::Watcher;
+use log::Log;
 use loom_engine::rt::execution::Limits;
 use loom_engine::rt::path::Path;
 use std::alloc::Global;
@@ -50,22 +52,28 @@ pub fn make_run<
     ensures errors { IfErr result (λ e. IsNoRun (CalledAtMut F.FnMut) V.takes limits closure.old visitor.old path.now e visitor.new) }
 {
     let mut last = LastRun::none(alloc);
-    make_next_run(rt, alloc, limits, path, 1, &mut last, closure, visitor)
+    let watcher = Watcher::<D, HostRuntime>::none();
+    make_next_run(
+        rt, alloc, limits, path, 1, &watcher, &mut last, closure, visitor,
+    )
 }
 
 /// `make_run` of the run of this number after another one. `Changed` besides, where a thread hands over another operation than in that
-/// one, after the same choices, and the run didn't fail as not deterministic: then the visitor isn't given it (own).
+/// one, after the same choices, and the run didn't fail as not deterministic: then the visitor isn't given it (own). The watcher is shown
+/// the run.
 pub fn make_next_run<
     D: Exact + 'static,
     R: Threads + Wait + Clone + Send + 'static,
     F: FnMut(&mut Handle<D, R>) -> Result<D, Stop>,
     V: Visitor<D>,
+    L: Log + Clone + Send + 'static,
 >(
     rt: &R,
     alloc: Global,
     limits: Limits,
     path: &Path,
     number: u64,
+    watcher: &Watcher<D, L>,
     last: &mut LastRun<D>,
     closure: &mut F,
     visitor: &mut V,
@@ -80,7 +88,9 @@ pub fn make_next_run<
     ensures errors { IfErr result (λ e. IsNoNextRun (CalledAtMut F.FnMut) V.takes limits closure.old visitor.old path.now last.old number e visitor.new) }
 {
     let shared = share(alloc, limits, path)?;
+    watcher.show(rt, number, &shared);
     let told = call_closure(rt, alloc, &shared, closure)?;
+    watcher.tell(rt, number, &*shared);
     let mut turns = shared.turns.lock(rt);
     judge(
         alloc,

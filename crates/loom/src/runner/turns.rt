@@ -7,14 +7,17 @@ mod ignored;
 pub mod laws;
 mod moment;
 
+use crate::model::progress::log_switches;
 use crate::runner::exact::Exact;
 use crate::runner::history::History;
 use crate::runner::history::event::Event;
 use crate::runner::history::shares::are_shares;
+use crate::runner::history::submit::Submit;
 use crate::runner::history::told::Told;
 use crate::runner::stop::Stop;
 use crate::runner::turns::ignored::Ignored;
 use crate::runner::turns::moment::Place;
+use log::Log;
 use loom_engine::rt::execution::{Execution, Limits};
 use loom_engine::rt::path::Path;
 use loom_objects::choice::Choice;
@@ -199,6 +202,18 @@ impl<D: Exact> Turns<D> {
         ensures { self.new ≡ self.old }
     {
         self.ignored.tell()
+    }
+
+    /// Whose turn it is (own).
+    pub fn turn(&self) -> u8
+        ensures { result ≡ active_at self.now.now }
+    {
+        self.place.active()
+    }
+
+    /// Tells the log which threads went on in the run, one after another (own).
+    pub(crate) fn log_switches<L: Log>(&self, log: &L) {
+        log_switches(log, &self.place.path);
     }
 
     /// The choices of the run. It fails only where a growth is refused (own).

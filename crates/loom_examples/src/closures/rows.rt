@@ -5,16 +5,21 @@ ghost use Rattle.loom_examples.specs.Rows.Line.{PrintedOf};
 
 use crate::closures::ring::through_ring;
 use crate::closures::scenes;
+use crate::closures::stack::through_stack;
 use crate::rows::line::{self, ShownReport};
+use crate::rows::tasks::UP_TO;
 use crate::rows::tell_error;
 use crate::rows::timed::HostClock;
 use loom::Choice;
 use loom::checkpoint::file::file_store;
 use loom::explain::Explanation;
 use loom::model::builder::Builder;
+use loom::model::rising::Risen;
 use loom::model::{Replay, Report};
-use loom::runner::{Handle, NoVisitor, RunnerError, Stop, check_with, explain, replay};
-use loom_ops::sync::atomic::Ordering::Relaxed;
+use loom::runner::{
+    Handle, NoVisitor, RunnerError, Stop, check_rising, check_with, explain, replay,
+};
+use loom_ops::sync::atomic::Ordering::{Relaxed, Release};
 use std::alloc::{AllocError, Global};
 use std::io::{self, Write};
 use std::rt::{Clock, Files};
@@ -44,10 +49,14 @@ pub enum ClosureRow {
     StoreBuffering,
     /// Three items through a ring of two cells, of which the count is stored by `Relaxed`, where it takes `Release`.
     RelaxedRing,
+    /// Three threads put a node each on Treiber's stack, and take one off.
+    TreiberStack,
+    /// Two threads load a number, and store one more.
+    BuggyConcurrentInc,
 }
 
 /// All rows.
-pub const ROWS: [ClosureRow; 10] = [
+pub const ROWS: [ClosureRow; 12] = [
     ClosureRow::TwoMutexesDeadlock,
     ClosureRow::FetchAddAtomic,
     ClosureRow::LockBeside,
@@ -58,6 +67,8 @@ pub const ROWS: [ClosureRow; 10] = [
     ClosureRow::Changes,
     ClosureRow::StoreBuffering,
     ClosureRow::RelaxedRing,
+    ClosureRow::TreiberStack,
+    ClosureRow::BuggyConcurrentInc,
 ];
 
 impl ClosureRow {
@@ -74,6 +85,8 @@ impl ClosureRow {
             ClosureRow::Changes => "closure_changes",
             ClosureRow::StoreBuffering => "store_buffering_closures",
             ClosureRow::RelaxedRing => "relaxed_ring_closures",
+            ClosureRow::TreiberStack => "treiber_stack_closures",
+            ClosureRow::BuggyConcurrentInc => "buggy_concurrent_inc_closures",
         }
     }
 
@@ -89,7 +102,11 @@ impl ClosureRow {
 
     /// The settings of the row's check.
     pub fn builder(self) -> Builder {
-        let mut builder = Builder::new();
+        self.builder_over(Builder::new())
+    }
+
+    /// The row's own settings, in place of those of this builder.
+    pub fn builder_over(self, mut builder: Builder) -> Builder {
         match self {
             ClosureRow::TwoMutexesDeadlock
             | ClosureRow::FetchAddAtomic
@@ -97,16 +114,23 @@ impl ClosureRow {
             | ClosureRow::Deaf
             | ClosureRow::Stops
             | ClosureRow::StoreBuffering
-            | ClosureRow::RelaxedRing => {}
+            | ClosureRow::RelaxedRing
+            | ClosureRow::BuggyConcurrentInc => {}
             ClosureRow::LockBeside | ClosureRow::Changes => builder.reduce = false,
             ClosureRow::PingPong => builder.max_branches = 200,
+            ClosureRow::TreiberStack => builder.preemption_bound = Some(0),
         }
         builder
     }
 
-    /// The settings, with the checkpoint file of this name, if one is given.
-    pub fn builder_with(self, alloc: Global, file: Option<&str>) -> Result<Builder, AllocError> {
-        let mut builder = self.builder();
+    /// The row's own settings, in place of those of this builder, and the checkpoint file of this name, if one is given.
+    pub fn builder_with(
+        self,
+        alloc: Global,
+        builder: Builder,
+        file: Option<&str>,
+    ) -> Result<Builder, AllocError> {
+        let mut builder = self.builder_over(builder);
         if let Some(file) = file {
             builder.checkpoint_file(alloc, file)?;
         }
@@ -122,11 +146,7 @@ impl ClosureRow {
         builder: &Builder,
     ) -> Result<Report, RunnerError> {
         let mut is_first = true;
-        let main = |handle: &mut Handle<u64, R>| -> Result<u64, Stop> {
-            let was_first = is_first;
-            is_first = false;
-            self.run(handle, was_first)
-        };
+        let main = |handle: &mut Handle<u64, R>| self.run_next(handle, &mut is_first);
         let mut clock = HostClock::start(rt);
         let mut store = file_store(rt, alloc, &builder.checkpoint_file);
         let log = None::<HostRuntime>;
@@ -140,6 +160,18 @@ impl ClosureRow {
             &mut store,
             &log,
         )
+    }
+
+    /// What checks of the row with rising bounds on preemptions find, by these settings.
+    pub fn check_rising<R: Threads + Wait + Clone + Send + 'static>(
+        self,
+        rt: &R,
+        alloc: Global,
+        builder: &Builder,
+    ) -> Result<Risen, RunnerError> {
+        let mut is_first = true;
+        let main = |handle: &mut Handle<u64, R>| self.run_next(handle, &mut is_first);
+        check_rising(rt, alloc, builder, main, UP_TO)
     }
 
     /// One run of the row, by these choices and then by defaults.
@@ -166,6 +198,17 @@ impl ClosureRow {
         explain(rt, alloc, builder, choices, main)
     }
 
+    /// What main does in the next run, which is the first one where this says so. It isn't any more afterwards.
+    fn run_next<R: Threads + Wait + Clone + Send + 'static>(
+        self,
+        handle: &mut Handle<u64, R>,
+        is_first: &mut bool,
+    ) -> Result<u64, Stop> {
+        let was_first = *is_first;
+        *is_first = false;
+        self.run(handle, was_first)
+    }
+
     /// What main does in a run: the first run, or a later one.
     fn run<R: Threads + Wait + Clone + Send + 'static>(
         self,
@@ -184,6 +227,8 @@ impl ClosureRow {
             ClosureRow::Changes => Ok(7),
             ClosureRow::StoreBuffering => scenes::store_buffering(handle),
             ClosureRow::RelaxedRing => through_ring(handle, Relaxed),
+            ClosureRow::TreiberStack => through_stack(handle, Release),
+            ClosureRow::BuggyConcurrentInc => scenes::buggy_concurrent_inc(handle),
         }
     }
 }
@@ -198,16 +243,24 @@ pub fn named(name: &str) -> Option<ClosureRow> {
     None
 }
 
-/// Checks the row with this checkpoint file, if one is given, prints the line of the report, and answers its status. Where there is
-/// no report, it prints which error came, and why, and the status is 2.
+/// Checks the row with this checkpoint file, if one is given, and the settings of this builder where the row has none of its own. It
+/// prints the line of the report, and answers its status. Where there is no report, it prints which error came, and why, and the status
+/// is 2.
 pub fn run_row<
     R: AllocGlobal + Clock + Files + Threads + Wait + Clone + Send + 'static,
     O: Write,
     E: Write,
->(rt: &R, row: ClosureRow, file: Option<&str>, out: &mut O, err: &mut E) -> io::Result<u8>
+>(
+    rt: &R,
+    row: ClosureRow,
+    builder: Builder,
+    file: Option<&str>,
+    out: &mut O,
+    err: &mut E,
+) -> io::Result<u8>
     ensures { IfOk result (λ status. (status ≡ 2) ⊎ ((report : Report) × PrintedOf report (O.contents out.old) (O.contents out.new) status)) }
 {
-    let builder = row.builder_with(rt.alloc(), file)?;
+    let builder = row.builder_with(rt.alloc(), builder, file)?;
     match row.check_by(rt, rt.alloc(), &builder) {
         Ok(report) => {
             let shown = ShownReport(&report);

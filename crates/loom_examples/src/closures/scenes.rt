@@ -15,6 +15,8 @@ enum Part {
     LockBoth(Mutex, Mutex),
     /// Adds 1 to the number.
     AddOne(AtomicU64),
+    /// Loads the number, and stores one more.
+    LoadAndStore(AtomicU64),
     /// Nothing but end.
     End,
     /// Locks the mutex, and releases it.
@@ -30,6 +32,7 @@ impl Part {
         match self {
             Part::LockBoth(outer, inner) => lock_both(handle, &outer, &inner),
             Part::AddOne(number) => handle.fetch_add(&number, 1, Relaxed),
+            Part::LoadAndStore(number) => load_and_store(handle, &number),
             Part::End => Ok(3),
             Part::PassThrough(mutex) => pass_through(handle, &mutex),
             Part::Pong(ball) => pong(handle, &ball),
@@ -56,6 +59,26 @@ pub fn two_mutexes<R: Threads + Wait + Clone + Send + 'static>(
     let second = start(handle, Part::LockBoth(other, one))?;
     handle.join(&first)?;
     handle.join(&second)
+}
+
+/// Two threads load a number, and store one more. Main finds that both have counted: the first test of loom's README.
+pub fn buggy_concurrent_inc<R: Threads + Wait + Clone + Send + 'static>(
+    handle: &mut Handle<u64, R>,
+) -> Result<u64, Stop> {
+    let num = handle.named("num").atomic(0u64)?;
+    let first = start(handle, Part::LoadAndStore(num))?;
+    let second = start(handle, Part::LoadAndStore(num))?;
+    handle.join(&first)?;
+    handle.join(&second)?;
+    let total = handle.load(&num, Relaxed)?;
+    handle.assert(total == 2)?;
+    Ok(total)
+}
+
+fn load_and_store<R: Wait>(handle: &mut Handle<u64, R>, number: &AtomicU64) -> Result<u64, Stop> {
+    let current = handle.load(number, Acquire)?;
+    handle.store(number, current.wrapping_add(1), Release)?;
+    Ok(0)
 }
 
 /// Holds the one while it locks the other.

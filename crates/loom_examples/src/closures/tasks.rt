@@ -1,52 +1,118 @@
-//! What the program does with a row of closures by its options: a check by other settings, one run by given choices, and an
-//! explanation of a failure.
+//! What the program does with a row of closures by its options: a check by other settings or with rising bounds, one run by given
+//! choices, an explanation of a failure, and a JSON object.
 use crate::closures::rows::{ClosureRow, refuse_run};
+use crate::rows::drawing::Drawing;
+use crate::rows::json::{of_replay, of_report, print_answer};
 use crate::rows::line::{self, ShownReport};
 use crate::rows::options::RowAsked;
-use crate::rows::tasks::ShownReplay;
-use crate::rows::words::{refuse, refuse_choices};
+use crate::rows::tasks::{ShownReplay, ShownRisen, Task};
+use crate::rows::words::refuse_choices;
 use loom::model::builder::Builder;
+use loom::model::rising::Risen;
 use loom::model::{Replay, Report};
+use loom::runner::RunnerError;
 use loom::{Choice, Choices};
+use std::alloc::Global;
 use std::io::{self, Write};
 use std::rt::{Clock, Files};
 use std::sync::Wait;
 use std::thread::Threads;
 
-/// Does what is asked of a row of closures, prints what comes of it, and answers the exit status. Such a row has no rising bounds
-/// and no JSON.
+/// What came of a row of closures.
+#[derive(Drop)]
+enum Found {
+    /// What a check found.
+    Report(Report),
+    /// What checks with rising bounds found.
+    Risen(Risen),
+    /// How a run by given choices ended.
+    Replay(Replay<u64>),
+}
+
+impl Found {
+    /// The choices of the run that failed, if one did.
+    fn failing(&self) -> Option<&[Choice]> {
+        match self {
+            Found::Report(report) => failing_choices(report),
+            Found::Risen(risen) => failing_choices(&risen.report),
+            Found::Replay(Replay::Failed { choices, .. }) => Some(choices.as_slice()),
+            Found::Replay(Replay::Ended { .. }) => None,
+        }
+    }
+
+    /// Prints its line, and answers the exit status.
+    fn print<O: Write>(&self, out: &mut O) -> io::Result<u8> {
+        match self {
+            Found::Report(report) => {
+                let shown = ShownReport(report);
+                writeln!(out, "{shown}")?;
+                Ok(line::status_of(report))
+            }
+            Found::Risen(risen) => {
+                let shown = ShownRisen(risen);
+                writeln!(out, "{shown}")?;
+                Ok(line::status_of(&risen.report))
+            }
+            Found::Replay(replay) => {
+                let shown = ShownReplay(replay);
+                writeln!(out, "{shown}")?;
+                match replay {
+                    Replay::Ended { .. } => Ok(0),
+                    Replay::Failed { .. } => Ok(1),
+                }
+            }
+        }
+    }
+
+    /// Prints its JSON object, and answers the exit status.
+    fn print_object<O: Write>(&self, alloc: Global, name: &str, out: &mut O) -> io::Result<u8> {
+        let answer = match self {
+            Found::Report(report) => of_report(alloc, name, None, report)?,
+            Found::Risen(risen) => of_report(alloc, name, Some(risen.bound), &risen.report)?,
+            Found::Replay(replay) => of_replay(alloc, name, replay)?,
+        };
+        print_answer(alloc, &answer, out)
+    }
+}
+
+fn failing_choices(report: &Report) -> Option<&[Choice]> {
+    match report {
+        Report::Failed { choices, .. } => Some(choices.as_slice()),
+        Report::Complete { .. } | Report::Stopped { .. } => None,
+    }
+}
+
+/// Does what is asked of a row of closures, by the settings of this builder where neither the words nor the row name others. Prints what
+/// comes of it, and answers the exit status.
 pub fn run_asked<
     R: AllocGlobal + Clock + Files + Threads + Wait + Clone + Send + 'static,
     O: Write,
     E: Write,
->(rt: &R, row: ClosureRow, asked: RowAsked, out: &mut O, err: &mut E) -> io::Result<u8> {
-    if asked.rises || asked.json {
-        return refuse(
-            err,
-            "error: a row of closures has no '--rising' and no '--json'",
-        );
-    }
-    let builder = row.builder_with(rt.alloc(), asked.file)?;
+>(
+    rt: &R,
+    row: ClosureRow,
+    builder: Builder,
+    asked: RowAsked,
+    out: &mut O,
+    err: &mut E,
+) -> io::Result<u8> {
+    let builder = row.builder_with(rt.alloc(), builder, asked.file)?;
     let builder = asked.changes.change(builder);
-    match asked.replay {
-        None => check_row(rt, row, &builder, asked.explains, out, err),
-        Some(text) => match Choices::parse(rt.alloc(), text) {
-            Ok(choices) => replay_row(
-                rt,
-                row,
-                &builder,
-                choices.as_slice(),
-                asked.explains,
-                out,
-                err,
-            ),
-            Err(error) => refuse_choices(rt.alloc(), text, error, err),
-        },
+    let Some(text) = asked.replay else {
+        let task = if asked.rises { Task::Rise } else { Task::Check };
+        return do_task(rt, row, &builder, task, asked, out, err);
+    };
+    match Choices::parse(rt.alloc(), text) {
+        Ok(choices) => {
+            let task = Task::Replay(choices.as_slice());
+            do_task(rt, row, &builder, task, asked, out, err)
+        }
+        Err(error) => refuse_choices(rt.alloc(), text, error, err),
     }
 }
 
-/// Checks the row, and explains a failure, where that is asked for.
-fn check_row<
+/// Does this with the row, by this builder, prints what comes of it, and answers the exit status.
+fn do_task<
     R: AllocGlobal + Clock + Files + Threads + Wait + Clone + Send + 'static,
     O: Write,
     E: Write,
@@ -54,61 +120,67 @@ fn check_row<
     rt: &R,
     row: ClosureRow,
     builder: &Builder,
-    explains: bool,
+    task: Task,
+    asked: RowAsked,
     out: &mut O,
     err: &mut E,
 ) -> io::Result<u8> {
-    match row.check_by(rt, rt.alloc(), builder) {
-        Ok(report) => {
-            let shown = ShownReport(&report);
-            writeln!(out, "{shown}")?;
-            if explains && let Report::Failed { choices, .. } = &report {
-                tell_failure(rt, row, builder, choices.as_slice(), out)?;
-            }
-            Ok(line::status_of(&report))
-        }
+    match find(rt, row, builder, task) {
+        Ok(found) => print_found(rt, row, builder, &found, asked, out),
         Err(error) => refuse_run(err, builder, error),
     }
 }
 
-/// Makes one run of the row by these choices, and explains a failure, where that is asked for.
-fn replay_row<R: AllocGlobal + Threads + Wait + Clone + Send + 'static, O: Write, E: Write>(
+/// What comes of this.
+fn find<R: AllocGlobal + Clock + Files + Threads + Wait + Clone + Send + 'static>(
     rt: &R,
     row: ClosureRow,
     builder: &Builder,
-    choices: &[Choice],
-    explains: bool,
-    out: &mut O,
-    err: &mut E,
-) -> io::Result<u8> {
-    match row.replay(rt, rt.alloc(), builder, choices) {
-        Ok(replay) => {
-            let shown = ShownReplay(&replay);
-            writeln!(out, "{shown}")?;
-            match &replay {
-                Replay::Ended { .. } => Ok(0),
-                Replay::Failed { choices, .. } => {
-                    if explains {
-                        tell_failure(rt, row, builder, choices.as_slice(), out)?;
-                    }
-                    Ok(1)
-                }
-            }
-        }
-        Err(error) => refuse_run(err, builder, error),
-    }
+    task: Task,
+) -> Result<Found, RunnerError> {
+    let alloc = rt.alloc();
+    Ok(match task {
+        Task::Check => Found::Report(row.check_by(rt, alloc, builder)?),
+        Task::Rise => Found::Risen(row.check_rising(rt, alloc, builder)?),
+        Task::Replay(choices) => Found::Replay(row.replay(rt, alloc, builder, choices)?),
+    })
 }
 
-/// Explains the failing run with these choices.
-fn tell_failure<R: AllocGlobal + Threads + Wait + Clone + Send + 'static, O: Write>(
+/// Prints what came of it as is asked for, and answers the exit status.
+fn print_found<R: AllocGlobal + Files + Threads + Wait + Clone + Send + 'static, O: Write>(
+    rt: &R,
+    row: ClosureRow,
+    builder: &Builder,
+    found: &Found,
+    asked: RowAsked,
+    out: &mut O,
+) -> io::Result<u8> {
+    if asked.json {
+        return found.print_object(rt.alloc(), row.name(), out);
+    }
+    let status = found.print(out)?;
+    if asked.explains
+        && let Some(choices) = found.failing()
+    {
+        tell_failure(rt, row, builder, choices, asked.drawing, out)?;
+    }
+    Ok(status)
+}
+
+/// Explains the failing run with these choices, and draws it where that is asked for.
+fn tell_failure<R: AllocGlobal + Files + Threads + Wait + Clone + Send + 'static, O: Write>(
     rt: &R,
     row: ClosureRow,
     builder: &Builder,
     choices: &[Choice],
+    drawing: Drawing,
     out: &mut O,
 ) -> io::Result<()> {
     match row.explain(rt, rt.alloc(), builder, choices) {
-        Ok(explanation) => write!(out, "{explanation}"),
+        Ok(explanation) => {
+            write!(out, "{explanation}")?;
+            drawing.draw(rt, rt.alloc(), &explanation)
+        }
         Err(error) => writeln!(out, "{error}"),
     }
 }

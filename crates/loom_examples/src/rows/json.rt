@@ -19,7 +19,7 @@ use std::rt::{Clock, Files};
 
 /// What is printed, and the exit status.
 #[derive(Drop)]
-struct Answer {
+pub(crate) struct Answer {
     object: Value,
     status: u8,
 }
@@ -58,14 +58,21 @@ pub fn do_task<R: AllocGlobal + Clock + Files, O: Write, E: Write>(
 ) -> io::Result<u8> {
     let builder = changes.change(row.settings.builder_with(rt.alloc(), file)?);
     match make_answer(rt, &builder, row, task) {
-        Ok(answer) => {
-            let text = answer.object.to_string(rt.alloc())?;
-            writeln!(out, "{text}")?;
-            Ok(answer.status)
-        }
+        Ok(answer) => print_answer(rt.alloc(), &answer, out),
         Err(NoAnswer::Check(error)) => refuse_check(err, &builder, error),
         Err(NoAnswer::Memory) => Ok(2),
     }
+}
+
+/// Prints the object, and answers the exit status.
+pub(crate) fn print_answer<O: Write>(
+    alloc: Global,
+    answer: &Answer,
+    out: &mut O,
+) -> io::Result<u8> {
+    let text = answer.object.to_string(alloc)?;
+    writeln!(out, "{text}")?;
+    Ok(answer.status)
 }
 
 fn make_answer<R: AllocGlobal + Clock + Files>(
@@ -109,8 +116,8 @@ fn of_body<R: AllocGlobal + Clock + Files, B: Body<Data = u64>>(
     }
 }
 
-// The object of a report, with the last bound where bounds rose.
-fn of_report(
+/// The object of a report, with the last bound where bounds rose.
+pub(crate) fn of_report(
     alloc: Global,
     name: &str,
     bound: Option<usize>,
@@ -144,8 +151,12 @@ fn of_report(
     }
 }
 
-// The object of a run by given choices.
-fn of_replay(alloc: Global, name: &str, replay: &Replay<u64>) -> Result<Answer, AllocError> {
+/// The object of a run by given choices.
+pub(crate) fn of_replay(
+    alloc: Global,
+    name: &str,
+    replay: &Replay<u64>,
+) -> Result<Answer, AllocError> {
     match replay {
         Replay::Ended { choices, value } => {
             let mut object = json!(in alloc; { "row": name, "result": "ended", "value": *value })?;

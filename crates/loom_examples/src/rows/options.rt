@@ -4,6 +4,7 @@ ghost use Rattle.std.specs.List.{list_any};
 ghost use Rattle.loom_examples.specs.Rows.Words.{begins_with, ends_name, is_named, is_option};
 
 use crate::rows::changes::Changes;
+use crate::rows::drawing::Drawing;
 use clap::{Arg, ArgAction, ArgMatches, Command, Error, value_parser};
 use std::alloc::{AllocError, Global};
 use std::time::Duration;
@@ -30,6 +31,8 @@ struct Known {
     help: &'static str,
     /// What can't be given beside it.
     conflicts: &'static [&'static str],
+    /// What has to be given beside it, if something has.
+    needs: Option<&'static str>,
     /// Whether nothing can be given beside it.
     alone: bool,
 }
@@ -39,6 +42,7 @@ const FLAG: Known = Known {
     takes: Takes::Nothing,
     help: "",
     conflicts: &[],
+    needs: None,
     alone: false,
 };
 
@@ -48,11 +52,25 @@ const NUMBER: Known = Known {
 };
 
 // All options, in the order of the help, which clap adds itself.
-static OPTIONS: [Known; 17] = [
+static OPTIONS: [Known; 19] = [
     // What the program does besides a check.
     Known {
         name: "explain",
         help: "where a run failed, explain it below the line",
+        ..FLAG
+    },
+    Known {
+        name: "svg",
+        takes: Takes::Text("FILE"),
+        help: "draw the run that is explained into this file, as a picture that a browser shows",
+        needs: Some("explain"),
+        ..FLAG
+    },
+    Known {
+        name: "mermaid",
+        takes: Takes::Text("FILE"),
+        help: "write the run that is explained into this file, as a diagram of Mermaid",
+        needs: Some("explain"),
         ..FLAG
     },
     Known {
@@ -156,6 +174,10 @@ impl Known {
             .help(self.help)
             .exclusive(self.alone)
             .conflicts_with_all(self.conflicts)?;
+        let arg = match self.needs {
+            Some(other) => arg.requires_arg(other)?,
+            None => arg,
+        };
         Ok(match self.takes {
             Takes::Nothing => arg.action(ArgAction::SetTrue),
             Takes::Number(value) => arg.value_name(value).value_parser(value_parser!(usize)),
@@ -227,6 +249,8 @@ pub struct RowAsked<'a> {
     pub rises: bool,
     /// Whether a failure is explained.
     pub explains: bool,
+    /// The files that it is drawn into.
+    pub drawing: Drawing<'a>,
     /// Whether the answer is a JSON object.
     pub json: bool,
     /// The settings that take the place of the row's own.
@@ -251,6 +275,10 @@ pub fn read<'a>(alloc: Global, words: &'a [&str]) -> Result<Asked<'a>, Error> {
         replay: matches.get_str("replay"),
         rises: matches.get_flag("rising"),
         explains: matches.get_flag("explain"),
+        drawing: Drawing {
+            svg: matches.get_str("svg"),
+            mermaid: matches.get_str("mermaid"),
+        },
         json: matches.get_flag("json"),
         changes: changes(&matches),
     }))

@@ -5,6 +5,7 @@ ghost use Rattle.loom_examples.specs.Rows.Printed.{PrintedNamed};
 ghost use Rattle.loom_examples.specs.Rows.Words.{is_option};
 
 use crate::closures::rows::ROWS;
+use crate::rows::drawing::draw_row;
 use crate::rows::options::{Asked, RowAsked, is_option, read};
 use crate::rows::tasks::{Task, do_changed};
 use crate::rows::{self, Row, json, row_of, timed};
@@ -151,9 +152,13 @@ fn run_task<R: AllocGlobal + Clock + Files, O: Write, E: Write>(
     let RowAsked {
         changes,
         explains,
+        drawing,
         file,
         ..
     } = asked;
+    if drawing.is_asked() {
+        return draw_row(rt, row, changes, task, drawing, file, out, err);
+    }
     if asked.json {
         json::do_task(rt, row, changes, task, file, out, err)
     } else if changes.max_duration.is_some() {

@@ -43,7 +43,7 @@ impl Closures {
     }
 
     /// What a check finds.
-    fn check<R: AllocGlobal + Threads + Wait + Clone + Send + 'static>(
+    fn check<R: AllocGlobal + Files + Threads + Wait + Clone + Send + 'static>(
         self,
         rt: &R,
         builder: &Builder,
@@ -63,7 +63,7 @@ fn ends_by(report: &Report, kind: Option<FailureKind>) -> bool {
 }
 
 /// The closures' check is complete, or a run of them failed by this kind; and the bodies' check found the same, after as many runs.
-fn both_find<R: Abort + AllocGlobal + Threads + Wait + Clone + Send + 'static>(
+fn both_find<R: Abort + AllocGlobal + Files + Threads + Wait + Clone + Send + 'static>(
     rt: &R,
     builder: &Builder,
     closures: Closures,

@@ -5,8 +5,10 @@ use loom::model::{Replay, Report};
 use loom::runner::{Handle, Host, NoVisitor, RunnerError, Stop, check, model, replay};
 use loom::sync::Mutex;
 use loom::sync::atomic::AtomicU64;
-use loom::sync::atomic::Ordering::{AcqRel, Acquire, Release};
+use loom::sync::atomic::Ordering::{self, AcqRel, Acquire, Relaxed, Release};
 use loom::{Choice, Choices, Failure, FailureKind};
+use loom_examples::closures::stack::through_stack;
+use std::process::Abort;
 use std::sync::Wait;
 use std::test::Fail;
 
@@ -56,31 +58,40 @@ fn a_closure_prints(rt: HostRuntime) -> Result<(), Fail> {
     Ok(())
 }
 
-/// Three threads make six updates each, and there are more runs than end within minutes. With few preemptions there are few.
+/// Three threads put a node each on Treiber's stack, and take one off. With few preemptions there are few runs.
 #[test]
 fn few_preemptions_make_few_runs(rt: HostRuntime) -> Result<(), Fail> {
-    let mut builder = Builder::new();
-    builder.preemption_bound = Some(1);
-    let main = |handle: &mut Handle<(), HostRuntime>| {
-        let num = handle.atomic(0u64)?;
-        let first = handle.spawn(move |handle| add_six(handle, &num))?;
-        let second = handle.spawn(move |handle| add_six(handle, &num))?;
-        add_six(handle, &num)?;
-        handle.join(&first)?;
-        handle.join(&second)
-    };
-    let report = check(&rt, rt.alloc(), &builder, main, &mut NoVisitor)?;
-    println!(rt; "{report}")?;
-    assert!(rt; report.is_complete(), "{report}");
+    has_runs(&rt, 0, 16)?;
+    has_runs(&rt, 1, 186)?;
+    has_runs(&rt, 2, 1_361)
+}
+
+/// With so many preemptions at most the stack has so many runs, and none fails.
+fn has_runs<R: Abort + Host>(rt: &R, bound: usize, wanted: u64) -> Result<(), Fail> {
+    let report = check_stack(rt, bound, Release)?;
+    let has_runs = matches!(&report, Report::Complete { runs } if *runs == wanted);
+    assert!(rt; has_runs, "{report}");
     Ok(())
 }
 
-/// Adds one to the number six times.
-fn add_six<R: Wait>(handle: &mut Handle<(), R>, num: &AtomicU64) -> Result<(), Stop> {
-    for _ in 0..6 {
-        handle.fetch_add(num, 1, AcqRel)?;
-    }
+/// Where the nodes are put on by `Relaxed` two preemptions show a race, and one doesn't.
+#[test]
+fn few_preemptions_hide_a_race(rt: HostRuntime) -> Result<(), Fail> {
+    let report = check_stack(&rt, 1, Relaxed)?;
+    assert!(rt; report.is_complete(), "{report}");
+    let report = check_stack(&rt, 2, Relaxed)?;
+    let is_race =
+        matches!(&report, Report::Failed { failure, .. } if failure.kind == FailureKind::Race);
+    assert!(rt; is_race, "{report}");
     Ok(())
+}
+
+/// A check of the stack with so many preemptions at most.
+fn check_stack<R: Host>(rt: &R, bound: usize, publish: Ordering) -> Result<Report, RunnerError> {
+    let mut builder = Builder::new();
+    builder.preemption_bound = Some(bound);
+    let main = |handle: &mut Handle<u64, R>| through_stack(handle, publish);
+    check(rt, rt.alloc(), &builder, main, &mut NoVisitor)
 }
 
 /// Two threads lock two mutexes in opposite order.

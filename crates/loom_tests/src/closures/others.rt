@@ -9,7 +9,9 @@ use loom::thread::{exit, finish};
 use loom::{FailureKind, Reply, thread};
 use loom_examples::closures::scenes;
 use std::process::Abort;
+use std::rt::Files;
 use std::sync::Wait;
+use std::test::Fail;
 use std::thread::Threads;
 
 /// What main does.
@@ -111,7 +113,7 @@ fn notifies<R: Wait>(
 }
 
 /// What a check of main by these settings comes to; None where there is no report.
-fn found<R: Abort + AllocGlobal + Threads + Wait + Clone + Send + 'static>(
+fn found<R: Abort + AllocGlobal + Files + Threads + Wait + Clone + Send + 'static>(
     rt: &R,
     builder: &Builder,
     main: Main,
@@ -121,7 +123,7 @@ fn found<R: Abort + AllocGlobal + Threads + Wait + Clone + Send + 'static>(
 }
 
 /// A check of main by these settings makes so many runs, none of which fails.
-fn completes<R: Abort + AllocGlobal + Threads + Wait + Clone + Send + 'static>(
+fn completes<R: Abort + AllocGlobal + Files + Threads + Wait + Clone + Send + 'static>(
     rt: &R,
     builder: &Builder,
     main: Main,
@@ -135,7 +137,10 @@ fn completes<R: Abort + AllocGlobal + Threads + Wait + Clone + Send + 'static>(
 }
 
 /// The first run of main is a failed assertion, before any choice.
-fn fails<R: Abort + AllocGlobal + Threads + Wait + Clone + Send + 'static>(rt: &R, main: Main) {
+fn fails<R: Abort + AllocGlobal + Files + Threads + Wait + Clone + Send + 'static>(
+    rt: &R,
+    main: Main,
+) {
     let is_so = match &found(rt, &Builder::new(), main) {
         Some(
             Report::Failed {
@@ -182,4 +187,12 @@ fn a_wait_without_a_loop_ends(rt: HostRuntime) {
         &rt,
         matches!(report, Some(Report::Complete { runs }) if runs > 0),
     );
+}
+
+/// A check by the settings that the environment of the process names.
+#[test]
+fn a_check_by_the_environment(rt: HostRuntime) -> Result<(), Fail> {
+    let builder = Builder::from_process(&rt)?;
+    completes(&rt, &builder, Main::Calls, 1);
+    Ok(())
 }

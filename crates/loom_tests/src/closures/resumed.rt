@@ -1,13 +1,9 @@
 //! Checks of closures that stop, and go on from the text of their path.
-use crate::asserting::same;
 use crate::closures::holds;
-use crate::page::Page;
-use log::sink::Memory;
-use log::{Level, Log, Logged};
 use loom::model::error::CheckError;
 use loom::model::visitor::Visitor;
 use loom::model::{Builder, Limit, Report};
-use loom::runner::{Handle, NoVisitor, RunnerError, Stop, check_with};
+use loom::runner::{Handle, NoVisitor, RunnerError, check, check_rising, check_with};
 use loom::{CheckpointStore, Choice, FailureKind, MemoryStore, NoClock};
 use loom_examples::closures::rows::ClosureRow;
 use loom_examples::closures::scenes;
@@ -17,9 +13,10 @@ use std::process::Abort;
 use std::sync::Wait;
 use std::test::Fail;
 use std::thread::Threads;
-use std::time::Duration;
 
 const FILE: &str = "loom_tests_closures.json";
+
+const OWN_FILE: &str = "loom_tests_own_closures.json";
 
 /// Keeps the choices of each run that it is given.
 #[derive(Drop)]
@@ -37,21 +34,6 @@ impl<D: Drop> Visitor<D> for Lists {
     }
 }
 
-/// A clock on which a second passes with each answer.
-#[derive(Drop)]
-struct Ticking {
-    seconds: u64,
-}
-
-impl loom::Clock for Ticking {
-    ghost answered = { λ clock time. Unit {0} };
-
-    fn elapsed(&mut self) -> Duration {
-        self.seconds = self.seconds.saturating_add(1);
-        Duration::from_secs(self.seconds)
-    }
-}
-
 /// A check of store buffering by closures, without a clock and a log.
 fn check_store_buffering<R: Threads + Wait + Clone + Send + 'static>(
     rt: &R,
@@ -66,7 +48,7 @@ fn check_store_buffering<R: Threads + Wait + Clone + Send + 'static>(
 }
 
 /// Whether the report is that so many runs were made, up to this limit.
-fn is_stopped(report: &Result<Report, RunnerError>, count: u64, by: Limit) -> bool {
+pub(super) fn is_stopped(report: &Result<Report, RunnerError>, count: u64, by: Limit) -> bool {
     match report {
         Ok(Report::Stopped { runs, limit, .. }) => *runs == count && *limit == by,
         _ => false,
@@ -74,7 +56,7 @@ fn is_stopped(report: &Result<Report, RunnerError>, count: u64, by: Limit) -> bo
 }
 
 /// Whether it is that the check is complete with so many runs.
-fn is_complete(report: &Result<Report, RunnerError>, count: u64) -> bool {
+pub(super) fn is_complete(report: &Result<Report, RunnerError>, count: u64) -> bool {
     matches!(report, Ok(Report::Complete { runs }) if *runs == count)
 }
 
@@ -117,7 +99,11 @@ fn a_stopped_check_goes_on_to_the_same_runs(rt: HostRuntime) -> Result<(), Fail>
 #[test]
 fn a_row_goes_on_from_its_file(rt: HostRuntime) -> Result<(), Fail> {
     let _ = fs::remove_file(&rt, FILE);
-    let mut builder = ClosureRow::StoreBuffering.builder_with(rt.alloc(), Some(FILE))?;
+    let mut builder = ClosureRow::StoreBuffering.builder_with(
+        rt.alloc(),
+        Builder::new(),
+        Some(FILE),
+    )?;
     builder.max_permutations = Some(12);
     let first = ClosureRow::StoreBuffering.check_by(&rt, rt.alloc(), &builder);
     builder.max_permutations = None;
@@ -125,6 +111,38 @@ fn a_row_goes_on_from_its_file(rt: HostRuntime) -> Result<(), Fail> {
     let _ = fs::remove_file(&rt, FILE);
     holds(&rt, is_stopped(&first, 12, Limit::Permutations));
     holds(&rt, is_complete(&second, 18));
+    Ok(())
+}
+
+/// `check` goes on from the builder's file.
+#[test]
+fn a_check_keeps_the_file_of_its_builder(rt: HostRuntime) -> Result<(), Fail> {
+    let _ = fs::remove_file(&rt, OWN_FILE);
+    let mut builder = Builder::new();
+    builder.checkpoint_file(rt.alloc(), OWN_FILE)?;
+    builder.max_permutations = Some(4);
+    let main = |handle: &mut Handle<u64, HostRuntime>| scenes::store_buffering(handle);
+    let first = check(&rt, rt.alloc(), &builder, main, &mut NoVisitor);
+    builder.max_permutations = None;
+    let main = |handle: &mut Handle<u64, HostRuntime>| scenes::store_buffering(handle);
+    let second = check(&rt, rt.alloc(), &builder, main, &mut NoVisitor);
+    let _ = fs::remove_file(&rt, OWN_FILE);
+    holds(&rt, is_stopped(&first, 4, Limit::Permutations));
+    holds(&rt, is_complete(&second, 26));
+    Ok(())
+}
+
+/// The deadlock needs one preemption, and store buffering comes up to the last bound.
+#[test]
+fn bounds_rise(rt: HostRuntime) -> Result<(), Fail> {
+    let mut builder = Builder::new();
+    builder.reduce = false;
+    let main = |handle: &mut Handle<u64, HostRuntime>| scenes::two_mutexes(handle);
+    let risen = check_rising(&rt, rt.alloc(), &builder, main, 3)?;
+    holds(&rt, risen.bound == 1 && !risen.report.is_complete());
+    let main = |handle: &mut Handle<u64, HostRuntime>| scenes::store_buffering(handle);
+    let risen = check_rising(&rt, rt.alloc(), &builder, main, 2)?;
+    holds(&rt, risen.bound == 2 && risen.report.is_complete());
     Ok(())
 }
 
@@ -185,55 +203,5 @@ fn a_path_of_another_closure_is_told_apart(rt: HostRuntime) {
             runs == 0 && failure.kind == FailureKind::NotDeterministic,
         ),
         _ => holds(&rt, false),
-    }
-}
-
-/// Puts on the page what a check of locks beside a thread comes to, whose time is over after so much. It saves before each second run.
-fn put_check<R: AllocGlobal + Threads + Wait + Clone + Send + 'static, L: Log>(
-    rt: &R,
-    longest: Option<Duration>,
-    log: &L,
-    page: &mut Page,
-) {
-    let alloc: Global = rt.alloc();
-    let mut builder = ClosureRow::LockBeside.builder();
-    builder.checkpoint_interval = 2;
-    builder.max_duration = longest;
-    let main = |handle: &mut Handle<u64, R>| scenes::lock_beside(handle);
-    let mut clock = Ticking { seconds: 0 };
-    let mut store = MemoryStore::new(alloc);
-    let report = check_with(
-        rt,
-        alloc,
-        &builder,
-        main,
-        &mut NoVisitor,
-        &mut clock,
-        &mut store,
-        log,
-    );
-    if is_stopped(&report, 1, Limit::Duration) {
-        page.add("stopped\n");
-    }
-    if is_complete(&report, 3) {
-        page.add("complete\n");
-    }
-}
-
-const WHOLE: &str =
-    "complete\n[INFO  loom::search] iteration 2\n[INFO  loom::search] completed in 3 iterations\n";
-
-/// A check tells its log how far it has come, and stops when its time is over.
-#[test]
-fn a_log_is_told_and_a_clock_is_asked(rt: HostRuntime) {
-    for (longest, text) in [(None, WHOLE), (Some(Duration::from_secs(2)), "stopped\n")] {
-        let mut page = Page::new(rt.alloc());
-        let log = Logged::new(rt, Level::Info, Memory::new(rt.alloc()));
-        put_check(&rt, longest, &log, &mut page);
-        let (_, sink) = log.into_parts();
-        for line in sink.into_lines().as_slice() {
-            page.put("", line);
-        }
-        same(&rt, page.text.as_str(), text, "a log of closures");
     }
 }

@@ -1,6 +1,7 @@
 //! What the program prints of the rows that are closures.
 use crate::closures::holds;
-use loom_examples::closures::rows::{ClosureRow, ROWS, run_row};
+use loom::model::builder::Builder;
+use loom_examples::closures::rows::{ClosureRow, ROWS, named, run_row};
 use loom_examples::closures::tasks::run_asked;
 use loom_examples::rows::options::{Asked, read};
 use std::io;
@@ -11,7 +12,7 @@ use std::test::Fail;
 use std::thread::Threads;
 
 /// Each row's line and status.
-static LINES: [(&str, &str, u8); 10] = [
+static LINES: [(&str, &str, u8); 12] = [
     (
         "two_mutexes_deadlock_closures",
         "failed 2 3 t1 t1 t2 t2 t-\n",
@@ -30,6 +31,12 @@ static LINES: [(&str, &str, u8); 10] = [
         "failed 3 0 t0 l0 t1 t1 t1 t1 l0 t0 t0 l1\n",
         1,
     ),
+    ("treiber_stack_closures", "complete 16\n", 0),
+    (
+        "buggy_concurrent_inc_closures",
+        "failed 1 0 t1 t1 l0 t1 t1 t0 t2 t2 l0 t2 t2 t0 t0 l1\n",
+        1,
+    ),
 ];
 
 /// Whether the row prints this line and nothing besides, and has this status.
@@ -42,7 +49,7 @@ fn is_printed<R: AllocGlobal + Clock + Files + Threads + Wait + Clone + Send + '
 ) -> io::Result<bool> {
     let mut out = Vec::new(rt.alloc());
     let mut err = Vec::new(rt.alloc());
-    let answer = run_row(rt, row, file, &mut out, &mut err)?;
+    let answer = run_row(rt, row, Builder::new(), file, &mut out, &mut err)?;
     Ok(answer == status && out.as_slice() == line.as_bytes() && err.is_empty())
 }
 
@@ -96,22 +103,88 @@ fn words_that_mean_a_row(rt: HostRuntime) {
 }
 
 /// What is printed where the first word behind `--replay` is no choice.
-static NO_THREAD: &str =
+const NO_THREAD: &str =
     "usage: loom_rows NAME [FILE]\nerror: invalid value 't9 l0' for '--replay <CHOICES>': word 1 is no choice: a choice is `t0` to `t4` or `t-`, `l0` to `l6`, `s0` or `s1`, with a space between two\n\nFor the options try '--help', and for the names '--list'.\n";
 
-/// Choices that no run can make are refused with the usage, as of any other row.
-#[test]
-fn choices_that_no_run_makes_are_refused(rt: HostRuntime) -> Result<(), Fail> {
+/// What words with options ask for, what is printed of it on standard output and on standard error, and the status. It is what is printed
+/// of any other row.
+struct Said {
+    words: &'static [&'static str],
+    out: &'static str,
+    err: &'static str,
+    status: u8,
+}
+
+static SAID: [Said; 6] = [
+    Said {
+        words: &["--replay", "t9 l0", "lock_beside_closures"],
+        out: "",
+        err: NO_THREAD,
+        status: 2,
+    },
+    Said {
+        words: &["--rising", "two_mutexes_deadlock_closures"],
+        out: "bound 1 failed 2 2 t1 t1 t2 t2 t-\n",
+        err: "",
+        status: 1,
+    },
+    Said {
+        words: &["--rising", "lock_beside_closures"],
+        out: "bound 3 complete 3\n",
+        err: "",
+        status: 0,
+    },
+    Said {
+        words: &["--json", "lock_beside_closures"],
+        out: "{\"result\":\"complete\",\"row\":\"lock_beside_closures\",\"runs\":3}\n",
+        err: "",
+        status: 0,
+    },
+    Said {
+        words: &["--json", "--rising", "two_mutexes_deadlock_closures"],
+        out: "{\"bound\":1,\"cause\":\"no thread can run, and some have not ended: see what each of these waits for, and who was to let it go on\",\"choices\":\"t1 t1 t2 t2 t-\",\"failure\":2,\"result\":\"failed\",\"row\":\"two_mutexes_deadlock_closures\",\"runs\":2}\n",
+        err: "",
+        status: 1,
+    },
+    Said {
+        words: &[
+            "--json",
+            "--replay",
+            "t1 t1 t2 t2 t-",
+            "two_mutexes_deadlock_closures",
+        ],
+        out: "{\"cause\":\"no thread can run, and some have not ended: see what each of these waits for, and who was to let it go on\",\"choices\":\"t1 t1 t2 t2 t-\",\"failure\":2,\"result\":\"failed\",\"row\":\"two_mutexes_deadlock_closures\"}\n",
+        err: "",
+        status: 1,
+    },
+];
+
+/// Whether the words come to that.
+fn is_said<R: AllocGlobal + Clock + Files + Threads + Wait + Clone + Send + 'static>(
+    rt: &R,
+    said: &Said,
+) -> io::Result<bool> {
     let mut out = Vec::new(rt.alloc());
     let mut err = Vec::new(rt.alloc());
-    let words = ["--replay", "t9 l0", "lock_beside_closures"];
-    let status = match read(rt.alloc(), &words) {
-        Ok(Asked::Row(asked)) => {
-            run_asked(&rt, ClosureRow::LockBeside, asked, &mut out, &mut err)?
+    let status = match read(rt.alloc(), said.words) {
+        Ok(Asked::Row(asked)) if let Some(row) = named(asked.name) => {
+            run_asked(rt, row, Builder::new(), asked, &mut out, &mut err)?
         }
-        _ => 0,
+        _ => return Ok(false),
     };
-    holds(&rt, status == 2 && out.is_empty());
-    holds(&rt, err.as_slice() == NO_THREAD.as_bytes());
+    Ok(
+        status == said.status
+            && out.as_slice() == said.out.as_bytes()
+            && err.as_slice() == said.err.as_bytes(),
+    )
+}
+
+/// A row of closures takes the options that any other row takes.
+#[test]
+fn rows_take_all_options(rt: HostRuntime) -> Result<(), Fail> {
+    for said in &SAID {
+        let is_said = is_said(&rt, said)?;
+        assert!(rt; is_said, "{}", said.out);
+    }
     Ok(())
 }

@@ -73,7 +73,7 @@ fn loads(rt: &(impl Abort + AllocGlobal), folder: &Folder, text: Option<&str>) {
     let mut store = FileStore::new(&files, rt.alloc(), NAME);
     match store.load(rt.alloc()) {
         Ok(loaded) => {
-            let is_so = is_loaded(&loaded, text) && !folder.has_failed();
+            let is_so = has_text(&loaded, text) && !folder.has_failed();
             holds(rt, is_so, "the file's text is loaded");
         }
         Err(error) => {
@@ -85,9 +85,10 @@ fn loads(rt: &(impl Abort + AllocGlobal), folder: &Folder, text: Option<&str>) {
     holds(rt, folder.has(text), "the file has what it had");
 }
 
-fn is_loaded(loaded: &Option<Vec<u8>>, text: Option<&str>) -> bool {
-    match (loaded, text) {
-        (Some(loaded), Some(text)) => loaded.as_slice() == text.as_bytes(),
+// Whether the bytes are just this text, or both are missing.
+pub(super) fn has_text(bytes: &Option<Vec<u8>>, text: Option<&str>) -> bool {
+    match (bytes, text) {
+        (Some(bytes), Some(text)) => bytes.as_slice() == text.as_bytes(),
         (None, None) => true,
         (Some(_), None) | (None, Some(_)) => false,
     }

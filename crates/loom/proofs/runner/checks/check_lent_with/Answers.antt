@@ -29,8 +29,8 @@ returns-in_err-test-clause-faults g c =
 pub returns-clause-errors : goal.returns-clause-errors
 returns-clause-errors g c =
     broken (CalledAtMut g.F.FnMut) g.V.Visitor.takes c.args.builder.now (g.S.CheckpointStore.gives c.args.store.now)
-    (HasRisen (g.S.CheckpointStore.fault_count c.args.store.now) (g.S.CheckpointStore.fault_count c.make_rounds.new.store)) c.args.closure.now c.args.visitor.now c.make_rounds.new.visitor
-    c.make_rounds.result (sym c.in_ok-test.ensures.tested) c.make_rounds.ensures.errors
+    (HasRisen (g.S.CheckpointStore.fault_count c.args.store.now) (g.S.CheckpointStore.fault_count c.make_rounds-answer.new.store)) c.args.closure.now c.args.visitor.now c.make_rounds-answer.new.visitor
+    c.make_rounds-answer.result (sym c.in_ok-test.ensures.tested) c.make_rounds-answer.ensures.errors
 
 pub returns-in_err-test-clause-changed : goal.returns-in_err-test-clause-changed
 returns-in_err-test-clause-changed g c =
