@@ -3,12 +3,16 @@ pub mod BoundExample
 pub mod Bounds
 pub mod Called
 pub mod Checking
+pub mod Drawing
 pub mod Errors
 pub mod Handing
 pub mod Numbers
+pub mod Parts
 pub mod Paths
 pub mod Reading
 pub mod Replaying
+pub mod Shortening
 pub mod Unequal
 pub mod Unheard
+pub mod Walking
 pub mod Within

@@ -2,6 +2,7 @@ pub mod Alternatives
 pub mod Asking
 pub mod Driving
 pub mod Failing
+pub mod Finding
 pub mod Following
 pub mod Leading
 pub mod Made
@@ -10,3 +11,5 @@ pub mod Paths
 pub mod Remembering
 pub mod Tried
 pub mod Trying
+pub mod Turns
+pub mod Workers

@@ -10,6 +10,7 @@ pub mod Errors
 pub mod Fresh
 pub mod Listening
 pub mod Loop
+pub mod Parts
 pub mod Refusals
 pub mod Replayed
 pub mod Rising
@@ -17,7 +18,9 @@ pub mod Rounds
 pub mod Run
 pub mod Saving
 pub mod Settings
+pub mod Shorter
 pub mod StoredText
 pub mod Stores
 pub mod Turns
+pub mod Walking
 pub mod Within

@@ -15,7 +15,9 @@ pub mod Kinds
 pub mod Laws
 pub mod Made
 pub mod Next
+pub mod Parallel
 pub mod Refusals
 pub mod Replay
 pub mod Rising
 pub mod Run
+pub mod Workers

@@ -2,7 +2,7 @@
 //! choice's own word, and how one is found in a text, stand in `loom_objects`. A report shows such a text, and whoever reads it gives
 //! it to a replay.
 ghost use Rattle.std.specs.Prelude.{◌≡◌, ◌≢◌, Some, None, IfOk, IfErr};
-ghost use Rattle.loom.specs.Model.ChoicesRead.{choices_in, first_choice, may_come};
+ghost use Rattle.loom.specs.Model.ChoicesRead.{choices_in};
 ghost use Rattle.loom.specs.Model.ChoicesText.{choices_text, others_text};
 ghost use Rattle.loom.specs.declared.choices.ChoicesError.TheVariants.{Memory};
 
@@ -10,7 +10,6 @@ pub mod laws;
 
 use loom_objects::choice::Choice;
 use loom_objects::choice::word::{first_word, is_space};
-use loom_views::rt::{MAX_ATOMIC_HISTORY, MAX_THREADS};
 use std::alloc::{AllocError, Global};
 use std::fmt;
 use thiserror::Error;
@@ -96,7 +95,7 @@ impl Choices {
             if is_space(*first) {
                 rest = after;
             } else {
-                let Some(choice) = first_choice(*first, after) else {
+                let Some(choice) = first_word(*first, after) else {
                     return Err(ChoicesError::NotAChoice(choices.len() + 1));
                 };
                 choices.push(choice).map_err(AllocError::from)?;
@@ -111,24 +110,5 @@ impl Choices {
         ensures { result.now ≡ self.now.0.items }
     {
         self.0.as_slice()
-    }
-}
-
-/// The choice of the word that begins with this letter, if a run may make it.
-fn first_choice(letter: u8, after: &[u8]) -> Option<Choice>
-    ensures { result ≡ first_choice letter after.now }
-{
-    let choice = first_word(letter, after)?;
-    if may_come(choice) { Some(choice) } else { None }
-}
-
-/// Whether a run may make the choice: it has threads 0 to 4 at most, and a load slots 0 to 6.
-fn may_come(choice: Choice) -> bool
-    ensures { result ≡ may_come choice }
-{
-    match choice {
-        Choice::Thread(Some(thread)) => usize::from(thread) < MAX_THREADS,
-        Choice::Load(slot) => usize::from(slot) < MAX_ATOMIC_HISTORY,
-        Choice::Thread(None) | Choice::Spurious(_) => true,
     }
 }

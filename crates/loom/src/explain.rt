@@ -19,6 +19,7 @@ pub use loom_explain::event::{End, Event};
 pub use loom_explain::explanation::{Explanation, Options};
 pub use loom_explain::picture::{Arrow, Form, Lane, Mark, Picture, Row, Shown, Spot, Tie};
 use loom_explain::text::text_of;
+pub use loom_explain::values::{Displayed, Hidden, Show, Values};
 use loom_objects::body::Body;
 use loom_objects::choice::Choice;
 use std::alloc::{AllocError, Global};
@@ -37,8 +38,24 @@ impl Builder {
         ensures refused { IfErr (tested self.now) (λ e. result ≡ Err e) }
         ensures errors { IfErr result (λ e. (e ≡ CheckError.Memory) ⊎ (tested self.now ≡ Err e)) }
     {
+        self.explain_with(alloc, body, choices, &Hidden)
+    }
+
+    /// What `explain` tells, with the data of operations and replies in its text as `show` writes them (own). `&Displayed` shows what
+    /// can be printed.
+    pub fn explain_with<B: Body, W: Show<B::Data>>(
+        &self,
+        alloc: Global,
+        body: &B,
+        choices: &[Choice],
+        show: &W,
+    ) -> Result<Explanation, CheckError>
+        ensures explains { IfOk result (Explains self.now B.next body.now choices.now) }
+        ensures refused { IfErr (tested self.now) (λ e. result ≡ Err e) }
+        ensures errors { IfErr result (λ e. (e ≡ CheckError.Memory) ⊎ (tested self.now ≡ Err e)) }
+    {
         self.test()?;
-        let (told, path) = self.tell(alloc, body, choices)?;
+        let (told, path) = self.tell(alloc, show, body, choices)?;
         let explanation = self.explained(alloc, told, &path)?;
         Ok(explanation)
     }
@@ -57,6 +74,7 @@ impl Builder {
     {
         let mut explanation = Explanation {
             events: told.events,
+            values: told.values,
             choices: Vec::new(alloc),
             options: Vec::new(alloc),
             end: told.end,
@@ -70,9 +88,10 @@ impl Builder {
     }
 
     /// The events and the end of the run that follows these choices and then takes defaults, and the path after it.
-    fn tell<B: Body>(
+    fn tell<B: Body, W: Show<B::Data>>(
         &self,
         alloc: Global,
+        show: &W,
         body: &B,
         choices: &[Choice],
     ) -> Result<(Told, Path), AllocError>
@@ -85,7 +104,7 @@ impl Builder {
         let mut path = Path::following(alloc, explores, self.max_branches as u32, choices)?;
         let limits = self.limits();
         let mut room = Room::new(alloc, limits)?;
-        let told = tell(alloc, &mut room, limits, body, &mut path);
+        let told = tell(alloc, show, &mut room, limits, body, &mut path);
         room.leave();
         Ok((told?, path))
     }

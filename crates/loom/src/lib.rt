@@ -15,7 +15,7 @@ pub use crate::checkpoint::files::{HostFiles, TextFiles};
 pub use crate::checkpoint::memory::MemoryStore;
 pub use crate::checkpoint::store::{CheckpointStore, StoreError};
 pub use crate::choices::{Choices, ChoicesError, ShownChoices};
-pub use crate::model::clock::{Clock, NoClock};
+pub use crate::model::clock::{Clock, HostClock, NoClock};
 pub use loom_objects::body::Body;
 pub use loom_objects::choice::{Choice, ParseChoiceError};
 pub use loom_objects::data::Data;

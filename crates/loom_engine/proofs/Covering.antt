@@ -18,3 +18,10 @@ pub mod Kinds
 pub mod Tables
 pub mod Points
 pub mod Themselves
+pub mod Sight
+pub mod Begun
+pub mod Parts
+pub mod Ending
+pub mod Handing
+pub mod Nodes
+pub mod Turns

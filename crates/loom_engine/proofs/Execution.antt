@@ -1,2 +1,4 @@
+pub mod Beginning
+pub mod Drawing
 pub mod Executing
 pub mod Growing

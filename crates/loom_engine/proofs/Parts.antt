@@ -14,3 +14,16 @@ pub mod Disjoint
 pub mod Lows
 pub mod Works
 pub mod Slices
+pub mod Fronts
+pub mod Options
+pub mod Tried
+pub mod Telling
+pub mod Keeping
+pub mod Gathering
+pub mod Giving
+pub mod Cutting
+pub mod Driven
+pub mod Lasting
+pub mod Branching
+pub mod Plain
+pub mod Texts

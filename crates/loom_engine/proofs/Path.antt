@@ -1,4 +1,5 @@
 pub mod Alike
+pub mod Drawing
 pub mod Fitting
 pub mod Marking
 pub mod Nodes

@@ -10,3 +10,5 @@ pub mod Moments
 pub mod States
 pub mod Seen
 pub mod Points
+pub mod Sight
+pub mod Parts

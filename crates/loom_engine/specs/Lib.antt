@@ -1,5 +1,7 @@
+pub mod Begun
 pub mod Checkpoint
 pub mod Covering
+pub mod Drawing
 pub mod Execution
 pub mod Parts
 pub mod Path

@@ -3,3 +3,6 @@ pub mod Cuts
 pub mod Floors
 pub mod Works
 pub mod Slices
+pub mod Openings
+pub mod Keeping
+pub mod Texts

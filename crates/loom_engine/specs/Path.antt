@@ -1,3 +1,4 @@
+pub mod Drawn
 pub mod Marks
 pub mod Nearest
 pub mod Nodes

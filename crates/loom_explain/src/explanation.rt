@@ -1,5 +1,6 @@
 //! What happened in a run.
 pub use crate::event::{End, Event};
+pub use crate::values::Values;
 use loom_objects::choice::Choice;
 use std::fmt;
 
@@ -19,6 +20,8 @@ pub enum Options {
 pub struct Explanation {
     /// What the threads handed over, in order, each with the reply before it.
     pub events: Vec<Event>,
+    /// The data of the events as texts, as many as there are events; none where data aren't shown.
+    pub values: Vec<Values>,
     /// The choices of the run, in order.
     pub choices: Vec<Choice>,
     /// What could be chosen where each choice was made; as many as there are choices.
@@ -39,6 +42,20 @@ impl Explanation {
     /// The event of this number, from 1, if there is one.
     pub(crate) fn event(&self, number: usize) -> Option<&Event> {
         self.events.get(number.wrapping_sub(1))
+    }
+
+    /// The text of the data that the thread was told before the event of this number.
+    pub(crate) fn data_told(&self, number: usize) -> Option<&str> {
+        let values = self.values.get(number.wrapping_sub(1))?;
+        let text = values.told.as_ref()?;
+        Some(text.as_str())
+    }
+
+    /// The text of the data that were handed over at the event of this number.
+    pub(crate) fn data_handed_over(&self, number: usize) -> Option<&str> {
+        let values = self.values.get(number.wrapping_sub(1))?;
+        let text = values.handed_over.as_ref()?;
+        Some(text.as_str())
     }
 }
 

@@ -1,8 +1,8 @@
 //! The text of an explanation: why the run failed, the choices that make it again, and its events in columns.
-mod answers;
+pub(crate) mod answers;
 mod calls;
 pub mod changes;
-mod forms;
+pub(crate) mod forms;
 mod layout;
 pub(crate) mod lines;
 pub(crate) mod links;

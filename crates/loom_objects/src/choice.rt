@@ -2,8 +2,9 @@
 pub mod word;
 
 ghost use Rattle.std.specs.Prelude.{◌≡◌, Some, None, IfOk, IfErr};
-ghost use Rattle.loom_objects.specs.Choice.{choice_in, choice_of, choice_text};
+ghost use Rattle.loom_objects.specs.Choice.{choice_in, choice_of, choice_text, digit_below};
 
+use loom_views::rt::{MAX_ATOMIC_HISTORY, MAX_THREADS};
 use std::fmt;
 use std::str::FromStr;
 use thiserror::Error;
@@ -62,16 +63,27 @@ fn choice_of(word: &[u8]) -> Option<Choice>
     }
 }
 
-/// The choice that a letter and a sign name, if they do: `t0` to `t9`, `t-`, `l0` to `l9`, `s0`, `s1`.
+/// The choice that a letter and a sign name, if they do: `t0` to `t4`, `t-`, `l0` to `l6`, `s0`, `s1`.
 pub fn choice_in(letter: u8, sign: u8) -> Option<Choice>
     ensures { result ≡ choice_in letter sign }
 {
     match letter {
         b't' if sign == b'-' => Some(Choice::Thread(None)),
-        b't' if sign.is_ascii_digit() => Some(Choice::Thread(Some(sign - b'0'))),
-        b'l' if sign.is_ascii_digit() => Some(Choice::Load(sign - b'0')),
+        b't' => digit_below(MAX_THREADS, sign).map(|thread| Choice::Thread(Some(thread))),
+        b'l' => digit_below(MAX_ATOMIC_HISTORY, sign).map(Choice::Load),
         b's' if sign == b'0' => Some(Choice::Spurious(false)),
         b's' if sign == b'1' => Some(Choice::Spurious(true)),
         _ => None,
+    }
+}
+
+/// The number below the limit of which the sign is the digit, if there is one.
+fn digit_below(limit: usize, sign: u8) -> Option<u8>
+    ensures { result ≡ digit_below limit sign }
+{
+    if sign.is_ascii_digit() && usize::from(sign - b'0') < limit {
+        Some(sign - b'0')
+    } else {
+        None
     }
 }

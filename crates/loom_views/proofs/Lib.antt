@@ -1,2 +1,3 @@
 pub mod Atomic
+pub mod Sight
 pub mod Views

@@ -4,4 +4,5 @@ pub mod Kept
 pub mod Moves
 pub mod Orders
 pub mod Reaching
+pub mod Sight
 pub mod Views

@@ -10,6 +10,7 @@ pub mod Limits
 pub mod Numbers
 pub mod Orderings
 pub mod Sequences
+pub mod Sight
 pub mod ThreadViews
 pub mod VersionOrder
 pub mod Versions

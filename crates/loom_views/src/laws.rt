@@ -6,6 +6,7 @@ ghost use Rattle.loom_views.specs.Laws.Kept.{KeepingLaw, SlotsStayLaw};
 ghost use Rattle.loom_views.specs.Laws.Reaching.{StayingLaw, BeginningLaw, UnreachedLaw};
 ghost use Rattle.loom_views.specs.Laws.Moves.{AddingLaw, RecordedLaw, BesideLaw, OrderLaw};
 ghost use Rattle.loom_views.specs.Laws.Orders.{ApartLaw, NeverEqualLaw, ChoosingLaw, OnceLaw};
+ghost use Rattle.loom_views.specs.Laws.Sight.{ShownLaw, SightLaw};
 ghost use Rattle.loom_views.specs.Laws.Views.{PastLaw, ReachingLaw, CountLaw, ComparingLaw, EqualLaw, StandingLaw, ReadableLaw, OfferingLaw, LoadingLaw, UpdatingLaw, RacingLaw, FencingLaw, MovesAsAcqRel, GlobalLaw};
 
 /// That a chain of edges leads from one point to another can be found by one sweep from the newest point down (own).
@@ -170,4 +171,15 @@ pub fn only_sequentially_consistent_fences_move_the_global_point()
 /// and beside another thread's store it may load either value (own).
 pub fn example_histories()
     ensures { ExampleLaw }
+{}
+
+/// Where the same is seen of two runs' points, each move answers the same, and the same is seen of the points that it leads to
+/// (own).
+pub fn sight_tells_moves()
+    ensures { SightLaw }
+{}
+
+/// What is kept of a run says what is seen of its points: the same of each run that it shows (own).
+pub fn views_say_what_is_seen()
+    ensures { ShownLaw }
 {}

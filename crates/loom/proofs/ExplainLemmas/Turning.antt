@@ -23,7 +23,7 @@ use Rattle.loom_engine.specs.Trees.Drive.{Trail, drive}
 use Rattle.loom_engine.specs.Trees.Marks.{marking}
 use Rattle.loom_engine.specs.Trees.Meeting.{Settings}
 use Rattle.loom.proofs.ModelLemmas.Handing.{IsHanded, slice_get_is}
-use Rattle.loom.specs.Model.Run.{IsEndOf, Outcome, RunsAlong}
+use Rattle.loom.specs.Model.Run.{IsEndBy, IsEndOf, Outcome, RunsAlong}
 use Rattle.loom_explain.specs.declared.event.Event.{Event}
 use Rattle.loom.specs.Explain.Story.{Story, begins_with, by_body, event_of, goes_on, hands_over, nothing_more, story, story_of}
 use Rattle.loom.specs.Model.Listening.{HasHeard, HasHeardOne}
@@ -202,6 +202,20 @@ module _ {L : Type 0} (takes_reply : L → Reply ⊤ → L → Type 0) (takes_op
         → ComesToTurn next whole (Err stop) events bodies run path → IfOk ending (λ ending. IsHeardAs takes_reply takes_op whole old new ending path)
     stopped_so events bodies run path stop (Ok ending) is heard e = (events, heard, ends_stopped events bodies run path stop ending is e)
     stopped_so events bodies run path stop (Err none) is heard e = tt
+
+    -- a run whose last operation was answered so ends by that
+    ends_by : (events : List Event) (bodies : List S) (run : Progress D) (path : Route) (answer : Result (Turn D) Stop) (ending : Ending D) → IsEndBy answer ending
+        → ComesToTurn next whole answer events bodies run path → EndsWith whole events ending path
+    ends_by events bodies run path (Err stop) ending is e = ends_stopped events bodies run path stop ending is e
+    ends_by events bodies run path (Ok (turn.Ended value)) ending is e = subst (λ (z : Ending D). EndsWith whole events z path) (sym is) e
+    ends_by events bodies run path (Ok (turn.Reply thread answer)) ending is e = absurd is
+    ends_by events bodies run path (Ok (turn.Start thread)) ending is e = absurd is
+
+    -- and so does one that may miss memory
+    pub ended_so : {E : Type 0} (bodies : List S) (run : Progress D) (path : Route) (answer : Result (Turn D) Stop) (ending : Result (Ending D) E) → IfOk ending (IsEndBy answer)
+        → HearsTurn answer bodies run path → IfOk ending (λ ending. IsHeardAs takes_reply takes_op whole old new ending path)
+    ended_so bodies run path answer (Ok ending) is z = (z.0, z.1, ends_by z.0 bodies run path answer ending is z.2)
+    ended_so bodies run path answer (Err none) is z = tt
 
   -- the story of a body's run comes to what its tree of runs comes to
   pub heard_along : {D S E : Type 0} (s : Settings) (next : Meaning D S) (explores : Bool) (max_threads max_steps : ℕ) (body : S) (path : Route) (old new : L) (ending : Result (Ending D) E) (after : Route)

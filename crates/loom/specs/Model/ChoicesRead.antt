@@ -1,7 +1,6 @@
 -- What a text of choices is read as.
 use Rattle.std.specs.Prelude.{ℕ, ◌≡◌, Bool, true, cond, nat_lt, List, [], ◌∷◌, Option, Some, None}
 use Rattle.std.specs.List.{list_all}
-use Rattle.std.specs.Option.{option_and_then}
 use Rattle.loom_objects.specs.declared.choice.Choice.{Choice}
 use Rattle.loom_objects.specs.declared.choice.Choice.TheVariants.{Thread, Load, Spurious}
 use Rattle.loom_objects.specs.Choice.{after_word, is_space}
@@ -15,10 +14,6 @@ may_come (Thread (Some thread)) = nat_lt thread MAX_THREADS
 may_come (Load slot) = nat_lt slot 7
 may_come (Spurious wakes) = true
 
--- the choice of the word that begins with this letter, if a run may make it
-abbrev pub first_choice : ℕ → List ℕ → Option Choice
-first_choice letter after = option_and_then (λ choice. cond (may_come choice) (Some choice) None) (after_word letter after)
-
 abbrev pub before : Option Choice → Option (List Choice) → Option (List Choice)
 before None choices = None
 before (Some choice) None = None
@@ -28,7 +23,7 @@ before (Some choice) (Some choices) = Some (choice ∷ choices)
 abbrev pub choices_in : List ℕ → Option (List Choice)
 choices_in [] = Some []
 choices_in (letter ∷ []) = cond (is_space letter) (Some []) None
-choices_in (letter ∷ sign ∷ rest) = cond (is_space letter) (choices_in (sign ∷ rest)) (before (first_choice letter (sign ∷ rest)) (choices_in rest))
+choices_in (letter ∷ sign ∷ rest) = cond (is_space letter) (choices_in (sign ∷ rest)) (before (after_word letter (sign ∷ rest)) (choices_in rest))
 
 -- what is written is read back
 abbrev pub ReadsBackLaw : Type 0

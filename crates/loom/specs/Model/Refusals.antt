@@ -6,6 +6,8 @@ use Rattle.loom_engine.specs.declared.rt.path.node.Node.{Node}
 use Rattle.loom_engine.specs.declared.rt.path.checkpoint.error.PathError.{PathError}
 use Rattle.loom_engine.specs.declared.rt.path.checkpoint.error.PathError.TheVariants as why
 use Rattle.loom_engine.specs.Checkpoint.Accepted.{IsRefusedText}
+use Rattle.loom_engine.specs.Parts.Keeping.{IsOtherSearch}
+use Rattle.loom_engine.specs.Path.Route.{Route}
 use Rattle.loom.specs.declared.checkpoint.store.StoreError.{StoreError}
 use Rattle.loom.specs.declared.checkpoint.store.StoreError.TheVariants as store
 use Rattle.loom.specs.Model.Stores.{HasRisen, Keeps}
@@ -64,3 +66,9 @@ pub record HeldBack {D : Type 0} (b : Builder) (tree : Tree D) (gives holds : Op
 -- After an error a store may hold what it held before the check, or a text of a path that the check has come to.
 abbrev pub StillHolds : {D : Type 0} → Builder → Tree D → (Option (List ℕ) → Type 0) → (Option (List ℕ) → Type 0) → (Option (List ℕ) → Type 0) → Type 0
 StillHolds b tree gives old new = Keeps old new ⊎ HeldBack b tree gives new
+
+-- ---- parts of a search
+
+-- the path is of another search than this builder's, as the error says
+abbrev pub IsOtherPart : Builder → Route → CheckError → Type 0
+IsOtherPart b path e = (why : PathError) × IsOtherSearch (search_of b) (explores b) path why × (e ≡ of_path why)

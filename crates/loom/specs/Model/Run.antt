@@ -5,6 +5,8 @@ use Rattle.loom_objects.specs.declared.failure.Stop.{Stop}
 use Rattle.loom_objects.specs.declared.failure.Stop.TheVariants.{Failure as Because, Memory}
 use Rattle.loom_objects.specs.Operation.Labelled.{Op}
 use Rattle.loom_objects.specs.Operation.Plain.{plain, started}
+use Rattle.loom_objects.specs.declared.operation.Turn.{Turn}
+use Rattle.loom_objects.specs.declared.operation.Turn.TheVariants as turn
 use Rattle.loom_objects.specs.Tree.Tree.{Tree}
 use Rattle.loom_engine.specs.declared.rt.execution.Progress.{Progress}
 use Rattle.loom_engine.specs.Execution.{MayBeRefused}
@@ -32,6 +34,13 @@ abbrev pub IsEndOf : {D : Type 0} → Stop → Ending D → Type 0
 IsEndOf (Because failure) (Failed placed) = placed.kind ≡ failure.kind
 IsEndOf (Because failure) (Ended value) = ⊥
 IsEndOf Memory ending = ⊥
+
+-- a run whose last operation was answered so ends by that: by a failure, or with main's value
+abbrev pub IsEndBy : {D : Type 0} → Result (Turn D) Stop → Ending D → Type 0
+IsEndBy (Err stop) ending = IsEndOf stop ending
+IsEndBy (Ok (turn.Ended value)) ending = ending ≡ Ended value
+IsEndBy (Ok (turn.Reply thread answer)) ending = ⊥
+IsEndBy (Ok (turn.Start thread)) ending = ⊥
 
 -- memory may be refused at an operation that a body hands over: the event needs it, or what it starts is a body more
 abbrev pub MayBeRefusedBy : {D S : Type 0} → Op D S → Progress D → Route → Type 0

@@ -10,8 +10,8 @@ use loom_objects::operation::{Op, Reply};
 use loom_views::rt::MAX_THREADS;
 use std::alloc::AllocError;
 
-/// Hears each event of a run: what a thread is told, and then what it hands over.
-pub trait Listener {
+/// Hears each event of a run with these data: what a thread is told, and then what it hands over.
+pub trait Listener<D> {
     /// What it does with a reply, of which the data are left out: the listener before it, and after it.
     ghost takes_reply: { Self → Reply ⊤ → Self → Type 0 };
 
@@ -22,11 +22,11 @@ pub trait Listener {
     ghost knows_locations: { Bool };
 
     /// A thread is told this reply. It fails only where a growth is refused, which ends the run.
-    fn hear_reply<D>(&mut self, reply: &Reply<D>) -> Result<(), AllocError>
+    fn hear_reply(&mut self, reply: &Reply<D>) -> Result<(), AllocError>
         ensures { OnOk result (takes_reply self.old (bare_reply reply.now) self.new) };
 
     /// The thread hands over this operation, after so many choices. It fails only where a growth is refused, which ends the run.
-    fn hear_op<D, S>(
+    fn hear_op<S>(
         &mut self,
         thread: u8,
         op: &Op<D, S>,
@@ -44,7 +44,7 @@ pub trait Listener {
 #[derive(Clone, Copy, Debug)]
 pub struct NoListener;
 
-impl Listener for NoListener {
+impl<D> Listener<D> for NoListener {
     ghost use Rattle.std.specs.Prelude.{false};
 
     ghost takes_reply = { λ old reply new. Unit {0} };
@@ -54,12 +54,12 @@ impl Listener for NoListener {
     ghost knows_locations = { false };
 
     #[inline(always)]
-    fn hear_reply<D>(&mut self, _reply: &Reply<D>) -> Result<(), AllocError> {
+    fn hear_reply(&mut self, _reply: &Reply<D>) -> Result<(), AllocError> {
         Ok(())
     }
 
     #[inline(always)]
-    fn hear_op<D, S>(
+    fn hear_op<S>(
         &mut self,
         _thread: u8,
         _op: &Op<D, S>,
@@ -91,7 +91,7 @@ impl LastLocations {
     }
 }
 
-impl Listener for LastLocations {
+impl<D> Listener<D> for LastLocations {
     ghost use Rattle.std.specs.Prelude.{true};
 
     ghost takes_reply = { λ old reply new. Unit {0} };
@@ -100,11 +100,11 @@ impl Listener for LastLocations {
 
     ghost knows_locations = { true };
 
-    fn hear_reply<D>(&mut self, _reply: &Reply<D>) -> Result<(), AllocError> {
+    fn hear_reply(&mut self, _reply: &Reply<D>) -> Result<(), AllocError> {
         Ok(())
     }
 
-    fn hear_op<D, S>(
+    fn hear_op<S>(
         &mut self,
         thread: u8,
         op: &Op<D, S>,

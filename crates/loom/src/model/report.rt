@@ -29,10 +29,10 @@ pub enum Report {
 
 /// So many runs, as `1 run` and `2 runs`.
 #[derive(Clone, Copy)]
-struct RunCount(u64);
+pub(crate) struct RunCount(pub(crate) u64);
 
 /// How to see what happened in a run that failed.
-const TELLS: &str =
+pub(crate) const TELLS: &str =
     "to see what happened: `Builder::explain`, or `runner::explain` for closures, with these choices";
 
 /// So many choices of a long list are shown at each end.
@@ -40,7 +40,7 @@ const SHOWN: usize = 30;
 
 /// Choices as a person reads them: the middle of a long list is left out.
 #[derive(Clone, Copy)]
-struct CutChoices<'a>(&'a [Choice]);
+pub(crate) struct CutChoices<'a>(pub(crate) &'a [Choice]);
 
 impl fmt::Display for CutChoices<'_> {
     fn fmt<W: fmt::Write>(&self, f: &mut fmt::Formatter<W>) -> fmt::Result {

@@ -1,6 +1,8 @@
 //! One run of a body along a path, which a listener hears: the threads' bodies are resumed by turns, and what they hand over is
 //! submitted, until the run ends or fails. Its contract is the run of the body's tree of `loom_engine`, and its events are those of
 //! the body's story. Each run of a check, each replay and each explanation is made by it.
+pub(crate) mod drawing;
+
 ghost use Rattle.std.specs.Prelude.{◌≡◌, ◌≢◌, ◌≤◌, ◌+◌, Bool, [], None, Err, OnOk, OnErr, IfOk};
 ghost use Rattle.loom_objects.specs.Operation.Plain.{plain, started};
 ghost use Rattle.loom_engine.specs.Execution.{Along, ShowsCourse, over_after};
@@ -9,7 +11,7 @@ ghost use Rattle.loom_engine.specs.Runs.Machine.{submit as submitted};
 ghost use Rattle.loom_engine.specs.Path.Route.{Route, IsAtStart, IsSameSearch, trail};
 ghost use Rattle.loom_engine.specs.Runs.Body.{runs as runs_of, with_child};
 ghost use Rattle.loom.specs.Explain.Story.{Story, story_of};
-ghost use Rattle.loom.specs.Model.Run.{RunsAlong, IsEndOf, IsLocated, MayBeRefusedBy};
+ghost use Rattle.loom.specs.Model.Run.{RunsAlong, IsEndBy, IsEndOf, IsLocated, MayBeRefusedBy};
 ghost use Rattle.loom.specs.Model.Turns.{IsHeardAs, IsUnderWay};
 
 use crate::model::listener::Listener;
@@ -59,7 +61,7 @@ impl<B: Body> Room<B> {
 
 /// One run of the body along the path, from its start, which the listener hears. An error only where a growth was refused, in the
 /// run, the body or the listener. A failure has the place of its operation, if the listener knows it.
-pub fn run<B: Body, L: Listener>(
+pub fn run<B: Body, L: Listener<B::Data>>(
     room: &mut Room<B>,
     limits: Limits,
     body: &B,
@@ -81,7 +83,7 @@ pub fn run<B: Body, L: Listener>(
 }
 
 /// From its start the run goes on by turns, until it ends or fails. An error only where a growth was refused.
-fn take_turns<B: Body, L: Listener>(
+fn take_turns<B: Body, L: Listener<B::Data>>(
     execution: &mut Execution<B::Data>,
     bodies: &mut Vec<B>,
     path: &mut Path,
@@ -112,8 +114,6 @@ fn take_turns<B: Body, L: Listener>(
             return Err(refusal);
         }
         match submit(execution, bodies, path, op) {
-            Err(stop) => return stopped(stop, listener, execution.active()),
-            Ok(Turn::Ended(value)) => return Ok(Ending::Ended(value)),
             Ok(Turn::Reply(next, told)) => {
                 thread = next;
                 reply = told;
@@ -122,7 +122,25 @@ fn take_turns<B: Body, L: Listener>(
                 thread = next;
                 reply = Reply::Start;
             }
+            answer => return ended(answer, listener, execution.active()),
         }
+    }
+}
+
+/// How a run ends whose last operation was answered so while this thread is active. A turn is no end: it is never answered here.
+// It takes the answer whole: taken apart beside the turns, each reply would be moved by its bytes.
+fn ended<D: Drop, L: Listener<D>>(
+    answer: Result<Turn<D>, Stop>,
+    listener: &L,
+    active: u8,
+) -> Result<Ending<D>, AllocError>
+    ensures ends { IfOk result (IsEndBy answer) }
+    ensures located { IfOk result (IsLocated L.knows_locations) }
+{
+    match answer {
+        Err(stop) => stopped(stop, listener, active),
+        Ok(Turn::Ended(value)) => Ok(Ending::Ended(value)),
+        Ok(Turn::Reply(..) | Turn::Start(_)) => Err(AllocError),
     }
 }
 
@@ -131,7 +149,7 @@ fn let_go<D: Drop, B: Drop>(_op: Op<D, B>) {}
 
 /// How a run ends that is stopped so while this thread is active: a failure has the place of the thread's last operation, if the
 /// listener knows it. An error where memory was refused.
-fn stopped<D, L: Listener>(stop: Stop, listener: &L, active: u8) -> Result<Ending<D>, AllocError>
+fn stopped<D, L: Listener<D>>(stop: Stop, listener: &L, active: u8) -> Result<Ending<D>, AllocError>
     ensures ends { IfOk result (IsEndOf stop) }
     ensures located { IfOk result (IsLocated L.knows_locations) }
 {

@@ -135,10 +135,10 @@ impl Builder {
 
 /// Makes the runs of a body, as a builder asks for them, and logs which thread goes on.
 #[derive(Drop)]
-struct BodyRuns<'a, B, L> {
-    builder: &'a Builder,
-    body: &'a B,
-    log: &'a L,
+pub(crate) struct BodyRuns<'a, B, L> {
+    pub(crate) builder: &'a Builder,
+    pub(crate) body: &'a B,
+    pub(crate) log: &'a L,
 }
 
 impl<'a, B: Body, L: Log> BodyRuns<'a, B, L> {

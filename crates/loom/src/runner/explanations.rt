@@ -13,7 +13,7 @@ use crate::model::builder::Builder;
 use crate::runner::error::{RunnerError, error_by};
 use crate::runner::exact::Exact;
 use crate::runner::handle::Handle;
-use crate::runner::history::telling::told_events;
+use crate::runner::history::telling::{told_events, told_values};
 use crate::runner::history::told::Told;
 use crate::runner::run::call_closure;
 use crate::runner::shared::share;
@@ -158,6 +158,12 @@ fn tell_events<D: Exact>(
     ensures { IfOk result (IsToldOf builder.now turns.now) }
 {
     let events = told_events(alloc, turns.events())?;
+    let values = told_values(alloc, turns.events())?;
     let path = turns.path()?;
-    builder.explained(alloc, ToldRun { events, end }, &path)
+    let told = ToldRun {
+        events,
+        values,
+        end,
+    };
+    builder.explained(alloc, told, &path)
 }

@@ -111,7 +111,7 @@ pub fn first_change<D: Exact>(
 }
 
 /// How many choices both begin with.
-fn shared_choices(one: &[Choice], other: &[Choice]) -> usize
+pub(crate) fn shared_choices(one: &[Choice], other: &[Choice]) -> usize
     ensures { (n : ℕ) → (n ≤ result) ↔ Shares n one.now other.now }
 {
     let most = one.len().min(other.len());

@@ -9,7 +9,7 @@ use Rattle.loom_objects.specs.Tree.Stores.{slots}
 use Rattle.loom_engine.specs.Trees.Meeting.{Settings}
 use Rattle.loom_engine.specs.Checkpoint.Grammar.{whole, whole_or_null, status_data, schedule_data, load_data, spurious_data, node_data, shape_data, path_data}
 
-items_plain : {A : Type 0} (f : A → Data) (plain : (a : A) → has_float (f a) ≡ false) (xs : List A) → items_have_float (items_of (map f xs)) ≡ false
+pub items_plain : {A : Type 0} (f : A → Data) (plain : (a : A) → has_float (f a) ≡ false) (xs : List A) → items_have_float (items_of (map f xs)) ≡ false
 items_plain f plain [] = refl
 items_plain f plain (x ∷ xs) = rw (plain x, items_plain f plain xs) refl
 
@@ -27,7 +27,7 @@ pub path_plain : (s : Settings) (explores : Bool) (nodes : List Node) → has_fl
 unfolding path_data shape_data
 path_plain s explores nodes = rw (items_plain node_data node_plain nodes, or_null_plain s.bound) refl
 
-items_within : {A : Type 0} (f : A → Data) (most : ℕ) (within : (a : A) → depth (f a) ≤ most) (xs : List A) → items_depth (items_of (map f xs)) ≤ most
+pub items_within : {A : Type 0} (f : A → Data) (most : ℕ) (within : (a : A) → depth (f a) ≤ most) (xs : List A) → items_depth (items_of (map f xs)) ≤ most
 items_within f most within [] = omega arith
 items_within f most within (x ∷ xs) = omega (arith, within x, items_within f most within xs)
 
@@ -41,6 +41,9 @@ node_depth (Schedule n) = omega (arith, or_null_depth n.first, items_within stat
 node_depth (Load n) = omega (arith, items_within whole 0 (λ _. omega arith) (slots n.readable))
 node_depth (Spurious n) = omega arith
 
-pub path_depth : (s : Settings) (explores : Bool) (nodes : List Node) → depth (path_data s explores nodes) ≤ 127
+pub path_flat : (s : Settings) (explores : Bool) (nodes : List Node) → depth (path_data s explores nodes) ≤ 4
 unfolding path_data shape_data
-path_depth s explores nodes = omega (arith, or_null_depth s.bound, items_within node_data 2 node_depth nodes)
+path_flat s explores nodes = omega (arith, or_null_depth s.bound, items_within node_data 2 node_depth nodes)
+
+pub path_depth : (s : Settings) (explores : Bool) (nodes : List Node) → depth (path_data s explores nodes) ≤ 127
+path_depth s explores nodes = omega (arith, path_flat s explores nodes)

@@ -72,7 +72,7 @@ use Rattle.loom_objects.specs.Rules.Mutex.{free_value, frees, lock, locks_unless
 use Rattle.loom_objects.specs.Rules.Notify.{awaits, comes_to_wait, enters_wait, has_waker, is_alone, is_for_waits, may_be_spurious, notifies, notify, notify_begins, wait_begins, waits_or_rouses, wakes_early, with_notify}
 use Rattle.loom_objects.specs.Rules.Rule.{◌>>=◌, check, found}
 use Rattle.loom_objects.specs.Rules.RwLock.{claims, guards_of, is_refused, is_unread, reads_lock, refusal, rwlock_begins, takes as takes_lock, takes_unless, unlocked_value, wakes_if as wakes_lock, with_one_fewer as with_one_guard_fewer, with_rwlock, writes_lock}
-use Rattle.loom_objects.specs.Rules.Thread.{child_finish, finish_as, has_own, if_other, is_exited, is_finished, join, parks_unless, spawn, thread_begins}
+use Rattle.loom_objects.specs.Rules.Thread.{child_finish, finish_as, has_own, if_other, is_exited, is_finished, join, parks_unless, thread_begins}
 use Rattle.loom_objects.specs.Rules.Waker.{acquires_if, after_clone, after_drop, after_wake, atomic_waker_begins, clones_waker, drops_waker, frees_place, has_taken, holds_place, registers, registers_if, takes_place, takes_waker, waker_begins, waker_pends, wakes_by, with_wakers}
 use Rattle.loom_objects.specs.World.{World, MAX_THREADS}
 use Rattle.loom_engine.specs.Covering.Points.{TellsMoves}

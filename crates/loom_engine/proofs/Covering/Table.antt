@@ -1,5 +1,5 @@
 -- Rounds with a table are a check whose runs are cut off at states of its own nodes.
-use Rattle.std.proofs.Common.{◌≡◌, ◌⊎◌, ℕ, arith, List, [], ◌∷◌, ◌++◌, Option, Ok, refl, inl, inr}
+use Rattle.std.proofs.Common.{◌⊎◌, ℕ, arith, List, [], ◌∷◌, ◌++◌, Option, Ok, refl, inl, inr}
 use Rattle.std.specs.List.{Contains}
 use Rattle.loom_objects.specs.declared.choice.Choice.{Choice}
 use Rattle.loom_objects.specs.Tree.Tree.{Tree}

@@ -14,7 +14,7 @@ use Rattle.loom_engine.proofs.Walk.Resting.{after_resting}
 use Rattle.loom_engine.proofs.Walk.Stepping.{Steps, step_some}
 use Rattle.loom_engine.proofs.Walk.Round.{round_law}
 
-visited_most : (s : Choice → Status) (os : List Choice) → visited_in s os ≤ length os
+pub visited_most : (s : Choice → Status) (os : List Choice) → visited_in s os ≤ length os
 visited_most s [] = omega arith
 visited_most s (o ∷ os) = go (s o) (visited_most s os)
   where
@@ -81,7 +81,7 @@ visited_grows s t (o ∷ os) h = go (s o) (t o) (h o) (visited_grows s t os h)
     go Pending y a e = other y e
     go Active y a e = other y e
 
-visited_more : (s t : Choice → Status) (os : List Choice) (c : Choice) → ((o : Choice) → s o ≡ Visited → t o ≡ Visited) → Among c os → s c ≡ Active → t c ≡ Visited
+pub visited_more : (s t : Choice → Status) (os : List Choice) (c : Choice) → ((o : Choice) → s o ≡ Visited → t o ≡ Visited) → Among c os → s c ≡ Active → t c ≡ Visited
     → visited_in s os < visited_in t os
 visited_more s t [] c h am a v = elim am [ ]
 visited_more s t (o ∷ os) c h (inl e) a v = at (ap s (sym e) ∙ a) (ap t (sym e) ∙ v) (visited_grows s t os h)

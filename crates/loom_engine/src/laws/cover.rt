@@ -1,8 +1,11 @@
 //! Laws of a search that remembers states: what it has covered when nothing is left to be tried. The definitions stand in
 //! `specs/Covering`.
+ghost use Rattle.loom_engine.specs.Begun.{BeginningLaw};
 ghost use Rattle.loom_engine.specs.Covering.Cut.{CheckLaw, FailLaw, JoinedLaw, ThenLaw};
+ghost use Rattle.loom_engine.specs.Covering.Parts.{BegunLaw, HandingLaw, NodesLaw, ScheduleLaw};
 ghost use Rattle.loom_engine.specs.Covering.Points.{PointsLaw, ThemselvesLaw};
 ghost use Rattle.loom_engine.specs.Covering.Seen.{TurnLaw, WholeLaw};
+ghost use Rattle.loom_engine.specs.Covering.Sight.{SeenBodyLaw, SightMovesLaw};
 ghost use Rattle.loom_engine.specs.Covering.States.{CoveredBodyLaw, StatesLaw};
 ghost use Rattle.loom_engine.specs.Covering.Table.{TableLaw};
 ghost use Rattle.loom_engine.specs.Covering.Ways.{WaysLaw};
@@ -65,4 +68,40 @@ pub fn sight_of_points_tells_the_future<D, V>()
 /// The points themselves tell their moves: so there is something that can be seen of them and tells that (own).
 pub fn points_tell_their_moves()
     ensures { ThemselvesLaw }
+{}
+
+/// What is seen of points, which the views that are kept of them say, tells their moves (own).
+pub fn sight_tells_their_moves()
+    ensures { SightMovesLaw }
+{}
+
+/// A complete check of a body whose runs may be cut off at states of which the same is seen has covered each run of the body
+/// (own).
+pub fn body_is_covered_by_sight<D, S>()
+    ensures { SeenBodyLaw D S }
+{}
+
+/// An operation that is begun goes on from its branch point to what the whole event comes to (own).
+pub fn events_go_on_from_branch_points<D>()
+    ensures { BeginningLaw D }
+{}
+
+/// Where a path drives through an operation up to its branch point, the choices that it passes lead there (own).
+pub fn choices_lead_to_branch_points<D, S>()
+    ensures { BegunLaw D S }
+{}
+
+/// What comes of an operation up to the next schedule is the operation up to its branch point, and what comes after that (own).
+pub fn parts_begin_with_operations<D, S>()
+    ensures { HandingLaw D S }
+{}
+
+/// Where a path drives through a schedule up to the next turn, the choices that it passes lead there (own).
+pub fn choices_lead_to_turns<D, S>()
+    ensures { ScheduleLaw D S }
+{}
+
+/// A path that drives through a tree keeps its nodes, and has one where the tree begins with a question (own).
+pub fn paths_keep_nodes<A>()
+    ensures { NodesLaw A }
 {}

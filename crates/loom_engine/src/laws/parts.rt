@@ -3,6 +3,7 @@ ghost use Rattle.loom_engine.specs.Parts.Cuts.{SearchLaw, WholeLaw, DisjointLaw}
 ghost use Rattle.loom_engine.specs.Parts.Floors.{FloorLaw, PartLaw, RaiseLaw, BranchLaw, EndLaw, SameLaw};
 ghost use Rattle.loom_engine.specs.Parts.Works.{WorkLaw};
 ghost use Rattle.loom_engine.specs.Parts.Slices.{SliceLaw};
+ghost use Rattle.loom_engine.specs.Parts.Keeping.{PartsLaw};
 
 /// By whatever steps, no run is made twice, and when no part is left they are the least closed set.
 pub fn search_in_parts()
@@ -41,4 +42,9 @@ pub fn work_in_parts()
 /// A part may be worked on for any number of runs by whoever has its path and its floor, and its notes read off once.
 pub fn slices()
     ensures { SliceLaw }
+{}
+
+/// A program's list of parts keeps to it, by whatever takes, returns and cuts it has come about (own).
+pub fn lists_of_parts()
+    ensures { PartsLaw }
 {}

@@ -5,7 +5,10 @@
 //! something to be chosen first. `Resumed` says it once the chosen thread has gone on: the effect is there, or a load asks which
 //! store it reads. `Passed` says it of the effect: a turn, or the thread has come to another branch point. `Turn` is what the
 //! caller is answered.
+pub mod drawing;
+
 ghost use Rattle.std.specs.Prelude.{◌≡◌, None, Bool, ◌≢◌, ◌≤◌, ◌+◌, ◌<◌, Err, Some, true, slice_get, IfOk, OnOk};
+ghost use Rattle.loom_engine.specs.Begun.{Begins, begins_at, over_begun, wakes_at};
 ghost use Rattle.loom_engine.specs.Execution.{may_end, over_after, Notes, ShowsCourse, IsMarked, Starts, takes_turn, Along, AllNeedMemory, MayBeRefused, Schedules, Submits, itself};
 ghost use Rattle.std.specs.List.{Contains};
 ghost use Rattle.loom_objects.specs.declared.choice.Choice.{Choice};
@@ -58,6 +61,16 @@ pub fn record_end<D>(over: &mut Option<Stop>, answer: &Result<Turn<D>, Stop>)
     }
 }
 
+/// Where an operation couldn't be begun, notes what every further operation is answered.
+fn record_stop<D>(over: &mut Option<Stop>, answer: &Result<Begun<D>, Stop>)
+    requires { over.old ≡ None }
+    ensures over { over.new ≡ over_begun answer.now }
+{
+    if let Err(stop) = answer {
+        *over = Some(*stop);
+    }
+}
+
 // as many as a path may have nodes: the path refuses the next one before this is used up
 const FURTHER_BRANCHES: u32 = 1_000_000;
 
@@ -68,6 +81,15 @@ pub struct Limits {
     pub max_threads: usize,
     /// How many operations all threads together may hand over.
     pub max_steps: usize,
+}
+
+/// How far an operation has come that was begun (own).
+#[derive(Drop)]
+pub enum Begun<D> {
+    /// It had no branch point, and this is the next turn.
+    Turn(Turn<D>),
+    /// It has come to its branch point, at which `Execution::schedule` goes on.
+    AtBranch,
 }
 
 /// A run so far.
@@ -147,6 +169,22 @@ impl<D: Data> Execution<D> {
         answer
     }
 
+    /// The active thread hands over an operation, which is done up to its branch point, or up to the next turn where it has none:
+    /// what `submit` does before its schedule. After a `Stop` each later call answers the same, and nothing changes (own).
+    pub fn begin(&mut self, path: &mut Path, op: Request<D, ()>) -> Result<Begun<D>, Stop>
+        ensures event { Begins self.old op path.old result self.new path.new }
+        ensures steps { OnOk result (self.old.run.state.steps_left ≡ self.new.run.state.steps_left + 1) }
+        ensures same { IsSameSearch path.old path.new }
+    {
+        if let Some(stop) = self.over {
+            op.let_go();
+            return Err(stop);
+        }
+        let answer = enter(&mut self.run, path, op);
+        record_stop(&mut self.over, &answer);
+        answer
+    }
+
     /// A branch point of the active thread: the path says who goes on, what that thread has pending takes effect, and so on up to
     /// the next turn (loom's `rt/execution.rs`). Once the run is over it is the same answer again, and nothing changes.
     pub fn schedule(&mut self, path: &mut Path) -> Result<Turn<D>, Stop>
@@ -188,6 +226,43 @@ fn hand_over<D: Data>(
         Ok(Entry::AtBranch) => schedule(run, path, FURTHER_BRANCHES),
         Ok(Entry::Spurious(notifier)) => wait(run, path, notifier),
         Ok(Entry::Explores(op)) => switch(run, path, op),
+    }
+}
+
+/// An operation up to its branch point, or up to the next turn where it has none.
+fn enter<D: Data>(
+    run: &mut Progress<D>,
+    path: &mut Path,
+    op: Request<D, ()>,
+) -> Result<Begun<D>, Stop>
+    ensures along { Along (begins_at op) run.old path.old result run.new path.new }
+    ensures steps { OnOk result (run.old.state.steps_left ≡ run.new.state.steps_left + 1) }
+    ensures same { IsSameSearch path.old path.new }
+{
+    match start(run, op) {
+        Err(stop) => Err(stop),
+        Ok(Entry::Answered(reply)) => Ok(Begun::Turn(Turn::Reply(run.state.scene.active(), reply))),
+        Ok(Entry::AtBranch) => Ok(Begun::AtBranch),
+        Ok(Entry::Spurious(notifier)) => wake(run, path, notifier),
+        Ok(Entry::Explores(op)) => match switch(run, path, op) {
+            Err(stop) => Err(stop),
+            Ok(turn) => Ok(Begun::Turn(turn)),
+        },
+    }
+}
+
+/// Whether the active thread wakes from the notifier without a notification is chosen, and then it is at its branch point.
+fn wake<D: Data>(run: &mut Progress<D>, path: &mut Path, notifier: usize) -> Result<Begun<D>, Stop>
+    ensures along { Along (wakes_at notifier) run.old path.old result run.new path.new }
+    ensures steps { run.new.state.steps_left ≡ run.old.state.steps_left }
+    ensures same { IsSame path.old path.new }
+{
+    match path.branch_spurious() {
+        Err(stop) => Err(stop),
+        Ok(is_spurious) => match enter_wait(&mut run.state, is_spurious, notifier) {
+            Err(stop) => Err(stop),
+            Ok(()) => Ok(Begun::AtBranch),
+        },
     }
 }
 

@@ -1,10 +1,13 @@
 //! The path of a search: the nodes at which its run has chosen, and what is left to try at each (loom's `rt/path.rs`).
 pub mod backtrack;
 pub mod checkpoint;
+pub mod drawing;
 pub mod list;
 pub mod making;
 pub mod node;
 pub mod nodes;
+pub mod opening;
+pub mod part;
 pub mod word;
 
 ghost use Rattle.std.specs.Prelude.{◌≡◌, ◌≢◌, ◌≤◌, ◌<◌, ◌+◌, ◌↔◌, ℕ, List, [], ◌∷◌, ◌++◌, Option, Some, IfOk, IfErr, IfSome, IsTrue, slice_get, map, length, take, true};

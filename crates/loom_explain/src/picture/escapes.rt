@@ -31,6 +31,21 @@ impl Page {
         }
     }
 
+    /// At most so many characters of a text, with `…` where it was cut.
+    pub(crate) fn cut(&mut self, text: &str, most: usize) {
+        for (place, sign) in text.chars().enumerate() {
+            if place >= most {
+                self.sign(CUT);
+                return;
+            }
+            if is_hidden(sign) {
+                self.hidden("\\u{", sign, "}");
+            } else {
+                self.sign(sign);
+            }
+        }
+    }
+
     /// A text within a Mermaid diagram.
     pub(crate) fn mermaid(&mut self, text: &str) {
         for sign in text.chars() {

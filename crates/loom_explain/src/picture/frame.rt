@@ -26,7 +26,7 @@ const LEFT: usize = 24;
 const FIRST_LANE: usize = 76;
 
 /// Where a row's text begins, behind its lane.
-pub(crate) const BEHIND: usize = 12;
+pub(crate) const BEHIND: usize = 16;
 
 /// The space at the borders.
 pub(crate) const BORDER: usize = 20;
@@ -126,13 +126,32 @@ fn gap_of(lanes: usize) -> usize {
 }
 
 fn width_of(picture: &Picture, gap: usize) -> usize {
-    let mut width = LEAST_WIDTH;
+    LEAST_WIDTH
+        .max(end_of_rows(picture, gap))
+        .max(end_of_lefts(picture, gap))
+}
+
+fn end_of_rows(picture: &Picture, gap: usize) -> usize {
+    let mut end = 0usize;
     for row in &picture.rows {
         if let Row::Told(told) | Row::Came(told) = row {
-            width = width.max(end_of(told, gap));
+            end = end.max(end_of(told, gap));
         }
     }
-    width
+    end
+}
+
+/// Where the lines end that say where the threads were left.
+fn end_of_lefts(picture: &Picture, gap: usize) -> usize {
+    let mut end = 0usize;
+    for (thread, lane) in picture.lanes.iter().enumerate() {
+        end = end.max(
+            lane_at(gap, thread)
+                .saturating_add(width_of_text(lane.left.len()))
+                .saturating_add(BEHIND + BORDER),
+        );
+    }
+    end
 }
 
 /// Where a row's text and its choice end.

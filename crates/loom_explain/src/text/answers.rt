@@ -257,3 +257,20 @@ pub(crate) fn is_done(deed: Deed, reply: &Reply<()>) -> bool {
         _ => true,
     }
 }
+
+/// The data that a reply has, if it has some: of two values the one that stands. Of several, as what a channel has left, none is
+/// told.
+pub(crate) fn data_told<D>(reply: &Reply<D>) -> Option<&D> {
+    match reply {
+        Reply::Data(value)
+        | Reply::Reading(_, value)
+        | Reply::Writing(_, value)
+        | Reply::Locked(_, value)
+        | Reply::Waited(_, value, _)
+        | Reply::ReadLocked(_, value)
+        | Reply::WriteLocked(_, value)
+        | Reply::SendError(value)
+        | Reply::Stood(value, _) => Some(value),
+        _ => None,
+    }
+}

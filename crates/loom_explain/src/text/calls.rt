@@ -3,7 +3,7 @@ use crate::text::forms::{Call, On, argument_of, call_of};
 use crate::text::names::order_name;
 use crate::text::page::Page;
 use crate::text::world::World;
-use loom_objects::operation::{AtomicOp, Request, ThreadOp};
+use loom_objects::operation::{AtomicOp, CellOp, Request, ThreadOp};
 use loom_views::rt::num::Numbers;
 use loom_views::rt::num::change::Change;
 use std::sync::atomic::Ordering;
@@ -11,23 +11,36 @@ use std::sync::atomic::Ordering;
 impl Page {
     /// A call as it is written in code: `#0.store(1, Relaxed)`.
     pub(crate) fn call(&mut self, words: &str, request: &Request<(), ()>, world: &World) {
-        let Call { number, form } = call_of(request, world);
         self.words(words);
+        self.call_with(request, world, None);
+    }
+
+    /// A call with the data that it hands over, if they are shown: `#0.send(5)`.
+    pub(crate) fn call_with(
+        &mut self,
+        request: &Request<(), ()>,
+        world: &World,
+        data: Option<&str>,
+    ) {
+        let Call { number, form } = call_of(request, world);
         match form.on {
             On::Nothing | On::Thread => {}
             On::Object => self.number("#", number),
             On::Local => self.number("local ", number),
             On::Lazy => self.number("lazy ", number),
         }
-        self.words(form.words);
+        match data {
+            Some(_) => self.words(form.words.strip_suffix("()").unwrap_or(form.words)),
+            None => self.words(form.words),
+        }
         if let On::Thread = form.on {
             self.number(" ", number);
         }
-        self.arguments(request, world);
+        self.arguments(request, world, data);
     }
 
     /// The arguments of a call, in parentheses, and the name of a thread that it makes.
-    fn arguments(&mut self, request: &Request<(), ()>, world: &World) {
+    fn arguments(&mut self, request: &Request<(), ()>, world: &World, data: Option<&str>) {
         if let Request::Atomic(op) = request {
             self.values(*op, world.numbers_of(*op));
         } else if let Request::Fence(order) = request {
@@ -36,7 +49,22 @@ impl Page {
             self.named(" \"", name.text, "\"");
         } else if let Some(number) = argument_of(request) {
             self.number("(#", number);
+            if let Some(data) = data {
+                self.data(", ", data);
+            }
             self.words(")");
+        } else if let Request::Cell(CellOp::WriteEnd(..)) = request {
+            self.written(data);
+        } else if let Some(data) = data {
+            self.data("(", data);
+            self.words(")");
+        }
+    }
+
+    /// What a cell holds after a write.
+    fn written(&mut self, data: Option<&str>) {
+        if let Some(data) = data {
+            self.data(" with ", data);
         }
     }
 

@@ -2,18 +2,24 @@
 //! for each, in a file for each group of kinds.
 
 // A form of an operation on an object of this kind: its words, what it does, what it asks, and where they are there what a
-// thread does that waits, and what comes of a stage that isn't the last.
+// thread does that waits, what comes of a stage that isn't the last, and what it has to do with other lines.
 macro_rules! on {
     ($kind:expr, $words:expr, $deed:ident, $asks:expr) => {
-        on!($kind, $words, $deed, $asks, None, $crate::text::forms::GOES_ON)
+        on!($kind, $words, $deed, $asks, None, $crate::text::forms::GOES_ON, Nothing)
     };
     ($kind:expr, $words:expr, $deed:ident, $asks:expr, waits $waits:expr) => {
-        on!($kind, $words, $deed, $asks, Some($waits), $crate::text::forms::GOES_ON)
+        on!($kind, $words, $deed, $asks, Some($waits), $crate::text::forms::GOES_ON, Nothing)
     };
     ($kind:expr, $words:expr, $deed:ident, $asks:expr, passes $passes:expr) => {
-        on!($kind, $words, $deed, $asks, None, $passes)
+        on!($kind, $words, $deed, $asks, None, $passes, Nothing)
     };
-    ($kind:expr, $words:expr, $deed:ident, $asks:expr, $waits:expr, $passes:expr) => {
+    ($kind:expr, $words:expr, $deed:ident, $asks:expr, ties $ties:ident) => {
+        on!($kind, $words, $deed, $asks, None, $crate::text::forms::GOES_ON, $ties)
+    };
+    ($kind:expr, $words:expr, $deed:ident, $asks:expr, waits $waits:expr, ties $ties:ident) => {
+        on!($kind, $words, $deed, $asks, Some($waits), $crate::text::forms::GOES_ON, $ties)
+    };
+    ($kind:expr, $words:expr, $deed:ident, $asks:expr, $waits:expr, $passes:expr, $ties:ident) => {
         $crate::text::forms::Form {
             on: $crate::text::forms::On::Object,
             kind: Some($kind),
@@ -22,6 +28,7 @@ macro_rules! on {
             asks: $asks,
             waits: $waits,
             passes: $passes,
+            ties: $crate::text::forms::Ties::$ties,
         }
     };
 }
@@ -37,19 +44,24 @@ macro_rules! makes {
             asks: $asks,
             waits: None,
             passes: $crate::text::forms::GOES_ON,
+            ties: $crate::text::forms::Ties::Nothing,
         }
     };
 }
 
-// A form of an operation that is on no object: what it is on, its words and what it asks, and what a thread does that waits.
+// A form of an operation that is on no object: what it is on, its words and what it asks, and where they are there what a thread
+// does that waits, and what it has to do with other lines.
 macro_rules! other {
     ($on:ident, $words:expr, $asks:expr) => {
-        other!($on, $words, $asks, None)
+        other!($on, $words, $asks, None, Nothing)
     };
-    ($on:ident, $words:expr, $asks:expr, waits $waits:expr) => {
-        other!($on, $words, $asks, Some($waits))
+    ($on:ident, $words:expr, $asks:expr, ties $ties:ident) => {
+        other!($on, $words, $asks, None, $ties)
     };
-    ($on:ident, $words:expr, $asks:expr, $waits:expr) => {
+    ($on:ident, $words:expr, $asks:expr, waits $waits:expr, ties $ties:ident) => {
+        other!($on, $words, $asks, Some($waits), $ties)
+    };
+    ($on:ident, $words:expr, $asks:expr, $waits:expr, $ties:ident) => {
         $crate::text::forms::Form {
             on: $crate::text::forms::On::$on,
             kind: None,
@@ -58,6 +70,7 @@ macro_rules! other {
             asks: $asks,
             waits: $waits,
             passes: $crate::text::forms::GOES_ON,
+            ties: $crate::text::forms::Ties::$ties,
         }
     };
 }
@@ -75,13 +88,13 @@ mod wakers;
 
 use crate::text::forms::atomics::atomic_form;
 use crate::text::forms::bodies::{FAIL, FENCE, UNREACHABLE, explore_form};
-use crate::text::forms::cells::cell_form;
-use crate::text::forms::channels::channel_form;
-use crate::text::forms::counts::{arc_form, track_form};
-use crate::text::forms::locks::{mutex_form, rwlock_form};
-use crate::text::forms::threads::thread_form;
-use crate::text::forms::values::{lazy_form, local_form};
-use crate::text::forms::waits::{condvar_form, notify_form};
+use crate::text::forms::cells::{cell_data, cell_form};
+use crate::text::forms::channels::{channel_data, channel_form};
+use crate::text::forms::counts::{arc_data, arc_form, track_data, track_form};
+use crate::text::forms::locks::{mutex_data, mutex_form, rwlock_data, rwlock_form};
+use crate::text::forms::threads::{thread_data, thread_form};
+use crate::text::forms::values::{lazy_data, lazy_form, local_data, local_form};
+use crate::text::forms::waits::{condvar_data, condvar_form, notify_form};
 use crate::text::forms::wakers::{atomic_waker_form, waker_form};
 use crate::text::world::World;
 use loom_objects::operation::{AtomicWakerOp, CellOp, CondvarOp, Request};
@@ -150,6 +163,36 @@ pub(crate) enum Deed {
     TakesApart,
 }
 
+/// What comes of an operation for others, or what of others has come to it.
+#[derive(Clone, Copy)]
+pub(crate) enum Ties {
+    Nothing,
+    /// It gives its object free, for who has it next.
+    Frees,
+    /// It leaves a notification for who waits on its object.
+    Notifies,
+    /// It goes on by such a notification, unless it woke by itself.
+    IsNotified,
+    /// It wakes the first thread that sleeps on its object.
+    WakesOne,
+    /// It wakes all threads that sleep on its object.
+    WakesAll,
+    /// It leaves a message, if that was sent.
+    Sends,
+    /// It has a message, if there was one.
+    Receives,
+    /// It puts the waker that is its argument into its object.
+    Registers,
+    /// It notifies by the waker that its object has.
+    WakesRegistered,
+    /// It leaves a token for its thread.
+    Unparks,
+    /// It goes on by such a token.
+    Parks,
+    /// It goes on by the end of its thread.
+    Joins,
+}
+
 /// An operation as it is written in code, whichever object it is on, and what it does, waits for and asks.
 pub(crate) struct Form {
     pub(crate) on: On,
@@ -163,6 +206,7 @@ pub(crate) struct Form {
     pub(crate) waits: Option<&'static str>,
     /// What comes of a stage that isn't the last.
     pub(crate) passes: &'static str,
+    pub(crate) ties: Ties,
 }
 
 /// An operation: the number of what it is on, 0 where that is nothing, and its form.
@@ -272,4 +316,28 @@ pub(crate) fn call_of(request: &Request<(), ()>, world: &World) -> Call {
         Request::Unreachable => (0, &UNREACHABLE),
     };
     Call { number, form }
+}
+
+/// The data that an operation hands over, if it does.
+pub(crate) fn data_of<D, S>(request: &Request<D, S>) -> Option<&D> {
+    match request {
+        Request::Cell(op) => cell_data(op),
+        Request::Arc(op) => arc_data(op),
+        Request::Track(op) => track_data(op),
+        Request::Mutex(op) => mutex_data(op),
+        Request::RwLock(op) => rwlock_data(op),
+        Request::Condvar(op) => condvar_data(op),
+        Request::Channel(op) => channel_data(op),
+        Request::Local(op) => local_data(op),
+        Request::Lazy(op) => lazy_data(op),
+        Request::Thread(op) => thread_data(op),
+        Request::Atomic(_)
+        | Request::Fence(_)
+        | Request::Notify(_)
+        | Request::Waker(_)
+        | Request::AtomicWaker(_)
+        | Request::Explore(_)
+        | Request::Fail
+        | Request::Unreachable => None,
+    }
 }

@@ -3,8 +3,8 @@ use crate::event::Event;
 use crate::explanation::{Explanation, Options};
 use crate::picture::Spot;
 use crate::text::answers::Answer;
-use crate::text::forms::{Call, Kind, call_of};
-use crate::text::links::Links;
+use crate::text::forms::{Call, Kind, argument_of, call_of};
+use crate::text::links::{Effect, Links};
 use crate::text::objects::{At, Store};
 use crate::text::page::Page;
 use crate::text::world::World;
@@ -118,7 +118,7 @@ pub(crate) fn tell_events(explanation: &Explanation, world: &mut World, lines: &
             event: index.saturating_add(1),
             thread: usize::from(event.thread),
         };
-        tell_reply(explanation, at.thread, event, world, lines);
+        tell_reply(explanation, at, event, world, lines);
         tell_call(explanation, at, event, world, lines);
         tell_choices(explanation, at, event, world, lines);
     }
@@ -193,6 +193,31 @@ struct Pending<'a> {
     op: &'a Op<(), ()>,
 }
 
+/// What a thread is told: the answer, and the text of the data in it, if they are shown.
+#[derive(Clone, Copy)]
+struct Told<'a> {
+    answer: Answer,
+    data: Option<&'a str>,
+}
+
+impl Told<'_> {
+    /// Whether something is shown of it, by whether the thread waited for it.
+    fn is_shown(self, has_waited: bool) -> bool {
+        self.data.is_some() || self.answer.is_shown(has_waited)
+    }
+
+    /// Puts what is shown of it, by whether the thread waited for it.
+    fn put(self, page: &mut Page, has_waited: bool) {
+        let has_words = self.answer.is_shown(has_waited);
+        if has_words {
+            page.answer(self.answer);
+        }
+        if let Some(data) = self.data {
+            page.data(if has_words { ": " } else { "" }, data);
+        }
+    }
+}
+
 /// What the thread has pending, if it has something.
 fn pending_of<'a>(
     explanation: &'a Explanation,
@@ -215,25 +240,34 @@ fn pending_of<'a>(
 /// What came of the thread's last operation.
 fn tell_reply(
     explanation: &Explanation,
-    thread: usize,
+    at: At,
     event: &Event,
     world: &mut World,
     lines: &mut Lines,
 ) {
-    if let Some(pending) = pending_of(explanation, world, lines, thread) {
+    if let Some(pending) = pending_of(explanation, world, lines, at.thread) {
         // the choice just before the event, if there is one
         let place = event.choices_before.wrapping_sub(1);
         let slot = slot_at(explanation, place);
+        let call = call_of(&pending.op.request, world);
         let answer = world.settle(pending.at, pending.op, &event.told, slot);
-        let by_itself = wakes_by_itself(explanation, pending.at.event);
-        let spot = lines.effect_spot(&pending, answer);
-        let Pending { at, op, .. } = pending;
+        let told = Told {
+            answer,
+            data: explanation.data_told(at.event),
+        };
+        let effect = Effect {
+            event: pending.at.event,
+            spot: lines.effect_spot(&pending, answer),
+            is_told: pending.before.is_none() || told.is_shown(true),
+            by_itself: wakes_by_itself(explanation, pending.at.event),
+        };
+        let argument = argument_of(&pending.op.request);
         let links = &mut lines.links;
-        links.settle(at.event, op, &event.told, answer, by_itself, spot);
+        links.settle(effect, call, argument, &event.told, answer);
         if let Answer::Read(store, _) = answer {
             tell_read(explanation, place, &pending, store, answer, lines);
-        } else if answer.is_shown(pending.before.is_some()) {
-            tell_answer(&pending, answer, lines);
+        } else if told.is_shown(pending.before.is_some()) {
+            tell_answer(&pending, told, lines);
         }
     }
 }
@@ -280,15 +314,15 @@ fn tell_read(
     lines.push(line);
 }
 
-fn tell_answer(pending: &Pending<'_>, answer: Answer, lines: &mut Lines) {
+fn tell_answer(pending: &Pending<'_>, told: Told<'_>, lines: &mut Lines) {
     if pending.before.is_some() {
         let mut line = lines.line(None, pending.at);
         put_before(&mut line.text, pending.before, ": ");
-        line.text.answer(answer);
+        told.put(&mut line.text, true);
         lines.push(line);
     } else if let Some(line) = lines.list.last_mut() {
         line.tail.words(": ");
-        line.tail.answer(answer);
+        told.put(&mut line.tail, false);
     }
 }
 
@@ -303,7 +337,8 @@ fn tell_call(
     let bound = choices_after(explanation, at.event);
     let call = call_of(&event.op.request, world);
     let mut line = lines.line(Some(at.event), at);
-    line.text.call("", &event.op.request, world);
+    let data = explanation.data_handed_over(at.event);
+    line.text.call_with(&event.op.request, world, data);
     let spot = lines.next_spot(at.thread);
     lines.links.hand_over(event, spawned_by(call), spot);
     world.hand_over(at, spot.row, call, &event.op);

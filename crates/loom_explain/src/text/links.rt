@@ -1,12 +1,10 @@
 //! What comes of what: which store is read, who gave a lock free that another thread has next, and who began or woke a thread.
 use crate::event::Event;
 use crate::picture::{Spot, Tie};
-use crate::text::answers::Answer;
+use crate::text::answers::{Answer, is_done};
+use crate::text::forms::{Call, Ties};
 use crate::text::objects::Store;
-use loom_objects::operation::{
-    AtomicWakerOp, ChannelOp, CondvarOp, MutexOp, NotifyOp, Op, Reply, Request, RwLockOp, ThreadOp,
-    WakerOp,
-};
+use loom_objects::operation::{CondvarOp, Op, Reply, Request};
 use std::alloc::Global;
 
 /// What comes of an earlier line. The rows of its spots are lines.
@@ -45,6 +43,18 @@ struct Sleeper {
 struct Registered {
     place: usize,
     wakers: usize,
+}
+
+/// Where an event's operation takes effect.
+#[derive(Clone, Copy)]
+pub(crate) struct Effect {
+    pub(crate) event: usize,
+    /// In the line that tells it, or in the next one of its thread where none does.
+    pub(crate) spot: Spot,
+    /// Whether a line tells it.
+    pub(crate) is_told: bool,
+    /// Whether the thread woke by itself.
+    pub(crate) by_itself: bool,
 }
 
 /// The links of a run's lines.
@@ -100,44 +110,57 @@ impl Links {
         }
     }
 
-    /// The event's operation took effect at this spot, with this reply, of which this is shown; or its thread woke by itself.
+    /// The operation of this form, with this argument if it is an object, has taken effect, with this reply, of which this is
+    /// shown. What comes of it begins in the line that tells that, or else in the operation's own.
     pub(crate) fn settle(
         &mut self,
-        event: usize,
-        op: &Op<(), ()>,
+        effect: Effect,
+        call: Call,
+        argument: Option<usize>,
         reply: &Reply<()>,
         answer: Answer,
-        by_itself: bool,
-        spot: Spot,
     ) {
-        if let Some(place) = self.spots.get_mut(event.wrapping_sub(1)) {
-            *place = spot;
-        }
+        let Effect {
+            spot,
+            by_itself,
+            ..
+        } = effect;
+        let from = self.begin(effect);
         if let Answer::Read(store, _) = answer {
             self.read(store, spot);
         }
         if let Some(lock) = locked_by(reply) {
             self.tie_next(lock, spot);
         }
-        match &op.request {
-            Request::Mutex(op) => self.settle_mutex(op, spot),
-            Request::RwLock(op) => self.settle_rwlock(op, spot),
-            Request::Condvar(op) => self.settle_condvar(op, spot),
-            Request::Notify(op) => self.settle_notify(*op, by_itself, spot),
-            Request::Channel(op) => self.settle_channel(op, reply, spot),
-            Request::Waker(op) => self.settle_waker(*op, by_itself, spot),
-            Request::AtomicWaker(op) => self.settle_place(*op, spot),
-            Request::Thread(op) => self.settle_thread(op, spot),
-            Request::Atomic(_)
-            | Request::Fence(_)
-            | Request::Cell(_)
-            | Request::Arc(_)
-            | Request::Track(_)
-            | Request::Local(_)
-            | Request::Lazy(_)
-            | Request::Explore(_)
-            | Request::Fail
-            | Request::Unreachable => {}
+        let object = At::Object(call.number);
+        let is_done = is_done(call.form.deed, reply);
+        match call.form.ties {
+            Ties::Frees => self.leave(Tie::Lock, object, from),
+            Ties::Notifies => self.leave(Tie::Wake, object, from),
+            Ties::IsNotified if !by_itself => self.tie_last(Tie::Wake, object, spot),
+            Ties::WakesOne => self.wake(call.number, 1, from),
+            Ties::WakesAll => self.wake(call.number, usize::MAX, from),
+            Ties::Sends if is_done => self.leave(Tie::Message, object, from),
+            Ties::Receives if is_done => self.tie_first(Tie::Message, object, spot),
+            Ties::Registers => self.register(call.number, argument),
+            Ties::WakesRegistered => self.wake_registered(call.number, from),
+            Ties::Unparks => self.leave(Tie::Wake, At::Thread(call.number), from),
+            Ties::Parks => self.tie_last(Tie::Wake, At::Thread(spot.thread), spot),
+            Ties::Joins => self.join(call.number, spot),
+            Ties::Nothing | Ties::IsNotified | Ties::Sends | Ties::Receives => {}
+        }
+    }
+
+    /// Where what comes of the effect begins.
+    fn begin(&mut self, effect: Effect) -> Spot {
+        match self.spots.get_mut(effect.event.wrapping_sub(1)) {
+            Some(place) => {
+                if effect.is_told {
+                    *place = effect.spot;
+                }
+                *place
+            }
+            None => effect.spot,
         }
     }
 
@@ -145,117 +168,6 @@ impl Links {
     pub(crate) fn read(&mut self, store: Store, spot: Spot) {
         if let Some(from) = self.spots.get(store.at.event.wrapping_sub(1)).copied() {
             self.tie(Tie::Read, from, spot);
-        }
-    }
-
-    fn settle_mutex(&mut self, op: &MutexOp<()>, spot: Spot) {
-        match op {
-            MutexOp::Release(mutex, _) => self.leave(Tie::Lock, At::Object(*mutex), spot),
-            MutexOp::New(_)
-            | MutexOp::Lock(_)
-            | MutexOp::TryLock(_)
-            | MutexOp::GetMut(_)
-            | MutexOp::Put(..)
-            | MutexOp::IntoInner(_) => {}
-        }
-    }
-
-    fn settle_rwlock(&mut self, op: &RwLockOp<()>, spot: Spot) {
-        match op {
-            RwLockOp::ReadRelease(lock) | RwLockOp::WriteRelease(lock, _) => {
-                self.leave(Tie::Lock, At::Object(*lock), spot);
-            }
-            RwLockOp::New(_)
-            | RwLockOp::Read(_)
-            | RwLockOp::TryRead(_)
-            | RwLockOp::Write(_)
-            | RwLockOp::TryWrite(_)
-            | RwLockOp::GetMut(_)
-            | RwLockOp::Put(..)
-            | RwLockOp::IntoInner(_) => {}
-        }
-    }
-
-    fn settle_condvar(&mut self, op: &CondvarOp<()>, spot: Spot) {
-        match op {
-            CondvarOp::NotifyOne(condvar) => self.wake(*condvar, 1, spot),
-            CondvarOp::NotifyAll(condvar) => self.wake(*condvar, usize::MAX, spot),
-            CondvarOp::New | CondvarOp::Wait(..) | CondvarOp::WaitTimeout(..) => {}
-        }
-    }
-
-    fn settle_notify(&mut self, op: NotifyOp, by_itself: bool, spot: Spot) {
-        match op {
-            NotifyOp::Notify(notifier) => self.leave(Tie::Wake, At::Object(notifier), spot),
-            NotifyOp::Wait(notifier) if !by_itself => self.tie_last(
-                Tie::Wake,
-                At::Object(notifier),
-                spot,
-            ),
-            NotifyOp::New | NotifyOp::Wait(_) => {}
-        }
-    }
-
-    fn settle_waker(&mut self, op: WakerOp, by_itself: bool, spot: Spot) {
-        match op {
-            WakerOp::Wake(wakers) | WakerOp::WakeByRef(wakers) => {
-                self.leave(Tie::Wake, At::Object(wakers), spot);
-            }
-            WakerOp::Wait(wakers) if !by_itself => self.tie_last(
-                Tie::Wake,
-                At::Object(wakers),
-                spot,
-            ),
-            WakerOp::New
-            | WakerOp::Wait(_)
-            | WakerOp::Finish(_)
-            | WakerOp::Clone(_)
-            | WakerOp::Drop(_) => {}
-        }
-    }
-
-    fn settle_place(&mut self, op: AtomicWakerOp, spot: Spot) {
-        match op {
-            AtomicWakerOp::Register(place, wakers) | AtomicWakerOp::RegisterByRef(place, wakers) =>
-                self.register(place, wakers),
-            AtomicWakerOp::Wake(place) => {
-                if let Some(wakers) = self.registered_at(place) {
-                    self.leave(Tie::Wake, At::Object(wakers), spot);
-                }
-            }
-            AtomicWakerOp::New | AtomicWakerOp::TakeWaker(_) | AtomicWakerOp::Drop(_) => {}
-        }
-    }
-
-    fn settle_channel(&mut self, op: &ChannelOp<()>, reply: &Reply<()>, spot: Spot) {
-        match (op, reply) {
-            (ChannelOp::Send(channel, _), Reply::Done) => {
-                self.leave(Tie::Message, At::Object(*channel), spot);
-            }
-            (ChannelOp::Recv(channel) | ChannelOp::TryRecv(channel), Reply::Data(_)) => {
-                self.tie_first(Tie::Message, At::Object(*channel), spot);
-            }
-            _ => {}
-        }
-    }
-
-    fn settle_thread(&mut self, op: &ThreadOp<(), ()>, spot: Spot) {
-        match op {
-            ThreadOp::Unpark(thread) => {
-                self.leave(Tie::Wake, At::Thread(usize::from(*thread)), spot);
-            }
-            ThreadOp::Park => self.tie_last(Tie::Wake, At::Thread(spot.thread), spot),
-            ThreadOp::Join(thread, _) => {
-                if let Some(from) = self.last_of(usize::from(*thread)) {
-                    self.tie(Tie::Join, from, spot);
-                }
-            }
-            ThreadOp::Spawn(..)
-            | ThreadOp::Current
-            | ThreadOp::Yield
-            | ThreadOp::Finish(_)
-            | ThreadOp::Exit
-            | ThreadOp::End => {}
         }
     }
 
@@ -305,6 +217,13 @@ impl Links {
         }
     }
 
+    /// The thread has ended, by which another one goes on at this spot.
+    fn join(&mut self, thread: usize, to: Spot) {
+        if let Some(from) = self.last_of(thread) {
+            self.tie(Tie::Join, from, to);
+        }
+    }
+
     /// The spot of the thread's last event.
     fn last_of(&self, thread: usize) -> Option<Spot> {
         let mut spots = self.spots.iter().rev();
@@ -347,9 +266,19 @@ impl Links {
         }
     }
 
-    fn register(&mut self, place: usize, wakers: usize) {
-        if self.registered.push(Registered { place, wakers }).is_err() {
-            self.is_refused = true;
+    /// A waker of these, if that is known, is put into the place.
+    fn register(&mut self, place: usize, wakers: Option<usize>) {
+        if let Some(wakers) = wakers {
+            if self.registered.push(Registered { place, wakers }).is_err() {
+                self.is_refused = true;
+            }
+        }
+    }
+
+    /// A notification is left by the waker that the place has, if it has one.
+    fn wake_registered(&mut self, place: usize, from: Spot) {
+        if let Some(wakers) = self.registered_at(place) {
+            self.leave(Tie::Wake, At::Object(wakers), from);
         }
     }
 

@@ -8,6 +8,9 @@ use loom_objects::text::Text;
 use loom_views::rt::num::Numbers;
 use std::sync::atomic::Ordering;
 
+/// How many characters of data are shown.
+const LONGEST_DATA: usize = 24;
+
 /// A value of an atomic, by its type.
 #[derive(Clone, Copy)]
 pub(crate) struct Value {
@@ -53,6 +56,12 @@ impl Page {
                 self.signed(bits.cast_signed());
             }
         }
+    }
+
+    /// Data as their type writes them, at most `LONGEST_DATA` characters.
+    pub(crate) fn data(&mut self, words: &str, text: &str) {
+        self.words(words);
+        self.cut(text, LONGEST_DATA);
     }
 
     /// A place in the source, between words: `spin.rs:87`.

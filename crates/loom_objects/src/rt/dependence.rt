@@ -73,6 +73,13 @@ impl Dependence {
         Ok(())
     }
 
+    /// Of how many threads there are accesses in order (own).
+    pub fn thread_count(&self) -> usize
+        ensures { result ≡ length self.now.threads }
+    {
+        self.threads.len()
+    }
+
     /// So many threads more, which begin where the parent is, and so many objects more. An error only where some are made and
     /// memory for them is refused (loom's `rt/execution.rs` and `rt/object.rs`).
     // Inlined: it is called at each operation, and few make anything.

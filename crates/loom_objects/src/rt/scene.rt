@@ -154,6 +154,34 @@ impl<D: Drop> Scene<D> {
         Ok(self.threads.at(thread as usize))
     }
 
+    /// The threads, main first, to read (own).
+    pub fn threads(&self) -> &Sequence<Thread<D>>
+        ensures { result.now ≡ self.now.threads }
+    {
+        &self.threads
+    }
+
+    /// The objects in order of creation, to read (own).
+    pub fn objects(&self) -> &Sequence<Object<D>>
+        ensures { result.now ≡ self.now.objects }
+    {
+        &self.objects
+    }
+
+    /// The views of the threads, and of each object by its number, to read (own).
+    pub fn views(&self) -> &Views
+        ensures { result.now ≡ self.now.views }
+    {
+        &self.views
+    }
+
+    /// The values that were made once, in the order made, to read (own).
+    pub fn lazies(&self) -> &Sequence<Lazy<D>>
+        ensures { result.now ≡ self.now.lazies }
+    {
+        &self.lazies
+    }
+
     /// How many threads there are, those that have ended counted.
     pub fn thread_count(&self) -> usize
         ensures count { result ≡ length self.now.threads }

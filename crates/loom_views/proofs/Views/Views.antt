@@ -92,16 +92,16 @@ pub shows-old : (p : Point) (g : Graph) (k : ℕ) (vs : List ℕ) → Shows g k 
 shows-old p g k vs h = record { made = let a = h.made in omega arith; counted = h.counted ∙ sym (counts-old p g k h.made) }
 
 -- the largest of a list that begins with n, taken from the left
-most_from : (n : ℕ) (ns : List ℕ) → ℕ
+pub most_from : (n : ℕ) (ns : List ℕ) → ℕ
 most_from n [] = n
 most_from n (m ∷ ns) = most_from (max n m) ns
 
-most_from-is : (n : ℕ) (ns : List ℕ) → most_from n ns ≡ max n (most ns)
+pub most_from-is : (n : ℕ) (ns : List ℕ) → most_from n ns ≡ max n (most ns)
 unfolding most_from
 most_from-is n [] = omega arith
 most_from-is n (m ∷ ns) = most_from-is (max n m) ns ∙ omega arith
 
-join_all-versions : (g : Graph) (f : ℕ → ℕ) (js : List ℕ) → join_all (map f threads) (map (counts g) js) ≡ map (λ t. most_from (f t) (map (λ j. version g j t) js)) threads
+pub join_all-versions : (g : Graph) (f : ℕ → ℕ) (js : List ℕ) → join_all (map f threads) (map (counts g) js) ≡ map (λ t. most_from (f t) (map (λ j. version g j t) js)) threads
 unfolding counts most_from
 join_all-versions g f [] = refl
 join_all-versions g f (j ∷ js) = join_all-versions g (λ t. max (f t) (version g j t)) js

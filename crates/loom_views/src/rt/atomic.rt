@@ -23,8 +23,9 @@ ghost use Rattle.loom_views.specs.Atomic.Shown.{ShowsScene, AnswersAs, FinishesA
 pub use crate::rt::atomic::reader::Reader;
 use crate::rt::failure::FailureKind;
 use crate::rt::synchronize::{Synchronize, ThreadViews};
-use crate::rt::vv::VersionVec;
+use crate::rt::vv::{VersionVec, mixed};
 use crate::rt::{MAX_ATOMIC_HISTORY, MAX_THREADS};
+use crate::same::{Same, are_same};
 use std::sync::atomic::Ordering;
 
 /// For each thread, its own version when it first touched a store (loom's `rt/atomic.rs`).
@@ -572,5 +573,44 @@ impl State {
         let mut state = State::blank(views.present);
         state.push(thread, views, Synchronize::new(), value, Ordering::Release);
         state
+    }
+}
+
+impl Same for FirstSeen {
+    fn is_same(&self, other: &FirstSeen) -> bool {
+        are_same(self.versions.as_slice(), other.versions.as_slice())
+    }
+}
+
+impl Same for Store {
+    fn is_same(&self, other: &Store) -> bool {
+        self.value == other.value
+            && self.seq_cst == other.seq_cst
+            && self.order.is_same(&other.order)
+            && self.sync.is_same(&other.sync)
+            && self.first_seen.is_same(&other.first_seen)
+    }
+}
+
+impl Same for State {
+    fn is_same(&self, other: &State) -> bool {
+        self.count == other.count
+            && self.is_mutating == other.is_mutating
+            && self.loaded_at.is_same(&other.loaded_at)
+            && self.stored_at.is_same(&other.stored_at)
+            && self.unsync_loaded_at.is_same(&other.unsync_loaded_at)
+            && self.unsync_mut_at.is_same(&other.unsync_mut_at)
+            && are_same(self.stores.as_slice(), other.stores.as_slice())
+    }
+}
+
+impl State {
+    /// A number that depends on what is kept alone (own).
+    pub fn digest(&self) -> u64 {
+        let mut digest = mixed(self.loaded_at.digest(), self.stored_at.digest());
+        for store in self.stores.as_slice() {
+            digest = mixed(digest, mixed(store.value, store.order.digest()));
+        }
+        digest
     }
 }

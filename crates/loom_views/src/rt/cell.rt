@@ -9,7 +9,8 @@ ghost use Rattle.loom_views.specs.CellAccesses.{Accesses, new_accesses, read_ste
 
 use crate::rt::failure::FailureKind;
 use crate::rt::synchronize::ThreadViews;
-use crate::rt::vv::VersionVec;
+use crate::rt::vv::{VersionVec, mixed};
+use crate::same::Same;
 
 /// The joined views of a cell's reads, and those of its writes (loom's `rt/cell.rs`).
 #[derive(Clone, Copy)]
@@ -55,5 +56,18 @@ impl AccessRecords {
         }
         self.writes.join(&views.present);
         Ok(())
+    }
+}
+
+impl Same for AccessRecords {
+    fn is_same(&self, other: &AccessRecords) -> bool {
+        self.reads.is_same(&other.reads) && self.writes.is_same(&other.writes)
+    }
+}
+
+impl AccessRecords {
+    /// A number that depends on the records alone (own).
+    pub fn digest(&self) -> u64 {
+        mixed(self.reads.digest(), self.writes.digest())
     }
 }

@@ -9,7 +9,8 @@ ghost use Rattle.std.specs.Bool.{OnTrue, OnFalse};
 ghost use Rattle.loom_views.specs.Versions.{zeros, join, within, raised_at};
 ghost use Rattle.loom_views.specs.Orderings.{is_acquire, is_release};
 
-use crate::rt::vv::VersionVec;
+use crate::rt::vv::{VersionVec, mixed};
+use crate::same::Same;
 use std::marker::Model;
 use std::sync::atomic::Ordering;
 
@@ -192,5 +193,33 @@ impl Synchronize {
         if releases(order) {
             self.happens_before.join(&views.present);
         }
+    }
+}
+
+impl Same for ThreadViews {
+    fn is_same(&self, other: &ThreadViews) -> bool {
+        self.present.is_same(&other.present)
+            && self.released.is_same(&other.released)
+            && self.last_yield.is_same(&other.last_yield)
+    }
+}
+
+impl Same for Synchronize {
+    fn is_same(&self, other: &Synchronize) -> bool {
+        self.happens_before.is_same(&other.happens_before)
+    }
+}
+
+impl ThreadViews {
+    /// A number that depends on the views alone (own).
+    pub fn digest(&self) -> u64 {
+        mixed(self.present.digest(), self.released.digest())
+    }
+}
+
+impl Synchronize {
+    /// A number that depends on the view alone (own).
+    pub fn digest(&self) -> u64 {
+        self.happens_before.digest()
     }
 }

@@ -4,7 +4,7 @@
 //! nothing, and one that answers something answers `Misuse`. Source: loom's `rt/execution.rs` and `rt/object.rs`, where each
 //! thread and each object keeps its own.
 
-ghost use Rattle.std.specs.Prelude.{◌≡◌, ◌++◌, ◌∷◌, ◌<◌, ◌≤◌, [], Ok, Err, OnErr, OnOk, length, slice_get};
+ghost use Rattle.std.specs.Prelude.{◌≡◌, ◌++◌, ◌∷◌, ◌<◌, ◌≤◌, [], Ok, Err, IfOk, OnErr, OnOk, length, slice_get};
 ghost use Rattle.loom_views.specs.declared.rt.failure.FailureKind.TheVariants.{Misuse};
 ghost use Rattle.loom_views.specs.declared.rt.views.Kept.TheVariants.{Point};
 ghost use Rattle.loom_views.specs.Versions.{zeros};
@@ -15,8 +15,9 @@ use crate::rt::atomic::reader::Reader;
 use crate::rt::cell::AccessRecords;
 use crate::rt::failure::FailureKind;
 use crate::rt::synchronize::{Synchronize, ThreadViews};
-use crate::rt::vv::VersionVec;
+use crate::rt::vv::{VersionVec, mixed};
 use crate::rt::{MAX_ATOMIC_HISTORY, MAX_THREADS};
+use crate::same::{Same, are_same};
 use crate::sequence::Sequence;
 use std::alloc::{AllocError, Global};
 use std::sync::atomic::Ordering;
@@ -572,4 +573,71 @@ impl Views {
             _ => Err(FailureKind::Misuse),
         }
     }
+}
+
+impl Same for Kept {
+    fn is_same(&self, other: &Kept) -> bool {
+        match (self, other) {
+            (Kept::Point(one), Kept::Point(two)) => one.is_same(two),
+            (Kept::Atomic(one), Kept::Atomic(two)) => one.is_same(two),
+            (Kept::Cell(one), Kept::Cell(two)) => one.is_same(two),
+            (Kept::Point(_) | Kept::Atomic(_) | Kept::Cell(_), _) => false,
+        }
+    }
+}
+
+impl Kept {
+    /// A number that depends on what is kept alone.
+    fn digest(&self) -> u64 {
+        match self {
+            Kept::Point(view) => view.digest(),
+            Kept::Atomic(state) => state.digest(),
+            Kept::Cell(records) => records.digest(),
+        }
+    }
+}
+
+impl Same for Views {
+    fn is_same(&self, other: &Views) -> bool {
+        self.count == other.count
+            && self.global.is_same(&other.global)
+            && are_same(self.threads.as_slice(), other.threads.as_slice())
+            && are_same(self.places.as_slice(), other.places.as_slice())
+            && are_same(self.stamps.as_slice(), other.stamps.as_slice())
+    }
+}
+
+impl Views {
+    /// A copy. An error where memory is refused (own).
+    pub fn try_clone(&self, alloc: Global) -> Result<Views, AllocError>
+        ensures { IfOk result (λ copy. copy ≡ self.now) }
+    {
+        Ok(Views {
+            threads: copied(&self.threads),
+            count: self.count,
+            places: self.places.try_clone(alloc)?,
+            stamps: self.stamps.try_clone(alloc)?,
+            global: self.global,
+        })
+    }
+
+    /// A number that depends on the views alone: by it they are found again (own).
+    pub fn digest(&self) -> u64 {
+        let mut digest = self.global.digest();
+        for views in self.threads.as_slice() {
+            digest = mixed(digest, views.digest());
+        }
+        for kept in self.places.as_slice() {
+            digest = mixed(digest, kept.digest());
+        }
+        digest
+    }
+}
+
+/// A copy of the views of threads.
+fn copied(threads: &[ThreadViews; MAX_THREADS]) -> [ThreadViews; MAX_THREADS]
+    ensures { result ≡ threads.now }
+{
+    let [main, first, second, third, fourth] = threads;
+    [*main, *first, *second, *third, *fourth]
 }

@@ -9,6 +9,7 @@ ghost use Rattle.loom_views.specs.Versions.{IsCounted, zeros, join, within, rais
 ghost use Rattle.loom_views.specs.VersionOrder.{versions_partial_equiv, versions_equiv, versions_order};
 
 use crate::rt::MAX_THREADS;
+use crate::same::Same;
 use std::cmp::Ordering;
 use std::marker::Model;
 
@@ -124,6 +125,22 @@ impl VersionVec {
     }
 }
 
+impl VersionVec {
+    /// A number that depends on the counts alone (own).
+    pub fn digest(&self) -> u64 {
+        let low = (self.word % 0x1_0000_0000_0000_0000) as u64;
+        let high = (self.word >> 64) as u64;
+        mixed(low, high)
+    }
+}
+
+/// A number that depends on two (own).
+pub fn mixed(one: u64, other: u64) -> u64 {
+    (one ^ (one >> 29))
+        .wrapping_mul(0x9E37_79B9_7F4A_7C15)
+        .wrapping_add(other)
+}
+
 /// Two vectors are equal where each is inside the other, which is where they have the same counts: law
 /// `crate::laws::equal_vectors_are_same` (loom's `rt/vv.rs`).
 impl PartialEq for VersionVec {
@@ -154,5 +171,11 @@ impl PartialOrd for VersionVec {
             (false, true) => Some(Ordering::Greater),
             (false, false) => None,
         }
+    }
+}
+
+impl Same for VersionVec {
+    fn is_same(&self, other: &VersionVec) -> bool {
+        self.word == other.word
     }
 }

@@ -2,8 +2,10 @@
 ghost use Rattle.std.specs.Prelude.{◌≡◌, IfOk};
 ghost use Rattle.loom.specs.Runner.Explained.{told_by, told_event, told_events};
 
+use crate::runner::exact::{ByType, Exact};
 use crate::runner::history::event::Event;
 use loom_explain::event::Event as Told;
+use loom_explain::values::{Values, text_of_reply, text_of_request};
 use loom_objects::failure::Failure;
 use loom_objects::operation::{Labelled, Reply, Turn, bare_reply, bare_request};
 use std::alloc::{AllocError, Global};
@@ -21,6 +23,24 @@ pub fn told_events<D>(alloc: Global, history: &[Event<D>]) -> Result<Vec<Told>, 
         rest = tail;
     }
     Ok(events)
+}
+
+/// The data of each event of a history as texts, where their type shows them (own).
+pub fn told_values<D: Exact>(
+    alloc: Global,
+    history: &[Event<D>],
+) -> Result<Vec<Values>, AllocError> {
+    let mut values = Vec::new(alloc);
+    let mut told = None;
+    for event in history {
+        let handed_over = text_of_request(alloc, &ByType, &event.op)?;
+        values.push(Values { told, handed_over })?;
+        told = match &event.outcome {
+            Ok(Turn::Reply(_, reply)) => text_of_reply(alloc, &ByType, reply)?,
+            Ok(Turn::Start(_)) | Ok(Turn::Ended(_)) | Err(_) => None,
+        };
+    }
+    Ok(values)
 }
 
 /// The thread, which was told this, has handed over the operation.

@@ -45,3 +45,17 @@ pub(crate) fn cell_form(op: &CellOp<()>) -> (usize, &'static Form) {
         CellOp::Replace(cell, _) => (*cell, &CELL_REPLACE),
     }
 }
+
+/// The data that the operation hands over, if it does.
+pub(crate) fn cell_data<D>(op: &CellOp<D>) -> Option<&D> {
+    match op {
+        CellOp::New(value) | CellOp::WriteEnd(_, value) | CellOp::Replace(_, value) => Some(value),
+        CellOp::Read(_)
+        | CellOp::ReadEnd(_)
+        | CellOp::Deref(_)
+        | CellOp::Write(_)
+        | CellOp::IntoInner(_)
+        | CellOp::Get(_)
+        | CellOp::Swap(..) => None,
+    }
+}

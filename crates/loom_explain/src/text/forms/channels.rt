@@ -10,12 +10,13 @@ const RECEIVER: &str = "the receiver is to be left";
 
 static CHANNEL_NEW: Form = makes!(Kind::Channel, "channel", SENDER);
 
-static CHANNEL_SEND: Form = on!(Kind::Channel, ".send()", Sends, SENDER);
+static CHANNEL_SEND: Form = on!(Kind::Channel, ".send()", Sends, SENDER, ties Sends);
 
 static CHANNEL_RECV: Form =
-    on!(Kind::Channel, ".recv()", Receives, RECEIVER, waits "waits for a message of");
+    on!(Kind::Channel, ".recv()", Receives, RECEIVER, waits "waits for a message of", ties Receives);
 
-static CHANNEL_TRY_RECV: Form = on!(Kind::Channel, ".try_recv()", Receives, RECEIVER);
+static CHANNEL_TRY_RECV: Form =
+    on!(Kind::Channel, ".try_recv()", Receives, RECEIVER, ties Receives);
 
 static CHANNEL_CLONE_SENDER: Form = on!(Kind::Channel, ".sender.clone()", Nothing, SENDER);
 
@@ -33,5 +34,18 @@ pub(crate) fn channel_form(op: &ChannelOp<()>) -> (usize, &'static Form) {
         ChannelOp::CloneSender(channel) => (*channel, &CHANNEL_CLONE_SENDER),
         ChannelOp::DropSender(channel) => (*channel, &CHANNEL_DROP_SENDER),
         ChannelOp::DropReceiver(channel) => (*channel, &CHANNEL_DROP_RECEIVER),
+    }
+}
+
+/// The message that the operation hands over, if it does.
+pub(crate) fn channel_data<D>(op: &ChannelOp<D>) -> Option<&D> {
+    match op {
+        ChannelOp::Send(_, message) => Some(message),
+        ChannelOp::New
+        | ChannelOp::Recv(_)
+        | ChannelOp::TryRecv(_)
+        | ChannelOp::CloneSender(_)
+        | ChannelOp::DropSender(_)
+        | ChannelOp::DropReceiver(_) => None,
     }
 }

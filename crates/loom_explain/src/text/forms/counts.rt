@@ -60,3 +60,24 @@ pub(crate) fn track_form(op: &TrackOp<()>) -> (usize, &'static Form) {
         TrackOp::Drop(track) => (*track, &TRACK_DROP),
     }
 }
+
+/// The data that the operation of a counted reference hands over, if it does.
+pub(crate) fn arc_data<D>(op: &ArcOp<D>) -> Option<&D> {
+    match op {
+        ArcOp::New(value) | ArcOp::Put(_, value) => Some(value),
+        ArcOp::Clone(_)
+        | ArcOp::Drop(_)
+        | ArcOp::Get(_)
+        | ArcOp::GetMut(_)
+        | ArcOp::TryUnwrap(_)
+        | ArcOp::StrongCount(_) => None,
+    }
+}
+
+/// The data that the operation of a tracked value hands over, if it does.
+pub(crate) fn track_data<D>(op: &TrackOp<D>) -> Option<&D> {
+    match op {
+        TrackOp::New(value) | TrackOp::Put(_, value) => Some(value),
+        TrackOp::GetRef(_) | TrackOp::GetMut(_) | TrackOp::IntoInner(_) | TrackOp::Drop(_) => None,
+    }
+}

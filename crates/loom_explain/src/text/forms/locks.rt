@@ -14,7 +14,8 @@ static MUTEX_LOCK: Form = on!(Kind::Mutex, ".lock()", Nothing, DATA_IN, waits "w
 
 static MUTEX_TRY_LOCK: Form = on!(Kind::Mutex, ".try_lock()", Nothing, DATA_IN, waits "waits for");
 
-static MUTEX_RELEASE: Form = on!(Kind::Mutex, ".release()", Gives, "the thread is to hold it");
+static MUTEX_RELEASE: Form =
+    on!(Kind::Mutex, ".release()", Gives, "the thread is to hold it", ties Frees);
 
 static MUTEX_GET_MUT: Form = on!(Kind::Mutex, ".get_mut()", Takes, FREE);
 
@@ -33,7 +34,8 @@ static RWLOCK_RELEASE: Form = on!(
     Kind::RwLock,
     ".release()",
     Gives,
-    "the thread is to hold it so"
+    "the thread is to hold it so",
+    ties Frees
 );
 
 static RWLOCK_WRITE: Form = on!(Kind::RwLock, ".write()", Nothing, DATA_IN, waits "waits to write");
@@ -71,5 +73,29 @@ pub(crate) fn rwlock_form(op: &RwLockOp<()>) -> (usize, &'static Form) {
         RwLockOp::GetMut(lock) => (*lock, &RWLOCK_GET_MUT),
         RwLockOp::Put(lock, _) => (*lock, &RWLOCK_PUT),
         RwLockOp::IntoInner(lock) => (*lock, &RWLOCK_INTO_INNER),
+    }
+}
+
+/// The data that the operation of a mutex hands over, if it does.
+pub(crate) fn mutex_data<D>(op: &MutexOp<D>) -> Option<&D> {
+    match op {
+        MutexOp::New(value) | MutexOp::Release(_, value) | MutexOp::Put(_, value) => Some(value),
+        MutexOp::Lock(_) | MutexOp::TryLock(_) | MutexOp::GetMut(_) | MutexOp::IntoInner(_) => None,
+    }
+}
+
+/// The data that the operation of a read-write lock hands over, if it does.
+pub(crate) fn rwlock_data<D>(op: &RwLockOp<D>) -> Option<&D> {
+    match op {
+        RwLockOp::New(value) | RwLockOp::WriteRelease(_, value) | RwLockOp::Put(_, value) => {
+            Some(value)
+        }
+        RwLockOp::Read(_)
+        | RwLockOp::TryRead(_)
+        | RwLockOp::ReadRelease(_)
+        | RwLockOp::Write(_)
+        | RwLockOp::TryWrite(_)
+        | RwLockOp::GetMut(_)
+        | RwLockOp::IntoInner(_) => None,
     }
 }

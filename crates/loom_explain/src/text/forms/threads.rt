@@ -1,5 +1,5 @@
 //! Forms of operations of threads.
-use crate::text::forms::{Deed, Form, GOES_ON, Kind, On};
+use crate::text::forms::{Deed, Form, GOES_ON, Kind, On, Ties};
 use crate::text::world::World;
 use loom_objects::operation::ThreadOp;
 
@@ -17,15 +17,17 @@ static SPAWN: Form = Form {
     asks: "",
     waits: None,
     passes: GOES_ON,
+    ties: Ties::Nothing,
 };
 
-static JOIN: Form = other!(Thread, "join thread", JOINED_ONCE, waits "waits for the end of");
+static JOIN: Form =
+    other!(Thread, "join thread", JOINED_ONCE, waits "waits for the end of", ties Joins);
 
 static CURRENT: Form = other!(Nothing, "current()", "");
 
-static PARK: Form = other!(Nothing, "park()", "", waits "parked, without a token,");
+static PARK: Form = other!(Nothing, "park()", "", waits "parked, without a token,", ties Parks);
 
-static UNPARK: Form = other!(Thread, "unpark thread", "there is no such thread");
+static UNPARK: Form = other!(Thread, "unpark thread", "there is no such thread", ties Unparks);
 
 static YIELD: Form = other!(Nothing, "yield_now()", "");
 
@@ -46,5 +48,20 @@ pub(crate) fn thread_form(op: &ThreadOp<(), ()>, world: &World) -> (usize, &'sta
         ThreadOp::Finish(_) => (0, &FINISH),
         ThreadOp::Exit => (0, &EXIT),
         ThreadOp::End => (0, &END),
+    }
+}
+
+/// The result that the operation hands over, if it does.
+pub(crate) fn thread_data<D, S>(op: &ThreadOp<D, S>) -> Option<&D> {
+    match op {
+        ThreadOp::Finish(value) => Some(value),
+        ThreadOp::Spawn(..)
+        | ThreadOp::Join(..)
+        | ThreadOp::Current
+        | ThreadOp::Park
+        | ThreadOp::Unpark(_)
+        | ThreadOp::Yield
+        | ThreadOp::Exit
+        | ThreadOp::End => None,
     }
 }

@@ -32,3 +32,19 @@ pub(crate) fn lazy_form(op: &LazyOp<()>) -> (usize, &'static Form) {
         LazyOp::Init(key, _) => (*key, &LAZY_INIT),
     }
 }
+
+/// The data that the operation of a thread's own value hands over, if it does.
+pub(crate) fn local_data<D>(op: &LocalOp<D>) -> Option<&D> {
+    match op {
+        LocalOp::Init(_, value) | LocalOp::Put(_, value) => Some(value),
+        LocalOp::With(_) | LocalOp::TryWith(_) => None,
+    }
+}
+
+/// The data that the operation of a value that is made once hands over, if it does.
+pub(crate) fn lazy_data<D>(op: &LazyOp<D>) -> Option<&D> {
+    match op {
+        LazyOp::Init(_, value) => Some(value),
+        LazyOp::Get(_) => None,
+    }
+}

@@ -18,16 +18,18 @@ static CONDVAR_WAIT: Form = on!(Kind::Condvar, ".wait", Nothing, HELD, waits "as
 static CONDVAR_WAIT_TIMEOUT: Form =
     on!(Kind::Condvar, ".wait_timeout", Nothing, HELD, waits "asleep on");
 
-static CONDVAR_NOTIFY_ONE: Form = on!(Kind::Condvar, ".notify_one()", Nothing, CONDVAR_THERE);
+static CONDVAR_NOTIFY_ONE: Form =
+    on!(Kind::Condvar, ".notify_one()", Nothing, CONDVAR_THERE, ties WakesOne);
 
-static CONDVAR_NOTIFY_ALL: Form = on!(Kind::Condvar, ".notify_all()", Nothing, CONDVAR_THERE);
+static CONDVAR_NOTIFY_ALL: Form =
+    on!(Kind::Condvar, ".notify_all()", Nothing, CONDVAR_THERE, ties WakesAll);
 
 static NOTIFY_NEW: Form = makes!(Kind::Notify, "Notify::new", OWN);
 
-static NOTIFY_NOTIFY: Form = on!(Kind::Notify, ".notify()", Nothing, OWN);
+static NOTIFY_NOTIFY: Form = on!(Kind::Notify, ".notify()", Nothing, OWN, ties Notifies);
 
 static NOTIFY_WAIT: Form =
-    on!(Kind::Notify, ".wait()", Nothing, OWN, waits "waits for a notification of");
+    on!(Kind::Notify, ".wait()", Nothing, OWN, waits "waits for a notification of", ties IsNotified);
 
 pub(crate) fn condvar_form(op: &CondvarOp<()>) -> (usize, &'static Form) {
     match op {
@@ -44,5 +46,13 @@ pub(crate) fn notify_form(op: NotifyOp) -> (usize, &'static Form) {
         NotifyOp::New => (0, &NOTIFY_NEW),
         NotifyOp::Notify(notifier) => (notifier, &NOTIFY_NOTIFY),
         NotifyOp::Wait(notifier) => (notifier, &NOTIFY_WAIT),
+    }
+}
+
+/// The data that the operation of a condvar hands over, if it does: those of the mutex.
+pub(crate) fn condvar_data<D>(op: &CondvarOp<D>) -> Option<&D> {
+    match op {
+        CondvarOp::Wait(_, _, value) | CondvarOp::WaitTimeout(_, _, value) => Some(value),
+        CondvarOp::New | CondvarOp::NotifyOne(_) | CondvarOp::NotifyAll(_) => None,
     }
 }

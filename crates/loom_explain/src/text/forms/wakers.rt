@@ -8,31 +8,34 @@ const A_WAKER: &str = "a waker is to be left";
 static WAKER_NEW: Form = makes!(Kind::Wakers, "BlockOn::new", A_WAKER);
 
 static WAKER_WAIT: Form =
-    on!(Kind::Wakers, ".wait()", Nothing, A_WAKER, waits "waits for a notification of");
+    on!(Kind::Wakers, ".wait()", Nothing, A_WAKER, waits "waits for a notification of", ties IsNotified);
 
 static WAKER_FINISH: Form = on!(Kind::Wakers, ".finish()", Drops, A_WAKER);
 
 static WAKER_CLONE: Form = on!(Kind::Wakers, ".waker.clone()", Clones, A_WAKER);
 
-static WAKER_WAKE: Form = on!(Kind::Wakers, ".waker.wake()", Drops, A_WAKER);
+static WAKER_WAKE: Form = on!(Kind::Wakers, ".waker.wake()", Drops, A_WAKER, ties Notifies);
 
-static WAKER_WAKE_BY_REF: Form = on!(Kind::Wakers, ".waker.wake_by_ref()", Nothing, A_WAKER);
+static WAKER_WAKE_BY_REF: Form =
+    on!(Kind::Wakers, ".waker.wake_by_ref()", Nothing, A_WAKER, ties Notifies);
 
 static WAKER_DROP: Form = on!(Kind::Wakers, ".waker.drop()", Drops, A_WAKER);
 
 static ATOMIC_WAKER_NEW: Form = makes!(Kind::AtomicWaker, "AtomicWaker::new", A_WAKER);
 
-static ATOMIC_WAKER_REGISTER: Form = on!(Kind::AtomicWaker, ".register", Nothing, A_WAKER);
+static ATOMIC_WAKER_REGISTER: Form =
+    on!(Kind::AtomicWaker, ".register", Nothing, A_WAKER, ties Registers);
 
 static ATOMIC_WAKER_REGISTER_BY_REF: Form = on!(
     Kind::AtomicWaker,
     ".register_by_ref",
     Nothing,
-    A_WAKER
+    A_WAKER,
+    ties Registers
 );
 
 static ATOMIC_WAKER_WAKE: Form =
-    on!(Kind::AtomicWaker, ".wake()", Nothing, A_WAKER, waits "waits for");
+    on!(Kind::AtomicWaker, ".wake()", Nothing, A_WAKER, waits "waits for", ties WakesRegistered);
 
 static ATOMIC_WAKER_TAKE_WAKER: Form =
     on!(Kind::AtomicWaker, ".take_waker()", Nothing, A_WAKER, waits "waits for");

@@ -38,7 +38,10 @@ pub fn is_bound(written: Option<u64>, bound: Option<u8>) -> bool
 }
 
 /// The next member's value, where its key is this one.
-fn expect_member<'v>(members: &mut Iter<'v, String, Value>, key: &str) -> Option<&'v Value>
+pub(crate) fn expect_member<'v>(
+    members: &mut Iter<'v, String, Value>,
+    key: &str,
+) -> Option<&'v Value>
     ensures { expected key.now (members_view members.old)
         ≡ option_map (λ v. (view v.now, members_view members.new)) result }
 {
@@ -51,14 +54,14 @@ fn expect_member<'v>(members: &mut Iter<'v, String, Value>, key: &str) -> Option
 }
 
 /// Whether no member is left.
-fn is_end(members: &mut Iter<'_, String, Value>) -> bool
+pub(crate) fn is_end(members: &mut Iter<'_, String, Value>) -> bool
     ensures { result ≡ ends (members_view members.old) }
 {
     members.next().is_none()
 }
 
 #[tactic(auto, unfolding(crate::specs::Checkpoint::Reader::taken))]
-fn take_flag(members: &mut Iter<'_, String, Value>, key: &str) -> Option<bool>
+pub(crate) fn take_flag(members: &mut Iter<'_, String, Value>, key: &str) -> Option<bool>
     ensures { taken as_bool key.now (members_view members.old)
         ≡ option_map (λ b. (b, members_view members.new)) result }
 {
@@ -66,14 +69,14 @@ fn take_flag(members: &mut Iter<'_, String, Value>, key: &str) -> Option<bool>
 }
 
 #[tactic(auto, unfolding(crate::specs::Checkpoint::Reader::taken))]
-fn take_number(members: &mut Iter<'_, String, Value>, key: &str) -> Option<u64>
+pub(crate) fn take_number(members: &mut Iter<'_, String, Value>, key: &str) -> Option<u64>
     ensures { taken as_whole key.now (members_view members.old)
         ≡ option_map (λ n. (n, members_view members.new)) result }
 {
     expect_member(members, key)?.as_u64()
 }
 
-fn read_list(value: &Value) -> Option<&Vec<Value>>
+pub(crate) fn read_list(value: &Value) -> Option<&Vec<Value>>
     ensures { as_list (view value.now) ≡ option_map (λ v. map view v.now.items) result }
 {
     value.as_array()
@@ -98,7 +101,10 @@ fn take_bound(members: &mut Iter<'_, String, Value>, key: &str) -> Option<Option
 }
 
 #[tactic(auto, unfolding(crate::specs::Checkpoint::Reader::taken))]
-fn take_list<'v>(members: &mut Iter<'v, String, Value>, key: &str) -> Option<&'v Vec<Value>>
+pub(crate) fn take_list<'v>(
+    members: &mut Iter<'v, String, Value>,
+    key: &str,
+) -> Option<&'v Vec<Value>>
     ensures { taken as_list key.now (members_view members.old)
         ≡ option_map (λ v. (map view v.now.items, members_view members.new)) result }
 {
@@ -106,7 +112,7 @@ fn take_list<'v>(members: &mut Iter<'v, String, Value>, key: &str) -> Option<&'v
 }
 
 #[tactic(auto, unfolding(crate::specs::Checkpoint::Reader::taken))]
-fn take_text<'v>(members: &mut Iter<'v, String, Value>, key: &str) -> Option<&'v str>
+pub(crate) fn take_text<'v>(members: &mut Iter<'v, String, Value>, key: &str) -> Option<&'v str>
     ensures { taken as_str key.now (members_view members.old)
         ≡ option_map (λ s. (s.now, members_view members.new)) result }
 {

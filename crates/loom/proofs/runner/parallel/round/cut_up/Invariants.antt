@@ -1,0 +1,5 @@
+use Rattle.loom_engine.specs.Parts.Keeping.{Cuts}
+use Rattle.loom.proofs.runner.parallel.round.cut_up.Given as goal
+
+abbrev pub invariant-loop : goal.invariant-loop
+invariant-loop l = Cuts l.fn.parts l.parts

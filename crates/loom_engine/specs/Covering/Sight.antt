@@ -1,0 +1,32 @@
+-- What has to be kept of a body's state: of its points what is seen of them, and whose turn it is where the search doesn't explore.
+use Rattle.std.specs.Prelude.{ℕ, Bool, List, [], ◌⊎◌}
+use Rattle.loom_views.specs.declared.rt.failure.FailureKind.{FailureKind}
+use Rattle.loom_views.specs.Sight.{Sight as SightOfPoints, seen}
+use Rattle.loom_views.specs.Views.{Points}
+use Rattle.loom_objects.specs.declared.choice.Choice.{Choice}
+use Rattle.loom_objects.specs.World.{World}
+use Rattle.loom_engine.specs.Runs.Body.{Meaning, runs}
+use Rattle.loom_engine.specs.Trees.Meeting.{Marking}
+use Rattle.loom_engine.specs.Trees.Machines.{IsMarking}
+use Rattle.loom_engine.specs.Walk.Path.{Stored}
+use Rattle.loom_engine.specs.Covering.World.{world_of}
+use Rattle.loom_engine.specs.Covering.Covered.{Covers}
+use Rattle.loom_engine.specs.Covering.Cut.{Checks}
+use Rattle.loom_engine.specs.Covering.Points.{TellsMoves, Sight, sight}
+use Rattle.loom_engine.specs.Covering.Seen.{without_turn}
+use Rattle.loom_engine.specs.Covering.States.{AreLimits, state_after}
+
+-- What is seen of points, which the views that are kept of them say, tells their moves.
+abbrev pub SightMovesLaw : Type 0
+SightMovesLaw = (limits : FailureKind → Bool) → TellsMoves limits seen
+
+-- what is seen of the machine's state at a schedule
+abbrev pub seen_at : {D : Type 0} → Bool → World D → Sight D (SightOfPoints ⊎ Points)
+seen_at explores w = sight seen (without_turn explores w)
+
+-- A complete check of a body whose runs are cut off where they come to a state of which the same is seen has covered each of its runs,
+-- those of more operations too: each fails by a limit of length, or comes to what a run came to that the visitor was given.
+abbrev pub SeenBodyLaw : Type 0 → Type 0 → Type 0
+SeenBodyLaw D S = (limits : FailureKind → Bool) (next : Meaning D S) (explores : Bool) (max_threads max_steps steps_too room : ℕ) (adds : Marking) (body : S) (left : List (List Stored)) (given : List (List Choice × D))
+    → AreLimits limits → IsMarking adds → Checks room adds (runs next explores max_threads max_steps body) (state_after seen_at next explores max_threads max_steps body) left [] left given
+    → Covers limits (world_of (runs next explores max_threads max_steps body)) (world_of (runs next explores max_threads steps_too body)) given

@@ -1,0 +1,4 @@
+-- The JSON values and the texts of parts.
+pub mod Accepted
+pub mod Grammar
+pub mod Reader
