@@ -1,0 +1,76 @@
+//! What a check finds of a litmus test, as a text.
+use loom::model::Report;
+use loom::model::builder::Builder;
+use loom::model::clock::NoClock;
+use loom_text::read::read;
+use loom_text::run::answer::Answer;
+use loom_text::run::check::check;
+use loom_text::run::counting::Unheard;
+use loom_text::run::layout::Layout;
+use loom_text::run::program::assemble;
+use loom_text::run::thread::TestThread;
+use loom_text::test::Test;
+use std::alloc::Global;
+
+/// What a check finds of the text: its states and whether it holds, or the flag of a failure. The search is whole if the test has
+/// fewer than three threads, and stops after 20,000 runs if it has more than three. Where the text is no test, or memory is refused,
+/// it is nothing.
+pub fn found(alloc: Global, text: &str) -> String {
+    let mut lines = String::new(alloc);
+    if let Ok(test) = read(alloc, text.as_bytes()) {
+        put_found(alloc, &test, &mut lines);
+    }
+    lines
+}
+
+fn put_found(alloc: Global, test: &Test, lines: &mut String) {
+    if let Ok(layout) = Layout::of(alloc, test)
+        && let Ok(program) = assemble(alloc, test, &layout, "test.litmus")
+        && let Ok(main) = TestThread::main(alloc, program)
+    {
+        // Of three threads there are many runs, and of four more than a test has time for.
+        let threads = test.threads.len();
+        let builder = Builder {
+            reduce: threads > 2,
+            max_permutations: if threads > 3 { Some(20_000) } else { None },
+            max_steps: 10_000,
+            ..Builder::new()
+        };
+        if let Ok(outcome) = check(
+            alloc,
+            &builder,
+            test,
+            &layout,
+            &main,
+            &mut NoClock,
+            &mut Unheard,
+        ) {
+            let answer = Answer {
+                test,
+                layout: &layout,
+                outcome: &outcome,
+                is_whole: !builder.reduce,
+            };
+            put_answer(alloc, answer, lines);
+        }
+    }
+}
+
+// The lines that say what was found: of all the states and the answer, and of a failure the flag.
+fn put_answer(alloc: Global, answer: Answer, lines: &mut String) {
+    let Ok(whole) = format!(in alloc; "{answer}") else {
+        return;
+    };
+    let has_failed = matches!(answer.outcome.report, Report::Failed { .. });
+    for line in whole.as_str().lines() {
+        let is_state = line.ends_with(';') || line.starts_with("States ");
+        let is_answer = line == "Ok" || line == "No";
+        let is_flag = line.starts_with("Flag ");
+        if is_flag || (!has_failed && (is_state || is_answer)) {
+            if !lines.is_empty() {
+                let _ = lines.push_str("\n");
+            }
+            let _ = lines.push_str(line);
+        }
+    }
+}

@@ -1,0 +1,163 @@
+//! What the program of litmus tests does with words.
+use crate::tests::reading::texts::TEXTS;
+use loom_testing::pens::{Pen, Printed, is_printed};
+use loom_text::words::run_words;
+use std::process::Abort;
+use std::rt::{Clock, Files};
+use std::{fs, io};
+
+// Words, what they print on standard output and on standard error, and the status.
+type Call = (&'static [&'static str], &'static str, &'static str, u8);
+
+static CALLS: [Call; 16] = [
+    // One file has its whole answer.
+    (
+        &["SB.litmus"],
+        "Test SB Allowed\nStates 4\n0:r0=0; 1:r0=0;\n0:r0=0; 1:r0=1;\n0:r0=1; 1:r0=0;\n0:r0=1; 1:r0=1;\nOk\nWitnesses\nPositive: 126 Negative: 246\nCondition exists (0:r0=0 /\\ 1:r0=0)\nObservation SB Sometimes 126 246\n",
+        "",
+        0,
+    ),
+    (
+        &["MP+na+rlx+rlx.litmus"],
+        "Test MP+na+rlx+rlx Allowed\nStates 1\n1:r0=0; 1:r1=9;\nFlag race\nfailed in run 2: MP+na+rlx+rlx.litmus:12: an access is not ordered after one that it conflicts with: let a lock, or a release and an acquire, come between the two\nreplay: t1 t1 t1 t0 t2 t2 l1\nThe states are those found up to the failure.\nNo\nWitnesses\nPositive: 0 Negative: 1\nCondition exists (1:r0=1 /\\ 1:r1=0)\nObservation MP+na+rlx+rlx Never 0 1\n",
+        "",
+        1,
+    ),
+    // A limit that was reached is named.
+    (
+        &["--max-permutations", "5", "SB.litmus"],
+        "Test SB Allowed\nStates 2\n0:r0=0; 1:r0=0;\n0:r0=0; 1:r0=1;\nStopped: `max_permutations` was reached after 5 runs\nThe states are those found up to there.\nOk\nWitnesses\nPositive: 3 Negative: 2\nCondition exists (0:r0=0 /\\ 1:r0=0)\nObservation SB Sometimes 3 2\n",
+        "",
+        0,
+    ),
+    // Several have a line each. One that isn't there stands in no other's way.
+    (
+        &["nowhere.litmus", "SB.litmus", "MP+na+rlx+rlx.litmus"],
+        "SB Allowed: Ok, Sometimes 126 246, 4 states\nMP+na+rlx+rlx Allowed: No, Never 0 1, 1 state, race\n",
+        "nowhere.litmus: No such file or directory (os error 2)\n",
+        2,
+    ),
+    (
+        &["--table", "SB.litmus", "MP+na+rlx+rlx.litmus"],
+        "| Test | Asked | States | Observation | Answer |\n|---|---|---|---|---|\n| SB | Allowed | 4 | Sometimes 126 246 | Ok |\n| MP+na+rlx+rlx | Allowed | 1 | Never 0 1 | No, race |\n",
+        "",
+        1,
+    ),
+    (
+        &["--json", "MP+na+rlx+rlx.litmus"],
+        "{\"answer\":\"No\",\"cause\":\"MP+na+rlx+rlx.litmus:12: an access is not ordered after one that it conflicts with: let a lock, or a release and an acquire, come between the two\",\"choices\":\"t1 t1 t1 t0 t2 t2 l1\",\"condition\":\"exists (1:r0=1 /\\\\ 1:r1=0)\",\"file\":\"MP+na+rlx+rlx.litmus\",\"flag\":\"race\",\"negative\":1,\"observation\":\"Never\",\"positive\":0,\"question\":\"Allowed\",\"result\":\"failed\",\"runs\":1,\"states\":[{\"runs\":1,\"values\":{\"1:r0\":0,\"1:r1\":9}}],\"test\":\"MP+na+rlx+rlx\",\"whole\":true}\n",
+        "",
+        1,
+    ),
+    // Choices make one run. Of other ones the first that doesn't fit is a failure.
+    (
+        &["--replay", "", "SB.litmus"],
+        "ended: 0:r0=0; 1:r0=0;\n",
+        "",
+        0,
+    ),
+    (
+        &["--replay", "t1 l0", "SB.litmus"],
+        "Flag choices\nfailed: SB.litmus:5: the run does not fit the choices that it was given: take those of this body and of these settings\n",
+        "",
+        1,
+    ),
+    // Runs that are drawn. What they can't decide stays open.
+    (
+        &["--walk", "3", "5", "one.litmus"],
+        "Test one Allowed\nStates 1\n[x]=1;\nWalked: 5 runs, and 0 that were cut by their length\nThe states are those of these runs.\nOk\nWitnesses\nPositive: 5 Negative: 0\nThe counts are of runs that were drawn.\nCondition exists ([x]=1)\nObservation one Always 5 0\n",
+        "",
+        0,
+    ),
+    (
+        &["--walk", "3", "0", "--walk-depth", "2", "SB.litmus"],
+        "Test SB Allowed\nStates 0\nWalked: 0 runs, and 0 that were cut by their length\nThe states are those of these runs.\nUndecided\nWitnesses\nPositive: 0 Negative: 0\nThe counts are of runs that were drawn.\nCondition exists (0:r0=0 /\\ 1:r0=0)\nObservation SB Never 0 0\n",
+        "",
+        1,
+    ),
+    (
+        &["--walk", "3", "5", "--json", "SB.litmus"],
+        "",
+        "error: the argument '--walk <SEED> <RUNS>' cannot be used with '--json'\n\nUsage: loom_litmus [OPTIONS] FILE..\n\nFor more information, try '--help'.\n",
+        2,
+    ),
+    // What is wrong is told by its cause.
+    (
+        &["wrong.litmus"],
+        "",
+        "wrong.litmus:3:50: expected an order such as memory_order_acquire\nP0 (atomic_int* x) { atomic_store_explicit(x, 1, release); }\n                                                 ^^^^^^^\n",
+        2,
+    ),
+    (
+        &["--replay", "q1", "SB.litmus"],
+        "",
+        "error: invalid value 'q1' for '--replay <CHOICES>': word 1 is no choice: a choice is `t0` to `t4` or `t-`, `l0` to `l6`, `s0` or `s1`, with a space between two\n\nFor more information, try '--help'.\n",
+        2,
+    ),
+    (
+        &["--max-steps", "0", "SB.litmus"],
+        "",
+        "SB.litmus: `max_steps` is 0: set it to 1 or more, as 1000000\n",
+        2,
+    ),
+    (
+        &["--json", "--table", "SB.litmus"],
+        "",
+        "error: the argument '--json' cannot be used with '--table'\n\nUsage: loom_litmus [OPTIONS] FILE..\n\nFor more information, try '--help'.\n",
+        2,
+    ),
+    (
+        &[],
+        "",
+        "error: the following required arguments were not provided:\n  <FILE>...\n\nUsage: loom_litmus [OPTIONS] FILE..\n\nFor more information, try '--help'.\n",
+        2,
+    ),
+];
+
+// The files that the words name. `nowhere.litmus` isn't there.
+const FILES: [&str; 4] = [
+    "SB.litmus",
+    "MP+na+rlx+rlx.litmus",
+    "one.litmus",
+    "wrong.litmus",
+];
+
+const ONE: &str =
+    "C one\n{ }\nP0 (atomic_int* x) { atomic_store_explicit(x, 1, memory_order_relaxed); }\nexists (x=1)\n";
+
+const WRONG: &str =
+    "C wrong\n{ }\nP0 (atomic_int* x) { atomic_store_explicit(x, 1, release); }\nexists (x=1)\n";
+
+fn prints(rt: &(impl Abort + AllocGlobal + Clock + Files), call: &Call) {
+    let (words, out, err, status) = *call;
+    let mut pen = Pen::new(rt.alloc());
+    let mut other = Pen::new(rt.alloc());
+    let answer = run_words(rt, words, &mut pen, &mut other);
+    let printed = Printed {
+        out,
+        goes_on: false,
+        err,
+        status,
+    };
+    assert!(rt; is_printed(&pen, &other, answer, &printed), "{out}{err}");
+}
+
+#[test]
+fn words_print_answers(rt: HostRuntime) -> io::Result<()> {
+    fs::write(&rt, "one.litmus", ONE)?;
+    fs::write(&rt, "wrong.litmus", WRONG)?;
+    for (name, text) in &TEXTS {
+        match *name {
+            "SB" => fs::write(&rt, "SB.litmus", *text)?,
+            "MP+na+rlx+rlx" => fs::write(&rt, "MP+na+rlx+rlx.litmus", *text)?,
+            _ => {}
+        }
+    }
+    for call in &CALLS {
+        prints(&rt, call);
+    }
+    for name in &FILES {
+        fs::remove_file(&rt, *name)?;
+    }
+    Ok(())
+}

@@ -1,0 +1,13 @@
+pub mod CheckLemmas
+pub mod ConditionsAgain
+pub mod ConditionsFit
+pub mod LawLemmas
+pub mod NameLemmas
+pub mod QuestionsAgain
+pub mod ReadableLemmas
+pub mod ReadingSteps
+pub mod RunLemmas
+pub mod TallyLemmas
+pub mod WalkLemmas
+pub mod TermSteps
+pub mod WholeLemmas

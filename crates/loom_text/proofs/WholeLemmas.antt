@@ -1,0 +1,160 @@
+-- What a complete check of all runs says of each run.
+use Rattle.std.proofs.Common.{◌≡◌, ◌≢◌, ℕ, ◌+◌, ◌<◌, ◌&&◌, Bool, true, false, not, List, [], ◌∷◌, map, take, Option, Some, None, Result, Ok, Err, refl, sym, ap, ◌∙◌, subst, inl, inr, arith, eq-eqb}
+use Rattle.std.specs.Prelude.{is_none}
+use Rattle.std.proofs.lemmas.Bool.{and_parts}
+use Rattle.loom_objects.specs.declared.choice.Choice.{Choice}
+use Rattle.loom_objects.specs.declared.operation.Reply.{Reply}
+use Rattle.loom_objects.specs.Tree.Tree.{Tree}
+use Rattle.loom_views.specs.declared.rt.failure.FailureKind.{FailureKind}
+use Rattle.loom_engine.specs.Runs.Sound.{is_switch}
+use Rattle.loom_engine.specs.Runs.Body.{runs}
+use Rattle.loom_engine.specs.Trees.Exploring.{ExploresTree}
+use Rattle.loom_engine.specs.Trees.Outcomes.{outcome as comes_to, AreRuns, choices_made}
+use Rattle.loom_engine.specs.Trees.Marks.{marking}
+use Rattle.loom_engine.specs.Trees.Reported.{HasCompleted}
+use Rattle.loom_engine.specs.Walk.Lists.{Member}
+use Rattle.loom_engine.proofs.Runs.Exploring.{explores_law}
+use Rattle.loom.specs.Model.Settings.{explores, search_of}
+use Rattle.loom.specs.declared.model.builder.Builder.{Builder}
+use Rattle.loom.specs.declared.model.report.Report.{Report}
+use Rattle.loom.specs.declared.model.report.Report.TheVariants.{Complete}
+use Rattle.loom_text.specs.declared.run.check.Outcome.{Outcome}
+use Rattle.loom_text.specs.declared.run.code.Asked.{Asked}
+use Rattle.loom_text.specs.declared.run.code.Instruction.{Instruction}
+use Rattle.loom_text.specs.declared.run.code.Instruction.TheVariants.{Compute, Jump, JumpIfZero, Ask}
+use Rattle.loom_text.specs.declared.run.code.Operation.{Operation}
+use Rattle.loom_text.specs.declared.run.code.Operation.TheVariants.{Atomic, Fence, NewCell, Read, Write, NewMutex, Lock, TryLock, Unlock, NewCondvar, Wait, Signal, Broadcast, Yield, Fail, Spawn, Join, Finish, Exit, End}
+use Rattle.loom_text.specs.declared.run.layout.Layout.{Layout}
+use Rattle.loom_text.specs.declared.test.Test.{Test}
+use Rattle.loom_text.specs.Run.Check.{IsOutcome, Says, is_whole, tally_of}
+use Rattle.loom_text.specs.Run.Counted.{Counted}
+use Rattle.loom_text.specs.Run.Laws.{EachRunLaw, NoneMeets, runs_by, runs_of, showing}
+use Rattle.loom_text.specs.Run.Operators.{truth}
+use Rattle.loom_text.specs.Run.Running.{Running}
+use Rattle.loom_text.specs.Run.States.{counts, is_positive, is_same}
+use Rattle.loom_text.specs.Run.Thread.{gone_on, instruction_at, next_of, operation, request}
+use Rattle.loom_text.proofs.LawLemmas.{never_law, states_law}
+
+-- ---- a test's threads never switch whether the search explores
+
+no_switch : (r : Running) (asked : Operation) → is_switch (request r asked) ≡ false
+no_switch r (Atomic made) = refl
+no_switch r (Fence order) = refl
+no_switch r (NewCell n) = refl
+no_switch r (Read x) = refl
+no_switch r (Write x number) = refl
+no_switch r NewMutex = refl
+no_switch r (Lock m) = refl
+no_switch r (TryLock m) = refl
+no_switch r (Unlock m) = refl
+no_switch r NewCondvar = refl
+no_switch r (Wait c m) = refl
+no_switch r (Signal c) = refl
+no_switch r (Broadcast c) = refl
+no_switch r Yield = refl
+no_switch r Fail = refl
+no_switch r (Spawn place name) = refl
+no_switch r (Join t n) = refl
+no_switch r (Finish count) = refl
+no_switch r Exit = refl
+no_switch r End = refl
+
+no_switch_at : (r : Running) (at : Option Instruction) → is_switch (operation r at).request ≡ false
+no_switch_at r None = refl
+no_switch_at r (Some (Compute to operator one other)) = refl
+no_switch_at r (Some (Jump place)) = refl
+no_switch_at r (Some (JumpIfZero number place)) = refl
+no_switch_at r (Some (Ask asked)) = no_switch r asked.operation
+
+never_switches : (r : Running) (reply : Reply (List ℕ)) → is_switch (next_of r reply).1.request ≡ false
+never_switches r reply = no_switch_at (gone_on r reply) (instruction_at (gone_on r reply))
+
+is_false : (x : Bool) → not x ≡ true → x ≡ false
+is_false false h = refl
+is_false true h = absurd (cc h)
+
+has_none : (x : Option ℕ) → is_none x ≡ true → x ≡ None
+has_none None h = refl
+has_none (Some n) h = absurd (cc h)
+
+parts : (b : Builder) → is_whole b ≡ true → ((not b.reduce && is_none b.preemption_bound) ≡ true) × (not b.expect_explicit_explore ≡ true)
+parts b whole = and_parts (not b.reduce && is_none b.preemption_bound) (not b.expect_explicit_explore) whole
+
+every : (b : Builder) → is_whole b ≡ true → b.reduce ≡ false
+every b whole = is_false b.reduce (and_parts (not b.reduce) (is_none b.preemption_bound) (parts b whole).0).0
+
+unbounded : (b : Builder) → is_whole b ≡ true → b.preemption_bound ≡ None
+unbounded b whole = has_none b.preemption_bound (and_parts (not b.reduce) (is_none b.preemption_bound) (parts b whole).0).1
+
+explicit : (b : Builder) → is_whole b ≡ true → b.expect_explicit_explore ≡ false
+explicit b whole = is_false b.expect_explicit_explore (parts b whole).1
+
+throughout : (b : Builder) (main : Running) → b.expect_explicit_explore ≡ false → ExploresTree (runs_by b main)
+throughout b main h =
+    let does : explores b ≡ true = ap not h in
+    subst (λ e. ExploresTree (runs next_of e b.max_threads b.max_steps main)) (sym does) (explores_law next_of b.max_threads b.max_steps main never_switches)
+
+-- ---- a run that was made
+
+same_numbers : (numbers : List ℕ) → is_same numbers numbers ≡ true
+same_numbers [] = refl
+same_numbers (n ∷ numbers) = rw (eq-eqb n n refl) (same_numbers numbers)
+
+shows_itself : (test : Test) (layout : Layout) (numbers : List ℕ) → counts test layout numbers ≡ true → truth (counts test layout numbers && is_same (take layout.shown numbers) (take layout.shown numbers)) ≡ 1
+shows_itself test layout numbers h = rw (h, same_numbers (take layout.shown numbers)) refl
+
+module _ (test : Test) (layout : Layout) (room : ℕ) (tree : Tree (List ℕ)) (choices : List Choice) (numbers : List ℕ) (comes : comes_to room tree choices ≡ Some (Ok numbers)) where
+  its_value : (run : List Choice × List ℕ) → comes_to room tree run.0 ≡ Some (Ok run.1) → choices ≡ run.0 → run.1 ≡ numbers
+  its_value run is e =
+      let both : Some (Ok run.1) ≡ Some (Ok numbers) = sym is ∙ ap (λ x. comes_to room tree x) (sym e) ∙ comes in
+      cc both
+
+  shown_among : (runs : List (List Choice × List ℕ)) → AreRuns room tree runs → Member choices (choices_made runs) → counts test layout numbers ≡ true
+      → 0 < showing test layout (take layout.shown numbers) (map (λ run. run.1) runs)
+  shown_among [] are m h = absurd m
+  shown_among (run ∷ runs) are (inl e) h =
+      let there = shows_itself test layout numbers h in
+      subst (λ v. 0 < truth (counts test layout v && is_same (take layout.shown v) (take layout.shown numbers)) + showing test layout (take layout.shown numbers) (map (λ r. r.1) runs))
+      (sym (its_value run are.0 e)) (omega (arith, there))
+  shown_among (run ∷ runs) are (inr m) h = let rest = shown_among runs are.1 m h in omega (arith, rest)
+
+  none_among : (runs : List (List Choice × List ℕ)) → AreRuns room tree runs → Member choices (choices_made runs) → NoneMeets test layout (map (λ run. run.1) runs)
+      → counts test layout numbers ≡ true → is_positive test layout numbers ≡ false
+  none_among [] are m none h = absurd m
+  none_among (run ∷ runs) are (inl e) none h =
+      subst (λ v. counts test layout v ≡ true → is_positive test layout v ≡ false) (its_value run are.0 e) none.0 h
+  none_among (run ∷ runs) are (inr m) none h = none_among runs are.1 m none.1 h
+
+-- ---- the law
+
+module _ (b : Builder) (main : Running) (test : Test) (layout : Layout) (found : Outcome) (count : ℕ) (whole : is_whole b ≡ true) (is : IsOutcome b (runs_by b main) test layout found) (complete : found.report ≡ Complete count) where
+  completed : HasCompleted (search_of b) (marking b.preemption_bound) (runs_by b main) is.runs
+  completed = subst (λ (r : Report). Says b (runs_by b main) is.runs r) complete is.says
+
+  was_made : (choices : List Choice) (o : Result (List ℕ) FailureKind) → comes_to b.max_branches (runs_by b main) choices ≡ Some o → Member choices (choices_made is.runs)
+  was_made choices o comes =
+      let reachable = (completed.all_runs.every_run (every b whole) (unbounded b whole) (throughout b main (explicit b whole)) choices).1 (o, comes) in
+      (completed.all_runs.walk.members choices).0 reachable
+
+  fails_none : (choices : List Choice) (kind : FailureKind) → comes_to b.max_branches (runs_by b main) choices ≢ Some (Err kind)
+  fails_none choices kind = λ comes.
+      let reachable = (completed.all_runs.every_run (every b whole) (unbounded b whole) (throughout b main (explicit b whole)) choices).1 (Err kind, comes) in
+      let ended = completed.none_fails choices reachable in
+      let both : Some (Err kind) ≡ Some (Ok ended.0) = sym comes ∙ ended.1 in
+      cc both
+
+pub each_run_law : EachRunLaw
+each_run_law b main test layout found count whole is complete = record {
+  none_fails = fails_none b main test layout found count whole is complete;
+  shown = λ choices numbers comes h.
+      let made = was_made b main test layout found count whole is complete choices (Ok numbers) comes in
+      let some = shown_among test layout b.max_branches (runs_by b main) choices numbers comes is.runs (completed b main test layout found count whole is complete).are_runs made h in
+      let counted = states_law test layout (map (λ run. run.1) is.runs) (take layout.shown numbers) in
+      let states : runs_of (take layout.shown numbers) found.counts.states.items ≡ runs_of (take layout.shown numbers) (tally_of test layout (map (λ run. run.1) is.runs)).states =
+      ap (λ (xs : List Counted). runs_of (take layout.shown numbers) xs) is.states in
+      rw (states, counted) some;
+  never = λ none choices numbers comes h.
+      let made = was_made b main test layout found count whole is complete choices (Ok numbers) comes in
+      none_among test layout b.max_branches (runs_by b main) choices numbers comes is.runs (completed b main test layout found count whole is complete).are_runs made
+      (never_law test layout (map (λ run. run.1) is.runs) (sym is.positive ∙ none)) h;
+}

@@ -1,0 +1,9 @@
+pub mod Conditions
+pub mod Named
+pub mod Place
+pub mod Printing
+pub mod Question
+pub mod Readable
+pub mod Run
+pub mod Spelling
+pub mod Tokens

@@ -1,0 +1,12 @@
+pub mod Check
+pub mod Code
+pub mod Counted
+pub mod Drawn
+pub mod Laws
+pub mod Operators
+pub mod Progress
+pub mod Running
+pub mod State
+pub mod States
+pub mod Summary
+pub mod Thread

@@ -1,0 +1,26 @@
+//! What is written is read back: operators, orders, conditions, and all that follows the threads.
+ghost use Rattle.loom_text.specs.Printing.{ConditionsReadBack};
+ghost use Rattle.loom_text.specs.Readable.{QuestionsReadBack};
+ghost use Rattle.loom_text.specs.Spelling.{OperatorsReadBack, OrdersReadBack};
+
+/// What is written for an operator is one sign, which is read as that operator.
+pub fn operators_read_back()
+    ensures { OperatorsReadBack }
+{}
+
+/// What is written for an order is one word, which is read as that order.
+pub fn orders_read_back()
+    ensures { OrdersReadBack }
+{}
+
+/// The tokens that are written for a condition are read as that condition, where its terms have names of their own, and it isn't
+/// deeper or longer than what is read.
+pub fn conditions_read_back()
+    ensures { ConditionsReadBack }
+{}
+
+/// The tokens that are written for what follows the threads of a test are read as the same, where the test was read, and so meets
+/// `IsReadable`.
+pub fn questions_read_back()
+    ensures { QuestionsReadBack }
+{}

@@ -1,0 +1,291 @@
+//! The answer of a test, as herd7 prints it.
+use crate::run::check::Outcome;
+use crate::run::layout::Layout;
+use crate::run::summary::Summary;
+use crate::run::tally::Counts;
+use crate::run::walk::Seen;
+use crate::test::{Condition, Quantifier, Term, Test};
+use loom::model::{Report, Walked};
+use loom::{Choice, Failure, ShownChoices};
+use loom_views::rt::failure::FailureKind;
+use std::fmt;
+
+/// What was found of a test (own).
+#[derive(Clone, Copy)]
+pub struct Answer<'a> {
+    pub test: &'a Test,
+    pub layout: &'a Layout,
+    pub outcome: &'a Outcome,
+    /// Whether the check was to make each run, and not only those that a reduced or bounded search calls for.
+    pub is_whole: bool,
+}
+
+/// What a walk has seen of a test (own).
+#[derive(Clone, Copy)]
+pub struct Sight<'a> {
+    pub test: &'a Test,
+    pub layout: &'a Layout,
+    pub seen: &'a Seen,
+}
+
+/// The answer in lines, as herd7 prints it: the question, the states, a failure or a limit, whether the test holds, and how often
+/// its condition was met.
+impl fmt::Display for Answer<'_> {
+    fn fmt<W: fmt::Write>(&self, f: &mut fmt::Formatter<W>) -> fmt::Result {
+        write_states(f, self.test, self.layout, &self.outcome.counts)?;
+        self.write_end(f)?;
+        let counted = if self.is_whole {
+            ""
+        } else {
+            "The counts are of the runs that this search made.\n"
+        };
+        write_summary(f, self.test, self.summary(), counted)
+    }
+}
+
+/// The same lines of a walk, with how many runs it made in place of a limit.
+impl fmt::Display for Sight<'_> {
+    fn fmt<W: fmt::Write>(&self, f: &mut fmt::Formatter<W>) -> fmt::Result {
+        write_states(f, self.test, self.layout, &self.seen.counts)?;
+        match &self.seen.walked {
+            Walked::Made { runs, cut } => {
+                writeln!(
+                    f,
+                    "Walked: {runs} runs, and {cut} that were cut by their length"
+                )?;
+                writeln!(f, "The states are those of these runs.")?;
+            }
+            Walked::Failed {
+                runs,
+                cut,
+                failure,
+                choices,
+            } => write_failure(f, runs.saturating_add(*cut), failure, choices)?,
+        }
+        let counted = "The counts are of runs that were drawn.\n";
+        write_summary(f, self.test, self.summary(), counted)
+    }
+}
+
+impl Sight<'_> {
+    /// What the states say of the condition (own).
+    pub fn summary(&self) -> Summary {
+        Summary::seen(self.test, self.seen)
+    }
+}
+
+impl<'a> Answer<'a> {
+    /// What the states say of the condition (own).
+    pub fn summary(&self) -> Summary {
+        Summary::of(self.test, self.outcome)
+    }
+
+    // Why not all runs were made, if they weren't.
+    fn write_end<W: fmt::Write>(&self, f: &mut fmt::Formatter<W>) -> fmt::Result {
+        match &self.outcome.report {
+            Report::Complete { .. } => Ok(()),
+            Report::Stopped { runs, limit, .. } => {
+                writeln!(f, "Stopped: `{limit}` was reached after {runs} runs")?;
+                writeln!(f, "The states are those found up to there.")
+            }
+            Report::Failed {
+                runs,
+                failure,
+                choices,
+            } => write_failure(f, *runs, failure, choices),
+        }
+    }
+}
+
+// What was asked of the test, and its states, each in a line.
+fn write_states<W: fmt::Write>(
+    f: &mut fmt::Formatter<W>,
+    test: &Test,
+    layout: &Layout,
+    counts: &Counts,
+) -> fmt::Result {
+    let name = test.name.as_str();
+    let question = Question(test.quantifier);
+    writeln!(f, "Test {name} {question}")?;
+    let states = counts.states.as_slice();
+    let count = states.len();
+    writeln!(f, "States {count}")?;
+    for state in states {
+        let line = ShownNumbers {
+            test,
+            terms: layout.terms.as_slice(),
+            numbers: state.numbers(),
+        };
+        writeln!(f, "{line}")?;
+    }
+    Ok(())
+}
+
+// The failure of the run after so many, and its choices.
+fn write_failure<W: fmt::Write>(
+    f: &mut fmt::Formatter<W>,
+    runs: u64,
+    failure: &Failure,
+    choices: &[Choice],
+) -> fmt::Result {
+    let flag = flag_of(failure.kind);
+    let number = runs.saturating_add(1);
+    let choices = ShownChoices(choices);
+    writeln!(f, "Flag {flag}")?;
+    writeln!(f, "failed in run {number}: {failure}")?;
+    writeln!(f, "replay: {choices}")?;
+    writeln!(f, "The states are those found up to the failure.")
+}
+
+// Whether the test holds, and how often its condition was met, with a line of what is counted.
+fn write_summary<W: fmt::Write>(
+    f: &mut fmt::Formatter<W>,
+    test: &Test,
+    summary: Summary,
+    counted: &str,
+) -> fmt::Result {
+    let Summary {
+        positive,
+        negative,
+        observation,
+        verdict,
+    } = summary;
+    let name = test.name.as_str();
+    let asked = ShownQuestion(test);
+    writeln!(f, "{verdict}")?;
+    writeln!(f, "Witnesses")?;
+    writeln!(f, "Positive: {positive} Negative: {negative}")?;
+    f.write_str(counted)?;
+    writeln!(f, "Condition {asked}")?;
+    writeln!(f, "Observation {name} {observation} {positive} {negative}")
+}
+
+/// The word for what is asked (herd7's).
+#[derive(Clone, Copy)]
+pub(crate) struct Question(pub(crate) Quantifier);
+
+impl fmt::Display for Question {
+    fn fmt<W: fmt::Write>(&self, f: &mut fmt::Formatter<W>) -> fmt::Result {
+        f.write_str(match self.0 {
+            Quantifier::Exists => "Allowed",
+            Quantifier::NotExists => "Forbidden",
+            Quantifier::Forall => "Required",
+        })
+    }
+}
+
+/// A term as states show it: `0:r0` or `[x]`.
+#[derive(Clone, Copy)]
+pub(crate) struct ShownTerm<'a> {
+    pub(crate) test: &'a Test,
+    pub(crate) term: Term,
+}
+
+impl fmt::Display for ShownTerm<'_> {
+    fn fmt<W: fmt::Write>(&self, f: &mut fmt::Formatter<W>) -> fmt::Result {
+        let name = self.test.name_of(self.term);
+        match self.term {
+            Term::Register { thread, .. } => write!(f, "{thread}:{name}"),
+            Term::Location(_) => write!(f, "[{name}]"),
+        }
+    }
+}
+
+/// A state's numbers, each with its term, in a line.
+#[derive(Clone, Copy)]
+pub(crate) struct ShownNumbers<'a> {
+    pub(crate) test: &'a Test,
+    pub(crate) terms: &'a [Term],
+    pub(crate) numbers: &'a [u32],
+}
+
+impl fmt::Display for ShownNumbers<'_> {
+    fn fmt<W: fmt::Write>(&self, f: &mut fmt::Formatter<W>) -> fmt::Result {
+        for (place, number) in self.numbers.iter().enumerate() {
+            if place < self.terms.len() {
+                let number = number.cast_signed();
+                let term = ShownTerm {
+                    test: self.test,
+                    term: self.terms[place],
+                };
+                let space = if place == 0 { "" } else { " " };
+                write!(f, "{space}{term}={number};")?;
+            }
+        }
+        Ok(())
+    }
+}
+
+/// What the test asks, as its text says it: `exists (0:r0=0 /\ 1:r0=0)`.
+#[derive(Clone, Copy)]
+pub(crate) struct ShownQuestion<'a>(pub(crate) &'a Test);
+
+impl fmt::Display for ShownQuestion<'_> {
+    fn fmt<W: fmt::Write>(&self, f: &mut fmt::Formatter<W>) -> fmt::Result {
+        let test = self.0;
+        f.write_str(match test.quantifier {
+            Quantifier::Exists => "exists (",
+            Quantifier::NotExists => "~exists (",
+            Quantifier::Forall => "forall (",
+        })?;
+        write_condition(f, test, &test.condition, false)?;
+        f.write_str(")")
+    }
+}
+
+// The condition, in parentheses where it stands within another one and they are needed.
+fn write_condition<W: fmt::Write>(
+    f: &mut fmt::Formatter<W>,
+    test: &Test,
+    condition: &Condition,
+    is_within: bool,
+) -> fmt::Result {
+    match condition {
+        Condition::Equal(term, number) => {
+            let term = ShownTerm { test, term: *term };
+            write!(f, "{term}={number}")
+        }
+        Condition::Not(condition) => {
+            f.write_str("~(")?;
+            write_condition(f, test, condition, false)?;
+            f.write_str(")")
+        }
+        Condition::And(one, other) => {
+            write_condition(f, test, one, true)?;
+            f.write_str(" /\\ ")?;
+            write_condition(f, test, other, true)
+        }
+        Condition::Or(one, other) => {
+            f.write_str(if is_within { "(" } else { "" })?;
+            write_condition(f, test, one, false)?;
+            f.write_str(" \\/ ")?;
+            write_condition(f, test, other, false)?;
+            f.write_str(if is_within { ")" } else { "" })
+        }
+    }
+}
+
+/// The word for a failure.
+pub(crate) fn flag_of(kind: FailureKind) -> &'static str {
+    match kind {
+        FailureKind::Assertion => "assertion",
+        FailureKind::Deadlock => "deadlock",
+        FailureKind::Race | FailureKind::OpenAccess => "race",
+        FailureKind::LeakArc | FailureKind::LeakTrack | FailureKind::LeakMessages => "leak",
+        FailureKind::TooManyThreads => "threads",
+        FailureKind::TooManyBranches => "branches",
+        FailureKind::TooManyVersions => "accesses",
+        FailureKind::TooManyStores => "stores",
+        FailureKind::TooManySteps => "steps",
+        FailureKind::OrdersEqual => "orders",
+        FailureKind::Misuse
+        | FailureKind::LazyShutdown
+        | FailureKind::LocalGone
+        | FailureKind::SecondWaiter
+        | FailureKind::KeyTaken => "misuse",
+        FailureKind::Unreachable => "unreachable",
+        FailureKind::RelaxedFence => "fence",
+        FailureKind::ExploreSwitch => "explore",
+        FailureKind::NotDeterministic => "choices",
+    }
+}

@@ -1,0 +1,28 @@
+//! Laws of counted states. The contract of each function is a law. The definitions stand in `specs/Run/Laws.antt`.
+ghost use Rattle.loom_text.specs.Run.Laws.{EachRunLaw, NeverLaw, NotBeforeItselfLaw, OrderLaw, StatesLaw};
+
+/// The states are the results that the filter lets through, as far as they are shown, each with as many runs as had it.
+pub fn states_are_results()
+    ensures { StatesLaw }
+{}
+
+/// They are in order, each once, and each has a run.
+pub fn states_are_in_order()
+    ensures { OrderLaw }
+{}
+
+/// No state is shown before itself.
+pub fn none_is_before_itself()
+    ensures { NotBeforeItselfLaw }
+{}
+
+/// Where no result was counted as one that meets the condition, none that the filter lets through meets it.
+pub fn never_is_never()
+    ensures { NeverLaw }
+{}
+
+/// After a complete check of all runs the states are those of each run of the machine, none of which fails. Where none was counted
+/// that meets the condition, no run of the machine ends with a state that counts and meets it.
+pub fn states_are_of_all_runs()
+    ensures { EachRunLaw }
+{}

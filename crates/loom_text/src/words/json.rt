@@ -1,0 +1,108 @@
+//! Answers as JSON objects.
+use crate::run::answer::{Answer, Question, ShownQuestion, ShownTerm, flag_of};
+use crate::run::summary::Summary;
+use crate::run::tally::FinalState;
+use loom::ShownChoices;
+use loom::model::Report;
+use serde_json::{Value, json};
+use std::alloc::{AllocError, Global};
+
+/// The answer as one JSON object in a line. It fails only where a growth is refused (own).
+pub fn of_answer(alloc: Global, file: &str, answer: Answer) -> Result<String, AllocError> {
+    let Summary {
+        positive,
+        negative,
+        observation,
+        verdict,
+    } = answer.summary();
+    let question = Question(answer.test.quantifier);
+    let question = format!(in alloc; "{question}")?;
+    let observation = format!(in alloc; "{observation}")?;
+    let verdict = format!(in alloc; "{verdict}")?;
+    let asked = ShownQuestion(answer.test);
+    let condition = format!(in alloc; "{asked}")?;
+    let name = answer.test.name.as_str();
+    let is_whole = answer.is_whole;
+    let mut object = json!(in alloc; {
+        "file": file,
+        "test": name,
+        "question": question,
+        "condition": condition,
+        "answer": verdict,
+        "observation": observation,
+        "positive": positive,
+        "negative": negative,
+        "whole": is_whole
+    })?;
+    put(alloc, &mut object, "states", states(alloc, answer)?)?;
+    put_end(alloc, &mut object, &answer.outcome.report)?;
+    object.to_string(alloc)
+}
+
+// A list of objects.
+fn states(alloc: Global, answer: Answer) -> Result<Value, AllocError> {
+    let mut states = Vec::new(alloc);
+    for state in answer.outcome.counts.states.as_slice() {
+        states.push(of_state(alloc, answer, state)?)?;
+    }
+    Ok(Value::Array(states))
+}
+
+// The numbers by their terms, and how many runs ended with them.
+fn of_state(alloc: Global, answer: Answer, state: &FinalState) -> Result<Value, AllocError> {
+    let mut values = json!(in alloc; {})?;
+    for (place, number) in state.numbers().iter().enumerate() {
+        if place < answer.layout.terms.len() {
+            let term = ShownTerm {
+                test: answer.test,
+                term: answer.layout.terms[place],
+            };
+            let name = format!(in alloc; "{term}")?;
+            let number = number.cast_signed();
+            put(alloc, &mut values, name.as_str(), json!(in alloc; number)?)?;
+        }
+    }
+    let runs = state.runs();
+    let mut object = json!(in alloc; { "runs": runs })?;
+    put(alloc, &mut object, "values", values)?;
+    Ok(object)
+}
+
+// How the check ended.
+fn put_end(alloc: Global, object: &mut Value, report: &Report) -> Result<(), AllocError> {
+    match report {
+        Report::Complete { runs } => put_runs(alloc, object, "complete", *runs),
+        Report::Stopped { runs, limit, .. } => {
+            put_runs(alloc, object, "stopped", *runs)?;
+            let limit = format!(in alloc; "{limit}")?;
+            put(alloc, object, "limit", json!(in alloc; limit)?)
+        }
+        Report::Failed {
+            runs,
+            failure,
+            choices,
+        } => {
+            put_runs(alloc, object, "failed", *runs)?;
+            let flag = flag_of(failure.kind);
+            put(alloc, object, "flag", json!(in alloc; flag)?)?;
+            let cause = format!(in alloc; "{failure}")?;
+            put(alloc, object, "cause", json!(in alloc; cause)?)?;
+            let shown = ShownChoices(choices.as_slice());
+            let text = format!(in alloc; "{shown}")?;
+            put(alloc, object, "choices", json!(in alloc; text)?)
+        }
+    }
+}
+
+fn put_runs(alloc: Global, object: &mut Value, ends: &str, runs: u64) -> Result<(), AllocError> {
+    put(alloc, object, "result", json!(in alloc; ends)?)?;
+    put(alloc, object, "runs", json!(in alloc; runs)?)
+}
+
+// Puts a member behind the others.
+fn put(alloc: Global, object: &mut Value, name: &str, value: Value) -> Result<(), AllocError> {
+    if let Some(members) = object.as_object_mut() {
+        members.insert(String::from_str(alloc, name)?, value)?;
+    }
+    Ok(())
+}
