@@ -2,15 +2,15 @@
 """Bodies that give up where they needn't, which only a test can tell from the right ones: a contract allows the error of a
 refused growth always.
 
-Makes the edits of tools/wrong_bodies in copies of the repository, tries the tests of loom_tests there, and prints a line for each
-edit with the tests that fail by it. Ends with status 1 where a test passes that is to fail by an edit, where one fails that isn't,
-or where the tests didn't run.
+Makes the edits of tools/wrong_bodies in copies of the repository, tries tests of loom_tests and of loom_rows there, and prints a line
+for each edit with the tests that fail by it. Ends with status 1 where a test passes that is to fail by an edit, where one fails that
+isn't, or where the tests didn't run.
 
     tools/wrong_bodies.py [NAME..]
 
-An edit is written as those of must-fail, with files named from the top of the repository. Above it are lines `test: NAME`, one for
-each test that fails by it among those that any edit names. Edits that name no test in common are tried in one copy, and a copy has
-only the tests that are named.
+An edit is written as those of must-fail, with files named from the top of the repository. Above it are lines `test: CRATE::NAME`,
+one for each test that fails by it among those that any edit names. Edits that name no test in common are tried in one copy, and a
+copy has only the tests that are named.
 """
 import re
 import shutil
@@ -21,7 +21,6 @@ from pathlib import Path
 
 TOP = Path(__file__).resolve().parent.parent
 EDITS = TOP / "tools" / "wrong_bodies"
-TESTS = Path("crates") / "loom_tests"
 TEST = re.compile(r"^((?:///?[^\n]*\n)*)#\[test\]\nfn (\w+)\(.*?^}\n", re.M | re.S)
 MODULE = re.compile(r"^#\[cfg\(test\)\]\nmod (\w+);\n", re.M)
 
@@ -56,34 +55,36 @@ def apply(edit, copy):
             sys.exit(f"{edit.name}: a line begins with `{word}`")
 
 
-def keep_tests(copy, names):
-    """Leaves out each test but these, and the modules at the top that have none of them and that no other one needs."""
-    source = copy / TESTS / "src"
+def keep_tests(copy, crate, names):
+    """Leaves out each test of the crate but these, and the modules of tests at its top that have none of them and that no other one
+    needs."""
+    source = copy / "crates" / crate / "src"
     found = set()
     for file in source.rglob("*.rt"):
         module = "::".join(file.relative_to(source).with_suffix("").parts)
 
         def kept(test):
-            name = f"{module}::{test[2]}"
+            name = f"{crate}::{module}::{test[2]}"
             found.update({name} & names)
             return test[0] if name in names else ""
 
         file.write_text(TEST.sub(kept, file.read_text()))
     if found != names:
         sys.exit(f"no test {', '.join(sorted(names - found))}")
-    needed = {name.partition("::")[0] for name in names}
+    needed = {name.split("::")[1] for name in names}
     grows = True
     while grows:
         files = [it for name in needed for it in (source / f"{name}.rt", *(source / name).rglob("*.rt")) if it.is_file()]
         more = {name for it in files for name in re.findall(r"\bcrate::(\w+)", it.read_text())} - needed
         needed, grows = needed | more, bool(more)
-    for name in set(MODULE.findall((source / "lib.rt").read_text())) - needed:
-        drop_module(source, name)
+    root = next(it for it in (source / "lib.rt", source / "main.rt") if it.is_file())
+    for name in set(MODULE.findall(root.read_text())) - needed:
+        drop_module(root, name)
 
 
-def drop_module(source, name):
+def drop_module(root, name):
     """Leaves out a module at the top, with its files."""
-    root = source / "lib.rt"
+    source = root.parent
     root.write_text(root.read_text().replace(f"#[cfg(test)]\nmod {name};\n", ""))
     (source / f"{name}.rt").unlink()
     shutil.rmtree(source / name, ignore_errors=True)
@@ -96,12 +97,15 @@ def failing(edits, names):
         shutil.copytree(TOP, copy, ignore=shutil.ignore_patterns("out", ".git"))
         for edit in edits:
             apply(edit, copy)
-        keep_tests(copy, names)
-        tried = subprocess.run(["rt", "try", "--test"], cwd=copy / TESTS, capture_output=True, text=True)
-    if "test result: " not in tried.stdout:
-        print(tried.stdout[-2000:] + tried.stderr[-2000:], file=sys.stderr)
-        return None
-    return set(re.findall(r"^test (\S+) \.\.\. FAILED", tried.stdout, re.M))
+        failed = set()
+        for crate in sorted({it.partition("::")[0] for it in names}):
+            keep_tests(copy, crate, {it for it in names if it.startswith(f"{crate}::")})
+            tried = subprocess.run(["rt", "try", "--test"], cwd=copy / "crates" / crate, capture_output=True, text=True)
+            if "test result: " not in tried.stdout:
+                print(tried.stdout[-2000:] + tried.stderr[-2000:], file=sys.stderr)
+                return None
+            failed |= {f"{crate}::{it}" for it in re.findall(r"^test (\S+) \.\.\. FAILED", tried.stdout, re.M)}
+    return failed
 
 
 def groups_of(edits):

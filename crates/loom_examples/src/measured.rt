@@ -10,7 +10,7 @@ use crate::rows::settings::Settings;
 use crate::rows::tables::atomics::{ACQ_REL, THREE_ADDS};
 use crate::rows::tables::first::TWO_MUTEXES_DEADLOCK;
 use crate::rows::tables::joined;
-use crate::rows::{DEFAULTS, LONG_RUNS, ONE_PREEMPTION, WHOLE};
+use crate::rows::{Checked, DEFAULTS, LONG_RUNS, ONE_PREEMPTION, Row, WHOLE, all_rows, row_of};
 use crate::scripts::step::{END, EXIT, Step, Value, YIELD};
 use loom_objects::operation::{AtomicOp, CondvarOp, MutexOp, Request, RwLockOp, ThreadOp};
 use loom_views::rt::num::Numbers;
@@ -424,4 +424,21 @@ pub fn body_of<'a>(bodies: &'a [Measured], name: &str) -> Option<&'a Measured>
     ensures { option_copied result ≡ body_of bodies.now name.now }
 {
     bodies.iter().find(|body| body.name == name)
+}
+
+/// The row of this name, or the body that is measured under it, as a row.
+pub(crate) fn row_or_body(alloc: Global, name: &str) -> Result<Option<Row>, AllocError> {
+    let rows = all_rows(alloc)?;
+    if let Some(row) = row_of(rows.as_slice(), name) {
+        return Ok(Some(*row));
+    }
+    let bodies = all_bodies(alloc)?;
+    match body_of(bodies.as_slice(), name) {
+        Some(body) => Ok(Some(Row {
+            name: body.name,
+            checked: Checked::Script(body.steps),
+            settings: body.settings,
+        })),
+        None => Ok(None),
+    }
 }

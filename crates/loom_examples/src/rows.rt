@@ -6,13 +6,16 @@ ghost use Rattle.loom_examples.specs.Rows.Printed.{PrintedChecked, PrintedNamed,
 
 pub mod changes;
 pub mod drawing;
+pub mod jobs;
 pub mod json;
 pub mod line;
 pub mod options;
 pub mod settings;
+pub mod shares;
 pub mod tables;
 pub mod tasks;
 pub(crate) mod timed;
+pub(crate) mod walks;
 pub mod words;
 
 use crate::rows::line::ShownReport;

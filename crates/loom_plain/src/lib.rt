@@ -1,5 +1,5 @@
 //! A slow model checker that makes the runs of a body by the rules themselves: threads and objects in lists, views as a graph of
-//! points, all stores of an atomic, dependence as a second graph. It has no path and no vectors. `loom_tests` compares the runs that
+//! points, all stores of an atomic, dependence as a second graph. It has no path and no vectors. `loom_rows` compares the runs that
 //! a check finds with those that this one finds. It uses the operations of `loom_objects`, the kinds of failure and the limits of
 //! `loom_views`, and nothing of the code that it is compared with.
 #![tactic(auto)]

@@ -3,6 +3,7 @@ ghost use Rattle.std.specs.Prelude.{◌≡◌};
 
 mod ample;
 mod bodies;
+mod carried;
 mod changes;
 mod children;
 mod ends;
@@ -21,7 +22,7 @@ mod turns;
 use loom::Choice;
 use loom::runner::exact::Exact;
 use loom_objects::data::Data;
-use std::alloc::AllocError;
+use std::alloc::{AllocError, Global};
 use std::process::Abort;
 
 const NONE: Choice = Choice::Thread(None);
@@ -46,6 +47,10 @@ impl Exact for Count {
     ghost use Rattle.std.proofs.Common.{rules};
 
     ghost same = { λ x y e. Prim.search rules };
+
+    fn shown(&self, alloc: Global) -> Result<Option<String>, AllocError> {
+        Ok(Some(format!(in alloc; "{} counted,\nand more than fits", self.0)?))
+    }
 }
 
 /// A copy of a value of one's own type is that value.

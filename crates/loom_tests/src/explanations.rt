@@ -1,5 +1,6 @@
-//! The text of each body's run, whole.
+//! The text of each body's run, whole, and its picture.
 mod bodies;
+mod pictures;
 pub mod texts;
 
 use crate::asserting::{same, script};
@@ -13,12 +14,13 @@ use crate::explanations::bodies::misuses::{
 };
 use crate::explanations::bodies::races::{BESIDE, MUTATED, OPEN, SPIN, THREE, UNRELEASED};
 use crate::explanations::bodies::values::{AFTER_EXIT, AFTER_MAIN, MADE_TWICE};
-use crate::page::Page;
 use loom::Choice;
 use loom::choices::Choices;
+use loom::explain::Displayed;
 use loom::model::builder::Builder;
 use loom_examples::scripts::script::Script;
 use loom_examples::scripts::step::Step;
+use loom_testing::page::Page;
 use std::alloc::Global;
 use std::process::Abort;
 
@@ -195,6 +197,23 @@ fn put_explanation(
     if let Ok(explanation) = &builder.explain(alloc, body, choices) {
         page.add_shown(explanation);
     }
+}
+
+/// What a body's objects hold stands in its text where that is asked for.
+#[test]
+fn data_are_shown(rt: HostRuntime) {
+    let body = script(&rt, MESSAGE_LEFT);
+    let told = Builder::new().explain_with(rt.alloc(), &body, &[], &Displayed);
+    let mut page = Page::new(rt.alloc());
+    if let Ok(explanation) = &told {
+        page.add_shown(explanation);
+    }
+    same(
+        &rt,
+        page.text.as_str(),
+        texts::messages_shown::TEXT,
+        "a body with its data",
+    );
 }
 
 // The row has its text.

@@ -18,10 +18,8 @@ mod first;
 #[cfg(test)]
 mod guide;
 #[cfg(test)]
-mod page;
-#[cfg(test)]
 mod porting;
 #[cfg(test)]
-mod rows;
-#[cfg(test)]
 mod views;
+#[cfg(test)]
+mod walks;

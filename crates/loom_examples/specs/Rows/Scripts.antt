@@ -9,3 +9,4 @@ pub mod Values
 pub mod Exploring
 pub mod Limits
 pub mod Measured
+pub mod Walks

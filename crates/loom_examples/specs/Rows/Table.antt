@@ -2,7 +2,7 @@
 use Rattle.std.specs.Prelude.{◌≡◌, List, [], ◌∷◌, ◌++◌, codes}
 use Rattle.loom_examples.specs.Rows.FewThreads.{few_thread_rows, lock_beside}
 use Rattle.loom_examples.specs.Rows.Meanings.{Named}
-use Rattle.loom_examples.specs.Rows.Settings.{script, whole, short, long, few, bounded, explicit, updates}
+use Rattle.loom_examples.specs.Rows.Settings.{script, whole, limited, short, long, few, bounded, explicit, updates}
 use Rattle.loom_examples.specs.Rows.Scripts.First as first
 use Rattle.loom_examples.specs.Rows.Scripts.Atomics as atomics
 use Rattle.loom_examples.specs.Rows.Scripts.Cells as cells
@@ -12,6 +12,7 @@ use Rattle.loom_examples.specs.Rows.Scripts.Wakers as wakers
 use Rattle.loom_examples.specs.Rows.Scripts.Values as values
 use Rattle.loom_examples.specs.Rows.Scripts.Exploring as exploring
 use Rattle.loom_examples.specs.Rows.Scripts.Limits as limits
+use Rattle.loom_examples.specs.Rows.Scripts.Walks as walks
 
 -- of an assertion that fails, and of a deadlock
 abbrev pub failing_rows : List Named
@@ -210,7 +211,11 @@ limit_rows =
     script (codes "finish_twice") limits.finish_twice ∷ script (codes "exit_first") limits.exit_first ∷
     script (codes "put_absent") limits.put_absent ∷ script (codes "guard_left") limits.guard_left ∷ []
 
+-- for walks
+abbrev pub walk_rows : List Named
+walk_rows = limited (codes "three_planted") walks.three_planted ∷ limited (codes "five_counting") walks.five_counting ∷ []
+
 -- all of them
 abbrev pub IsTable : List Named → Type 0
 IsTable rows =
-    rows ≡ first_rows ++ atomic_rows ++ cell_rows ++ lock_rows ++ channel_rows ++ waker_rows ++ value_rows ++ exploring_rows ++ limit_rows
+    rows ≡ first_rows ++ atomic_rows ++ cell_rows ++ lock_rows ++ channel_rows ++ waker_rows ++ value_rows ++ exploring_rows ++ limit_rows ++ walk_rows

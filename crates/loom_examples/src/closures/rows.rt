@@ -9,8 +9,6 @@ use crate::closures::stack::through_stack;
 use crate::rows::line::{self, ShownReport};
 use crate::rows::tasks::UP_TO;
 use crate::rows::tell_error;
-use crate::rows::timed::HostClock;
-use loom::Choice;
 use loom::checkpoint::file::file_store;
 use loom::explain::Explanation;
 use loom::model::builder::Builder;
@@ -19,6 +17,7 @@ use loom::model::{Replay, Report};
 use loom::runner::{
     Handle, NoVisitor, RunnerError, Stop, check_rising, check_with, explain, replay,
 };
+use loom::{Choice, HostClock};
 use loom_ops::sync::atomic::Ordering::{Relaxed, Release};
 use std::alloc::{AllocError, Global};
 use std::io::{self, Write};

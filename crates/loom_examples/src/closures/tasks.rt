@@ -6,7 +6,7 @@ use crate::rows::json::{of_replay, of_report, print_answer};
 use crate::rows::line::{self, ShownReport};
 use crate::rows::options::RowAsked;
 use crate::rows::tasks::{ShownReplay, ShownRisen, Task};
-use crate::rows::words::refuse_choices;
+use crate::rows::words::{refuse, refuse_choices};
 use loom::model::builder::Builder;
 use loom::model::rising::Risen;
 use loom::model::{Replay, Report};
@@ -96,6 +96,18 @@ pub fn run_asked<
     out: &mut O,
     err: &mut E,
 ) -> io::Result<u8> {
+    if asked.walk.is_some() || asked.shortens {
+        return refuse(
+            err,
+            "error: '--walk' and '--shorten' are for rows whose bodies are scripts",
+        );
+    }
+    if asked.jobs.is_some() || asked.share.is_some() {
+        return refuse(
+            err,
+            "error: what is shared out are rows whose bodies are scripts",
+        );
+    }
     let builder = row.builder_with(rt.alloc(), builder, asked.file)?;
     let builder = asked.changes.change(builder);
     let Some(text) = asked.replay else {

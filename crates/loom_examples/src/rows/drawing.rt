@@ -28,7 +28,7 @@ pub struct Drawing<'a> {
 
 /// What came of a row.
 #[derive(Drop)]
-enum Found {
+pub(crate) enum Found {
     /// What a check found.
     Report(Report),
     /// What checks with rising bounds found.
@@ -66,7 +66,7 @@ fn write_file<R: Files>(rt: &R, path: &str, text: &str) -> io::Result<()> {
 
 impl Found {
     /// The choices of the run that failed, if one did.
-    fn failing(&self) -> Option<&[Choice]> {
+    pub(crate) fn failing(&self) -> Option<&[Choice]> {
         match self {
             Found::Report(Report::Failed { choices, .. })
             | Found::Replay(Replay::Failed { choices, .. }) => Some(choices.as_slice()),
@@ -80,7 +80,7 @@ impl Found {
     }
 
     /// Prints its line, and answers the exit status.
-    fn print<O: Write>(&self, out: &mut O) -> io::Result<u8> {
+    pub(crate) fn print<O: Write>(&self, out: &mut O) -> io::Result<u8> {
         match self {
             Found::Report(report) => {
                 let shown = ShownReport(report);
@@ -151,7 +151,7 @@ fn draw_body<R: AllocGlobal + Clock + Files, B: Body<Data = u64>, O: Write, E: W
 }
 
 /// What comes of this.
-fn find<R: AllocGlobal + Clock + Files, B: Body<Data = u64>>(
+pub(crate) fn find<R: AllocGlobal + Clock + Files, B: Body<Data = u64>>(
     rt: &R,
     builder: &Builder,
     body: &B,
@@ -166,7 +166,7 @@ fn find<R: AllocGlobal + Clock + Files, B: Body<Data = u64>>(
 }
 
 /// Explains the failing run with these choices, and draws it.
-fn tell_failure<R: AllocGlobal + Files, B: Body<Data = u64>, O: Write>(
+pub(crate) fn tell_failure<R: AllocGlobal + Files, B: Body<Data = u64>, O: Write>(
     rt: &R,
     builder: &Builder,
     body: &B,

@@ -6,6 +6,7 @@ ghost use Rattle.loom_examples.specs.Rows.Words.{begins_with, ends_name, is_name
 use crate::rows::changes::Changes;
 use crate::rows::drawing::Drawing;
 use clap::{Arg, ArgAction, ArgMatches, Command, Error, value_parser};
+use loom::model::Walk;
 use std::alloc::{AllocError, Global};
 use std::time::Duration;
 
@@ -16,8 +17,12 @@ enum Takes {
     Nothing,
     /// A number, with what the help calls it.
     Number(&'static str),
+    /// As many numbers as the help has names for.
+    Numbers(&'static [&'static str]),
     /// A text, with what the help calls it.
     Text(&'static str),
+    /// Two texts, with what the help calls them.
+    Pair(&'static [&'static str]),
     /// Any number of texts, with what the help calls each.
     Texts(&'static str),
 }
@@ -52,7 +57,7 @@ const NUMBER: Known = Known {
 };
 
 // All options, in the order of the help, which clap adds itself.
-static OPTIONS: [Known; 19] = [
+static OPTIONS: [Known; 26] = [
     // What the program does besides a check.
     Known {
         name: "explain",
@@ -83,6 +88,77 @@ static OPTIONS: [Known; 19] = [
     Known {
         name: "rising",
         help: "check with at most 0 preemptions, then 1, 2 and 3, up to a failure",
+        ..FLAG
+    },
+    Known {
+        name: "walk",
+        takes: Takes::Numbers(&["SEED", "RUNS"]),
+        help: "make so many runs, whose choices are drawn by the seed, up to a failure",
+        conflicts: &["rising", "replay", "json"],
+        ..FLAG
+    },
+    Known {
+        name: "walk-depth",
+        takes: Takes::Number("D"),
+        help: "draw priorities of threads, which change D - 1 times in a run",
+        needs: Some("walk"),
+        ..FLAG
+    },
+    Known {
+        name: "shorten",
+        help: "where a run failed, look for a shorter one that fails so, and explain that one",
+        conflicts: &["json"],
+        ..FLAG
+    },
+    Known {
+        name: "jobs",
+        help: "share the check out among this many workers, or as many as there are processors, where it is 0",
+        conflicts: &[
+            "replay", "rising", "walk", "shorten", "json", "svg", "mermaid",
+        ],
+        ..NUMBER
+    },
+    Known {
+        name: "split",
+        takes: Takes::Pair(&["DIR", "N"]),
+        help: "split the check into at least N parts, which are files in DIR",
+        conflicts: &[
+            "jobs",
+            "replay",
+            "rising",
+            "walk",
+            "shorten",
+            "json",
+            "explain",
+            "max-duration",
+        ],
+        ..FLAG
+    },
+    Known {
+        name: "part",
+        takes: Takes::Text("DIR/K"),
+        help: "work on the part of number K in DIR",
+        conflicts: &[
+            "jobs", "replay", "rising", "walk", "shorten", "json", "explain", "split",
+        ],
+        ..FLAG
+    },
+    Known {
+        name: "gather",
+        takes: Takes::Text("DIR"),
+        help: "take back what was worked on in DIR, and print what is open, or the report",
+        conflicts: &[
+            "jobs",
+            "replay",
+            "rising",
+            "walk",
+            "shorten",
+            "json",
+            "explain",
+            "split",
+            "part",
+            "max-duration",
+        ],
         ..FLAG
     },
     Known {
@@ -181,7 +257,9 @@ impl Known {
         Ok(match self.takes {
             Takes::Nothing => arg.action(ArgAction::SetTrue),
             Takes::Number(value) => arg.value_name(value).value_parser(value_parser!(usize)),
+            Takes::Numbers(values) => arg.value_names(values).value_parser(value_parser!(usize)),
             Takes::Text(value) => arg.value_name(value),
+            Takes::Pair(values) => arg.value_names(values).num_args(2),
             Takes::Texts(value) => arg
                 .value_name(value)
                 .num_args(0..)
@@ -236,6 +314,17 @@ pub enum Asked<'a> {
     Row(RowAsked<'a>),
 }
 
+/// What is done with the parts of a check, in a folder.
+#[derive(Clone, Copy)]
+pub enum Share<'a> {
+    /// The check is split into so many parts at least.
+    Split(&'a str, usize),
+    /// This part is worked on: the folder, a slash and the part's number.
+    Part(&'a str),
+    /// What was worked on is taken back.
+    Gather(&'a str),
+}
+
 /// What words ask for of a row.
 #[derive(Clone, Copy)]
 pub struct RowAsked<'a> {
@@ -247,6 +336,14 @@ pub struct RowAsked<'a> {
     pub replay: Option<&'a str>,
     /// Whether the bound on preemptions rises from check to check.
     pub rises: bool,
+    /// The walk that is to be made.
+    pub walk: Option<Walk>,
+    /// Whether a failure is shortened.
+    pub shortens: bool,
+    /// Among how many workers the check is shared out, if it is.
+    pub jobs: Option<usize>,
+    /// What is done with the parts of the check, if they are files.
+    pub share: Option<Share<'a>>,
     /// Whether a failure is explained.
     pub explains: bool,
     /// The files that it is drawn into.
@@ -274,6 +371,10 @@ pub fn read<'a>(alloc: Global, words: &'a [&str]) -> Result<Asked<'a>, Error> {
         file: matches.get_str("FILE"),
         replay: matches.get_str("replay"),
         rises: matches.get_flag("rising"),
+        walk: walk(&matches),
+        shortens: matches.get_flag("shorten"),
+        jobs: matches.get_one("jobs"),
+        share: share_asked(&matches),
         explains: matches.get_flag("explain"),
         drawing: Drawing {
             svg: matches.get_str("svg"),
@@ -284,6 +385,17 @@ pub fn read<'a>(alloc: Global, words: &'a [&str]) -> Result<Asked<'a>, Error> {
     }))
 }
 
+// What is done with the parts of the check. A number of parts that is none counts as zero.
+fn share_asked<'a>(matches: &ArgMatches<'a>) -> Option<Share<'a>> {
+    if let Some([path, wanted]) = matches.get_strs("split") {
+        return Some(Share::Split(path, wanted.parse().unwrap_or(0)));
+    }
+    if let Some(part) = matches.get_str("part") {
+        return Some(Share::Part(part));
+    }
+    matches.get_str("gather").map(Share::Gather)
+}
+
 // The names behind `--measure`.
 fn names<'a>(alloc: Global, matches: &ArgMatches<'a>) -> Result<Vec<&'a str>, AllocError> {
     let mut names = Vec::new(alloc);
@@ -291,6 +403,17 @@ fn names<'a>(alloc: Global, matches: &ArgMatches<'a>) -> Result<Vec<&'a str>, Al
         names.extend_from_slice(words)?;
     }
     Ok(names)
+}
+
+// The walk that `--walk` and `--walk-depth` ask for.
+fn walk(matches: &ArgMatches) -> Option<Walk> {
+    let mut numbers = matches.get_many::<usize>("walk")?;
+    let seed = numbers.next()?.ok()? as u64;
+    let runs = numbers.next()?.ok()? as u64;
+    match matches.get_one::<u32>("walk-depth") {
+        Some(depth) => Some(Walk::Priorities { seed, runs, depth }),
+        None => Some(Walk::Random { seed, runs }),
+    }
 }
 
 fn changes(matches: &ArgMatches) -> Changes {
@@ -322,7 +445,8 @@ fn switched(on: bool, off: bool) -> Option<bool> {
 fn command<'a>(alloc: Global) -> Result<Command<'a>, AllocError> {
     let name = Arg::new(alloc, "NAME")
         .help("the name of a row")
-        .required(true);
+        .required_unless_present("part")?
+        .required_unless_present("gather")?;
     let file = Arg::new(alloc, "FILE")
         .help("the file that the check goes on from, and keeps its checkpoints in")
         .conflicts_with("rising")?

@@ -13,6 +13,7 @@ pub mod limits;
 pub mod locks;
 pub mod values;
 pub mod wakers;
+pub mod walks;
 
 use crate::rows::Row;
 use std::alloc::{AllocError, Global};
@@ -52,6 +53,7 @@ pub fn all_rows(alloc: Global) -> Result<Vec<Row>, AllocError>
             values::rows(),
             exploring::rows(),
             limits::rows(),
+            walks::rows(),
         ],
     )
 }

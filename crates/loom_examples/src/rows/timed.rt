@@ -12,43 +12,14 @@ use loom::model::Report;
 use loom::model::builder::Builder;
 use loom::model::error::CheckError;
 use loom::model::visitor::Visitor;
-use loom::{Body, Choice};
+use loom::{Body, Choice, HostClock};
 use std::alloc::AllocError;
 use std::io::{self, Write};
 use std::rt::{Clock, Files};
-use std::time::{Duration, Instant};
-
-/// The host's clock, from the begin of a check on. If it fails the time is over.
-#[derive(Drop)]
-pub(crate) struct HostClock<'a, R> {
-    rt: &'a R,
-    start: Option<Instant>,
-}
-
-impl<'a, R: Clock> HostClock<'a, R> {
-    /// The clock of a check that begins now.
-    pub(crate) fn start(rt: &'a R) -> HostClock<'a, R> {
-        HostClock {
-            rt,
-            start: Instant::now(rt).ok(),
-        }
-    }
-}
-
-impl<R: Clock> loom::Clock for HostClock<'_, R> {
-    ghost answered = { λ _ _. ⊤ };
-
-    fn elapsed(&mut self) -> Duration {
-        match &self.start {
-            Some(start) => start.elapsed(self.rt).unwrap_or(Duration::MAX),
-            None => Duration::MAX,
-        }
-    }
-}
 
 /// Nobody is given the runs.
 #[derive(Clone, Copy)]
-struct NoVisitor;
+pub(crate) struct NoVisitor;
 
 impl Visitor<u64> for NoVisitor {
     ghost takes = { λ _ _ _ _. ⊤ };

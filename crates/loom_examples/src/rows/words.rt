@@ -8,8 +8,10 @@ use crate::closures::rows::ROWS;
 use crate::rows::drawing::draw_row;
 use crate::rows::options::{Asked, RowAsked, is_option, read};
 use crate::rows::tasks::{Task, do_changed};
+use crate::rows::walks::look_at_row;
 use crate::rows::{self, Row, json, row_of, timed};
 use clap::Error;
+use log::Log;
 use loom::{Choices, ChoicesError};
 use std::alloc::{AllocError, Global};
 use std::io::{self, Write};
@@ -64,10 +66,23 @@ fn run_options<R: AllocGlobal + Clock + Files, O: Write, E: Write>(
 ) -> io::Result<u8> {
     match read(rt.alloc(), words) {
         Ok(Asked::List) => list(rt, out),
-        Ok(Asked::Row(asked)) => run_asked(rt, asked, out, err),
+        Ok(Asked::Row(asked)) => run_alone(rt, asked, out, err),
         Ok(Asked::Tour | Asked::Measure(_)) => refuse(err, "error: this is no row"),
         Err(error) => help_or_refuse(rt.alloc(), words, &error, out, err),
     }
+}
+
+// Does what was asked for, unless it is shared out.
+fn run_alone<R: AllocGlobal + Clock + Files, O: Write, E: Write>(
+    rt: &R,
+    asked: RowAsked,
+    out: &mut O,
+    err: &mut E,
+) -> io::Result<u8> {
+    if asked.jobs.is_some() || asked.share.is_some() {
+        return refuse(err, "error: only the program shares a check out");
+    }
+    run_asked(rt, &None::<HostRuntime>, asked, out, err)
 }
 
 // The help that was asked for, or why the words are wrong.
@@ -107,18 +122,23 @@ fn list<R: AllocGlobal, O: Write>(rt: &R, out: &mut O) -> io::Result<u8> {
     Ok(0)
 }
 
-fn run_asked<R: AllocGlobal + Clock + Files, O: Write, E: Write>(
+/// Does what is asked of a row, prints what comes of it, and answers the exit status. The log hears of a walk.
+pub fn run_asked<R: AllocGlobal + Clock + Files, L: Log, O: Write, E: Write>(
     rt: &R,
+    log: &L,
     asked: RowAsked,
     out: &mut O,
     err: &mut E,
 ) -> io::Result<u8> {
     let Some(replay) = asked.replay else {
         let task = if asked.rises { Task::Rise } else { Task::Check };
-        return run_task(rt, task, asked, out, err);
+        return run_task(rt, log, task, asked, out, err);
     };
     match Choices::parse(rt.alloc(), replay) {
-        Ok(choices) => run_task(rt, Task::Replay(choices.as_slice()), asked, out, err),
+        Ok(choices) => {
+            let task = Task::Replay(choices.as_slice());
+            run_task(rt, log, task, asked, out, err)
+        }
         Err(error) => refuse_choices(rt.alloc(), replay, error, err),
     }
 }
@@ -138,8 +158,9 @@ pub(crate) fn refuse_choices<E: Write>(
     refuse(err, cause.as_str())
 }
 
-fn run_task<R: AllocGlobal + Clock + Files, O: Write, E: Write>(
+fn run_task<R: AllocGlobal + Clock + Files, L: Log, O: Write, E: Write>(
     rt: &R,
+    log: &L,
     task: Task,
     asked: RowAsked,
     out: &mut O,
@@ -149,6 +170,9 @@ fn run_task<R: AllocGlobal + Clock + Files, O: Write, E: Write>(
     let Some(row) = row_of(rows.as_slice(), asked.name) else {
         return refuse_name(rt.alloc(), rows.as_slice(), asked.name, err);
     };
+    if asked.walk.is_some() || asked.shortens {
+        return look_at_row(rt, log, row, task, asked, out, err);
+    }
     let RowAsked {
         changes,
         explains,
@@ -185,7 +209,12 @@ pub(crate) fn refuse_words<E: Write>(
 }
 
 // No row that takes options, or none at all, has this name.
-fn refuse_name<E: Write>(alloc: Global, rows: &[Row], name: &str, err: &mut E) -> io::Result<u8>
+pub(crate) fn refuse_name<E: Write>(
+    alloc: Global,
+    rows: &[Row],
+    name: &str,
+    err: &mut E,
+) -> io::Result<u8>
     ensures { IfOk result (λ status. status ≡ 2) }
 {
     let nearest = nearest(alloc, rows, name)?;

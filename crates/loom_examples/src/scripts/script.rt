@@ -12,14 +12,14 @@ use loom_objects::label::Label;
 use loom_objects::operation::{AtomicOp, Labelled, Op, Reply, Request, ThreadOp};
 use std::alloc::{AllocError, Global};
 use std::marker::Model;
-use std::rc::Rc;
+use std::sync::Arc;
 use std::sync::atomic::Ordering;
 
 /// A thread that runs a script.
 #[derive(Drop)]
 pub struct Script {
-    // All threads of all runs share it.
-    program: Rc<Program>,
+    // All threads of all runs share it, and all workers.
+    program: Arc<Program>,
     state: Box<State>,
 }
 
@@ -46,7 +46,7 @@ impl Script {
     pub fn new(alloc: Global, steps: &'static [Step]) -> Result<Script, AllocError>
         ensures { IfOk result (λ script. script ≡ started steps.entry.now) }
     {
-        let program = Rc::new(alloc, Program::new(alloc, steps)?)?;
+        let program = Arc::new(alloc, Program::new(alloc, steps)?)?;
         let state = Box::new(alloc, State::new())?;
         Ok(Script { program, state })
     }
@@ -57,7 +57,7 @@ impl Script {
     {
         let state = Box::new(*Box::allocator(&self.state), state)?;
         Ok(Script {
-            program: self.program.clone()?,
+            program: Arc::try_clone(&self.program)?,
             state,
         })
     }

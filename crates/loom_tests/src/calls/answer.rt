@@ -1,5 +1,4 @@
 //! What a call comes to, as a text: the reply, and behind it each handle and each value that is read off it.
-use crate::page::Page;
 use loom::alloc::Track;
 use loom::cell::{Cell, ConstPtr, MutPtr, UnsafeCell};
 use loom::future::{AtomicWaker, BlockOn, Waker};
@@ -12,6 +11,7 @@ use loom::sync::{
 use loom::thread::{AccessError, JoinHandle, Thread};
 use loom::{Numeric, Reply, Turn};
 use loom_objects::failure::Stop;
+use loom_testing::page::Page;
 use std::fmt::Debug;
 
 /// Writes what a call comes to, where atomics hold a `T`: whose turn it is and the reply, or the kind of the failure.

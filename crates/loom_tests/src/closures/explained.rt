@@ -1,7 +1,7 @@
-//! What is told of a run of closures: whole texts, each of which is that of the body that hands over the same operations.
-use crate::closures::holds;
+//! What is told of a run of closures, with their data: whole texts.
+use crate::asserting::same;
+use crate::closures::{Count, holds};
 use crate::explanations::texts;
-use crate::page::Page;
 use loom::choices::Choices;
 use loom::model::builder::Builder;
 use loom::runner::{Handle, Incomplete, RunnerError, Stop, expect_complete, explain};
@@ -10,12 +10,13 @@ use loom::sync::atomic::Ordering::{Acquire, Relaxed, Release};
 use loom::sync::atomic::{AtomicI32, AtomicU64};
 use loom::thread::JoinHandle;
 use loom_ops::cell::Cell;
+use loom_testing::page::Page;
 use std::process::Abort;
 use std::sync::Wait;
 use std::test::Fail;
 use std::thread::Threads;
 
-/// What main does, by the body whose text is told.
+/// What main does.
 #[derive(Clone, Copy)]
 enum Scene {
     Race,
@@ -29,11 +30,11 @@ impl Scene {
     /// The choices of the run, and what is told of it.
     fn told(self) -> (&'static str, &'static str) {
         match self {
-            Scene::Race => ("t0 t1 t1 l1", texts::race_unreleased::TEXT),
-            Scene::Deadlock => ("t0 t1 t1", texts::deadlock::TEXT),
-            Scene::Assertion => ("t0 l0 t1 t1 l0 t1 t1 t0", texts::assertion::TEXT),
-            Scene::Leak => ("", texts::leak_arc::TEXT),
-            Scene::Misuse => ("", texts::misuse_apart::TEXT),
+            Scene::Race => ("t0 t1 t1 l1", texts::closures_race::TEXT),
+            Scene::Deadlock => ("t0 t1 t1", texts::closures_deadlock::TEXT),
+            Scene::Assertion => ("t0 l0 t1 t1 l0 t1 t1 t0", texts::closures_assertion::TEXT),
+            Scene::Leak => ("", texts::closures_leak::TEXT),
+            Scene::Misuse => ("", texts::closures_misuse::TEXT),
         }
     }
 
@@ -169,7 +170,7 @@ fn is_told<R: Abort + AllocGlobal + Threads + Wait + Clone + Send + 'static>(
     let told = explain(rt, rt.alloc(), &Builder::new(), choices.0.as_slice(), main)?;
     let mut page = Page::new(rt.alloc());
     page.add_shown(&told);
-    holds(rt, page.text.as_str() == text);
+    same(rt, page.text.as_str(), text, "closures");
     Ok(())
 }
 
@@ -184,6 +185,19 @@ fn assertions_leaks_and_misuse_are_told(rt: HostRuntime) -> Result<(), Fail> {
     is_told(&rt, Scene::Assertion)?;
     is_told(&rt, Scene::Leak)?;
     is_told(&rt, Scene::Misuse)
+}
+
+/// Data of one's own stand there as their type shows them, cut where they are long.
+#[test]
+fn own_data_are_told(rt: HostRuntime) -> Result<(), Fail> {
+    let main = |handle: &mut Handle<Count, HostRuntime>| {
+        handle.mutex(Count(7))?;
+        Ok(Count(0))
+    };
+    let told = explain(&rt, rt.alloc(), &Builder::new(), &[], main)?;
+    let made = "Mutex::new(7 counted,\\u{a}and more than…) = #0";
+    holds(&rt, told.text.as_str().contains(made));
+    Ok(())
 }
 
 /// A setting out of range is refused as a replay refuses it.

@@ -1,5 +1,10 @@
 //! The text that is told of each body, in a file of its own.
 pub mod assertion;
+pub mod closures_assertion;
+pub mod closures_deadlock;
+pub mod closures_leak;
+pub mod closures_misuse;
+pub mod closures_race;
 pub mod deadlock;
 pub mod deadlock_all;
 pub mod deadlock_asleep;
@@ -12,6 +17,7 @@ pub mod leak_messages;
 pub mod leak_track;
 pub mod leak_waker;
 pub mod local_gone;
+pub mod messages_shown;
 pub mod misuse;
 pub mod misuse_apart;
 pub mod misuse_end;

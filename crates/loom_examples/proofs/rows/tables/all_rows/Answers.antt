@@ -5,7 +5,8 @@ use Rattle.loom_examples.proofs.rows.tables.all_rows.Goals as goal
 
 pub returns : goal.returns
 returns c =
-    let limits = behind named _ [] _ [] c.rows-5.ensures refl in
+    let walks = behind named _ [] _ [] c.rows-6.ensures refl in
+    let limits = behind named _ _ _ _ c.rows-5.ensures walks in
     let exploring = behind named _ _ _ _ c.rows-4.ensures limits in
     let values = behind named _ _ _ _ c.rows-3.ensures exploring in
     let wakers = behind named _ _ _ _ c.rows-2.ensures values in

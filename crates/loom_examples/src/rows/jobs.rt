@@ -1,0 +1,198 @@
+//! What the program does with a row by several workers: it checks it, and keeps the list of parts in the checkpoint file.
+use crate::bodies::updates::Updater;
+use crate::measured::row_or_body;
+use crate::rows::options::RowAsked;
+use crate::rows::settings::Builds;
+use crate::rows::tasks::explain_report;
+use crate::rows::words::refuse_name;
+use crate::rows::{Checked, all_rows, print_report, refuse_check};
+use crate::scripts::script::Script;
+use loom::checkpoint::file::file_store;
+use loom::model::builder::Builder;
+use loom::model::error::CheckError;
+use loom::model::parts::Slice;
+use loom::model::{Limit, Report};
+use loom::runner::{Found, NoVisitor, Workers, check_parallel};
+use loom::{Body, CheckpointStore, HostClock};
+use loom_engine::rt::parts::Parts;
+use std::alloc::Global;
+use std::io::{self, Write};
+use std::rt::{Clock, Files};
+use std::sync::Wait;
+use std::thread::{self, Threads};
+use std::time::Duration;
+
+// Each part is worked on for a fifth of a second at a time.
+const SLICE_MILLIS: u64 = 200;
+
+/// Checks the row by so many workers, prints the line of the report, with the explanation of a failure below it if that is asked for,
+/// and answers the exit status. Zero workers are as many as the host has processors.
+pub fn check_row<R: AllocGlobal + Clock + Files + Threads + Wait + Sync, O: Write, E: Write>(
+    rt: &R,
+    asked: RowAsked,
+    jobs: usize,
+    out: &mut O,
+    err: &mut E,
+) -> io::Result<u8> {
+    let Some(row) = row_or_body(rt.alloc(), asked.name)? else {
+        let rows = all_rows(rt.alloc())?;
+        return refuse_name(rt.alloc(), rows.as_slice(), asked.name, err);
+    };
+    let builder = asked
+        .changes
+        .change(row.settings.builder_with(rt.alloc(), asked.file)?);
+    let count = workers(rt, jobs);
+    match row.checked {
+        Checked::Script(steps) => {
+            let script = Script::new(rt.alloc(), steps)?;
+            check_body(rt, builder, &script, count, asked.explains, out, err)
+        }
+        Checked::Updater(one, other) => {
+            let updater = Updater::main(one, other);
+            check_body(rt, builder, &updater, count, asked.explains, out, err)
+        }
+    }
+}
+
+// So many workers, or as many as there are processors.
+fn workers<R: Threads>(rt: &R, jobs: usize) -> usize {
+    if jobs > 0 {
+        return jobs;
+    }
+    match thread::available_parallelism(rt) {
+        Ok(count) => count.get(),
+        Err(_) => 1,
+    }
+}
+
+fn check_body<
+    R: AllocGlobal + Clock + Files + Threads + Wait + Sync,
+    B: Body<Data = u64> + Sync,
+    O: Write,
+    E: Write,
+>(
+    rt: &R,
+    builder: Builder,
+    body: &B,
+    count: usize,
+    explains: bool,
+    out: &mut O,
+    err: &mut E,
+) -> io::Result<u8> {
+    match find(rt, &builder, body, count) {
+        Ok(report) => {
+            let status = print_report(out, &report)?;
+            explain_report(rt, &builder, body, &report, explains, out)?;
+            Ok(status)
+        }
+        Err(error) => refuse_check(err, &builder, error),
+    }
+}
+
+// So many workers, each with some time for a part.
+fn timed_workers(count: usize) -> Workers {
+    Workers {
+        count,
+        slice: Slice {
+            runs: u64::MAX,
+            until: Some(Duration::from_millis(SLICE_MILLIS)),
+        },
+    }
+}
+
+// The report of what has ended behind these runs. If nothing has, how many runs there are now, and which limit was reached.
+fn ended(found: Found, before: u64) -> Result<Report, (u64, Limit)> {
+    match found {
+        Found::Complete { runs } => Ok(Report::Complete {
+            runs: before.saturating_add(runs),
+        }),
+        Found::Failed {
+            runs,
+            failure,
+            choices,
+        } => Ok(Report::Failed {
+            runs: before.saturating_add(runs),
+            failure,
+            choices,
+        }),
+        Found::Stopped { runs, limit } => Err((before.saturating_add(runs), limit)),
+    }
+}
+
+// What the check finds. It begins with the checkpoint file, if there is one, and saves the list of parts there from time to time.
+fn find<R: AllocGlobal + Clock + Files + Threads + Wait + Sync, B: Body<Data = u64> + Sync>(
+    rt: &R,
+    builder: &Builder,
+    body: &B,
+    count: usize,
+) -> Result<Report, CheckError> {
+    let alloc = rt.alloc();
+    let log = None::<HostRuntime>;
+    let mut store = file_store(rt, alloc, &builder.checkpoint_file);
+    let mut parts = begin(alloc, builder, &mut store)?;
+    let mut clock = HostClock::start(rt);
+    let mut runs = 0u64;
+    for _ in rt.forever() {
+        let stage = stage(builder, runs);
+        let found = check_parallel(
+            rt,
+            alloc,
+            &stage,
+            body,
+            timed_workers(count),
+            &mut parts,
+            &mut NoVisitor,
+            &mut clock,
+            &log,
+        )?;
+        let (now, limit) = match ended(found, runs) {
+            Ok(report) => return Ok(report),
+            Err(stopped) => stopped,
+        };
+        runs = now;
+        let checkpoint = parts.to_text(alloc)?;
+        store.save(checkpoint.as_str())?;
+        if limit == Limit::Duration || runs >= most_runs(builder) {
+            return Ok(Report::Stopped {
+                runs,
+                limit,
+                checkpoint,
+            });
+        }
+    }
+    unreachable!()
+}
+
+// The list of parts that the store holds, or that of a check from its beginning.
+fn begin<S: CheckpointStore>(
+    alloc: Global,
+    builder: &Builder,
+    store: &mut S,
+) -> Result<Parts, CheckError> {
+    match store.load(alloc)? {
+        Some(text) => builder.parts_from(alloc, text.as_slice()),
+        None => builder.parts(alloc),
+    }
+}
+
+// The check up to its next checkpoint, after so many runs.
+fn stage(builder: &Builder, runs: u64) -> Builder {
+    let left = most_runs(builder).saturating_sub(runs);
+    let next = match &builder.checkpoint_file {
+        Some(_) => left.min(builder.checkpoint_interval as u64),
+        None => left,
+    };
+    Builder {
+        max_permutations: Some(next as usize),
+        checkpoint_file: None,
+        ..*builder
+    }
+}
+
+// How many runs the check makes at most.
+fn most_runs(builder: &Builder) -> u64 {
+    match builder.max_permutations {
+        Some(most) => most as u64,
+        None => u64::MAX,
+    }
+}

@@ -1,0 +1,448 @@
+//! A check whose parts are files, on which any number of processes work, on one machine or on many. The folder of a check has the file
+//! `row`, with the row's name and its settings as words; `list`, with the list of parts and their numbers; for each part that is open
+//! `K.part`, and once it was worked on `K.done`, or `K.failed` with a run's choices; and `open`, with a line for each open part's number.
+pub(crate) mod folder;
+pub(crate) mod listed;
+
+use crate::bodies::updates::Updater;
+use crate::measured::row_or_body;
+use crate::rows::changes::Changes;
+use crate::rows::options::{Asked, RowAsked, Share, read};
+use crate::rows::settings::Builds;
+use crate::rows::shares::folder::Folder;
+use crate::rows::shares::listed::{Listed, Sorted};
+use crate::rows::words::{refuse, refuse_name};
+use crate::rows::{Checked, all_rows, print_report, refuse_check};
+use crate::scripts::script::Script;
+use loom::model::builder::Builder;
+use loom::model::error::CheckError;
+use loom::model::parts::{Slice, Worked};
+use loom::model::{Replay, Report};
+use loom::runner::NoVisitor;
+use loom::{Body, Choices, HostClock, NoClock, ShownChoices};
+use loom_engine::rt::parts::Part;
+use std::alloc::{AllocError, Global};
+use std::fs::File;
+use std::io::{self, Write};
+use std::rt::{Clock, Files};
+use std::time::Duration;
+
+/// The exit status where parts are open.
+const OPEN: u8 = 3;
+
+/// So many runs are made at most before a check is split.
+const MOST_RUNS: u64 = 100_000;
+
+/// A run is made, and no further one.
+const ONE_RUN: Slice = Slice {
+    runs: 1,
+    until: None,
+};
+
+/// Does this with the parts of a check in a folder, prints what comes of it, and answers the exit status: that of a report, or 3 where
+/// parts are open, and 2 where the words mean nothing, and where memory or a file fails.
+pub fn do_share<R: AllocGlobal + Clock + Files<File = File>, O: Write, E: Write>(
+    rt: &R,
+    share: Share,
+    asked: RowAsked,
+    out: &mut O,
+    err: &mut E,
+) -> io::Result<u8> {
+    match share {
+        Share::Split(_, 0) => refuse(err, "error: a check is split into one part or more"),
+        Share::Split(path, wanted) => {
+            let folder = Folder::new(rt, path);
+            folder.make()?;
+            if folder.read("list").is_ok_and(|text| text.is_some()) {
+                return refuse(err, "error: the folder has a check already");
+            }
+            let text = row_text(rt.alloc(), &asked)?;
+            match folder.write("row", text.as_str()) {
+                Ok(()) => with_row(rt, &folder, Step::Split(wanted), asked, out, err),
+                Err(_) => refuse(err, "error: the folder could not be written"),
+            }
+        }
+        Share::Part(word) => match word.rsplit_once('/') {
+            Some((path, number)) => {
+                let folder = Folder::new(rt, path);
+                let lock = format!(in rt.alloc(); "{number}.lock")?;
+                match folder.lock(lock.as_str())? {
+                    Some(_held) => {
+                        let longest = asked.changes.max_duration;
+                        with_folder(rt, &folder, Step::Part(number), longest, out, err)
+                    }
+                    None => refuse(err, "error: another process works on this part"),
+                }
+            }
+            None => refuse(err, "error: a part is named as 'FOLDER/NUMBER'"),
+        },
+        Share::Gather(path) => {
+            let folder = Folder::new(rt, path);
+            match folder.lock("gather.lock")? {
+                Some(_held) => with_folder(rt, &folder, Step::Gather, None, out, err),
+                None => refuse(err, "error: another process gathers here"),
+            }
+        }
+    }
+}
+
+/// What is done in the folder of a check.
+#[derive(Clone, Copy)]
+enum Step<'a> {
+    /// It is split into so many parts at least.
+    Split(usize),
+    /// The part of this number is worked on.
+    Part(&'a str),
+    /// What was worked on is taken back.
+    Gather,
+}
+
+/// What came of it.
+#[derive(Drop)]
+enum Came {
+    /// So many parts are open.
+    Open(usize),
+    /// A part was worked on: so many runs were made, and nothing is left of it or something is.
+    Worked(u64, bool),
+    /// What the check found.
+    Found(Report),
+}
+
+// The text of the file `row`: the row's name and each setting, a word in each line.
+fn row_text(alloc: Global, asked: &RowAsked) -> Result<String, AllocError> {
+    let mut text = String::from_str(alloc, asked.name)?;
+    let changes = asked.changes;
+    add_number(alloc, &mut text, "max-threads", changes.max_threads)?;
+    add_number(alloc, &mut text, "max-branches", changes.max_branches)?;
+    add_number(alloc, &mut text, "max-steps", changes.max_steps)?;
+    add_number(
+        alloc,
+        &mut text,
+        "preemption-bound",
+        changes.preemption_bound,
+    )?;
+    match changes.reduce {
+        Some(true) => text.push_str("\n--reduce")?,
+        Some(false) => text.push_str("\n--no-reduce")?,
+        None => {}
+    }
+    if changes.expect_explicit_explore == Some(true) {
+        text.push_str("\n--explicit-explore")?;
+    }
+    Ok(text)
+}
+
+fn add_number(
+    alloc: Global,
+    text: &mut String,
+    name: &str,
+    number: Option<usize>,
+) -> Result<(), AllocError> {
+    if let Some(number) = number {
+        let word = format!(in alloc; "\n--{name}={number}")?;
+        text.push_str(word.as_str())?;
+    }
+    Ok(())
+}
+
+// Does the step with the row that the folder names.
+fn with_folder<R: AllocGlobal + Clock + Files<File = File>, O: Write, E: Write>(
+    rt: &R,
+    folder: &Folder<R>,
+    step: Step,
+    longest: Option<Duration>,
+    out: &mut O,
+    err: &mut E,
+) -> io::Result<u8> {
+    let Ok(Some(text)) = folder.read("row") else {
+        return refuse(err, "error: the folder has no check");
+    };
+    let Ok(text) = str::from_utf8(text.as_slice()) else {
+        return refuse(err, "error: the folder has no check");
+    };
+    let mut words = Vec::new(rt.alloc());
+    for word in text.lines() {
+        words.push(word)?;
+    }
+    match read(rt.alloc(), words.as_slice()) {
+        Ok(Asked::Row(mut asked)) => {
+            asked.changes = Changes {
+                max_duration: longest,
+                ..asked.changes
+            };
+            with_row(rt, folder, step, asked, out, err)
+        }
+        _ => refuse(err, "error: the folder has no check"),
+    }
+}
+
+// Does the step with the row that was asked for.
+fn with_row<R: AllocGlobal + Clock + Files<File = File>, O: Write, E: Write>(
+    rt: &R,
+    folder: &Folder<R>,
+    step: Step,
+    asked: RowAsked,
+    out: &mut O,
+    err: &mut E,
+) -> io::Result<u8> {
+    let Some(row) = row_or_body(rt.alloc(), asked.name)? else {
+        let rows = all_rows(rt.alloc())?;
+        return refuse_name(rt.alloc(), rows.as_slice(), asked.name, err);
+    };
+    let builder = asked
+        .changes
+        .change(row.settings.builder_with(rt.alloc(), None)?);
+    let came = match row.checked {
+        Checked::Script(steps) => {
+            let script = Script::new(rt.alloc(), steps)?;
+            with_body(rt, folder, step, &builder, &script)
+        }
+        Checked::Updater(one, other) => {
+            with_body(rt, folder, step, &builder, &Updater::main(one, other))
+        }
+    };
+    match came {
+        Ok(Came::Open(count)) => {
+            writeln!(out, "{count} parts open")?;
+            Ok(OPEN)
+        }
+        Ok(Came::Worked(runs, is_done)) => {
+            let left = if is_done {
+                "nothing is left"
+            } else {
+                "some are left"
+            };
+            writeln!(out, "{runs} runs, {left}")?;
+            Ok(0)
+        }
+        Ok(Came::Found(report)) => print_report(out, &report),
+        Err(error) => refuse_check(err, &builder, error),
+    }
+}
+
+fn with_body<R: AllocGlobal + Clock + Files<File = File>, B: Body<Data = u64>>(
+    rt: &R,
+    folder: &Folder<R>,
+    step: Step,
+    builder: &Builder,
+    body: &B,
+) -> Result<Came, CheckError> {
+    match step {
+        Step::Split(wanted) => split(rt.alloc(), folder, builder, body, wanted),
+        Step::Part(number) => work_on(rt, folder, builder, body, number),
+        Step::Gather => gather(rt.alloc(), folder, builder, body),
+    }
+}
+
+// A run at a time is made until there are so many parts.
+fn split<R: AllocGlobal + Files, B: Body<Data = u64>>(
+    alloc: Global,
+    folder: &Folder<R>,
+    builder: &Builder,
+    body: &B,
+    wanted: usize,
+) -> Result<Came, CheckError> {
+    let mut listed = Listed::new(alloc, wanted, builder.parts(alloc)?)?;
+    for _ in 0..MOST_RUNS {
+        if listed.parts.is_over() || listed.parts.len() >= wanted {
+            break;
+        }
+        if let Some(mut part) = listed.parts.take(alloc, 0)? {
+            match builder.check_part(
+                alloc,
+                body,
+                &mut part,
+                ONE_RUN,
+                &mut NoVisitor,
+                &mut NoClock,
+            )? {
+                Worked::Made { .. } => {
+                    listed.take_one_back(alloc, part)?;
+                }
+                Worked::Failed {
+                    runs: _,
+                    failure,
+                    choices,
+                } => {
+                    let runs = listed.parts.runs;
+                    return Ok(Came::Found(Report::Failed {
+                        runs,
+                        failure,
+                        choices,
+                    }));
+                }
+            }
+        }
+    }
+    write_out(alloc, folder, &listed)
+}
+
+// Works on the part of this number until nothing is left of it or the time is over, and writes what came of it.
+fn work_on<R: AllocGlobal + Clock + Files, B: Body<Data = u64>>(
+    rt: &R,
+    folder: &Folder<R>,
+    builder: &Builder,
+    body: &B,
+    number: &str,
+) -> Result<Came, CheckError> {
+    let alloc = rt.alloc();
+    if let Some(part) = part_in(alloc, folder, builder, number, "done")? {
+        return Ok(Came::Worked(part.runs, part.is_done));
+    }
+    let Some(mut part) = part_in(alloc, folder, builder, number, "part")? else {
+        return Err(CheckError::Store);
+    };
+    let slice = Slice {
+        runs: u64::MAX,
+        until: builder.max_duration,
+    };
+    let mut clock = HostClock::start(rt);
+    match builder.check_part(alloc, body, &mut part, slice, &mut NoVisitor, &mut clock)? {
+        Worked::Made { runs } => {
+            let name = format!(in alloc; "{number}.done")?;
+            let text = part.to_text(alloc)?;
+            folder.write(name.as_str(), text.as_str())?;
+            Ok(Came::Worked(runs, part.is_done))
+        }
+        Worked::Failed {
+            runs,
+            failure,
+            choices,
+        } => {
+            let name = format!(in alloc; "{number}.failed")?;
+            let shown = ShownChoices(choices.as_slice());
+            let text = format!(in alloc; "{shown}")?;
+            folder.write(name.as_str(), text.as_str())?;
+            Ok(Came::Found(Report::Failed {
+                runs,
+                failure,
+                choices,
+            }))
+        }
+    }
+}
+
+// Takes back what was worked on. Where nothing is left, or a run failed, that is what the check found.
+fn gather<R: AllocGlobal + Files, B: Body<Data = u64>>(
+    alloc: Global,
+    folder: &Folder<R>,
+    builder: &Builder,
+    body: &B,
+) -> Result<Came, CheckError> {
+    let Some(text) = folder.read("list")? else {
+        return Err(CheckError::Store);
+    };
+    let Ok(text) = str::from_utf8(text.as_slice()) else {
+        return Err(CheckError::WrongShape);
+    };
+    let mut listed = Listed::from_text(alloc, builder, text)?;
+    let mut sorted = Sorted::new(alloc);
+    for place in 0..listed.numbers.len().min(listed.parts.list.len()) {
+        let number = listed.numbers[place];
+        if let Some(report) = failure_of(alloc, folder, builder, body, number, listed.parts.runs)? {
+            return Ok(Came::Found(report));
+        }
+        let word = format!(in alloc; "{number}")?;
+        let part = part_in(alloc, folder, builder, word.as_str(), "done")?;
+        sorted.add(
+            alloc,
+            number,
+            part,
+            listed.parts.list[place].base.as_slice(),
+        )?;
+    }
+    let Sorted { done, back, out } = sorted;
+    listed.take_back(alloc, done, out.as_slice())?;
+    let came = write_out(alloc, folder, &listed)?;
+    remove_each(alloc, folder, back.as_slice())?;
+    Ok(came)
+}
+
+// What a part's run that failed makes of the check: it is made again by its choices.
+fn failure_of<R: AllocGlobal + Files, B: Body<Data = u64>>(
+    alloc: Global,
+    folder: &Folder<R>,
+    builder: &Builder,
+    body: &B,
+    number: u64,
+    runs: u64,
+) -> Result<Option<Report>, CheckError> {
+    let name = format!(in alloc; "{number}.failed")?;
+    let Some(text) = folder.read(name.as_str())? else {
+        return Ok(None);
+    };
+    let Ok(text) = str::from_utf8(text.as_slice()) else {
+        return Err(CheckError::WrongShape);
+    };
+    let Ok(choices) = Choices::parse(alloc, text) else {
+        return Err(CheckError::WrongShape);
+    };
+    match builder.replay(alloc, body, choices.as_slice())? {
+        Replay::Failed { failure, choices } => Ok(Some(Report::Failed {
+            runs,
+            failure,
+            choices,
+        })),
+        Replay::Ended { .. } => Err(CheckError::WrongShape),
+    }
+}
+
+// The part of this number in the file that ends so, if there is one.
+fn part_in<R: AllocGlobal + Files>(
+    alloc: Global,
+    folder: &Folder<R>,
+    builder: &Builder,
+    number: &str,
+    ending: &str,
+) -> Result<Option<Part>, CheckError> {
+    let name = format!(in alloc; "{number}.{ending}")?;
+    match folder.read(name.as_str())? {
+        Some(text) => Ok(Some(builder.part_from(alloc, text.as_slice())?)),
+        None => Ok(None),
+    }
+}
+
+// Writes the open parts, then the list, and then which are open: so a list never has a part without its file.
+fn write_out<R: AllocGlobal + Files>(
+    alloc: Global,
+    folder: &Folder<R>,
+    listed: &Listed,
+) -> Result<Came, CheckError> {
+    if listed.parts.is_over() {
+        let runs = listed.parts.runs;
+        let text = listed.to_text(alloc)?;
+        folder.write("list", text.as_str())?;
+        folder.write("open", "")?;
+        return Ok(Came::Found(Report::Complete { runs }));
+    }
+    let mut open = String::new(alloc);
+    for place in 0..listed.numbers.len().min(listed.parts.list.len()) {
+        let number = listed.numbers[place];
+        let name = format!(in alloc; "{number}.part")?;
+        let text = listed.parts.list[place].to_text(alloc)?;
+        folder.write(name.as_str(), text.as_str())?;
+        let line = format!(in alloc; "{number}\n")?;
+        open.push_str(line.as_str())?;
+    }
+    let text = listed.to_text(alloc)?;
+    folder.write("list", text.as_str())?;
+    folder.write("open", open.as_str())?;
+    Ok(Came::Open(listed.parts.len()))
+}
+
+// Removes what is known of these parts.
+fn remove_each<R: AllocGlobal + Files>(
+    alloc: Global,
+    folder: &Folder<R>,
+    numbers: &[u64],
+) -> Result<(), AllocError> {
+    for number in numbers {
+        let done = format!(in alloc; "{number}.done")?;
+        folder.remove(done.as_str());
+        let part = format!(in alloc; "{number}.part")?;
+        folder.remove(part.as_str());
+        let lock = format!(in alloc; "{number}.lock")?;
+        folder.remove(lock.as_str());
+    }
+    Ok(())
+}
