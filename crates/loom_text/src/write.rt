@@ -249,12 +249,12 @@ fn write_simple(action: &Action, names: Names<'_>, text: &mut String) -> Result<
             write!(text, "atomic_thread_fence({order})")?;
         }
         Action::Assert(expression) => write_test("assert", expression, names, text)?,
-        Action::Lock(_)
-        | Action::Unlock(_)
-        | Action::Wait { .. }
-        | Action::Signal(_)
-        | Action::Broadcast(_)
-        | Action::Yield => write_lock(action, names, text)?,
+        Action::Lock(mutex) => write_lock("mtx_lock", *mutex, names, text)?,
+        Action::Unlock(mutex) => write_lock("mtx_unlock", *mutex, names, text)?,
+        Action::Signal(condvar) => write_lock("cnd_signal", *condvar, names, text)?,
+        Action::Broadcast(condvar) => write_lock("cnd_broadcast", *condvar, names, text)?,
+        Action::Wait { condvar, mutex } => write_wait(*condvar, *mutex, names, text)?,
+        Action::Yield => text.push_str("thrd_yield()")?,
         Action::If { .. } | Action::While { .. } | Action::DoWhile { .. } | Action::Block(_) => {}
     }
     text.push(';')
@@ -283,22 +283,26 @@ fn write_store(
     text.push(')')
 }
 
-// A call of a lock, of a condition variable or of the scheduler.
-fn write_lock(action: &Action, names: Names<'_>, text: &mut String) -> Result<(), AllocError> {
-    let (function, location) = match action {
-        Action::Lock(mutex) => ("mtx_lock", mutex),
-        Action::Unlock(mutex) => ("mtx_unlock", mutex),
-        Action::Signal(condvar) => ("cnd_signal", condvar),
-        Action::Broadcast(condvar) => ("cnd_broadcast", condvar),
-        Action::Wait { condvar, mutex } => {
-            let condvar = names.location(*condvar);
-            let mutex = names.location(*mutex);
-            return write!(text, "cnd_wait({condvar}, {mutex})");
-        }
-        _ => return text.push_str("thrd_yield()"),
-    };
-    let name = names.location(*location);
+// A call of a lock or of a condition variable.
+fn write_lock(
+    function: &str,
+    location: usize,
+    names: Names<'_>,
+    text: &mut String,
+) -> Result<(), AllocError> {
+    let name = names.location(location);
     write!(text, "{function}({name})")
+}
+
+fn write_wait(
+    condvar: usize,
+    mutex: usize,
+    names: Names<'_>,
+    text: &mut String,
+) -> Result<(), AllocError> {
+    let condvar = names.location(condvar);
+    let mutex = names.location(mutex);
+    write!(text, "cnd_wait({condvar}, {mutex})")
 }
 
 // The expression, in parentheses where it binds less strongly than so.
