@@ -16,3 +16,5 @@ pub mod Unequal
 pub mod Unheard
 pub mod Walking
 pub mod Within
+pub mod Covering
+pub mod CoverRounds

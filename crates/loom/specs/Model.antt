@@ -24,3 +24,5 @@ pub mod Stores
 pub mod Turns
 pub mod Walking
 pub mod Within
+pub mod Cover
+pub mod Covered

@@ -3,6 +3,7 @@ pub mod among;
 pub mod beginning;
 pub mod builder;
 pub mod clock;
+pub mod cover;
 pub(crate) mod drawer;
 pub mod env;
 pub mod error;

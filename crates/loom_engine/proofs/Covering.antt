@@ -25,3 +25,8 @@ pub mod Ending
 pub mod Handing
 pub mod Nodes
 pub mod Turns
+pub mod Kept
+pub mod Way
+pub mod Led
+pub mod UnderWay
+pub mod Rounds

@@ -12,3 +12,5 @@ pub mod Seen
 pub mod Points
 pub mod Sight
 pub mod Parts
+pub mod Kept
+pub mod UnderWay

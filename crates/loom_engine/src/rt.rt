@@ -3,3 +3,4 @@
 pub mod execution;
 pub mod parts;
 pub mod path;
+pub mod states;

@@ -1,4 +1,5 @@
 //! Bodies that are written as such.
+pub mod comparing;
 pub mod guide;
 pub mod peterson;
 pub mod queue;

@@ -37,13 +37,13 @@ use Rattle.loom.specs.Model.Settings.{explores, most_runs, search_of}
 use Rattle.loom.proofs.ModelLemmas.Paths.{MayBegin, begins, completes, goes_to, may_go_on, all_chosen, fails_there}
 
 -- one run more was given
-given_more : {V D : Type 0} (takes : V → List Choice → D → V → Type 0) (old : V) (runs : List (List Choice × D)) (mid new : V) (list : List Choice) (value : D)
+pub given_more : {V D : Type 0} (takes : V → List Choice → D → V → Type 0) (old : V) (runs : List (List Choice × D)) (mid new : V) (list : List Choice) (value : D)
     → Given takes old runs mid → takes mid list value new → Given takes old (runs ++ (list, value) ∷ []) new
 given_more takes old [] mid new list value given more = (new, subst (λ v. takes v list value new) given more, refl)
 given_more takes old (made ∷ runs) mid new list value given more =
     (given.0, given.1, given_more takes given.0 runs mid new list value given.2 more)
 
-one_longer : {X : Type 0} (xs : List X) (x : X) (n : ℕ) → length xs ≡ n → length (xs ++ x ∷ []) ≡ n + 1
+pub one_longer : {X : Type 0} (xs : List X) (x : X) (n : ℕ) → length xs ≡ n → length (xs ++ x ∷ []) ≡ n + 1
 one_longer xs x n e = omega (arith, length-append xs (x ∷ []))
 
 pub take_all : {X : Type 0} (xs : List X) (n : ℕ) → n ≡ length xs → take n xs ≡ xs

@@ -190,7 +190,7 @@ fn submit<B: Body>(
 /// What a spawn started is a body more.
 // Inlined: it is called at each operation, and few start a thread.
 #[inline(always)]
-fn add_child<B: Drop>(bodies: &mut Vec<B>, started: Option<B>) -> Result<(), AllocError>
+pub(crate) fn add_child<B: Drop>(bodies: &mut Vec<B>, started: Option<B>) -> Result<(), AllocError>
     ensures more { OnOk result (bodies.new.items ≡ with_child bodies.old.items started) }
     ensures growth { OnErr result (started ≢ None) }
 {

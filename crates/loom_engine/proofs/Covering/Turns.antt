@@ -83,7 +83,7 @@ module _ {D : Type 0} where
   chooses_open c (choice.Spurious answer) = tt
 
 module _ {D S : Type 0} (next : Meaning D S) where
-  stand_append : (s : Stand D S) (b c : List Choice) → stand_after next s (b ++ c) ≡ stand_after next (stand_after next s b) c
+  pub stand_append : (s : Stand D S) (b c : List Choice) → stand_after next s (b ++ c) ≡ stand_after next (stand_after next s b) c
   stand_append s [] c = refl
   stand_append s (o ∷ b) c = stand_append (by_choice next o s s.ahead) b c
 

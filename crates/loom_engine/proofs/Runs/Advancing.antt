@@ -43,7 +43,7 @@ module _ (D : Type 0) (P : Points → Type 0) (May : Does → Type 0) (step : (p
         by_chosen (Ok ready) h = effect_points D P May step Offered may_read ready.0 ready.1 (may_take m ready.0) h
         by_chosen (Err kind) h = tt
 
-  by_entry : (r : Result (Entry D × World D) FailureKind) → Answers (In D P May step) r → Answers (EnteredTo (At D P May step) (In D P May step)) r
+  pub by_entry : (r : Result (Entry D × World D) FailureKind) → Answers (In D P May step) r → Answers (EnteredTo (At D P May step) (In D P May step)) r
   by_entry (Ok (Answered reply, v)) h = h
   by_entry (Ok (AtBranch, v)) h = h
   by_entry (Ok (AtSpurious n, v)) h = λ is_spurious. enters_wait_points D P May step is_spurious n v h
@@ -52,13 +52,13 @@ module _ (D : Type 0) (P : Points → Type 0) (May : Does → Type 0) (step : (p
 
   -- where any slot may be read
   module _ (any : (raised : Points) (t n : ℕ) (reads : Reader) (slot : ℕ) → May (Reading raised t n reads slot)) where
-    abbrev Any : List Bool → ℕ → Type 0
+    abbrev pub Any : List Bool → ℕ → Type 0
     Any readable slot = Unit {0}
 
-    any_read : (raised : Points) (t n : ℕ) (reads : Reader) (slots : List ℕ) (slot : ℕ) → readable_slots_of raised t n reads ≡ Ok slots → Any (slot_set slots) slot → May (Reading raised t n reads slot)
+    pub any_read : (raised : Points) (t n : ℕ) (reads : Reader) (slots : List ℕ) (slot : ℕ) → readable_slots_of raised t n reads ≡ Ok slots → Any (slot_set slots) slot → May (Reading raised t n reads slot)
     any_read raised t n reads slots slot e offered = any raised t n reads slot
 
-    to_any : (r : Result (Resumed D × World D) FailureKind) → Answers (ResumedIf D P May step Any any_read) r → Answers (ResumedTo (At D P May step) (In D P May step)) r
+    pub to_any : (r : Result (Resumed D × World D) FailureKind) → Answers (ResumedIf D P May step Any any_read) r → Answers (ResumedTo (At D P May step) (In D P May step)) r
     to_any (Ok (resumed.Passed passed, w)) h = h
     to_any (Ok (resumed.Load loading, w)) h = λ slot. h slot tt
     to_any (Err kind) h = tt

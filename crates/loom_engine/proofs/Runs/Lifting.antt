@@ -32,11 +32,11 @@ use Rattle.loom_engine.proofs.Runs.Carrying.{InWorld, accesses_keeps, carried_ke
 use Rattle.loom_engine.proofs.Runs.Events.{Anything}
 use Rattle.loom_engine.proofs.Runs.Keeping.{Keeps, gives, fails, closes, asks as questions, then_keeps, check_keeps}
 
-answers_keeps : {A : Type 0} {P : A → Type 0} (r : Result A FailureKind) → Answers P r → Keeps P (came r)
+pub answers_keeps : {A : Type 0} {P : A → Type 0} (r : Result A FailureKind) → Answers P r → Keeps P (came r)
 answers_keeps (Ok a) h = gives a h
 answers_keeps (Err kind) h = fails kind
 
-came_anything : {A : Type 0} (r : Result A FailureKind) → Keeps Anything (came r)
+pub came_anything : {A : Type 0} (r : Result A FailureKind) → Keeps Anything (came r)
 came_anything (Ok a) = gives a tt
 came_anything (Err kind) = fails kind
 
@@ -111,7 +111,7 @@ module _ {D : Type 0} (Kept : World D → Type 0) (TurnTo : Turn D × World D �
         onward (passed.Turn turn, v) q = gives _ q
         onward (passed.AtBranch, v) q = h v q
 
-    schedule_kept : (more : ℕ) (c : Course D) → Kept c.world → Keeps (InWorld TurnTo) (schedule more c)
+    pub schedule_kept : (more : ℕ) (c : Course D) → Kept c.world → Keeps (InWorld TurnTo) (schedule more c)
     unfolding schedule
     schedule_kept zero c k = further_kept _ (λ v q. fails _) c k
     schedule_kept (suc more) c k = further_kept (schedule more) (schedule_kept more) c k

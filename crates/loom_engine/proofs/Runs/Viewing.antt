@@ -20,11 +20,11 @@ use Rattle.loom_engine.proofs.Runs.Pointing.{Does, Fencing, MayBegin, MayBy, Rea
 
 -- ---- moves lead on
 
-leads_on : (p q r : Points) (move : Moves q r) → MayBy (λ does. Unit {0}) move → Leads p q → Leads p r
+pub leads_on : (p q r : Points) (move : Moves q r) → MayBy (λ does. Unit {0}) move → Leads p q → Leads p r
 leads_on p q r move allowed leads = later q r leads move
 
 module _ {D : Type 0} where
-  any_op : (first : Points) (todo : Request D ⊤) → MayBegin D (Leads first) (λ does. Unit {0}) (leads_on first) todo
+  pub any_op : (first : Points) (todo : Request D ⊤) → MayBegin D (Leads first) (λ does. Unit {0}) (leads_on first) todo
   any_op first (op.Atomic (atomic_op.New numbers value)) = tt
   any_op first (op.Atomic (atomic_op.WithMutEnd n value)) = tt
   any_op first (op.Fence order) = tt

@@ -2,6 +2,7 @@
 //! `specs/Covering`.
 ghost use Rattle.loom_engine.specs.Begun.{BeginningLaw};
 ghost use Rattle.loom_engine.specs.Covering.Cut.{CheckLaw, FailLaw, JoinedLaw, ThenLaw};
+ghost use Rattle.loom_engine.specs.Covering.Kept.{KeptLaw};
 ghost use Rattle.loom_engine.specs.Covering.Parts.{BegunLaw, HandingLaw, NodesLaw, ScheduleLaw};
 ghost use Rattle.loom_engine.specs.Covering.Points.{PointsLaw, ThemselvesLaw};
 ghost use Rattle.loom_engine.specs.Covering.Seen.{TurnLaw, WholeLaw};
@@ -104,4 +105,9 @@ pub fn choices_lead_to_turns<D, S>()
 /// A path that drives through a tree keeps its nodes, and has one where the tree begins with a question (own).
 pub fn paths_keep_nodes<A>()
     ensures { NodesLaw A }
+{}
+
+/// Where the same is kept of two runs that stand at branch points, they are in the same state (own).
+pub fn kept_tells_the_state<D, S>()
+    ensures { KeptLaw D S }
 {}

@@ -7,7 +7,7 @@
 //! caller is answered.
 pub mod drawing;
 
-ghost use Rattle.std.specs.Prelude.{◌≡◌, None, Bool, ◌≢◌, ◌≤◌, ◌+◌, ◌<◌, Err, Some, true, slice_get, IfOk, OnOk};
+ghost use Rattle.std.specs.Prelude.{◌≡◌, None, Bool, ◌≢◌, ◌≤◌, ◌+◌, ◌<◌, Err, Some, true, length, slice_get, IfOk, OnOk};
 ghost use Rattle.loom_engine.specs.Begun.{Begins, begins_at, over_begun, wakes_at};
 ghost use Rattle.loom_engine.specs.Execution.{may_end, over_after, Notes, ShowsCourse, IsMarked, Starts, takes_turn, Along, AllNeedMemory, MayBeRefused, Schedules, Submits, itself};
 ghost use Rattle.std.specs.List.{Contains};
@@ -30,6 +30,7 @@ use loom_objects::operation::{ExploreOp, Reply, Request, Turn};
 use loom_objects::rt::dependence::{Dependence, Use};
 use loom_objects::rt::machine::{begin, end_run, enter_wait, read, resume};
 use loom_objects::rt::run::{Entry, Passed, Resumed, RunState};
+use loom_objects::rt::scene::Scene;
 use loom_views::rt::MAX_ATOMIC_HISTORY;
 use loom_views::rt::failure::FailureKind;
 use std::alloc::{AllocError, Global};
@@ -198,6 +199,20 @@ impl<D: Data> Execution<D> {
         let answer = schedule(&mut self.run, path, FURTHER_BRANCHES);
         record_end(&mut self.over, &answer);
         answer
+    }
+
+    /// The threads, the objects and the views of the run, to read (own).
+    pub fn scene(&self) -> &Scene<D>
+        ensures { result.now ≡ self.now.run.state.scene }
+    {
+        &self.run.state.scene
+    }
+
+    /// Of how many threads there are accesses in order (own).
+    pub fn ordered_threads(&self) -> usize
+        ensures { result ≡ length self.now.run.dependence.threads }
+    {
+        self.run.dependence.thread_count()
     }
 
     /// The thread whose turn it is: whose operation took effect last, or was handed over last.

@@ -504,6 +504,13 @@ impl Path {
         self.search.reduce
     }
 
+    /// Whether the run explores at the nodes that come (own).
+    pub fn explores_now(&self) -> bool
+        ensures { result ≡ is_on self.now.exploring }
+    {
+        matches!(self.exploring, Exploring::On)
+    }
+
     /// Whether the run has met all that the path holds.
     pub fn is_used_up(&self) -> bool
         ensures { result ≡ is_used_up (trail self.now) }

@@ -1,0 +1,37 @@
+use Rattle.loom.proofs.ModelLemmas.Covering.{begun_branches, begun_stops, begun_turns, on_ok, over_then, stays_open}
+use Rattle.loom.proofs.ModelLemmas.Handing.{joined}
+use Rattle.loom_engine.specs.declared.rt.execution.Begun.TheVariants as begun
+use Rattle.loom.proofs.model.cover.run.submit.Goals as goal
+
+pub returns-in-Err-begin-clause-event : goal.returns-in-Err-begin-clause-event
+returns-in-Err-begin-clause-event g c = λ run h.
+    begun_stops g.B.Body.next run c.args.bodies.now.items c.args.execution.now c.begin.new.self c.args.path.now c.begin.new.path c.args.op c.args.states.now c.requires c.begin.ensures.same.0
+    c.split-request.result.0 c.split-request.ensures.plain h c.in-Err-begin.stop c.in-Err-begin.ensures.event c.add_child.new.bodies.items
+
+pub returns-in-Ok-Turn-clause-event : goal.returns-in-Ok-Turn-clause-event
+returns-in-Ok-Turn-clause-event g c = λ run h.
+    begun_turns g.B.Body.next run c.args.bodies.now.items c.args.execution.now c.begin.new.self c.args.path.now c.begin.new.path c.args.op c.args.states.now c.requires c.begin.ensures.same.0
+    c.split-request.result.0 c.split-request.ensures.plain h c.in-Ok-Turn.turn (rw c.in-Ok-Turn.field-0-is at c.in-Ok-Turn.ensures.event) c.in-Ok-Turn.ensures.steps
+    c.add_child.new.bodies.items (rw c.split-request.ensures.started at c.in-Ok.ensures.more)
+
+pub returns-in-Ok-Turn-clause-open : goal.returns-in-Ok-Turn-clause-open
+returns-in-Ok-Turn-clause-open g c =
+    stays_open c.in-Ok-Turn.turn c.begin.new.self.over
+    (over_then c.args.execution.now c.begin.new.self c.split-request.result.0 c.args.path.now c.begin.new.path (begun.Turn c.in-Ok-Turn.turn) c.requires (rw c.in-Ok-Turn.field-0-is at c.in-Ok-Turn.ensures.event))
+
+pub pass-requires : goal.pass-requires
+pass-requires g c =
+    over_then c.args.execution.now c.begin.new.self c.split-request.result.0 c.args.path.now c.begin.new.path begun.AtBranch c.requires (rw c.in-Ok-AtBranch.field-0-is at c.in-Ok-AtBranch.ensures.event)
+
+pub returns-in-Ok-AtBranch-clause-event : goal.returns-in-Ok-AtBranch-clause-event
+returns-in-Ok-AtBranch-clause-event g c = λ run h.
+    let grown = rw c.split-request.ensures.started at c.in-Ok.ensures.more in
+    let at = begun_branches g.B.Body.next run c.args.bodies.now.items c.args.execution.now c.begin.new.self c.args.path.now c.begin.new.path c.args.op c.args.states.now c.requires c.begin.ensures.same.0
+    c.split-request.result.0 c.split-request.ensures.plain h (rw c.in-Ok-AtBranch.field-0-is at c.in-Ok-AtBranch.ensures.event) c.in-Ok-AtBranch.ensures.steps c.add_child.new.bodies.items grown in
+    rw (← c.as_slice.ensures.value) (c.pass.ensures.event run (rw (← c.as_slice.ensures.value) at at))
+
+pub returns-in-Ok-AtBranch-clause-steps : goal.returns-in-Ok-AtBranch-clause-steps
+returns-in-Ok-AtBranch-clause-steps g c = on_ok c.pass.result (rw (← c.pass.ensures.steps) at c.in-Ok-AtBranch.ensures.steps)
+
+pub returns-in-Ok-AtBranch-clause-same : goal.returns-in-Ok-AtBranch-clause-same
+returns-in-Ok-AtBranch-clause-same g c = joined c.args.path.now c.begin.new.path c.pass.new.path c.begin.ensures.same c.pass.ensures.same

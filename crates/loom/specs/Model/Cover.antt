@@ -1,0 +1,115 @@
+-- A search that remembers states: its runs, and what its report says.
+use Rattle.std.specs.Prelude.{ℕ, suc, ◌≡◌, ◌⊎◌, Bool, true, List, Option, Some, None, Result, Ok, Err}
+use Rattle.std.specs.List.{Contains}
+use Rattle.loom_views.specs.declared.rt.failure.FailureKind.{FailureKind}
+use Rattle.loom_objects.specs.declared.failure.Stop.{Stop}
+use Rattle.loom_objects.specs.declared.failure.Stop.TheVariants.{Failure as Because, Memory}
+use Rattle.loom_objects.specs.declared.operation.Reply.{Reply}
+use Rattle.loom_objects.specs.declared.operation.Reply.TheVariants as reply
+use Rattle.loom_objects.specs.declared.operation.Turn.{Turn}
+use Rattle.loom_objects.specs.declared.operation.Turn.TheVariants as turn
+use Rattle.loom_objects.specs.Exploring.{is_on}
+use Rattle.loom_objects.specs.Operation.Labelled.{Op}
+use Rattle.loom_engine.specs.declared.rt.execution.Progress.{Progress}
+use Rattle.loom_engine.specs.declared.rt.states.State.{State as Kept}
+use Rattle.loom_engine.specs.Execution.{ShowsCourse}
+use Rattle.loom_engine.specs.Path.Route.{Route, trail}
+use Rattle.loom_engine.specs.Runs.Body.{Meaning}
+use Rattle.loom_engine.specs.Runs.Course.{Course}
+use Rattle.loom_engine.specs.Trees.Drive.{is_used_up}
+use Rattle.loom_engine.specs.Trees.Marks.{marking}
+use Rattle.loom_engine.specs.Trees.Meeting.{whole_search}
+use Rattle.loom_engine.specs.Walk.Path.{Stored}
+use Rattle.loom_engine.specs.Covering.Kept.{Key, NotesAs}
+use Rattle.loom_engine.specs.Covering.UnderWay as under
+use Rattle.loom.specs.declared.model.cover.run.Ending.{Ending}
+use Rattle.loom.specs.declared.model.cover.run.Ending.TheVariants.{Ended, Met, Failed}
+use Rattle.loom.specs.declared.model.cover.run.Found.{Found}
+use Rattle.loom.specs.declared.model.cover.run.Found.TheVariants.{Known, New}
+use Rattle.loom.specs.declared.model.cover.run.Halt.{Halt}
+use Rattle.loom.specs.declared.model.cover.run.Halt.TheVariants as halt
+
+-- A run that notes states: how many nodes it may have, how it begins, its body, the path that it follows, and the states that were
+-- noted before it.
+pub record Noting (D S : Type 0) : Type 0 where
+  pub room : ℕ
+  pub explores : Bool
+  pub max_threads : ℕ
+  pub max_steps : ℕ
+  pub body : S
+  pub path : List Stored
+  pub old : List (Key D S)
+
+module _ {D S : Type 0} (next : Meaning D S) (run : Noting D S) where
+  -- what is kept are states of earlier runs, and of the path's nodes
+  abbrev pub IsTabled : List (Kept D S) → Route → Type 0
+  IsTabled kept path = under.Tables run.room (marking None) next run.explores run.max_threads run.max_steps run.body run.path run.old kept (trail path)
+
+  -- the run has left the path and what is kept so: it came to this, or was given up
+  abbrev pub Leaves : Result (Option D) FailureKind → Route → List (Kept D S) → Type 0
+  Leaves came path kept = under.Leaves run.room (marking None) next run.explores run.max_threads run.max_steps run.body run.path run.old came (trail path) kept
+
+  -- the thread is to be told the reply
+  pub record IsUnderWay (bodies : List S) (progress : Progress D) (path : Route) (thread : ℕ) (answer : Reply D) (kept : List (Kept D S)) : Type 0 where
+    pub course : Course D
+    pub shown : ShowsCourse course progress path
+    pub at : under.AtTurn run.room (marking None) next run.explores run.max_threads run.max_steps run.body run.path run.old (trail path) (suc course.world.steps_left) bodies course thread answer
+    pub tables : IsTabled kept path
+    pub whole : path.search ≡ whole_search run.room
+
+  -- the active thread hands over an operation
+  pub record IsHanding (bodies : List S) (progress : Progress D) (path : Route) (op : Op D S) (kept : List (Kept D S)) : Type 0 where
+    pub course : Course D
+    pub shown : ShowsCourse course progress path
+    pub at : under.IsHanding run.room (marking None) next run.explores run.max_threads run.max_steps run.body run.path run.old (trail path) course.world.steps_left bodies course op
+    pub tables : IsTabled kept path
+    pub whole : path.search ≡ whole_search run.room
+
+  -- its operation has come to its branch point
+  pub record IsAtBranch (bodies : List S) (progress : Progress D) (path : Route) (kept : List (Kept D S)) : Type 0 where
+    pub course : Course D
+    pub shown : ShowsCourse course progress path
+    pub at : under.AtBranch run.room (marking None) next run.explores run.max_threads run.max_steps run.body run.path run.old (trail path) (suc course.world.steps_left) bodies course
+    pub tables : IsTabled kept path
+    pub whole : path.search ≡ whole_search run.room
+
+  -- what an event comes to
+  abbrev pub ComesTo : Result (Turn D) Halt → List S → Progress D → Route → List (Kept D S) → Type 0
+  ComesTo (Ok (turn.Reply thread answer)) bodies progress path kept = IsUnderWay bodies progress path thread answer kept
+  ComesTo (Ok (turn.Start thread)) bodies progress path kept = IsUnderWay bodies progress path thread reply.Start kept
+  ComesTo (Ok (turn.Ended value)) bodies progress path kept = Leaves (Ok (Some value)) path kept
+  ComesTo (Err halt.Met) bodies progress path kept = Leaves (Ok None) path kept
+  ComesTo (Err (halt.Stopped (Because failure))) bodies progress path kept = Leaves (Err failure.kind) path kept
+  ComesTo (Err (halt.Stopped Memory)) bodies progress path kept = Unit {0}
+
+  -- and the run
+  abbrev pub EndsWith : Ending D → Route → List (Kept D S) → Type 0
+  EndsWith (Ended value) path kept = Leaves (Ok (Some value)) path kept
+  EndsWith Met path kept = Leaves (Ok None) path kept
+  EndsWith (Failed failure) path kept = Leaves (Err failure.kind) path kept
+
+-- Where a run stands its state is looked up, if it explores past its path's nodes: it was noted, or is noted now if there may be
+-- one more. Elsewhere nothing is looked up.
+abbrev pub LooksUp : {D S : Type 0} → Kept D S → Route → List (Kept D S) → Found → List (Kept D S) → Type 0
+LooksUp state path old Known new = (is_on path.exploring ≡ true) × (is_used_up (trail path) ≡ true) × Contains old state × (new ≡ old)
+LooksUp state path old New new = ((is_on path.exploring ≡ true) × NotesAs state old new) ⊎ (new ≡ old)
+
+-- a run that is stopped by a failure ends with it
+abbrev pub IsEndOf : {D : Type 0} → Stop → Ending D → Type 0
+IsEndOf (Because failure) ending = ending ≡ Failed failure
+IsEndOf Memory ending = ⊥
+
+-- a run whose last operation was answered so ends by that: by a failure, with main's value, or since its state was met
+abbrev pub IsEndBy : {D : Type 0} → Result (Turn D) Halt → Ending D → Type 0
+IsEndBy (Err halt.Met) ending = ending ≡ Met
+IsEndBy (Err (halt.Stopped stop)) ending = IsEndOf stop ending
+IsEndBy (Ok (turn.Ended value)) ending = ending ≡ Ended value
+IsEndBy (Ok (turn.Reply thread answer)) ending = ⊥
+IsEndBy (Ok (turn.Start thread)) ending = ⊥
+
+-- where the run goes on, its execution isn't over
+abbrev pub StaysOpen : {D : Type 0} → Result (Turn D) Halt → Option Stop → Type 0
+StaysOpen (Ok (turn.Reply thread answer)) over = over ≡ None
+StaysOpen (Ok (turn.Start thread)) over = over ≡ None
+StaysOpen (Ok (turn.Ended value)) over = Unit {0}
+StaysOpen (Err reason) over = Unit {0}

@@ -1,0 +1,212 @@
+//! One run of a search that remembers states, along its path. Where an operation comes to its first branch point past the path's
+//! nodes, and the run explores there, its state is looked up: if it was noted the run is given up, and otherwise it is noted.
+ghost use Rattle.std.specs.Prelude.{◌≡◌, ◌≤◌, ◌+◌, [], None, IfOk, OnOk, List};
+ghost use Rattle.loom_engine.specs.Covering.Kept.{AreKeptOf, Key, state_in};
+ghost use Rattle.loom_engine.specs.Path.Nodes.{stored};
+ghost use Rattle.loom_engine.specs.Path.Route.{IsAtStart, IsSameSearch};
+ghost use Rattle.loom_engine.specs.Trees.Meeting.{whole_search};
+ghost use Rattle.loom_objects.specs.declared.operation.Reply.TheVariants.{Start};
+ghost use Rattle.loom.specs.Model.Cover.{ComesTo, EndsWith, IsAtBranch, IsEndBy, IsEndOf, IsHanding, IsUnderWay, LooksUp, Noting, StaysOpen};
+
+use crate::model::run::{Room, add_child};
+use loom_engine::rt::execution::{Begun, Execution, Limits};
+use loom_engine::rt::path::Path;
+use loom_engine::rt::states::States;
+use loom_objects::body::Body;
+use loom_objects::failure::{Failure, Stop, failed};
+use loom_objects::operation::{Op, Reply, Turn};
+use loom_views::rt::failure::FailureKind;
+use loom_views::same::Same;
+use std::alloc::AllocError;
+
+/// How a run ended.
+#[derive(Drop)]
+pub enum Ending<D> {
+    /// Main came to this value.
+    Ended(D),
+    /// It was given up at a state that was noted.
+    Met,
+    Failed(Failure),
+}
+
+/// Why a run goes no further.
+#[derive(Clone, Copy)]
+pub enum Halt {
+    /// Its state was noted before.
+    Met,
+    Stopped(Stop),
+}
+
+/// What is found where a run's state is looked up.
+#[derive(Clone, Copy)]
+pub enum Found {
+    /// It was noted before.
+    Known,
+    /// It wasn't, or it isn't looked up there.
+    New,
+}
+
+/// One run of the body along the path, from its start, with these states. An error only where a growth was refused, in the run,
+/// the body or for a state.
+pub fn run<B: Body + Same>(
+    room: &mut Room<B>,
+    limits: Limits,
+    body: &B,
+    path: &mut Path,
+    states: &mut States<B::Data, B>,
+) -> Result<Ending<B::Data>, AllocError>
+where
+    B::Data: Same,
+    requires some { 1 ≤ limits.max_threads }
+    requires few { limits.max_threads ≤ 5 }
+    requires starts { IsAtStart path.old.explores path.old }
+    requires unguided { path.old.given ≡ [] }
+    requires whole { path.old.search ≡ whole_search path.old.search.max_branches }
+    ensures along { (old : List (Key B.Data B)) → AreKeptOf states.old old
+        → IfOk result (λ ending. EndsWith B.next (record { room = path.old.search.max_branches; explores = path.old.explores; max_threads = limits.max_threads; max_steps = limits.max_steps; body = body.now; path = stored path.old.nodes; old = old }) ending path.new states.new) }
+    ensures same { IsSameSearch path.old path.new }
+{
+    room.bodies.clear();
+    room.bodies.push(body.try_clone()?)?;
+    room.execution.restart(limits)?;
+    take_turns(&mut room.execution, &mut room.bodies, path, states)
+}
+
+/// From its start the run goes on by turns, until it ends, fails or is given up. An error only where a growth was refused.
+fn take_turns<B: Body + Same>(
+    execution: &mut Execution<B::Data>,
+    bodies: &mut Vec<B>,
+    path: &mut Path,
+    states: &mut States<B::Data, B>,
+) -> Result<Ending<B::Data>, AllocError>
+where
+    B::Data: Same,
+    requires { execution.old.over ≡ None }
+    ensures along { (run : Noting B.Data B) → IsUnderWay B.next run bodies.old.items execution.old.run path.old 0 Start states.old → IfOk result (λ ending. EndsWith B.next run ending path.new states.new) }
+    ensures same { IsSameSearch path.old path.new }
+{
+    let mut thread = 0u8;
+    let mut reply = Reply::Start;
+    'turns: loop {
+        let place = thread as usize;
+        if place >= bodies.len() {
+            reply.let_go();
+            return stopped(failed(FailureKind::Misuse));
+        }
+        let body = &mut bodies[place];
+        let op = body.resume(reply)?;
+        match submit(execution, bodies, path, states, op) {
+            Ok(Turn::Reply(next, told)) => {
+                thread = next;
+                reply = told;
+            }
+            Ok(Turn::Start(next)) => {
+                thread = next;
+                reply = Reply::Start;
+            }
+            answer => return ended(answer),
+        }
+    }
+}
+
+/// How a run ends whose last operation was answered so. A turn is no end: it is never answered here.
+fn ended<D: Drop>(answer: Result<Turn<D>, Halt>) -> Result<Ending<D>, AllocError>
+    ensures { IfOk result (IsEndBy answer) }
+{
+    match answer {
+        Err(Halt::Met) => Ok(Ending::Met),
+        Err(Halt::Stopped(stop)) => stopped(stop),
+        Ok(Turn::Ended(value)) => Ok(Ending::Ended(value)),
+        Ok(Turn::Reply(..) | Turn::Start(_)) => Err(AllocError),
+    }
+}
+
+/// How a run ends that is stopped so. An error where memory was refused.
+fn stopped<D>(stop: Stop) -> Result<Ending<D>, AllocError>
+    ensures { IfOk result (IsEndOf stop) }
+{
+    match stop {
+        Stop::Memory => Err(AllocError),
+        Stop::Failure(failure) => Ok(Ending::Failed(failure)),
+    }
+}
+
+/// What a thread hands over is submitted, up to the next turn; what a spawn starts is a body more.
+fn submit<B: Body + Same>(
+    execution: &mut Execution<B::Data>,
+    bodies: &mut Vec<B>,
+    path: &mut Path,
+    states: &mut States<B::Data, B>,
+    op: Op<B::Data, B>,
+) -> Result<Turn<B::Data>, Halt>
+where
+    B::Data: Same,
+    requires { execution.old.over ≡ None }
+    ensures event { (run : Noting B.Data B) → IsHanding B.next run bodies.old.items execution.old.run path.old op states.old → ComesTo B.next run result bodies.new.items execution.new.run path.new states.new }
+    ensures open { StaysOpen result execution.new.over }
+    ensures steps { OnOk result (execution.old.run.state.steps_left ≡ execution.new.run.state.steps_left + 1) }
+    ensures same { IsSameSearch path.old path.new }
+{
+    let (request, started) = op.split();
+    match add_child(bodies, started) {
+        Err(_) => {
+            request.let_go();
+            Err(Halt::Stopped(Stop::Memory))
+        }
+        Ok(()) => match execution.begin(path, request) {
+            Err(stop) => Err(Halt::Stopped(stop)),
+            Ok(Begun::Turn(turn)) => Ok(turn),
+            Ok(Begun::AtBranch) => pass(execution, bodies.as_slice(), path, states),
+        },
+    }
+}
+
+/// The schedule at the first branch point of an operation, up to the next turn; or the run is given up there.
+fn pass<B: Body + Same>(
+    execution: &mut Execution<B::Data>,
+    bodies: &[B],
+    path: &mut Path,
+    states: &mut States<B::Data, B>,
+) -> Result<Turn<B::Data>, Halt>
+where
+    B::Data: Same,
+    requires { execution.old.over ≡ None }
+    ensures event { (run : Noting B.Data B) → IsAtBranch B.next run bodies.now execution.old.run path.old states.old → ComesTo B.next run result bodies.now execution.new.run path.new states.new }
+    ensures open { StaysOpen result execution.new.over }
+    ensures steps { execution.new.run.state.steps_left ≡ execution.old.run.state.steps_left }
+    ensures same { IsSameSearch path.old path.new }
+{
+    match look_up(execution, bodies, path, states) {
+        Err(_) => Err(Halt::Stopped(Stop::Memory)),
+        Ok(Found::Known) => Err(Halt::Met),
+        Ok(Found::New) => match execution.schedule(path) {
+            Err(stop) => Err(Halt::Stopped(stop)),
+            Ok(turn) => Ok(turn),
+        },
+    }
+}
+
+/// Looks the state of the run up, if it explores past its path's nodes. If the state wasn't noted it is noted. An error where memory
+/// is refused.
+fn look_up<B: Body + Same>(
+    execution: &Execution<B::Data>,
+    bodies: &[B],
+    path: &Path,
+    states: &mut States<B::Data, B>,
+) -> Result<Found, AllocError>
+where
+    B::Data: Same,
+    ensures { IfOk result (λ found. LooksUp (state_in execution.now.run bodies.now) path.now states.old found states.new) }
+{
+    if !path.explores_now() {
+        return Ok(Found::New);
+    }
+    if !path.is_used_up() {
+        return Ok(Found::New);
+    }
+    if states.has(execution, bodies) {
+        return Ok(Found::Known);
+    }
+    states.note(execution, bodies)?;
+    Ok(Found::New)
+}

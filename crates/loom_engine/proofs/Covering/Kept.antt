@@ -1,0 +1,93 @@
+-- What is kept of a run that stands at a branch point tells its state.
+use Rattle.std.proofs.Common.{◌≡◌, ◌⊎◌, ℕ, zero, suc, arith, List, [], ◌∷◌, length, Some, ap, sym, ◌∙◌, subst}
+use Rattle.std.specs.List.{Contains}
+use Rattle.std.specs.Prelude.{slice_get}
+use Rattle.loom_views.specs.Sight.{Sight as SightOfPoints, seen}
+use Rattle.loom_views.specs.Views.{Points, ShowsViews, opening as first_points}
+use Rattle.loom_views.specs.declared.rt.views.Views.{Views}
+use Rattle.loom_views.proofs.Sight.Shown.{shown_law}
+use Rattle.loom_objects.specs.declared.operation.Lazy.{Lazy}
+use Rattle.loom_objects.specs.declared.rt.exploring.Exploring.{Exploring}
+use Rattle.loom_objects.specs.declared.rt.exploring.Exploring.TheVariants.{On}
+use Rattle.loom_objects.specs.declared.rt.object.Object.{Object}
+use Rattle.loom_objects.specs.declared.rt.thread.Thread.{Thread}
+use Rattle.loom_objects.specs.Exploring.{is_on}
+use Rattle.loom_objects.specs.Scene.Stage.{world_of}
+use Rattle.loom_objects.specs.World.{World}
+use Rattle.loom_engine.specs.declared.rt.states.State.{State as Kept}
+use Rattle.loom_engine.specs.Runs.Machine.{further_branches}
+use Rattle.loom_engine.specs.declared.rt.execution.Progress.{Progress}
+use Rattle.loom_engine.specs.Covering.Kept.{HasScene, IsKeptOf, Key, KeptLaw, state_in}
+use Rattle.loom_engine.specs.Covering.Points.{Sight}
+use Rattle.loom_engine.specs.Covering.Sight.{seen_at}
+use Rattle.loom_engine.specs.Covering.States.{State, state_of}
+
+module _ {D : Type 0} where
+  -- what is seen of a world that explores
+  looked : World D → SightOfPoints ⊎ Points → Sight D (SightOfPoints ⊎ Points)
+  looked w points = record { rest = record w { points = first_points; active = 0; steps_left = 0 }; points = points }
+
+module _ {D S : Type 0} where
+  -- the state, by what is kept and what is seen of the points
+  told : Kept D S → SightOfPoints ⊎ Points → State S (Sight D (SightOfPoints ⊎ Points))
+  told kept points =
+      record {
+        bodies = kept.bodies;
+        seen = record {
+          rest = record { threads = kept.threads; objects = kept.objects; points = first_points; lazies = kept.lazies; active = 0; steps_left = 0; max_threads = kept.max_threads };
+          points = points;
+        };
+        exploring = On;
+        more = further_branches;
+        ordered = kept.ordered;
+      }
+
+  with_exploring : State S (Sight D (SightOfPoints ⊎ Points)) → Exploring → World D → State S (Sight D (SightOfPoints ⊎ Points))
+  with_exploring s exploring w = record s { exploring = exploring; seen = seen_at (is_on exploring) w }
+
+  tells : (kept : Kept D S) (key : Key D S) (is : IsKeptOf kept key) → key ≡ (Some (told kept (seen is.moment.course.world.points)), [])
+  unfolding told looked with_exploring
+  tells kept key is =
+      let s = state_of seen_at is.moment in
+      let w = is.moment.course.world in
+      let on : s ≡ with_exploring s On w = ap (λ (x : Exploring). with_exploring s x w) is.explores in
+      let rest : w ≡ world_of w.points is.run.state.steps_left is.run.state.scene = is.shown.world.rest in
+      let seen_so : s ≡ record s { exploring = On; seen = looked (world_of w.points is.run.state.steps_left is.run.state.scene) (seen w.points) } =
+      on ∙ ap (λ (v : World D). record s { exploring = On; seen = looked v (seen w.points) }) rest in
+      let more_so : s ≡ record s { exploring = On; more = further_branches; seen = looked (world_of w.points is.run.state.steps_left is.run.state.scene) (seen w.points) } =
+      seen_so ∙ ap (λ (n : ℕ). record s { exploring = On; more = n; seen = looked (world_of w.points is.run.state.steps_left is.run.state.scene) (seen w.points) }) is.first in
+      let ordered_so : s ≡ told (state_in is.run is.moment.bodies) (seen w.points) =
+      more_so
+      ∙ ap (λ (n : ℕ). record s { exploring = On; more = further_branches; ordered = n; seen = looked (world_of w.points is.run.state.steps_left is.run.state.scene) (seen w.points) }) is.shown.order.count in
+      is.state ∙ ap (λ (x : State S (Sight D (SightOfPoints ⊎ Points))). (Some x, [])) (ordered_so ∙ ap (λ (k : Kept D S). told k (seen w.points)) (sym is.copied))
+
+  seen_same : (kept : Kept D S) (one other : Key D S) (is : IsKeptOf kept one) (too : IsKeptOf kept other) → seen is.moment.course.world.points ≡ seen too.moment.course.world.points
+  seen_same kept one other is too =
+      let views : too.run.state.scene.views ≡ is.run.state.scene.views = ap (λ (k : Kept D S). k.views) (sym too.copied ∙ is.copied) in
+      shown_law is.moment.course.world.points too.moment.course.world.points is.run.state.scene.views is.led too.led is.shown.world.views
+      (subst (λ (v : Views). ShowsViews too.moment.course.world.points v) views too.shown.world.views)
+
+pub kept_law : {D S : Type 0} → KeptLaw D S
+kept_law kept one other is too =
+    tells kept one is ∙ ap (λ (x : SightOfPoints ⊎ Points). (Some (told kept x), [])) (seen_same kept one other is too) ∙ sym (tells kept other too)
+
+-- where all parts of it are those of the run, it is the state of the run
+pub is_state_in : {D S : Type 0} (kept : Kept D S) (run : Progress D) (bodies : List S) → HasScene kept run.state.scene → kept.ordered ≡ length run.dependence.threads → kept.bodies ≡ bodies → kept ≡ state_in run bodies
+is_state_in {D} {S} kept run bodies has count same =
+    let s = run.state.scene in
+    let one : kept ≡ record kept { threads = s.threads } = ap (λ (l : List (Thread D)). record kept { threads = l }) has.threads in
+    let two : kept ≡ record kept { threads = s.threads; objects = s.objects } = one ∙ ap (λ (l : List (Object D)). record kept { threads = s.threads; objects = l }) has.objects in
+    let three : kept ≡ record kept { threads = s.threads; objects = s.objects; views = s.views } = two ∙ ap (λ (v : Views). record kept { threads = s.threads; objects = s.objects; views = v }) has.views in
+    let four : kept ≡ record kept { threads = s.threads; objects = s.objects; views = s.views; lazies = s.lazies } =
+    three ∙ ap (λ (l : List (Lazy D)). record kept { threads = s.threads; objects = s.objects; views = s.views; lazies = l }) has.lazies in
+    let five : kept ≡ record kept { threads = s.threads; objects = s.objects; views = s.views; lazies = s.lazies; max_threads = s.max_threads } =
+    four ∙ ap (λ (n : ℕ). record kept { threads = s.threads; objects = s.objects; views = s.views; lazies = s.lazies; max_threads = n }) has.max_threads in
+    let six : kept ≡ record kept { threads = s.threads; objects = s.objects; views = s.views; lazies = s.lazies; max_threads = s.max_threads; ordered = length run.dependence.threads } =
+    five ∙ ap (λ (n : ℕ). record kept { threads = s.threads; objects = s.objects; views = s.views; lazies = s.lazies; max_threads = s.max_threads; ordered = n }) count in
+    six ∙ ap (λ (l : List S). let k : Kept D S = record kept { threads = s.threads; objects = s.objects; views = s.views; lazies = s.lazies; max_threads = s.max_threads; ordered = length run.dependence.threads; bodies = l } in k) same
+
+-- a list has what stands at one of its places
+pub has_at : {X : Type 0} (xs : List X) (k : ℕ) (x : X) → slice_get xs k ≡ Some x → Contains xs x
+has_at [] k x e = absurd (cc e)
+has_at (y ∷ xs) zero x e = (0, omega arith, cc e)
+has_at (y ∷ xs) (suc k) x e = let z = has_at xs k x e in (suc z.0, omega (arith, z.1), z.2)

@@ -1,0 +1,6 @@
+use Rattle.std.proofs.Common.{◌≡◌, take}
+use Rattle.loom_engine.proofs.rt.states.kept.copied_all.Given as goal
+
+-- those so far
+abbrev pub invariant-loop-value : goal.invariant-loop-value
+invariant-loop-value g l = l.copy.items ≡ take l.value-index l.values

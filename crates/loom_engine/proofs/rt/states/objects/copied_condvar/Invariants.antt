@@ -1,0 +1,6 @@
+use Rattle.std.proofs.Common.{◌≡◌, take}
+use Rattle.loom_engine.proofs.rt.states.objects.copied_condvar.Given as goal
+
+-- those so far
+abbrev pub invariant-loop-waiter : goal.invariant-loop-waiter
+invariant-loop-waiter l = l.copy.waiters.items ≡ take l.waiter-index l.waiter-items

@@ -1,0 +1,68 @@
+-- What is kept of where a run stands, and what it tells.
+use Rattle.std.specs.Prelude.{◌≡◌, ◌⊎◌, List, [], ◌∷◌, ◌++◌, length, Option, Some}
+use Rattle.std.specs.List.{Contains}
+use Rattle.loom_views.specs.Laws.Moves.{Leads}
+use Rattle.loom_views.specs.Sight.{Sight as SightOfPoints}
+use Rattle.loom_views.specs.Views.{Points, opening as first_points}
+use Rattle.loom_objects.specs.declared.choice.Choice.{Choice}
+use Rattle.loom_objects.specs.declared.rt.exploring.Exploring.TheVariants.{On}
+use Rattle.loom_objects.specs.Scene.Stage.{Stage}
+use Rattle.loom_engine.specs.declared.rt.execution.Progress.{Progress}
+use Rattle.loom_engine.specs.declared.rt.states.State.{State as Kept}
+use Rattle.loom_engine.specs.Execution.{ShowsCourse}
+use Rattle.loom_engine.specs.Path.Route.{Route}
+use Rattle.loom_engine.specs.Runs.Machine.{further_branches}
+use Rattle.loom_engine.specs.Covering.Moments.{Moment}
+use Rattle.loom_engine.specs.Covering.Points.{Sight}
+use Rattle.loom_engine.specs.Covering.Sight.{seen_at}
+use Rattle.loom_engine.specs.Covering.States.{State, state_of}
+
+-- a state as the law of covering has it: that of the last schedule, and the choices since then
+abbrev pub Key : Type 0 → Type 0 → Type 0
+Key D S = Option (State S (Sight D (SightOfPoints ⊎ Points))) × List Choice
+
+module _ {D S : Type 0} where
+  -- where a run stands, with its threads' bodies
+  abbrev pub state_in : Progress D → List S → Kept D S
+  state_in run bodies =
+      record {
+        threads = run.state.scene.threads;
+        objects = run.state.scene.objects;
+        views = run.state.scene.views;
+        lazies = run.state.scene.lazies;
+        max_threads = run.state.scene.max_threads;
+        ordered = length run.dependence.threads;
+        bodies = bodies;
+      }
+
+  -- it has what the scene has, but for whose turn it is
+  pub record HasScene (kept : Kept D S) (scene : Stage D) : Type 0 where
+    pub threads : kept.threads ≡ scene.threads
+    pub objects : kept.objects ≡ scene.objects
+    pub views : kept.views ≡ scene.views
+    pub lazies : kept.lazies ≡ scene.lazies
+    pub max_threads : kept.max_threads ≡ scene.max_threads
+
+  -- it is one more of those that are kept, or none is
+  abbrev pub NotesAs : Kept D S → List (Kept D S) → List (Kept D S) → Type 0
+  NotesAs state old new = (new ≡ old ++ state ∷ []) ⊎ (new ≡ old)
+
+  -- This is kept of a run that stands at the first branch point of an operation, where its search explores; and that is its state.
+  pub record IsKeptOf (kept : Kept D S) (key : Key D S) : Type 0 where
+    pub run : Progress D
+    pub path : Route
+    pub moment : Moment D S
+    pub shown : ShowsCourse moment.course run path
+    pub led : Leads first_points moment.course.world.points
+    pub first : moment.more ≡ further_branches
+    pub explores : moment.course.exploring ≡ On
+    pub copied : kept ≡ state_in run moment.bodies
+    pub state : key ≡ (Some (state_of seen_at moment), [])
+
+  -- each that is kept is so of one of the states
+  abbrev pub AreKeptOf : List (Kept D S) → List (Key D S) → Type 0
+  AreKeptOf kept keys = (one : Kept D S) → Contains kept one → (key : Key D S) × Contains keys key × IsKeptOf one key
+
+-- Where the same is kept of two runs, they are in the same state.
+abbrev pub KeptLaw : Type 0 → Type 0 → Type 0
+KeptLaw D S = (kept : Kept D S) (one other : Key D S) → IsKeptOf kept one → IsKeptOf kept other → one ≡ other

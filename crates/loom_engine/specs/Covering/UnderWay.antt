@@ -1,0 +1,115 @@
+-- A run of a body under way, that notes the states it comes to and is given up where one was noted.
+use Rattle.std.specs.Prelude.{ℕ, ◌≡◌, ◌≤◌, ◌⊎◌, Bool, false, List, [], ◌∷◌, ◌++◌, length, Option, Some, Result, Ok, Err}
+use Rattle.std.specs.List.{Contains}
+use Rattle.loom_views.specs.declared.rt.failure.FailureKind.{FailureKind}
+use Rattle.loom_views.specs.Laws.Moves.{Leads}
+use Rattle.loom_views.specs.Views.{opening as first_points}
+use Rattle.loom_objects.specs.declared.choice.Choice.{Choice}
+use Rattle.loom_objects.specs.declared.operation.Reply.{Reply}
+use Rattle.loom_objects.specs.declared.operation.Reply.TheVariants as reply
+use Rattle.loom_objects.specs.declared.operation.Turn.{Turn}
+use Rattle.loom_objects.specs.declared.operation.Turn.TheVariants as turn
+use Rattle.loom_objects.specs.Operation.Labelled.{Op}
+use Rattle.loom_objects.specs.Operation.Plain.{plain, started}
+use Rattle.loom_objects.specs.Tree.Tree.{Tree, Gives, ◌>>=◌}
+use Rattle.loom_engine.specs.declared.rt.execution.Begun.{Begun}
+use Rattle.loom_engine.specs.declared.rt.states.State.{State as Kept}
+use Rattle.loom_engine.specs.Begun.{begins_at, goes_further}
+use Rattle.loom_engine.specs.Runs.Body.{Meaning, at_turn, play, runs, with_child}
+use Rattle.loom_engine.specs.Runs.Course.{Course}
+use Rattle.loom_engine.specs.Runs.Machine.{further_branches, schedule}
+use Rattle.loom_engine.specs.Trees.Meeting.{Marking, whole_search}
+use Rattle.loom_engine.specs.Trees.Drive.{Trail, at_start, drive}
+use Rattle.loom_engine.specs.Walk.Path.{Stored}
+use Rattle.loom_engine.specs.Covering.Cut.{cut, passed}
+use Rattle.loom_engine.specs.Covering.Kept.{AreKeptOf, Key}
+use Rattle.loom_engine.specs.Covering.Moments.{Moment, Stand, at_branch, first_stand, settled, stand_after, to_schedule}
+use Rattle.loom_engine.specs.Covering.Parts.{StayThere, on_begun}
+use Rattle.loom_engine.specs.Covering.Sight.{seen_at}
+use Rattle.loom_engine.specs.Covering.States.{state_after}
+use Rattle.loom_engine.specs.Covering.Table.{HasState, IsAlong}
+
+-- nowhere
+abbrev pub never : List Choice → Bool
+never c = false
+
+-- nowhere before these choices
+abbrev pub IsOpen : (List Choice → Bool) → List Choice → Type 0
+IsOpen stop c = (b : List Choice) (o : Choice) (rest : List Choice) → c ≡ b ++ o ∷ rest → stop b ≡ false
+
+module _ {R D S : Type 0} (room : ℕ) (adds : Marking) (next : Meaning D S) (tree : Tree R) (first : Stand D S) (p : List Stored) where
+  -- A run along the path p has come this far, and this tree is ahead of it: what that comes to, with the path here, is what the whole
+  -- run comes to, if it wasn't cut before. It stands there.
+  pub record Way (path : Trail) (ahead : Tree R) (stand : Stand D S) : Type 0 where
+    pub within : path.position ≤ length path.nodes
+    pub cuts : (stop : List Choice → Bool) → IsOpen stop (passed path)
+        → drive (whole_search room) adds (cut stop [] tree) (at_start p) ≡ drive (whole_search room) adds (cut stop (passed path) ahead) path
+    pub stays : StayThere (at_start p) path
+    pub stands : stand_after next first (passed path) ≡ stand
+
+-- moves lead to its points
+abbrev pub IsLed : {D : Type 0} → Course D → Type 0
+IsLed c = Leads first_points c.world.points
+
+module _ {D S : Type 0} (next : Meaning D S) where
+  -- what comes after a turn
+  abbrev pub onward : ℕ → List S → Turn D × Course D → Tree D
+  onward left bodies turned = at_turn (play next left bodies turned.1) (λ value. Gives value) turned.0
+
+  -- what follows an operation that was begun
+  abbrev pub after_begun : ℕ → List S → Begun D × Course D → Tree D
+  after_begun left bodies came = goes_further came >>= onward left bodies
+
+module _ {D S : Type 0} (room : ℕ) (adds : Marking) (next : Meaning D S) (explores : Bool) (max_threads max_steps : ℕ) (body : S) (p : List Stored) (old : List (Key D S)) where
+  -- the runs, and the state after choices
+  abbrev pub tree : Tree D
+  tree = runs next explores max_threads max_steps body
+
+  abbrev pub key : List Choice → Key D S
+  key = state_after seen_at next explores max_threads max_steps body
+
+  abbrev pub IsOnWay : Trail → Tree D → Stand D S → Type 0
+  IsOnWay path ahead stand = Way room adds next tree (first_stand next explores max_threads max_steps body) p path ahead stand
+
+  -- a state of an earlier run, or of a node of this one
+  abbrev pub IsOfBefore : Trail → Key D S → Type 0
+  IsOfBefore path k = Contains old k ⊎ HasState key path.nodes k
+
+  -- what is kept are states of earlier runs, and of this one's nodes
+  pub record Tables (kept : List (Kept D S)) (path : Trail) : Type 0 where
+    pub keys : List (Key D S)
+    pub explained : AreKeptOf kept keys
+    pub known : (k : Key D S) → Contains keys k → IsOfBefore path k
+
+  -- the thread is to be told the reply
+  pub record AtTurn (path : Trail) (left : ℕ) (bodies : List S) (c : Course D) (thread : ℕ) (answer : Reply D) : Type 0 where
+    pub last : Option (Moment D S)
+    pub since : List Choice
+    pub way : IsOnWay path (play next left bodies c thread answer) (settled next last since (to_schedule next left bodies c thread answer))
+    pub led : IsLed c
+
+  -- the active thread hands over an operation, and the bodies are these
+  pub record IsHanding (path : Trail) (left : ℕ) (bodies : List S) (c : Course D) (op : Op D S) : Type 0 where
+    pub last : Option (Moment D S)
+    pub since : List Choice
+    pub way : IsOnWay path (begins_at (plain op) c >>= after_begun next left (with_child bodies (started op)))
+        (settled next last since (begins_at (plain op) c >>= on_begun (to_schedule next left (with_child bodies (started op))) left (with_child bodies (started op))))
+    pub led : IsLed c
+
+  -- the active thread's operation has come to its branch point
+  pub record AtBranch (path : Trail) (left : ℕ) (bodies : List S) (c : Course D) : Type 0 where
+    pub last : Option (Moment D S)
+    pub since : List Choice
+    pub way : IsOnWay path (schedule further_branches c >>= onward next left bodies) (settled next last since (Gives (at_branch left bodies c)))
+    pub led : IsLed c
+
+  -- what comes of a turn: the next one, or the run's end
+  abbrev pub TurnIs : Trail → ℕ → List S → Course D → Turn D → Type 0
+  TurnIs path left bodies c (turn.Reply thread answer) = AtTurn path left bodies c thread answer
+  TurnIs path left bodies c (turn.Start thread) = AtTurn path left bodies c thread reply.Start
+  TurnIs path left bodies c (turn.Ended value) = drive (whole_search room) adds (cut never [] tree) (at_start p) ≡ (Ok (Some value), path)
+
+  -- the run has left the path and what is kept so: it came to this, or was cut off, as one with a table
+  abbrev pub Leaves : Result (Option D) FailureKind → Trail → List (Kept D S) → Type 0
+  Leaves (Ok came) path kept = (keys : List (Key D S)) × AreKeptOf kept keys × IsAlong room adds tree key old p (Ok came) path keys
+  Leaves (Err kind) path kept = (keys : List (Key D S)) × IsAlong room adds tree key old p (Err kind) path keys

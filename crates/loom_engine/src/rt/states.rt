@@ -1,0 +1,204 @@
+//! States that a search remembers: copies of where runs stood at branch points, with which later runs are compared.
+pub mod kept;
+pub(crate) mod objects;
+pub(crate) mod tasks;
+pub(crate) mod threads;
+
+ghost use Rattle.std.specs.Prelude.{◌≡◌, [], IfOk, IsTrue, length};
+ghost use Rattle.std.specs.List.{Contains};
+ghost use Rattle.loom_engine.specs.Covering.Kept.{HasScene, NotesAs, state_in};
+
+use crate::rt::execution::Execution;
+use crate::rt::states::kept::{are_equal, copied_all};
+use loom_objects::body::Body;
+use loom_objects::data::Data;
+use loom_objects::operation::Lazy;
+use loom_objects::rt::object::Object;
+use loom_objects::rt::scene::Scene;
+use loom_objects::rt::thread::Thread;
+use loom_views::rt::views::Views;
+use loom_views::same::{Same, are_same};
+use loom_views::sequence::Sequence;
+use std::alloc::{AllocError, Global};
+use std::marker::Model;
+
+/// What is kept of a run that stands at a branch point at which its search explores (own).
+#[derive(Drop)]
+pub struct State<D, B> {
+    threads: Sequence<Thread<D>>,
+    objects: Sequence<Object<D>>,
+    views: Views,
+    lazies: Sequence<Lazy<D>>,
+    max_threads: usize,
+    // of how many threads there are accesses in order
+    ordered: usize,
+    bodies: Sequence<B>,
+}
+
+impl<D: Data + Same, B: Body + Same> State<D, B> {
+    /// A copy of where a run stands. An error where memory is refused.
+    fn of(alloc: Global, execution: &Execution<D>, bodies: &[B]) -> Result<State<D, B>, AllocError>
+        ensures { IfOk result (λ state. state ≡ state_in execution.now.run bodies.now) }
+    {
+        let scene = execution.scene();
+        Ok(State {
+            threads: copied_all(alloc, scene.threads().as_slice())?,
+            objects: copied_all(alloc, scene.objects().as_slice())?,
+            views: scene.views().try_clone(alloc)?,
+            lazies: copied_all(alloc, scene.lazies().as_slice())?,
+            max_threads: scene.max_threads(),
+            ordered: execution.ordered_threads(),
+            bodies: copied_bodies(alloc, bodies)?,
+        })
+    }
+
+    /// Whether it has what the scene has, but for whose turn it is.
+    fn has_scene(&self, scene: &Scene<D>) -> bool
+        ensures { IsTrue result → HasScene self.now scene.now }
+    {
+        if self.max_threads != scene.max_threads() {
+            return false;
+        }
+        if !self.views.is_same(scene.views()) {
+            return false;
+        }
+        if !are_equal(self.threads.as_slice(), scene.threads().as_slice()) {
+            return false;
+        }
+        if !are_equal(self.objects.as_slice(), scene.objects().as_slice()) {
+            return false;
+        }
+        are_equal(self.lazies.as_slice(), scene.lazies().as_slice())
+    }
+
+    /// Whether the run stands in this state.
+    #[tactic(auto, using(crate::proofs::Covering::Kept::is_state_in))]
+    fn is_at(&self, execution: &Execution<D>, bodies: &[B]) -> bool
+        ensures { IsTrue result → self.now ≡ state_in execution.now.run bodies.now }
+    {
+        if self.ordered != execution.ordered_threads() {
+            return false;
+        }
+        if !self.has_scene(execution.scene()) {
+            return false;
+        }
+        are_same(self.bodies.as_slice(), bodies)
+    }
+}
+
+/// Copies of bodies. An error where memory is refused.
+fn copied_bodies<B: Body>(alloc: Global, bodies: &[B]) -> Result<Sequence<B>, AllocError>
+    ensures { IfOk result (λ copy. copy ≡ bodies.now) }
+{
+    let mut copy = Vec::new(alloc);
+    for body in bodies {
+        copy.push(body.try_clone()?)?;
+    }
+    Ok(Sequence::from_vec(copy))
+}
+
+// how many lists of states there are, each of those that have the same remainder
+const LISTS: usize = 65_536;
+
+/// The states that a search has noted, at most so many of them. Where no more may be, none is noted, and those that were are still
+/// found (own).
+#[derive(Drop)]
+pub struct States<D, B> {
+    states: Sequence<State<D, B>>,
+    // for each state the number of the one before in its list, counted from 1, or 0
+    before: Vec<usize>,
+    // the last one of each list
+    last: Vec<usize>,
+    most: usize,
+    alloc: Global,
+}
+
+impl<D, B> Model for States<D, B> {
+    ghost use Rattle.std.specs.Prelude.{List};
+    ghost use Rattle.loom_engine.specs.declared.rt.states.State.{State};
+
+    ghost Value = { List (State D B) };
+
+    ghost view = { λ s. s.states };
+}
+
+impl<D: Data + Same, B: Body + Same> States<D, B> {
+    /// None yet, and at most so many. An error where memory is refused.
+    pub fn new(alloc: Global, most: usize) -> Result<States<D, B>, AllocError>
+        ensures { IfOk result (λ states. states ≡ []) }
+    {
+        let mut last = Vec::new(alloc);
+        last.resize(LISTS, 0)?;
+        Ok(States {
+            states: Sequence::new(alloc),
+            before: Vec::new(alloc),
+            last,
+            most,
+            alloc,
+        })
+    }
+
+    /// How many were noted.
+    pub fn len(&self) -> usize
+        ensures { result ≡ length self.now }
+    {
+        self.states.len()
+    }
+
+    /// Whether the state of the run was noted.
+    #[tactic(auto, using(crate::proofs::Covering::Kept::has_at))]
+    pub fn has(&self, execution: &Execution<D>, bodies: &[B]) -> bool
+        ensures { IsTrue result → Contains self.now (state_in execution.now.run bodies.now) }
+    {
+        let mut number = self.last_of(list_of(execution));
+        for _ in 0..self.states.len() {
+            if number == 0 || number > self.states.len() {
+                return false;
+            }
+            if self.states.at(number - 1).is_at(execution, bodies) {
+                return true;
+            }
+            number = self.one_before(number - 1);
+        }
+        false
+    }
+
+    /// Notes the state of the run, if there may be one more. An error where memory is refused.
+    pub fn note(&mut self, execution: &Execution<D>, bodies: &[B]) -> Result<(), AllocError>
+        ensures { IfOk result (λ _. NotesAs (state_in execution.now.run bodies.now) self.old self.new) }
+    {
+        if self.states.len() >= self.most {
+            return Ok(());
+        }
+        let state = State::of(self.alloc, execution, bodies)?;
+        let list = list_of(execution);
+        let before = self.last_of(list);
+        self.before.push(before)?;
+        self.states.push(state)?;
+        if let Some(last) = self.last.get_mut(list) {
+            *last = self.states.len();
+        }
+        Ok(())
+    }
+
+    /// The number of the last state of a list, counted from 1, or 0.
+    fn last_of(&self, list: usize) -> usize {
+        match self.last.get(list) {
+            Some(number) => *number,
+            None => 0,
+        }
+    }
+
+    /// The number of the state before the one at this place, counted from 1, or 0.
+    fn one_before(&self, place: usize) -> usize {
+        match self.before.get(place) {
+            Some(number) => *number,
+            None => 0,
+        }
+    }
+}
+
+/// The list in which the state of the run is.
+fn list_of<D: Data>(execution: &Execution<D>) -> usize {
+    (execution.scene().views().digest() % 65_536) as usize
+}
