@@ -113,7 +113,7 @@ unfolding term_at
 term_again locations threads (terms.Register thread register) c behind found = ap (λ (o : Option Term). o >>= λ term. Some (term, (behind, c))) found
 term_again locations threads (terms.Location place) c behind found = ap (λ (o : Option Term). o >>= λ term. Some (term, (behind, c))) found
 
-constant_again : (value : ℤ) (c : ℕ) (behind : List Spelled) → IsInt value → constant_at (printed_value value ++ behind, c) ≡ Some (value, (behind, c))
+pub constant_again : (value : ℤ) (c : ℕ) (behind : List Spelled) → IsInt value → constant_at (printed_value value ++ behind, c) ≡ Some (value, (behind, c))
 unfolding constant_at
 constant_again (pos n) c behind fits = ap (λ (b : Bool). cond b (Some (pos n)) None >>= λ value. Some (value, (behind, c))) (lt-ltb n (2 ^ 31) fits)
 constant_again (negsuc n) c behind fits =

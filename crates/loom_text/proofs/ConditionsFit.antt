@@ -16,20 +16,20 @@ use Rattle.loom_text.specs.Conditions.{Formula, Equals, Denied, Both, Either, co
 use Rattle.loom_text.specs.Printing.{FitsReader, HasInts, IsInt, comparisons, depth}
 use Rattle.loom_text.specs.Tokens.{Gives, Left, ◌>>=◌, after_sign, constant_at, counted, is_next, name_at, negated, next, number_at, passed, value_of}
 
-bind_some : {A B P : Type 0} (o : Option A) (f : A → Option B) (y : B) → (o >>= f) ≡ Some y → ((a : A) → o ≡ Some a → f a ≡ Some y → P) → P
+pub bind_some : {A B P : Type 0} (o : Option A) (f : A → Option B) (y : B) → (o >>= f) ≡ Some y → ((a : A) → o ≡ Some a → f a ≡ Some y → P) → P
 bind_some None f y h k = absurd (none-some y h)
 bind_some (Some a) f y h k = k a refl h
 
-else_some : {A : Type 0} (b : Bool) (o : Option A) (y : A) → cond b None o ≡ Some y → (b ≡ false) × (o ≡ Some y)
+pub else_some : {A : Type 0} (b : Bool) (o : Option A) (y : A) → cond b None o ≡ Some y → (b ≡ false) × (o ≡ Some y)
 else_some true o y h = absurd (none-some y h)
 else_some false o y h = (refl, h)
 
 -- ---- what the small readers count: nothing
 
-after_sign_counts : (sign : Symbol) (left behind : Left) → after_sign sign left ≡ Some behind → behind.1 ≡ left.1
+pub after_sign_counts : (sign : Symbol) (left behind : Left) → after_sign sign left ≡ Some behind → behind.1 ≡ left.1
 after_sign_counts sign left behind h = sym (ap (λ (l : Left). l.1) (cond_some (is_next sign left) (passed left) behind h).1)
 
-name_counts : (left : Left) (x : List ℕ × Left) → name_at left ≡ Some x → x.1.1 ≡ left.1
+pub name_counts : (left : Left) (x : List ℕ × Left) → name_at left ≡ Some x → x.1.1 ≡ left.1
 name_counts left x h = sym (ap (λ (y : List ℕ × Left). y.1.1) (cond_some _ _ x h).1)
 
 negated_int : (n : ℕ) → n ≤ 2 ^ 31 → IsInt (negated n)

@@ -1,6 +1,9 @@
 pub mod CheckLemmas
 pub mod ConditionsAgain
 pub mod ConditionsFit
+pub mod ExpressionSteps
+pub mod ExpressionsAgain
+pub mod ExpressionsFit
 pub mod LawLemmas
 pub mod NameLemmas
 pub mod QuestionsAgain
@@ -8,6 +11,6 @@ pub mod ReadableLemmas
 pub mod ReadingSteps
 pub mod RunLemmas
 pub mod TallyLemmas
-pub mod WalkLemmas
 pub mod TermSteps
+pub mod WalkLemmas
 pub mod WholeLemmas

@@ -1,5 +1,5 @@
 -- The steps in which a condition is read.
-use Rattle.std.proofs.Common.{◌≡◌, ℕ, zero, suc, ◌-◌, ◌+◌, ◌≤◌, ◌<◌, List, Bool, true, false, Option, Some, None, cond, refl, sym, ap, subst, ◌∙◌, arith}
+use Rattle.std.proofs.Common.{◌≡◌, ℕ, zero, suc, ◌-◌, ◌+◌, ◌≤◌, ◌<◌, List, Bool, true, false, Option, Some, None, cond, refl, sym, ap, ◌∙◌, arith}
 use Rattle.loom_text.specs.declared.read.stop.Stop.{Stop}
 use Rattle.loom_text.specs.declared.read.stop.Stop.TheVariants as stops
 use Rattle.loom_text.specs.declared.read.symbol.Symbol.{Symbol}
@@ -129,12 +129,56 @@ pub stops_none : {Y : Type 0} (e : Stop) (read : Option Y) → read ≡ None →
 stops_none (stops.At problem start end) read h = h
 stops_none stops.Memory read h = tt
 
-pub stops_first : {X Y : Type 0} (e : Stop) (o : Option X) (f : X → Option Y) → Stops e o → Stops e (o >>= f)
-stops_first (stops.At problem start end) o f h = ap (λ (o : Option _). o >>= f) h
-stops_first stops.Memory o f h = tt
-
-pub stops_behind : {X Y : Type 0} (e : Stop) (o : Option X) (f : X → Option Y) (x : X) → o ≡ Some x → Stops e (f x) → Stops e (o >>= f)
-stops_behind e o f x h s = subst (λ (o : Option _). Stops e (o >>= f)) (sym h) s
-
 pub then_some : {X Y : Type 0} (o : Option X) (f : X → Option Y) (x : X) (y : Y) → o ≡ Some x → f x ≡ Some y → (o >>= f) ≡ Some y
 then_some o f x y h k = ap (λ (o : Option _). o >>= f) h ∙ k
+
+-- ---- a sign that may be next
+
+pub eaten : (found : Bool) (symbol : Symbol) (old new : Left) → found ≡ is_next symbol old → new ≡ cond found (passed old) old → found ≡ true → (is_next symbol old ≡ true) × (new ≡ passed old)
+eaten found symbol old new is moved h = (sym is ∙ h, moved ∙ ap (λ (b : Bool). cond b (passed old) old) h)
+
+pub not_eaten : (found : Bool) (symbol : Symbol) (old new : Left) → found ≡ is_next symbol old → new ≡ cond found (passed old) old → found ≡ false → (is_next symbol old ≡ false) × (new ≡ old)
+not_eaten found symbol old new is moved h = (sym is ∙ h, moved ∙ ap (λ (b : Bool). cond b (passed old) old) h)
+
+-- behind another that isn't
+pub eaten_behind : (found : Bool) (symbol : Symbol) (old middle new : Left) → middle ≡ old → found ≡ is_next symbol middle → new ≡ cond found (passed middle) middle → found ≡ true
+    → (is_next symbol old ≡ true) × (new ≡ passed old)
+eaten_behind found symbol old middle new e is moved h =
+    let x = eaten found symbol middle new is moved h in
+    (ap (λ (l : Left). is_next symbol l) (sym e) ∙ x.0, x.1 ∙ ap passed e)
+
+-- ---- parts that are read, and parts that aren't
+
+pub denied_as : (locations : List Location) (threads : List Thread) (inside depth : ℕ) (left behind : Left) (f : Formula) → inside + 1 ≡ depth → is_next signs.Tilde left ≡ true
+    → part_at locations threads inside (passed left) ≡ Some (f, behind) → part_at locations threads depth left ≡ Some (Denied f, behind)
+denied_as locations threads inside depth left behind f e h read =
+    denied locations threads inside depth left e h
+    ∙ then_some (part_at locations threads inside (passed left)) (λ (read : Formula × Left). Some (Denied read.0, read.1)) (f, behind) (Denied f, behind) read refl
+
+pub not_denied : (e : Stop) (locations : List Location) (threads : List Thread) (inside depth : ℕ) (left : Left) → inside + 1 ≡ depth → is_next signs.Tilde left ≡ true
+    → Stops e (part_at locations threads inside (passed left)) → Stops e (part_at locations threads depth left)
+not_denied stops.Memory locations threads inside depth left k h read = tt
+not_denied (stops.At problem start end) locations threads inside depth left k h read =
+    denied locations threads inside depth left k h ∙ ap (λ (o : Option (Formula × Left)). o >>= λ read. Some (Denied read.0, read.1)) read
+
+-- what stands in parentheses, and the parenthesis behind it
+abbrev closed : Option (Formula × Left) → Option (Formula × Left)
+closed read = read >>= λ read. after_sign signs.CloseParenthesis read.1 >>= λ left. Some (read.0, left)
+
+pub enclosed_as : (locations : List Location) (threads : List Thread) (inside depth : ℕ) (left middle behind : Left) (f : Formula) → inside + 1 ≡ depth → is_next signs.Tilde left ≡ false
+    → is_next signs.OpenParenthesis left ≡ true → disjunction_of (part_at locations threads inside) (passed left) ≡ Some (f, middle) → after_sign signs.CloseParenthesis middle ≡ Some behind
+    → part_at locations threads depth left ≡ Some (f, behind)
+enclosed_as locations threads inside depth left middle behind f e h i read last =
+    enclosed locations threads inside depth left e h i ∙ ap closed read ∙ ap (λ (o : Option Left). o >>= λ left. Some (f, left)) last
+
+pub not_enclosed : (e : Stop) (locations : List Location) (threads : List Thread) (inside depth : ℕ) (left : Left) → inside + 1 ≡ depth → is_next signs.Tilde left ≡ false
+    → is_next signs.OpenParenthesis left ≡ true → Stops e (disjunction_of (part_at locations threads inside) (passed left)) → Stops e (part_at locations threads depth left)
+not_enclosed stops.Memory locations threads inside depth left k h i read = tt
+not_enclosed (stops.At problem start end) locations threads inside depth left k h i read = enclosed locations threads inside depth left k h i ∙ ap closed read
+
+pub not_closed : (e : Stop) (locations : List Location) (threads : List Thread) (inside depth : ℕ) (left middle : Left) (f : Formula) → inside + 1 ≡ depth → is_next signs.Tilde left ≡ false
+    → is_next signs.OpenParenthesis left ≡ true → disjunction_of (part_at locations threads inside) (passed left) ≡ Some (f, middle) → Stops e (after_sign signs.CloseParenthesis middle)
+    → Stops e (part_at locations threads depth left)
+not_closed stops.Memory locations threads inside depth left middle f k h i read last = tt
+not_closed (stops.At problem start end) locations threads inside depth left middle f k h i read last =
+    enclosed locations threads inside depth left k h i ∙ ap closed read ∙ ap (λ (o : Option Left). o >>= λ left. Some (f, left)) last

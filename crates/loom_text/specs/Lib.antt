@@ -1,5 +1,7 @@
 pub mod Conditions
+pub mod Expressions
 pub mod Named
+pub mod Phrases
 pub mod Place
 pub mod Printing
 pub mod Question

@@ -1,4 +1,5 @@
 //! What is written is read back: operators, orders, conditions, and all that follows the threads.
+ghost use Rattle.loom_text.specs.Phrases.{ExpressionsReadBack};
 ghost use Rattle.loom_text.specs.Printing.{ConditionsReadBack};
 ghost use Rattle.loom_text.specs.Readable.{QuestionsReadBack};
 ghost use Rattle.loom_text.specs.Spelling.{OperatorsReadBack, OrdersReadBack};
@@ -23,4 +24,10 @@ pub fn conditions_read_back()
 /// `IsReadable`.
 pub fn questions_read_back()
     ensures { QuestionsReadBack }
+{}
+
+/// The tokens that are written for an expression are read as that expression, where its names lead to what they name, its orders are
+/// ones that its operations may have, and it isn't deeper or longer than what is read.
+pub fn expressions_read_back()
+    ensures { ExpressionsReadBack }
 {}

@@ -1,5 +1,8 @@
 //! Expressions, as C has them.
-ghost use Rattle.std.specs.Prelude.{◌≡◌, ◌≤◌};
+ghost use Rattle.std.specs.Prelude.{◌≡◌, ◌≤◌, IfOk};
+ghost use Rattle.loom_text.specs.Phrases.{PhraseCanBeRead};
+ghost use Rattle.loom_text.specs.Expressions.{argument_at, arguments_at, arguments_of, begin_arguments_at, binds, call_at, comparand, compare_exchange_at, compared_at, enclosed_with, end_arguments_at, exchange_at, expression_at, fetch_at, first_location_at, inside, is_type, load_order_at, location_at, many_with, next_argument_at, one_with, operator_at, order_at, order_from, phrase, plain_at, pointed_at, primary_with, readers, register_from, signed_as};
+ghost use Rattle.loom_text.specs.Tokens.{Gives, left, next, passed};
 ghost use Rattle.loom_text.specs.Spelling.{operator_of, unary_of};
 
 use crate::error::{Feature, Problem, Wanted};
@@ -17,7 +20,11 @@ use std::sync::atomic::Ordering;
 
 impl<'a> Parser<'a> {
     /// A whole expression.
-    pub(crate) fn expression(&mut self, scope: &Scope) -> Result<Expression, Stop> {
+    #[tactic(auto, unfolding(crate::specs::Expressions::expression_at))]
+    pub(crate) fn expression(&mut self, scope: &Scope) -> Result<Expression, Stop>
+        ensures read { Gives (λ expression. (phrase expression, left self.new)) result (expression_at scope.now (left self.old)) }
+        ensures fits { IfOk result (λ expression. PhraseCanBeRead scope.now (phrase expression)) }
+    {
         self.begin_operators();
         self.binary(scope, 1, MAX_DEPTH)
     }
@@ -29,7 +36,9 @@ impl<'a> Parser<'a> {
         scope: &Scope,
         lowest: u8,
         depth: usize,
-    ) -> Result<Expression, Stop> {
+    ) -> Result<Expression, Stop>
+        ensures { Gives (λ expression. (phrase expression, left self.new)) result (many_with scope.now (inside scope.now depth) lowest (left self.old)) }
+    {
         let mut left = self.unary(scope, depth)?;
         for _ in 0..MAX_OPERATORS + 1 {
             let Some(operator) = self.operator(lowest) else {
@@ -47,7 +56,10 @@ impl<'a> Parser<'a> {
     }
 
     // The operator that is the next token, if it binds at least so strongly.
-    fn operator(&self, lowest: u8) -> Option<BinaryOperator> {
+    #[tactic(auto, unfolding(crate::specs::Expressions::operator_at))]
+    fn operator(&self, lowest: u8) -> Option<BinaryOperator>
+        ensures { result ≡ operator_at lowest (left self.now) }
+    {
         let TokenKind::Symbol(symbol) = self.peek().kind else {
             return None;
         };
@@ -60,7 +72,10 @@ impl<'a> Parser<'a> {
     }
 
     #[cycle(expressions)]
-    fn unary(&mut self, scope: &Scope, depth: usize) -> Result<Expression, Stop> {
+    #[tactic(auto, unfolding(crate::specs::Expressions::one_with))]
+    fn unary(&mut self, scope: &Scope, depth: usize) -> Result<Expression, Stop>
+        ensures { Gives (λ expression. (phrase expression, left self.new)) result (one_with scope.now (inside scope.now depth) (left self.old)) }
+    {
         let token = self.peek();
         let TokenKind::Symbol(symbol) = token.kind else {
             return self.primary(scope, depth);
@@ -80,6 +95,20 @@ impl<'a> Parser<'a> {
         {
             return Ok(Expression::Number(self.constant()?));
         }
+        self.signed(scope, operator, depth)
+    }
+
+    // A sign, and what it stands before.
+    #[cycle(expressions)]
+    #[tactic(auto, unfolding(crate::specs::Expressions::signed_as))]
+    fn signed(
+        &mut self,
+        scope: &Scope,
+        operator: UnaryOperator,
+        depth: usize,
+    ) -> Result<Expression, Stop>
+        ensures { Gives (λ expression. (phrase expression, left self.new)) result (signed_as (inside scope.now depth) operator (left self.old)) }
+    {
         self.take();
         let inside = self.deeper(depth)?;
         let operand = self.unary(scope, inside)?;
@@ -87,13 +116,16 @@ impl<'a> Parser<'a> {
     }
 
     #[cycle(expressions)]
-    fn primary(&mut self, scope: &Scope, depth: usize) -> Result<Expression, Stop> {
+    #[tactic(auto, using(crate::proofs::ExpressionSteps::one_deeper, crate::proofs::ExpressionSteps::none_deeper), unfolding(crate::specs::Expressions::primary_with))]
+    fn primary(&mut self, scope: &Scope, depth: usize) -> Result<Expression, Stop>
+        ensures { Gives (λ expression. (phrase expression, left self.new)) result (primary_with scope.now (inside scope.now depth) (left self.old)) }
+    {
         let token = self.peek();
         match token.kind {
             TokenKind::Number(_) => Ok(Expression::Number(self.constant()?)),
-            TokenKind::Word(Word::Number(number)) => {
+            TokenKind::Word(Word::Status(busy)) => {
                 self.take();
-                Ok(Expression::Number(number))
+                Ok(Expression::Number(i32::from(busy)))
             }
             TokenKind::Name => {
                 self.take();
@@ -106,29 +138,40 @@ impl<'a> Parser<'a> {
             }
             TokenKind::Symbol(Symbol::OpenParenthesis) => {
                 self.take();
-                self.refuse_cast()?;
-                let inside = self.deeper(depth)?;
-                let expression = self.binary(scope, 1, inside)?;
-                self.expect(Symbol::CloseParenthesis)?;
-                Ok(expression)
+                self.enclosed(scope, depth)
             }
             _ => Err(self.expected(Wanted::Expression)),
         }
     }
 
-    // A type after a parenthesis is a cast.
-    fn refuse_cast(&self) -> Result<(), Stop> {
-        let token = self.peek();
-        match token.kind {
-            TokenKind::Word(Word::Type(_) | Word::Qualifier | Word::OtherType | Word::Void) => {
-                Err(Stop::unsupported(token, Feature::Casts))
-            }
-            _ => Ok(()),
+    // What stands in parentheses, of which the first was read. A type would be a cast.
+    #[cycle(expressions)]
+    #[tactic(auto, unfolding(crate::specs::Expressions::enclosed_with))]
+    fn enclosed(&mut self, scope: &Scope, depth: usize) -> Result<Expression, Stop>
+        ensures { Gives (λ expression. (phrase expression, left self.new)) result (enclosed_with (inside scope.now depth) (left self.old)) }
+    {
+        if self.sees_type() {
+            return Err(Stop::unsupported(self.peek(), Feature::Casts));
         }
+        let inside = self.deeper(depth)?;
+        let expression = self.binary(scope, 1, inside)?;
+        self.expect(Symbol::CloseParenthesis)?;
+        Ok(expression)
+    }
+
+    fn sees_type(&self) -> bool
+        ensures { result ≡ is_type (next (left self.now)).0 }
+    {
+        matches!(
+            self.peek().kind,
+            TokenKind::Word(Word::Type(_) | Word::Qualifier | Word::OtherType | Word::Void)
+        )
     }
 
     /// The register of the name that was read.
-    pub(crate) fn register(&self, scope: &Scope, token: Token<'_>) -> Result<usize, Stop> {
+    pub(crate) fn register(&self, scope: &Scope, token: Token<'_>) -> Result<usize, Stop>
+        ensures { Gives (λ register. register) result (register_from scope.now token.entry.spelling.now (left self.now)) }
+    {
         if self.sees(Symbol::OpenParenthesis) {
             return Err(Stop::unsupported(token, Feature::Function));
         }
@@ -143,6 +186,7 @@ impl<'a> Parser<'a> {
 
     // The value of a call, of which the name was read.
     #[cycle(expressions)]
+    #[tactic(auto, unfolding(crate::specs::Expressions::call_at))]
     pub(crate) fn call(
         &mut self,
         scope: &Scope,
@@ -150,24 +194,43 @@ impl<'a> Parser<'a> {
         function: Function,
         explicit: bool,
         depth: usize,
-    ) -> Result<Expression, Stop> {
+    ) -> Result<Expression, Stop>
+        ensures { Gives (λ expression. (phrase expression, left self.new)) result (call_at scope.now (readers scope.now depth) function explicit (left self.old)) }
+    {
         let count = arguments_of(function, explicit);
-        let call = match function {
+        let call = self.arguments(scope, token, function, count, explicit, depth)?;
+        self.end_arguments(count)?;
+        Ok(call)
+    }
+
+    // The call up to its last parenthesis.
+    #[cycle(expressions)]
+    fn arguments(
+        &mut self,
+        scope: &Scope,
+        token: Token<'_>,
+        function: Function,
+        count: usize,
+        explicit: bool,
+        depth: usize,
+    ) -> Result<Expression, Stop>
+        ensures { Gives (λ expression. (phrase expression, left self.new)) result (arguments_at scope.now (readers scope.now depth) function count explicit (left self.old)) }
+    {
+        match function {
             Function::Load => {
                 let location = self.first_location(scope, count, Kind::Atomic)?;
                 let order = self.load_order(count, explicit)?;
-                Expression::Load { location, order }
+                Ok(Expression::Load { location, order })
             }
-            Function::Exchange => self.exchange(scope, count, explicit, depth)?,
-            Function::Fetch(operator) => self.fetch(scope, operator, count, explicit, depth)?,
+            Function::Exchange => self.exchange(scope, count, explicit, depth),
+            Function::Fetch(operator) => self.fetch(scope, operator, count, explicit, depth),
             Function::CompareExchange(strength) => {
-                self.compare_exchange(scope, strength, count, explicit, depth)?
+                self.compare_exchange(scope, strength, count, explicit, depth)
             }
-            Function::TryLock => Expression::TryLock(self.first_location(
-                scope,
-                count,
-                Kind::Mutex,
-            )?),
+            Function::TryLock => {
+                let mutex = self.first_location(scope, count, Kind::Mutex)?;
+                Ok(Expression::TryLock(mutex))
+            }
             Function::Store
             | Function::Fence
             | Function::Lock
@@ -176,21 +239,22 @@ impl<'a> Parser<'a> {
             | Function::Signal
             | Function::Broadcast
             | Function::Yield
-            | Function::Assert => return Err(Stop::at(token, Problem::NotAValue)),
-        };
-        self.end_arguments(count)?;
-        Ok(call)
+            | Function::Assert => Err(Stop::at(token, Problem::NotAValue)),
+        }
     }
 
     // The arguments of an exchange.
     #[cycle(expressions)]
+    #[tactic(auto, unfolding(crate::specs::Expressions::exchange_at))]
     fn exchange(
         &mut self,
         scope: &Scope,
         count: usize,
         explicit: bool,
         depth: usize,
-    ) -> Result<Expression, Stop> {
+    ) -> Result<Expression, Stop>
+        ensures { Gives (λ expression. (phrase expression, left self.new)) result (exchange_at scope.now (readers scope.now depth) count explicit (left self.old)) }
+    {
         let location = self.first_location(scope, count, Kind::Atomic)?;
         let value = self.boxed_argument(scope, count, depth)?;
         let order = self.order(count, explicit)?.1;
@@ -203,6 +267,7 @@ impl<'a> Parser<'a> {
 
     // The arguments of a fetch with an operator.
     #[cycle(expressions)]
+    #[tactic(auto, unfolding(crate::specs::Expressions::fetch_at))]
     fn fetch(
         &mut self,
         scope: &Scope,
@@ -210,7 +275,9 @@ impl<'a> Parser<'a> {
         count: usize,
         explicit: bool,
         depth: usize,
-    ) -> Result<Expression, Stop> {
+    ) -> Result<Expression, Stop>
+        ensures { Gives (λ expression. (phrase expression, left self.new)) result (fetch_at scope.now (readers scope.now depth) operator count explicit (left self.old)) }
+    {
         let location = self.first_location(scope, count, Kind::Atomic)?;
         let value = self.boxed_argument(scope, count, depth)?;
         let order = self.order(count, explicit)?.1;
@@ -224,6 +291,7 @@ impl<'a> Parser<'a> {
 
     // The arguments of a compare-exchange.
     #[cycle(expressions)]
+    #[tactic(auto, unfolding(crate::specs::Expressions::compare_exchange_at))]
     fn compare_exchange(
         &mut self,
         scope: &Scope,
@@ -231,7 +299,9 @@ impl<'a> Parser<'a> {
         count: usize,
         explicit: bool,
         depth: usize,
-    ) -> Result<Expression, Stop> {
+    ) -> Result<Expression, Stop>
+        ensures { Gives (λ expression. (phrase expression, left self.new)) result (compare_exchange_at scope.now (readers scope.now depth) strength count explicit (left self.old)) }
+    {
         let location = self.first_location(scope, count, Kind::Atomic)?;
         let expected = self.compared(scope, count, depth)?;
         let value = self.boxed_argument(scope, count, depth)?;
@@ -249,12 +319,15 @@ impl<'a> Parser<'a> {
 
     // A further argument.
     #[cycle(expressions)]
+    #[tactic(auto, using(crate::proofs::ExpressionSteps::many_is), unfolding(crate::specs::Expressions::argument_at))]
     fn boxed_argument(
         &mut self,
         scope: &Scope,
         count: usize,
         depth: usize,
-    ) -> Result<Box<Expression>, Stop> {
+    ) -> Result<Box<Expression>, Stop>
+        ensures { Gives (λ argument. (phrase argument.value, left self.new)) result (argument_at (readers scope.now depth) (left self.old)) }
+    {
         self.next_argument(count)?;
         let argument = self.binary(scope, 1, depth)?;
         Ok(Box::new(self.alloc, argument)?)
@@ -262,7 +335,10 @@ impl<'a> Parser<'a> {
 
     // What a compare-exchange compares with: `&r`, a plain int's pointer, or a value.
     #[cycle(expressions)]
-    fn compared(&mut self, scope: &Scope, count: usize, depth: usize) -> Result<Expected, Stop> {
+    #[tactic(auto, using(crate::proofs::ExpressionSteps::many_is), unfolding(crate::specs::Expressions::compared_at))]
+    fn compared(&mut self, scope: &Scope, count: usize, depth: usize) -> Result<Expected, Stop>
+        ensures { Gives (λ compared. (comparand compared, left self.new)) result (compared_at scope.now (readers scope.now depth) (left self.old)) }
+    {
         self.next_argument(count)?;
         if self.eat(Symbol::Ampersand) {
             let name = self.name(Wanted::Register)?;
@@ -277,14 +353,17 @@ impl<'a> Parser<'a> {
     }
 
     // The plain int to which the next token points, if it is one.
-    fn plain_pointer(&self, scope: &Scope) -> Option<usize> {
+    #[tactic(auto, unfolding(crate::specs::Expressions::plain_at))]
+    fn plain_pointer(&self, scope: &Scope) -> Option<usize>
+        ensures { result ≡ plain_at scope.now (left self.now) }
+    {
         let token = self.peek();
         if token.kind != TokenKind::Name || scope.register_of(token).is_some() {
             return None;
         }
         let location = scope.location_of(token)?;
-        let kind = scope.locations.get(location)?.kind;
-        if kind == Kind::Plain && scope.parameters.contains(&location) {
+        let kind = scope.kind_of(location)?;
+        if kind == Kind::Plain && scope.is_passed(location) {
             Some(location)
         } else {
             None
@@ -292,7 +371,10 @@ impl<'a> Parser<'a> {
     }
 
     /// The plain int after a star.
-    pub(crate) fn pointed(&mut self, scope: &Scope) -> Result<usize, Stop> {
+    #[tactic(auto, unfolding(crate::specs::Expressions::pointed_at))]
+    pub(crate) fn pointed(&mut self, scope: &Scope) -> Result<usize, Stop>
+        ensures { Gives (λ location. (location, left self.new)) result (pointed_at scope.now (left self.old)) }
+    {
         let token = self.peek();
         if token.kind == TokenKind::Symbol(Symbol::Star) {
             return Err(Stop::unsupported(token, Feature::Pointers));
@@ -313,7 +395,10 @@ impl<'a> Parser<'a> {
     }
 
     /// A location of this kind, one of the thread's parameters.
-    pub(crate) fn location(&mut self, scope: &Scope, wanted: Kind) -> Result<usize, Stop> {
+    #[tactic(auto, unfolding(crate::specs::Expressions::location_at))]
+    pub(crate) fn location(&mut self, scope: &Scope, wanted: Kind) -> Result<usize, Stop>
+        ensures { Gives (λ location. (location, left self.new)) result (location_at scope.now wanted (left self.old)) }
+    {
         let token = self.peek();
         if token.kind == TokenKind::Symbol(Symbol::Ampersand) {
             return Err(Stop::unsupported(token, Feature::Pointers));
@@ -325,32 +410,37 @@ impl<'a> Parser<'a> {
         let Some(number) = scope.location_of(token) else {
             return Err(Stop::at(token, Problem::Undeclared));
         };
-        if !scope.parameters.contains(&number) {
+        if !scope.is_passed(number) {
             return Err(Stop::at(token, Problem::NotAParameter));
         }
-        let found = scope
-            .locations
-            .get(number)
-            .map_or(wanted, |location| location.kind);
-        if found != wanted {
-            return Err(Stop::at(token, Problem::WrongKind { wanted, found }));
+        match scope.kind_of(number) {
+            Some(found) if found != wanted => Err(Stop::at(
+                token,
+                Problem::WrongKind { wanted, found },
+            )),
+            _ => Ok(number),
         }
-        Ok(number)
     }
 
     /// The first argument of a call that has so many, a location of this kind.
+    #[tactic(auto, unfolding(crate::specs::Expressions::first_location_at))]
     pub(crate) fn first_location(
         &mut self,
         scope: &Scope,
         count: usize,
         kind: Kind,
-    ) -> Result<usize, Stop> {
+    ) -> Result<usize, Stop>
+        ensures { Gives (λ location. (location, left self.new)) result (first_location_at scope.now count kind (left self.old)) }
+    {
         self.begin_arguments(count)?;
         self.location(scope, kind)
     }
 
     /// The parenthesis before the arguments.
-    pub(crate) fn begin_arguments(&mut self, count: usize) -> Result<(), Stop> {
+    #[tactic(auto, unfolding(crate::specs::Expressions::begin_arguments_at))]
+    pub(crate) fn begin_arguments(&mut self, count: usize) -> Result<(), Stop>
+        ensures { Gives (λ x. left self.new) result (begin_arguments_at count (left self.old)) }
+    {
         self.expect(Symbol::OpenParenthesis)?;
         if count > 0 && self.sees(Symbol::CloseParenthesis) {
             return Err(Stop::at(self.peek(), Problem::Arguments(count)));
@@ -359,7 +449,10 @@ impl<'a> Parser<'a> {
     }
 
     /// The comma before another argument.
-    pub(crate) fn next_argument(&mut self, count: usize) -> Result<(), Stop> {
+    #[tactic(auto, unfolding(crate::specs::Expressions::next_argument_at))]
+    pub(crate) fn next_argument(&mut self, count: usize) -> Result<(), Stop>
+        ensures { Gives (λ x. left self.new) result (next_argument_at (left self.old)) }
+    {
         if self.sees(Symbol::CloseParenthesis) {
             return Err(Stop::at(self.peek(), Problem::Arguments(count)));
         }
@@ -367,7 +460,10 @@ impl<'a> Parser<'a> {
     }
 
     /// The parenthesis after the arguments.
-    pub(crate) fn end_arguments(&mut self, count: usize) -> Result<(), Stop> {
+    #[tactic(auto, unfolding(crate::specs::Expressions::end_arguments_at))]
+    pub(crate) fn end_arguments(&mut self, count: usize) -> Result<(), Stop>
+        ensures { Gives (λ x. left self.new) result (end_arguments_at (left self.old)) }
+    {
         if self.sees(Symbol::Comma) {
             return Err(Stop::at(self.peek(), Problem::Arguments(count)));
         }
@@ -375,11 +471,14 @@ impl<'a> Parser<'a> {
     }
 
     /// The order after the other arguments, and its token: `memory_order_seq_cst` where the call isn't written with orders.
+    #[tactic(auto, unfolding(crate::specs::Expressions::order_at))]
     pub(crate) fn order(
         &mut self,
         count: usize,
         explicit: bool,
-    ) -> Result<(Token<'a>, Ordering), Stop> {
+    ) -> Result<(Token<'a>, Ordering), Stop>
+        ensures { Gives (λ found. (found.1, left self.new)) result (order_at explicit (left self.old)) }
+    {
         if !explicit {
             return Ok((self.peek(), Ordering::SeqCst));
         }
@@ -388,7 +487,9 @@ impl<'a> Parser<'a> {
     }
 
     /// An order, and its token.
-    pub(crate) fn order_word(&mut self) -> Result<(Token<'a>, Ordering), Stop> {
+    pub(crate) fn order_word(&mut self) -> Result<(Token<'a>, Ordering), Stop>
+        ensures { Gives (λ found. (found.1, left self.new)) result (order_from (next (left self.old)).0 (passed (left self.old))) }
+    {
         let token = self.peek();
         match token.kind {
             TokenKind::Word(Word::Order(order)) => {
@@ -401,7 +502,10 @@ impl<'a> Parser<'a> {
     }
 
     // The order of a load.
-    fn load_order(&mut self, count: usize, explicit: bool) -> Result<Ordering, Stop> {
+    #[tactic(auto, unfolding(crate::specs::Expressions::load_order_at))]
+    fn load_order(&mut self, count: usize, explicit: bool) -> Result<Ordering, Stop>
+        ensures { Gives (λ order. (order, left self.new)) result (load_order_at explicit (left self.old)) }
+    {
         let (token, order) = self.order(count, explicit)?;
         match order {
             Ordering::Relaxed | Ordering::Acquire | Ordering::SeqCst => Ok(order),
@@ -411,7 +515,9 @@ impl<'a> Parser<'a> {
 }
 
 /// How many arguments the call has, with its orders where it is written with them.
-pub(crate) fn arguments_of(function: Function, explicit: bool) -> usize {
+pub(crate) fn arguments_of(function: Function, explicit: bool) -> usize
+    ensures { result ≡ arguments_of function explicit }
+{
     let orders = usize::from(explicit);
     match function {
         Function::Load => 1 + orders,
@@ -431,7 +537,8 @@ pub(crate) fn arguments_of(function: Function, explicit: bool) -> usize {
 
 /// How strongly an operator binds: from 1, the weakest, to 10.
 pub(crate) fn binds(operator: BinaryOperator) -> u8
-    ensures { result ≤ 10 }
+    ensures most { result ≤ 10 }
+    ensures value { result ≡ binds operator }
 {
     match operator {
         BinaryOperator::Or => 1,

@@ -1,6 +1,7 @@
 //! The names that a test has declared so far.
-ghost use Rattle.std.specs.Prelude.{◌≡◌, ◌≢◌, ◌<◌, length, AllPairs, IfOk, IfSome, None, string_bytes};
-ghost use Rattle.loom_text.specs.Named.{LocationsDiffer, location_named, register_named};
+ghost use Rattle.std.specs.Prelude.{◌≡◌, ◌≢◌, ◌<◌, length, AllPairs, IfOk, IfSome, None, nat_eq, string_bytes};
+ghost use Rattle.std.specs.List.{list_any};
+ghost use Rattle.loom_text.specs.Named.{LocationsDiffer, kind_at, location_named, register_named};
 
 use crate::error::Problem;
 use crate::read::stop::Stop;
@@ -82,6 +83,23 @@ impl Scope {
         ensures { result ≡ register_named self.now.registers.items token.entry.spelling.now }
     {
         register_named(&self.registers, token.spelling)
+    }
+
+    /// The kind of a location.
+    pub(crate) fn kind_of(&self, number: usize) -> Option<Kind>
+        ensures { result ≡ kind_at self.now.locations.items number }
+    {
+        match self.locations.get(number) {
+            Some(location) => Some(location.kind),
+            None => None,
+        }
+    }
+
+    /// Whether the thread is passed this location.
+    pub(crate) fn is_passed(&self, number: usize) -> bool
+        ensures { result ≡ list_any (λ parameter. nat_eq parameter number) self.now.parameters.items }
+    {
+        self.parameters.contains(&number)
     }
 
     /// Adds a location of a new name.

@@ -34,8 +34,8 @@ pub enum Word {
     Consume,
     /// A call, and whether it is written with its orders.
     Function(Function, bool),
-    /// A name for a number.
-    Number(i32),
+    /// `thrd_success`, or `thrd_busy`: whether a lock is busy.
+    Status(bool),
     /// `exists`.
     Exists,
     /// `forall`.
@@ -121,8 +121,8 @@ const WORDS: [(&[u8], Word); 76] = [
     (b"memory_order_acq_rel", Word::Order(Ordering::AcqRel)),
     (b"memory_order_seq_cst", Word::Order(Ordering::SeqCst)),
     (b"memory_order_consume", Word::Consume),
-    (b"thrd_success", Word::Number(0)),
-    (b"thrd_busy", Word::Number(1)),
+    (b"thrd_success", Word::Status(false)),
+    (b"thrd_busy", Word::Status(true)),
     (b"exists", Word::Exists),
     (b"forall", Word::Forall),
     (b"filter", Word::Filter),
