@@ -40,6 +40,7 @@ pub use expecting::{Incomplete, expect_complete};
 pub use explanations::explain;
 pub use loom_ops::answers::answer::Answer;
 pub use loom_ops::answers::mpsc::TryRecvError;
+pub use parallel::apart::Apart;
 pub use parallel::visitors::Visitors;
 pub use parallel::{Found, Workers, check_parallel};
 pub use replays::replay;

@@ -59,7 +59,7 @@ pub enum CheckError {
     NotANumber(Variable),
     #[error("the checkpoint is not JSON: it was cut off or changed, so delete it and begin anew")]
     NotJson,
-    #[error("the checkpoint is JSON, but no path of a check: name another file, or delete it and begin anew")]
+    #[error("the checkpoint is JSON, but no path of a check: go on with a list of parts by several workers, name another file, or delete it and begin anew")]
     WrongShape,
     /// It has this version.
     #[error("the checkpoint has version {0}, and this loom reads 2: go on with the loom that wrote it, or delete it and begin anew")]

@@ -9,6 +9,7 @@ ghost use Rattle.loom_engine.specs.Trees.Resuming.{AreAtRest, HasDefaults};
 use crate::checkpoint::store::{CheckpointStore, StoreError};
 use crate::model::Limit;
 use crate::model::limits::log_runs;
+use crate::model::progress::log_share;
 use crate::model::receiver::Receiver;
 use crate::model::report::Report;
 use crate::model::rounds::{Round, run_and_step};
@@ -103,6 +104,7 @@ pub fn keep<S: CheckpointStore, L: Log>(
     }
     save(alloc, path, store)?;
     log_runs(log, "iteration ", pace.runs + 1, "");
+    log_share(log, path);
     Ok(pace.interval - 1)
 }
 

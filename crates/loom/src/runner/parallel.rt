@@ -1,4 +1,6 @@
 //! Checks of a body by several threads of the host at once (own): each works on a part of the search for a while and gives it back.
+pub mod apart;
+pub(crate) mod progress;
 pub(crate) mod round;
 pub mod texts;
 pub mod visitors;
@@ -18,7 +20,10 @@ use crate::model::error::CheckError;
 use crate::model::limits::{log_runs, most_runs};
 use crate::model::parts::Slice;
 use crate::model::paths::path_search;
+use crate::model::progress::per_cent;
 use crate::model::visitor::Visitor;
+use crate::runner::parallel::apart::Apart;
+use crate::runner::parallel::progress::share_done;
 use crate::runner::parallel::round::{Lost, cut_up, make_turn};
 use crate::runner::parallel::visitors::Visitors;
 use log::{Log, info, target_or};
@@ -93,16 +98,17 @@ impl Builder {
 /// than three for each worker. A failure ends the check after its turn: of several it is the one that comes first in the order of
 /// the walk. Each part that is worked on has a visitor of its own.
 ///
-/// The clock is asked before each turn, where a duration is set. The log hears how many runs were made, and of how many parts are
-/// left, once in so many runs as are between two checkpoints. No file is read or saved: the list is what there is to be kept.
+/// The clock is asked before each turn, where a duration is set. The log hears how many runs were made, of how many parts are left, and
+/// an estimate of the share done, once in so many runs as are between two checkpoints. No file is read or saved: the list is what there is to be kept.
 ///
-/// The threads share the body, so it has to be `Sync`, and its data `Send`. Visitors go to the threads and come back.
+/// Each thread makes runs of a body of its own, which it copies from this one, so that has to be `Sync`, and its data `Send`. Visitors go
+/// to the threads and come back.
 ///
 /// A setting out of range is refused before any run, and so is a part of a search with other settings. Besides, an error comes only
 /// where a growth was refused. After an error the list is of no use.
 pub fn check_parallel<
     R: Threads + Wait + HostTime + Sync,
-    B: Body + Sync,
+    B: Body + Apart + Sync,
     V: Visitor<B::Data> + Send + Drop,
     G: Visitors<V>,
     C: Clock,
@@ -152,16 +158,18 @@ where
         }
         cut_up(alloc, parts, sharing.count)?;
         let every = builder.checkpoint_interval;
-        told = tell(log, every, runs, told, parts.len(), sharing.count);
+        told = tell(log, every, runs, told, parts, sharing.count);
     }
     unreachable!()
 }
 
 /// Tells the log how far the check has come, where so many runs were made since it was told last. Answers when that was.
-fn tell<L: Log>(log: &L, every: usize, runs: u64, told: u64, parts: usize, workers: usize) -> u64 {
+fn tell<L: Log>(log: &L, every: usize, runs: u64, told: u64, parts: &Parts, workers: usize) -> u64 {
     if runs.saturating_sub(told) < every as u64 {
         return told;
     }
-    info!(log; target: target_or(log, "loom::search"), "{} iterations, {} parts left, {} workers", runs, parts, workers);
+    let left = parts.len();
+    let share = per_cent(share_done(parts));
+    info!(log; target: target_or(log, "loom::search"), "{} iterations, {} parts left, {} workers, about {}% done", runs, left, workers, share);
     runs
 }

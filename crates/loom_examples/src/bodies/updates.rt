@@ -2,6 +2,7 @@
 ghost use Rattle.std.specs.Prelude.{◌≡◌, IfOk};
 ghost use Rattle.loom_examples.specs.Bodies.Updates.{next_of, turn, after, first_turn, second_turn, begun};
 
+use loom::runner::Apart;
 use loom::sync::atomic::{AtomicU64, FetchUpdate, Fetched, Ordering};
 use loom::{Body, Op, Reply, fail, thread};
 use std::alloc::AllocError;
@@ -145,6 +146,12 @@ impl Body for Updater {
     fn try_clone(&self) -> Result<Updater, AllocError>
         ensures { IfOk result (λ copy. copy ≡ self.now) }
     {
+        Ok(*self)
+    }
+}
+
+impl Apart for Updater {
+    fn apart(&self) -> Result<Updater, AllocError> {
         Ok(*self)
     }
 }

@@ -12,22 +12,25 @@ use loom::model::builder::Builder;
 use loom::model::error::CheckError;
 use loom::model::parts::Slice;
 use loom::model::{Limit, Report};
-use loom::runner::{Found, NoVisitor, Workers, check_parallel};
-use loom::{Body, CheckpointStore, HostClock};
+use loom::runner::{Apart, Found, NoVisitor, Workers, check_parallel};
+use loom::{Body, CheckpointStore, Clock, HostClock};
 use loom_engine::rt::parts::Parts;
 use std::alloc::Global;
 use std::io::{self, Write};
-use std::rt::{Clock, Files};
+use std::rt::{Clock as HostTime, Files};
 use std::sync::Wait;
 use std::thread::{self, Threads};
 use std::time::Duration;
 
-// Each part is worked on for a fifth of a second at a time.
-const SLICE_MILLIS: u64 = 200;
+// Each part is worked on for so long at a time. A worker whose part has ended before waits for the others.
+const SLICE_MILLIS: u64 = 50;
+
+// The list of parts is saved so often at most.
+const SAVE_MILLIS: u64 = 1000;
 
 /// Checks the row by so many workers, prints the line of the report, with the explanation of a failure below it if that is asked for,
 /// and answers the exit status. Zero workers are as many as the host has processors.
-pub fn check_row<R: AllocGlobal + Clock + Files + Threads + Wait + Sync, O: Write, E: Write>(
+pub fn check_row<R: AllocGlobal + HostTime + Files + Threads + Wait + Sync, O: Write, E: Write>(
     rt: &R,
     asked: RowAsked,
     jobs: usize,
@@ -66,8 +69,8 @@ fn workers<R: Threads>(rt: &R, jobs: usize) -> usize {
 }
 
 fn check_body<
-    R: AllocGlobal + Clock + Files + Threads + Wait + Sync,
-    B: Body<Data = u64> + Sync,
+    R: AllocGlobal + HostTime + Files + Threads + Wait + Sync,
+    B: Body<Data = u64> + Apart + Sync,
     O: Write,
     E: Write,
 >(
@@ -119,40 +122,34 @@ fn ended(found: Found, before: u64) -> Result<Report, (u64, Limit)> {
     }
 }
 
-// What the check finds. It begins with the checkpoint file, if there is one, and saves the list of parts there from time to time.
-fn find<R: AllocGlobal + Clock + Files + Threads + Wait + Sync, B: Body<Data = u64> + Sync>(
-    rt: &R,
-    builder: &Builder,
-    body: &B,
-    count: usize,
-) -> Result<Report, CheckError> {
+// What the check finds. It begins with the checkpoint file, if there is one, and saves the list of parts there from time to time: once
+// as many runs as the interval were made since it was saved.
+fn find<
+    R: AllocGlobal + HostTime + Files + Threads + Wait + Sync,
+    B: Body<Data = u64> + Apart + Sync,
+>(rt: &R, builder: &Builder, body: &B, count: usize) -> Result<Report, CheckError> {
     let alloc = rt.alloc();
-    let log = None::<HostRuntime>;
     let mut store = file_store(rt, alloc, &builder.checkpoint_file);
     let mut parts = begin(alloc, builder, &mut store)?;
     let mut clock = HostClock::start(rt);
     let mut runs = 0u64;
+    let mut saved = 0u64;
     for _ in rt.forever() {
-        let stage = stage(builder, runs);
-        let found = check_parallel(
-            rt,
-            alloc,
-            &stage,
-            body,
-            timed_workers(count),
-            &mut parts,
-            &mut NoVisitor,
-            &mut clock,
-            &log,
-        )?;
+        let stage = stage(builder, runs, clock.elapsed());
+        let found = find_in(rt, &stage, body, count, &mut parts, &mut clock)?;
         let (now, limit) = match ended(found, runs) {
             Ok(report) => return Ok(report),
             Err(stopped) => stopped,
         };
         runs = now;
+        let is_over = limit == Limit::Permutations || is_late(builder, clock.elapsed());
+        if !is_over && runs.saturating_sub(saved) < builder.checkpoint_interval as u64 {
+            continue;
+        }
         let checkpoint = parts.to_text(alloc)?;
         store.save(checkpoint.as_str())?;
-        if limit == Limit::Duration || runs >= most_runs(builder) {
+        saved = runs;
+        if is_over {
             return Ok(Report::Stopped {
                 runs,
                 limit,
@@ -161,6 +158,32 @@ fn find<R: AllocGlobal + Clock + Files + Threads + Wait + Sync, B: Body<Data = u
         }
     }
     unreachable!()
+}
+
+// What a stage of the check finds.
+fn find_in<
+    R: AllocGlobal + HostTime + Threads + Wait + Sync,
+    B: Body<Data = u64> + Apart + Sync,
+    C: Clock,
+>(
+    rt: &R,
+    stage: &Builder,
+    body: &B,
+    count: usize,
+    parts: &mut Parts,
+    clock: &mut C,
+) -> Result<Found, CheckError> {
+    check_parallel(
+        rt,
+        rt.alloc(),
+        stage,
+        body,
+        timed_workers(count),
+        parts,
+        &mut NoVisitor,
+        clock,
+        &None::<HostRuntime>,
+    )
 }
 
 // The list of parts that the store holds, or that of a check from its beginning.
@@ -175,17 +198,30 @@ fn begin<S: CheckpointStore>(
     }
 }
 
-// The check up to its next checkpoint, after so many runs.
-fn stage(builder: &Builder, runs: u64) -> Builder {
+// The check up to the next time that its list may be saved, after so many runs and so much time.
+fn stage(builder: &Builder, runs: u64, time: Duration) -> Builder {
     let left = most_runs(builder).saturating_sub(runs);
     let next = match &builder.checkpoint_file {
-        Some(_) => left.min(builder.checkpoint_interval as u64),
-        None => left,
+        Some(_) => time.checked_add(Duration::from_millis(SAVE_MILLIS)),
+        None => None,
+    };
+    let until = match (builder.max_duration, next) {
+        (Some(longest), Some(next)) => Some(longest.min(next)),
+        (longest, next) => longest.or(next),
     };
     Builder {
-        max_permutations: Some(next as usize),
+        max_permutations: Some(left as usize),
+        max_duration: until,
         checkpoint_file: None,
         ..*builder
+    }
+}
+
+// Whether the check goes on no longer after so much time.
+fn is_late(builder: &Builder, time: Duration) -> bool {
+    match builder.max_duration {
+        Some(longest) => time >= longest,
+        None => false,
     }
 }
 

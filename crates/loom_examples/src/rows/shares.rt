@@ -27,6 +27,8 @@ use std::io::{self, Write};
 use std::rt::{Clock, Files};
 use std::time::Duration;
 
+const NO_FOLDER: &str = "error: the folder could not be written";
+
 /// The exit status where parts are open.
 const OPEN: u8 = 3;
 
@@ -59,14 +61,17 @@ pub fn do_share<R: AllocGlobal + Clock + Files<File = File>, O: Write, E: Write>
             let text = row_text(rt.alloc(), &asked)?;
             match folder.write("row", text.as_str()) {
                 Ok(()) => with_row(rt, &folder, Step::Split(wanted), asked, out, err),
-                Err(_) => refuse(err, "error: the folder could not be written"),
+                Err(_) => refuse(err, NO_FOLDER),
             }
         }
         Share::Part(word) => match word.rsplit_once('/') {
             Some((path, number)) => {
                 let folder = Folder::new(rt, path);
                 let lock = format!(in rt.alloc(); "{number}.lock")?;
-                match folder.lock(lock.as_str())? {
+                let Ok(lock) = folder.lock(lock.as_str()) else {
+                    return refuse(err, NO_FOLDER);
+                };
+                match lock {
                     Some(_held) => {
                         let longest = asked.changes.max_duration;
                         with_folder(rt, &folder, Step::Part(number), longest, out, err)
@@ -78,7 +83,10 @@ pub fn do_share<R: AllocGlobal + Clock + Files<File = File>, O: Write, E: Write>
         },
         Share::Gather(path) => {
             let folder = Folder::new(rt, path);
-            match folder.lock("gather.lock")? {
+            let Ok(lock) = folder.lock("gather.lock") else {
+                return refuse(err, NO_FOLDER);
+            };
+            match lock {
                 Some(_held) => with_folder(rt, &folder, Step::Gather, None, out, err),
                 None => refuse(err, "error: another process gathers here"),
             }

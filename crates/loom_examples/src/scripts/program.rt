@@ -38,6 +38,18 @@ impl Program {
         Ok(Program { steps, places })
     }
 
+    /// A copy of it. It fails only where a growth is refused.
+    pub(crate) fn try_clone(&self, alloc: Global) -> Result<Program, AllocError>
+        ensures { IfOk result (λ program. program ≡ self.now) }
+    {
+        let mut places = Vec::new(alloc);
+        places.extend_from_slice(self.places.as_slice())?;
+        Ok(Program {
+            steps: self.steps,
+            places,
+        })
+    }
+
     /// All steps.
     pub(crate) fn steps(&self) -> &'static [Step]
         ensures { result.now ≡ self.now }

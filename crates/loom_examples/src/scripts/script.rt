@@ -7,6 +7,7 @@ ghost use Rattle.loom_examples.specs.Scripts.Script.{label_of, next_of, request,
 use crate::scripts::program::Program;
 use crate::scripts::state::State;
 use crate::scripts::step::{Step, Value};
+use loom::runner::Apart;
 use loom_objects::body::Body;
 use loom_objects::label::Label;
 use loom_objects::operation::{AtomicOp, Labelled, Op, Reply, Request, ThreadOp};
@@ -18,7 +19,7 @@ use std::sync::atomic::Ordering;
 /// A thread that runs a script.
 #[derive(Drop)]
 pub struct Script {
-    // All threads of all runs share it, and all workers.
+    // All threads of all runs share it, but each worker has its own.
     program: Arc<Program>,
     state: Box<State>,
 }
@@ -205,5 +206,15 @@ impl Body for Script {
         ensures { IfOk result (λ copy. copy ≡ self.now) }
     {
         self.beside(*self.state)
+    }
+}
+
+impl Apart for Script {
+    fn apart(&self) -> Result<Script, AllocError> {
+        // The program too is a copy, so that workers don't meet at the count of its owners.
+        let alloc = *Box::allocator(&self.state);
+        let program = Arc::new(alloc, self.program.try_clone(alloc)?)?;
+        let state = Box::new(alloc, *self.state)?;
+        Ok(Script { program, state })
     }
 }

@@ -8,6 +8,8 @@ use loom::{Body, NoClock};
 use loom_engine::rt::parts::error::PartsError;
 use loom_engine::rt::parts::{Part, Parts};
 use loom_engine::rt::path::Search;
+use loom_engine::rt::path::checkpoint::error::PathError;
+use loom_engine::rt::path::checkpoint::text::from_text;
 use loom_examples::rows::settings::{Builds, Settings};
 use loom_examples::rows::{Checked, DEFAULTS, Row, row_of};
 use loom_examples::scripts::script::Script;
@@ -228,4 +230,7 @@ fn spoilt_texts_of_parts_are_refused_or_are_a_list(rt: HostRuntime) {
     let same = again.to_text(alloc).expect(&rt, "no text");
     let is_same = same.as_bytes() == bytes.as_slice();
     holds(&rt, is_same, "the list is read back");
+    let plain = from_text(alloc, bytes.as_slice(), search);
+    let is_refused = matches!(plain, Err(PathError::WrongShape));
+    holds(&rt, is_refused, "a plain check refuses it");
 }

@@ -4,7 +4,7 @@ use super::parts::{ONE_RUN, are_of, is_failing};
 use super::{bodies, searches, shared};
 use crate::tests::asserting::holds;
 use loom::model::error::CheckError;
-use loom::runner::{Found as Came, Visitors, Workers, check_parallel};
+use loom::runner::{Apart, Found as Came, Visitors, Workers, check_parallel};
 use loom::{Body, NoClock};
 use loom_examples::rows::settings::{Builds, Settings};
 use loom_examples::rows::{Checked, Row};
@@ -41,7 +41,7 @@ impl Visitors<Keeper> for Keepers {
 }
 
 // What so many workers find, each of which makes one run at a time.
-fn find<R: Threads + Wait + Clock + Sync, B: Body<Data = u64> + Sync>(
+fn find<R: Threads + Wait + Clock + Sync, B: Body<Data = u64> + Apart + Sync>(
     rt: &R,
     alloc: Global,
     settings: Settings,
@@ -70,7 +70,7 @@ fn find<R: Threads + Wait + Clock + Sync, B: Body<Data = u64> + Sync>(
 }
 
 // Whether so many workers make the runs that a check makes, or fail as it does.
-fn is_as_check<R: Threads + Wait + Clock + Sync, B: Body<Data = u64> + Sync>(
+fn is_as_check<R: Threads + Wait + Clock + Sync, B: Body<Data = u64> + Apart + Sync>(
     rt: &R,
     alloc: Global,
     settings: Settings,

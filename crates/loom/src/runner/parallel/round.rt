@@ -12,6 +12,7 @@ use crate::model::parts::{Slice, Worked};
 use crate::model::visitor::Visitor;
 use crate::runner::last_run::shared_choices;
 use crate::runner::parallel::Workers;
+use crate::runner::parallel::apart::Apart;
 use crate::runner::parallel::visitors::Visitors;
 use loom_engine::rt::parts::{Part, Parts};
 use loom_engine::rt::path::node::Node;
@@ -77,7 +78,7 @@ impl Workers {
 /// Each worker works on one of the first parts for a while, and then they are given back.
 pub(crate) fn make_turn<
     R: Threads + HostTime + Sync,
-    B: Body + Sync,
+    B: Body + Apart + Sync,
     V: Visitor<B::Data> + Send + Drop,
     G: Visitors<V>,
 >(
@@ -122,7 +123,11 @@ fn hand_out<V: Drop, G: Visitors<V>>(
 }
 
 /// Each part is worked on by a thread of the host, where one can be made.
-fn work_on_each<R: Threads + HostTime + Sync, B: Body + Sync, V: Visitor<B::Data> + Send + Drop>(
+fn work_on_each<
+    R: Threads + HostTime + Sync,
+    B: Body + Apart + Sync,
+    V: Visitor<B::Data> + Send + Drop,
+>(
     rt: &R,
     alloc: Global,
     builder: &Builder,
@@ -139,8 +144,8 @@ where
     thread::map_vec(rt, jobs, &|job| work(rt, alloc, builder, body, slice, job))
 }
 
-/// The part is worked on for a while.
-fn work<R: HostTime, B: Body, V: Visitor<B::Data>>(
+/// The part is worked on for a while, with a body of its own.
+fn work<R: HostTime, B: Body + Apart, V: Visitor<B::Data>>(
     rt: &R,
     alloc: Global,
     builder: &Builder,
@@ -156,7 +161,10 @@ fn work<R: HostTime, B: Body, V: Visitor<B::Data>>(
         mut visitor,
     } = job;
     let mut clock = HostClock::start(rt);
-    let worked = builder.check_part(alloc, body, &mut part, slice, &mut visitor, &mut clock);
+    let worked = match body.apart() {
+        Ok(own) => builder.check_part(alloc, &own, &mut part, slice, &mut visitor, &mut clock),
+        Err(refused) => Err(CheckError::from(refused)),
+    };
     Done {
         part,
         visitor,

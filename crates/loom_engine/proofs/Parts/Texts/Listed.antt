@@ -43,27 +43,27 @@ module _ (s : Settings) (explores : Bool) (d : Data) where
 
   pub part_read : (p : Single) → single_of d ≡ Some p → IsOfFormat (codes "part") d → (q : Kept) → IsItemOf s explores p.part q → IsPartOf s explores d q
   part_read p e head q h =
-      record { value = single_read d p (codes "part") 1 e head.0 head.1 ∙ ap (λ x. part_shape (codes "part") x 1) h.value; true_part = h.true_part }
+      record { value = single_read d p (codes "part") 2 e head.0 head.1 ∙ ap (λ x. part_shape (codes "part") x 2) h.value; true_part = h.true_part }
 
   pub part_refused : (p : Single) → single_of d ≡ Some p → IsOfFormat (codes "part") d → (e : PartsError) → IsRefusedItem s explores p.part e → IsRefusedPart s explores d e
   part_refused p e head NotJson why = why
   part_refused p e head WrongFormat why = absurd why
   part_refused p e head (WrongVersion version) why = absurd why
   part_refused p e head WrongShape why = λ part is.
-      subst (λ x. IsRefusedItem s explores x WrongShape) (part-same (codes "part") (codes "part") p.part part 1 1 (sym (single_read d p (codes "part") 1 e head.0 head.1) ∙ is)) why
-  part_refused p e head (Path x) why = (p.part, single_read d p (codes "part") 1 e head.0 head.1, why)
-  part_refused p e head (WrongFloor floor) why = (p.part, single_read d p (codes "part") 1 e head.0 head.1, why)
+      subst (λ x. IsRefusedItem s explores x WrongShape) (part-same (codes "part") (codes "part") p.part part 2 2 (sym (single_read d p (codes "part") 2 e head.0 head.1) ∙ is)) why
+  part_refused p e head (Path x) why = (p.part, single_read d p (codes "part") 2 e head.0 head.1, why)
+  part_refused p e head (WrongFloor floor) why = (p.part, single_read d p (codes "part") 2 e head.0 head.1, why)
   part_refused p e head BadOption why = why
   part_refused p e head (Memory m) why = tt
 
   pub part_no_shape : single_of d ≡ None → IsRefusedPart s explores d WrongShape
-  part_no_shape e = λ part is. absurd (no_single d e (codes "part") part 1 is)
+  part_no_shape e = λ part is. absurd (no_single d e (codes "part") part 2 is)
 
   pub part_header : (e : PartsError) → IsRefusedHeader (codes "part") d e → IsRefusedPart s explores d e
   part_header NotJson why = why
   part_header WrongFormat why = why
   part_header (WrongVersion version) why = why
-  part_header WrongShape why = λ part is. absurd (no_version (version_of d) 1 (ap version_of is ∙ part_version (codes "part") part 1) why)
+  part_header WrongShape why = λ part is. absurd (no_version (version_of d) 2 (ap version_of is ∙ part_version (codes "part") part 2) why)
   part_header (Path e) why = absurd why
   part_header (WrongFloor floor) why = absurd why
   part_header BadOption why = why
@@ -71,26 +71,26 @@ module _ (s : Settings) (explores : Bool) (d : Data) where
 
   pub refused-no_part : (e : PartsError) → IsRefusedPart s explores d e → ¬ IsMemory e → (q : Kept) → ¬ IsPartOf s explores d q
   refused-no_part NotJson why other q h = why
-  refused-no_part WrongFormat why other q h = why (ap format_of h.value ∙ part_format (codes "part") (item_data q) 1)
-  refused-no_part (WrongVersion version) why other q h = why.2 (two_versions (version_of d) version 1 (ap version_of h.value ∙ part_version (codes "part") (item_data q) 1) why.1)
+  refused-no_part WrongFormat why other q h = why (ap format_of h.value ∙ part_format (codes "part") (item_data q) 2)
+  refused-no_part (WrongVersion version) why other q h = why.2 (two_versions (version_of d) version 2 (ap version_of h.value ∙ part_version (codes "part") (item_data q) 2) why.1)
   refused-no_part WrongShape why other q h = refused-no_item s explores (item_data q) WrongShape (why (item_data q) h.value) (λ m. m) q (record { value = refl; true_part = h.true_part })
   refused-no_part (Path e) why other q h =
-      refused-no_item s explores why.0 (Path e) why.2 other q (record { value = part-same (codes "part") (codes "part") why.0 (item_data q) 1 1 (sym why.1 ∙ h.value); true_part = h.true_part })
+      refused-no_item s explores why.0 (Path e) why.2 other q (record { value = part-same (codes "part") (codes "part") why.0 (item_data q) 2 2 (sym why.1 ∙ h.value); true_part = h.true_part })
   refused-no_part (WrongFloor floor) why other q h =
-      refused-no_item s explores why.0 (WrongFloor floor) why.2 other q (record { value = part-same (codes "part") (codes "part") why.0 (item_data q) 1 1 (sym why.1 ∙ h.value); true_part = h.true_part })
+      refused-no_item s explores why.0 (WrongFloor floor) why.2 other q (record { value = part-same (codes "part") (codes "part") why.0 (item_data q) 2 2 (sym why.1 ∙ h.value); true_part = h.true_part })
   refused-no_part BadOption why other q h = why
   refused-no_part (Memory m) why other q h = other tt
 
   -- ---- a list
 
   pub list_no_shape : listed_of d ≡ None → IsRefusedList s explores d WrongShape
-  list_no_shape e = λ xs r search ts is. absurd (no_list d e (codes "parts") xs r search ts 1 is)
+  list_no_shape e = λ xs r search ts is. absurd (no_list d e (codes "parts") xs r search ts 2 is)
 
   pub list_header : (e : PartsError) → IsRefusedHeader (codes "parts") d e → IsRefusedList s explores d e
   list_header NotJson why = why
   list_header WrongFormat why = why
   list_header (WrongVersion version) why = why
-  list_header WrongShape why = λ xs r search ts is. absurd (no_version (version_of d) 1 (ap version_of is ∙ list_version (codes "parts") xs r search ts 1) why)
+  list_header WrongShape why = λ xs r search ts is. absurd (no_version (version_of d) 2 (ap version_of is ∙ list_version (codes "parts") xs r search ts 2) why)
   list_header (Path e) why = absurd why
   list_header (WrongFloor floor) why = absurd why
   list_header BadOption why = absurd why
@@ -98,10 +98,10 @@ module _ (s : Settings) (explores : Bool) (d : Data) where
 
   module _ (p : Listed) (e : listed_of d ≡ Some p) (head : IsOfFormat (codes "parts") d) where
     pub has_parts : HasParts d p.parts p.runs p.search p.trunk
-    has_parts = listed_read d p (codes "parts") 1 e head.0 head.1
+    has_parts = listed_read d p (codes "parts") 2 e head.0 head.1
 
-    same_as : (xs : List Data) (r : ℕ) (search : Data) (ts : List Data) → HasParts d xs r search ts → listed (codes "parts") p.parts p.runs p.search p.trunk 1 ≡ listed (codes "parts") xs r search ts 1
-    same_as xs r search ts is = list-same (codes "parts") (codes "parts") p.parts xs p.runs r p.search search p.trunk ts 1 1 (sym has_parts ∙ is)
+    same_as : (xs : List Data) (r : ℕ) (search : Data) (ts : List Data) → HasParts d xs r search ts → listed (codes "parts") p.parts p.runs p.search p.trunk 2 ≡ listed (codes "parts") xs r search ts 2
+    same_as xs r search ts is = list-same (codes "parts") (codes "parts") p.parts xs p.runs r p.search search p.trunk ts 2 2 (sym has_parts ∙ is)
 
     pub list_search : (x : PartsError) → IsRefusedSearch s explores p.search x → IsRefusedList s explores d x
     list_search NotJson why = why
@@ -148,9 +148,9 @@ module _ (s : Settings) (explores : Bool) (d : Data) where
         let got = keys_gave p.trunk (map choices_of trunk.items) read in
         let settled : path_data s explores [] ≡ path_data (settings search) search.explores [] = ap₂ (λ t x. path_data t x []) (sym same) (sym explore) in
         record {
-          value = has_parts ∙ ap (λ l. list_shape (codes "parts") l p.runs p.search p.trunk 1) items
-              ∙ ap (λ x. list_shape (codes "parts") (map item_data list.items) p.runs x p.trunk 1) (empty ∙ settled)
-              ∙ ap (λ l. list_shape (codes "parts") (map item_data list.items) p.runs (path_data (settings search) search.explores []) l 1) (got.0 ∙ keys_data trunk.items);
+          value = has_parts ∙ ap (λ l. list_shape (codes "parts") l p.runs p.search p.trunk 2) items
+              ∙ ap (λ x. list_shape (codes "parts") (map item_data list.items) p.runs x p.trunk 2) (empty ∙ settled)
+              ∙ ap (λ l. list_shape (codes "parts") (map item_data list.items) p.runs (path_data (settings search) search.explores []) l 2) (got.0 ∙ keys_data trunk.items);
           true_parts = record { search = same; exploring = explore; parts = all; options = got.1 };
         }
 
@@ -158,9 +158,9 @@ module _ (s : Settings) (explores : Bool) (d : Data) where
 
   module _ (q : Parts) (h : IsListOf s explores d q) where
     pub same_list : (xs : List Data) (r : ℕ) (search : Data) (ts : List Data) → HasParts d xs r search ts
-        → listed (codes "parts") xs r search ts 1 ≡ listed (codes "parts") (map item_data q.list.items) q.runs (path_data (settings q.search) q.search.explores []) (map key_data q.trunk.items) 1
+        → listed (codes "parts") xs r search ts 2 ≡ listed (codes "parts") (map item_data q.list.items) q.runs (path_data (settings q.search) q.search.explores []) (map key_data q.trunk.items) 2
     same_list xs r search ts is =
-        list-same (codes "parts") (codes "parts") xs (map item_data q.list.items) r q.runs search (path_data (settings q.search) q.search.explores []) ts (map key_data q.trunk.items) 1 1 (sym is ∙ h.value)
+        list-same (codes "parts") (codes "parts") xs (map item_data q.list.items) r q.runs search (path_data (settings q.search) q.search.explores []) ts (map key_data q.trunk.items) 2 2 (sym is ∙ h.value)
 
     settled : path_data (settings q.search) q.search.explores [] ≡ path_data s explores []
     settled = ap₂ (λ t x. path_data t x []) h.true_parts.search h.true_parts.exploring
@@ -179,10 +179,10 @@ module _ (s : Settings) (explores : Bool) (d : Data) where
     pub none_refused : (e : PartsError) → IsRefusedList s explores d e → ¬ IsMemory e → ⊥
     none_refused NotJson why other = why
     none_refused WrongFormat why other =
-        why (ap format_of h.value ∙ list_format (codes "parts") (map item_data q.list.items) q.runs (path_data (settings q.search) q.search.explores []) (map key_data q.trunk.items) 1)
+        why (ap format_of h.value ∙ list_format (codes "parts") (map item_data q.list.items) q.runs (path_data (settings q.search) q.search.explores []) (map key_data q.trunk.items) 2)
     none_refused (WrongVersion version) why other =
-        why.2 (two_versions (version_of d) version 1
-        (ap version_of h.value ∙ list_version (codes "parts") (map item_data q.list.items) q.runs (path_data (settings q.search) q.search.explores []) (map key_data q.trunk.items) 1) why.1)
+        why.2 (two_versions (version_of d) version 2
+        (ap version_of h.value ∙ list_version (codes "parts") (map item_data q.list.items) q.runs (path_data (settings q.search) q.search.explores []) (map key_data q.trunk.items) 2) why.1)
     none_refused WrongShape why other =
         elim (why (map item_data q.list.items) q.runs (path_data (settings q.search) q.search.explores []) (map key_data q.trunk.items) has_value) [
           | inl t ↦ none_there (map item_data q.list.items) q.runs (path_data (settings q.search) q.search.explores []) (map key_data q.trunk.items) WrongShape has_value t other
@@ -211,8 +211,8 @@ reread_at s explores d p q a b = (
   sym (ap (λ (l : Listed). l.runs) whole),
 )
   where
-    whole : listed (codes "parts") (map item_data p.list.items) p.runs (path_data (settings p.search) p.search.explores []) (map key_data p.trunk.items) 1
-        ≡ listed (codes "parts") (map item_data q.list.items) q.runs (path_data (settings q.search) q.search.explores []) (map key_data q.trunk.items) 1
+    whole : listed (codes "parts") (map item_data p.list.items) p.runs (path_data (settings p.search) p.search.explores []) (map key_data p.trunk.items) 2
+        ≡ listed (codes "parts") (map item_data q.list.items) q.runs (path_data (settings q.search) q.search.explores []) (map key_data q.trunk.items) 2
     whole = same_list s explores d q b (map item_data p.list.items) p.runs (path_data (settings p.search) p.search.explores []) (map key_data p.trunk.items) a.value
 
     same : views p.list.items ≡ views q.list.items
@@ -256,7 +256,7 @@ pub part_copy : (s : Settings) (explores : Bool) (d : Data) (p q : Kept) → IsP
     → (AreAlike q.path.nodes p.path.nodes → q.path.nodes ≡ p.path.nodes) → IsCopy p q
 part_copy s explores d p q given a b read follow =
     let there : IsPartOf s explores d p = subst (λ (k : Settings). IsPartOf k explores d p) a (subst (λ (y : Bool). IsPartOf p.path.search y d p) b given) in
-    let items : item_data q ≡ item_data p = part-same (codes "part") (codes "part") (item_data q) (item_data p) 1 1 (sym read.value ∙ there.value) in
+    let items : item_data q ≡ item_data p = part-same (codes "part") (codes "part") (item_data q) (item_data p) 2 2 (sym read.value ∙ there.value) in
     let same = same_part s explores q p read.true_part there.true_part items in
     let nodes : q.path.nodes ≡ p.path.nodes = follow same.0 in
     (same.1, read.true_part.rests ∙ ap (λ (l : List Node). at_rest s explores l) nodes ∙ sym there.true_part.rests, same.2, same.3)

@@ -87,13 +87,13 @@ IsRefusedItem s explores d (WrongFloor floor) =
 IsRefusedItem s explores d BadOption = ⊥
 IsRefusedItem s explores d (Memory e) = Unit {0}
 
--- the object says that it is of this format, and of version 1
+-- the object says that it is of this format, and of version 2
 abbrev pub IsOfFormat : List ℕ → Data → Type 0
-IsOfFormat format d = (format_of d ≡ Some format) × (version_of d ≡ Some 1)
+IsOfFormat format d = (format_of d ≡ Some format) × (version_of d ≡ Some 2)
 
 -- it says another version, or none
 abbrev pub IsOfVersion : List ℕ → Data → ℕ → Type 0
-IsOfVersion format d version = (format_of d ≡ Some format) × (version_of d ≡ Some version) × (version ≢ 1)
+IsOfVersion format d version = (format_of d ≡ Some format) × (version_of d ≡ Some version) × (version ≢ 2)
 
 -- why an object isn't of this format
 abbrev pub IsRefusedHeader : List ℕ → Data → PartsError → Type 0
@@ -111,9 +111,9 @@ abbrev pub IsRefusedPart : Settings → Bool → Data → PartsError → Type 0
 IsRefusedPart s explores d NotJson = ⊥
 IsRefusedPart s explores d WrongFormat = format_of d ≢ Some (codes "part")
 IsRefusedPart s explores d (WrongVersion version) = IsOfVersion (codes "part") d version
-IsRefusedPart s explores d WrongShape = (part : Data) → d ≡ part_shape (codes "part") part 1 → IsRefusedItem s explores part WrongShape
-IsRefusedPart s explores d (Path e) = (part : Data) × (d ≡ part_shape (codes "part") part 1) × IsRefusedItem s explores part (Path e)
-IsRefusedPart s explores d (WrongFloor floor) = (part : Data) × (d ≡ part_shape (codes "part") part 1) × IsRefusedItem s explores part (WrongFloor floor)
+IsRefusedPart s explores d WrongShape = (part : Data) → d ≡ part_shape (codes "part") part 2 → IsRefusedItem s explores part WrongShape
+IsRefusedPart s explores d (Path e) = (part : Data) × (d ≡ part_shape (codes "part") part 2) × IsRefusedItem s explores part (Path e)
+IsRefusedPart s explores d (WrongFloor floor) = (part : Data) × (d ≡ part_shape (codes "part") part 2) × IsRefusedItem s explores part (WrongFloor floor)
 IsRefusedPart s explores d BadOption = ⊥
 IsRefusedPart s explores d (Memory e) = Unit {0}
 
@@ -134,7 +134,7 @@ IsRefusedSearch s explores d (Memory e) = ⊥
 
 -- the value is an object of a list, with these parts, runs, settings and options
 abbrev pub HasParts : Data → List Data → ℕ → Data → List Data → Type 0
-HasParts d parts runs search trunk = d ≡ list_shape (codes "parts") parts runs search trunk 1
+HasParts d parts runs search trunk = d ≡ list_shape (codes "parts") parts runs search trunk 2
 
 -- why a list of parts is refused
 abbrev pub IsRefusedList : Settings → Bool → Data → PartsError → Type 0

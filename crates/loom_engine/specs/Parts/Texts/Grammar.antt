@@ -1,4 +1,4 @@
--- The JSON values of a part of a search and of a list of parts, version 1.
+-- The JSON values of a part of a search and of a list of parts, version 2: that of the paths in them.
 use Rattle.std.specs.Prelude.{ℕ, Bool, List, [], ◌∷◌, length, map, codes, Some, None, Vec}
 use Rattle.std.specs.declared.alloc.Global.{Global}
 use Rattle.serde_json.specs.Data.{Data, null, boolean, string, object, member, no_members}
@@ -37,7 +37,7 @@ unfoldable pub part_shape : List ℕ → Data → ℕ → Data
 part_shape format part version = object (member (codes "format") (string format) (member (codes "part") part (member (codes "version") (whole version) no_members)))
 
 abbrev pub part_data : Part → Data
-part_data q = part_shape (codes "part") (item_data q) 1
+part_data q = part_shape (codes "part") (item_data q) 2
 
 -- {"format":"parts","parts":[parts],"runs":n,"search":path,"trunk":[options],"version":n}
 unfoldable pub list_shape : List ℕ → List Data → ℕ → Data → List Data → ℕ → Data
@@ -46,4 +46,4 @@ list_shape format parts runs search trunk version =
 
 -- the settings of the search stand there as a path without nodes
 abbrev pub parts_data : Parts → Data
-parts_data p = list_shape (codes "parts") (map item_data p.list.items) p.runs (path_data (settings p.search) p.search.explores []) (map key_data p.trunk.items) 1
+parts_data p = list_shape (codes "parts") (map item_data p.list.items) p.runs (path_data (settings p.search) p.search.explores []) (map key_data p.trunk.items) 2

@@ -17,7 +17,7 @@ pub enum PartsError {
     #[error("the checkpoint has no parts")]
     WrongFormat,
     /// The value is of another version, this one.
-    #[error("the parts have version {0}, and not 1")]
+    #[error("the parts have version {0}, and not 2")]
     WrongVersion(u64),
     /// The value isn't of the format.
     #[error("the parts have the wrong shape")]

@@ -15,13 +15,11 @@ use crate::rt::parts::read::{
 };
 use crate::rt::parts::write::{write_item, write_items, write_keys};
 use crate::rt::parts::{Part, Parts};
+use crate::rt::path::checkpoint::VERSION;
 use crate::rt::path::checkpoint::read::read_version;
 use crate::rt::path::{Path, Search};
 use serde_json::{Value, json};
 use std::alloc::{AllocError, Global};
-
-/// The version of the formats. Own.
-pub const VERSION: u64 = 1;
 
 /// What a part that is written alone says that it is. Own.
 pub const PART: &str = "part";

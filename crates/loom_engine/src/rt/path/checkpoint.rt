@@ -5,7 +5,7 @@ pub mod text;
 pub mod value;
 pub mod write;
 
-/// The version of the format. Own.
+/// The version of the format, and of those of parts. Own.
 pub const VERSION: u64 = 2;
 
 /// The rule of orders under which paths are made: raising one store's order raises all above it. Own.

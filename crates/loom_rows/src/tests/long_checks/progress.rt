@@ -13,10 +13,10 @@ use loom_testing::page::Page;
 use std::alloc::Global;
 
 const ITERATIONS: &str =
-    "complete 3\n[INFO  loom::search] iteration 2\n[INFO  loom::search] completed in 3 iterations\n";
+    "complete 3\n[INFO  loom::search] iteration 2\n[INFO  loom::search] about 50% done\n[INFO  loom::search] completed in 3 iterations\n";
 
 const SWITCHES: &str =
-    "complete 3\n[DEBUG loom::progress] thread 1\n[INFO  loom::search] iteration 2\n[DEBUG loom::progress] thread 1\n[DEBUG loom::progress] thread 0\n[DEBUG loom::progress] thread 1\n[DEBUG loom::progress] thread 0\n[DEBUG loom::progress] thread 1\n[INFO  loom::search] completed in 3 iterations\n";
+    "complete 3\n[DEBUG loom::progress] thread 1\n[INFO  loom::search] iteration 2\n[INFO  loom::search] about 50% done\n[DEBUG loom::progress] thread 1\n[DEBUG loom::progress] thread 0\n[DEBUG loom::progress] thread 1\n[DEBUG loom::progress] thread 0\n[DEBUG loom::progress] thread 1\n[INFO  loom::search] completed in 3 iterations\n";
 
 // Puts on the page what a check finds, and what a log of this level is told.
 fn put_log(rt: HostRuntime, builder: &Builder, level: Level, page: &mut Page) {
