@@ -1,12 +1,5 @@
-//! What a test asserts, and scripts that it has memory for.
-use loom_examples::scripts::script::Script;
-use loom_examples::scripts::step::Step;
+//! What a test asserts.
 use std::process::Abort;
-
-/// The script of these steps.
-pub fn script(rt: &(impl Abort + AllocGlobal), steps: &'static [Step]) -> Script {
-    Script::new(rt.alloc(), steps).expect(rt, "no memory for a script")
-}
 
 /// This is the text that is wanted.
 pub fn same(rt: &impl Abort, text: &str, wanted: &str, name: &str) {

@@ -1,4 +1,4 @@
-//! All tests.
+//! Tests of the libraries.
 #![tactic(auto)]
 
 #[cfg(test)]
@@ -12,14 +12,6 @@ mod checkpoints;
 #[cfg(test)]
 mod closures;
 #[cfg(test)]
-mod explanations;
-#[cfg(test)]
-mod first;
-#[cfg(test)]
-mod guide;
-#[cfg(test)]
 mod porting;
 #[cfg(test)]
 mod views;
-#[cfg(test)]
-mod walks;

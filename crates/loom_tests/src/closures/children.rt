@@ -1,5 +1,4 @@
 //! What the threads do that main starts, all by one type of job: each type is checked, and built, with all of the runner once more.
-//! (Closures that are spawned stand in `guide` and in `loom_examples::closures`.)
 use crate::closures::finding::Counter;
 use crate::closures::forms::{self, Signals, Timed};
 use crate::closures::forms_in_children::{self, Change, Form};
@@ -7,7 +6,7 @@ use crate::closures::forms_of_values::{self, Gate};
 use crate::closures::{changes, turns};
 use loom::runner::{Handle, Job, Stop};
 use loom::sync::Mutex;
-use loom::sync::atomic::AtomicU64;
+use loom::sync::atomic::{AtomicU64, AtomicUsize};
 use loom::thread::JoinHandle;
 use std::sync::{Arc, Wait};
 use std::thread::Threads;
@@ -19,6 +18,10 @@ pub(super) enum Task {
     Start,
     /// Locks one mutex and then the other, and counts where a call after a stop was answered by a stop.
     LockBoth(Mutex, Mutex),
+    /// Locks the mutex, and releases it.
+    PassThrough(Mutex),
+    /// Waits for 1, stores 2, and waits for 3.
+    Pong(AtomicUsize),
     /// Counts that it has started, and adds 1.
     Add(AtomicU64),
     /// Counts that it has started, and adds 2.
@@ -54,6 +57,8 @@ impl<R: Wait> Job<u64, R> for Child {
         match self.task {
             Task::Start => Ok(turns::count_start(counter)),
             Task::LockBoth(outer, inner) => turns::lock_to_stop(handle, &outer, &inner, counter),
+            Task::PassThrough(mutex) => turns::pass_through(handle, &mutex),
+            Task::Pong(ball) => turns::pong(handle, &ball, counter),
             Task::Add(number) => turns::add_one(handle, &number, counter),
             Task::AddTwo(number) => changes::add_two(handle, &number, counter),
             Task::Update(number) => forms::update_once(handle, &number),

@@ -1,4 +1,5 @@
 //! Closures that end otherwise than by their result, or not as in the run before.
+use crate::closures::children::{Task, start};
 use crate::closures::finding::Wanted::{Fails, NoMemory, NoSettings};
 use crate::closures::finding::{Counter, Main, comes_to};
 use crate::closures::{NONE, ONE, ZERO};
@@ -8,9 +9,21 @@ use loom::{Choice, FailureKind};
 use std::sync::Wait;
 use std::sync::atomic::Ordering;
 use std::test::Fail;
+use std::thread::Threads;
 
 /// The choices of a run without a branch point.
 static NO_CHOICES: [Choice; 0] = [];
+
+/// Main locks a mutex, which a thread locks and releases, and ends without a release.
+pub(super) fn guard_left<R: Threads + Wait + Clone + Send + 'static>(
+    handle: &mut Handle<u64, R>,
+    counter: &Counter,
+) -> Result<u64, Stop> {
+    let mutex = handle.mutex(0)?;
+    start(handle, Task::PassThrough(mutex), counter)?;
+    handle.lock(&mutex)?;
+    Ok(7)
+}
 
 #[test]
 fn guard_left_closures(rt: HostRuntime) -> Result<(), Fail> {

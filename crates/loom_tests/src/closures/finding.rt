@@ -6,7 +6,6 @@ use loom::model::builder::Builder;
 use loom::model::visitor::Visitor;
 use loom::runner::{Handle, Host, RunnerError, Stop, check};
 use loom::{Choice, FailureKind};
-use loom_examples::closures::scenes;
 use std::alloc::{AllocError, Global};
 use std::process::Abort;
 use std::sync::Arc;
@@ -118,8 +117,8 @@ impl Main {
             Main::TwoMutexes => turns::two_mutexes(handle, counter),
             Main::TwoAdds => turns::two_adds(handle, counter),
             Main::LockBeside => turns::counted_lock_beside(handle, counter),
-            Main::PingPong => scenes::ping_pong(handle),
-            Main::GuardLeft => scenes::guard_left(handle),
+            Main::PingPong => turns::ping_pong(handle, counter),
+            Main::GuardLeft => ends::guard_left(handle, counter),
             Main::Deaf => ends::pass_over_stops(handle, counter),
             Main::Stops => Err(Stop::Refused),
             Main::Starves => Err(Stop::Memory),

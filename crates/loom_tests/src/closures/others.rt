@@ -7,7 +7,6 @@ use loom::runner::{Handle, NoVisitor, Stop, check};
 use loom::sync::{Condvar, Mutex};
 use loom::thread::{exit, finish};
 use loom::{FailureKind, Reply, thread};
-use loom_examples::closures::scenes;
 use std::process::Abort;
 use std::rt::Files;
 use std::sync::Wait;
@@ -50,10 +49,10 @@ impl Main {
             Main::Spawns => told(handle.call(thread::spawn(()).request)),
             Main::Explores => {
                 handle.explore()?;
-                scenes::lock_beside(handle)
+                lock_beside(handle)
             }
             Main::SkipsBranch => skips_branch(handle),
-            Main::Locks => scenes::lock_beside(handle),
+            Main::Locks => lock_beside(handle),
             Main::Waits => waits(handle),
         }
     }
@@ -76,6 +75,17 @@ fn calls<R: Wait>(handle: &mut Handle<u64, R>) -> Result<u64, Stop> {
     Ok(7)
 }
 
+/// Main locks a mutex beside a thread that does nothing but end.
+fn lock_beside<R: Threads + Wait + Clone + Send + 'static>(
+    handle: &mut Handle<u64, R>,
+) -> Result<u64, Stop> {
+    let mutex = handle.mutex(0)?;
+    handle.spawn(|_| Ok(3))?;
+    let (guard, value) = handle.lock(&mutex)?;
+    handle.release(guard, value)?;
+    Ok(7)
+}
+
 /// The search is switched after it was switched off for good.
 fn skips_branch<R: Threads + Wait + Clone + Send + 'static>(
     handle: &mut Handle<u64, R>,
@@ -83,7 +93,7 @@ fn skips_branch<R: Threads + Wait + Clone + Send + 'static>(
     handle.skip_branch()?;
     handle.explore()?;
     handle.stop_exploring()?;
-    scenes::lock_beside(handle)
+    lock_beside(handle)
 }
 
 /// A thread locks the mutex once main waits, and changes what it holds. Main has that at the end of its wait.

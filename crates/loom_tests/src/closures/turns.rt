@@ -6,10 +6,9 @@ use crate::closures::{NONE, ONE, TWO, ZERO, holds};
 use loom::model::builder::Builder;
 use loom::runner::{Handle, Stop};
 use loom::sync::Mutex;
-use loom::sync::atomic::AtomicU64;
-use loom::sync::atomic::Ordering::AcqRel;
+use loom::sync::atomic::Ordering::{AcqRel, Acquire, Release};
+use loom::sync::atomic::{AtomicU64, AtomicUsize};
 use loom::{Choice, FailureKind};
-use loom_examples::closures::scenes;
 use std::sync::Wait;
 use std::sync::atomic::Ordering;
 use std::test::Fail;
@@ -22,11 +21,24 @@ pub(super) fn lock_to_stop<R: Wait>(
     inner: &Mutex,
     stops: &Counter,
 ) -> Result<u64, Stop> {
-    let answer = scenes::lock_both(handle, outer, inner);
+    let answer = lock_both(handle, outer, inner);
     if answer.is_err() && handle.yield_now().is_err() {
         stops.fetch_add(1, Ordering::SeqCst);
     }
     answer
+}
+
+/// Holds the one while it locks the other.
+fn lock_both<R: Wait>(
+    handle: &mut Handle<u64, R>,
+    outer: &Mutex,
+    inner: &Mutex,
+) -> Result<u64, Stop> {
+    let (outer, x) = handle.lock(outer)?;
+    let (inner, y) = handle.lock(inner)?;
+    handle.release(inner, y)?;
+    handle.release(outer, x)?;
+    Ok(1)
 }
 
 /// Two threads lock two mutexes in opposite order. They count the stops that they were given once more.
@@ -95,8 +107,18 @@ pub(super) fn lock_beside<R: Threads + Wait + Clone + Send + 'static>(
 ) -> Result<u64, Stop> {
     let mutex = handle.mutex(0)?;
     start(handle, Task::Start, starts)?;
-    scenes::pass_through(handle, &mutex)?;
+    pass_through(handle, &mutex)?;
     Ok(7)
+}
+
+/// Locks the mutex, and releases it.
+pub(super) fn pass_through<R: Wait>(
+    handle: &mut Handle<u64, R>,
+    mutex: &Mutex,
+) -> Result<u64, Stop> {
+    let (guard, value) = handle.lock(mutex)?;
+    handle.release(guard, value)?;
+    Ok(3)
 }
 
 /// Counts a start.
@@ -133,12 +155,50 @@ fn lock_beside_closures(rt: HostRuntime) -> Result<(), Fail> {
     Ok(())
 }
 
+/// Main stores 1 and 3, and another thread 2 in between: each waits for what the other stores, and counts that.
+pub(super) fn ping_pong<R: Threads + Wait + Clone + Send + 'static>(
+    handle: &mut Handle<u64, R>,
+    turns: &Counter,
+) -> Result<u64, Stop> {
+    handle.stop_exploring()?;
+    let ball = handle.atomic(0usize)?;
+    let child = start(handle, Task::Pong(ball), turns)?;
+    handle.store(&ball, 1, Release)?;
+    wait_for(handle, &ball, 2, turns)?;
+    handle.store(&ball, 3, Release)?;
+    handle.join(&child)
+}
+
+/// Waits for 1, stores 2, and waits for 3.
+pub(super) fn pong<R: Wait>(
+    handle: &mut Handle<u64, R>,
+    ball: &AtomicUsize,
+    turns: &Counter,
+) -> Result<u64, Stop> {
+    wait_for(handle, ball, 1, turns)?;
+    handle.store(ball, 2, Release)?;
+    wait_for(handle, ball, 3, turns)?;
+    Ok(0)
+}
+
+/// Loads until it reads this, and yields in between. Counts that it has read it.
+fn wait_for<R: Wait>(
+    handle: &mut Handle<u64, R>,
+    ball: &AtomicUsize,
+    wanted: usize,
+    turns: &Counter,
+) -> Result<(), Stop> {
+    handle.until(|handle| Ok(handle.load(ball, Acquire)? == wanted))?;
+    turns.fetch_add(1, Ordering::SeqCst);
+    Ok(())
+}
+
 #[test]
 fn runner_ping_pong(rt: HostRuntime) -> Result<(), Fail> {
     let mut builder = Builder::new();
     builder.max_branches = 200;
     for _ in 0..100 {
-        comes_to(&rt, &builder, Main::PingPong, Complete(1), 1, 0)?;
+        comes_to(&rt, &builder, Main::PingPong, Complete(1), 1, 3)?;
     }
     Ok(())
 }

@@ -1,6 +1,6 @@
 //! What the threads do that these tests start, all by one closure: each type of closure is built with all of the runner once more.
 use crate::closures::carried::cells::{self, Access};
-use crate::closures::carried::{orders, threads};
+use crate::closures::carried::{orders, others, threads};
 use loom::cell::UnsafeCell;
 use loom::future::Waker;
 use loom::lazy_static::Lazy;
@@ -31,6 +31,8 @@ pub(super) enum Child {
     SetAndLook(AtomicBool, AtomicBool),
     /// Stores what it loads from the first into the second.
     Copy(AtomicU64, AtomicU64),
+    /// Loads the number, and stores one more.
+    LoadAndStore(AtomicU64),
     /// Sets the flag.
     Set(AtomicBool),
     /// Waits until the first is set, and looks at the second.
@@ -56,6 +58,7 @@ impl Child {
             Child::Publish(value, flag) => orders::publish(handle, &value, &flag),
             Child::SetAndLook(mine, other) => orders::set_and_look(handle, &mine, &other),
             Child::Copy(from, to) => orders::copy(handle, &from, &to),
+            Child::LoadAndStore(number) => others::load_and_store(handle, &number),
             Child::Set(flag) => orders::set(handle, &flag),
             Child::WaitAndLook(one, other) => orders::wait_and_look(handle, &one, &other),
             Child::Open(gate, waker) => threads::open(handle, &gate, waker),

@@ -6,6 +6,7 @@ mod cells;
 mod children;
 mod integers;
 mod orders;
+mod others;
 mod threads;
 
 use crate::asserting::{holds, same};
@@ -24,6 +25,7 @@ enum Scene {
     Cells(cells::Scene),
     Integers(integers::Function),
     Orders(orders::Scene),
+    Others(others::Scene),
     Threads(threads::Scene),
 }
 
@@ -33,6 +35,7 @@ impl Scene {
             Scene::Cells(scene) => scene.play(handle),
             Scene::Integers(function) => function.play_on_each(handle),
             Scene::Orders(scene) => scene.play(handle),
+            Scene::Others(scene) => scene.play(handle),
             Scene::Threads(scene) => scene.play(handle),
         }
     }

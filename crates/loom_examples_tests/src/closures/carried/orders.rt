@@ -159,8 +159,10 @@ pub(super) static VALID: Test = test!(
     "complete 4"
 );
 
+pub(super) static FENCES: Test = test!(sb_fences, Scene::Fences, "complete 15");
+
 // Loom doesn't find the run in which main loads 1, and ignores its `load_buffering`.
-static EACH: [Test; 5] = [
+static EACH: [Test; 4] = [
     test!(
         lazy_static_arc_shutdown,
         Scene::LazyShutdown,
@@ -176,7 +178,6 @@ static EACH: [Test; 5] = [
         Scene::CheckOrdering(Relaxed),
         "failed 1 2 t1 t1 t1 t1 t0 l1 t0 l0"
     ),
-    test!(sb_fences, Scene::Fences, "complete 15"),
     test!(load_buffering, Scene::LoadBuffering, "complete 15"),
 ];
 
@@ -185,6 +186,7 @@ static ACQ_REL: Test = test!(acq_rel, Scene::BothWays, "complete 412");
 #[test]
 fn orders(rt: HostRuntime) {
     is_found(&rt, &VALID);
+    is_found(&rt, &FENCES);
     are_found(&rt, &EACH);
 }
 

@@ -135,10 +135,10 @@ struct Case {
 }
 
 const NUMBERS: &str =
-    "complete\n[INFO  loom::search] iteration 2\n[INFO  loom::search] completed in 3 iterations\n";
+    "complete\n[INFO  loom::search] iteration 2\n[INFO  loom::search] about 50% done\n[INFO  loom::search] completed in 3 iterations\n";
 
 const SWITCHES: &str =
-    "complete\n[DEBUG loom::progress] thread 1\n[INFO  loom::search] iteration 2\n[DEBUG loom::progress] thread 1\n[DEBUG loom::progress] thread 0\n[DEBUG loom::progress] thread 1\n[DEBUG loom::progress] thread 0\n[DEBUG loom::progress] thread 1\n[INFO  loom::search] completed in 3 iterations\n";
+    "complete\n[DEBUG loom::progress] thread 1\n[INFO  loom::search] iteration 2\n[INFO  loom::search] about 50% done\n[DEBUG loom::progress] thread 1\n[DEBUG loom::progress] thread 0\n[DEBUG loom::progress] thread 1\n[DEBUG loom::progress] thread 0\n[DEBUG loom::progress] thread 1\n[INFO  loom::search] completed in 3 iterations\n";
 
 static CASES: [Case; 4] = [
     Case {

@@ -1,7 +1,7 @@
 //! Loom's `tests/futures.rs`, `mpsc.rs`, `mutex.rs` and `thread_api.rs`.
 use crate::asserting::holds;
 use crate::closures::carried::children::{Child, start};
-use crate::closures::carried::{self, Test, are_found, comes_to_each, find};
+use crate::closures::carried::{self, Test, are_found, comes_to_each, find, is_found};
 use loom::future::Waker;
 use loom::model::builder::Builder;
 use loom::runner::{Handle, Host, Stop};
@@ -181,21 +181,25 @@ macro_rules! test {
     };
 }
 
-static EACH: [Test; 4] = [
-    test!(commutative_senders, Scene::EitherOrder, "complete 3"),
+pub(super) static SENDERS: Test = test!(commutative_senders, Scene::EitherOrder, "complete 3");
+
+pub(super) static INTO_INNER: Test = test!(mutex_into_inner, Scene::TakeApart, "complete 9");
+
+static EACH: [Test; 2] = [
     test!(
         non_commutative_senders1,
         Scene::OneOrder,
         "failed 1 1 t1 t2 t2 t2 t0"
     ),
     test!(drop_receiver, Scene::DropReceiver, "complete 1"),
-    test!(mutex_into_inner, Scene::TakeApart, "complete 9"),
 ];
 
-static SPURIOUS_POLL: Test = test!(spurious_poll, Scene::Poll, "complete 35");
+pub(super) static SPURIOUS_POLL: Test = test!(spurious_poll, Scene::Poll, "complete 35");
 
 #[test]
 fn threads(rt: HostRuntime) {
+    is_found(&rt, &SENDERS);
+    is_found(&rt, &INTO_INNER);
     are_found(&rt, &EACH);
 }
 

@@ -1,0 +1,46 @@
+//! Checks of closures: those of the examples and of the guide, loom's own tests, and what is told of a check, in a log or behind it.
+ghost use Rattle.std.specs.Prelude.{◌≡◌};
+
+mod bodies;
+mod carried;
+mod explained;
+mod guide;
+mod logs;
+mod resumed;
+mod rows;
+
+use loom::runner::exact::Exact;
+use loom_objects::data::Data;
+use std::alloc::{AllocError, Global};
+use std::process::Abort;
+
+/// What the closures' objects hold, and what their threads come to.
+#[derive(Clone, Copy, Debug, PartialEq, Eq)]
+struct Count(u64);
+
+impl Data for Count {
+    fn try_clone(&self) -> Result<Count, AllocError> {
+        Ok(*self)
+    }
+}
+
+impl Exact for Count {
+    ghost use Rattle.std.proofs.Common.{rules};
+
+    ghost same = { λ x y e. Prim.search rules };
+
+    fn shown(&self, alloc: Global) -> Result<Option<String>, AllocError> {
+        Ok(Some(format!(in alloc; "{} counted,\nand more than fits", self.0)?))
+    }
+}
+
+/// A copy of a value of one's own type is that value.
+#[test]
+fn own_data_is_copied(rt: HostRuntime) {
+    holds(&rt, matches!(Count(3).try_clone(), Ok(Count(3))));
+}
+
+/// Ends the test where this doesn't hold.
+fn holds(rt: &impl Abort, fact: bool) {
+    assert!(rt; fact);
+}
