@@ -61,7 +61,7 @@ impl<B: Body> Room<B> {
 
 /// One run of the body along the path, from its start, which the listener hears. An error only where a growth was refused, in the
 /// run, the body or the listener. A failure has the place of its operation, if the listener knows it.
-pub fn run<B: Body, L: Listener<B::Data>>(
+pub(crate) fn run<B: Body, L: Listener<B::Data>>(
     room: &mut Room<B>,
     limits: Limits,
     body: &B,

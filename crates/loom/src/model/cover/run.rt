@@ -48,7 +48,7 @@ pub enum Found {
 
 /// One run of the body along the path, from its start, with these states. An error only where a growth was refused, in the run,
 /// the body or for a state.
-pub fn run<B: Body + Same>(
+pub(crate) fn run<B: Body + Same>(
     room: &mut Room<B>,
     limits: Limits,
     body: &B,

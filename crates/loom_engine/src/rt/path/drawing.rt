@@ -48,7 +48,7 @@ impl Path {
 
     /// Makes a schedule at the end of the path, at a thread that is drawn, and passes it. `TooManyBranches` where the path may have
     /// no further node. Where it fails the path stays as it was (own).
-    pub fn draw_thread<C: Chooser>(
+    pub(crate) fn draw_thread<C: Chooser>(
         &mut self,
         chooser: &mut C,
         offers: &Offers,
@@ -98,7 +98,7 @@ impl Path {
 
     /// Makes a load at the end of the path, at a slot that is drawn, and passes it. `TooManyBranches` where the path may have no
     /// further node. Where it fails the path stays as it was (own).
-    pub fn draw_load<C: Chooser>(
+    pub(crate) fn draw_load<C: Chooser>(
         &mut self,
         chooser: &mut C,
         readable: &[bool; MAX_ATOMIC_HISTORY],
@@ -144,7 +144,7 @@ impl Path {
 
     /// Makes a spurious wake-up at the end of the path, whose answer is drawn, and passes it. `TooManyBranches` where the path may
     /// have no further node. Where it fails the path stays as it was (own).
-    pub fn draw_spurious<C: Chooser>(&mut self, chooser: &mut C) -> Result<bool, Stop>
+    pub(crate) fn draw_spurious<C: Chooser>(&mut self, chooser: &mut C) -> Result<bool, Stop>
         requires past { length self.old.nodes ≡ self.old.position }
         ensures says { Draws Choice.Spurious self.old (whether_spurious (is_on self.old.exploring)) result self.new }
         ensures more { MakesMore self.old self.new }

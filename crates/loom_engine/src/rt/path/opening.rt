@@ -23,7 +23,7 @@ pub struct Opening {
 }
 
 /// The options that are to be tried at the node, if the run explores there, each as the node when it is the choice (own).
-pub fn openings(alloc: Global, node: &Node) -> Result<Vec<Node>, AllocError>
+pub(crate) fn openings(alloc: Global, node: &Node) -> Result<Vec<Node>, AllocError>
     requires { IsWell node.now }
     ensures { IfOk result (λ list. AreOpenings node.now list.items) }
 {
@@ -72,7 +72,7 @@ fn schedule_at(schedule: &Schedule, thread: Option<u8>) -> Schedule
 }
 
 /// The options of the node that were tried, and its choice (own).
-pub fn tried(alloc: Global, node: &Node) -> Result<Vec<Choice>, AllocError>
+pub(crate) fn tried(alloc: Global, node: &Node) -> Result<Vec<Choice>, AllocError>
     requires { IsWell node.now }
     ensures { IfOk result (λ list. (option : Chosen) → Among option list.items ↔ IsTried (seen node.now) option) }
 {

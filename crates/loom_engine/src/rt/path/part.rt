@@ -53,7 +53,7 @@ impl Path {
     }
 
     /// The path between two runs that ends at the opening's option (own).
-    pub fn branch_off(&self, alloc: Global, opening: &Opening) -> Result<Path, AllocError>
+    pub(crate) fn branch_off(&self, alloc: Global, opening: &Opening) -> Result<Path, AllocError>
         requires { OpensAt self.now.nodes opening.now }
         ensures { IfOk result (λ path. path ≡ at_rest self.now.search self.now.explores (take opening.now.place self.now.nodes ++ opening.now.node ∷ [])) }
     {
@@ -64,7 +64,7 @@ impl Path {
     }
 
     /// The choices before the opening's option, and itself (own).
-    pub fn key(&self, alloc: Global, opening: &Opening) -> Result<Vec<Choice>, AllocError>
+    pub(crate) fn key(&self, alloc: Global, opening: &Opening) -> Result<Vec<Choice>, AllocError>
         requires { OpensAt self.now.nodes opening.now }
         ensures { IfOk result (λ key. key.items ≡ key_at self.now.nodes opening.now) }
     {
@@ -167,7 +167,7 @@ fn is_schedule(node: &Node) -> bool
 }
 
 /// Adds the options that are to be tried at the node, which stands at this place (own).
-pub fn add_openings(
+pub(crate) fn add_openings(
     alloc: Global,
     list: &mut Vec<Opening>,
     place: usize,
