@@ -1,8 +1,7 @@
-//! Checks of closures: those of the examples and of the guide, loom's own tests, and what is told of a check, in a log or behind it.
+//! Checks of closures: those of the examples and of the guide, and what is told of a check, in a log or behind it.
 ghost use Rattle.std.specs.Prelude.{◌≡◌};
 
 mod bodies;
-mod carried;
 mod explained;
 mod guide;
 mod logs;

@@ -1,4 +1,4 @@
-//! Tests by the examples: what is told of scripts and of closures, walks, loom's own tests, and what the documents show.
+//! Tests by the examples: what is told of scripts and of closures, walks, and what the documents show.
 #![tactic(auto)]
 
 #[cfg(test)]

@@ -1,5 +1,6 @@
-//! Checks of closures on threads of the host: what they find, and what each call answers.
+//! Checks of closures on threads of the host: what they find, what each call answers, and loom's own tests.
 mod ample;
+mod carried;
 mod changes;
 mod children;
 mod ends;
@@ -20,6 +21,10 @@ const ZERO: Choice = Choice::Thread(Some(0));
 const ONE: Choice = Choice::Thread(Some(1));
 
 const TWO: Choice = Choice::Thread(Some(2));
+
+const SLOT_0: Choice = Choice::Load(0);
+
+const SLOT_1: Choice = Choice::Load(1);
 
 /// Ends the test where this doesn't hold.
 fn holds(rt: &impl Abort, fact: bool) {

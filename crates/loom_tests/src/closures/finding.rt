@@ -1,6 +1,6 @@
 //! Checks of the mains of these tests, all by one closure.
 use crate::closures::forms_in_children::{self, Form};
-use crate::closures::{changes, ends, forms, forms_of_values, holds, turns};
+use crate::closures::{carried, changes, ends, forms, forms_of_values, holds, turns};
 use loom::model::Report;
 use loom::model::builder::Builder;
 use loom::model::visitor::Visitor;
@@ -80,6 +80,8 @@ pub(super) enum Main {
     ChildAddsMore,
     /// Main passes over many stops.
     Swallows,
+    /// Main does what it does in a test of loom's.
+    Carried(carried::Scene),
     /// Main does nothing.
     Nothing,
 }
@@ -127,6 +129,7 @@ impl Main {
             Main::LoadsMore => changes::load_more(handle, counter, call),
             Main::ChildAddsMore => changes::child_adds_more(handle, counter, call),
             Main::Swallows => changes::swallow_stops(handle, counter),
+            Main::Carried(scene) => scene.play(handle),
             Main::Nothing => Ok(0),
         }
     }
@@ -208,6 +211,16 @@ impl Found {
     /// Whether main was called so often, and so much was counted.
     pub(super) fn counts(&self, calls: u64, counted: u64) -> bool {
         self.calls == calls && self.counted == counted
+    }
+
+    /// Whether main came to this value in some run.
+    pub(super) fn has_value(&self, value: u64) -> bool {
+        for run in &self.runs {
+            if run.value == value {
+                return true;
+            }
+        }
+        false
     }
 
     /// Whether the check has come to this.

@@ -55,7 +55,7 @@ pub(super) fn two_mutexes<R: Threads + Wait + Clone + Send + 'static>(
 }
 
 #[test]
-fn two_mutexes_deadlock_closures(rt: HostRuntime) -> Result<(), Fail> {
+fn two_mutexes_deadlock(rt: HostRuntime) -> Result<(), Fail> {
     let choices = [ONE, ONE, TWO, TWO, NONE];
     let wanted = Fails(FailureKind::Deadlock, 3, choices.as_slice());
     comes_to(&rt, &Builder::new(), Main::TwoMutexes, wanted, 4, 2)
@@ -87,7 +87,7 @@ pub(super) fn two_adds<R: Threads + Wait + Clone + Send + 'static>(
 }
 
 #[test]
-fn fetch_add_atomic_closures(rt: HostRuntime) -> Result<(), Fail> {
+fn fetch_add_atomic(rt: HostRuntime) -> Result<(), Fail> {
     passes(&rt, Main::TwoAdds, 2)
 }
 

@@ -2,14 +2,18 @@
 //! reference that is never dropped.
 use crate::closures::carried::children::{Child, start};
 use crate::closures::carried::{self, Test, are_found};
+use crate::closures::finding::Wanted::{Complete, Fails};
+use crate::closures::{NONE, ONE, SLOT_0, SLOT_1, TWO, ZERO};
+use loom::FailureKind;
 use loom::runner::{Handle, Host, Stop};
 use loom::sync::atomic::AtomicU64;
 use loom::sync::atomic::Ordering::{Acquire, Relaxed, Release};
 use std::sync::Wait;
+use std::test::Fail;
 
 /// What main does.
 #[derive(Clone, Copy)]
-pub(super) enum Scene {
+pub(crate) enum Scene {
     /// Two threads load a number, and store one more. Main finds that both have counted.
     BuggyInc,
     /// Tries to lock for writing what it has locked so.
@@ -60,13 +64,13 @@ fn try_written<R: Wait>(handle: &mut Handle<u64, R>) -> Result<u64, Stop> {
     Ok(0)
 }
 
-// A test of these, with its name and its line.
+// A test of these, with its name and what its check comes to.
 macro_rules! test {
-    ($name:ident, $scene:expr, $line:literal) => {
+    ($name:ident, $scene:expr, $wanted:expr) => {
         Test {
             name: stringify!($name),
             scene: carried::Scene::Others($scene),
-            line: $line,
+            wanted: $wanted,
         }
     };
 }
@@ -75,13 +79,23 @@ static EACH: [Test; 3] = [
     test!(
         checks_fail,
         Scene::BuggyInc,
-        "failed 1 0 t1 t1 l0 t1 t1 t0 t2 t2 l0 t2 t2 t0 t0 l1"
+        Fails(
+            FailureKind::Assertion,
+            0,
+            &[
+                ONE, ONE, SLOT_0, ONE, ONE, ZERO, TWO, TWO, SLOT_0, TWO, TWO, ZERO, ZERO, SLOT_1
+            ]
+        )
     ),
-    test!(rwlock_write_then_try_write, Scene::TryWritten, "complete 1"),
-    test!(detect_mem_leak, Scene::Forget, "failed 5 0 t-"),
+    test!(rwlock_write_then_try_write, Scene::TryWritten, Complete(1)),
+    test!(
+        detect_mem_leak,
+        Scene::Forget,
+        Fails(FailureKind::LeakArc, 0, &[NONE])
+    ),
 ];
 
 #[test]
-fn others(rt: HostRuntime) {
-    are_found(&rt, &EACH);
+fn others(rt: HostRuntime) -> Result<(), Fail> {
+    are_found(&rt, &EACH)
 }

@@ -31,6 +31,8 @@ pub(super) enum Child {
     SetAndLook(AtomicBool, AtomicBool),
     /// Stores what it loads from the first into the second.
     Copy(AtomicU64, AtomicU64),
+    /// Stores 1 to the first, and loads from the second.
+    StoreAndLoad(AtomicU64, AtomicU64),
     /// Loads the number, and stores one more.
     LoadAndStore(AtomicU64),
     /// Sets the flag.
@@ -58,6 +60,7 @@ impl Child {
             Child::Publish(value, flag) => orders::publish(handle, &value, &flag),
             Child::SetAndLook(mine, other) => orders::set_and_look(handle, &mine, &other),
             Child::Copy(from, to) => orders::copy(handle, &from, &to),
+            Child::StoreAndLoad(mine, theirs) => orders::store_and_load(handle, &mine, &theirs),
             Child::LoadAndStore(number) => others::load_and_store(handle, &number),
             Child::Set(flag) => orders::set(handle, &flag),
             Child::WaitAndLook(one, other) => orders::wait_and_look(handle, &one, &other),

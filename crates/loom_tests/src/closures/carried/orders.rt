@@ -2,15 +2,19 @@
 //! order.
 use crate::closures::carried::children::{Child, start};
 use crate::closures::carried::{self, Test, are_found, comes_to_each, is_found};
+use crate::closures::finding::Wanted::{Complete, Fails};
+use crate::closures::{ONE, SLOT_0, SLOT_1, ZERO};
+use loom::FailureKind;
 use loom::model::builder::Builder;
 use loom::runner::{Handle, Host, Stop};
 use loom::sync::atomic::Ordering::{self, Acquire, Relaxed, Release, SeqCst};
 use loom::sync::atomic::{AtomicBool, AtomicU64};
 use std::sync::Wait;
+use std::test::Fail;
 
 /// What main does.
 #[derive(Clone, Copy)]
-pub(super) enum Scene {
+pub(crate) enum Scene {
     /// A thread that nobody joins asks for a lazy value after main's end.
     LazyShutdown,
     /// A thread loads without synchronizing what main stores.
@@ -21,6 +25,8 @@ pub(super) enum Scene {
     Fences,
     /// Each of two threads loads what the other stores, but never what comes of its own store.
     LoadBuffering,
+    /// Each of two threads stores to one atomic, and loads from the other's. Answers 0 where neither loads what the other stores.
+    StoreBuffering,
     /// Two threads set flags, and two wait for one each and look at the other. Answers how many see it.
     BothWays,
 }
@@ -33,6 +39,7 @@ impl Scene {
             Scene::CheckOrdering(told) => check_ordering(handle, told),
             Scene::Fences => fences(handle),
             Scene::LoadBuffering => load_buffering(handle),
+            Scene::StoreBuffering => store_buffering(handle),
             Scene::BothWays => look_both_ways(handle),
         }
     }
@@ -114,6 +121,25 @@ pub(super) fn copy<R: Wait>(
     Ok(0)
 }
 
+fn store_buffering<R: Host>(handle: &mut Handle<u64, R>) -> Result<u64, Stop> {
+    let x = handle.atomic(0u64)?;
+    let y = handle.atomic(0u64)?;
+    let child = start(handle, Child::StoreAndLoad(x, y))?;
+    let mine = store_and_load(handle, &y, &x)?;
+    let theirs = handle.join(&child)?;
+    Ok(theirs | mine)
+}
+
+/// Stores 1 to the one, and loads from the other.
+pub(super) fn store_and_load<R: Wait>(
+    handle: &mut Handle<u64, R>,
+    mine: &AtomicU64,
+    theirs: &AtomicU64,
+) -> Result<u64, Stop> {
+    handle.store(mine, 1, Relaxed)?;
+    handle.load(theirs, Relaxed)
+}
+
 /// Threads tell main by their results what in loom's test they add to a third atomic, as in the row of this name.
 fn look_both_ways<R: Host>(handle: &mut Handle<u64, R>) -> Result<u64, Stop> {
     let x = handle.atomic(false)?;
@@ -142,13 +168,13 @@ pub(super) fn wait_and_look<R: Wait>(
     Ok(u64::from(handle.load(other, Acquire)?))
 }
 
-// A test of orders, with its name and its line.
+// A test of orders, with its name and what its check comes to.
 macro_rules! test {
-    ($name:ident, $scene:expr, $line:literal) => {
+    ($name:ident, $scene:expr, $wanted:expr) => {
         Test {
             name: stringify!($name),
             scene: carried::Scene::Orders($scene),
-            line: $line,
+            wanted: $wanted,
         }
     };
 }
@@ -156,46 +182,58 @@ macro_rules! test {
 pub(super) static VALID: Test = test!(
     check_ordering_valid,
     Scene::CheckOrdering(Acquire),
-    "complete 4"
+    Complete(4)
 );
 
-pub(super) static FENCES: Test = test!(sb_fences, Scene::Fences, "complete 15");
+pub(super) static FENCES: Test = test!(sb_fences, Scene::Fences, Complete(15));
 
 // Loom doesn't find the run in which main loads 1, and ignores its `load_buffering`.
 static EACH: [Test; 4] = [
     test!(
         lazy_static_arc_shutdown,
         Scene::LazyShutdown,
-        "failed 17 0 t1"
+        Fails(FailureKind::LazyShutdown, 0, &[ONE])
     ),
     test!(
         invalid_unsync_load_relaxed,
         Scene::UnsyncLoad,
-        "failed 3 0 t0 t1"
+        Fails(FailureKind::Race, 0, &[ZERO, ONE])
     ),
     test!(
         check_ordering_invalid_1,
         Scene::CheckOrdering(Relaxed),
-        "failed 1 2 t1 t1 t1 t1 t0 l1 t0 l0"
+        Fails(
+            FailureKind::Assertion,
+            2,
+            &[ONE, ONE, ONE, ONE, ZERO, SLOT_1, ZERO, SLOT_0]
+        )
     ),
-    test!(load_buffering, Scene::LoadBuffering, "complete 15"),
+    test!(load_buffering, Scene::LoadBuffering, Complete(15)),
 ];
 
-static ACQ_REL: Test = test!(acq_rel, Scene::BothWays, "complete 412");
+static STORE_BUFFERING: Test = test!(store_buffering, Scene::StoreBuffering, Complete(30));
+
+static ACQ_REL: Test = test!(acq_rel, Scene::BothWays, Complete(412));
 
 #[test]
-fn orders(rt: HostRuntime) {
-    is_found(&rt, &VALID);
-    is_found(&rt, &FENCES);
-    are_found(&rt, &EACH);
+fn orders(rt: HostRuntime) -> Result<(), Fail> {
+    is_found(&rt, &VALID)?;
+    is_found(&rt, &FENCES)?;
+    are_found(&rt, &EACH)
+}
+
+/// In some run neither thread loads what the other stores.
+#[test]
+fn store_buffering_is_seen(rt: HostRuntime) -> Result<(), Fail> {
+    comes_to_each(&rt, &Builder::new(), &STORE_BUFFERING, &[0])
 }
 
 /// With one preemption, as in loom's test, each of 0, 1 and 2 is seen.
 #[test]
-fn acq_rel(rt: HostRuntime) {
+fn acq_rel(rt: HostRuntime) -> Result<(), Fail> {
     let builder = Builder {
         preemption_bound: Some(1),
         ..Builder::new()
     };
-    comes_to_each(&rt, &builder, &ACQ_REL, &[0, 1, 2]);
+    comes_to_each(&rt, &builder, &ACQ_REL, &[0, 1, 2])
 }

@@ -36,56 +36,52 @@ fn start_loops<R: Host>(
     Ok(loops)
 }
 
+fn is_found_often<R: Abort + Host>(rt: &R, test: &Test, checks: u32) -> Result<(), Fail> {
+    for _ in 0..checks {
+        is_found(rt, test)?;
+    }
+    Ok(())
+}
+
 /// So many checks of the test find what one finds, beside twice as many loops as there are processors.
-fn is_found_beside_loops<R: Abort + Host>(
-    rt: &R,
-    test: &Test,
-    checks: u32,
-) -> Result<(), AllocError> {
+fn is_found_beside_loops<R: Abort + Host>(rt: &R, test: &Test, checks: u32) -> Result<(), Fail> {
     let processors = match thread::available_parallelism(rt) {
         Ok(count) => count.get(),
         Err(_) => 1,
     };
     let is_over = Arc::new(rt.alloc(), AtomicBool::new(false))?;
     let loops = start_loops(rt, rt.alloc(), processors.saturating_mul(2), &is_over)?;
-    for _ in 0..checks {
-        is_found(rt, test);
-    }
+    let found = is_found_often(rt, test, checks);
     is_over.store(true, Ordering::SeqCst);
     for each in loops {
         each.join(rt);
     }
-    Ok(())
+    found
 }
 
 // Each of these tests makes two thousand runs.
 
 #[test]
 fn messages_beside_busy_loops(rt: HostRuntime) -> Result<(), Fail> {
-    is_found_beside_loops(&rt, &VALID, 500)?;
-    Ok(())
+    is_found_beside_loops(&rt, &VALID, 500)
 }
 
 #[test]
 fn fences_beside_busy_loops(rt: HostRuntime) -> Result<(), Fail> {
-    is_found_beside_loops(&rt, &FENCES, 134)?;
-    Ok(())
+    is_found_beside_loops(&rt, &FENCES, 134)
 }
 
 #[test]
 fn channels_beside_busy_loops(rt: HostRuntime) -> Result<(), Fail> {
-    is_found_beside_loops(&rt, &SENDERS, 667)?;
-    Ok(())
+    is_found_beside_loops(&rt, &SENDERS, 667)
 }
 
 #[test]
 fn locks_beside_busy_loops(rt: HostRuntime) -> Result<(), Fail> {
-    is_found_beside_loops(&rt, &INTO_INNER, 223)?;
-    Ok(())
+    is_found_beside_loops(&rt, &INTO_INNER, 223)
 }
 
 #[test]
 fn futures_beside_busy_loops(rt: HostRuntime) -> Result<(), Fail> {
-    is_found_beside_loops(&rt, &SPURIOUS_POLL, 58)?;
-    Ok(())
+    is_found_beside_loops(&rt, &SPURIOUS_POLL, 58)
 }

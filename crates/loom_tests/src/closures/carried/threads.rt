@@ -1,7 +1,10 @@
 //! Loom's `tests/futures.rs`, `mpsc.rs`, `mutex.rs` and `thread_api.rs`.
-use crate::asserting::holds;
 use crate::closures::carried::children::{Child, start};
-use crate::closures::carried::{self, Test, are_found, comes_to_each, find, is_found};
+use crate::closures::carried::{self, Test, are_found, comes_to_each, is_found};
+use crate::closures::finding::Wanted::{Complete, Fails};
+use crate::closures::finding::{Main, passes};
+use crate::closures::{ONE, TWO, ZERO};
+use loom::FailureKind;
 use loom::future::Waker;
 use loom::model::builder::Builder;
 use loom::runner::{Handle, Host, Stop};
@@ -12,10 +15,11 @@ use loom::sync::mpsc::{Receiver, Sender};
 use loom_objects::operation::Name;
 use loom_objects::text::Text;
 use std::sync::Wait;
+use std::test::Fail;
 
 /// What main does.
 #[derive(Clone, Copy)]
-pub(super) enum Scene {
+pub(crate) enum Scene {
     /// Waits for a future, and answers how often it was polled.
     Poll,
     /// Receives what two threads send, in either order.
@@ -170,49 +174,47 @@ fn told_by(name: Option<Name>) -> u64 {
     }
 }
 
-// A test of threads, with its name and its line.
+// A test of threads, with its name and what its check comes to.
 macro_rules! test {
-    ($name:ident, $scene:expr, $line:literal) => {
+    ($name:ident, $scene:expr, $wanted:expr) => {
         Test {
             name: stringify!($name),
             scene: carried::Scene::Threads($scene),
-            line: $line,
+            wanted: $wanted,
         }
     };
 }
 
-pub(super) static SENDERS: Test = test!(commutative_senders, Scene::EitherOrder, "complete 3");
+pub(super) static SENDERS: Test = test!(commutative_senders, Scene::EitherOrder, Complete(3));
 
-pub(super) static INTO_INNER: Test = test!(mutex_into_inner, Scene::TakeApart, "complete 9");
+pub(super) static INTO_INNER: Test = test!(mutex_into_inner, Scene::TakeApart, Complete(9));
 
 static EACH: [Test; 2] = [
     test!(
         non_commutative_senders1,
         Scene::OneOrder,
-        "failed 1 1 t1 t2 t2 t2 t0"
+        Fails(FailureKind::Assertion, 1, &[ONE, TWO, TWO, TWO, ZERO])
     ),
-    test!(drop_receiver, Scene::DropReceiver, "complete 1"),
+    test!(drop_receiver, Scene::DropReceiver, Complete(1)),
 ];
 
-pub(super) static SPURIOUS_POLL: Test = test!(spurious_poll, Scene::Poll, "complete 35");
+pub(super) static SPURIOUS_POLL: Test = test!(spurious_poll, Scene::Poll, Complete(35));
 
 #[test]
-fn threads(rt: HostRuntime) {
-    is_found(&rt, &SENDERS);
-    is_found(&rt, &INTO_INNER);
-    are_found(&rt, &EACH);
+fn threads(rt: HostRuntime) -> Result<(), Fail> {
+    is_found(&rt, &SENDERS)?;
+    is_found(&rt, &INTO_INNER)?;
+    are_found(&rt, &EACH)
 }
 
 /// In some run the future is polled three times.
 #[test]
-fn spurious_poll(rt: HostRuntime) {
-    comes_to_each(&rt, &Builder::new(), &SPURIOUS_POLL, &[3]);
+fn spurious_poll(rt: HostRuntime) -> Result<(), Fail> {
+    comes_to_each(&rt, &Builder::new(), &SPURIOUS_POLL, &[3])
 }
 
 /// No row has this name, so the number of runs isn't known.
 #[test]
-fn thread_names(rt: HostRuntime) {
-    let found = find(&rt, &Builder::new(), carried::Scene::Threads(Scene::Names));
-    let is_complete = found.line.text.as_str().starts_with("complete ");
-    holds(&rt, is_complete, "thread_names");
+fn thread_names(rt: HostRuntime) -> Result<(), Fail> {
+    passes(&rt, Main::Carried(carried::Scene::Threads(Scene::Names)), 0)
 }

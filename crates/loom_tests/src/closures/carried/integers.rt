@@ -1,9 +1,11 @@
 //! Loom's `tests/atomic_int.rs`: read-modify-writes of each type of integers.
 use crate::closures::carried::{Scene, Test, are_found};
+use crate::closures::finding::Wanted::Complete;
 use loom::runner::{Handle, Stop};
 use loom::sync::atomic::Ordering::SeqCst;
 use loom::sync::atomic::{Atomic, Integer};
 use std::sync::Wait;
+use std::test::Fail;
 
 // The numbers of loom's tests, of which a type takes the lowest bits.
 const NUM_A: u64 = 11641914933775430211;
@@ -12,7 +14,7 @@ const NUM_B: u64 = 13209405719799650717;
 
 /// What main does with an atomic of the first number, by the second one.
 #[derive(Clone, Copy)]
-pub(super) enum Function {
+pub(crate) enum Function {
     Xor,
     Max,
     Min,
@@ -94,7 +96,7 @@ macro_rules! test {
         Test {
             name: stringify!($name),
             scene: Scene::Integers($function),
-            line: "complete 1",
+            wanted: Complete(1),
         }
     };
 }
@@ -110,6 +112,6 @@ static EACH: [Test; 6] = [
 ];
 
 #[test]
-fn integers(rt: HostRuntime) {
-    are_found(&rt, &EACH);
+fn integers(rt: HostRuntime) -> Result<(), Fail> {
+    are_found(&rt, &EACH)
 }

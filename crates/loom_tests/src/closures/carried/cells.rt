@@ -1,16 +1,20 @@
 //! Loom's `tests/unsafe_cell.rs`: accesses to a cell that are in order, and races.
 use crate::closures::carried::children::{Child, start};
 use crate::closures::carried::{self, Test, are_found};
+use crate::closures::finding::Wanted::{Complete, Fails};
+use crate::closures::{ONE, SLOT_1, TWO, ZERO};
+use loom::FailureKind;
 use loom::cell::UnsafeCell;
 use loom::runner::{Handle, Host, Stop};
 use loom::sync::atomic::AtomicU64;
 use loom::sync::atomic::Ordering::{Acquire, Release};
 use std::sync::Wait;
+use std::test::Fail;
 use std::thread::Threads;
 
 /// What a thread does with a cell.
 #[derive(Clone, Copy)]
-pub(super) enum Access {
+pub(crate) enum Access {
     /// Adds one to what it holds.
     Inc,
     /// Adds one, and asserts what it holds then.
@@ -75,7 +79,7 @@ fn read_this<R: Wait>(
 
 /// Who accesses a cell that holds 1.
 #[derive(Clone, Copy)]
-pub(super) enum Scene {
+pub(crate) enum Scene {
     /// A thread, and main beside it. Then main adds one, up to this.
     BesideMain(Access, Access, u64),
     /// Two threads. Then main adds one, up to this.
@@ -209,13 +213,13 @@ pub(super) fn tell_and_write<R: Wait>(
     increment(handle, cell)
 }
 
-// A test of cells, with its name and its line.
+// A test of cells, with its name and what its check comes to.
 macro_rules! test {
-    ($name:ident, $scene:expr, $line:literal) => {
+    ($name:ident, $scene:expr, $wanted:expr) => {
         Test {
             name: stringify!($name),
             scene: carried::Scene::Cells($scene),
-            line: $line,
+            wanted: $wanted,
         }
     };
 }
@@ -224,37 +228,37 @@ static RACES: [Test; 7] = [
     test!(
         unsafe_cell_race_mut_mut_1,
         Scene::BesideMain(Access::Inc, Access::Inc, 4),
-        "failed 3 0 t1"
+        Fails(FailureKind::Race, 0, &[ONE])
     ),
     test!(
         unsafe_cell_race_mut_mut_2,
         Scene::BesideEachOther(Access::Inc, Access::Inc, 4),
-        "failed 3 0 t1 t1 t0 t2"
+        Fails(FailureKind::Race, 0, &[ONE, ONE, ZERO, TWO])
     ),
     test!(
         unsafe_cell_race_mut_immut_1,
         Scene::BesideMain(Access::IncTo(2), Access::Get, 3),
-        "failed 3 0 t1"
+        Fails(FailureKind::Race, 0, &[ONE])
     ),
     test!(
         unsafe_cell_race_mut_immut_2,
         Scene::BesideMain(Access::Get, Access::IncTo(2), 3),
-        "failed 3 0 t1"
+        Fails(FailureKind::Race, 0, &[ONE])
     ),
     test!(
         unsafe_cell_race_mut_immut_3,
         Scene::BesideEachOther(Access::IncTo(2), Access::Get, 3),
-        "failed 3 0 t1 t1 t0 t2"
+        Fails(FailureKind::Race, 0, &[ONE, ONE, ZERO, TWO])
     ),
     test!(
         unsafe_cell_race_mut_immut_4,
         Scene::BesideEachOther(Access::Get, Access::IncTo(2), 3),
-        "failed 3 0 t1 t1 t0 t2"
+        Fails(FailureKind::Race, 0, &[ONE, ONE, ZERO, TWO])
     ),
     test!(
         unsafe_cell_race_mut_immut_5,
         Scene::BesideEachOther(Access::Get, Access::GetAndInc(1), 3),
-        "failed 3 0 t1 t1 t0 t2"
+        Fails(FailureKind::Race, 0, &[ONE, ONE, ZERO, TWO])
     ),
 ];
 
@@ -262,7 +266,7 @@ static IN_ORDER: [Test; 3] = [
     test!(
         unsafe_cell_ok_1,
         Scene::InTurn(Access::IncTo(2), Access::IncTo(3), Access::IncTo(4)),
-        "complete 1"
+        Complete(1)
     ),
     test!(
         unsafe_cell_ok_2,
@@ -271,24 +275,28 @@ static IN_ORDER: [Test; 3] = [
             Access::GetAndInc(2),
             Access::GetAndInc(3)
         ),
-        "complete 1"
+        Complete(1)
     ),
-    test!(unsafe_cell_ok_3, Scene::Readers, "complete 1"),
+    test!(unsafe_cell_ok_3, Scene::Readers, Complete(1)),
 ];
 
 static TOLD: [Test; 3] = [
-    test!(atomic_causality_success, Scene::Told, "complete 6"),
-    test!(atomic_causality_fail, Scene::Untold, "failed 1 0"),
+    test!(atomic_causality_success, Scene::Told, Complete(6)),
+    test!(
+        atomic_causality_fail,
+        Scene::Untold,
+        Fails(FailureKind::Assertion, 0, &[])
+    ),
     test!(
         unsafe_cell_access_after_sync,
         Scene::ToldBefore,
-        "failed 3 2 t1 t1 t1 t0 l1"
+        Fails(FailureKind::Race, 2, &[ONE, ONE, ONE, ZERO, SLOT_1])
     ),
 ];
 
 #[test]
-fn cells(rt: HostRuntime) {
-    are_found(&rt, &RACES);
-    are_found(&rt, &IN_ORDER);
-    are_found(&rt, &TOLD);
+fn cells(rt: HostRuntime) -> Result<(), Fail> {
+    are_found(&rt, &RACES)?;
+    are_found(&rt, &IN_ORDER)?;
+    are_found(&rt, &TOLD)
 }
