@@ -2,6 +2,12 @@
 pub mod Worlds
 pub mod Covered
 pub mod Ways
+pub mod Between
+pub mod Whole
+pub mod Leading
+pub mod Closing
+pub mod Lost
+pub mod Passing
 pub mod Left
 pub mod Cut
 pub mod Joined

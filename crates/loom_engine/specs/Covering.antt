@@ -3,6 +3,7 @@ pub mod World
 pub mod Sound
 pub mod Covered
 pub mod Ways
+pub mod Between
 pub mod Cut
 pub mod Table
 pub mod Alike
@@ -14,3 +15,4 @@ pub mod Sight
 pub mod Parts
 pub mod Kept
 pub mod UnderWay
+pub mod Lost

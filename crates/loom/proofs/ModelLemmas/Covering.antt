@@ -1,7 +1,6 @@
--- A run that notes states goes on by an event, or has left its path and what is kept as one with a table does.
-use Rattle.std.proofs.Common.{◌≡◌, ◌≤◌, ◌+◌, ◌⊎◌, ℕ, suc, arith, Bool, true, false, ◌&&◌, List, [], ◌∷◌, length, Option, None, Result, Ok, Err, refl, ap, ap₂, sym, ◌∙◌, subst, inl, inr, rules}
-use Rattle.std.specs.Prelude.{IfOk, OnOk, nat_le, slice_set, ⊤}
-use Rattle.std.specs.List.{Contains}
+-- A run that notes states goes on by an event, or has left its path and what is noted as one with a table does.
+use Rattle.std.proofs.Common.{◌≡◌, ◌≤◌, ◌+◌, ◌⊎◌, ℕ, suc, arith, Bool, true, false, ◌&&◌, List, [], ◌∷◌, length, Option, Some, None, Result, Ok, Err, refl, ap, ap₂, sym, ◌∙◌, subst, inl, inr, rules}
+use Rattle.std.specs.Prelude.{IfOk, OnOk, nat_le, slice_get, slice_set, ⊤}
 use Rattle.std.proofs.lemmas.Option.{slice_get_past}
 use Rattle.loom_views.specs.declared.rt.failure.FailureKind.{FailureKind}
 use Rattle.loom_views.specs.declared.rt.failure.FailureKind.TheVariants.{Misuse}
@@ -23,10 +22,9 @@ use Rattle.loom_objects.specs.World.{World}
 use Rattle.loom_engine.specs.declared.rt.execution.Begun.{Begun}
 use Rattle.loom_engine.specs.declared.rt.execution.Begun.TheVariants as begun
 use Rattle.loom_engine.specs.declared.rt.execution.Progress.{Progress}
-use Rattle.loom_engine.specs.declared.rt.states.State.{State as Kept}
 use Rattle.loom_engine.specs.Begun.{Begins, BeginsAt, begins_at}
 use Rattle.loom_engine.specs.Execution.{AllNeedMemory, Along, ExecutionState, HappensAt, Schedules, ShowsCourse, itself, over_after}
-use Rattle.loom_engine.specs.Path.Route.{Route, drives, stored, trail}
+use Rattle.loom_engine.specs.Path.Route.{Route, chosen, drives, stored, trail}
 use Rattle.loom_engine.specs.Runs.Body.{Meaning, runs, with_child}
 use Rattle.loom_engine.specs.Runs.Course.{Course, opening}
 use Rattle.loom_engine.specs.Runs.Machine.{further_branches, schedule}
@@ -35,11 +33,11 @@ use Rattle.loom_engine.specs.Covering.Cut.{cut}
 use Rattle.loom_engine.specs.Covering.UnderWay.{never}
 use Rattle.loom_engine.specs.Trees.Marks.{marking}
 use Rattle.loom_engine.specs.Trees.Meeting.{Settings, whole_search}
-use Rattle.loom_engine.specs.Covering.Kept.{AreKeptOf, NotesAs, state_in}
+use Rattle.loom_engine.specs.Covering.Kept.{Noted, NotesAs, state_in}
 use Rattle.loom_engine.specs.Covering.UnderWay as under
 use Rattle.loom_engine.proofs.Covering.UnderWay as way
 use Rattle.loom.proofs.ModelLemmas.Handing.{IsHanded, slice_get_is}
-use Rattle.loom.specs.Model.Cover.{ComesTo, EndsWith, IsAtBranch, IsEndBy, IsEndOf, IsHanding, IsTabled, IsUnderWay, Leaves, LooksUp, Noting, StaysOpen}
+use Rattle.loom.specs.Model.Cover.{AreNoted, ComesTo, EndsWith, IsAtBranch, IsEndBy, IsEndOf, IsHanding, IsTabled, IsUnderWay, Leaves, LooksUp, Meets, Noting, StaysOpen}
 use Rattle.loom.specs.declared.model.cover.run.Ending.{Ending}
 use Rattle.loom.specs.declared.model.cover.run.Found.TheVariants.{Known, New}
 use Rattle.loom.specs.declared.model.cover.run.Halt.{Halt}
@@ -55,25 +53,25 @@ module _ {D S : Type 0} (next : Meaning D S) (run : Noting D S) where
   left_of c progress path shown = ap (λ (w : World D). w.steps_left) shown.world.rest
 
   -- a turn to which the run came
-  at_turn : (turn : Turn D) (bodies : List S) (v : Course D) (progress : Progress D) (path : Route) (kept : List (Kept D S)) → ShowsCourse v progress path → IsTabled next run kept path → path.search ≡ whole_search run.room
+  at_turn : (turn : Turn D) (bodies : List S) (v : Course D) (progress : Progress D) (path : Route) (noted : Noted D S) → ShowsCourse v progress path → IsTabled next run noted path → path.search ≡ whole_search run.room
       → under.TurnIs run.room (marking None) next run.explores run.max_threads run.max_steps run.body run.path run.old (trail path) (suc v.world.steps_left) bodies v turn
-      → ComesTo next run (Ok turn) bodies progress path kept
-  at_turn (turn.Reply thread answer) bodies v progress path kept shown tables whole at = record { course = v; shown = shown; at = at; tables = tables; whole = whole }
-  at_turn (turn.Start thread) bodies v progress path kept shown tables whole at = record { course = v; shown = shown; at = at; tables = tables; whole = whole }
-  at_turn (turn.Ended value) bodies v progress path kept shown tables whole e =
-      (tables.keys, tables.explained, way.ended_along run.room (marking None) next run.explores run.max_threads run.max_steps run.body run.path run.old kept (trail path) value tables e)
+      → ComesTo next run (Ok turn) bodies progress path noted
+  at_turn (turn.Reply thread answer) bodies v progress path noted shown tables whole at = record { course = v; shown = shown; at = at; tables = tables; whole = whole }
+  at_turn (turn.Start thread) bodies v progress path noted shown tables whole at = record { course = v; shown = shown; at = at; tables = tables; whole = whole }
+  at_turn (turn.Ended value) bodies v progress path noted shown tables whole e =
+      (tables, way.ended_along run.room (marking None) next run.explores run.max_threads run.max_steps run.body run.path run.old noted (trail path) value tables e)
 
   -- how the whole run came to its end, where it wasn't cut
   abbrev ends : Result (Option D) FailureKind × Trail → Type 0
   ends r = drive (whole_search run.room) (marking None) (cut never [] (runs next run.explores run.max_threads run.max_steps run.body)) (at_start run.path) ≡ r
 
   -- it failed
-  failed : (kind : FailureKind) (path : Route) (kept : List (Kept D S)) → ends (Err kind, trail path) → Leaves next run (Err kind) path kept
-  failed kind path kept e = (run.old, way.failed_along run.room (marking None) next run.explores run.max_threads run.max_steps run.body run.path run.old run.old (trail path) kind e)
+  failed : (kind : FailureKind) (path : Route) (noted : Noted D S) → ends (Err kind, trail path) → Leaves next run (Err kind) path noted
+  failed kind path noted e = ([], way.failed_along run.room (marking None) next run.explores run.max_threads run.max_steps run.body run.path run.old [] (trail path) kind e)
 
   -- ---- an operation up to its branch point
 
-  module _ (bodies : List S) (old : Progress D) (path : Route) (op : Op D S) (kept : List (Kept D S)) (h : IsHanding next run bodies old path op kept) where
+  module _ (bodies : List S) (old : Progress D) (path : Route) (op : Op D S) (noted : Noted D S) (h : IsHanding next run bodies old path op noted) where
     module _ (new : Progress D) (after : Route) (same : after.search ≡ path.search) where
       abbrev all : List S
       all = with_child bodies (started op)
@@ -81,9 +79,9 @@ module _ {D S : Type 0} (next : Meaning D S) (run : Noting D S) where
       abbrev whole_after : after.search ≡ whole_search run.room
       whole_after = same ∙ h.whole
 
-      pub begins_failing : (kind : FailureKind) → drives (begins_at (plain op) h.course) path ≡ (Err kind, trail after) → Leaves next run (Err kind) after kept
+      pub begins_failing : (kind : FailureKind) → drives (begins_at (plain op) h.course) path ≡ (Err kind, trail after) → Leaves next run (Err kind) after noted
       begins_failing kind e =
-          failed kind after kept
+          failed kind after noted
           (way.fails_begun run.room (marking None) next run.explores run.max_threads run.max_steps run.body run.path run.old (trail path) h.course.world.steps_left bodies h.course op h.at kind (trail after) (by_whole path (begins_at (plain op) h.course) (Err kind, trail after) h.whole e))
 
       -- it has come so far
@@ -94,17 +92,17 @@ module _ {D S : Type 0} (next : Meaning D S) (run : Noting D S) where
         one_less : h.course.world.steps_left ≡ suc v.world.steps_left
         one_less = let l = left_of h.course old path h.shown in let r = left_of v new after shown in omega (arith, steps)
 
-        tables : IsTabled next run kept after
-        tables = way.tables_same run.room (marking None) next run.explores run.max_threads run.max_steps run.body run.path run.old kept kept (trail path) (trail after) refl (way.stays_begun run.room (marking None) next run.explores run.max_threads run.max_steps run.body run.path run.old (trail path) h.course.world.steps_left bodies h.course op h.at (come, v) (trail after) drawn) h.tables
+        tables : IsTabled next run noted after
+        tables = way.tables_same run.room (marking None) next run.explores run.max_threads run.max_steps run.body run.path run.old noted noted (trail path) (trail after) refl (way.stays_begun run.room (marking None) next run.explores run.max_threads run.max_steps run.body run.path run.old (trail path) h.course.world.steps_left bodies h.course op h.at (come, v) (trail after) drawn) h.tables
 
       -- what it has come to
       abbrev BegunIs : Begun D → Type 0
-      BegunIs (begun.Turn turn) = ComesTo next run (Ok turn) all new after kept
-      BegunIs begun.AtBranch = IsAtBranch next run all new after kept
+      BegunIs (begun.Turn turn) = ComesTo next run (Ok turn) all new after noted
+      BegunIs begun.AtBranch = IsAtBranch next run all new after noted
 
       pub begins_to : (come : Begun D) → old.state.steps_left ≡ new.state.steps_left + 1 → (v : Course D) → ShowsCourse v new after → drives (begins_at (plain op) h.course) path ≡ (Ok (come, v), trail after) → BegunIs come
       begins_to (begun.Turn turn) steps v shown e =
-          at_turn turn all v new after kept shown (tables steps (begun.Turn turn) v shown e) whole_after
+          at_turn turn all v new after noted shown (tables steps (begun.Turn turn) v shown e) whole_after
           (subst (λ (n : ℕ). under.TurnIs run.room (marking None) next run.explores run.max_threads run.max_steps run.body run.path run.old (trail after) n all v turn) (one_less steps (begun.Turn turn) v shown e)
           (way.turned_begun run.room (marking None) next run.explores run.max_threads run.max_steps run.body run.path run.old (trail path) h.course.world.steps_left bodies h.course op h.at turn v (trail after) (drawn steps (begun.Turn turn) v shown e)))
       begins_to begun.AtBranch steps v shown e = record {
@@ -130,23 +128,24 @@ module _ {D S : Type 0} (next : Meaning D S) (run : Noting D S) where
   not_less : (m n : ℕ) → nat_le m n ≡ true → m ≤ n
   not_less m n e = search rules
 
-  module _ (bodies : List S) (old : Progress D) (path : Route) (kept : List (Kept D S)) (h : IsAtBranch next run bodies old path kept) where
+  module _ (bodies : List S) (old : Progress D) (path : Route) (noted : Noted D S) (h : IsAtBranch next run bodies old path noted) where
     -- the state was noted
-    pub met : is_on path.exploring ≡ true → is_used_up (trail path) ≡ true → Contains kept (state_in old bodies) → Leaves next run (Ok None) path kept
-    met explores used has = (
-      h.tables.keys,
-      h.tables.explained,
-      way.met_along run.room (marking None) next run.explores run.max_threads run.max_steps run.body run.path run.old (trail path) (suc h.course.world.steps_left) bodies h.course h.at (not_less _ _ (both _ _ used)) kept h.tables old path h.shown (h.shown.exploring ∙ exploring_so path.exploring explores) has,
-    )
+    pub met : is_on path.exploring ≡ true → is_used_up (trail path) ≡ true → (number : ℕ) → slice_get noted.states number ≡ Some (state_in old bodies) → Meets next run number path noted
+    met explores used number has =
+        let all = not_less _ _ (both _ _ used) in
+        let on = h.shown.exploring ∙ exploring_so path.exploring explores in (
+          (h.tables, way.met_along run.room (marking None) next run.explores run.max_threads run.max_steps run.body run.path run.old (trail path) (suc h.course.world.steps_left) bodies h.course h.at all noted h.tables old path h.shown on number has),
+          way.met_there run.room (marking None) next run.explores run.max_threads run.max_steps run.body run.path run.old (trail path) (suc h.course.world.steps_left) bodies h.course h.at all noted h.tables old path h.shown on number has,
+        )
 
     module _ (new : Progress D) (after : Route) (same : after.search ≡ path.search) where
-      pub schedule_fails : (kind : FailureKind) (more : List (Kept D S)) → drives (schedule further_branches h.course) path ≡ (Err kind, trail after) → Leaves next run (Err kind) after more
+      pub schedule_fails : (kind : FailureKind) (more : Noted D S) → drives (schedule further_branches h.course) path ≡ (Err kind, trail after) → Leaves next run (Err kind) after more
       schedule_fails kind more e =
           failed kind after more
           (way.fails_on run.room (marking None) next run.explores run.max_threads run.max_steps run.body run.path run.old (trail path) (suc h.course.world.steps_left) bodies h.course h.at kind (trail after) (by_whole path (schedule further_branches h.course) (Err kind, trail after) h.whole e))
 
       -- it comes to a turn, once the state was noted or wasn't
-      pub schedule_turns : (turn : Turn D) (more : List (Kept D S)) → ((is_on path.exploring ≡ true) × NotesAs (state_in old bodies) kept more) ⊎ (more ≡ kept) → new.state.steps_left ≡ old.state.steps_left
+      pub schedule_turns : (turn : Turn D) (more : Noted D S) → ((is_on path.exploring ≡ true) × (is_used_up (trail path) ≡ true) × NotesAs (state_in old bodies) (chosen path) noted more) ⊎ (more ≡ noted) → new.state.steps_left ≡ old.state.steps_left
           → (v : Course D) → ShowsCourse v new after → drives (schedule further_branches h.course) path ≡ (Ok (turn, v), trail after) → ComesTo next run (Ok turn) bodies new after more
       schedule_turns turn more notes steps v shown e =
           let drawn : drive (whole_search run.room) (marking None) (schedule further_branches h.course) (trail path) ≡ (Ok (turn, v), trail after) =
@@ -154,69 +153,69 @@ module _ {D S : Type 0} (next : Meaning D S) (run : Noting D S) where
           let l = left_of h.course old path h.shown in
           let r = left_of v new after shown in
           let counted : suc h.course.world.steps_left ≡ suc v.world.steps_left = omega (arith, steps) in
-          at_turn turn bodies v new after more shown (noted turn more notes v drawn) (same ∙ h.whole)
+          at_turn turn bodies v new after more shown (tabled turn more notes v drawn) (same ∙ h.whole)
           (subst (λ (n : ℕ). under.TurnIs run.room (marking None) next run.explores run.max_threads run.max_steps run.body run.path run.old (trail after) n bodies v turn) counted
           (way.turned_on run.room (marking None) next run.explores run.max_threads run.max_steps run.body run.path run.old (trail path) (suc h.course.world.steps_left) bodies h.course h.at turn v (trail after) drawn))
         where
-          noted : (turn : Turn D) (more : List (Kept D S)) → ((is_on path.exploring ≡ true) × NotesAs (state_in old bodies) kept more) ⊎ (more ≡ kept) → (v : Course D)
+          tabled : (turn : Turn D) (more : Noted D S) → ((is_on path.exploring ≡ true) × (is_used_up (trail path) ≡ true) × NotesAs (state_in old bodies) (chosen path) noted more) ⊎ (more ≡ noted) → (v : Course D)
               → drive (whole_search run.room) (marking None) (schedule further_branches h.course) (trail path) ≡ (Ok (turn, v), trail after) → IsTabled next run more after
-          noted turn more (inl (explores, notes)) v drawn =
-              way.tables_noted run.room (marking None) next run.explores run.max_threads run.max_steps run.body run.path run.old (trail path) (suc h.course.world.steps_left) bodies h.course h.at kept more old path (turn, v) (trail after) h.shown (h.shown.exploring ∙ exploring_so path.exploring explores) notes drawn h.tables
-          noted turn more (inr same) v drawn =
-              way.tables_same run.room (marking None) next run.explores run.max_threads run.max_steps run.body run.path run.old kept more (trail path) (trail after) same (way.stays_on run.room (marking None) next run.explores run.max_threads run.max_steps run.body run.path run.old (trail path) (suc h.course.world.steps_left) bodies h.course h.at (turn, v) (trail after) drawn) h.tables
+          tabled turn more (inl (explores, used, notes)) v drawn =
+              way.tables_noted run.room (marking None) next run.explores run.max_threads run.max_steps run.body run.path run.old (trail path) (suc h.course.world.steps_left) bodies h.course h.at noted more old path (turn, v) (trail after) h.shown (h.shown.exploring ∙ exploring_so path.exploring explores) (not_less _ _ (both _ _ used)) notes drawn h.tables
+          tabled turn more (inr same) v drawn =
+              way.tables_same run.room (marking None) next run.explores run.max_threads run.max_steps run.body run.path run.old noted more (trail path) (trail after) same (way.stays_on run.room (marking None) next run.explores run.max_threads run.max_steps run.body run.path run.old (trail path) (suc h.course.world.steps_left) bodies h.course h.at (turn, v) (trail after) drawn) h.tables
 
   -- ---- what the code does
 
   -- an operation was begun
-  module _ (bodies : List S) (old new : ExecutionState D) (path after : Route) (op : Op D S) (kept : List (Kept D S)) (going : old.over ≡ None) (same : after.search ≡ path.search) (todo : Request D ⊤)
-      (asked : todo ≡ plain op) (h : IsHanding next run bodies old.run path op kept) where
+  module _ (bodies : List S) (old new : ExecutionState D) (path after : Route) (op : Op D S) (noted : Noted D S) (going : old.over ≡ None) (same : after.search ≡ path.search) (todo : Request D ⊤)
+      (asked : todo ≡ plain op) (h : IsHanding next run bodies old.run path op noted) where
     begun_along : (result : Result (Begun D) Stop) → Begins old todo path result new after → Along (begins_at (plain op)) old.run path result new.run after
     begun_along result event =
         subst (λ (r : Request D ⊤). Along (begins_at r) old.run path result new.run after) asked (subst (λ (over : Option Stop). BeginsAt over old todo path result new after) going event).0
 
-    pub begun_stops : (stop : Stop) → Begins old todo path (Err stop) new after → (more : List S) → ComesTo next run (Err (halt.Stopped stop)) more new.run after kept
-    begun_stops (Because failure) event more = begins_failing bodies old.run path op kept h new.run after same failure.kind (begun_along (Err (Because failure)) event h.course h.shown)
+    pub begun_stops : (stop : Stop) → Begins old todo path (Err stop) new after → (more : List S) → ComesTo next run (Err (halt.Stopped stop)) more new.run after noted
+    begun_stops (Because failure) event more = begins_failing bodies old.run path op noted h new.run after same failure.kind (begun_along (Err (Because failure)) event h.course h.shown)
     begun_stops Memory event more = tt
 
     pub begun_turns : (turn : Turn D) → Begins old todo path (Ok (begun.Turn turn)) new after → old.run.state.steps_left ≡ new.run.state.steps_left + 1 → (more : List S) → more ≡ with_child bodies (started op)
-        → ComesTo next run (Ok turn) more new.run after kept
+        → ComesTo next run (Ok turn) more new.run after noted
     begun_turns turn event steps more grown =
         let z = begun_along (Ok (begun.Turn turn)) event h.course h.shown in
-        subst (λ (l : List S). ComesTo next run (Ok turn) l new.run after kept) (sym grown) (begins_to bodies old.run path op kept h new.run after same (begun.Turn turn) steps z.0 z.1 z.2)
+        subst (λ (l : List S). ComesTo next run (Ok turn) l new.run after noted) (sym grown) (begins_to bodies old.run path op noted h new.run after same (begun.Turn turn) steps z.0 z.1 z.2)
 
     pub begun_branches : Begins old todo path (Ok begun.AtBranch) new after → old.run.state.steps_left ≡ new.run.state.steps_left + 1 → (more : List S) → more ≡ with_child bodies (started op)
-        → IsAtBranch next run more new.run after kept
+        → IsAtBranch next run more new.run after noted
     begun_branches event steps more grown =
         let z = begun_along (Ok begun.AtBranch) event h.course h.shown in
-        subst (λ (l : List S). IsAtBranch next run l new.run after kept) (sym grown) (begins_to bodies old.run path op kept h new.run after same begun.AtBranch steps z.0 z.1 z.2)
+        subst (λ (l : List S). IsAtBranch next run l new.run after noted) (sym grown) (begins_to bodies old.run path op noted h new.run after same begun.AtBranch steps z.0 z.1 z.2)
 
   -- a branch point was passed
-  module _ (bodies : List S) (old new : ExecutionState D) (path after : Route) (kept more : List (Kept D S)) (going : old.over ≡ None) (same : after.search ≡ path.search)
-      (h : IsAtBranch next run bodies old.run path kept) where
+  module _ (bodies : List S) (old new : ExecutionState D) (path after : Route) (noted more : Noted D S) (going : old.over ≡ None) (same : after.search ≡ path.search)
+      (h : IsAtBranch next run bodies old.run path noted) where
     scheduled_along : (result : Result (Turn D) Stop) → Schedules old path result new after → Along (schedule further_branches) old.run path result new.run after
     scheduled_along result event =
         (subst (λ (over : Option Stop). HappensAt over (schedule further_branches) (AllNeedMemory itself (schedule further_branches)) old path result new after) going event).0
 
     pub scheduled_stops : (stop : Stop) → Schedules old path (Err stop) new after → ComesTo next run (Err (halt.Stopped stop)) bodies new.run after more
-    scheduled_stops (Because failure) event = schedule_fails bodies old.run path kept h new.run after same failure.kind more (scheduled_along (Err (Because failure)) event h.course h.shown)
+    scheduled_stops (Because failure) event = schedule_fails bodies old.run path noted h new.run after same failure.kind more (scheduled_along (Err (Because failure)) event h.course h.shown)
     scheduled_stops Memory event = tt
 
-    pub scheduled_turns : (turn : Turn D) → Schedules old path (Ok turn) new after → LooksUp (state_in old.run bodies) path kept New more → new.run.state.steps_left ≡ old.run.state.steps_left
+    pub scheduled_turns : (turn : Turn D) → Schedules old path (Ok turn) new after → LooksUp (state_in old.run bodies) path noted New more → new.run.state.steps_left ≡ old.run.state.steps_left
         → ComesTo next run (Ok turn) bodies new.run after more
     scheduled_turns turn event looked steps =
         let z = scheduled_along (Ok turn) event h.course h.shown in
-        schedule_turns bodies old.run path kept h new.run after same turn more looked steps z.0 z.1 z.2
+        schedule_turns bodies old.run path noted h new.run after same turn more looked steps z.0 z.1 z.2
 
   -- its state was noted before
-  pub met_there : (bodies : List S) (old : Progress D) (path : Route) (kept more : List (Kept D S)) → LooksUp (state_in old bodies) path kept Known more → IsAtBranch next run bodies old path kept
-      → Leaves next run (Ok None) path more
-  met_there bodies old path kept more looked h = subst (λ (l : List (Kept D S)). Leaves next run (Ok None) path l) (sym looked.3) (met bodies old path kept h looked.0 looked.1 looked.2)
+  pub met_there : (bodies : List S) (old : Progress D) (path : Route) (noted more : Noted D S) (number : ℕ) → LooksUp (state_in old bodies) path noted (Known number) more → IsAtBranch next run bodies old path noted
+      → Meets next run number path more
+  met_there bodies old path noted more number looked h = subst (λ (l : Noted D S). Meets next run number path l) (sym looked.3) (met bodies old path noted h looked.0 looked.1 number looked.2)
 
   -- ---- a turn
 
-  module _ (bodies : List S) (progress : Progress D) (path : Route) (thread : ℕ) (answer : Reply D) (kept : List (Kept D S)) (h : IsUnderWay next run bodies progress path thread answer kept) where
+  module _ (bodies : List S) (progress : Progress D) (path : Route) (thread : ℕ) (answer : Reply D) (noted : Noted D S) (h : IsUnderWay next run bodies progress path thread answer noted) where
     -- the thread's body hands over its next operation
-    pub hands : (body after : S) (op : Op D S) → IsHanded next bodies thread answer body after op → IsHanding next run (slice_set bodies thread after) progress path op kept
+    pub hands : (body after : S) (op : Op D S) → IsHanded next bodies thread answer body after op → IsHanding next run (slice_set bodies thread after) progress path op noted
     hands body after op is = record {
       course = h.course;
       shown = h.shown;
@@ -227,51 +226,51 @@ module _ {D S : Type 0} (next : Meaning D S) (run : Noting D S) where
     }
 
     -- it has no body
-    pub no_body : length bodies ≤ thread → (stop : Stop) → stop ≡ Because (record { kind = Misuse; location = None }) → (more : List S) (later : Progress D) → ComesTo next run (Err (halt.Stopped stop)) more later path kept
+    pub no_body : length bodies ≤ thread → (stop : Stop) → stop ≡ Because (record { kind = Misuse; location = None }) → (more : List S) (later : Progress D) → ComesTo next run (Err (halt.Stopped stop)) more later path noted
     no_body past stop e more later =
-        subst (λ (s : Stop). ComesTo next run (Err (halt.Stopped s)) more later path kept) (sym e)
-        (failed Misuse path kept (way.nobody run.room (marking None) next run.explores run.max_threads run.max_steps run.body run.path run.old (trail path) h.course.world.steps_left bodies h.course thread answer h.at (slice_get_past bodies thread past)))
+        subst (λ (s : Stop). ComesTo next run (Err (halt.Stopped s)) more later path noted) (sym e)
+        (failed Misuse path noted (way.nobody run.room (marking None) next run.explores run.max_threads run.max_steps run.body run.path run.old (trail path) h.course.world.steps_left bodies h.course thread answer h.at (slice_get_past bodies thread past)))
 
   -- the run ends as its last operation was answered
-  pub stopped_so : (stop : Stop) (ending : Ending D) (bodies : List S) (progress : Progress D) (path : Route) (kept : List (Kept D S)) → IsEndOf stop ending → ComesTo next run (Err (halt.Stopped stop)) bodies progress path kept
-      → EndsWith next run ending path kept
-  stopped_so (Because failure) ending bodies progress path kept e h = subst (λ (x : Ending D). EndsWith next run x path kept) (sym e) h
-  stopped_so Memory ending bodies progress path kept e h = absurd e
+  pub stopped_so : (stop : Stop) (ending : Ending D) (bodies : List S) (progress : Progress D) (path : Route) (noted : Noted D S) → IsEndOf stop ending → ComesTo next run (Err (halt.Stopped stop)) bodies progress path noted
+      → EndsWith next run ending path noted
+  stopped_so (Because failure) ending bodies progress path noted e h = subst (λ (x : Ending D). EndsWith next run x path noted) (sym e) h
+  stopped_so Memory ending bodies progress path noted e h = absurd e
 
-  pub ended_so : (result : Result (Turn D) Halt) (ending : Ending D) (bodies : List S) (progress : Progress D) (path : Route) (kept : List (Kept D S)) → IsEndBy result ending → ComesTo next run result bodies progress path kept
-      → EndsWith next run ending path kept
-  ended_so (Err (halt.Stopped stop)) ending bodies progress path kept e h = stopped_so stop ending bodies progress path kept e h
-  ended_so (Err halt.Met) ending bodies progress path kept e h = subst (λ (x : Ending D). EndsWith next run x path kept) (sym e) h
-  ended_so (Ok (turn.Ended value)) ending bodies progress path kept e h = subst (λ (x : Ending D). EndsWith next run x path kept) (sym e) h
-  ended_so (Ok (turn.Reply thread answer)) ending bodies progress path kept e h = absurd e
-  ended_so (Ok (turn.Start thread)) ending bodies progress path kept e h = absurd e
+  pub ended_so : (result : Result (Turn D) Halt) (ending : Ending D) (bodies : List S) (progress : Progress D) (path : Route) (noted : Noted D S) → IsEndBy result ending → ComesTo next run result bodies progress path noted
+      → EndsWith next run ending path noted
+  ended_so (Err (halt.Stopped stop)) ending bodies progress path noted e h = stopped_so stop ending bodies progress path noted e h
+  ended_so (Err (halt.Met number)) ending bodies progress path noted e h = subst (λ (x : Ending D). EndsWith next run x path noted) (sym e) h
+  ended_so (Ok (turn.Ended value)) ending bodies progress path noted e h = subst (λ (x : Ending D). EndsWith next run x path noted) (sym e) h
+  ended_so (Ok (turn.Reply thread answer)) ending bodies progress path noted e h = absurd e
+  ended_so (Ok (turn.Start thread)) ending bodies progress path noted e h = absurd e
 
   -- its end, if it has come to one
-  pub end_of : {E : Type 0} (result : Result (Turn D) Halt) (ended : Result (Ending D) E) (bodies : List S) (progress : Progress D) (path : Route) (kept : List (Kept D S)) → IfOk ended (IsEndBy result)
-      → ComesTo next run result bodies progress path kept → IfOk ended (λ ending. EndsWith next run ending path kept)
-  end_of result (Ok ending) bodies progress path kept e h = ended_so result ending bodies progress path kept e h
-  end_of result (Err refused) bodies progress path kept e h = tt
+  pub end_of : {E : Type 0} (result : Result (Turn D) Halt) (ended : Result (Ending D) E) (bodies : List S) (progress : Progress D) (path : Route) (noted : Noted D S) → IfOk ended (IsEndBy result)
+      → ComesTo next run result bodies progress path noted → IfOk ended (λ ending. EndsWith next run ending path noted)
+  end_of result (Ok ending) bodies progress path noted e h = ended_so result ending bodies progress path noted e h
+  end_of result (Err refused) bodies progress path noted e h = tt
 
-  pub stop_of : {E : Type 0} (stop : Stop) (ended : Result (Ending D) E) (bodies : List S) (progress : Progress D) (path : Route) (kept : List (Kept D S)) → IfOk ended (IsEndOf stop)
-      → ComesTo next run (Err (halt.Stopped stop)) bodies progress path kept → IfOk ended (λ ending. EndsWith next run ending path kept)
-  stop_of stop (Ok ending) bodies progress path kept e h = stopped_so stop ending bodies progress path kept e h
-  stop_of stop (Err refused) bodies progress path kept e h = tt
+  pub stop_of : {E : Type 0} (stop : Stop) (ended : Result (Ending D) E) (bodies : List S) (progress : Progress D) (path : Route) (noted : Noted D S) → IfOk ended (IsEndOf stop)
+      → ComesTo next run (Err (halt.Stopped stop)) bodies progress path noted → IfOk ended (λ ending. EndsWith next run ending path noted)
+  stop_of stop (Ok ending) bodies progress path noted e h = stopped_so stop ending bodies progress path noted e h
+  stop_of stop (Err refused) bodies progress path noted e h = tt
 
   -- ---- its beginning
 
   pub starts_so : (path : Route) → path.position ≡ 0 → path.given ≡ [] → at_start (stored path.nodes) ≡ trail path
   starts_so path e f = ap₂ (λ (k : ℕ) (l : List Choice). let t : Trail = record { nodes = stored path.nodes; position = k; given = l } in t) (sym e) (sym f)
 
-  pub begins_so : (bodies : List S) (progress : Progress D) (path : Route) (kept : List (Kept D S)) → bodies ≡ run.body ∷ [] → ShowsCourse (opening run.explores run.max_threads run.max_steps) progress path
-      → at_start run.path ≡ trail path → path.search ≡ whole_search run.room → AreKeptOf kept run.old → IsUnderWay next run bodies progress path 0 reply.Start kept
-  begins_so bodies progress path kept one shown starts whole are = record {
+  pub begins_so : (bodies : List S) (progress : Progress D) (path : Route) → bodies ≡ run.body ∷ [] → ShowsCourse (opening run.explores run.max_threads run.max_steps) progress path
+      → at_start run.path ≡ trail path → path.search ≡ whole_search run.room → AreNoted next run → IsUnderWay next run bodies progress path 0 reply.Start run.old
+  begins_so bodies progress path one shown starts whole are = record {
     course = opening run.explores run.max_threads run.max_steps;
     shown = shown;
     at = subst (λ (l : List S). under.AtTurn run.room (marking None) next run.explores run.max_threads run.max_steps run.body run.path run.old (trail path) (suc run.max_steps) l (opening run.explores run.max_threads run.max_steps) 0 reply.Start) (sym one)
         (subst (λ (t : Trail). under.AtTurn run.room (marking None) next run.explores run.max_threads run.max_steps run.body run.path run.old t (suc run.max_steps) (run.body ∷ []) (opening run.explores run.max_threads run.max_steps) 0 reply.Start) starts
         (way.turn_begins run.room (marking None) next run.explores run.max_threads run.max_steps run.body run.path run.old));
-    tables = subst (λ (t : Trail). under.Tables run.room (marking None) next run.explores run.max_threads run.max_steps run.body run.path run.old kept t) starts
-        (way.tables_begin run.room (marking None) next run.explores run.max_threads run.max_steps run.body run.path run.old kept are);
+    tables = subst (λ (t : Trail). under.Tables run.room (marking None) next run.explores run.max_threads run.max_steps run.body run.path run.old run.old t) starts
+        (way.tables_begin run.room (marking None) next run.explores run.max_threads run.max_steps run.body run.path run.old are);
     whole = whole;
   }
 

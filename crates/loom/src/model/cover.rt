@@ -1,10 +1,10 @@
 //! Checks that remember states, and so cover every run of a body. At each first branch point of an operation past the nodes of its
 //! path a run's state is looked up: if it was noted the run is given up there, since what comes then is tried from where it was
-//! noted; otherwise it is noted.
+//! noted; otherwise it is noted. From the ways that runs went between such states it is known whether each of them leads to an end.
 pub mod run;
 
 ghost use Rattle.std.specs.Prelude.{◌≡◌, ◌≤◌, [], Err, IfOk, IfErr};
-ghost use Rattle.loom.specs.Model.Covered.{Covering, CoveringAlone};
+ghost use Rattle.loom.specs.Model.Covered.{Covering, CoveringAlone, IsToldBy};
 ghost use Rattle.loom.specs.Model.Settings.{tested};
 
 use crate::model::Limit;
@@ -18,11 +18,13 @@ use crate::model::run::Room;
 use crate::model::visitor::Visitor;
 use loom_engine::rt::path::Path;
 use loom_engine::rt::states::States;
+use loom_engine::rt::states::ways::Ways;
 use loom_objects::body::Body;
 use loom_objects::choice::Choice;
 use loom_objects::failure::Failure;
 use loom_views::same::Same;
-use std::alloc::Global;
+use loom_views::sequence::Sequence;
+use std::alloc::{AllocError, Global};
 
 /// So many states are noted at most, where nothing else is said: with some kilobytes each they take a gigabyte at most.
 pub const MOST_STATES: usize = 100_000;
@@ -31,11 +33,19 @@ pub const MOST_STATES: usize = 100_000;
 /// where a state was noted, and `states` the states that were noted.
 #[derive(Debug, Drop)]
 pub enum Covered {
-    /// Nothing is left to be tried, and no run failed: each run of the body is covered.
+    /// Nothing is left to be tried, and no run failed: each run of the body is covered, and each can come to an end.
     Complete {
         runs: u64,
         met: u64,
         states: usize,
+    },
+    /// Nothing is left to be tried, and no run failed; but from a state that was noted no way leads to a run's end, as where a thread
+    /// tries for a mutex again and again that another never lets go. These choices lead there, to the first such state.
+    Livelock {
+        runs: u64,
+        met: u64,
+        states: usize,
+        choices: Vec<Choice>,
     },
     /// A limit was reached.
     Stopped {
@@ -74,8 +84,8 @@ impl Builder {
     /// Makes runs of the body until each of its runs is covered, one fails or a limit is reached, and gives each that ended without a
     /// failure to the visitor. Its search is whole and without a bound, whatever `reduce` and `preemption_bound` say, and it has no
     /// store. So many states are noted at most; where there are as many none is noted any more, and the report claims the same.
-    /// `max_permutations` counts the runs that were begun. Of a run that never ends it says nothing: where such a run comes to a state
-    /// again, as two threads do that spin on a flag that nobody sets, it is given up there. Errors are those of `check_with` (own).
+    /// `max_permutations` counts the runs that were begun. Where a run that never ends comes to a state again it is given up there; if no
+    /// way leads from there to an end, that is a livelock. Errors are those of `check_with` (own).
     pub fn cover_with<B: Body + Same, V: Visitor<B::Data>, C: Clock>(
         &self,
         alloc: Global,
@@ -136,14 +146,13 @@ impl Builder {
         requires some { 1 ≤ self.now.max_threads }
         requires few { self.now.max_threads ≤ 5 }
         requires branches { self.now.max_branches ≤ 1000000 }
-        requires none { states.old ≡ [] }
+        requires none { states.old ≡ record { states = []; led_by = [] } }
         ensures covers { IfOk result (Covering R.receives receiver.old receiver.new self.now B.next body.now (C.answered clock.new)) }
     {
-        let branches = self.max_branches;
-        let search = path_search(false, None, branches, self.expect_explicit_explore);
+        let search = path_search(false, None, self.max_branches, self.expect_explicit_explore);
         let mut path = Path::new(alloc, search);
-        let mut runs = 0u64;
-        let mut met = 0u64;
+        let mut ways = Ways::new(alloc);
+        let (mut runs, mut met) = (0u64, 0u64);
         loop {
             if let Some(limit) = self.reached(runs + met, clock) {
                 return Ok(Covered::Stopped {
@@ -153,12 +162,17 @@ impl Builder {
                     limit,
                 });
             }
-            match run(room, self.limits(), body, &mut path, states)? {
+            let noted = states.len();
+            let to = match run(room, self.limits(), body, &mut path, states)? {
                 Ending::Ended(value) => {
                     receiver.receive(alloc, &path, value)?;
                     runs += 1;
+                    None
                 }
-                Ending::Met => met += 1,
+                Ending::Met(number) => {
+                    met += 1;
+                    Some(number)
+                }
                 Ending::Failed(failure) => {
                     return Ok(Covered::Failed {
                         runs,
@@ -168,14 +182,33 @@ impl Builder {
                         choices: path.choices(alloc)?,
                     });
                 }
-            }
+            };
+            ways.add_run(states.led_by(), noted, path.choices(alloc)?.as_slice(), to)?;
             if !path.step() {
-                return Ok(Covered::Complete {
-                    runs,
-                    met,
-                    states: states.len(),
-                });
+                return Ok(told(alloc, runs, met, states.led_by(), &ways)?);
             }
         }
+    }
+}
+
+/// What is told where nothing is left to be tried, after so many runs that ended and so many that were given up.
+fn told(
+    alloc: Global,
+    runs: u64,
+    met: u64,
+    led_by: &[Sequence<Choice>],
+    ways: &Ways,
+) -> Result<Covered, AllocError>
+    ensures { IfOk result (IsToldBy ways.now.ways led_by.now runs) }
+{
+    let states = led_by.len();
+    match ways.first_lost(alloc, states)? {
+        None => Ok(Covered::Complete { runs, met, states }),
+        Some(lost) => Ok(Covered::Livelock {
+            runs,
+            met,
+            states,
+            choices: led_by[lost].try_clone(alloc)?.into_vec(),
+        }),
     }
 }

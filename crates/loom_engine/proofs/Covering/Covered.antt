@@ -24,7 +24,7 @@ some_left : (p : List Stored) (left : List (List Stored)) → Driven p left → 
 some_left p left (last_run _ q l h) = (q, inl refl)
 some_left p left (one_run _ q later rest l h d) = (q, inl refl)
 
-Tries : List (List Stored) → List Choice → Choice → Type 0
+unfoldable pub Tries : List (List Stored) → List Choice → Choice → Type 0
 Tries left before o = (x : List Stored) × IsOneOf x left × Begins (before ++ o ∷ []) (choices x)
 
 -- ---- nodes that are the same
@@ -70,7 +70,7 @@ module _ {A K : Type 0} (limits : FailureKind → Bool) (w v : World A) (key oth
   node_called q i b n at = let a = node_chooses q b n at in called_front w b (n.present ∷ a.0) (subst (IsCalled w) a.1 (path_called q i))
 
   -- what may be chosen at a node that a run passed, some run chooses there
-  tried : (q : List Stored) → IsOneOf q left → (b : List Choice) (k : Stored) (o : Choice) → node_at q b ≡ Some k → Among o k.made.options
+  pub tried : (q : List Stored) → IsOneOf q left → (b : List Choice) (k : Stored) (o : Choice) → node_at q b ≡ Some k → Among o k.made.options
       → (k.made.exploring ≡ false → o ≡ k.made.default) → Tries left b o
   unfolding Tries
   tried q i b k o at am only = go k.made.exploring refl

@@ -294,7 +294,7 @@ module _ {A : Type 0} (room : ℕ) (adds : Marking) (tree : Tree A) (sound : IsS
     end_more c came runs q (ended value none ok given) = ended value none ok (given_more c came runs (choices q) value given)
     end_more c came runs q (was_met n at y b k i node same_key) = was_met n at y b k i node same_key
 
-    in_world : (d : List Choice) (value : A) → outcome room tree d ≡ Some (Ok value) → (world_of tree).outcome d ≡ Some (Ok value)
+    pub in_world : (d : List Choice) (value : A) → outcome room tree d ≡ Some (Ok value) → (world_of tree).outcome d ≡ Some (Ok value)
     in_world d value h = go (outcome_more room tree d (Ok value) h)
       where
         go : (Ok value ≡ Err TooManyBranches) ⊎ ((world_of tree).outcome d ≡ Some (Ok value)) → (world_of tree).outcome d ≡ Some (Ok value)

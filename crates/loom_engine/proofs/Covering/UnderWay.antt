@@ -1,8 +1,8 @@
 -- A run of a body with a table of states, from turn to turn, and what it comes to.
-use Rattle.std.proofs.Common.{◌≡◌, ◌≤◌, ◌⊎◌, ℕ, zero, suc, arith, Bool, true, false, List, [], ◌∷◌, ◌++◌, length, take, Option, Some, None, Ok, Err, refl, ap, sym, ◌∙◌, subst, inl, inr}
-use Rattle.std.specs.Prelude.{slice_get, slice_set}
+use Rattle.std.proofs.Common.{◌≡◌, ◌<◌, ◌≤◌, ◌⊎◌, ℕ, zero, suc, arith, length-append, Bool, true, false, List, [], ◌∷◌, ◌++◌, length, take, Option, Some, None, Ok, Err, refl, ap, sym, ◌∙◌, subst, inl, inr}
+use Rattle.std.specs.Prelude.{map, slice_get, slice_set}
 use Rattle.std.specs.List.{Contains}
-use Rattle.std.proofs.lemmas.List.Elements.{Contains-append_cases, Contains-append_left, Contains-append_right}
+use Rattle.std.proofs.lemmas.List.Elements.{Contains-append_cases}
 use Rattle.loom_views.specs.Laws.Moves.{none}
 use Rattle.loom_views.specs.declared.rt.failure.FailureKind.{FailureKind}
 use Rattle.loom_views.specs.declared.rt.failure.FailureKind.TheVariants.{Misuse}
@@ -32,34 +32,116 @@ use Rattle.loom_engine.specs.Trees.Meeting.{Marking, whole_search}
 use Rattle.loom_engine.specs.Trees.Drive.{Trail, at_start, drive}
 use Rattle.loom_engine.specs.Walk.Path.{Stored, choices, node_at}
 use Rattle.loom_engine.specs.Covering.Cut.{cut, passed}
-use Rattle.loom_engine.specs.Covering.Kept.{AreKeptOf, IsKeptOf, Key, NotesAs, state_in}
+use Rattle.loom_engine.specs.Covering.Kept.{AreKeptAfter, GrowsFrom, IsKeptOf, Key, Noted, NotesAs, state_in}
 use Rattle.loom_engine.specs.Covering.Moments.{Moment, Next, Stand, first_stand, handing, settled, to_schedule}
 use Rattle.loom_engine.specs.Covering.Parts.{IsEnded, LeadsOn, StayThere, TurnsOn, on_begun, on_turn}
 use Rattle.loom_engine.specs.Covering.Sight.{seen_at}
 use Rattle.loom_engine.specs.Covering.States.{seen_in, state_of}
-use Rattle.loom_engine.specs.Covering.Table.{IsAlong}
-use Rattle.loom_engine.specs.Covering.UnderWay.{IsLed, after_begun, never, onward}
+use Rattle.loom_engine.specs.Covering.Table.{HasState, IsAlong}
+use Rattle.loom_engine.specs.Covering.UnderWay.{HasNode, IsLed, after_begun, never, onward}
 use Rattle.loom_engine.specs.Covering.UnderWay as under
 use Rattle.loom_engine.proofs.Covering.Begun.{beginning_law}
 use Rattle.loom_engine.proofs.Covering.Handing.{handing_law}
-use Rattle.loom_engine.proofs.Covering.Kept.{kept_law}
+use Rattle.loom_engine.proofs.Covering.Kept.{has_at, kept_law}
 use Rattle.loom_engine.proofs.Covering.Led.{begun_along, schedule_along}
 use Rattle.loom_engine.proofs.Covering.Nodes.{nodes_law}
 use Rattle.loom_engine.proofs.Covering.Parts.{begun_law}
 use Rattle.loom_engine.proofs.Covering.Turns.{schedule_law}
 use Rattle.loom_engine.proofs.Covering.Unfolding.{bound}
-use Rattle.loom_engine.proofs.Walk.Lists.{node_chooses, not_longer}
+use Rattle.loom_engine.proofs.Walk.Lists.{node_chooses, node_on as on_path, not_longer}
 use Rattle.loom_engine.proofs.Covering.Way.{it_was, just_at, way_begins, way_ends, way_fails, way_on, way_same, way_stops}
 
--- what a list of one has
-alone : {X : Type 0} (x : X) → Contains (x ∷ []) x
-alone x = (0, omega arith, refl)
+-- ---- lists of states
 
 is_alone : {X : Type 0} (x y : X) → Contains (x ∷ []) y → y ≡ x
 is_alone x y (zero, l, e) = sym e
 is_alone x y (suc k, l, e) = absurd (omega (arith, l))
 
-module _ {D S : Type 0} (room : ℕ) (adds : Marking) (next : Meaning D S) (explores : Bool) (max_threads max_steps : ℕ) (body : S) (p : List Stored) (old : List (Key D S)) where
+-- what is mapped has the values of the items, and of nothing else
+in_map : {X Y : Type 0} (f : X → Y) (xs : List X) (x : X) → Contains xs x → Contains (map f xs) (f x)
+in_map f [] x (k, l, e) = absurd (omega (arith, l))
+in_map f (y ∷ xs) x (zero, l, e) = (0, omega arith, ap f e)
+in_map f (y ∷ xs) x (suc k, l, e) = let z = in_map f xs x (k, omega (arith, l), e) in (suc z.0, omega (arith, z.1), z.2)
+
+mapped : {X Y : Type 0} (f : X → Y) (xs : List X) (y : Y) → Contains (map f xs) y → (x : X) × Contains xs x × (f x ≡ y)
+mapped f [] y (k, l, e) = absurd (omega (arith, l))
+mapped f (x ∷ xs) y (zero, l, e) = (x, (0, omega arith, refl), e)
+mapped f (x ∷ xs) y (suc k, l, e) = let z = mapped f xs y (k, omega (arith, l), e) in (z.0, (suc z.1.0, omega (arith, z.1.1), z.1.2), z.2)
+
+-- an item of two lists of the same length, each with one more
+module _ {X Y : Type 0} (x : X) (y : Y) where
+  beside : (xs : List X) (ys : List Y) (k : ℕ) (a : X) → length ys ≡ length xs → slice_get (xs ++ x ∷ []) k ≡ Some a
+      → (slice_get xs k ≡ Some a) ⊎ ((slice_get (ys ++ y ∷ []) k ≡ Some y) × (a ≡ x))
+  beside [] [] zero a l e = inr (refl, cc e)
+  beside [] [] (suc k) a l e = absurd (cc e)
+  beside [] (z ∷ ys) k a l e = absurd (omega (arith, l))
+  beside (w ∷ xs) [] k a l e = absurd (omega (arith, l))
+  beside (w ∷ xs) (z ∷ ys) zero a l e = inl e
+  beside (w ∷ xs) (z ∷ ys) (suc k) a l e = beside xs ys k a (omega (arith, l)) e
+
+pub within : {X : Type 0} (xs : List X) (k : ℕ) (x : X) → slice_get xs k ≡ Some x → k < length xs
+within [] k x e = absurd (cc e)
+within (y ∷ xs) zero x e = omega arith
+within (y ∷ xs) (suc k) x e = let z : k < length xs = within xs k x e in omega arith
+
+-- an item of a list with one more
+at_last : {X : Type 0} (xs : List X) (x : X) (k : ℕ) (a : X) → slice_get (xs ++ x ∷ []) k ≡ Some a → (slice_get xs k ≡ Some a) ⊎ ((k ≡ length xs) × (a ≡ x))
+at_last [] x zero a e = inr (refl, cc e)
+at_last [] x (suc k) a e = absurd (cc e)
+at_last (y ∷ xs) x zero a e = inl e
+at_last (y ∷ xs) x (suc k) a e = by (at_last xs x k a e)
+  where
+    by : (slice_get xs k ≡ Some a) ⊎ ((k ≡ length xs) × (a ≡ x)) → (slice_get xs k ≡ Some a) ⊎ ((suc k ≡ suc (length xs)) × (a ≡ x))
+    by (inl h) = inl h
+    by (inr (i, f)) = inr (ap suc i, f)
+
+-- ---- lengths of paths
+
+as_many : (q : List Stored) → length (choices q) ≡ length q
+as_many [] = refl
+as_many (n ∷ q) = ap suc (as_many q)
+
+-- a node comes before the path's end
+pub node_within : (q : List Stored) (c : List Choice) (n : Stored) → node_at q c ≡ Some n → length c < length q
+node_within q c n at =
+    let a = node_chooses q c n at in
+    let all : length q ≡ length (c ++ n.present ∷ a.0) = sym (as_many q) ∙ ap length a.1 in
+    omega (arith, all, length-append c (n.present ∷ a.0))
+
+last_node : (n : Stored) (q : List Stored) → (c : List Choice) × (k : Stored) × (node_at (n ∷ q) c ≡ Some k) × (suc (length c) ≡ length (n ∷ q))
+unfolding node_at
+last_node n [] = ([], n, refl, refl)
+last_node n (m ∷ q) = let z = last_node m q in (n.present ∷ z.0, z.1, on_path n (m ∷ q) n.present z.0 refl ∙ z.2, ap suc z.3)
+
+-- a path that keeps nodes is no shorter
+stay_longer : (p q : List Stored) → ((c : List Choice) (n : Stored) → node_at p c ≡ Some n → node_at q c ≡ Some n) → length p ≤ length q
+stay_longer [] q stay = omega arith
+stay_longer (n ∷ p) q stay = let z = last_node n p in let l = node_within q z.0 z.1 (stay z.0 z.1 z.2) in omega (arith, l, z.3)
+
+still_there : {X : Type 0} (xs : List X) (x : X) (k : ℕ) (a : X) → slice_get xs k ≡ Some a → slice_get (xs ++ x ∷ []) k ≡ Some a
+still_there [] x k a e = absurd (cc e)
+still_there (y ∷ xs) x zero a e = e
+still_there (y ∷ xs) x (suc k) a e = still_there xs x k a e
+
+-- one more state, that after these choices
+one_more : {D S : Type 0} (key : List Choice → Key D S) (noted grown : Noted D S) (state : Kept D S) (c : List Choice) → grown.states ≡ noted.states ++ state ∷ [] → grown.led_by ≡ noted.led_by ++ c ∷ []
+    → IsKeptOf state (key c) → AreKeptAfter key noted → AreKeptAfter key grown
+one_more {D} {S} key noted grown state c more led is are = record {
+  counted = ap length led ∙ longer noted.led_by c ∙ ap suc are.counted ∙ sym (longer noted.states state) ∙ ap length (sym more);
+  each = λ k one at. each k one (beside state c noted.states noted.led_by k one are.counted (subst (λ (l : List (Kept D S)). slice_get l k ≡ Some one) more at));
+}
+  where
+    longer : {X : Type 0} (xs : List X) (x : X) → length (xs ++ x ∷ []) ≡ suc (length xs)
+    longer [] x = refl
+    longer (y ∷ xs) x = ap suc (longer xs x)
+
+    each : (k : ℕ) (one : Kept D S) → (slice_get noted.states k ≡ Some one) ⊎ ((slice_get (noted.led_by ++ c ∷ []) k ≡ Some c) × (one ≡ state))
+        → (d : List Choice) × (slice_get grown.led_by k ≡ Some d) × IsKeptOf one (key d)
+    each k one (inl at) =
+        let z = are.each k one at in (z.0, subst (λ (l : List (List Choice)). slice_get l k ≡ Some z.0) (sym led) (still_there noted.led_by c k z.0 z.1), z.2)
+    each k one (inr at) = (c, subst (λ (l : List (List Choice)). slice_get l k ≡ Some c) (sym led) at.0, subst (λ (x : Kept D S). IsKeptOf x (key c)) (sym at.1) is)
+
+module _ {D S : Type 0} (room : ℕ) (adds : Marking) (next : Meaning D S) (explores : Bool) (max_threads max_steps : ℕ) (body : S) (p : List Stored) (old : Noted D S) where
   abbrev tree : Tree D
   tree = under.tree room adds next explores max_threads max_steps body p old
 
@@ -69,11 +151,17 @@ module _ {D S : Type 0} (room : ℕ) (adds : Marking) (next : Meaning D S) (expl
   abbrev IsOnWay : Trail → Tree D → Stand D S → Type 0
   IsOnWay path ahead stand = under.IsOnWay room adds next explores max_threads max_steps body p old path ahead stand
 
-  abbrev IsOfBefore : Trail → Key D S → Type 0
-  IsOfBefore path k = under.IsOfBefore room adds next explores max_threads max_steps body p old path k
+  abbrev keys : Noted D S → List (Key D S)
+  keys noted = under.keys room adds next explores max_threads max_steps body p old noted
 
-  abbrev Tables : List (Kept D S) → Trail → Type 0
-  Tables kept path = under.Tables room adds next explores max_threads max_steps body p old kept path
+  abbrev Tables : Noted D S → Trail → Type 0
+  Tables noted path = under.Tables room adds next explores max_threads max_steps body p old noted path
+
+  abbrev AreLater : Noted D S → Trail → Type 0
+  AreLater noted path = under.AreLater room adds next explores max_threads max_steps body p old noted path
+
+  abbrev EndsIn : ℕ → Trail → Noted D S → Type 0
+  EndsIn number path noted = under.EndsIn room adds next explores max_threads max_steps body p old number path noted
 
   abbrev AtTurn : Trail → ℕ → List S → Course D → ℕ → Reply D → Type 0
   AtTurn path left bodies c thread answer = under.AtTurn room adds next explores max_threads max_steps body p old path left bodies c thread answer
@@ -87,28 +175,55 @@ module _ {D S : Type 0} (room : ℕ) (adds : Marking) (next : Meaning D S) (expl
   abbrev TurnIs : Trail → ℕ → List S → Course D → Turn D → Type 0
   TurnIs path left bodies c turn = under.TurnIs room adds next explores max_threads max_steps body p old path left bodies c turn
 
-  of_before : (path after : Trail) (k : Key D S) → StayThere path after → IsOfBefore path k → IsOfBefore after k
-  of_before path after k stay (inl has) = inl has
-  of_before path after k stay (inr (b, n, at, e)) = inr (b, n, stay b n at, e)
+  -- what was noted before, or at a node of the path
+  abbrev IsOfBefore : Trail → List Choice → Type 0
+  IsOfBefore path c = Contains old.led_by c ⊎ HasNode path.nodes c
 
-  pub tables_same : (kept more : List (Kept D S)) (path after : Trail) → more ≡ kept → StayThere path after → Tables kept path → Tables more after
-  tables_same kept more path after same stay tables = record {
-    keys = tables.keys;
-    explained = λ one has. tables.explained one (subst (λ (l : List (Kept D S)). Contains l one) same has);
-    known = λ k has. of_before path after k stay (tables.known k has);
+  still : (path after : Trail) (c : List Choice) → StayThere path after → HasNode path.nodes c → HasNode after.nodes c
+  still path after c stay has = record { node = has.node; at = stay c has.node has.at }
+
+  of_before : (path after : Trail) (c : List Choice) → StayThere path after → IsOfBefore path c → IsOfBefore after c
+  of_before path after c stay (inl has) = inl has
+  of_before path after c stay (inr has) = inr (still path after c stay has)
+
+  pub tables_same : (noted more : Noted D S) (path after : Trail) → more ≡ noted → StayThere path after → Tables noted path → Tables more after
+  tables_same noted more path after same stay tables = record {
+    explained = subst (λ (x : Noted D S). AreKeptAfter key x) (sym same) tables.explained;
+    grows = subst (λ (x : Noted D S). GrowsFrom old x) (sym same) tables.grows;
+    later = subst (λ (x : Noted D S). AreLater x after) (sym same) (record {
+      there = λ k c l at. let z = tables.later.there k c l at in (still path after c stay z.0, z.1);
+      ordered = tables.later.ordered;
+    });
+    known = λ c has. of_before path after c stay (tables.known c (subst (λ (x : Noted D S). Contains x.led_by c) same has));
   }
 
-  pub tables_begin : (kept : List (Kept D S)) → AreKeptOf kept old → Tables kept (at_start p)
-  tables_begin kept are = record { keys = old; explained = are; known = λ k has. inl has }
+  pub tables_begin : AreKeptAfter key old → Tables old (at_start p)
+  tables_begin are = record {
+    explained = are;
+    grows = λ k c at. at;
+    later = record { there = λ k c l at. absurd (let z = within old.led_by k c at in omega (arith, l, z)); ordered = λ k m c d l h at there. absurd (let z = within old.led_by m d there in omega (arith, l, h, z)) };
+    known = λ c has. inl has;
+  }
+
+  -- a state in the table is one from before, or a node's
+  in_table : (noted : Noted D S) (path : Trail) (tables : Tables noted path) (k : Key D S) → Contains (keys noted) k → Contains (keys old) k ⊎ HasState key path.nodes k
+  in_table noted path tables k has = by (mapped key noted.led_by k has)
+    where
+      of_key : (c : List Choice) → key c ≡ k → IsOfBefore path c → Contains (keys old) k ⊎ HasState key path.nodes k
+      of_key c e (inl there) = inl (subst (λ (x : Key D S). Contains (keys old) x) e (in_map key old.led_by c there))
+      of_key c e (inr has) = inr (c, has.node, has.at, e)
+
+      by : (c : List Choice) × Contains noted.led_by c × (key c ≡ k) → Contains (keys old) k ⊎ HasState key path.nodes k
+      by (c, there, e) = of_key c e (tables.known c there)
 
   -- a run that has ended, or failed
-  pub ended_along : (kept : List (Kept D S)) (path : Trail) (value : D) (tables : Tables kept path) → drive (whole_search room) adds (cut never [] tree) (at_start p) ≡ (Ok (Some value), path)
-      → IsAlong room adds tree key old p (Ok (Some value)) path tables.keys
-  ended_along kept path value tables e = record { stop = never; past = λ b n at. refl; stops = λ c h. absurd (cc h); notes = λ ended same k has. tables.known k has; comes = e }
+  pub ended_along : (noted : Noted D S) (path : Trail) (value : D) (tables : Tables noted path) → drive (whole_search room) adds (cut never [] tree) (at_start p) ≡ (Ok (Some value), path)
+      → IsAlong room adds tree key (keys old) p (Ok (Some value)) path (keys noted)
+  ended_along noted path value tables e = record { stop = never; past = λ b n at. refl; stops = λ c h. absurd (cc h); notes = λ ended same k has. in_table noted path tables k has; comes = e }
 
-  pub failed_along : (keys : List (Key D S)) (path : Trail) (kind : FailureKind) → drive (whole_search room) adds (cut never [] tree) (at_start p) ≡ (Err kind, path)
-      → IsAlong room adds tree key old p (Err kind) path keys
-  failed_along keys path kind e = record { stop = never; past = λ b n at. refl; stops = λ c h. absurd (cc h); notes = λ ended same k has. absurd (cc same); comes = e }
+  pub failed_along : (new : List (Key D S)) (path : Trail) (kind : FailureKind) → drive (whole_search room) adds (cut never [] tree) (at_start p) ≡ (Err kind, path)
+      → IsAlong room adds tree key (keys old) p (Err kind) path new
+  failed_along new path kind e = record { stop = never; past = λ b n at. refl; stops = λ c h. absurd (cc h); notes = λ ended same k has. absurd (cc same); comes = e }
 
   pub turn_begins : AtTurn (at_start p) (suc max_steps) (body ∷ []) (opening explores max_threads max_steps) 0 reply.Start
   turn_begins = record { last = None; since = []; way = way_begins room adds next tree (first_stand next explores max_threads max_steps body) p _ refl; led = none }
@@ -299,42 +414,68 @@ module _ {D S : Type 0} (room : ℕ) (adds : Marking) (next : Meaning D S) (expl
           by false h = h
           by true h = absurd (none_here n (ap (λ (d : List Choice). node_at path.nodes d) (it_was (passed path) b h) ∙ at.way.stays b n e))
 
-      -- a run that has come to a state that is kept
-      pub met_along : (kept : List (Kept D S)) (tables : Tables kept path) (run : Progress D) (route : Route) → ShowsCourse c run route → c.exploring ≡ On → Contains kept (state_in run bodies)
-          → IsAlong room adds tree key old p (Ok None) path tables.keys
-      met_along kept tables run route shown explores has =
-          let one = tables.explained (state_in run bodies) has in
-          let same : one.0 ≡ key (passed path) = kept_law (state_in run bodies) one.0 (key (passed path)) one.2 (kept_here run route shown explores) in
-          record {
-            stop = just_at (passed path);
-            past = past;
-            stops = λ d h. subst (IsOfBefore path) (same ∙ ap key (it_was (passed path) d h)) (tables.known one.0 one.1);
-            notes = λ ended e k has. tables.known k has;
-            comes = stops_here;
-          }
+      -- a run that has come to a state that was noted
+      module _ (noted : Noted D S) (tables : Tables noted path) (run : Progress D) (route : Route) (shown : ShowsCourse c run route) (is_exploring : c.exploring ≡ On) (number : ℕ)
+          (has : slice_get noted.states number ≡ Some (state_in run bodies)) where
+        led : (d : List Choice) × (slice_get noted.led_by number ≡ Some d) × IsKeptOf (state_in run bodies) (key d)
+        led = tables.explained.each number (state_in run bodies) has
 
-    -- ---- what is kept
+        same_state : key led.0 ≡ key (passed path)
+        same_state = kept_law (state_in run bodies) (key led.0) (key (passed path)) led.2 (kept_here run route shown is_exploring)
+
+        pub met_along : IsAlong room adds tree key (keys old) p (Ok None) path (keys noted)
+        met_along = record {
+          stop = just_at (passed path);
+          past = past;
+          stops = λ d h.
+              subst (λ (k : Key D S). Contains (keys old) k ⊎ HasState key path.nodes k) (same_state ∙ ap key (it_was (passed path) d h))
+              (in_table noted path tables (key led.0) (in_map key noted.led_by led.0 (has_at noted.led_by number led.0 led.1)));
+          notes = λ ended e k has. in_table noted path tables k has;
+          comes = stops_here;
+        }
+
+        pub met_there : EndsIn number path noted
+        met_there = record { there = led.0; led = led.1; same = ap (λ (l : List Stored). key (choices l)) (sym (whole path.nodes path.position all)) ∙ sym same_state }
+
+    -- ---- what is noted
 
     -- after the schedule, the state before it is that of a node
-    pub tables_noted : (kept grown : List (Kept D S)) (run : Progress D) (route : Route) (came : Turn D × Course D) (end : Trail) → ShowsCourse c run route → c.exploring ≡ On → NotesAs (state_in run bodies) kept grown
-        → drive (whole_search room) adds (schedule further_branches c) path ≡ (Ok came, end) → Tables kept path → Tables grown end
-    tables_noted kept grown run route came end shown explores (inr same) e tables = tables_same kept grown path end same (stays_on came end e) tables
-    tables_noted kept grown run route came end shown explores (inl grows) e tables =
-        let node = node_on came end e in
-        record {
-          keys = tables.keys ++ key (passed path) ∷ [];
-          explained = λ one has. explained one (Contains-append_cases kept (state_in run bodies ∷ []) one (subst (λ (l : List (Kept D S)). Contains l one) grows has));
-          known = λ k has. known k node (Contains-append_cases tables.keys (key (passed path) ∷ []) k has);
-        }
+    pub tables_noted : (noted grown : Noted D S) (run : Progress D) (route : Route) (came : Turn D × Course D) (end : Trail) → ShowsCourse c run route → c.exploring ≡ On
+        → length path.nodes ≤ path.position → NotesAs (state_in run bodies) (passed path) noted grown → drive (whole_search room) adds (schedule further_branches c) path ≡ (Ok came, end) → Tables noted path → Tables grown end
+    tables_noted noted grown run route came end shown explores all (inr same) e tables = tables_same noted grown path end same (stays_on came end e) tables
+    tables_noted noted grown run route came end shown explores all (inl grows) e tables = record {
+      explained = one_more key noted grown (state_in run bodies) (passed path) grows.0 grows.1 (kept_here run route shown explores) tables.explained;
+      grows = λ k c at. subst (λ (l : List (List Choice)). slice_get l k ≡ Some c) (sym grows.1) (still_there noted.led_by (passed path) k c (tables.grows k c at));
+      later = record {
+        there = λ k c l at. there k c l (at_last noted.led_by (passed path) k c (subst (λ (x : List (List Choice)). slice_get x k ≡ Some c) grows.1 at));
+        ordered = λ k m c d l h at to.
+            ordered k m c d l h (at_last noted.led_by (passed path) k c (subst (λ (x : List (List Choice)). slice_get x k ≡ Some c) grows.1 at))
+            (at_last noted.led_by (passed path) m d (subst (λ (x : List (List Choice)). slice_get x m ≡ Some d) grows.1 to));
+      };
+      known = λ c has. known c (node_on came end e) (Contains-append_cases noted.led_by (passed path ∷ []) c (subst (λ (l : List (List Choice)). Contains l c) grows.1 has));
+    }
       where
-        explained : (one : Kept D S) → Contains kept one ⊎ Contains (state_in run bodies ∷ []) one → (k : Key D S) × Contains (tables.keys ++ key (passed path) ∷ []) k × IsKeptOf one k
-        explained one (inl has) = let z = tables.explained one has in (z.0, Contains-append_left tables.keys (key (passed path) ∷ []) z.0 z.1, z.2)
-        explained one (inr has) = (
-          key (passed path),
-          Contains-append_right tables.keys (key (passed path) ∷ []) (key (passed path)) (alone (key (passed path))),
-          subst (λ (x : Kept D S). IsKeptOf x (key (passed path))) (sym (is_alone (state_in run bodies) one has)) (kept_here run route shown explores),
-        )
+        so_long : length (passed path) ≡ length path.nodes
+        so_long = ap length (ap choices (whole all path.nodes path.position all)) ∙ as_many path.nodes
 
-        known : (k : Key D S) → (n : Stored) × (node_at end.nodes (passed path) ≡ Some n) → Contains tables.keys k ⊎ Contains (key (passed path) ∷ []) k → IsOfBefore end k
-        known k node (inl has) = of_before path end k (stays_on came end e) (tables.known k has)
-        known k node (inr has) = inr (passed path, node.0, node.1, sym (is_alone (key (passed path)) k has))
+        -- all of the path's nodes come before
+        before : (c : List Choice) → HasNode path.nodes c → length c ≤ length (passed path)
+        before c has = let z = node_within path.nodes c has.node has.at in omega (arith, z, so_long)
+
+        there : (k : ℕ) (c : List Choice) → length old.led_by ≤ k → (slice_get noted.led_by k ≡ Some c) ⊎ ((k ≡ length noted.led_by) × (c ≡ passed path)) → HasNode end.nodes c × (length p ≤ length c)
+        there k c l (inl at) = let z = tables.later.there k c l at in (still path end c (stays_on came end e) z.0, z.1)
+        there k c l (inr (i, same)) =
+            let node = node_on came end e in
+            let long : length p ≤ length path.nodes = stay_longer p path.nodes at.way.stays in
+            (record { node = node.0; at = ap (node_at end.nodes) same ∙ node.1 }, omega (arith, long, so_long, ap length same))
+
+        ordered : (k m : ℕ) (c d : List Choice) → length old.led_by ≤ k → k < m → (slice_get noted.led_by k ≡ Some c) ⊎ ((k ≡ length noted.led_by) × (c ≡ passed path))
+            → (slice_get noted.led_by m ≡ Some d) ⊎ ((m ≡ length noted.led_by) × (d ≡ passed path)) → length c ≤ length d
+        ordered k m c d l h (inl at) (inl to) = tables.later.ordered k m c d l h at to
+        ordered k m c d l h (inl at) (inr (i, same)) = let z = before c (tables.later.there k c l at).0 in omega (arith, z, ap length same)
+        ordered k m c d l h (inr (j, one)) (inl to) = absurd (let z = within noted.led_by m d to in omega (arith, h, j, z))
+        ordered k m c d l h (inr (j, one)) (inr (i, same)) = absurd (omega (arith, h, i, j))
+
+        known : (c : List Choice) → (n : Stored) × (node_at end.nodes (passed path) ≡ Some n) → Contains noted.led_by c ⊎ Contains (passed path ∷ []) c → IsOfBefore end c
+        known c node (inl has) = of_before path end c (stays_on came end e) (tables.known c has)
+        known c node (inr has) = inr (record { node = node.0; at = ap (node_at end.nodes) (is_alone (passed path) c has) ∙ node.1 })

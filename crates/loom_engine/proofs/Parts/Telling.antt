@@ -25,7 +25,7 @@ numbers_tell None (Some y) = apart (λ s. cc s)
 numbers_tell (Some x) None = apart (λ s. cc s)
 numbers_tell (Some x) (Some y) = within Some (λ s. cc s) (unsigned_Decides x y)
 
-choices_tell : Tells (choices.ghosts).eq
+pub choices_tell : Tells (choices.ghosts).eq
 choices_tell (choice.Thread a) (choice.Thread b) = within choice.Thread (λ s. cc s) (numbers_tell a b)
 choices_tell (choice.Load a) (choice.Load b) = within choice.Load (λ s. cc s) (unsigned_Decides a b)
 choices_tell (choice.Spurious a) (choice.Spurious b) = within choice.Spurious (λ s. cc s) (booleans_Decides a b)

@@ -1,6 +1,5 @@
 -- What is kept of where a run stands, and what it tells.
-use Rattle.std.specs.Prelude.{◌≡◌, ◌⊎◌, List, [], ◌∷◌, ◌++◌, length, Option, Some}
-use Rattle.std.specs.List.{Contains}
+use Rattle.std.specs.Prelude.{ℕ, ◌≡◌, ◌⊎◌, List, [], ◌∷◌, ◌++◌, length, slice_get, Option, Some}
 use Rattle.loom_views.specs.Laws.Moves.{Leads}
 use Rattle.loom_views.specs.Sight.{Sight as SightOfPoints}
 use Rattle.loom_views.specs.Views.{Points, opening as first_points}
@@ -20,6 +19,11 @@ use Rattle.loom_engine.specs.Covering.States.{State, state_of}
 -- a state as the law of covering has it: that of the last schedule, and the choices since then
 abbrev pub Key : Type 0 → Type 0 → Type 0
 Key D S = Option (State S (Sight D (SightOfPoints ⊎ Points))) × List Choice
+
+-- The states that were noted, and the choices by which a run came to each.
+pub record Noted (D S : Type 0) : Type 0 where
+  pub states : List (Kept D S)
+  pub led_by : List (List Choice)
 
 module _ {D S : Type 0} where
   -- where a run stands, with its threads' bodies
@@ -43,9 +47,13 @@ module _ {D S : Type 0} where
     pub lazies : kept.lazies ≡ scene.lazies
     pub max_threads : kept.max_threads ≡ scene.max_threads
 
-  -- it is one more of those that are kept, or none is
-  abbrev pub NotesAs : Kept D S → List (Kept D S) → List (Kept D S) → Type 0
-  NotesAs state old new = (new ≡ old ++ state ∷ []) ⊎ (new ≡ old)
+  -- it is one more of those that were noted, come to by these choices, or none is
+  abbrev pub NotesAs : Kept D S → List Choice → Noted D S → Noted D S → Type 0
+  NotesAs state choices old new = ((new.states ≡ old.states ++ state ∷ []) × (new.led_by ≡ old.led_by ++ choices ∷ [])) ⊎ (new ≡ old)
+
+  -- what was noted keeps its number
+  abbrev pub GrowsFrom : Noted D S → Noted D S → Type 0
+  GrowsFrom old new = (k : ℕ) (c : List Choice) → slice_get old.led_by k ≡ Some c → slice_get new.led_by k ≡ Some c
 
   -- This is kept of a run that stands at the first branch point of an operation, where its search explores; and that is its state.
   pub record IsKeptOf (kept : Kept D S) (key : Key D S) : Type 0 where
@@ -59,9 +67,10 @@ module _ {D S : Type 0} where
     pub copied : kept ≡ state_in run moment.bodies
     pub state : key ≡ (Some (state_of seen_at moment), [])
 
-  -- each that is kept is so of one of the states
-  abbrev pub AreKeptOf : List (Kept D S) → List (Key D S) → Type 0
-  AreKeptOf kept keys = (one : Kept D S) → Contains kept one → (key : Key D S) × Contains keys key × IsKeptOf one key
+  -- Each that was noted is kept of a run that stood, after the choices beside it, in the state that the key says.
+  pub record AreKeptAfter (key : List Choice → Key D S) (noted : Noted D S) : Type 0 where
+    pub counted : length noted.led_by ≡ length noted.states
+    pub each : (k : ℕ) (one : Kept D S) → slice_get noted.states k ≡ Some one → (c : List Choice) × (slice_get noted.led_by k ≡ Some c) × IsKeptOf one (key c)
 
 -- Where the same is kept of two runs, they are in the same state.
 abbrev pub KeptLaw : Type 0 → Type 0 → Type 0

@@ -12,6 +12,7 @@ use Rattle.loom_engine.specs.Walk.Path.{Stored}
 use Rattle.loom_engine.specs.Covering.World.{world_of}
 use Rattle.loom_engine.specs.Covering.Covered.{Covers}
 use Rattle.loom_engine.specs.Covering.Cut.{Checks}
+use Rattle.loom_engine.specs.Covering.Ways.{CanEnd, HaveWays}
 use Rattle.loom_engine.specs.Covering.Points.{TellsMoves, Sight, sight}
 use Rattle.loom_engine.specs.Covering.Seen.{without_turn}
 use Rattle.loom_engine.specs.Covering.States.{AreLimits, state_after}
@@ -30,3 +31,11 @@ abbrev pub SeenBodyLaw : Type 0 → Type 0 → Type 0
 SeenBodyLaw D S = (limits : FailureKind → Bool) (next : Meaning D S) (explores : Bool) (max_threads max_steps steps_too room : ℕ) (adds : Marking) (body : S) (left : List (List Stored)) (given : List (List Choice × D))
     → AreLimits limits → IsMarking adds → Checks room adds (runs next explores max_threads max_steps body) (state_after seen_at next explores max_threads max_steps body) left [] left given
     → Covers limits (world_of (runs next explores max_threads max_steps body)) (world_of (runs next explores max_threads steps_too body)) given
+
+-- Where besides each node of its runs has a way from its state to an end, the body's runs can end, whatever number of operations its
+-- threads may hand over.
+abbrev pub BodyEndsLaw : Type 0 → Type 0 → Type 0
+BodyEndsLaw D S = (limits : FailureKind → Bool) (next : Meaning D S) (explores : Bool) (max_threads max_steps room : ℕ) (adds : Marking) (body : S) (left : List (List Stored)) (given : List (List Choice × D))
+    → AreLimits limits → IsMarking adds → Checks room adds (runs next explores max_threads max_steps body) (state_after seen_at next explores max_threads max_steps body) left [] left given
+    → HaveWays (world_of (runs next explores max_threads max_steps body)) (state_after seen_at next explores max_threads max_steps body) left given
+    → CanEnd limits (λ steps. world_of (runs next explores max_threads steps body))

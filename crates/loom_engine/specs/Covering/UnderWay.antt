@@ -1,5 +1,5 @@
 -- A run of a body under way, that notes the states it comes to and is given up where one was noted.
-use Rattle.std.specs.Prelude.{ℕ, ◌≡◌, ◌≤◌, ◌⊎◌, Bool, false, List, [], ◌∷◌, ◌++◌, length, Option, Some, Result, Ok, Err}
+use Rattle.std.specs.Prelude.{ℕ, ◌≡◌, ◌<◌, ◌≤◌, ◌⊎◌, Bool, false, List, [], ◌∷◌, ◌++◌, length, map, slice_get, Option, Some, Result, Ok, Err}
 use Rattle.std.specs.List.{Contains}
 use Rattle.loom_views.specs.declared.rt.failure.FailureKind.{FailureKind}
 use Rattle.loom_views.specs.Laws.Moves.{Leads}
@@ -13,21 +13,21 @@ use Rattle.loom_objects.specs.Operation.Labelled.{Op}
 use Rattle.loom_objects.specs.Operation.Plain.{plain, started}
 use Rattle.loom_objects.specs.Tree.Tree.{Tree, Gives, ◌>>=◌}
 use Rattle.loom_engine.specs.declared.rt.execution.Begun.{Begun}
-use Rattle.loom_engine.specs.declared.rt.states.State.{State as Kept}
 use Rattle.loom_engine.specs.Begun.{begins_at, goes_further}
 use Rattle.loom_engine.specs.Runs.Body.{Meaning, at_turn, play, runs, with_child}
 use Rattle.loom_engine.specs.Runs.Course.{Course}
 use Rattle.loom_engine.specs.Runs.Machine.{further_branches, schedule}
 use Rattle.loom_engine.specs.Trees.Meeting.{Marking, whole_search}
 use Rattle.loom_engine.specs.Trees.Drive.{Trail, at_start, drive}
-use Rattle.loom_engine.specs.Walk.Path.{Stored}
+use Rattle.loom_engine.specs.Walk.Path.{Stored, node_at}
+use Rattle.loom_engine.specs.Covering.Between.{EndsAt}
 use Rattle.loom_engine.specs.Covering.Cut.{cut, passed}
-use Rattle.loom_engine.specs.Covering.Kept.{AreKeptOf, Key}
+use Rattle.loom_engine.specs.Covering.Kept.{AreKeptAfter, GrowsFrom, Key, Noted}
 use Rattle.loom_engine.specs.Covering.Moments.{Moment, Stand, at_branch, first_stand, settled, stand_after, to_schedule}
 use Rattle.loom_engine.specs.Covering.Parts.{StayThere, on_begun}
 use Rattle.loom_engine.specs.Covering.Sight.{seen_at}
 use Rattle.loom_engine.specs.Covering.States.{state_after}
-use Rattle.loom_engine.specs.Covering.Table.{HasState, IsAlong}
+use Rattle.loom_engine.specs.Covering.Table.{IsAlong}
 
 -- nowhere
 abbrev pub never : List Choice → Bool
@@ -36,6 +36,11 @@ never c = false
 -- nowhere before these choices
 abbrev pub IsOpen : (List Choice → Bool) → List Choice → Type 0
 IsOpen stop c = (b : List Choice) (o : Choice) (rest : List Choice) → c ≡ b ++ o ∷ rest → stop b ≡ false
+
+-- the path has a node after these choices
+pub record HasNode (p : List Stored) (c : List Choice) : Type 0 where
+  pub node : Stored
+  pub at : node_at p c ≡ Some node
 
 module _ {R D S : Type 0} (room : ℕ) (adds : Marking) (next : Meaning D S) (tree : Tree R) (first : Stand D S) (p : List Stored) where
   -- A run along the path p has come this far, and this tree is ahead of it: what that comes to, with the path here, is what the whole
@@ -60,7 +65,7 @@ module _ {D S : Type 0} (next : Meaning D S) where
   abbrev pub after_begun : ℕ → List S → Begun D × Course D → Tree D
   after_begun left bodies came = goes_further came >>= onward left bodies
 
-module _ {D S : Type 0} (room : ℕ) (adds : Marking) (next : Meaning D S) (explores : Bool) (max_threads max_steps : ℕ) (body : S) (p : List Stored) (old : List (Key D S)) where
+module _ {D S : Type 0} (room : ℕ) (adds : Marking) (next : Meaning D S) (explores : Bool) (max_threads max_steps : ℕ) (body : S) (p : List Stored) (old : Noted D S) where
   -- the runs, and the state after choices
   abbrev pub tree : Tree D
   tree = runs next explores max_threads max_steps body
@@ -71,15 +76,21 @@ module _ {D S : Type 0} (room : ℕ) (adds : Marking) (next : Meaning D S) (expl
   abbrev pub IsOnWay : Trail → Tree D → Stand D S → Type 0
   IsOnWay path ahead stand = Way room adds next tree (first_stand next explores max_threads max_steps body) p path ahead stand
 
-  -- a state of an earlier run, or of a node of this one
-  abbrev pub IsOfBefore : Trail → Key D S → Type 0
-  IsOfBefore path k = Contains old k ⊎ HasState key path.nodes k
+  -- the states that were noted
+  abbrev pub keys : Noted D S → List (Key D S)
+  keys noted = map key noted.led_by
 
-  -- what is kept are states of earlier runs, and of this one's nodes
-  pub record Tables (kept : List (Kept D S)) (path : Trail) : Type 0 where
-    pub keys : List (Key D S)
-    pub explained : AreKeptOf kept keys
-    pub known : (k : Key D S) → Contains keys k → IsOfBefore path k
+  -- What this run noted stands at nodes past those with which its path began, each at a later one than what was noted before it.
+  pub record AreLater (noted : Noted D S) (path : Trail) : Type 0 where
+    pub there : (k : ℕ) (c : List Choice) → length old.led_by ≤ k → slice_get noted.led_by k ≡ Some c → HasNode path.nodes c × (length p ≤ length c)
+    pub ordered : (k m : ℕ) (c d : List Choice) → length old.led_by ≤ k → k < m → slice_get noted.led_by k ≡ Some c → slice_get noted.led_by m ≡ Some d → length c ≤ length d
+
+  -- What was noted keeps its number, and is the state after its choices. It was noted before, or at a node of this run's path.
+  pub record Tables (noted : Noted D S) (path : Trail) : Type 0 where
+    pub explained : AreKeptAfter key noted
+    pub grows : GrowsFrom old noted
+    pub later : AreLater noted path
+    pub known : (c : List Choice) → Contains noted.led_by c → Contains old.led_by c ⊎ HasNode path.nodes c
 
   -- the thread is to be told the reply
   pub record AtTurn (path : Trail) (left : ℕ) (bodies : List S) (c : Course D) (thread : ℕ) (answer : Reply D) : Type 0 where
@@ -109,7 +120,11 @@ module _ {D S : Type 0} (room : ℕ) (adds : Marking) (next : Meaning D S) (expl
   TurnIs path left bodies c (turn.Start thread) = AtTurn path left bodies c thread reply.Start
   TurnIs path left bodies c (turn.Ended value) = drive (whole_search room) adds (cut never [] tree) (at_start p) ≡ (Ok (Some value), path)
 
-  -- the run has left the path and what is kept so: it came to this, or was cut off, as one with a table
-  abbrev pub Leaves : Result (Option D) FailureKind → Trail → List (Kept D S) → Type 0
-  Leaves (Ok came) path kept = (keys : List (Key D S)) × AreKeptOf kept keys × IsAlong room adds tree key old p (Ok came) path keys
-  Leaves (Err kind) path kept = (keys : List (Key D S)) × IsAlong room adds tree key old p (Err kind) path keys
+  -- the run has left the path and what was noted so: it came to this, or was cut off, as one with a table
+  abbrev pub Leaves : Result (Option D) FailureKind → Trail → Noted D S → Type 0
+  Leaves (Ok came) path noted = Tables noted path × IsAlong room adds tree key (keys old) p (Ok came) path (keys noted)
+  Leaves (Err kind) path noted = (new : List (Key D S)) × IsAlong room adds tree key (keys old) p (Err kind) path new
+
+  -- the path ends in the state of this number
+  abbrev pub EndsIn : ℕ → Trail → Noted D S → Type 0
+  EndsIn number path noted = EndsAt key noted.led_by path.nodes number

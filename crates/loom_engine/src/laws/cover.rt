@@ -6,10 +6,10 @@ ghost use Rattle.loom_engine.specs.Covering.Kept.{KeptLaw};
 ghost use Rattle.loom_engine.specs.Covering.Parts.{BegunLaw, HandingLaw, NodesLaw, ScheduleLaw};
 ghost use Rattle.loom_engine.specs.Covering.Points.{PointsLaw, ThemselvesLaw};
 ghost use Rattle.loom_engine.specs.Covering.Seen.{TurnLaw, WholeLaw};
-ghost use Rattle.loom_engine.specs.Covering.Sight.{SeenBodyLaw, SightMovesLaw};
+ghost use Rattle.loom_engine.specs.Covering.Sight.{BodyEndsLaw, SeenBodyLaw, SightMovesLaw};
 ghost use Rattle.loom_engine.specs.Covering.States.{CoveredBodyLaw, StatesLaw};
 ghost use Rattle.loom_engine.specs.Covering.Table.{TableLaw};
-ghost use Rattle.loom_engine.specs.Covering.Ways.{WaysLaw};
+ghost use Rattle.loom_engine.specs.Covering.Ways.{CanEndLaw, WaysLaw};
 
 /// A complete check whose runs may be cut off at states that were noted has covered each run of the tree (own).
 pub fn check_covers<A, K>()
@@ -19,6 +19,11 @@ pub fn check_covers<A, K>()
 /// Where each state that such a check has met has a way to an end, each run can come to one, limits aside (own).
 pub fn ways_lead_to_ends<A, K>()
     ensures { WaysLaw A K }
+{}
+
+/// So the runs of other worlds that have the same states can end, by the same ways in each (own).
+pub fn runs_can_end<A, K>()
+    ensures { CanEndLaw A K }
 {}
 
 /// A run of such a check that fails is one of the tree (own).
@@ -80,6 +85,11 @@ pub fn sight_tells_their_moves()
 /// (own).
 pub fn body_is_covered_by_sight<D, S>()
     ensures { SeenBodyLaw D S }
+{}
+
+/// Where each state of such a check has a way to an end, the body's runs can end, limits aside (own).
+pub fn body_can_end<D, S>()
+    ensures { BodyEndsLaw D S }
 {}
 
 /// An operation that is begun goes on from its branch point to what the whole event comes to (own).

@@ -3,14 +3,17 @@ pub mod kept;
 pub(crate) mod objects;
 pub(crate) mod tasks;
 pub(crate) mod threads;
+pub mod ways;
 
-ghost use Rattle.std.specs.Prelude.{◌≡◌, [], IfOk, IsTrue, length};
-ghost use Rattle.std.specs.List.{Contains};
+ghost use Rattle.std.specs.Prelude.{◌≡◌, [], IfOk, IfSome, IsTrue, length, slice_get, Some};
 ghost use Rattle.loom_engine.specs.Covering.Kept.{HasScene, NotesAs, state_in};
+ghost use Rattle.loom_engine.specs.Path.Route.{chosen};
 
 use crate::rt::execution::Execution;
+use crate::rt::path::Path;
 use crate::rt::states::kept::{are_equal, copied_all};
 use loom_objects::body::Body;
+use loom_objects::choice::Choice;
 use loom_objects::data::Data;
 use loom_objects::operation::Lazy;
 use loom_objects::rt::object::Object;
@@ -100,11 +103,12 @@ fn copied_bodies<B: Body>(alloc: Global, bodies: &[B]) -> Result<Sequence<B>, Al
 // how many lists of states there are, each of those that have the same remainder
 const LISTS: usize = 65_536;
 
-/// The states that a search has noted, at most so many of them. Where no more may be, none is noted, and those that were are still
-/// found (own).
+/// The states that a search has noted, at most so many of them, each with the choices by which a run came to it. Where no more may be,
+/// none is noted, and those that were are still found (own).
 #[derive(Drop)]
 pub struct States<D, B> {
     states: Sequence<State<D, B>>,
+    led_by: Sequence<Sequence<Choice>>,
     // for each state the number of the one before in its list, counted from 1, or 0
     before: Vec<usize>,
     // the last one of each list
@@ -114,23 +118,23 @@ pub struct States<D, B> {
 }
 
 impl<D, B> Model for States<D, B> {
-    ghost use Rattle.std.specs.Prelude.{List};
-    ghost use Rattle.loom_engine.specs.declared.rt.states.State.{State};
+    ghost use Rattle.loom_engine.specs.Covering.Kept.{Noted};
 
-    ghost Value = { List (State D B) };
+    ghost Value = { Noted D B };
 
-    ghost view = { λ s. s.states };
+    ghost view = { λ s. record { states = s.states; led_by = s.led_by } };
 }
 
 impl<D: Data + Same, B: Body + Same> States<D, B> {
     /// None yet, and at most so many. An error where memory is refused.
     pub fn new(alloc: Global, most: usize) -> Result<States<D, B>, AllocError>
-        ensures { IfOk result (λ states. states ≡ []) }
+        ensures { IfOk result (λ states. states ≡ record { states = []; led_by = [] }) }
     {
         let mut last = Vec::new(alloc);
         last.resize(LISTS, 0)?;
         Ok(States {
             states: Sequence::new(alloc),
+            led_by: Sequence::new(alloc),
             before: Vec::new(alloc),
             last,
             most,
@@ -140,37 +144,50 @@ impl<D: Data + Same, B: Body + Same> States<D, B> {
 
     /// How many were noted.
     pub fn len(&self) -> usize
-        ensures { result ≡ length self.now }
+        ensures { result ≡ length self.now.states }
     {
         self.states.len()
     }
 
-    /// Whether the state of the run was noted.
-    #[tactic(auto, using(crate::proofs::Covering::Kept::has_at))]
-    pub fn has(&self, execution: &Execution<D>, bodies: &[B]) -> bool
-        ensures { IsTrue result → Contains self.now (state_in execution.now.run bodies.now) }
+    /// By which choices a run came to each state that was noted.
+    pub fn led_by(&self) -> &[Sequence<Choice>]
+        ensures { result.now ≡ self.now.led_by }
+    {
+        self.led_by.as_slice()
+    }
+
+    /// The number of the state that the run is in, if it was noted.
+    pub fn find(&self, execution: &Execution<D>, bodies: &[B]) -> Option<usize>
+        ensures { IfSome result (λ number. slice_get self.now.states number ≡ Some (state_in execution.now.run bodies.now)) }
     {
         let mut number = self.last_of(list_of(execution));
         for _ in 0..self.states.len() {
             if number == 0 || number > self.states.len() {
-                return false;
+                return None;
             }
             if self.states.at(number - 1).is_at(execution, bodies) {
-                return true;
+                return Some(number - 1);
             }
             number = self.one_before(number - 1);
         }
-        false
+        None
     }
 
-    /// Notes the state of the run, if there may be one more. An error where memory is refused.
-    pub fn note(&mut self, execution: &Execution<D>, bodies: &[B]) -> Result<(), AllocError>
-        ensures { IfOk result (λ _. NotesAs (state_in execution.now.run bodies.now) self.old self.new) }
+    /// Notes the state of the run, which came to it along the path, if there may be one more. An error where memory is refused.
+    pub fn note(
+        &mut self,
+        execution: &Execution<D>,
+        bodies: &[B],
+        path: &Path,
+    ) -> Result<(), AllocError>
+        ensures { IfOk result (λ _. NotesAs (state_in execution.now.run bodies.now) (chosen path.now) self.old self.new) }
     {
         if self.states.len() >= self.most {
             return Ok(());
         }
         let state = State::of(self.alloc, execution, bodies)?;
+        let choices = path.choices(self.alloc)?;
+        self.led_by.push(Sequence::from_vec(choices))?;
         let list = list_of(execution);
         let before = self.last_of(list);
         self.before.push(before)?;

@@ -1,12 +1,11 @@
 //! One run of a search that remembers states, along its path. Where an operation comes to its first branch point past the path's
 //! nodes, and the run explores there, its state is looked up: if it was noted the run is given up, and otherwise it is noted.
-ghost use Rattle.std.specs.Prelude.{◌≡◌, ◌≤◌, ◌+◌, [], None, IfOk, OnOk, List};
-ghost use Rattle.loom_engine.specs.Covering.Kept.{AreKeptOf, Key, state_in};
-ghost use Rattle.loom_engine.specs.Path.Nodes.{stored};
+ghost use Rattle.std.specs.Prelude.{◌≡◌, ◌≤◌, ◌+◌, [], None, IfOk, OnOk};
+ghost use Rattle.loom_engine.specs.Covering.Kept.{state_in};
 ghost use Rattle.loom_engine.specs.Path.Route.{IsAtStart, IsSameSearch};
 ghost use Rattle.loom_engine.specs.Trees.Meeting.{whole_search};
 ghost use Rattle.loom_objects.specs.declared.operation.Reply.TheVariants.{Start};
-ghost use Rattle.loom.specs.Model.Cover.{ComesTo, EndsWith, IsAtBranch, IsEndBy, IsEndOf, IsHanding, IsUnderWay, LooksUp, Noting, StaysOpen};
+ghost use Rattle.loom.specs.Model.Cover.{AreNoted, ComesTo, EndsWith, IsAtBranch, IsEndBy, IsEndOf, IsHanding, IsUnderWay, LooksUp, Noting, StaysOpen, noting};
 
 use crate::model::run::{Room, add_child};
 use loom_engine::rt::execution::{Begun, Execution, Limits};
@@ -24,24 +23,24 @@ use std::alloc::AllocError;
 pub enum Ending<D> {
     /// Main came to this value.
     Ended(D),
-    /// It was given up at a state that was noted.
-    Met,
+    /// It was given up in a state that was noted, under this number.
+    Met(usize),
     Failed(Failure),
 }
 
 /// Why a run goes no further.
 #[derive(Clone, Copy)]
 pub enum Halt {
-    /// Its state was noted before.
-    Met,
+    /// Its state was noted before, under this number.
+    Met(usize),
     Stopped(Stop),
 }
 
 /// What is found where a run's state is looked up.
 #[derive(Clone, Copy)]
 pub enum Found {
-    /// It was noted before.
-    Known,
+    /// It was noted before, under this number.
+    Known(usize),
     /// It wasn't, or it isn't looked up there.
     New,
 }
@@ -62,8 +61,8 @@ where
     requires starts { IsAtStart path.old.explores path.old }
     requires unguided { path.old.given ≡ [] }
     requires whole { path.old.search ≡ whole_search path.old.search.max_branches }
-    ensures along { (old : List (Key B.Data B)) → AreKeptOf states.old old
-        → IfOk result (λ ending. EndsWith B.next (record { room = path.old.search.max_branches; explores = path.old.explores; max_threads = limits.max_threads; max_steps = limits.max_steps; body = body.now; path = stored path.old.nodes; old = old }) ending path.new states.new) }
+    ensures along { AreNoted B.next (noting limits.max_threads limits.max_steps body.now path.old states.old)
+        → IfOk result (λ ending. EndsWith B.next (noting limits.max_threads limits.max_steps body.now path.old states.old) ending path.new states.new) }
     ensures same { IsSameSearch path.old path.new }
 {
     room.bodies.clear();
@@ -114,7 +113,7 @@ fn ended<D: Drop>(answer: Result<Turn<D>, Halt>) -> Result<Ending<D>, AllocError
     ensures { IfOk result (IsEndBy answer) }
 {
     match answer {
-        Err(Halt::Met) => Ok(Ending::Met),
+        Err(Halt::Met(number)) => Ok(Ending::Met(number)),
         Err(Halt::Stopped(stop)) => stopped(stop),
         Ok(Turn::Ended(value)) => Ok(Ending::Ended(value)),
         Ok(Turn::Reply(..) | Turn::Start(_)) => Err(AllocError),
@@ -178,7 +177,7 @@ where
 {
     match look_up(execution, bodies, path, states) {
         Err(_) => Err(Halt::Stopped(Stop::Memory)),
-        Ok(Found::Known) => Err(Halt::Met),
+        Ok(Found::Known(number)) => Err(Halt::Met(number)),
         Ok(Found::New) => match execution.schedule(path) {
             Err(stop) => Err(Halt::Stopped(stop)),
             Ok(turn) => Ok(turn),
@@ -204,9 +203,9 @@ where
     if !path.is_used_up() {
         return Ok(Found::New);
     }
-    if states.has(execution, bodies) {
-        return Ok(Found::Known);
+    if let Some(number) = states.find(execution, bodies) {
+        return Ok(Found::Known(number));
     }
-    states.note(execution, bodies)?;
+    states.note(execution, bodies, path)?;
     Ok(Found::New)
 }

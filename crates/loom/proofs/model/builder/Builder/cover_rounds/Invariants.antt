@@ -6,7 +6,7 @@ use Rattle.loom.proofs.model.builder.Builder.cover_rounds.Given as goal
 abbrev pub invariant-loop-limit : goal.invariant-loop-limit
 invariant-loop-limit g l = record {
   within : l.runs + l.met ≤ 2 ^ 64 - 1;
-  covering : IsCovering l.self g.B.Body.next l.body g.R.Receiver.receives l.fn.receiver l.path l.receiver l.runs l.states;
+  covering : IsCovering l.self g.B.Body.next l.body g.R.Receiver.receives l.fn.receiver l.path l.receiver l.runs l.states l.ways;
 }
 
 abbrev pub decreases-loop-limit : goal.decreases-loop-limit

@@ -1,13 +1,14 @@
 use Rattle.std.proofs.Common.{◌≡◌, true, inl, refl, rules}
 use Rattle.loom.proofs.model.cover.run.look_up.Goals as goal
 
-pub returns-then-has : goal.returns-then-has
-returns-then-has g c =
+pub returns-in-Some : goal.returns-in-Some
+returns-in-Some g c =
     let explores : c.explores_now.result ≡ true = search rules in
     let used : c.is_used_up.result ≡ true = search rules in
-    (rw c.explores_now.ensures at explores, rw c.is_used_up.ensures at used, c.has.ensures (search rules), refl)
+    (rw c.explores_now.ensures at explores, rw c.is_used_up.ensures at used, c.in-Some.ensures, refl)
 
 pub returns : goal.returns
 returns g c =
     let explores : c.explores_now.result ≡ true = search rules in
-    inl (rw c.explores_now.ensures at explores, c.in_ok-note.ensures)
+    let used : c.is_used_up.result ≡ true = search rules in
+    inl (rw c.explores_now.ensures at explores, rw c.is_used_up.ensures at used, c.in_ok-note.ensures)

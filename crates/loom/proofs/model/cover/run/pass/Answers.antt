@@ -4,7 +4,7 @@ use Rattle.loom.proofs.model.cover.run.pass.Goals as goal
 
 pub returns-in-Ok-Known-clause-event : goal.returns-in-Ok-Known-clause-event
 returns-in-Ok-Known-clause-event g c = λ run h.
-    met_there g.B.Body.next run c.args.bodies.now c.args.execution.now.run c.args.path.now c.args.states.now c.look_up.new.states (rw c.in-Ok-Known.field-0-is at c.in-Ok-Known.ensures) h
+    met_there g.B.Body.next run c.args.bodies.now c.args.execution.now.run c.args.path.now c.args.states.now c.look_up.new.states c.in-Ok-Known.number (rw c.in-Ok-Known.field-0-is at c.in-Ok-Known.ensures) h
 
 pub returns-in-Err-schedule-clause-event : goal.returns-in-Err-schedule-clause-event
 returns-in-Err-schedule-clause-event g c = λ run h.
