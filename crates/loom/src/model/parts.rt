@@ -30,7 +30,8 @@ use std::time::Duration;
 pub struct Slice {
     /// So many runs are made at most, and one at least.
     pub runs: u64,
-    /// No further run is made once the clock has come so far, if that is limited.
+    /// No further run is made once the clock is seen to have come so far, if that is limited. It is asked after each of the first
+    /// 16 runs, and then once in 16.
     pub until: Option<Duration>,
 }
 
@@ -49,8 +50,11 @@ pub enum Worked {
     },
 }
 
+// The clock is asked after each of the first so many runs, and then once in so many, for it takes part of the time of a small run.
+const RUNS_TO_A_LOOK: u64 = 16;
+
 impl Slice {
-    /// Whether after so many runs no further one is made. The clock is asked where a time is set.
+    /// Whether after so many runs no further one is made. The clock is asked now and then, where a time is set.
     fn is_used_up<C: Clock>(&self, runs: u64, clock: &mut C) -> bool
         ensures { result ≡ false → runs < self.now.runs }
     {
@@ -58,10 +62,15 @@ impl Slice {
             return true;
         }
         match self.until {
-            Some(latest) => clock.elapsed() >= latest,
+            Some(latest) => is_looked_at(runs) && clock.elapsed() >= latest,
             None => false,
         }
     }
+}
+
+/// Whether the clock is asked after so many runs.
+fn is_looked_at(runs: u64) -> bool {
+    runs < RUNS_TO_A_LOOK || runs % RUNS_TO_A_LOOK == 0
 }
 
 impl Builder {

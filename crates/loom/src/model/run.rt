@@ -128,7 +128,9 @@ fn take_turns<B: Body, L: Listener<B::Data>>(
 }
 
 /// How a run ends whose last operation was answered so while this thread is active. A turn is no end: it is never answered here.
-// It takes the answer whole: taken apart beside the turns, each reply would be moved by its bytes.
+// It takes the answer whole: taken apart beside the turns, each reply would be moved by its bytes. Inlined, so that no answer has to
+// stand in memory for it.
+#[inline(always)]
 fn ended<D: Drop, L: Listener<D>>(
     answer: Result<Turn<D>, Stop>,
     listener: &L,

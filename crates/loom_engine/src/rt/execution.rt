@@ -332,6 +332,7 @@ fn switch_path(path: &mut Path, op: ExploreOp) -> Result<(), FailureKind>
 }
 
 /// Whether the active thread wakes from the notifier without a notification is chosen, and then it yields or waits.
+#[inline(never)]
 fn wait<D: Data>(run: &mut Progress<D>, path: &mut Path, notifier: usize) -> Result<Turn<D>, Stop>
     ensures along { Along (machine.is_asked notifier) run.old path.old result run.new path.new }
     ensures growth { result ≡ Err Stop.Memory → AllNeedMemory itself (machine.is_asked notifier) run.old path.old }
@@ -348,6 +349,8 @@ fn wait<D: Data>(run: &mut Progress<D>, path: &mut Path, notifier: usize) -> Res
 }
 
 /// A schedule, and those after it, up to a turn. `Misuse` at one branch point more than there may be.
+// Not inlined, as `take_turn` isn't: what each passes is inlined into them.
+#[inline(never)]
 fn schedule<D: Data>(run: &mut Progress<D>, path: &mut Path, more: u32) -> Result<Turn<D>, Stop>
     ensures along { Along (machine.schedule more) run.old path.old result run.new path.new }
     ensures growth { result ≡ Err Stop.Memory → AllNeedMemory itself (machine.schedule more) run.old path.old }
@@ -370,6 +373,7 @@ fn schedule<D: Data>(run: &mut Progress<D>, path: &mut Path, more: u32) -> Resul
 }
 
 /// The path says which thread goes on, and what it has pending takes effect.
+#[inline(always)]
 fn pass<D: Data>(run: &mut Progress<D>, path: &mut Path) -> Result<Passed<D>, Stop>
     ensures along { Along machine.passes run.old path.old result run.new path.new }
     ensures growth { result ≡ Err Stop.Memory → AllNeedMemory Passed.Turn machine.passes run.old path.old }
@@ -392,13 +396,23 @@ fn pass<D: Data>(run: &mut Progress<D>, path: &mut Path) -> Result<Passed<D>, St
 }
 
 /// The schedule's marks are made. A search that isn't reduced makes none, so nothing is looked up for it.
+#[inline(always)]
 fn mark<D: Data>(run: &Progress<D>, path: &mut Path)
     ensures marks { IsMarked run.now path.old path.new }
     ensures same { IsSame path.old path.new }
 {
-    if !path.is_reduced() {
-        return;
+    if path.is_reduced() {
+        mark_unordered(run, path);
     }
+}
+
+/// Marks are made for the last accesses that what is pending depends on and isn't ordered after.
+// Not inlined, so that a search that isn't reduced has no room to clear for what is looked up here.
+#[inline(never)]
+fn mark_unordered<D: Data>(run: &Progress<D>, path: &mut Path)
+    ensures marks { IsMarked run.now path.old path.new }
+    ensures same { IsSame path.old path.new }
+{
     let uses = run.state.scene.uses();
     path.backtrack(&run.dependence.unordered(&uses));
 }
@@ -430,6 +444,7 @@ fn access<D: Data>(run: &mut Progress<D>, thread: u8, place: usize) -> Result<()
 }
 
 /// The chosen thread goes on with what it has pending. A load asks the path which store it reads.
+#[inline(never)]
 fn take_turn<D: Data>(run: &mut Progress<D>, path: &mut Path, thread: u8) -> Result<Passed<D>, Stop>
     ensures along { Along (takes_turn thread) run.old path.old result run.new path.new }
     ensures growth { result ≡ Err Stop.Memory → AllNeedMemory Passed.Turn (takes_turn thread) run.old path.old }
@@ -450,6 +465,7 @@ fn take_turn<D: Data>(run: &mut Progress<D>, path: &mut Path, thread: u8) -> Res
 }
 
 /// The path says which of the slots that may be read is.
+#[inline(always)]
 fn choose_slot(path: &mut Path, readable: &[bool; MAX_ATOMIC_HISTORY]) -> Result<u8, Stop>
     requires some { Contains readable.now true }
     ensures says { Decides Choice.Load path.old (which_store (is_on path.old.exploring) readable.now) result path.new }

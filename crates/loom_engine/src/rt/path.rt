@@ -316,6 +316,7 @@ impl Path {
     }
 
     /// A new schedule: at the choice that was given for its place, if any, or else at its default.
+    #[inline(always)]
     fn new_schedule(&self, offers: &Offers) -> Option<Schedule>
         requires { AreSoundOffers offers.now.default offers.now.abilities }
         ensures made { (places : List (Option ℕ)) → let made = made_of (which_thread (is_on self.now.exploring) offers.now places) in
@@ -353,6 +354,7 @@ impl Path {
     }
 
     /// Passes a schedule: follows the stored node, or makes one. Where it fails the path stays as it was.
+    #[inline(always)]
     pub fn branch_thread(&mut self, offers: &Offers) -> Result<Option<u8>, Stop>
         requires { AreSoundOffers offers.now.default offers.now.abilities }
         ensures says { (places : List (Option ℕ)) → Decides Choice.Thread self.old (which_thread (is_on self.old.exploring) offers.now places) result self.new }
@@ -390,6 +392,7 @@ impl Path {
     /// doesn't pass it. Before the end the stored node must be the load that this set makes, else `NotDeterministic`.
     /// `TooManyBranches` where the path may have no further node, `NotDeterministic` where the given choice is no option.
     /// Where it fails the path stays as it was.
+    #[inline(always)]
     pub fn push_load(&mut self, readable: &[bool; MAX_ATOMIC_HISTORY]) -> Result<(), Stop>
         requires some { Contains readable.now true }
         ensures pushes { Pushes self.old (which_store (is_on self.old.exploring) readable.now) result self.new }
@@ -420,6 +423,7 @@ impl Path {
 
     /// Passes the load at the position, and answers the slot of the store that is read. `NotDeterministic`, and nothing
     /// changes, where no load stands there.
+    #[inline(always)]
     pub fn branch_load(&mut self) -> Result<u8, Stop>
         ensures { PassesLoad self.old result self.new }
     {
@@ -531,6 +535,7 @@ impl Path {
 
     /// After a run, goes on to the next one: the deepest node that has an option left takes it, and what follows it is
     /// dropped. False where no node has one.
+    #[inline(always)]
     pub fn step(&mut self) -> bool
         ensures steps { Steps self.old.nodes result self.new.nodes }
         ensures rest { self.new ≡ at_rest self.old.search self.old.explores self.new.nodes }

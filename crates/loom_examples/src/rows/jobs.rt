@@ -23,7 +23,7 @@ use std::thread::{self, Threads};
 use std::time::Duration;
 
 // Each part is worked on for so long at a time. A worker whose part has ended before waits for the others.
-const SLICE_MILLIS: u64 = 50;
+const SLICE_MILLIS: u64 = 20;
 
 // The list of parts is saved so often at most.
 const SAVE_MILLIS: u64 = 1000;

@@ -72,6 +72,7 @@ pub(crate) fn schedule(exploring: bool, offers: &Offers, every: bool, passed: &T
 
 /// A new schedule at a choice that was given, or None where that is no option. The default, if it is passed over,
 /// counts as tried.
+#[inline(always)]
 pub(crate) fn schedule_at(
     exploring: bool,
     offers: &Offers,

@@ -305,6 +305,7 @@ pub fn count_slots(readable: &[bool]) -> usize
 }
 
 /// The slot at a place among those that may be read, or 0 past the last of them.
+#[inline(always)]
 pub fn slot_at(readable: &[bool; MAX_ATOMIC_HISTORY], place: u8) -> u8
     ensures { result ≡ slice_index (slots readable.now) place }
 {

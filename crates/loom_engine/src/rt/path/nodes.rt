@@ -55,6 +55,7 @@ impl Nodes {
 }
 
 /// The deepest node that can go on does, and what follows it is dropped. False if none can.
+#[inline(always)]
 pub fn step_nodes(nodes: &mut NodeList) -> bool
     requires well { AreWell nodes.old }
     requires noted { AreNoted nodes.old }
