@@ -8,3 +8,4 @@ pub mod Reporting
 pub mod Refusing
 pub mod Together
 pub mod Rising
+pub mod Walking

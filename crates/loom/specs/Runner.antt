@@ -4,6 +4,7 @@ pub mod Calls
 pub mod Chains
 pub mod Check
 pub mod Comparing
+pub mod Drawn
 pub mod Errors
 pub mod Events
 pub mod Expected
@@ -20,4 +21,5 @@ pub mod Refusals
 pub mod Replay
 pub mod Rising
 pub mod Run
+pub mod Walking
 pub mod Workers

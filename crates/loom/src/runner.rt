@@ -3,6 +3,7 @@
 pub mod checks;
 pub mod closures;
 pub mod defaults;
+pub(crate) mod drawn;
 pub mod error;
 pub mod exact;
 pub mod expecting;
@@ -23,6 +24,7 @@ pub mod same;
 pub mod shared;
 pub mod stop;
 pub mod turns;
+pub mod walks;
 pub mod watcher;
 
 pub use crate::runner::exact::Exact;
@@ -45,3 +47,4 @@ pub use parallel::visitors::Visitors;
 pub use parallel::{Found, Workers, check_parallel};
 pub use replays::replay;
 pub use rising::check_rising;
+pub use walks::walk;

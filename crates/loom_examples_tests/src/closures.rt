@@ -7,6 +7,7 @@ mod guide;
 mod logs;
 mod resumed;
 mod rows;
+mod walks;
 
 use loom::runner::exact::Exact;
 use loom_objects::data::Data;

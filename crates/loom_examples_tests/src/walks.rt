@@ -12,8 +12,8 @@ use std::process::Abort;
 
 // Keeps the choices of all runs, one behind another.
 #[derive(Drop)]
-struct Keeper {
-    choices: Vec<Choice>,
+pub(crate) struct Keeper {
+    pub(crate) choices: Vec<Choice>,
 }
 
 impl Visitor<u64> for Keeper {
@@ -54,7 +54,7 @@ fn failing(alloc: Global, steps: &'static [Step], walk: Walk) -> Option<Vec<Choi
 }
 
 // The walk of this seed, by priorities of this depth if there is one.
-fn walk_of(seed: u64, depth: Option<u32>, runs: u64) -> Walk {
+pub(crate) fn walk_of(seed: u64, depth: Option<u32>, runs: u64) -> Walk {
     match depth {
         Some(depth) => Walk::Priorities { seed, runs, depth },
         None => Walk::Random { seed, runs },

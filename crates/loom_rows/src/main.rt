@@ -76,7 +76,7 @@ fn run_options<R: Host + Files<File = File> + Clock + Env + Log + Sync, O: Write
     }
 }
 
-/// Checks a row of closures, walks through a row with a log, or shares its check out. None of any other task.
+/// Checks a row of closures or walks through it, walks through another row with a log, or shares its check out. None of any other task.
 fn do_row<R: Host + Files<File = File> + Clock + Env + Log + Sync, O: Write, E: Write>(
     rt: &R,
     asked: RowAsked,
@@ -85,7 +85,7 @@ fn do_row<R: Host + Files<File = File> + Clock + Env + Log + Sync, O: Write, E: 
 ) -> io::Result<Option<u8>> {
     if let Some(row) = rows::named(asked.name) {
         let status = match Builder::from_process(rt) {
-            Ok(builder) => run_asked(rt, row, builder, asked, out, err)?,
+            Ok(builder) => run_asked(rt, rt, row, builder, asked, out, err)?,
             Err(error) => refuse_environment(err, &error)?,
         };
         return Ok(Some(status));

@@ -1,4 +1,4 @@
-use Rattle.std.proofs.Common.{◌≡◌, ◌<◌, ℕ, List, [], ◌∷◌, ◌∙◌, refl, subst, Some, Result, Ok, Err, IfOk, OnOk, is_err, false, length, ap, arith}
+use Rattle.std.proofs.Common.{◌≡◌, ◌<◌, ℕ, Bool, List, [], ◌∷◌, ◌∙◌, refl, subst, Some, Result, Ok, Err, IfOk, OnOk, is_err, false, length, ap, arith}
 use Rattle.std.specs.Prelude.{slice_get}
 use Rattle.std.specs.List.{swap, SwappedAt}
 use Rattle.std.proofs.lemmas.List.Edits.{length-swap}
@@ -8,6 +8,7 @@ use Rattle.loom_engine.specs.Path.Route.{Route}
 use Rattle.loom.specs.declared.runner.stop.Stop.{Stop}
 use Rattle.loom.specs.declared.runner.run_end.RunEnd.{RunEnd}
 use Rattle.loom.specs.declared.runner.run_end.RunEnd.TheVariants.{Failed, Ended}
+use Rattle.loom.specs.Runner.Drawn.{LeadsBy}
 use Rattle.loom.specs.Runner.Histories.{Log, Share, IsHistory, Settles}
 use Rattle.loom.specs.Runner.Handle.{Teller, Leading, Closes, newcomer}
 use Rattle.loom.specs.Runner.Made.{Made, MadeBy, Given}
@@ -29,11 +30,12 @@ ok_gives (Ok a) P p e = p
 ok_gives (Err x) P p e = cc e
 
 -- what settles a state whose history is one from its own beginning
-pub checked : {D : Type 0} (limits : Limits) (began : Route) (log : Log D) (told : List (Share D)) → Settles log began limits told → IsHistory log.limits log.began log.history log.now
+pub checked : {D : Type 0} (limits : Limits) (began : Route) (log : Log D) (told : List (Share D)) → Settles log began limits told → LeadsBy log.drawn log
     → Checked limits began log told
-checked limits began log told settles history = record {
+checked limits began log told settles leads = record {
   settles = settles;
   history =
+      let history : IsHistory log.limits log.began log.history log.now = subst (λ (drawn : Bool). LeadsBy drawn log) settles.follows leads in
       subst (λ (l : Limits). IsHistory l began log.history log.now) settles.limits_so (subst (λ (r : Route). IsHistory log.limits r log.history log.now) settles.began_so history);
 }
 

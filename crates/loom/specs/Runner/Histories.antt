@@ -1,5 +1,5 @@
 -- The history of a run that threads make, and the state that they share.
-use Rattle.std.specs.Prelude.{ℕ, ◌≡◌, ◌≢◌, ◌<◌, ◌⊎◌, ◌++◌, ⊤, List, [], ◌∷◌, length, Option, Some, None, option_map, MatchOption, Result, Err, slice_get}
+use Rattle.std.specs.Prelude.{ℕ, ◌≡◌, ◌≢◌, ◌<◌, ◌⊎◌, ◌++◌, ⊤, Bool, false, List, [], ◌∷◌, length, Option, Some, None, option_map, MatchOption, Result, Err, slice_get}
 use Rattle.loom_objects.specs.declared.failure.Stop.{Stop as Halt}
 use Rattle.loom_objects.specs.declared.failure.Stop.TheVariants as halt
 use Rattle.loom_objects.specs.declared.operation.Request.{Request}
@@ -70,7 +70,8 @@ module _ {D : Type 0} where
 
 -- ---- the state that threads share
 
--- where the run began, its limits, its history, how many threads there are, why it was spoiled, and where it is
+-- where the run began, its limits, its history, how many threads there are, why it was spoiled, where it is, and whether its choices are
+-- drawn as it comes to them (`specs/Runner/Drawn.antt` says what is known then)
 pub record Log (D : Type 0) : Type 0 where
   pub began : Route
   pub limits : Limits
@@ -78,6 +79,7 @@ pub record Log (D : Type 0) : Type 0 where
   pub threads : ℕ
   pub spoiled : Option Stop
   pub now : Moment D
+  pub drawn : Bool
 
 module _ {D : Type 0} where
   -- Where the run isn't spoiled the history leads from its beginning to where it is, and it is over where the last event says so.
@@ -114,8 +116,9 @@ module _ {D : Type 0} where
     pub goes : Goes log.now op label event log'.now
     pub history : log'.history ≡ log.history ++ event ∷ []
 
-  -- the run began so, and the told list of each thread is its part of the history
+  -- the run began so and followed its path, and the told list of each thread is its part of the history
   pub record Settles (log : Log D) (began : Route) (limits : Limits) (told : List (Share D)) : Type 0 where
+    pub follows : log.drawn ≡ false
     pub began_so : log.began ≡ began
     pub limits_so : log.limits ≡ limits
     pub one_each : length told ≡ log.threads

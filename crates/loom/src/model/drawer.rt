@@ -1,9 +1,8 @@
 //! Draws the choices of a walk's runs (own).
-ghost use Rattle.std.specs.Prelude.{◌<◌};
+ghost use Rattle.std.specs.Prelude.{◌≤◌};
 
 use crate::model::walk::Walk;
 use loom_engine::rt::path::drawing::Chooser;
-use loom_engine::rt::path::node::{count_slots, slot_at};
 use loom_objects::rt::schedule::{Ability, Offers};
 use loom_views::rt::{MAX_ATOMIC_HISTORY, MAX_THREADS};
 use rand::RngExt;
@@ -11,7 +10,7 @@ use rand_core::{Rng, SeedableRng};
 use rand_xoshiro::Xoshiro256PlusPlus;
 
 /// Draws choices: loads and spurious wake-ups evenly, and threads evenly or by priorities.
-#[derive(Drop)]
+#[derive(Clone, Drop)]
 pub(crate) struct Drawer {
     rng: Xoshiro256PlusPlus,
     // of threads that aren't drawn evenly
@@ -56,60 +55,70 @@ impl Drawer {
             priorities.begin(&mut self.rng);
         }
     }
-
-    /// One of so many places.
-    fn place(&mut self, count: usize) -> usize
-        requires { 0 < count }
-        ensures { result < count }
-    {
-        self.rng.random_range(0..count)
-    }
 }
 
 impl Chooser for Drawer {
     fn thread(&mut self, offers: &Offers) -> Option<u8> {
-        let able = count_able(&offers.abilities);
-        match &mut self.priorities {
-            Some(priorities) => priorities.thread(&mut self.rng, &offers.abilities),
-            None if able > 1 => able_at(&offers.abilities, self.rng.random_range(0..able)),
-            None => offers.default,
+        if let Some(priorities) = &mut self.priorities {
+            return priorities.thread(&mut self.rng, &offers.abilities);
+        }
+        let able = Options::able(&offers.abilities);
+        if able.count > 1 {
+            Some(able.list[self.rng.random_range(0..able.count)])
+        } else {
+            offers.default
         }
     }
 
     fn slot(&mut self, readable: &[bool; MAX_ATOMIC_HISTORY]) -> u8 {
-        let count = count_slots(readable);
-        if count > 1 {
-            slot_at(readable, self.place(count) as u8)
+        let slots = Options::readable(readable);
+        if slots.count > 1 {
+            slots.list[self.rng.random_range(0..slots.count)]
         } else {
-            slot_at(readable, 0)
+            slots.list[0]
         }
     }
 
     fn is_spurious(&mut self) -> bool {
-        self.place(2) == 1
+        self.rng.random_range(0..2usize) == 1
     }
 }
 
-/// How many threads can go on.
-fn count_able(abilities: &[Ability; MAX_THREADS]) -> usize {
-    abilities
-        .iter()
-        .filter(|ability| matches!(**ability, Ability::Able))
-        .count()
+/// Those among which one is drawn: the threads that can go on, or the slots that may be read. They stand in order at the list's
+/// beginning.
+#[derive(Clone, Copy)]
+struct Options {
+    list: [u8; MAX_ATOMIC_HISTORY],
+    count: usize,
 }
 
-/// The thread at this place among those that can go on.
-fn able_at(abilities: &[Ability; MAX_THREADS], place: usize) -> Option<u8> {
-    let mut left = place;
-    for (thread, ability) in abilities.iter().enumerate() {
-        if *ability == Ability::Able {
-            if left == 0 {
-                return Some(thread as u8);
-            }
-            left -= 1;
+impl Options {
+    /// The threads that can go on.
+    fn able(abilities: &[Ability; MAX_THREADS]) -> Options
+        ensures { result.count ≤ 5 }
+    {
+        let mut list = [0u8; MAX_ATOMIC_HISTORY];
+        let mut count = 0usize;
+        // Each is written and only an option is counted: a test of what can't be foretold would take longer.
+        'able: for thread in 0..MAX_THREADS {
+            list[count] = thread as u8;
+            count += usize::from(abilities[thread] == Ability::Able);
         }
+        Options { list, count }
     }
-    None
+
+    /// The slots that may be read.
+    fn readable(readable: &[bool; MAX_ATOMIC_HISTORY]) -> Options
+        ensures { result.count ≤ 7 }
+    {
+        let mut list = [0u8; MAX_ATOMIC_HISTORY];
+        let mut count = 0usize;
+        'slots: for slot in 0..MAX_ATOMIC_HISTORY {
+            list[count] = slot as u8;
+            count += usize::from(readable[slot]);
+        }
+        Options { list, count }
+    }
 }
 
 impl Priorities {
@@ -169,25 +178,15 @@ impl Priorities {
 
     /// Of the threads that can go on the one with the highest priority, the first one on a tie.
     fn highest(&self, abilities: &[Ability; MAX_THREADS]) -> Option<u8> {
-        let mut best: Option<u8> = None;
+        let mut best = None;
+        let mut highest = 0u64;
         for place in 0..MAX_THREADS {
-            if abilities[place] == Ability::Able && self.is_higher(place, best) {
+            let priority = self.of[place];
+            if abilities[place] == Ability::Able && (best.is_none() || priority > highest) {
                 best = Some(place as u8);
+                highest = priority;
             }
         }
         best
-    }
-
-    /// Whether the thread has a higher priority than the other one, if there is one.
-    fn is_higher(&self, place: usize, other: Option<u8>) -> bool
-        requires within { place < 5 }
-    {
-        match other {
-            Some(other) => match self.of.get(other as usize) {
-                Some(priority) => self.of[place] > *priority,
-                None => true,
-            },
-            None => true,
-        }
     }
 }

@@ -131,7 +131,7 @@ fn take_run<D: Drop, V: Visitor<D>>(
 }
 
 /// Whether a run that fails so was cut by its length.
-fn is_cut(kind: FailureKind) -> bool
+pub(crate) fn is_cut(kind: FailureKind) -> bool
     ensures { result ≡ is_cut kind }
 {
     matches!(
@@ -222,7 +222,7 @@ impl Builder {
     }
 
     /// Whether the time of a walk is up. The clock is asked where a duration is set.
-    fn is_up<C: Clock>(&self, clock: &mut C) -> bool
+    pub(crate) fn is_up<C: Clock>(&self, clock: &mut C) -> bool
         ensures { IsTrue result → HasLasted (C.answered clock.new) self.now.max_duration }
     {
         match self.max_duration {
@@ -232,7 +232,7 @@ impl Builder {
     }
 
     /// The log hears of the run after so many, if its number is a multiple of the interval.
-    fn log_run<L: Log>(&self, log: &L, runs: u64)
+    pub(crate) fn log_run<L: Log>(&self, log: &L, runs: u64)
         requires before { runs < 2 ^ 64 - 1 }
         requires interval { 0 < self.now.checkpoint_interval }
     {

@@ -1,10 +1,12 @@
 //! What the threads of a run share: its state under a lock, and the condition variable by which they wake each other. By it they
 //! hand over their operations, wait for their turns, and start and join each other.
 ghost use Rattle.std.specs.Prelude.{◌≡◌, ◌≤◌, IfOk, IfErr};
+ghost use Rattle.loom_engine.specs.Path.Drawn.{IsDrawn};
 ghost use Rattle.loom_engine.specs.Path.Route.{IsAtStart};
 ghost use Rattle.loom.specs.Runner.Handle.{newcomer};
 ghost use Rattle.loom.specs.Runner.Errors.{IsRefusedByHost};
 
+use crate::model::drawer::Drawer;
 use crate::runner::error::RunnerError;
 use crate::runner::exact::Exact;
 use crate::runner::handle::Handle;
@@ -35,6 +37,35 @@ pub fn share<D: Exact + 'static>(
     let Ok(turns) = Turns::new(alloc, path, limits) else {
         return Err(RunnerError::Memory);
     };
+    share_turns(alloc, turns)
+}
+
+/// What the threads of a run share whose choices are drawn. `Memory` where a growth was refused.
+pub(crate) fn share_drawn<D: Exact + 'static>(
+    alloc: Global,
+    limits: Limits,
+    path: &Path,
+    drawer: Drawer,
+) -> Result<Arc<Shared<D>, Global>, RunnerError>
+    requires some { 1 ≤ limits.max_threads }
+    requires few { limits.max_threads ≤ 5 }
+    requires starts { IsAtStart path.now.explores path.now }
+    requires empty { IsDrawn path.now }
+    ensures { IfErr result (λ e. e ≡ RunnerError.Memory) }
+{
+    let Ok(turns) = Turns::drawn(alloc, path, limits, drawer) else {
+        return Err(RunnerError::Memory);
+    };
+    share_turns(alloc, turns)
+}
+
+/// This state is shared.
+fn share_turns<D: Exact + 'static>(
+    alloc: Global,
+    turns: Turns<D>,
+) -> Result<Arc<Shared<D>, Global>, RunnerError>
+    ensures { IfErr result (λ e. e ≡ RunnerError.Memory) }
+{
     let shared = Shared {
         turns: Mutex::new(turns),
         turned: Condvar::new(),

@@ -1,12 +1,15 @@
 //! The state of a run that its threads share.
-ghost use Rattle.std.specs.Prelude.{◌≡◌, ◌↔◌, ◌≤◌, [], IfOk, IfSome, IsTrue, MatchOption, None, OnErr, Some};
+ghost use Rattle.std.specs.Prelude.{◌≡◌, ◌↔◌, ◌≤◌, [], IfOk, IfSome, IsTrue, MatchOption, None, OnErr, Some, is_some, true, false};
+ghost use Rattle.loom_engine.specs.Path.Drawn.{IsDrawn};
 ghost use Rattle.loom_engine.specs.Path.Route.{IsAtStart, chosen};
-ghost use Rattle.loom.specs.Runner.Histories.{active_at, Adds, Answers, IsDecided, IsHistory, IsNotAdded, Settles, Starts, last_event, end_in, ended_by, failed_by, or_else, why_stopped};
+ghost use Rattle.loom.specs.Runner.Drawn.{AddsBy, LeadsBy, SettlesDrawn};
+ghost use Rattle.loom.specs.Runner.Histories.{active_at, Answers, IsDecided, IsNotAdded, Settles, Starts, last_event, end_in, ended_by, failed_by, or_else, why_stopped};
 
 mod ignored;
 pub mod laws;
 mod moment;
 
+use crate::model::drawer::Drawer;
 use crate::model::progress::log_switches;
 use crate::runner::exact::Exact;
 use crate::runner::history::History;
@@ -46,13 +49,14 @@ pub struct Turns<D> {
 
 impl<D> Model for Turns<D> {
     ghost use Rattle.std.specs.Prelude.{◌+◌};
-    ghost use Rattle.loom.specs.Runner.Histories.{Log, Kept, made};
+    ghost use Rattle.loom.specs.Runner.Drawn.{KeptBy};
+    ghost use Rattle.loom.specs.Runner.Histories.{Log, made};
 
     ghost Value = { Log D };
 
-    ghost view = { λ t. record { began = t.began; limits = t.limits; history = t.history; threads = 1 + made t.history; spoiled = t.spoiled; now = t.place } };
+    ghost view = { λ t. record { began = t.began; limits = t.limits; history = t.history; threads = 1 + made t.history; spoiled = t.spoiled; now = t.place.moment; drawn = t.place.drawn } };
 
-    ghost invariant = { λ t. Kept t.limits t.began t.history t.spoiled t.place };
+    ghost invariant = { λ t. KeptBy t.place.drawn t.limits t.began t.history t.spoiled t.place.moment };
 }
 
 impl<D: Exact> Turns<D> {
@@ -65,6 +69,48 @@ impl<D: Exact> Turns<D> {
         ensures limits { IfOk result (λ t. t.limits ≡ limits) }
         ensures history { IfOk result (λ t. t.history ≡ []) }
         ensures spoiled { IfOk result (λ t. t.spoiled ≡ None) }
+        ensures drawn { IfOk result (λ t. t.drawn ≡ false) }
+    {
+        Turns::begin(alloc, path, limits, None)
+    }
+
+    /// The state before a run whose choices are drawn as it comes to them, within these limits. The path has no node, and no choice that
+    /// is given (own).
+    pub(crate) fn drawn(
+        alloc: Global,
+        path: &Path,
+        limits: Limits,
+        drawer: Drawer,
+    ) -> Result<Turns<D>, AllocError>
+        requires some { 1 ≤ limits.max_threads }
+        requires few { limits.max_threads ≤ 5 }
+        requires starts { IsAtStart path.now.explores path.now }
+        requires empty { IsDrawn path.now }
+        ensures began { IfOk result (λ t. t.began ≡ path.now) }
+        ensures limits { IfOk result (λ t. t.limits ≡ limits) }
+        ensures history { IfOk result (λ t. t.history ≡ []) }
+        ensures spoiled { IfOk result (λ t. t.spoiled ≡ None) }
+        ensures drawn { IfOk result (λ t. t.drawn ≡ true) }
+    {
+        Turns::begin(alloc, path, limits, Some(drawer))
+    }
+
+    /// The state before a run, whose choices this draws, if it is there.
+    fn begin(
+        alloc: Global,
+        path: &Path,
+        limits: Limits,
+        drawer: Option<Drawer>,
+    ) -> Result<Turns<D>, AllocError>
+        requires some { 1 ≤ limits.max_threads }
+        requires few { limits.max_threads ≤ 5 }
+        requires starts { IsAtStart path.now.explores path.now }
+        requires empty { is_some drawer ≡ true → IsDrawn path.now }
+        ensures began { IfOk result (λ t. t.began ≡ path.now) }
+        ensures limits { IfOk result (λ t. t.limits ≡ limits) }
+        ensures history { IfOk result (λ t. t.history ≡ []) }
+        ensures spoiled { IfOk result (λ t. t.spoiled ≡ None) }
+        ensures drawn { IfOk result (λ t. t.drawn ≡ is_some drawer) }
     {
         let began = path.try_clone(alloc)?;
         let path = path.try_clone(alloc)?;
@@ -73,7 +119,11 @@ impl<D: Exact> Turns<D> {
         let execution = Execution::new(alloc, limits)?;
         Ok(Turns {
             alloc,
-            place: Place { execution, path },
+            place: Place {
+                execution,
+                path,
+                drawer,
+            },
             began,
             limits,
             history,
@@ -89,7 +139,7 @@ impl<D: Exact> Turns<D> {
         ensures limits { self.new.limits ≡ self.old.limits }
         ensures over { IfSome (end_in self.old.history) (λ failure. self.new ≡ self.old) }
         ensures spoiled { IfSome self.old.spoiled (λ stop. self.new ≡ self.old) }
-        ensures adds { self.old.spoiled ≡ None → end_in self.old.history ≡ None → MatchOption self.new.spoiled (Adds self.old op label self.new) (λ stop. self.new.history ≡ self.old.history) }
+        ensures adds { self.old.spoiled ≡ None → end_in self.old.history ≡ None → MatchOption self.new.spoiled (AddsBy self.old.drawn self.old op label self.new) (λ stop. self.new.history ≡ self.old.history) }
         ensures why { self.old.spoiled ≡ None → end_in self.old.history ≡ None → IfSome self.new.spoiled (IsNotAdded (active_at self.old.now) self.old.threads) }
     {
         if self.spoiled.is_some() {
@@ -165,7 +215,7 @@ impl<D: Exact> Turns<D> {
     /// Why the run is spoiled, if it is (own).
     pub fn spoiled(&self) -> Option<Stop>
         ensures spoiled { result ≡ self.now.spoiled }
-        ensures leads { self.now.spoiled ≡ None → IsHistory self.now.limits self.now.began self.now.history self.now.now }
+        ensures leads { self.now.spoiled ≡ None → LeadsBy self.now.drawn self.now }
     {
         self.spoiled
     }
@@ -230,11 +280,29 @@ impl<D: Exact> Turns<D> {
         self.place.path.try_clone(self.alloc)
     }
 
-    /// Whether the run began with this path and these limits, and the told list of each thread is its part of the history (own).
+    /// What draws the run's choices, if they are drawn. An error only where a growth is refused (own).
+    pub(crate) fn drawer(&self) -> Result<Option<Drawer>, AllocError> {
+        self.place.drawer.clone()
+    }
+
+    /// Whether the run began with this path and these limits and followed its path, and the told list of each thread is its part of
+    /// the history (own).
     pub fn settle(&self, began: &Path, limits: Limits, told: &[Told<D>]) -> bool
         ensures { IsTrue result ↔ Settles self.now began.now limits told.now }
     {
-        is_same_limits(self.limits, limits)
+        !self.place.is_drawn()
+            && is_same_limits(self.limits, limits)
+            && self.began == *began
+            && are_shares(told, &self.history)
+    }
+
+    /// Whether the run began with this path and these limits and drew its choices, and the told list of each thread is its part of the
+    /// history (own).
+    pub fn settle_drawn(&self, began: &Path, limits: Limits, told: &[Told<D>]) -> bool
+        ensures { IsTrue result ↔ SettlesDrawn self.now began.now limits told.now }
+    {
+        self.place.is_drawn()
+            && is_same_limits(self.limits, limits)
             && self.began == *began
             && are_shares(told, &self.history)
     }

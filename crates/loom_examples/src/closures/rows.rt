@@ -9,13 +9,14 @@ use crate::closures::stack::through_stack;
 use crate::rows::line::{self, ShownReport};
 use crate::rows::tasks::UP_TO;
 use crate::rows::tell_error;
+use log::Log;
 use loom::checkpoint::file::file_store;
 use loom::explain::Explanation;
 use loom::model::builder::Builder;
 use loom::model::rising::Risen;
-use loom::model::{Replay, Report};
+use loom::model::{Replay, Report, Walk, Walked};
 use loom::runner::{
-    Handle, NoVisitor, RunnerError, Stop, check_rising, check_with, explain, replay,
+    Handle, NoVisitor, RunnerError, Stop, check_rising, check_with, explain, replay, walk,
 };
 use loom::{Choice, HostClock};
 use loom_ops::sync::atomic::Ordering::{Relaxed, Release};
@@ -171,6 +172,33 @@ impl ClosureRow {
         let mut is_first = true;
         let main = |handle: &mut Handle<u64, R>| self.run_next(handle, &mut is_first);
         check_rising(rt, alloc, builder, main, UP_TO)
+    }
+
+    /// What a walk through runs of the row finds, by these settings and the host's clock.
+    pub fn walk<
+        R: Clock + Threads + Wait + Clone + Send + 'static,
+        L: Log + Clone + Send + 'static,
+    >(
+        self,
+        rt: &R,
+        alloc: Global,
+        builder: &Builder,
+        drawn: Walk,
+        log: &L,
+    ) -> Result<Walked, RunnerError> {
+        let mut is_first = true;
+        let main = |handle: &mut Handle<u64, R>| self.run_next(handle, &mut is_first);
+        let mut clock = HostClock::start(rt);
+        walk(
+            rt,
+            alloc,
+            builder,
+            drawn,
+            main,
+            &mut NoVisitor,
+            &mut clock,
+            log,
+        )
     }
 
     /// One run of the row, by these choices and then by defaults.

@@ -1,15 +1,17 @@
-//! What the program does with a row of closures by its options: a check by other settings or with rising bounds, one run by given
-//! choices, an explanation of a failure, and a JSON object.
+//! What the program does with a row of closures by its options: a check by other settings or with rising bounds, a walk, one run by
+//! given choices, an explanation of a failure, and a JSON object.
 use crate::closures::rows::{ClosureRow, refuse_run};
 use crate::rows::drawing::Drawing;
 use crate::rows::json::{of_replay, of_report, print_answer};
 use crate::rows::line::{self, ShownReport};
 use crate::rows::options::RowAsked;
 use crate::rows::tasks::{ShownReplay, ShownRisen, Task};
+use crate::rows::walks::{failing_in, print_walked};
 use crate::rows::words::{refuse, refuse_choices};
+use log::Log;
 use loom::model::builder::Builder;
 use loom::model::rising::Risen;
-use loom::model::{Replay, Report};
+use loom::model::{Replay, Report, Walk};
 use loom::runner::RunnerError;
 use loom::{Choice, Choices};
 use std::alloc::Global;
@@ -83,23 +85,25 @@ fn failing_choices(report: &Report) -> Option<&[Choice]> {
 }
 
 /// Does what is asked of a row of closures, by the settings of this builder where neither the words nor the row name others. Prints what
-/// comes of it, and answers the exit status.
+/// comes of it, and answers the exit status. The log hears of a walk.
 pub fn run_asked<
     R: AllocGlobal + Clock + Files + Threads + Wait + Clone + Send + 'static,
+    L: Log + Clone + Send + 'static,
     O: Write,
     E: Write,
 >(
     rt: &R,
+    log: &L,
     row: ClosureRow,
     builder: Builder,
     asked: RowAsked,
     out: &mut O,
     err: &mut E,
 ) -> io::Result<u8> {
-    if asked.walk.is_some() || asked.shortens {
+    if asked.shortens {
         return refuse(
             err,
-            "error: '--walk' and '--shorten' are for rows whose bodies are scripts",
+            "error: '--shorten' is for rows whose bodies are scripts",
         );
     }
     if asked.jobs.is_some() || asked.share.is_some() {
@@ -110,6 +114,9 @@ pub fn run_asked<
     }
     let builder = row.builder_with(rt.alloc(), builder, asked.file)?;
     let builder = asked.changes.change(builder);
+    if let Some(walk) = asked.walk {
+        return walk_through(rt, log, row, &builder, walk, asked, out, err);
+    }
     let Some(text) = asked.replay else {
         let task = if asked.rises { Task::Rise } else { Task::Check };
         return do_task(rt, row, &builder, task, asked, out, err);
@@ -120,6 +127,36 @@ pub fn run_asked<
             do_task(rt, row, &builder, task, asked, out, err)
         }
         Err(error) => refuse_choices(rt.alloc(), text, error, err),
+    }
+}
+
+/// Walks through runs of the row, by this builder, prints what comes of it, and answers the exit status.
+fn walk_through<
+    R: AllocGlobal + Clock + Files + Threads + Wait + Clone + Send + 'static,
+    L: Log + Clone + Send + 'static,
+    O: Write,
+    E: Write,
+>(
+    rt: &R,
+    log: &L,
+    row: ClosureRow,
+    builder: &Builder,
+    walk: Walk,
+    asked: RowAsked,
+    out: &mut O,
+    err: &mut E,
+) -> io::Result<u8> {
+    match row.walk(rt, rt.alloc(), builder, walk, log) {
+        Ok(walked) => {
+            let status = print_walked(&walked, out)?;
+            if asked.explains
+                && let Some(choices) = failing_in(&walked)
+            {
+                tell_failure(rt, row, builder, choices, asked.drawing, out)?;
+            }
+            Ok(status)
+        }
+        Err(error) => refuse_run(err, builder, error),
     }
 }
 

@@ -32,8 +32,7 @@ impl Looked {
     /// The choices of the run that failed, if one did.
     fn failing(&self) -> Option<&[Choice]> {
         match self {
-            Looked::Walked(Walked::Failed { choices, .. }) => Some(choices.as_slice()),
-            Looked::Walked(Walked::Made { .. }) => None,
+            Looked::Walked(walked) => failing_in(walked),
             Looked::Found(found) => found.failing(),
         }
     }
@@ -41,24 +40,37 @@ impl Looked {
     /// Prints its line, and answers the exit status.
     fn print<O: Write>(&self, out: &mut O) -> io::Result<u8> {
         match self {
-            Looked::Walked(Walked::Made { runs, cut }) => {
-                writeln!(out, "walked {runs} {cut}")?;
-                Ok(0)
-            }
-            Looked::Walked(
-                Walked::Failed {
-                    runs,
-                    cut,
-                    failure,
-                    choices,
-                },
-            ) => {
-                let kind = failure.kind.number();
-                let choices = SpacedChoices(choices.as_slice());
-                writeln!(out, "failed {kind} {runs} {cut}{choices}")?;
-                Ok(1)
-            }
+            Looked::Walked(walked) => print_walked(walked, out),
             Looked::Found(found) => found.print(out),
+        }
+    }
+}
+
+/// The choices of the run that failed in a walk, if one did.
+pub(crate) fn failing_in(walked: &Walked) -> Option<&[Choice]> {
+    match walked {
+        Walked::Failed { choices, .. } => Some(choices.as_slice()),
+        Walked::Made { .. } => None,
+    }
+}
+
+/// Prints the line of a walk, and answers the exit status.
+pub(crate) fn print_walked<O: Write>(walked: &Walked, out: &mut O) -> io::Result<u8> {
+    match walked {
+        Walked::Made { runs, cut } => {
+            writeln!(out, "walked {runs} {cut}")?;
+            Ok(0)
+        }
+        Walked::Failed {
+            runs,
+            cut,
+            failure,
+            choices,
+        } => {
+            let kind = failure.kind.number();
+            let choices = SpacedChoices(choices.as_slice());
+            writeln!(out, "failed {kind} {runs} {cut}{choices}")?;
+            Ok(1)
         }
     }
 }

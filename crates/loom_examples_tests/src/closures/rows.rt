@@ -168,7 +168,8 @@ fn is_said<R: AllocGlobal + Clock + Files + Threads + Wait + Clone + Send + 'sta
     let mut err = Vec::new(rt.alloc());
     let status = match read(rt.alloc(), said.words) {
         Ok(Asked::Row(asked)) if let Some(row) = named(asked.name) => {
-            run_asked(rt, row, Builder::new(), asked, &mut out, &mut err)?
+            let log = None::<HostRuntime>;
+            run_asked(rt, &log, row, Builder::new(), asked, &mut out, &mut err)?
         }
         _ => return Ok(false),
     };

@@ -1,6 +1,8 @@
 //! A run's execution and its path: the machine to which its threads hand over their operations.
-ghost use Rattle.std.specs.Prelude.{◌≡◌, None};
+ghost use Rattle.std.specs.Prelude.{◌≡◌};
+ghost use Rattle.loom.specs.Runner.Drawn.{GoesOn, HandedAt};
 
+use crate::model::drawer::Drawer;
 use crate::runner::exact::Exact;
 use crate::runner::history::submit::Submit;
 use loom_engine::rt::execution::Execution;
@@ -14,26 +16,39 @@ use std::marker::Model;
 pub(crate) struct Place<D> {
     pub(crate) execution: Execution<D>,
     pub(crate) path: Path,
+    // draws the choices, where they are drawn as the run comes to them
+    pub(crate) drawer: Option<Drawer>,
 }
 
 impl<D> Model for Place<D> {
-    ghost use Rattle.loom.specs.Runner.Histories.{Moment, moment};
+    ghost use Rattle.std.specs.Prelude.{is_some};
+    ghost use Rattle.loom.specs.Runner.Drawn.{Spot};
+    ghost use Rattle.loom.specs.Runner.Histories.{moment};
 
-    ghost Value = { Moment D };
+    ghost Value = { Spot D };
 
-    ghost view = { λ p. moment p.execution p.path };
+    ghost view = { λ p. record { moment = moment p.execution p.path; drawn = is_some p.drawer } };
+}
+
+impl<D> Place<D> {
+    /// Whether the run's choices are drawn.
+    pub(crate) fn is_drawn(&self) -> bool
+        ensures { result ≡ self.now.drawn }
+    {
+        self.drawer.is_some()
+    }
 }
 
 impl<D: Exact> Submit<D> for Place<D> {
-    ghost use Rattle.loom.specs.Runner.Histories.{Handed, active_at, passed_at};
+    ghost use Rattle.loom.specs.Runner.Drawn.{passed_of, turn_of};
 
-    ghost goes_on = { λ m. m.state.over ≡ None };
+    ghost goes_on = { GoesOn };
 
-    ghost turn = { active_at };
+    ghost turn = { turn_of };
 
-    ghost passed = { passed_at };
+    ghost passed = { passed_of };
 
-    ghost happens = { Handed };
+    ghost happens = { HandedAt };
 
     fn active(&self) -> u8 {
         self.execution.active()
@@ -44,9 +59,12 @@ impl<D: Exact> Submit<D> for Place<D> {
     }
 
     fn submit(&mut self, op: Request<D, ()>) -> Result<Turn<D>, Stop>
-        requires { self.old.state.over ≡ None }
-        ensures { Handed self.old op result self.new }
+        requires { GoesOn self.old }
+        ensures { HandedAt self.old op result self.new }
     {
-        self.execution.submit(&mut self.path, op)
+        match &mut self.drawer {
+            Some(drawer) => self.execution.submit_drawn(&mut self.path, drawer, op),
+            None => self.execution.submit(&mut self.path, op),
+        }
     }
 }

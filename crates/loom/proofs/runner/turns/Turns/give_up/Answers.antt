@@ -2,4 +2,4 @@ use Rattle.loom.proofs.RunnerLemmas.Leading.{kept_spoiled}
 use Rattle.loom.proofs.runner.turns.Turns.give_up.Goals as goal
 
 pub invariant_of-self : goal.invariant_of-self
-invariant_of-self g c = kept_spoiled _ _ _ c.args.stop _
+invariant_of-self g c = kept_spoiled _ _ _ _ c.args.stop _

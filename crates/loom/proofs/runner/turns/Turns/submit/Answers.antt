@@ -15,7 +15,8 @@ add-self-inside-requires-after_bounds g c = λ κs inner.
 pub invariant_of-self : goal.invariant_of-self
 invariant_of-self g c =
     kept_after c.self.inside.limits c.self.inside.began c.self.inside.history c.add-self-inside.new.self c.args.op c.args.label c.self.inside.place c.add-self-inside.new.machine c.self.inside.spoiled
-    c.add-self-inside.result (none_is c.self.inside.spoiled (sym c.is_some.ensures ∙ c.if-is_some.false)) c.self.invariant
+    c.add-self-inside.result (none_is c.self.inside.spoiled (sym c.is_some.ensures ∙ c.if-is_some.false))
+    (goes_on_by c.self.inside.history c.end.result c.is_some-2.result c.end.ensures c.is_some-2.ensures c.if-is_some-2.false) c.self.invariant
     (goes_after c.self.inside.limits c.self.inside.began c.self.inside.history c.add-self-inside.new.self c.self.inside.spoiled c.add-self-inside.result c.self.inside.place c.add-self-inside.new.machine c.args.op c.args.label
     c.end.result c.is_some.result c.is_some-2.result c.self.invariant c.is_some.ensures c.if-is_some.false c.end.ensures c.is_some-2.ensures c.if-is_some-2.false c.add-self-inside.ensures.added)
 
