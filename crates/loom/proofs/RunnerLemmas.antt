@@ -8,7 +8,10 @@ pub mod Leading
 pub mod Made
 pub mod Once
 pub mod Paths
+pub mod Playing
+pub mod Recorded
 pub mod Remembering
+pub mod Rounds
 pub mod Tried
 pub mod Trying
 pub mod Turns

@@ -17,6 +17,8 @@ pub mod Laws
 pub mod Made
 pub mod Next
 pub mod Parallel
+pub mod Recorded
+pub mod Recording
 pub mod Refusals
 pub mod Replay
 pub mod Rising

@@ -9,6 +9,7 @@ mod forms;
 mod forms_in_children;
 mod forms_of_values;
 mod others;
+mod recorded;
 mod turns;
 
 use loom::Choice;

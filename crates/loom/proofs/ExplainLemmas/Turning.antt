@@ -140,7 +140,7 @@ module _ {D S : Type 0} (next : Meaning D S) where
         ∙ rest_is events bodies run path thread answer body after op h z)
 
     -- the operation leads to a turn or stops the run
-    comes : (events : List Event) (bodies : List S) (run run' : Progress D) (path path' : Route) (thread : ℕ) (answer : Reply D) (body after : S) (op : Op D S) (result : Result (Turn D) Stop)
+    pub comes : (events : List Event) (bodies : List S) (run run' : Progress D) (path path' : Route) (thread : ℕ) (answer : Reply D) (body after : S) (op : Op D S) (result : Result (Turn D) Stop)
         → IsHanded next bodies thread answer body after op → Along (submit (plain op)) run path result run' path'
         → OnOk result (run.state.steps_left ≡ run'.state.steps_left + 1) → path'.search ≡ path.search
         → IsUnderWay next whole events bodies run path thread answer
@@ -154,7 +154,7 @@ module _ {D S : Type 0} (next : Meaning D S) where
 -- ---- what the listener hears
 
 -- what the story of a run comes to is what the tree of runs comes to along the path
-driven : {D S : Type 0} (s : Settings) (next : Meaning D S) (explores : Bool) (max_threads max_steps : ℕ) (body : S) (path : Route) → s ≡ path.search → (comes : Outcome D) (events : List Event)
+pub driven : {D S : Type 0} (s : Settings) (next : Meaning D S) (explores : Bool) (max_threads max_steps : ℕ) (body : S) (path : Route) → s ≡ path.search → (comes : Outcome D) (events : List Event)
     → story_of s next explores max_threads max_steps body (trail path) ≡ record { events = events; comes = comes } → drives (runs next explores max_threads max_steps body) path ≡ comes
 driven {D} s next explores max_threads max_steps body path same comes events e =
     ap (λ (s : Settings). drive s (marking s.bound) (runs next explores max_threads max_steps body) (trail path)) (sym same)

@@ -10,14 +10,15 @@ use loom_objects::operation::Request;
 use std::fmt;
 use thiserror::Error;
 
-/// A thread has handed over another operation than in the run before, where both runs had made the same choices (own).
+/// A thread has handed over another operation than in the run before, where both runs had made the same choices; or, where closures are
+/// recorded, than in any run before, where it was told the same (own).
 #[derive(Debug, PartialEq, Eq, Drop)]
 pub struct Changed {
     /// Which run, from 1.
     pub run: u64,
     /// Which thread; 0 is main.
     pub thread: u8,
-    /// What was handed over in the run before. Data are `()`.
+    /// What was handed over in that run. Data are `()`.
     pub before: Request<(), ()>,
     /// What was handed over in this one. Data are `()`.
     pub now: Request<(), ()>,

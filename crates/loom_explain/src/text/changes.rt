@@ -1,4 +1,4 @@
-//! The text of a change: a thread hands over another operation than in the run before.
+//! The text of a change: a thread hands over another operation than in a run before.
 use crate::event::Event;
 use crate::text::forms::call_of;
 use crate::text::objects::At;
@@ -11,6 +11,15 @@ use std::alloc::{AllocError, Global};
 const ADVICE: &str =
     "; what a thread does is to depend on its handle's answers alone, so let each run begin with new values";
 
+/// When a thread has handed over the other operation.
+#[derive(Clone, Copy)]
+enum Earlier {
+    /// In the run before, under the same choices.
+    InTheRunBefore,
+    /// In a run before, when it was told the same.
+    ToldTheSame,
+}
+
 /// The text of a change: after these events of the run of this number, counted from 1, the thread has handed over the second
 /// operation, and in the run before the first one, under the same choices. An error where memory is refused.
 pub fn change_text(
@@ -20,6 +29,33 @@ pub fn change_text(
     thread: u8,
     before: &Request<(), ()>,
     now: &Request<(), ()>,
+) -> Result<String, AllocError> {
+    let earlier = Earlier::InTheRunBefore;
+    text_of(alloc, run, events, thread, before, now, earlier)
+}
+
+/// `change_text` of a thread that has handed over the first operation in a run before, when it was told the same.
+pub fn recorded_change_text(
+    alloc: Global,
+    run: u64,
+    events: &[Event],
+    thread: u8,
+    before: &Request<(), ()>,
+    now: &Request<(), ()>,
+) -> Result<String, AllocError> {
+    let earlier = Earlier::ToldTheSame;
+    text_of(alloc, run, events, thread, before, now, earlier)
+}
+
+/// The text of a change of an operation that was handed over then.
+fn text_of(
+    alloc: Global,
+    run: u64,
+    events: &[Event],
+    thread: u8,
+    before: &Request<(), ()>,
+    now: &Request<(), ()>,
+    earlier: Earlier,
 ) -> Result<String, AllocError> {
     let mut world = World::new(alloc);
     for (place, event) in events.iter().enumerate() {
@@ -32,7 +68,8 @@ pub fn change_text(
     }
     let mut page = Page::new(alloc);
     page.is_refused = world.is_refused;
-    put_change(&mut page, &world, run, usize::from(thread), before, now);
+    let thread = usize::from(thread);
+    put_change(&mut page, &world, run, thread, before, now, earlier);
     page.finish()
 }
 
@@ -44,6 +81,7 @@ fn put_change(
     thread: usize,
     before: &Request<(), ()>,
     now: &Request<(), ()>,
+    earlier: Earlier,
 ) {
     let name = match world.threads.get(thread) {
         Some(member) => member.name,
@@ -52,8 +90,16 @@ fn put_change(
     page.bits("run ", run);
     page.titled(": ", thread, name);
     page.call(" hands over `", now, world);
-    page.bits("`, where in run ", run.saturating_sub(1));
-    page.call(", under the same choices, it handed over `", before, world);
+    match earlier {
+        Earlier::InTheRunBefore => {
+            page.bits("`, where in run ", run.saturating_sub(1));
+            page.call(", under the same choices, it handed over `", before, world);
+        }
+        Earlier::ToldTheSame => {
+            let told = "`, where in a run before, when it was told the same, it handed over `";
+            page.call(told, before, world);
+        }
+    }
     page.words(if before == now {
         "` with other data"
     } else {

@@ -60,7 +60,7 @@ pub(super) fn add_two<R: Wait>(
 }
 
 /// The settings of a check in which each run is made.
-fn all_runs() -> Builder {
+pub(super) fn all_runs() -> Builder {
     let mut builder = Builder::new();
     builder.reduce = false;
     builder

@@ -4,8 +4,8 @@ use crate::closures::{carried, changes, ends, forms, forms_of_values, holds, tur
 use loom::model::Report;
 use loom::model::builder::Builder;
 use loom::model::visitor::Visitor;
-use loom::runner::{Handle, Host, RunnerError, Stop, check};
-use loom::{Choice, FailureKind};
+use loom::runner::{Handle, Host, RunnerError, Stop, check, check_recorded};
+use loom::{Choice, FailureKind, MemoryStore, NoClock};
 use std::alloc::{AllocError, Global};
 use std::process::Abort;
 use std::sync::Arc;
@@ -136,7 +136,7 @@ impl Main {
 }
 
 /// A run that the visitor was given.
-#[derive(Drop)]
+#[derive(PartialEq, Eq, Drop)]
 pub(super) struct Run {
     choices: Vec<Choice>,
     value: u64,
@@ -223,6 +223,13 @@ impl Found {
         false
     }
 
+    /// Whether the checks have the same report and were given the same runs, and this one has called main more seldom.
+    pub(super) fn is_like_with_fewer_calls(&self, other: &Found) -> bool {
+        self.report == other.report
+            && self.runs.as_slice() == other.runs.as_slice()
+            && self.calls < other.calls
+    }
+
     /// Whether the check has come to this.
     pub(super) fn comes_to(&self, wanted: Wanted) -> bool {
         match wanted {
@@ -268,6 +275,41 @@ pub(super) fn find<R: Host>(rt: &R, builder: &Builder, main: Main) -> Result<Fou
             main.run(handle, &counter, calls)
         },
         &mut keeper,
+    );
+    let Keeper { alloc: _, runs } = keeper;
+    Ok(Found {
+        report,
+        runs,
+        counted: counter.load(Ordering::SeqCst),
+        calls,
+    })
+}
+
+/// A check of main by these settings that records what main's closures answer.
+pub(super) fn find_recorded<R: Host>(
+    rt: &R,
+    builder: &Builder,
+    main: Main,
+) -> Result<Found, AllocError> {
+    let alloc: Global = rt.alloc();
+    let counter = Arc::new(alloc, AtomicU64::new(0))?;
+    let mut keeper = Keeper {
+        alloc,
+        runs: Vec::new(alloc),
+    };
+    let mut calls = 0u64;
+    let report = check_recorded(
+        rt,
+        alloc,
+        builder,
+        |handle: &mut Handle<u64, R>| {
+            calls = calls.wrapping_add(1);
+            main.run(handle, &counter, calls)
+        },
+        &mut keeper,
+        &mut NoClock,
+        &mut None::<MemoryStore>,
+        &None::<HostRuntime>,
     );
     let Keeper { alloc: _, runs } = keeper;
     Ok(Found {
