@@ -10,4 +10,3 @@ pub mod Steps
 pub mod Table
 pub mod Tasks
 pub mod Words
-pub mod Written

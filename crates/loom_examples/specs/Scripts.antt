@@ -2,3 +2,4 @@ pub mod Operations
 pub mod Running
 pub mod Script
 pub mod Slots
+pub mod Written

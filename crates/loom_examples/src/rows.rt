@@ -5,6 +5,7 @@ ghost use Rattle.loom_examples.specs.Rows.Line.{PrintedOf};
 ghost use Rattle.loom_examples.specs.Rows.Printed.{PrintedChecked, PrintedNamed, PrintedRow};
 
 pub mod changes;
+pub mod cover;
 pub mod drawing;
 pub mod jobs;
 pub mod json;

@@ -1,4 +1,5 @@
 //! Bodies that are lists of steps.
+pub(crate) mod comparing;
 mod operations;
 mod program;
 pub mod script;

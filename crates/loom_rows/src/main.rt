@@ -1,9 +1,9 @@
-//! The program: it prints what a check of a named row finds, a check with rising bounds, or a run by given choices, and may keep a
-//! checkpoint in a file. The row's name is its first word but for options, and the file the next one, if there is one. The rows,
-//! the words and the printed lines stand in `loom_examples::rows`, and the rows that are closures in `loom_examples::closures`. A row
-//! of closures has the settings of the environment where neither the words nor the row name others. By `--tour` the program takes a
-//! first look at a row and at the bodies of `loom_examples`. By `--measure` it checks bodies again and again, and prints how long
-//! that took.
+//! The program: it prints what a check of a named row finds, a check with rising bounds, one that remembers states, or a run by
+//! given choices, and may keep a checkpoint in a file. The row's name is its first word but for options, and the file the next
+//! one, if there is one. The rows, the words and the printed lines stand in `loom_examples::rows`, and the rows that are closures
+//! in `loom_examples::closures`. A row of closures has the settings of the environment where neither the words nor the row name
+//! others. By `--tour` the program takes a first look at a row and at the bodies of `loom_examples`. By `--measure` it checks
+//! bodies again and again, and prints how long that took.
 #![tactic(auto)]
 
 mod measuring;

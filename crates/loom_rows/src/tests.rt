@@ -40,6 +40,7 @@ mod bodies;
 mod cells;
 mod channels;
 mod checking;
+mod covering;
 mod each_operation;
 mod exploring;
 mod finding;

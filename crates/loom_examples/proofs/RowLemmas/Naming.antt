@@ -34,7 +34,7 @@ meant_found rows (name ∷ file ∷ other ∷ words) = refl
 
 -- what a report says
 pub reports_meant : (checked : Checked) (b : Builder) (report : Report) → ReportsOf checked b report → ReportsMeant (meant checked) b report
-reports_meant (Script steps) b report r = (steps.now, refl, r)
+reports_meant (Script steps) b report r = r
 reports_meant (Updater one other) b report r = r
 
 -- what was printed of a row was printed by the table

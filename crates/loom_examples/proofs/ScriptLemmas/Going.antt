@@ -7,19 +7,21 @@ use Rattle.loom_objects.specs.declared.operation.Request.{Request}
 use Rattle.loom_objects.specs.declared.operation.Request.TheVariants as op
 use Rattle.loom_objects.specs.declared.operation.ThreadOp.TheVariants.{Spawn}
 use Rattle.loom_examples.specs.declared.scripts.step.Step.{Step}
-use Rattle.loom_examples.specs.declared.scripts.step.Step.TheVariants.{SpawnAt}
+use Rattle.loom_examples.specs.declared.scripts.step.Step.TheVariants as step
 use Rattle.loom_examples.specs.Scripts.Running.{Running, landing, named_place, place_of, spawned}
 use Rattle.loom_examples.specs.Scripts.Script.{fetched_after, next_of, spawn_at, step_operation}
 use Rattle.loom_examples.specs.Scripts.Slots.{kept}
+use Rattle.loom_examples.specs.Scripts.Written.{Written, SpawnAt, written}
 
 -- what such a step asks for, where the thread is behind it, is what comes next
-pub spawns : {E : Type 0} (s behind : Running) (answer : Reply ℕ) (step : Step) (slot : ℕ) (name : _) (place start : ℕ) (asked : Request ℕ Running) (made : Result (Op ℕ Running) E)
-    → behind ≡ fetched_after s answer → step ≡ SpawnAt slot name
-    → Some step ≡ slice_get s.steps place → place ≡ landing s.steps (kept s.state answer)
+pub spawns : {E : Type 0} (s behind : Running) (answer : Reply ℕ) (at_place : Step) (slot : ℕ) (name : _) (place start : ℕ) (asked : Request ℕ Running) (made : Result (Op ℕ Running) E)
+    → behind ≡ fetched_after s answer → at_place ≡ step.SpawnAt slot name
+    → Some (written at_place) ≡ slice_get s.steps place → place ≡ landing s.steps (kept s.state answer)
     → start ≡ named_place s.steps (slice_get s.steps place)
     → asked ≡ op.Thread (Spawn (spawned behind start) None) → made ≡ Ok (bare asked)
     → IfOk made (λ op. (behind, op) ≡ next_of s answer)
-spawns s behind answer step slot name place start asked made after is at lands starts asks gives =
+spawns s behind answer at_place slot name place start asked made after read at lands starts asks gives =
+    let is : written at_place ≡ SpawnAt slot name.now = ap written read in
     let Next = λ (t : Running) (op : Op ℕ Running). ◌≡◌ {A = Running × Op ℕ Running} (t, op) (next_of s answer) in
     let after_it = fetched_after s answer in
     let asks_for : asked ≡ spawn_at behind name.now =

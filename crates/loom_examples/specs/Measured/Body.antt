@@ -5,7 +5,7 @@ use Rattle.loom_views.specs.declared.rt.num.Numbers.TheVariants as numbers
 use Rattle.loom_objects.specs.declared.operation.AtomicOp.TheVariants as atomic
 use Rattle.loom_objects.specs.declared.operation.Request.TheVariants as op
 use Rattle.loom_objects.specs.declared.operation.ThreadOp.TheVariants as threads
-use Rattle.loom_examples.specs.Rows.Written.{Written, Do, Label, JumpTo, SpawnAt, written}
+use Rattle.loom_examples.specs.Scripts.Written.{Written, Do, Label, JumpTo, SpawnAt, written}
 use Rattle.loom_examples.specs.declared.scripts.step.Value.TheVariants.{Plain}
 use Rattle.loom_examples.specs.Rows.Settings.{defaults}
 use Rattle.loom_examples.specs.Rows.Steps.{exit, end}

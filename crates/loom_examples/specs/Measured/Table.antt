@@ -2,7 +2,7 @@
 use Rattle.std.specs.Prelude.{ℕ, true, false, List, [], ◌∷◌, ◌++◌, Option, Some, None, codes}
 use Rattle.std.specs.List.{find}
 use Rattle.std.specs.Str.{bytes_eq}
-use Rattle.loom_examples.specs.Rows.Written.{Written}
+use Rattle.loom_examples.specs.Scripts.Written.{Written}
 use Rattle.loom_examples.specs.Measured.Body.{Named, measured, search, many}
 use Rattle.loom_examples.specs.Rows.Scripts.Atomics.{three_adds, acq_rel}
 use Rattle.loom_examples.specs.Rows.Scripts.First.{two_mutexes_deadlock}

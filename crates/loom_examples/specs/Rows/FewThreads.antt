@@ -3,7 +3,7 @@ use Rattle.std.specs.Prelude.{List, [], ◌∷◌, codes}
 use Rattle.loom_objects.specs.declared.operation.MutexOp.TheVariants as mutex
 use Rattle.loom_objects.specs.declared.operation.ThreadOp.TheVariants as threads
 use Rattle.loom_objects.specs.declared.operation.Request.TheVariants as op
-use Rattle.loom_examples.specs.Rows.Written.{Written, Do, Label, JumpTo, SpawnAt}
+use Rattle.loom_examples.specs.Scripts.Written.{Written, Do, Label, JumpTo, SpawnAt}
 use Rattle.loom_examples.specs.declared.scripts.step.Value.TheVariants.{Plain}
 use Rattle.loom_examples.specs.Rows.Meanings.{Named}
 use Rattle.loom_examples.specs.Rows.Settings.{script, whole, limited, short}

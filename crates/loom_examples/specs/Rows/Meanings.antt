@@ -4,7 +4,7 @@ use Rattle.loom_examples.specs.declared.rows.Checked.{Checked}
 use Rattle.loom_examples.specs.declared.rows.Checked.TheVariants.{Script, Updater}
 use Rattle.loom_examples.specs.declared.rows.Row.{Row}
 use Rattle.loom_examples.specs.declared.rows.settings.Settings.{Settings}
-use Rattle.loom_examples.specs.Rows.Written.{Written, written}
+use Rattle.loom_examples.specs.Scripts.Written.{Written, written}
 
 -- a script of these steps, or the thread that updates its atomic, with these two numbers
 pub data Meant : Type 0 where

@@ -9,13 +9,12 @@ use Rattle.loom.specs.declared.model.report.Report.{Report}
 use Rattle.loom_engine.specs.Runs.Body.{runs as runs_of}
 use Rattle.loom_examples.specs.Scripts.Running.{started}
 use Rattle.loom_examples.specs.Scripts.Script as script
-use Rattle.loom_examples.specs.declared.scripts.step.Step.{Step}
 use Rattle.loom_examples.specs.Rows.Builder.{IsBuilder}
 use Rattle.loom_examples.specs.Rows.Line.{PrintedOf}
 use Rattle.loom_examples.specs.Rows.Meanings.{Meant, Steps, Updates, Named}
 use Rattle.loom_examples.specs.Rows.Table.{IsTable}
 use Rattle.loom_examples.specs.Rows.Words.{file_in, meant_by}
-use Rattle.loom_examples.specs.Rows.Written.{Written, written}
+use Rattle.loom_examples.specs.Scripts.Written.{Written, written}
 use Rattle.loom_examples.specs.Bodies.Updates as updates
 use Rattle.loom_examples.specs.declared.rows.Checked.{Checked}
 use Rattle.loom_examples.specs.declared.rows.Checked.TheVariants.{Script, Updater}
@@ -24,13 +23,13 @@ use Rattle.loom_examples.specs.declared.rows.settings.Settings.{Settings}
 
 -- ---- rows
 
--- what a report says of the runs of a script, checked by this builder
-abbrev pub ReportsScript : List Step → Builder → Report → Type 0
+-- what a report says of the runs of a script that reads so, checked by this builder
+abbrev pub ReportsScript : List Written → Builder → Report → Type 0
 ReportsScript steps b = ReportsAlone b (runs_of script.next_of (explores b) b.max_threads b.max_steps (started steps))
 
 -- what a report says of the runs of what is checked
 abbrev pub ReportsOf : Checked → Builder → Report → Type 0
-ReportsOf (Script steps) b = ReportsScript steps.now b
+ReportsOf (Script steps) b = ReportsScript (map written steps.now) b
 ReportsOf (Updater one other) b = ReportsAlone b (runs_of updates.next_of (explores b) b.max_threads b.max_steps (updates.begun one other))
 
 -- just the line of a report of which this holds was written, and the status is the report's
@@ -53,13 +52,9 @@ named_by table (name ∷ []) = find (λ row. bytes_eq row.name name) table
 named_by table (name ∷ file ∷ []) = find (λ row. bytes_eq row.name name) table
 named_by table words = None
 
--- what a report says of the runs of a script that reads so
-abbrev pub ReportsWritten : List Written → Builder → Report → Type 0
-ReportsWritten steps b report = (script : List Step) × (map written script ≡ steps) × ReportsScript script b report
-
 -- what a report says of the runs of what a name means
 abbrev pub ReportsMeant : Meant → Builder → Report → Type 0
-ReportsMeant (Steps steps) b = ReportsWritten steps b
+ReportsMeant (Steps steps) b = ReportsScript steps b
 ReportsMeant (Updates one other) b = ReportsAlone b (runs_of updates.next_of (explores b) b.max_threads b.max_steps (updates.begun one other))
 
 -- the words mean a row of this table, and what was written is of a check of what it means, with the file that they name

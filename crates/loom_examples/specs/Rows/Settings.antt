@@ -1,6 +1,6 @@
 -- How rows are named: a name, what it means, and the settings by which this is checked.
 use Rattle.std.specs.Prelude.{ℕ, List, Some, None, true, false}
-use Rattle.loom_examples.specs.Rows.Written.{Written}
+use Rattle.loom_examples.specs.Scripts.Written.{Written}
 use Rattle.loom_examples.specs.Rows.Meanings.{Steps, Updates, Named}
 use Rattle.loom_examples.specs.declared.rows.settings.Settings.{Settings}
 

@@ -1,7 +1,7 @@
 -- Steps that many scripts have.
 use Rattle.loom_objects.specs.declared.operation.Request.TheVariants as op
 use Rattle.loom_objects.specs.declared.operation.ThreadOp.TheVariants as threads
-use Rattle.loom_examples.specs.Rows.Written.{Written, Do}
+use Rattle.loom_examples.specs.Scripts.Written.{Written, Do}
 
 -- the thread gives its locals back
 abbrev pub exit : Written

@@ -1,24 +1,28 @@
 -- What is printed of a row besides the line of a check.
-use Rattle.std.specs.Prelude.{ℕ, ◌≡◌, ◌++◌, Bool, false, List, Option, codes, decimal}
+use Rattle.std.specs.Prelude.{ℕ, ◌≡◌, ◌++◌, Bool, false, List, Option, codes, decimal, length, map, ⊤}
 use Rattle.std.specs.Io.KnownBytes.{Appends}
 use Rattle.loom_views.specs.Failures.{number_of}
+use Rattle.loom_objects.specs.declared.choice.Choice.{Choice}
 use Rattle.loom_objects.specs.Tree.Tree.{Tree}
 use Rattle.loom.specs.Model.ChoicesText.{others_text}
+use Rattle.loom.specs.Model.Covered.{Claims, runs_in}
 use Rattle.loom.specs.Model.Fresh.{Replays}
 use Rattle.loom.specs.Model.Check.{ReportsAlone}
 use Rattle.loom.specs.Model.Rising.{RisesTo}
 use Rattle.loom.specs.Model.Settings.{explores}
 use Rattle.loom.specs.declared.model.builder.Builder.{Builder}
+use Rattle.loom.specs.declared.model.cover.Covered.{Covered}
 use Rattle.loom.specs.declared.model.Replay.{Replay}
 use Rattle.loom.specs.declared.model.Replay.TheVariants as replay
 use Rattle.loom.specs.declared.model.report.Report.{Report}
 use Rattle.loom.specs.declared.model.rising.Risen.{Risen}
-use Rattle.loom_engine.specs.Runs.Body.{runs as runs_of}
+use Rattle.loom_engine.specs.Runs.Body.{Meaning, runs as runs_of}
 use Rattle.loom_examples.specs.Scripts.Running.{started}
 use Rattle.loom_examples.specs.Scripts.Script as script
-use Rattle.loom_examples.specs.Rows.Builder.{IsBuilder}
+use Rattle.loom_examples.specs.Rows.Builder.{IsBuilder, builder_of}
 use Rattle.loom_examples.specs.Rows.Changes.{changed}
-use Rattle.loom_examples.specs.Rows.Line.{PrintedOf, report_text, status_of}
+use Rattle.loom_examples.specs.Scripts.Written.{written}
+use Rattle.loom_examples.specs.Rows.Line.{PrintedCovered, PrintedOf, report_text, status_of}
 use Rattle.loom_examples.specs.Bodies.Updates as updates
 use Rattle.loom_examples.specs.declared.rows.Checked.{Checked}
 use Rattle.loom_examples.specs.declared.rows.Checked.TheVariants.{Script, Updater}
@@ -66,7 +70,7 @@ PrintedBy (task.Replay choices) explains b tree old new status =
 
 -- the runs of what is checked
 abbrev pub tree_of : Checked → Builder → Tree ℕ
-tree_of (Script steps) b = runs_of script.next_of (explores b) b.max_threads b.max_steps (started steps.now)
+tree_of (Script steps) b = runs_of script.next_of (explores b) b.max_threads b.max_steps (started (map written steps.now))
 tree_of (Updater one other) b = runs_of updates.next_of (explores b) b.max_threads b.max_steps (updates.begun one other)
 
 -- what was written is of this task, done with what is checked, with these settings and this checkpoint file, if there is one
@@ -78,3 +82,24 @@ PrintedTask task explains checked settings file old new status =
 abbrev pub PrintedChanged : Changes → Task → Bool → Checked → Settings → Option (List ℕ) → Option (List ℕ) → Option (List ℕ) → ℕ → Type 0
 PrintedChanged changes task explains checked settings file old new status =
     (b : Builder) × IsBuilder settings file b × PrintedBy task explains (changed changes b) (tree_of checked (changed changes b)) old new status
+
+-- ---- checks that remember states
+
+-- what such a check by this builder, and by the host's clock, says of a body, and of the runs that ended: there are as many as it counts
+abbrev pub CoversBody : {S : Type 0} → Builder → Meaning ℕ S → S → Covered → Type 0
+CoversBody b next body covered =
+    (given : List (List Choice × ℕ)) × (length given ≡ runs_in covered) × Claims b next body given (λ time. ⊤) covered
+
+-- what was written is of such a check, and unless a failure is told nothing stands behind the line
+abbrev pub PrintedCovering : {S : Type 0} → Bool → Builder → Meaning ℕ S → S → Option (List ℕ) → Option (List ℕ) → ℕ → Type 0
+PrintedCovering tells b next body old new status =
+    (covered : Covered) × CoversBody b next body covered × ((mid : Option (List ℕ)) × PrintedCovered covered old mid status × IsBehind tells mid new)
+
+-- and of what is checked
+abbrev pub PrintedCover : Bool → Checked → Builder → Option (List ℕ) → Option (List ℕ) → ℕ → Type 0
+PrintedCover tells (Script steps) b = PrintedCovering tells b script.next_of (started (map written steps.now))
+PrintedCover tells (Updater one other) b = PrintedCovering tells b updates.next_of (updates.begun one other)
+
+-- what was written is of such a check by a builder of these settings, in which those that the command line names are changed
+abbrev pub PrintedCoverOf : Changes → Bool → Checked → Settings → Option (List ℕ) → Option (List ℕ) → ℕ → Type 0
+PrintedCoverOf changes tells checked settings old new status = PrintedCover tells checked (changed changes (builder_of settings)) old new status

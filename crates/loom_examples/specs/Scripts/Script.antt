@@ -8,9 +8,8 @@ use Rattle.loom_objects.specs.declared.operation.Request.TheVariants as op
 use Rattle.loom_objects.specs.declared.operation.Reply.{Reply}
 use Rattle.loom_objects.specs.declared.operation.ThreadOp.TheVariants.{Spawn}
 use Rattle.loom_objects.specs.declared.label.Label.{Label as Called}
-use Rattle.loom_examples.specs.declared.scripts.step.Step.{Step}
-use Rattle.loom_examples.specs.declared.scripts.step.Step.TheVariants.{Do, Labelled, Store, Label, JumpTo, IfTo, UnlessTo, SpawnAt}
 use Rattle.loom_examples.specs.declared.scripts.step.Value.{Value}
+use Rattle.loom_examples.specs.Scripts.Written.{Written, Do, Labelled, Store, Label, JumpTo, IfTo, UnlessTo, SpawnAt}
 use Rattle.loom_examples.specs.Scripts.Operations.{atomic_op, cell_op, arc_op, track_op, mutex_op, rwlock_op, condvar_op, notify_op, channel_op, waker_op, place_op, local_op, lazy_op, thread_op}
 use Rattle.loom_examples.specs.Scripts.Running.{Running, fetched, landing, place_of, spawned}
 use Rattle.loom_examples.specs.Scripts.Slots.{kept, number_of, object}
@@ -50,7 +49,7 @@ abbrev pub spawn_at : Running → List ℕ → Request ℕ Running
 spawn_at s name = op.Thread (Spawn (spawned s (place_of s.steps name)) None)
 
 -- what the step asks for; beyond the script's end, and where a jump leads to a jump or past a label to another one, it fails
-abbrev pub step_request : Running → Option Step → Request ℕ Running
+abbrev pub step_request : Running → Option Written → Request ℕ Running
 step_request s None = op.Fail
 step_request s (Some (Do keep made)) = request s made
 step_request s (Some (Labelled keep made called)) = request s made
@@ -59,10 +58,10 @@ step_request s (Some (Label label)) = op.Fail
 step_request s (Some (JumpTo name)) = op.Fail
 step_request s (Some (IfTo register n name)) = op.Fail
 step_request s (Some (UnlessTo register n name)) = op.Fail
-step_request s (Some (SpawnAt slot name)) = spawn_at s name.now
+step_request s (Some (SpawnAt slot name)) = spawn_at s name
 
 -- how the script's author calls it
-abbrev pub label_of : Option Step → Option Called
+abbrev pub label_of : Option Written → Option Called
 label_of None = None
 label_of (Some (Do keep made)) = None
 label_of (Some (Labelled keep made called)) = Some called
@@ -74,7 +73,7 @@ label_of (Some (UnlessTo register n name)) = None
 label_of (Some (SpawnAt slot name)) = None
 
 -- the operation of the step
-abbrev pub step_operation : Running → Option Step → Op ℕ Running
+abbrev pub step_operation : Running → Option Written → Op ℕ Running
 step_operation s step = record { request = step_request s step; label = label_of step }
 
 abbrev pub operation_at : Running → ℕ → Op ℕ Running

@@ -106,6 +106,9 @@ pub fn run_asked<
             "error: '--shorten' is for rows whose bodies are scripts",
         );
     }
+    if asked.covers.is_some() {
+        return refuse(err, "error: '--cover' is for rows whose bodies are scripts");
+    }
     if asked.jobs.is_some() || asked.share.is_some() {
         return refuse(
             err,

@@ -3,11 +3,13 @@ ghost use Rattle.std.specs.Prelude.{◌≡◌, ◌⊎◌, IfOk};
 
 use crate::bodies::updates::Updater;
 use crate::rows::changes::Changes;
+use crate::rows::cover::covered_by;
 use crate::rows::settings::Builds;
 use crate::rows::tasks::{Task, UP_TO};
 use crate::rows::{Checked, Row, refuse_check, timed};
 use crate::scripts::script::Script;
 use loom::model::builder::Builder;
+use loom::model::cover::Covered;
 use loom::model::error::CheckError;
 use loom::model::{Replay, Report};
 use loom::{Body, Choice, ShownChoices};
@@ -62,6 +64,42 @@ pub fn do_task<R: AllocGlobal + Clock + Files, O: Write, E: Write>(
         Err(NoAnswer::Check(error)) => refuse_check(err, &builder, error),
         Err(NoAnswer::Memory) => Ok(2),
     }
+}
+
+/// Covers the row, with at most so many states and with these settings in place of its own, and prints what that found as one JSON
+/// object. Answers the exit status.
+pub(crate) fn cover_row<R: AllocGlobal + Clock + Files, O: Write, E: Write>(
+    rt: &R,
+    row: &Row,
+    changes: Changes,
+    most_states: usize,
+    out: &mut O,
+    err: &mut E,
+) -> io::Result<u8> {
+    let builder = changes.change(row.settings.builder());
+    match cover_answer(rt, &builder, row, most_states) {
+        Ok(answer) => print_answer(rt.alloc(), &answer, out),
+        Err(NoAnswer::Check(error)) => refuse_check(err, &builder, error),
+        Err(NoAnswer::Memory) => Ok(2),
+    }
+}
+
+fn cover_answer<R: AllocGlobal + Clock + Files>(
+    rt: &R,
+    builder: &Builder,
+    row: &Row,
+    most_states: usize,
+) -> Result<Answer, NoAnswer> {
+    let covered = match row.checked {
+        Checked::Script(steps) => {
+            let script = Script::new(rt.alloc(), steps)?;
+            covered_by(rt, builder, &script, most_states)?
+        }
+        Checked::Updater(one, other) => {
+            covered_by(rt, builder, &Updater::main(one, other), most_states)?
+        }
+    };
+    Ok(of_covered(rt.alloc(), row.name, &covered)?)
 }
 
 /// Prints the object, and answers the exit status.
@@ -140,6 +178,49 @@ pub(crate) fn of_report(
             Ok(Answer { object, status: 0 })
         }
         Report::Failed {
+            failure,
+            choices,
+            ..
+        } => {
+            put_failure(alloc, &mut object, failure)?;
+            put_choices(alloc, &mut object, choices.as_slice())?;
+            Ok(Answer { object, status: 1 })
+        }
+    }
+}
+
+/// The object of what a check found that remembers states.
+fn of_covered(alloc: Global, name: &str, covered: &Covered) -> Result<Answer, AllocError> {
+    let (result, runs, met, states) = match covered {
+        Covered::Complete { runs, met, states } => ("complete", *runs, *met, *states),
+        Covered::Stopped {
+            runs,
+            met,
+            states,
+            ..
+        } => ("stopped", *runs, *met, *states),
+        Covered::Failed {
+            runs,
+            met,
+            states,
+            ..
+        } => ("failed", *runs, *met, *states),
+    };
+    let mut object = json!(in alloc; {
+        "row": name,
+        "result": result,
+        "runs": runs,
+        "met": met,
+        "states": states
+    })?;
+    match covered {
+        Covered::Complete { .. } => Ok(Answer { object, status: 0 }),
+        Covered::Stopped { limit, .. } => {
+            let limit = format!(in alloc; "{limit}")?;
+            put(alloc, &mut object, "limit", json!(in alloc; limit)?)?;
+            Ok(Answer { object, status: 0 })
+        }
+        Covered::Failed {
             failure,
             choices,
             ..

@@ -7,6 +7,7 @@ use crate::rows::changes::Changes;
 use crate::rows::drawing::Drawing;
 use clap::{Arg, ArgAction, ArgMatches, Command, Error, value_parser};
 use loom::model::Walk;
+use loom::model::cover::MOST_STATES;
 use std::alloc::{AllocError, Global};
 use std::time::Duration;
 
@@ -57,7 +58,7 @@ const NUMBER: Known = Known {
 };
 
 // All options, in the order of the help, which clap adds itself.
-static OPTIONS: [Known; 26] = [
+static OPTIONS: [Known; 28] = [
     // What the program does besides a check.
     Known {
         name: "explain",
@@ -103,6 +104,29 @@ static OPTIONS: [Known; 26] = [
         help: "draw priorities of threads, which change D - 1 times in a run",
         needs: Some("walk"),
         ..FLAG
+    },
+    Known {
+        name: "cover",
+        help: "cover every run: remember states, and give a run up where its state was met before",
+        conflicts: &[
+            "replay",
+            "rising",
+            "walk",
+            "jobs",
+            "split",
+            "part",
+            "gather",
+            "reduce",
+            "preemption-bound",
+            "checkpoint-interval",
+        ],
+        ..FLAG
+    },
+    Known {
+        name: "states",
+        help: "remember at most this many states",
+        needs: Some("cover"),
+        ..NUMBER
     },
     Known {
         name: "shorten",
@@ -338,6 +362,8 @@ pub struct RowAsked<'a> {
     pub rises: bool,
     /// The walk that is to be made.
     pub walk: Option<Walk>,
+    /// How many states are remembered at most, if the row is covered.
+    pub covers: Option<usize>,
     /// Whether a failure is shortened.
     pub shortens: bool,
     /// Among how many workers the check is shared out, if it is.
@@ -372,6 +398,7 @@ pub fn read<'a>(alloc: Global, words: &'a [&str]) -> Result<Asked<'a>, Error> {
         replay: matches.get_str("replay"),
         rises: matches.get_flag("rising"),
         walk: walk(&matches),
+        covers: most_states(&matches),
         shortens: matches.get_flag("shorten"),
         jobs: matches.get_one("jobs"),
         share: share_asked(&matches),
@@ -430,6 +457,15 @@ fn changes(matches: &ArgMatches) -> Changes {
     }
 }
 
+// How many states `--cover` remembers.
+fn most_states(matches: &ArgMatches) -> Option<usize> {
+    if matches.get_flag("cover") {
+        Some(matches.get_one("states").unwrap_or(MOST_STATES))
+    } else {
+        None
+    }
+}
+
 // What two opposite options say.
 fn switched(on: bool, off: bool) -> Option<bool> {
     if on {
@@ -450,7 +486,8 @@ fn command<'a>(alloc: Global) -> Result<Command<'a>, AllocError> {
     let file = Arg::new(alloc, "FILE")
         .help("the file that the check goes on from, and keeps its checkpoints in")
         .conflicts_with("rising")?
-        .conflicts_with("replay")?;
+        .conflicts_with("replay")?
+        .conflicts_with("cover")?;
     Command::new(alloc, "loom_rows")
         .no_binary_name(true)
         .disable_version_flag(true)

@@ -142,7 +142,7 @@ fn look<R: AllocGlobal + Clock + Files, L: Log, B: Body<Data = u64>>(
 }
 
 /// Shortens the failing run with these choices, and explains and draws it, as is asked for.
-fn tell<R: AllocGlobal + Files, B: Body<Data = u64>, O: Write>(
+pub(crate) fn tell<R: AllocGlobal + Files, B: Body<Data = u64>, O: Write>(
     rt: &R,
     builder: &Builder,
     body: &B,

@@ -5,6 +5,8 @@ ghost use Rattle.loom_examples.specs.Rows.Printed.{PrintedNamed};
 ghost use Rattle.loom_examples.specs.Rows.Words.{is_option};
 
 use crate::closures::rows::ROWS;
+use crate::measured::row_or_body;
+use crate::rows::cover::cover_row;
 use crate::rows::drawing::draw_row;
 use crate::rows::options::{Asked, RowAsked, is_option, read};
 use crate::rows::tasks::{Task, do_changed};
@@ -166,6 +168,9 @@ fn run_task<R: AllocGlobal + Clock + Files, L: Log, O: Write, E: Write>(
     out: &mut O,
     err: &mut E,
 ) -> io::Result<u8> {
+    if let Some(most_states) = asked.covers {
+        return cover(rt, most_states, asked, out, err);
+    }
     let rows = rows::all_rows(rt.alloc())?;
     let Some(row) = row_of(rows.as_slice(), asked.name) else {
         return refuse_name(rt.alloc(), rows.as_slice(), asked.name, err);
@@ -190,6 +195,26 @@ fn run_task<R: AllocGlobal + Clock + Files, L: Log, O: Write, E: Write>(
     } else {
         do_changed(rt, row, changes, task, explains, file, out, err)
     }
+}
+
+/// Covers the row of this name, or the body that is measured under it, with at most so many states, and prints what is asked for of that.
+fn cover<R: AllocGlobal + Clock + Files, O: Write, E: Write>(
+    rt: &R,
+    most_states: usize,
+    asked: RowAsked,
+    out: &mut O,
+    err: &mut E,
+) -> io::Result<u8> {
+    let Some(row) = row_or_body(rt.alloc(), asked.name)? else {
+        let rows = rows::all_rows(rt.alloc())?;
+        return refuse_name(rt.alloc(), rows.as_slice(), asked.name, err);
+    };
+    let changes = asked.changes;
+    if asked.json {
+        return json::cover_row(rt, &row, changes, most_states, out, err);
+    }
+    let tells = asked.explains || asked.shortens;
+    cover_row(rt, &row, changes, most_states, tells, asked, out, err)
 }
 
 /// The words mean nothing: the usage, the cause with the nearest name or option, and how to ask for all of them.

@@ -1,6 +1,8 @@
 //! The steps of a script, with the places to which they lead.
-ghost use Rattle.std.specs.Prelude.{◌≡◌, IfOk, Some, option_copied, slice_get};
-ghost use Rattle.loom_examples.specs.Scripts.Running.{is_label, label_at, named_place, place_of};
+ghost use Rattle.std.specs.Prelude.{◌≡◌, ◌<◌, ◌^◌, IfOk, OnSome, Some, map, option_copied, position, slice_get};
+ghost use Rattle.std.specs.Option.{option_map};
+ghost use Rattle.loom_examples.specs.Scripts.Running.{is_label, named_place, place_of};
+ghost use Rattle.loom_examples.specs.Scripts.Written.{written};
 
 use crate::scripts::step::Step;
 use std::alloc::{AllocError, Global};
@@ -16,20 +18,20 @@ pub(crate) struct Program {
 
 impl Model for Program {
     ghost use Rattle.std.specs.Prelude.{◌≡◌, List, Some, map};
-    ghost use Rattle.loom_examples.specs.declared.scripts.step.Step.{Step};
     ghost use Rattle.loom_examples.specs.Scripts.Running.{named_place};
+    ghost use Rattle.loom_examples.specs.Scripts.Written.{Written, written};
 
-    ghost Value = { List Step };
+    ghost Value = { List Written };
 
-    ghost view = { λ program. program.steps.now };
+    ghost view = { λ program. map written program.steps.now };
 
-    ghost invariant = { λ program. program.places.items ≡ map (λ step. named_place program.steps.now (Some step)) program.steps.now };
+    ghost invariant = { λ program. program.places.items ≡ map (λ step. named_place (map written program.steps.now) (Some step)) (map written program.steps.now) };
 }
 
 impl Program {
     /// The program of these steps. It fails only where a growth is refused.
     pub(crate) fn new(alloc: Global, steps: &'static [Step]) -> Result<Program, AllocError>
-        ensures { IfOk result (λ program. program ≡ steps.entry.now) }
+        ensures { IfOk result (λ program. program ≡ map written steps.entry.now) }
     {
         let places = steps
             .iter()
@@ -52,14 +54,16 @@ impl Program {
 
     /// All steps.
     pub(crate) fn steps(&self) -> &'static [Step]
-        ensures { result.now ≡ self.now }
+        ensures { map written result.now ≡ self.now }
     {
         self.steps
     }
 
     /// The step at this place, if there is one.
+    #[tactic(auto, using(crate::proofs::ScriptLemmas::Reading::reads))]
     pub(crate) fn step(&self, place: usize) -> Option<&'static Step>
-        ensures { option_copied result ≡ slice_get self.now place }
+        ensures read { option_map written (option_copied result) ≡ slice_get self.now place }
+        ensures within { OnSome result (place < 2 ^ 63) }
     {
         if place >= self.steps.len() {
             return None;
@@ -80,7 +84,7 @@ impl Program {
 
 // Where the label stands that the step names. Where it names none, the steps' end.
 fn named_place(steps: &[Step], step: &Step) -> usize
-    ensures { result ≡ named_place steps.now (Some step.now) }
+    ensures { result ≡ named_place (map written steps.now) (Some (written step.now)) }
 {
     match step {
         Step::JumpTo(name)
@@ -93,7 +97,7 @@ fn named_place(steps: &[Step], step: &Step) -> usize
 
 // Whether the step is the label of this name.
 fn is_label(step: &Step, name: &str) -> bool
-    ensures { result ≡ is_label name.now step.now }
+    ensures { result ≡ is_label name.now (written step.now) }
 {
     match step {
         Step::Label(label) => *label == name,
@@ -103,14 +107,14 @@ fn is_label(step: &Step, name: &str) -> bool
 
 // Where the first label of this name stands.
 fn label_at(steps: &[Step], name: &str) -> Option<usize>
-    ensures { result ≡ label_at steps.now name.now }
+    ensures { result ≡ position (λ step. is_label name.now (written step)) steps.now }
 {
     steps.iter().position(|step| is_label(step, name))
 }
 
 // Where the first label of this name stands; without one, the steps' end.
 fn place_of(steps: &[Step], name: &str) -> usize
-    ensures { result ≡ place_of steps.now name.now }
+    ensures { result ≡ place_of (map written steps.now) name.now }
 {
     match label_at(steps, name) {
         Some(place) => place,

@@ -1,8 +1,10 @@
 //! Bodies that take one step of a list after another.
-ghost use Rattle.std.specs.Prelude.{◌≡◌, Err, IfOk, None, Ok, Some, option_copied};
+ghost use Rattle.std.specs.Prelude.{◌≡◌, Err, IfOk, None, Ok, Some, map, option_copied};
+ghost use Rattle.std.specs.Option.{option_map};
 ghost use Rattle.loom_objects.specs.Operation.Labelled.{bare};
 ghost use Rattle.loom_examples.specs.Scripts.Running.{spawned, started};
 ghost use Rattle.loom_examples.specs.Scripts.Script.{label_of, next_of, request, store};
+ghost use Rattle.loom_examples.specs.Scripts.Written.{written};
 
 use crate::scripts::program::Program;
 use crate::scripts::state::State;
@@ -45,7 +47,7 @@ impl Script {
     /// A thread at the script's first step, without handles, and with 0 in each register. It fails only where a growth is
     /// refused.
     pub fn new(alloc: Global, steps: &'static [Step]) -> Result<Script, AllocError>
-        ensures { IfOk result (λ script. script ≡ started steps.entry.now) }
+        ensures { IfOk result (λ script. script ≡ started (map written steps.entry.now)) }
     {
         let program = Arc::new(alloc, Program::new(alloc, steps)?)?;
         let state = Box::new(alloc, State::new())?;
@@ -68,6 +70,13 @@ impl Script {
         ensures { result.now ≡ self.now.state }
     {
         &*self.state
+    }
+
+    // Its steps.
+    pub(crate) fn program(&self) -> &Program
+        ensures { result.now ≡ self.now.steps }
+    {
+        self.program.as_ref()
     }
 
     // A thread that begins at this step, with the numbers and handles of this one.
@@ -129,7 +138,7 @@ impl Script {
 
 // How the script's author calls the step.
 fn label_of(step: Option<&Step>) -> Option<&Label>
-    ensures { option_copied result ≡ label_of (option_copied step.entry) }
+    ensures { option_copied result ≡ label_of (option_map written (option_copied step.entry)) }
 {
     match step {
         Some(Step::Labelled(_, _, label)) => Some(label),

@@ -1,6 +1,7 @@
 //! How far a thread of a script is, and what it and its registers keep.
 ghost use Rattle.std.specs.Prelude.{◌≡◌, ◌==◌, slice_get};
 ghost use Rattle.loom_examples.specs.Scripts.Running.{at_first, behind, child, fetched, keep_of, landing, past_label};
+ghost use Rattle.loom_examples.specs.Scripts.Written.{written};
 ghost use Rattle.loom_examples.specs.Scripts.Slots.{digits, handle_at, held, kept, lazy_digits, local_digits, name_number, notifier, number_of, object, put_handle, put_number, thread, told_by, with_digit};
 
 use crate::scripts::program::Program;
@@ -184,11 +185,10 @@ impl State {
     fn landing(&self, program: &Program) -> usize
         ensures { result ≡ landing program.now self.now }
     {
-        let steps = program.steps();
-        if self.at >= steps.len() {
+        let Some(step) = program.step(self.at) else {
             return self.at;
-        }
-        let place = match &steps[self.at] {
+        };
+        let place = match step {
             Step::JumpTo(_) => program.named_at(self.at),
             Step::IfTo(register, number, _) => {
                 if self.has(*register, *number) {
@@ -210,7 +210,7 @@ impl State {
             | Step::Label(_)
             | Step::SpawnAt(..) => self.at,
         };
-        past_label(steps, place)
+        past_label(program, place)
     }
 
     /// Goes behind the next step or, where that is a jump or a label, behind the one to which it leads. Answers the place of the
@@ -219,36 +219,35 @@ impl State {
         ensures place { result ≡ landing program.now self.old }
         ensures moved { self.new ≡ fetched program.now self.old }
     {
-        let steps = program.steps();
         let at = self.at;
-        if at >= steps.len() {
+        let Some(step) = program.step(at) else {
             return at;
-        }
-        match &steps[at] {
+        };
+        match step {
             Step::Do(keep, _) | Step::Labelled(keep, ..) | Step::SpawnAt(keep, _) => {
                 self.at = at + 1;
                 self.keep = *keep;
                 at
             }
             Step::Store(..) => {
-                self.pass(steps, at);
+                self.pass(program, at);
                 at
             }
             Step::Label(_) | Step::JumpTo(_) | Step::IfTo(..) | Step::UnlessTo(..) => {
                 let place = self.landing(program);
-                self.pass(steps, place);
+                self.pass(program, place);
                 place
             }
         }
     }
 
     /// Goes behind the step at this place, if there is one.
-    fn pass(&mut self, steps: &[Step], place: usize)
-        ensures { self.new ≡ behind self.old place (slice_get steps.now place) }
+    fn pass(&mut self, program: &Program, place: usize)
+        ensures { self.new ≡ behind self.old place (slice_get program.now place) }
     {
-        if place < steps.len() {
+        if let Some(step) = program.step(place) {
             self.at = place + 1;
-            self.keep = keep_of(&steps[place]);
+            self.keep = keep_of(step);
         }
     }
 
@@ -265,13 +264,13 @@ impl State {
 }
 
 /// The next place, if a label stands at this one.
-fn past_label(steps: &[Step], place: usize) -> usize
-    ensures { result ≡ past_label steps.now place }
+fn past_label(program: &Program, place: usize) -> usize
+    ensures { result ≡ past_label program.now place }
 {
-    if place >= steps.len() {
+    let Some(step) = program.step(place) else {
         return place;
-    }
-    match &steps[place] {
+    };
+    match step {
         Step::Label(_) => place + 1,
         _ => place,
     }
@@ -372,7 +371,7 @@ fn told_by(reply: &Reply<u64>) -> Told
 
 /// The slot, or the register, in which the step keeps what it is told.
 fn keep_of(step: &Step) -> usize
-    ensures { result ≡ keep_of step.now }
+    ensures { result ≡ keep_of (written step.now) }
 {
     match step {
         Step::Do(keep, _) | Step::Labelled(keep, ..) | Step::SpawnAt(keep, _) => *keep,

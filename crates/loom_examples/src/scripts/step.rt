@@ -4,7 +4,7 @@ use loom_objects::operation::{Request, ThreadOp};
 use std::sync::atomic::Ordering;
 
 /// A number that a step makes. What it names is a register, of four, in which its thread keeps numbers; any other is 0.
-#[derive(Clone, Copy, Debug)]
+#[derive(Clone, Copy, Debug, PartialEq, Eq)]
 pub enum Value {
     /// This number.
     Plain(u64),

@@ -124,7 +124,8 @@ fn put_choices(page: &mut Page, choices: &[Choice]) {
     }
 }
 
-fn put_values(alloc: Global, page: &mut Page, found: &[Found]) {
+/// Puts the values of the runs on the page, each once, in order.
+pub fn put_values(alloc: Global, page: &mut Page, found: &[Found]) {
     let mut values = Vec::new(alloc);
     for run in found {
         add_value(&mut values, run);

@@ -263,6 +263,42 @@ static OBJECTS: [Said; 4] = [
     ),
 ];
 
+// Checks that remember states, of which none begins here, and words that don't go with them.
+static COVERED: [Said; 5] = [
+    said!(
+        &["--cover", "--max-duration", "0", "lock_beside"],
+        "stopped 0 met 0 states 0\n",
+        "",
+        0
+    ),
+    said!(
+        &["--cover", "--json", "--max-duration", "0", "lock_beside"],
+        "{\"limit\":\"max_duration\",\"met\":0,\"result\":\"stopped\",\"row\":\"lock_beside\",\"runs\":0,\"states\":0}\n",
+        "",
+        0
+    ),
+    said!(
+        &["--cover", "lock_beside", "file"],
+        "",
+        usage!("the argument '--cover' cannot be used with '[FILE]'"),
+        2
+    ),
+    said!(
+        &["--states", "3", "lock_beside"],
+        "",
+        usage!("the following required arguments were not provided:\n  --cover"),
+        2
+    ),
+    said!(
+        &["--cover", "two_mutexes_deadlock_closures"],
+        "",
+        usage!(
+            "'two_mutexes_deadlock_closures' is a row of closures, which doesn't take these words"
+        ),
+        2
+    ),
+];
+
 // Choices are replayed. Where no run makes one, or it is left over at the end, the run fails behind those before it.
 static REPLAYS: [Said; 8] = [
     said!(
@@ -354,4 +390,5 @@ fn wrong_words_are_refused_with_the_nearest_name(rt: HostRuntime) {
 fn options_set_what_they_name(rt: HostRuntime) {
     say(&rt, &SETTINGS);
     say(&rt, &OBJECTS);
+    say(&rt, &COVERED);
 }

@@ -4,7 +4,7 @@ use Rattle.loom_objects.specs.declared.operation.ChannelOp.TheVariants as channe
 use Rattle.loom_objects.specs.declared.operation.ThreadOp.TheVariants as threads
 use Rattle.loom_objects.specs.declared.operation.Request.TheVariants as op
 use Rattle.loom_objects.specs.Text.{first_text}
-use Rattle.loom_examples.specs.Rows.Written.{Written, Do, Label, JumpTo, UnlessTo, SpawnAt}
+use Rattle.loom_examples.specs.Scripts.Written.{Written, Do, Label, JumpTo, UnlessTo, SpawnAt}
 use Rattle.loom_examples.specs.declared.scripts.step.Value.TheVariants.{Plain, Held, Both}
 use Rattle.loom_examples.specs.Rows.Steps.{exit, end, fail}
 

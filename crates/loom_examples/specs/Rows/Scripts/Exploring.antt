@@ -4,7 +4,7 @@ use Rattle.loom_objects.specs.declared.operation.ExploreOp.TheVariants as explor
 use Rattle.loom_objects.specs.declared.operation.MutexOp.TheVariants as mutex
 use Rattle.loom_objects.specs.declared.operation.ThreadOp.TheVariants as threads
 use Rattle.loom_objects.specs.declared.operation.Request.TheVariants as op
-use Rattle.loom_examples.specs.Rows.Written.{Written, Do, Label, SpawnAt}
+use Rattle.loom_examples.specs.Scripts.Written.{Written, Do, Label, SpawnAt}
 use Rattle.loom_examples.specs.declared.scripts.step.Value.TheVariants.{Plain}
 use Rattle.loom_examples.specs.Rows.Steps.{exit, end}
 

@@ -6,7 +6,7 @@ use Rattle.loom_objects.specs.declared.operation.AtomicOp.TheVariants as atomic
 use Rattle.loom_objects.specs.declared.operation.MutexOp.TheVariants as mutex
 use Rattle.loom_objects.specs.declared.operation.ThreadOp.TheVariants as threads
 use Rattle.loom_objects.specs.declared.operation.Request.TheVariants as op
-use Rattle.loom_examples.specs.Rows.Written.{Written, Do, Store, Label, UnlessTo, SpawnAt}
+use Rattle.loom_examples.specs.Scripts.Written.{Written, Do, Store, Label, UnlessTo, SpawnAt}
 use Rattle.loom_examples.specs.declared.scripts.step.Value.TheVariants.{Plain, Held, Next, Both}
 use Rattle.loom_examples.specs.Rows.Steps.{exit, end, fail}
 

@@ -10,7 +10,7 @@ use Rattle.loom_objects.specs.declared.operation.RwLockOp.TheVariants as rwlock
 use Rattle.loom_objects.specs.declared.operation.ThreadOp.TheVariants as threads
 use Rattle.loom_objects.specs.declared.operation.Request.TheVariants as op
 use Rattle.loom_objects.specs.Text.{first_text}
-use Rattle.loom_examples.specs.Rows.Written.{Written, Do, Label, UnlessTo, SpawnAt}
+use Rattle.loom_examples.specs.Scripts.Written.{Written, Do, Label, UnlessTo, SpawnAt}
 use Rattle.loom_examples.specs.declared.scripts.step.Value.TheVariants.{Plain, Held, Next}
 use Rattle.loom_examples.specs.Rows.Steps.{exit, end, park, yield, fail}
 

@@ -4,7 +4,7 @@ use Rattle.loom_objects.specs.declared.operation.LazyOp.TheVariants as lazy
 use Rattle.loom_objects.specs.declared.operation.LocalOp.TheVariants as local
 use Rattle.loom_objects.specs.declared.operation.ThreadOp.TheVariants as threads
 use Rattle.loom_objects.specs.declared.operation.Request.TheVariants as op
-use Rattle.loom_examples.specs.Rows.Written.{Written, Do, Label, UnlessTo, SpawnAt}
+use Rattle.loom_examples.specs.Scripts.Written.{Written, Do, Label, UnlessTo, SpawnAt}
 use Rattle.loom_examples.specs.declared.scripts.step.Value.TheVariants.{Plain, Held}
 use Rattle.loom_examples.specs.Rows.Steps.{exit, end, fail}
 

@@ -1,0 +1,5 @@
+use Rattle.loom_examples.proofs.RowLemmas.Covering.{covers}
+use Rattle.loom_examples.proofs.rows.cover.covered_by.Goals as goal
+
+pub returns : goal.returns
+returns g c = covers _ _ _ _ _ _ c.cover_with.result c.cover_with.ensures.covers

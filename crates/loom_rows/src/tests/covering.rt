@@ -1,0 +1,167 @@
+//! Checks that remember states come to main's results in all runs of the bodies, and their failures replay.
+use super::checking::{Keeper, found_by};
+use super::finding::{put_values, replays};
+use super::rows::program_rows;
+use crate::tests::asserting::{holds, same, script};
+use loom::model::cover::Covered;
+use loom::{Body, Choice, FailureKind, NoClock};
+use loom_examples::bodies::guide::Counter;
+use loom_examples::bodies::spin::Spin;
+use loom_examples::bodies::updates::Updater;
+use loom_examples::measured::{all_bodies, body_of};
+use loom_examples::rows::cover::ShownCovered;
+use loom_examples::rows::settings::{Builds, Settings};
+use loom_examples::rows::{Checked, Row, WHOLE};
+use loom_plain::run::Ending;
+use loom_plain::search::Found;
+use loom_testing::page::Page;
+use loom_views::same::Same;
+use std::alloc::Global;
+use std::process::Abort;
+use std::sync::atomic::Ordering;
+
+// How many runs a whole search may have here.
+const MOST: usize = 1000;
+
+// How many states are remembered: more than such a search comes to, but in rows that make a hundred thousand operations.
+const MOST_REMEMBERED: usize = 200;
+
+// Whether both have the same values, in any order and number.
+fn are_values_same(alloc: Global, one: &[Found], other: &[Found]) -> bool {
+    let mut first = Page::new(alloc);
+    let mut second = Page::new(alloc);
+    put_values(alloc, &mut first, one);
+    put_values(alloc, &mut second, other);
+    first.text.as_str() == second.text.as_str()
+}
+
+// Whether a run is made by these choices that fails so.
+fn is_replayed<B: Body<Data = u64>>(
+    alloc: Global,
+    settings: Settings,
+    body: &B,
+    kind: FailureKind,
+    choices: &[Choice],
+) -> bool {
+    match choices.to_vec(alloc) {
+        Ok(choices) => {
+            let run = Found {
+                choices,
+                ending: Ending::Failed(kind),
+            };
+            replays(alloc, &settings.builder(), body, &run)
+        }
+        Err(_) => false,
+    }
+}
+
+fn is_failing(found: &[Found]) -> bool {
+    match found.last() {
+        Some(run) => matches!(run.ending, Ending::Failed(_)),
+        None => false,
+    }
+}
+
+// Whether a check that remembers states says what the whole search does, which made these runs.
+fn is_as_whole<B: Body<Data = u64> + Same>(
+    alloc: Global,
+    settings: Settings,
+    body: &B,
+    found: &[Found],
+) -> bool {
+    let mut ended = Keeper::new(alloc);
+    let builder = settings.builder();
+    match builder.cover_with(alloc, body, &mut ended, &mut NoClock, MOST_REMEMBERED) {
+        Ok(Covered::Complete { .. }) => {
+            !is_failing(found) && are_values_same(alloc, found, ended.found.as_slice())
+        }
+        Ok(
+            Covered::Failed {
+                failure,
+                choices,
+                ..
+            },
+        ) => {
+            is_failing(found)
+                && is_replayed(alloc, settings, body, failure.kind, choices.as_slice())
+        }
+        Ok(Covered::Stopped { .. }) | Err(_) => false,
+    }
+}
+
+// Whether it does so, or the whole search has too many runs.
+fn is_covered<B: Body<Data = u64> + Same>(alloc: Global, settings: Settings, body: &B) -> bool {
+    let whole = Settings {
+        reduce: false,
+        preemption_bound: None,
+        max_permutations: Some(MOST),
+        ..settings
+    };
+    let unlimited = Settings {
+        max_permutations: None,
+        ..whole
+    };
+    let keeper = found_by(alloc, whole, body);
+    !keeper.is_counted || is_as_whole(alloc, unlimited, body, keeper.found.as_slice())
+}
+
+fn cover_row(rt: &(impl Abort + AllocGlobal), row: &Row) {
+    let is_so = match row.checked {
+        Checked::Script(steps) => is_covered(rt.alloc(), row.settings, &script(rt, steps)),
+        Checked::Updater(one, other) => {
+            is_covered(rt.alloc(), row.settings, &Updater::main(one, other))
+        }
+    };
+    holds(rt, is_so, row.name);
+}
+
+#[test]
+fn covered_rows_are_as_their_whole_searches_say(rt: HostRuntime) {
+    let rows = program_rows(&rt);
+    for row in rows.as_slice() {
+        cover_row(&rt, row);
+    }
+}
+
+#[test]
+fn other_bodies_are_covered(rt: HostRuntime) {
+    holds(
+        &rt,
+        is_covered(rt.alloc(), WHOLE, &Counter::main(2)),
+        "counter",
+    );
+    holds(
+        &rt,
+        is_covered(rt.alloc(), WHOLE, &Counter::main(1)),
+        "first counter",
+    );
+    holds(
+        &rt,
+        is_covered(rt.alloc(), WHOLE, &Spin::main(Ordering::Relaxed)),
+        "spin",
+    );
+}
+
+// Bodies that are measured, and what the program prints where they are covered.
+static COUNTS: [(&str, &str); 5] = [
+    ("three_threads", "complete 91 met 2625 states 2249"),
+    ("three_adds", "complete 90 met 649 states 1333"),
+    ("writers_beside_a_reader", "complete 6 met 51 states 88"),
+    ("store_buffering", "complete 4 met 14 states 32"),
+    ("locks_in_turn", "complete 2 met 18 states 38"),
+];
+
+#[test]
+fn so_many_states_are_met(rt: HostRuntime) {
+    let bodies = all_bodies(rt.alloc()).expect(&rt, "no memory for the bodies");
+    for (name, text) in &COUNTS {
+        let mut page = Page::new(rt.alloc());
+        if let Some(measured) = body_of(bodies.as_slice(), *name) {
+            let body = script(&rt, measured.steps);
+            if let Ok(covered) = measured.settings.builder().cover(rt.alloc(), &body) {
+                page.add_shown(&ShownCovered(&covered));
+            }
+        }
+        same(&rt, page.text.as_str(), *text, *name);
+    }
+}
