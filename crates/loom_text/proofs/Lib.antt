@@ -1,6 +1,8 @@
 pub mod CheckLemmas
 pub mod ConditionsAgain
 pub mod ConditionsFit
+pub mod CoverLemmas
+pub mod CoveredLemmas
 pub mod ExpressionSteps
 pub mod ExpressionsAgain
 pub mod ExpressionsFit

@@ -100,7 +100,7 @@ same_numbers : (numbers : List ℕ) → is_same numbers numbers ≡ true
 same_numbers [] = refl
 same_numbers (n ∷ numbers) = rw (eq-eqb n n refl) (same_numbers numbers)
 
-shows_itself : (test : Test) (layout : Layout) (numbers : List ℕ) → counts test layout numbers ≡ true → truth (counts test layout numbers && is_same (take layout.shown numbers) (take layout.shown numbers)) ≡ 1
+pub shows_itself : (test : Test) (layout : Layout) (numbers : List ℕ) → counts test layout numbers ≡ true → truth (counts test layout numbers && is_same (take layout.shown numbers) (take layout.shown numbers)) ≡ 1
 shows_itself test layout numbers h = rw (h, same_numbers (take layout.shown numbers)) refl
 
 module _ (test : Test) (layout : Layout) (room : ℕ) (tree : Tree (List ℕ)) (choices : List Choice) (numbers : List ℕ) (comes : comes_to room tree choices ≡ Some (Ok numbers)) where

@@ -1,6 +1,7 @@
 pub mod Check
 pub mod Code
 pub mod Counted
+pub mod Covered
 pub mod Drawn
 pub mod Laws
 pub mod Operators

@@ -4,6 +4,7 @@ pub(crate) mod assembler;
 pub mod check;
 pub mod code;
 pub mod counting;
+pub mod cover;
 pub(crate) mod expressions;
 pub mod laws;
 pub mod layout;

@@ -46,7 +46,11 @@ fn run_asked<R: AllocGlobal + Clock + Files, O: Write, E: Write>(
         return run_files(rt, asked, Job::Walk(walk), out, err);
     }
     let Some(text) = asked.replay else {
-        return run_files(rt, asked, Job::Check, out, err);
+        let job = match asked.covers {
+            Some(most_states) => Job::Cover(most_states),
+            None => Job::Check,
+        };
+        return run_files(rt, asked, job, out, err);
     };
     match Choices::parse(rt.alloc(), text) {
         Ok(choices) => run_files(rt, asked, Job::Replay(choices.as_slice()), out, err),

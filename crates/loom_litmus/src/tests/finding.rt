@@ -1,11 +1,12 @@
 //! What a check finds of a litmus test, as a text.
-use loom::model::Report;
 use loom::model::builder::Builder;
 use loom::model::clock::NoClock;
+use loom::model::cover::MOST_STATES;
 use loom_text::read::read;
-use loom_text::run::answer::Answer;
+use loom_text::run::answer::{Answer, Found};
 use loom_text::run::check::check;
 use loom_text::run::counting::Unheard;
+use loom_text::run::cover::cover;
 use loom_text::run::layout::Layout;
 use loom_text::run::program::assemble;
 use loom_text::run::thread::TestThread;
@@ -45,24 +46,66 @@ fn put_found(alloc: Global, test: &Test, lines: &mut String) {
             &mut NoClock,
             &mut Unheard,
         ) {
-            let answer = Answer {
-                test,
-                layout: &layout,
-                outcome: &outcome,
-                is_whole: !builder.reduce,
+            let found = if builder.reduce {
+                Found::Reduced(&outcome)
+            } else {
+                Found::Whole(&outcome)
             };
-            put_answer(alloc, answer, lines);
+            put_answer(alloc, test, &layout, found, lines);
         }
     }
 }
 
+/// What a check finds of the text that remembers states: its states and whether it holds, or the flag of a failure. Where the text is no
+/// test, or memory is refused, it is nothing.
+pub fn covered(alloc: Global, text: &str) -> String {
+    let mut lines = String::new(alloc);
+    if let Ok(test) = read(alloc, text.as_bytes()) {
+        put_covered(alloc, &test, &mut lines);
+    }
+    lines
+}
+
+fn put_covered(alloc: Global, test: &Test, lines: &mut String) {
+    if let Ok(layout) = Layout::of(alloc, test)
+        && let Ok(program) = assemble(alloc, test, &layout, "test.litmus")
+        && let Ok(main) = TestThread::main(alloc, program)
+        && let Ok(covering) = cover(
+            alloc,
+            &Builder::new(),
+            test,
+            &layout,
+            &main,
+            &mut NoClock,
+            &mut Unheard,
+            MOST_STATES,
+        )
+    {
+        put_answer(alloc, test, &layout, Found::Covering(&covering), lines);
+    }
+}
+
 // The lines that say what was found: of all the states and the answer, and of a failure the flag.
-fn put_answer(alloc: Global, answer: Answer, lines: &mut String) {
-    let Ok(whole) = format!(in alloc; "{answer}") else {
-        return;
+fn put_answer<'a>(
+    alloc: Global,
+    test: &'a Test,
+    layout: &'a Layout,
+    found: Found<'a>,
+    lines: &mut String,
+) {
+    let answer = Answer {
+        test,
+        layout,
+        found,
     };
-    let has_failed = matches!(answer.outcome.report, Report::Failed { .. });
-    for line in whole.as_str().lines() {
+    if let Ok(whole) = format!(in alloc; "{answer}") {
+        put_lines(whole.as_str(), lines);
+    }
+}
+
+fn put_lines(whole: &str, lines: &mut String) {
+    let has_failed = whole.contains("\nFlag ");
+    for line in whole.lines() {
         let is_state = line.ends_with(';') || line.starts_with("States ");
         let is_answer = line == "Ok" || line == "No";
         let is_flag = line.starts_with("Flag ");

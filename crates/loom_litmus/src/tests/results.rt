@@ -1,5 +1,5 @@
 //! The results of the tests. They were found by another program, which no part of this one was written from.
-use crate::tests::finding::found;
+use crate::tests::finding::{covered, found};
 use crate::tests::reading::texts::TEXTS;
 use std::process::Abort;
 
@@ -373,5 +373,18 @@ fn tests_of_four_threads_have_their_states(rt: HostRuntime) {
         if text.contains("\nP3 ") {
             has_states(&rt, name, text);
         }
+    }
+}
+
+// A check of the test of this name that remembers states finds its results.
+fn is_covered(rt: &(impl Abort + AllocGlobal), name: &str, text: &str) {
+    let found = covered(rt.alloc(), text);
+    assert!(rt; found.as_str() == results_of(name), "{name}: {found}");
+}
+
+#[test]
+fn covered_tests_have_their_results(rt: HostRuntime) {
+    for (name, text) in &TEXTS {
+        is_covered(&rt, name, text);
     }
 }

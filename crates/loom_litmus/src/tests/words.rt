@@ -9,43 +9,62 @@ use std::{fs, io};
 // Words, what they print on standard output and on standard error, and the status.
 type Call = (&'static [&'static str], &'static str, &'static str, u8);
 
-static CALLS: [Call; 16] = [
+static CALLS: [Call; 19] = [
     // One file has its whole answer.
     (
         &["SB.litmus"],
-        "Test SB Allowed\nStates 4\n0:r0=0; 1:r0=0;\n0:r0=0; 1:r0=1;\n0:r0=1; 1:r0=0;\n0:r0=1; 1:r0=1;\nOk\nWitnesses\nPositive: 126 Negative: 246\nCondition exists (0:r0=0 /\\ 1:r0=0)\nObservation SB Sometimes 126 246\n",
+        "Test SB Allowed\nStates 4\n0:r0=0; 1:r0=0;\n0:r0=0; 1:r0=1;\n0:r0=1; 1:r0=0;\n0:r0=1; 1:r0=1;\nOk\nWitnesses\nPositive: 1 Negative: 3\nThe counts are of the runs that this search made.\nCondition exists (0:r0=0 /\\ 1:r0=0)\nObservation SB Sometimes 1 3\n",
         "",
         0,
     ),
     (
         &["MP+na+rlx+rlx.litmus"],
-        "Test MP+na+rlx+rlx Allowed\nStates 1\n1:r0=0; 1:r1=9;\nFlag race\nfailed in run 2: MP+na+rlx+rlx.litmus:12: an access is not ordered after one that it conflicts with: let a lock, or a release and an acquire, come between the two\nreplay: t1 t1 t1 t0 t2 t2 l1\nThe states are those found up to the failure.\nNo\nWitnesses\nPositive: 0 Negative: 1\nCondition exists (1:r0=1 /\\ 1:r1=0)\nObservation MP+na+rlx+rlx Never 0 1\n",
+        "Test MP+na+rlx+rlx Allowed\nStates 1\n1:r0=0; 1:r1=9;\nFlag race\nfailed in run 2: MP+na+rlx+rlx.litmus:12: an access is not ordered after one that it conflicts with: let a lock, or a release and an acquire, come between the two\nreplay: t1 t1 t1 t0 t2 t2 l1\nThe states are those found up to the failure.\nNo\nWitnesses\nPositive: 0 Negative: 1\nThe counts are of the runs that this search made.\nCondition exists (1:r0=1 /\\ 1:r1=0)\nObservation MP+na+rlx+rlx Never 0 1\n",
         "",
         1,
+    ),
+    // Other searches are asked for by name. Where each run is made, the counts are of all.
+    (
+        &["--whole", "SB.litmus"],
+        "Test SB Allowed\nStates 4\n0:r0=0; 1:r0=0;\n0:r0=0; 1:r0=1;\n0:r0=1; 1:r0=0;\n0:r0=1; 1:r0=1;\nOk\nWitnesses\nPositive: 126 Negative: 246\nCondition exists (0:r0=0 /\\ 1:r0=0)\nObservation SB Sometimes 126 246\n",
+        "",
+        0,
+    ),
+    (
+        &["--reduce", "SB.litmus"],
+        "Test SB Allowed\nStates 4\n0:r0=0; 1:r0=0;\n0:r0=0; 1:r0=1;\n0:r0=1; 1:r0=0;\n0:r0=1; 1:r0=1;\nOk\nWitnesses\nPositive: 21 Negative: 39\nThe counts are of the runs that this search made.\nCondition exists (0:r0=0 /\\ 1:r0=0)\nObservation SB Sometimes 21 39\n",
+        "",
+        0,
+    ),
+    (
+        &["--states", "3", "--whole", "SB.litmus"],
+        "",
+        "error: the argument '--states <N>' cannot be used with '--whole'\n\nUsage: loom_litmus [OPTIONS] FILE..\n\nFor more information, try '--help'.\n",
+        2,
     ),
     // A limit that was reached is named.
     (
         &["--max-permutations", "5", "SB.litmus"],
-        "Test SB Allowed\nStates 2\n0:r0=0; 1:r0=0;\n0:r0=0; 1:r0=1;\nStopped: `max_permutations` was reached after 5 runs\nThe states are those found up to there.\nOk\nWitnesses\nPositive: 3 Negative: 2\nCondition exists (0:r0=0 /\\ 1:r0=0)\nObservation SB Sometimes 3 2\n",
+        "Test SB Allowed\nStates 2\n0:r0=0; 1:r0=0;\n0:r0=0; 1:r0=1;\nStopped: `max_permutations` was reached after 5 runs\nThe states are those found up to there.\nOk\nWitnesses\nPositive: 1 Negative: 1\nThe counts are of the runs that this search made.\nCondition exists (0:r0=0 /\\ 1:r0=0)\nObservation SB Sometimes 1 1\n",
         "",
         0,
     ),
     // Several have a line each. One that isn't there stands in no other's way.
     (
         &["nowhere.litmus", "SB.litmus", "MP+na+rlx+rlx.litmus"],
-        "SB Allowed: Ok, Sometimes 126 246, 4 states\nMP+na+rlx+rlx Allowed: No, Never 0 1, 1 state, race\n",
+        "SB Allowed: Ok, Sometimes 1 3, 4 states\nMP+na+rlx+rlx Allowed: No, Never 0 1, 1 state, race\n",
         "nowhere.litmus: No such file or directory (os error 2)\n",
         2,
     ),
     (
         &["--table", "SB.litmus", "MP+na+rlx+rlx.litmus"],
-        "| Test | Asked | States | Observation | Answer |\n|---|---|---|---|---|\n| SB | Allowed | 4 | Sometimes 126 246 | Ok |\n| MP+na+rlx+rlx | Allowed | 1 | Never 0 1 | No, race |\n",
+        "| Test | Asked | States | Observation | Answer |\n|---|---|---|---|---|\n| SB | Allowed | 4 | Sometimes 1 3 | Ok |\n| MP+na+rlx+rlx | Allowed | 1 | Never 0 1 | No, race |\n",
         "",
         1,
     ),
     (
         &["--json", "MP+na+rlx+rlx.litmus"],
-        "{\"answer\":\"No\",\"cause\":\"MP+na+rlx+rlx.litmus:12: an access is not ordered after one that it conflicts with: let a lock, or a release and an acquire, come between the two\",\"choices\":\"t1 t1 t1 t0 t2 t2 l1\",\"condition\":\"exists (1:r0=1 /\\\\ 1:r1=0)\",\"file\":\"MP+na+rlx+rlx.litmus\",\"flag\":\"race\",\"negative\":1,\"observation\":\"Never\",\"positive\":0,\"question\":\"Allowed\",\"result\":\"failed\",\"runs\":1,\"states\":[{\"runs\":1,\"values\":{\"1:r0\":0,\"1:r1\":9}}],\"test\":\"MP+na+rlx+rlx\",\"whole\":true}\n",
+        "{\"answer\":\"No\",\"cause\":\"MP+na+rlx+rlx.litmus:12: an access is not ordered after one that it conflicts with: let a lock, or a release and an acquire, come between the two\",\"choices\":\"t1 t1 t1 t0 t2 t2 l1\",\"condition\":\"exists (1:r0=1 /\\\\ 1:r1=0)\",\"file\":\"MP+na+rlx+rlx.litmus\",\"flag\":\"race\",\"met\":0,\"negative\":1,\"noted\":9,\"observation\":\"Never\",\"positive\":0,\"question\":\"Allowed\",\"result\":\"failed\",\"runs\":1,\"search\":\"cover\",\"states\":[{\"runs\":1,\"values\":{\"1:r0\":0,\"1:r1\":9}}],\"test\":\"MP+na+rlx+rlx\"}\n",
         "",
         1,
     ),

@@ -6,7 +6,7 @@ use Rattle.loom_text.specs.declared.run.code.Program.{Program}
 
 abbrev pub instructions_in : Option Code → List Instruction
 instructions_in None = []
-instructions_in (Some code) = code.instructions.items
+instructions_in (Some code) = code.instructions
 
 abbrev pub registers_in : Option Code → ℕ
 registers_in None = 0
@@ -14,8 +14,8 @@ registers_in (Some code) = code.registers
 
 -- the instructions of the thread at this place
 abbrev pub code_of : Program → ℕ → List Instruction
-code_of program thread = instructions_in (slice_get program.threads.items thread)
+code_of program thread = instructions_in (slice_get program.threads thread)
 
 -- how many registers it has
 abbrev pub registers_of : Program → ℕ → ℕ
-registers_of program thread = registers_in (slice_get program.threads.items thread)
+registers_of program thread = registers_in (slice_get program.threads thread)

@@ -1,18 +1,23 @@
 -- What the counted states say of the results that were counted.
-use Rattle.std.specs.Prelude.{ℕ, ◌≡◌, ◌≢◌, ◌+◌, ◌<◌, ◌&&◌, Bool, true, false, cond, List, [], ◌∷◌, take, Some, Err}
+use Rattle.std.specs.Prelude.{ℕ, ◌≡◌, ◌≢◌, ◌+◌, ◌<◌, ◌&&◌, Bool, true, false, cond, List, [], ◌∷◌, take, Some, Ok, Err}
 use Rattle.loom_views.specs.declared.rt.failure.FailureKind.{FailureKind}
+use Rattle.loom_views.specs.declared.rt.failure.FailureKind.TheVariants.{TooManySteps, TooManyVersions}
 use Rattle.loom_objects.specs.declared.choice.Choice.{Choice}
 use Rattle.loom_objects.specs.Tree.Tree.{Tree}
+use Rattle.loom_engine.specs.Covering.World.{World, IsCalled, world_of}
 use Rattle.loom_engine.specs.Runs.Body.{runs}
 use Rattle.loom_engine.specs.Trees.Outcomes.{outcome as comes_to, IsRun}
 use Rattle.loom.specs.Model.Settings.{explores}
 use Rattle.loom.specs.declared.model.builder.Builder.{Builder}
+use Rattle.loom.specs.Model.Covered.{IsCovered}
 use Rattle.loom.specs.declared.model.report.Report.TheVariants.{Complete}
 use Rattle.loom_text.specs.declared.run.check.Outcome.{Outcome}
 use Rattle.loom_text.specs.declared.run.layout.Layout.{Layout}
+use Rattle.loom_text.specs.declared.run.tally.Counts.{Counts}
 use Rattle.loom_text.specs.declared.test.Test.{Test}
 use Rattle.loom_text.specs.Run.Check.{IsOutcome, is_whole, tally_of}
 use Rattle.loom_text.specs.Run.Counted.{Counted}
+use Rattle.loom_text.specs.Run.Covered.{AreCounted}
 use Rattle.loom_text.specs.Run.Operators.{truth}
 use Rattle.loom_text.specs.Run.Running.{Running}
 use Rattle.loom_text.specs.Run.States.{counts, is_before, is_positive, is_same}
@@ -85,3 +90,34 @@ module _ (b : Builder) (main : Running) (test : Test) (layout : Layout) (found :
 abbrev pub EachRunLaw : Type 0
 EachRunLaw = (b : Builder) (main : Running) (test : Test) (layout : Layout) (found : Outcome) (count : ℕ) → is_whole b ≡ true
     → IsOutcome b (runs_by b main) test layout found → found.report ≡ Complete count → SaysOfEachRun b main test layout found
+
+-- ---- a complete check that remembers states
+
+-- a run that fails so has handed over too many operations, or has come to too many versions
+abbrev pub is_length : FailureKind → Bool
+is_length TooManySteps = true
+is_length TooManyVersions = true
+is_length kind = false
+
+-- the runs of a test's main, of at most so many operations and of however many nodes
+abbrev pub world_by : Builder → Running → ℕ → World (List ℕ)
+world_by b main steps = world_of (runs next_of (explores b) b.max_threads steps main)
+
+-- What is known of each run of the machine, however many operations it may hand over.
+module _ (b : Builder) (main : Running) (test : Test) (layout : Layout) (counted : Counts) where
+  pub record SaysOfEachCovered : Type 0 where
+    -- one that fails is too long
+    pub long : (steps : ℕ) (choices : List Choice) (kind : FailureKind) → IsCalled (world_by b main steps) choices → (world_by b main steps).outcome choices ≡ Some (Err kind) → is_length kind ≡ true
+    -- its final state is shown, if it counts
+    pub shown : (steps : ℕ) (choices : List Choice) (numbers : List ℕ) → IsCalled (world_by b main steps) choices → (world_by b main steps).outcome choices ≡ Some (Ok numbers)
+        → counts test layout numbers ≡ true → 0 < runs_of (take layout.shown numbers) counted.states.items
+    -- and doesn't meet the condition, where none that was counted does
+    pub never : counted.positive ≡ 0
+        → (steps : ℕ) (choices : List Choice) (numbers : List ℕ) → IsCalled (world_by b main steps) choices → (world_by b main steps).outcome choices ≡ Some (Ok numbers)
+        → counts test layout numbers ≡ true → is_positive test layout numbers ≡ false
+
+-- So it is where runs cover each run of main, as those do of a complete check that remembers states, and their results were counted:
+-- the states are those of all runs of the machine, though few were made.
+abbrev pub CoveredLaw : Type 0
+CoveredLaw = (b : Builder) (main : Running) (test : Test) (layout : Layout) (made : List (List Choice × List ℕ)) (counted : Counts)
+    → IsCovered b next_of main made → AreCounted test layout made counted → SaysOfEachCovered b main test layout counted

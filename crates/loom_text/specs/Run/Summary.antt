@@ -2,9 +2,12 @@
 use Rattle.std.specs.Prelude.{ℕ, ◌==◌, cond}
 use Rattle.loom.specs.declared.model.report.Report.{Report}
 use Rattle.loom.specs.declared.model.report.Report.TheVariants.{Complete, Stopped, Failed}
+use Rattle.loom.specs.declared.model.cover.Covered.{Covered}
+use Rattle.loom.specs.declared.model.cover.Covered.TheVariants as covered
 use Rattle.loom.specs.declared.model.walk.Walked.{Walked}
 use Rattle.loom.specs.declared.model.walk.Walked.TheVariants as walked
 use Rattle.loom_text.specs.declared.run.check.Outcome.{Outcome}
+use Rattle.loom_text.specs.declared.run.cover.Covering.{Covering}
 use Rattle.loom_text.specs.declared.run.summary.Observation.{Observation}
 use Rattle.loom_text.specs.declared.run.summary.Observation.TheVariants.{Always, Sometimes, Never}
 use Rattle.loom_text.specs.declared.run.summary.Reached.{Reached}
@@ -28,6 +31,12 @@ reached_by (Failed runs failure choices) = far.Failure
 abbrev pub walked_to : Walked → Reached
 walked_to (walked.Made runs cut) = far.Part
 walked_to (walked.Failed runs cut failure choices) = far.Failure
+
+-- what is covered stands for all runs
+abbrev pub covered_to : Covered → Reached
+covered_to (covered.Complete runs met states) = far.All
+covered_to (covered.Stopped runs met states limit) = far.Part
+covered_to (covered.Failed runs met states failure choices) = far.Failure
 
 -- where the states don't decide, the check does if it has made all runs
 abbrev pub open_verdict : Reached → Verdict → Verdict
@@ -59,3 +68,10 @@ summary_seen quantifier seen =
     let positive = seen.counts.positive in
     let negative = seen.counts.negative in
     record { positive = positive; negative = negative; observation = observed positive negative; verdict = verdict_of quantifier (walked_to seen.walked) positive negative }
+
+-- what a check that remembers states found of it
+abbrev pub summary_covered : Quantifier → Covering → Summary
+summary_covered quantifier found =
+    let positive = found.counts.positive in
+    let negative = found.counts.negative in
+    record { positive = positive; negative = negative; observation = observed positive negative; verdict = verdict_of quantifier (covered_to found.covered) positive negative }

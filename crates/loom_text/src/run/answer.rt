@@ -1,11 +1,13 @@
 //! The answer of a test, as herd7 prints it.
 use crate::run::check::Outcome;
+use crate::run::cover::Covering;
 use crate::run::layout::Layout;
 use crate::run::summary::Summary;
 use crate::run::tally::Counts;
 use crate::run::walk::Seen;
 use crate::test::{Condition, Quantifier, Term, Test};
-use loom::model::{Report, Walked};
+use loom::model::cover::Covered;
+use loom::model::{Limit, Report, Walked};
 use loom::{Choice, Failure, ShownChoices};
 use loom_views::rt::failure::FailureKind;
 use std::fmt;
@@ -15,9 +17,40 @@ use std::fmt;
 pub struct Answer<'a> {
     pub test: &'a Test,
     pub layout: &'a Layout,
-    pub outcome: &'a Outcome,
-    /// Whether the check was to make each run, and not only those that a reduced or bounded search calls for.
-    pub is_whole: bool,
+    pub found: Found<'a>,
+}
+
+/// What a search found (own).
+#[derive(Clone, Copy)]
+pub enum Found<'a> {
+    /// A check that was to make each run.
+    Whole(&'a Outcome),
+    /// A check that was to make those that a reduced or bounded search calls for.
+    Reduced(&'a Outcome),
+    /// A check that remembers states.
+    Covering(&'a Covering),
+}
+
+/// How a search ended. `runs` counts the runs that ended without a failure, and `met` those that were given up where a state was met.
+#[derive(Clone, Copy)]
+pub(crate) enum End<'a> {
+    /// Nothing is left to be tried.
+    Complete {
+        runs: u64,
+    },
+    /// A limit was reached.
+    Stopped {
+        runs: u64,
+        met: u64,
+        limit: Limit,
+    },
+    /// A run failed, under these choices.
+    Failed {
+        runs: u64,
+        met: u64,
+        failure: Failure,
+        choices: &'a [Choice],
+    },
 }
 
 /// What a walk has seen of a test (own).
@@ -29,15 +62,16 @@ pub struct Sight<'a> {
 }
 
 /// The answer in lines, as herd7 prints it: the question, the states, a failure or a limit, whether the test holds, and how often
-/// its condition was met.
+/// its condition was met. Where not each run was to be made, it is said that the counts are of those that were.
 impl fmt::Display for Answer<'_> {
     fn fmt<W: fmt::Write>(&self, f: &mut fmt::Formatter<W>) -> fmt::Result {
-        write_states(f, self.test, self.layout, &self.outcome.counts)?;
-        self.write_end(f)?;
-        let counted = if self.is_whole {
-            ""
-        } else {
-            "The counts are of the runs that this search made.\n"
+        write_states(f, self.test, self.layout, self.counts())?;
+        self.end().write(f)?;
+        let counted = match self.found {
+            Found::Whole(_) => "",
+            Found::Reduced(_) | Found::Covering(_) => {
+                "The counts are of the runs that this search made.\n"
+            }
         };
         write_summary(f, self.test, self.summary(), counted)
     }
@@ -77,22 +111,94 @@ impl Sight<'_> {
 impl<'a> Answer<'a> {
     /// What the states say of the condition (own).
     pub fn summary(&self) -> Summary {
-        Summary::of(self.test, self.outcome)
+        match self.found {
+            Found::Whole(outcome) | Found::Reduced(outcome) => Summary::of(self.test, outcome),
+            Found::Covering(covering) => Summary::covered(self.test, covering),
+        }
     }
 
-    // Why not all runs were made, if they weren't.
-    fn write_end<W: fmt::Write>(&self, f: &mut fmt::Formatter<W>) -> fmt::Result {
-        match &self.outcome.report {
-            Report::Complete { .. } => Ok(()),
-            Report::Stopped { runs, limit, .. } => {
-                writeln!(f, "Stopped: `{limit}` was reached after {runs} runs")?;
-                writeln!(f, "The states are those found up to there.")
-            }
+    /// The final states of the runs that ended without a failure.
+    pub(crate) fn counts(&self) -> &'a Counts {
+        match self.found {
+            Found::Whole(outcome) | Found::Reduced(outcome) => &outcome.counts,
+            Found::Covering(covering) => &covering.counts,
+        }
+    }
+
+    /// How the search ended.
+    pub(crate) fn end(&self) -> End<'a> {
+        match self.found {
+            Found::Whole(outcome) | Found::Reduced(outcome) => End::of_report(&outcome.report),
+            Found::Covering(covering) => End::of_covered(&covering.covered),
+        }
+    }
+}
+
+impl<'a> End<'a> {
+    fn of_report(report: &'a Report) -> End<'a> {
+        match report {
+            Report::Complete { runs } => End::Complete { runs: *runs },
+            Report::Stopped { runs, limit, .. } => End::Stopped {
+                runs: *runs,
+                met: 0,
+                limit: *limit,
+            },
             Report::Failed {
                 runs,
                 failure,
                 choices,
-            } => write_failure(f, *runs, failure, choices),
+            } => End::Failed {
+                runs: *runs,
+                met: 0,
+                failure: *failure,
+                choices: choices.as_slice(),
+            },
+        }
+    }
+
+    fn of_covered(covered: &'a Covered) -> End<'a> {
+        match covered {
+            Covered::Complete { runs, .. } => End::Complete { runs: *runs },
+            Covered::Stopped {
+                runs,
+                met,
+                limit,
+                ..
+            } => End::Stopped {
+                runs: *runs,
+                met: *met,
+                limit: *limit,
+            },
+            Covered::Failed {
+                runs,
+                met,
+                failure,
+                choices,
+                ..
+            } => End::Failed {
+                runs: *runs,
+                met: *met,
+                failure: *failure,
+                choices: choices.as_slice(),
+            },
+        }
+    }
+
+    // Why the states may not be all, if they may.
+    fn write<W: fmt::Write>(&self, f: &mut fmt::Formatter<W>) -> fmt::Result {
+        match *self {
+            End::Complete { .. } => Ok(()),
+            End::Stopped { runs, met, limit } => {
+                let made = runs.saturating_add(met);
+                writeln!(f, "Stopped: `{limit}` was reached after {made} runs")?;
+                writeln!(f, "The states are those found up to there.")
+            }
+            End::Failed {
+                runs,
+                met,
+                failure,
+                choices,
+            } => write_failure(f, runs.saturating_add(met), &failure, choices),
         }
     }
 }

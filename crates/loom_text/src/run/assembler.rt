@@ -4,6 +4,7 @@ use crate::run::operators::Operator;
 use loom_objects::label::Label;
 use loom_objects::location::Location;
 use loom_objects::text::Text;
+use loom_views::sequence::Sequence;
 use std::alloc::{AllocError, Global};
 
 /// The code of a thread, as far as it is made.
@@ -147,7 +148,7 @@ impl Assembler {
         self.tell(Operation::Exit)?;
         self.tell(Operation::End)?;
         Ok(Code {
-            instructions: self.instructions,
+            instructions: Sequence::from_vec(self.instructions),
             registers: self.most,
         })
     }

@@ -5,10 +5,12 @@ ghost use Rattle.loom_text.specs.Run.Code.{code_of, registers_of};
 use crate::run::operators::Operator;
 use loom_objects::label::Label;
 use loom_objects::operation::Name;
+use loom_views::same::{Same, are_same};
+use loom_views::sequence::Sequence;
 use std::sync::atomic::Ordering;
 
 /// What an instruction computes with (own).
-#[derive(Clone, Copy)]
+#[derive(Clone, Copy, PartialEq, Eq)]
 pub enum Operand {
     /// This number.
     Number(u32),
@@ -17,7 +19,7 @@ pub enum Operand {
 }
 
 /// One instruction of a thread. Places are those of the thread's instructions, from 0 (own).
-#[derive(Clone, Copy)]
+#[derive(Clone, Copy, PartialEq, Eq)]
 pub enum Instruction {
     /// A register gets what the operator makes of two numbers.
     Compute {
@@ -35,7 +37,7 @@ pub enum Instruction {
 }
 
 /// An operation with its label, and where its answer goes (own).
-#[derive(Clone, Copy)]
+#[derive(Clone, Copy, PartialEq, Eq)]
 pub struct Asked {
     /// Its line, and the name of what it makes.
     pub label: Label,
@@ -46,7 +48,7 @@ pub struct Asked {
 }
 
 /// What a read-modify-write does with the number that it finds (own).
-#[derive(Clone, Copy)]
+#[derive(Clone, Copy, PartialEq, Eq)]
 pub enum Update {
     /// Puts the other number in its place.
     Exchange,
@@ -58,7 +60,7 @@ pub enum Update {
 }
 
 /// An operation of an atomic (own).
-#[derive(Clone, Copy)]
+#[derive(Clone, Copy, PartialEq, Eq)]
 pub enum AtomicOperation {
     /// Makes one of an `int`.
     New(u32),
@@ -70,7 +72,7 @@ pub enum AtomicOperation {
 }
 
 /// An operation of the machine. Objects are named by their numbers, in order of creation (own).
-#[derive(Clone, Copy)]
+#[derive(Clone, Copy, PartialEq, Eq)]
 pub enum Operation {
     Atomic(AtomicOperation),
     Fence(Ordering),
@@ -105,7 +107,7 @@ pub enum Operation {
 /// A thread's code (own).
 #[derive(Drop)]
 pub struct Code {
-    pub instructions: Vec<Instruction>,
+    pub instructions: Sequence<Instruction>,
     /// How many registers it has.
     pub registers: usize,
 }
@@ -114,7 +116,7 @@ pub struct Code {
 #[derive(Drop)]
 pub struct Program {
     /// The code of main, and then of the test's threads in order.
-    pub threads: Vec<Code>,
+    pub threads: Sequence<Code>,
 }
 
 impl Program {
@@ -122,7 +124,7 @@ impl Program {
     pub(crate) fn code_of(&self, thread: usize) -> &[Instruction]
         ensures { result.now ≡ code_of self.now thread }
     {
-        match self.threads.get(thread) {
+        match self.threads.as_slice().get(thread) {
             Some(code) => code.instructions.as_slice(),
             None => &[],
         }
@@ -132,9 +134,28 @@ impl Program {
     pub(crate) fn registers_of(&self, thread: usize) -> usize
         ensures { result ≡ registers_of self.now thread }
     {
-        match self.threads.get(thread) {
+        match self.threads.as_slice().get(thread) {
             Some(code) => code.registers,
             None => 0,
         }
+    }
+}
+
+impl Same for Program {
+    fn is_same(&self, other: &Program) -> bool {
+        are_same(self.threads.as_slice(), other.threads.as_slice())
+    }
+}
+
+impl Same for Code {
+    fn is_same(&self, other: &Code) -> bool {
+        self.registers == other.registers
+            && are_same(self.instructions.as_slice(), other.instructions.as_slice())
+    }
+}
+
+impl Same for Instruction {
+    fn is_same(&self, other: &Instruction) -> bool {
+        self == other
     }
 }

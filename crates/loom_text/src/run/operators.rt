@@ -3,7 +3,7 @@ ghost use Rattle.std.specs.Prelude.{◌≡◌, ◌≤◌, ◌<◌, ◌^◌, not,
 ghost use Rattle.loom_text.specs.Run.Operators.{applied, is_less, is_negative, negated, quotient, remainder, shifted_left, shifted_right, size, truth};
 
 /// An operator between two numbers. Sums, differences and products have the lowest 32 bits, and a comparison gives 1 or 0 (own).
-#[derive(Clone, Copy)]
+#[derive(Clone, Copy, PartialEq, Eq)]
 pub enum Operator {
     Add,
     Sub,

@@ -6,6 +6,7 @@ use crate::run::statements::put_statements;
 use crate::test::{Kind, Location, Term, Test, Thread};
 use loom_objects::operation::Name;
 use loom_objects::text::Text;
+use loom_views::sequence::Sequence;
 use std::alloc::{AllocError, Global};
 use std::sync::atomic::Ordering;
 
@@ -22,6 +23,7 @@ pub fn assemble(
     for thread in &test.threads {
         threads.push(thread_code(alloc, thread, file)?)?;
     }
+    let threads = Sequence::from_vec(threads);
     Ok(Program { threads })
 }
 

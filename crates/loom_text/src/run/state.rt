@@ -6,6 +6,7 @@ use crate::run::code::{Instruction, Operand};
 use crate::run::values::Values;
 use loom_objects::operation::Reply;
 use loom_views::rt::num::Numeric;
+use loom_views::same::Same;
 use std::alloc::{AllocError, Global};
 use std::marker::Model;
 
@@ -25,6 +26,14 @@ impl Model for State {
     ghost Value = { Progress };
 
     ghost view = { λ s. record { at = s.at; keep = s.keep; registers = s.registers.items } };
+}
+
+impl Same for State {
+    fn is_same(&self, other: &State) -> bool {
+        self.at == other.at
+            && self.keep == other.keep
+            && self.registers.as_slice() == other.registers.as_slice()
+    }
 }
 
 impl State {

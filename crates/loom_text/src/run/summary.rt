@@ -1,10 +1,12 @@
 //! What the final states of a test say of its condition.
 ghost use Rattle.std.specs.Prelude.{◌≡◌};
-ghost use Rattle.loom_text.specs.Run.Summary.{observed, reached_by, summary_of, summary_seen, verdict_of, walked_to};
+ghost use Rattle.loom_text.specs.Run.Summary.{covered_to, observed, reached_by, summary_covered, summary_of, summary_seen, verdict_of, walked_to};
 
 use crate::run::check::Outcome;
+use crate::run::cover::Covering;
 use crate::run::walk::Seen;
 use crate::test::{Quantifier, Test};
+use loom::model::cover::Covered;
 use loom::model::{Report, Walked};
 use std::fmt;
 
@@ -92,6 +94,25 @@ impl Summary {
         }
     }
 
+    /// What a check that remembers states found of the test (own).
+    pub fn covered(test: &Test, found: &Covering) -> Summary
+        ensures { result ≡ summary_covered test.now.quantifier found.now }
+    {
+        let positive = found.counts.positive;
+        let negative = found.counts.negative;
+        Summary {
+            positive,
+            negative,
+            observation: observed(positive, negative),
+            verdict: verdict_of(
+                test.quantifier,
+                covered_to(&found.covered),
+                positive,
+                negative,
+            ),
+        }
+    }
+
     /// What was seen of the test in a walk (own).
     pub fn seen(test: &Test, seen: &Seen) -> Summary
         ensures { result ≡ summary_seen test.now.quantifier seen.now }
@@ -114,6 +135,16 @@ fn reached_by(report: &Report) -> Reached
         Report::Complete { .. } => Reached::All,
         Report::Stopped { .. } => Reached::Part,
         Report::Failed { .. } => Reached::Failure,
+    }
+}
+
+fn covered_to(covered: &Covered) -> Reached
+    ensures { result ≡ covered_to covered.now }
+{
+    match covered {
+        Covered::Complete { .. } => Reached::All,
+        Covered::Stopped { .. } => Reached::Part,
+        Covered::Failed { .. } => Reached::Failure,
     }
 }
 

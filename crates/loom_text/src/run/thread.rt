@@ -12,6 +12,7 @@ use loom_objects::operation::{
 };
 use loom_views::rt::num::Numbers;
 use loom_views::rt::num::change::Change;
+use loom_views::same::Same;
 use std::alloc::{AllocError, Global};
 use std::marker::Model;
 use std::rc::Rc;
@@ -164,6 +165,15 @@ fn change_of(update: Update, number: u64) -> Change
         Update::Or => Change::Or(number),
         Update::Xor => Change::Xor(number),
         Update::And => Change::And(number),
+    }
+}
+
+impl Same for TestThread {
+    // The program, which all threads of a check share, comes last.
+    fn is_same(&self, other: &TestThread) -> bool {
+        self.thread == other.thread
+            && self.state.is_same(&other.state)
+            && self.program.as_ref().is_same(other.program.as_ref())
     }
 }
 

@@ -2,6 +2,7 @@
 ghost use Rattle.std.specs.Prelude.{◌≡◌, ◌∷◌, [], IfOk, take};
 
 use loom_objects::data::Data;
+use loom_views::same::Same;
 use std::alloc::{AllocError, Global};
 use std::marker::Model;
 
@@ -58,5 +59,11 @@ impl Data for Values {
         ensures { IfOk result (λ copy. copy ≡ self.now) }
     {
         Values::of(*Vec::allocator(&self.numbers), self.numbers.as_slice())
+    }
+}
+
+impl Same for Values {
+    fn is_same(&self, other: &Values) -> bool {
+        self.numbers.as_slice() == other.numbers.as_slice()
     }
 }

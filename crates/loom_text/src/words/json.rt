@@ -1,9 +1,9 @@
 //! Answers as JSON objects.
-use crate::run::answer::{Answer, Question, ShownQuestion, ShownTerm, flag_of};
+use crate::run::answer::{Answer, End, Found, Question, ShownQuestion, ShownTerm, flag_of};
 use crate::run::summary::Summary;
 use crate::run::tally::FinalState;
 use loom::ShownChoices;
-use loom::model::Report;
+use loom::model::cover::Covered;
 use serde_json::{Value, json};
 use std::alloc::{AllocError, Global};
 
@@ -22,7 +22,7 @@ pub fn of_answer(alloc: Global, file: &str, answer: Answer) -> Result<String, Al
     let asked = ShownQuestion(answer.test);
     let condition = format!(in alloc; "{asked}")?;
     let name = answer.test.name.as_str();
-    let is_whole = answer.is_whole;
+    let search = search_of(answer.found);
     let mut object = json!(in alloc; {
         "file": file,
         "test": name,
@@ -32,17 +32,18 @@ pub fn of_answer(alloc: Global, file: &str, answer: Answer) -> Result<String, Al
         "observation": observation,
         "positive": positive,
         "negative": negative,
-        "whole": is_whole
+        "search": search
     })?;
     put(alloc, &mut object, "states", states(alloc, answer)?)?;
-    put_end(alloc, &mut object, &answer.outcome.report)?;
+    put_end(alloc, &mut object, answer.end())?;
+    put_noted(alloc, &mut object, answer.found)?;
     object.to_string(alloc)
 }
 
 // A list of objects.
 fn states(alloc: Global, answer: Answer) -> Result<Value, AllocError> {
     let mut states = Vec::new(alloc);
-    for state in answer.outcome.counts.states.as_slice() {
+    for state in answer.counts().states.as_slice() {
         states.push(of_state(alloc, answer, state)?)?;
     }
     Ok(Value::Array(states))
@@ -68,30 +69,54 @@ fn of_state(alloc: Global, answer: Answer, state: &FinalState) -> Result<Value, 
     Ok(object)
 }
 
-// How the check ended.
-fn put_end(alloc: Global, object: &mut Value, report: &Report) -> Result<(), AllocError> {
-    match report {
-        Report::Complete { runs } => put_runs(alloc, object, "complete", *runs),
-        Report::Stopped { runs, limit, .. } => {
-            put_runs(alloc, object, "stopped", *runs)?;
+// How runs were chosen.
+fn search_of(found: Found) -> &'static str {
+    match found {
+        Found::Whole(_) => "whole",
+        Found::Reduced(_) => "reduced",
+        Found::Covering(_) => "cover",
+    }
+}
+
+// How the search ended.
+fn put_end(alloc: Global, object: &mut Value, end: End) -> Result<(), AllocError> {
+    match end {
+        End::Complete { runs } => put_runs(alloc, object, "complete", runs),
+        End::Stopped { runs, limit, .. } => {
+            put_runs(alloc, object, "stopped", runs)?;
             let limit = format!(in alloc; "{limit}")?;
             put(alloc, object, "limit", json!(in alloc; limit)?)
         }
-        Report::Failed {
+        End::Failed {
             runs,
             failure,
             choices,
+            ..
         } => {
-            put_runs(alloc, object, "failed", *runs)?;
+            put_runs(alloc, object, "failed", runs)?;
             let flag = flag_of(failure.kind);
             put(alloc, object, "flag", json!(in alloc; flag)?)?;
             let cause = format!(in alloc; "{failure}")?;
             put(alloc, object, "cause", json!(in alloc; cause)?)?;
-            let shown = ShownChoices(choices.as_slice());
+            let shown = ShownChoices(choices);
             let text = format!(in alloc; "{shown}")?;
             put(alloc, object, "choices", json!(in alloc; text)?)
         }
     }
+}
+
+// How many runs a search gave up that remembers states, and how many states it noted.
+fn put_noted(alloc: Global, object: &mut Value, found: Found) -> Result<(), AllocError> {
+    let Found::Covering(covering) = found else {
+        return Ok(());
+    };
+    let (met, noted) = match &covering.covered {
+        Covered::Complete { met, states, .. }
+        | Covered::Stopped { met, states, .. }
+        | Covered::Failed { met, states, .. } => (*met, *states),
+    };
+    put(alloc, object, "met", json!(in alloc; met)?)?;
+    put(alloc, object, "noted", json!(in alloc; noted)?)
 }
 
 fn put_runs(alloc: Global, object: &mut Value, ends: &str, runs: u64) -> Result<(), AllocError> {

@@ -3,9 +3,10 @@ ghost use Rattle.std.specs.Prelude.{⊤};
 
 use crate::error::{ReadError, report};
 use crate::read::read;
-use crate::run::answer::{Answer, ShownNumbers, Sight, flag_of};
+use crate::run::answer::{Answer, End, Found, ShownNumbers, Sight, flag_of};
 use crate::run::check::{check, is_whole};
-use crate::run::counting::Counting;
+use crate::run::counting::{Counting, Unheard};
+use crate::run::cover::cover;
 use crate::run::layout::Layout;
 use crate::run::program::assemble;
 use crate::run::summary::Verdict;
@@ -16,9 +17,11 @@ use crate::test::Test;
 use crate::words::json;
 use crate::words::options::{Asked, Shows};
 use crate::words::table::{Line, TableLine};
+use loom::model::builder::Builder;
 use loom::model::clock::Clock;
+use loom::model::cover::Covered;
 use loom::model::error::CheckError;
-use loom::model::{Replay, Report, Walk, Walked};
+use loom::model::{Replay, Walk, Walked};
 use loom::{Choice, ShownChoices};
 use std::alloc::Global;
 use std::fs::File;
@@ -31,13 +34,15 @@ use std::time::{Duration, Instant};
 pub(crate) enum Job<'a> {
     /// It is checked.
     Check,
+    /// Its runs are covered, with at most so many states.
+    Cover(usize),
     /// Runs are made that are drawn so.
     Walk(Walk),
     /// One run is made, by these choices and then by defaults.
     Replay(&'a [Choice]),
 }
 
-// Above so many runs it is said that there are ways to make fewer.
+// Above so many runs it is said that there is a way to make fewer.
 const MANY_RUNS: u64 = 1_000_000;
 
 /// Does this with the test in the file, prints what comes of it, and answers the exit status: 0 where it holds, 1 where it
@@ -94,6 +99,7 @@ pub(crate) fn judge_test<R: AllocGlobal + HostTime, O: Write, E: Write>(
     let main = TestThread::main(alloc, program)?;
     let answered = match job {
         Job::Check => check_test(rt, asked, file, test, &layout, &main, out, err)?,
+        Job::Cover(most) => cover_test(rt, asked, most, file, test, &layout, &main, out)?,
         Job::Walk(walk) => walk_test(rt, asked, walk, test, &layout, &main, out)?,
         Job::Replay(choices) => replay_test(alloc, asked, choices, test, &layout, &main, out)?,
     };
@@ -111,12 +117,12 @@ fn name_of(file: &str) -> &str {
     file.rsplit('/').next().unwrap_or(file)
 }
 
-fn check_test<R: AllocGlobal + HostTime, O: Write, E: Write>(
+fn check_test<'a, R: AllocGlobal + HostTime, O: Write, E: Write>(
     rt: &R,
     asked: &Asked,
     file: &str,
-    test: &Test,
-    layout: &Layout,
+    test: &'a Test,
+    layout: &'a Layout,
     main: &TestThread,
     out: &mut O,
     err: &mut E,
@@ -141,20 +147,17 @@ fn check_test<R: AllocGlobal + HostTime, O: Write, E: Write>(
         Ok(outcome) => outcome,
         Err(error) => return Ok(Err(error)),
     };
+    let found = if is_whole {
+        Found::Whole(&outcome)
+    } else {
+        Found::Reduced(&outcome)
+    };
     let answer = Answer {
         test,
         layout,
-        outcome: &outcome,
-        is_whole,
+        found,
     };
-    print_answer(rt.alloc(), asked.shows, file, answer, out)?;
-    let status = status_of(answer.summary().verdict);
-    match &outcome.report {
-        Report::Failed { choices, .. } if asked.explains => {
-            Ok(explain(rt.alloc(), asked, choices.as_slice(), main, out)?.map(|_| status))
-        }
-        Report::Failed { .. } | Report::Complete { .. } | Report::Stopped { .. } => Ok(Ok(status)),
-    }
+    put_answer(rt.alloc(), asked, file, answer, main, out)
 }
 
 // The exit status: 0 where the test is known to hold.
@@ -162,6 +165,85 @@ fn status_of(verdict: Verdict) -> u8 {
     match verdict {
         Verdict::Ok => 0,
         Verdict::No | Verdict::Undecided => 1,
+    }
+}
+
+// Covers the runs of the test with at most so many states, and prints what was found.
+fn cover_test<'a, R: AllocGlobal + HostTime, O: Write>(
+    rt: &R,
+    asked: &Asked,
+    most_states: usize,
+    file: &str,
+    test: &'a Test,
+    layout: &'a Layout,
+    main: &TestThread,
+    out: &mut O,
+) -> io::Result<Result<u8, CheckError>> {
+    let alloc = rt.alloc();
+    let mut clock = HostClock::start(rt);
+    let covered = cover(
+        alloc,
+        &asked.builder,
+        test,
+        layout,
+        main,
+        &mut clock,
+        &mut Unheard,
+        most_states,
+    );
+    let mut covering = match covered {
+        Ok(covering) => covering,
+        Err(error) => return Ok(Err(error)),
+    };
+    if let Err(error) = place(alloc, &asked.builder, main, &mut covering.covered) {
+        return Ok(Err(error));
+    }
+    let answer = Answer {
+        test,
+        layout,
+        found: Found::Covering(&covering),
+    };
+    put_answer(alloc, asked, file, answer, main, out)
+}
+
+// Where a run failed its failure gets its place, as the run has that is made by its choices.
+fn place(
+    alloc: Global,
+    builder: &Builder,
+    main: &TestThread,
+    covered: &mut Covered,
+) -> Result<(), CheckError> {
+    if let Covered::Failed {
+        failure,
+        choices,
+        ..
+    } = covered
+        && let Replay::Failed {
+            failure: again,
+            choices: _made,
+        } = builder.replay(alloc, main, choices.as_slice())?
+    {
+        *failure = failure.at(again.location);
+    }
+    Ok(())
+}
+
+// Prints the answer, and where a run failed, what happened in it, if that is asked for.
+fn put_answer<O: Write>(
+    alloc: Global,
+    asked: &Asked,
+    file: &str,
+    answer: Answer,
+    main: &TestThread,
+    out: &mut O,
+) -> io::Result<Result<u8, CheckError>> {
+    print_answer(alloc, asked.shows, file, answer, out)?;
+    let status = status_of(answer.summary().verdict);
+    match answer.end() {
+        End::Failed { choices, .. } if asked.explains => {
+            Ok(explain(alloc, asked, choices, main, out)?.map(|_| status))
+        }
+        End::Failed { .. } | End::Complete { .. } | End::Stopped { .. } => Ok(Ok(status)),
     }
 }
 
@@ -235,7 +317,7 @@ impl<E: Write> Counting for Warning<'_, E> {
             let file = self.file;
             let _ = writeln!(
                 self.err,
-                "{file}: warning: more than {MANY_RUNS} runs: '--reduce' and '--preemption-bound' make fewer"
+                "{file}: warning: more than {MANY_RUNS} runs: '--cover' makes fewer"
             );
         }
     }

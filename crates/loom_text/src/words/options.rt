@@ -2,6 +2,7 @@
 use clap::{Arg, ArgAction, ArgMatches, Command, Error, value_parser};
 use loom::model::Walk;
 use loom::model::builder::Builder;
+use loom::model::cover::MOST_STATES;
 use std::alloc::{AllocError, Global};
 use std::time::Duration;
 
@@ -31,6 +32,8 @@ pub struct Asked<'a> {
     pub replay: Option<&'a str>,
     /// The walk that is to be made through each test.
     pub walk: Option<Walk>,
+    /// How many states are remembered at most. None where another search is asked for.
+    pub covers: Option<usize>,
     /// Whether a failure, or the run that is made, is explained.
     pub explains: bool,
 }
@@ -72,8 +75,11 @@ const FLAG: Known = Known {
     needs: None,
 };
 
+// What asks for another search than the one that remembers states.
+const OTHER_SEARCHES: [&str; 5] = ["reduce", "whole", "preemption-bound", "replay", "walk"];
+
 // All options, in the order of the help, which clap adds itself.
-static OPTIONS: [Known; 13] = [
+static OPTIONS: [Known; 15] = [
     Known {
         name: "reduce",
         help: "try another thread only where an access calls for it",
@@ -82,7 +88,20 @@ static OPTIONS: [Known; 13] = [
     },
     Known {
         name: "whole",
-        help: "try each thread that can go on (the default)",
+        help: "make every run: try each thread that can go on",
+        ..FLAG
+    },
+    Known {
+        name: "cover",
+        help: "cover every run: remember states, and give a run up where its state was met before (the default)",
+        conflicts: &OTHER_SEARCHES,
+        ..FLAG
+    },
+    Known {
+        name: "states",
+        takes: Takes::Number("N"),
+        help: "remember at most this many states",
+        conflicts: &OTHER_SEARCHES,
         ..FLAG
     },
     Known {
@@ -185,6 +204,7 @@ pub fn read<'a>(alloc: Global, words: &'a [&'a str]) -> Result<Asked<'a>, Error>
         shows,
         replay: matches.get_str("replay"),
         walk: walk(&matches),
+        covers: most_states(&matches),
         explains: matches.get_flag("explain"),
         files,
     })
@@ -209,6 +229,16 @@ fn walk(matches: &ArgMatches) -> Option<Walk> {
     }
 }
 
+// How many states are remembered at most, unless words ask for a search that remembers none.
+fn most_states(matches: &ArgMatches) -> Option<usize> {
+    let bound: Option<usize> = matches.get_one("preemption-bound");
+    if matches.get_flag("whole") || matches.get_flag("reduce") || bound.is_some() {
+        None
+    } else {
+        Some(matches.get_one("states").unwrap_or(MOST_STATES))
+    }
+}
+
 // Several answers have a line each.
 fn shown_by(matches: &ArgMatches, files: usize) -> Shows {
     if matches.get_flag("json") {
@@ -222,7 +252,7 @@ fn shown_by(matches: &ArgMatches, files: usize) -> Shows {
     }
 }
 
-// The defaults of a check, but that the search is whole, runs have fewer operations and failures have places, with what the options
+// The defaults of a check, but that the search isn't reduced, runs have fewer operations and failures have places, with what the options
 // say.
 fn builder(matches: &ArgMatches) -> Builder {
     let defaults = Builder::new();
@@ -251,7 +281,7 @@ fn command<'a>(alloc: Global) -> Result<Command<'a>, AllocError> {
         .no_binary_name(true)
         .disable_version_flag(true)
         .override_usage("loom_litmus [OPTIONS] FILE..")
-        .about("Reads litmus tests, makes all their runs, and answers as herd7 does.")
+        .about("Reads litmus tests, covers all their runs, and answers as herd7 does.")
         .arg(file)?
         .args(options(alloc)?)
 }

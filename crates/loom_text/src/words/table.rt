@@ -1,7 +1,6 @@
 //! Answers in a line each.
-use crate::run::answer::{Answer, Question, flag_of};
+use crate::run::answer::{Answer, End, Question, flag_of};
 use crate::run::summary::Summary;
-use loom::model::Report;
 use std::fmt;
 
 /// The head of a table of answers.
@@ -27,8 +26,8 @@ impl fmt::Display for Line<'_> {
             observation,
             verdict,
         } = answer.summary();
-        let states = answer.outcome.counts.states.len();
-        let end = ShownEnd(&answer.outcome.report);
+        let states = answer.counts().states.len();
+        let end = ShownEnd(answer.end());
         let plural = if states == 1 { "" } else { "s" };
         write!(
             f,
@@ -48,8 +47,8 @@ impl fmt::Display for TableLine<'_> {
             observation,
             verdict,
         } = answer.summary();
-        let states = answer.outcome.counts.states.len();
-        let end = ShownEnd(&answer.outcome.report);
+        let states = answer.counts().states.len();
+        let end = ShownEnd(answer.end());
         write!(
             f,
             "| {name} | {question} | {states} | {observation} {positive} {negative} | {verdict}{end} |"
@@ -57,16 +56,16 @@ impl fmt::Display for TableLine<'_> {
     }
 }
 
-// Why not all runs were made, if they weren't.
+// Why the states may not be all, if they may.
 #[derive(Clone, Copy)]
-struct ShownEnd<'a>(&'a Report);
+struct ShownEnd<'a>(End<'a>);
 
 impl fmt::Display for ShownEnd<'_> {
     fn fmt<W: fmt::Write>(&self, f: &mut fmt::Formatter<W>) -> fmt::Result {
         match self.0 {
-            Report::Complete { .. } => Ok(()),
-            Report::Stopped { .. } => f.write_str(", stopped"),
-            Report::Failed { failure, .. } => {
+            End::Complete { .. } => Ok(()),
+            End::Stopped { .. } => f.write_str(", stopped"),
+            End::Failed { failure, .. } => {
                 let flag = flag_of(failure.kind);
                 write!(f, ", {flag}")
             }
