@@ -23,7 +23,7 @@ found (first ∷ bodies) name = chosen (bytes_eq first.name.now name) first (nam
 printed_by : (bodies : List Measured) (name : List ℕ) (old new : Option (List ℕ)) (status : ℕ)
     → map named bodies ≡ all → PrintedBody bodies name old new status → PrintedNamed name old new status
 printed_by bodies name old new status t (body, report, m, r, p) =
-    (named body, report, ap (λ rows. named_by rows name) (sym t) ∙ found bodies name ∙ ap (option_map named) m, (body.steps.now, refl, r), p)
+    (named body, report, ap (λ rows. named_by rows name) (sym t) ∙ found bodies name ∙ ap (option_map named) m, r, p)
 
 -- what was printed of a body was printed by the table, where the status may be 2
 pub printed_or_not : {E : Type 0} (bodies items : List Measured) (name : List ℕ) (old new : Option (List ℕ)) (answer : Result ℕ E) → bodies ≡ items → map named items ≡ all

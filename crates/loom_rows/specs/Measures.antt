@@ -1,12 +1,13 @@
 -- What is printed of checks of the body that a name means.
-use Rattle.std.specs.Prelude.{ℕ, ◌≡◌, List, ◌++◌, Option, Some, codes}
+use Rattle.std.specs.Prelude.{ℕ, ◌≡◌, List, ◌++◌, Option, Some, codes, map}
 use Rattle.std.specs.Io.KnownBytes.{Appends}
 use Rattle.std.specs.List.{find}
 use Rattle.std.specs.Str.{bytes_eq}
 use Rattle.loom.specs.declared.model.report.Report.{Report}
 use Rattle.loom_examples.specs.Rows.Builder.{builder_of}
 use Rattle.loom_examples.specs.Rows.Line.{report_text, status_of}
-use Rattle.loom_examples.specs.Rows.Printed.{ReportsScript, ReportsWritten}
+use Rattle.loom_examples.specs.Rows.Printed.{ReportsScript}
+use Rattle.loom_examples.specs.Scripts.Written.{written}
 use Rattle.loom_examples.specs.Measured.Body.{Named}
 use Rattle.loom_examples.specs.Measured.Table.{all, body_of}
 use Rattle.loom_examples.specs.declared.measured.Measured.{Measured}
@@ -24,7 +25,7 @@ abbrev pub PrintedBody : List Measured → List ℕ → Option (List ℕ) → Op
 PrintedBody bodies name old new status =
     (body : Measured) × (report : Report)
     × (body_of bodies name ≡ Some body)
-    × ReportsScript body.steps.now (builder_of body.settings) report
+    × ReportsScript (map written body.steps.now) (builder_of body.settings) report
     × PrintedLine name report old new status
 
 -- what a name means by a table: the first of it that has the name
@@ -36,5 +37,5 @@ abbrev pub PrintedNamed : List ℕ → Option (List ℕ) → Option (List ℕ) �
 PrintedNamed name old new status =
     (body : Named) × (report : Report)
     × (named_by all name ≡ Some body)
-    × ReportsWritten body.steps (builder_of body.settings) report
+    × ReportsScript body.steps (builder_of body.settings) report
     × PrintedLine name report old new status

@@ -1,10 +1,11 @@
 //! Measures checks: prints what each finds, and on standard error how long it took. `loom_examples::measured` lists what is measured, by
 //! name, with its settings. It checks these bodies by `loom::model`, and those of `closures` by `loom::runner`. docs/BENCHMARKS.md has
 //! what it found.
-ghost use Rattle.std.specs.Prelude.{◌≡◌, ◌⊎◌, ◌-◌, ◌*◌, ◌/◌, ◌^◌, IfOk, IfSome, min, max};
+ghost use Rattle.std.specs.Prelude.{◌≡◌, ◌⊎◌, ◌-◌, ◌*◌, ◌/◌, ◌^◌, IfOk, IfSome, map, min, max};
 ghost use Rattle.std.specs.Duration.{as_nanos};
 ghost use Rattle.loom_examples.specs.Rows.Builder.{builder_of};
 ghost use Rattle.loom_examples.specs.Rows.Printed.{ReportsScript};
+ghost use Rattle.loom_examples.specs.Scripts.Written.{written};
 ghost use Rattle.loom_rows.specs.Measures.{PrintedBody, PrintedLine, PrintedNamed};
 
 mod closures;
@@ -150,7 +151,7 @@ fn measure<R: AllocGlobal + Clock + Files, O: Write, E: Write>(
 
 /// The report of the last check, once all checks were made; None where memory is refused, or none is to be made.
 fn check_often<R: AllocGlobal + Files>(rt: &R, body: &Measured) -> Option<Report>
-    ensures { IfSome result (ReportsScript body.now.steps.now (builder_of body.now.settings)) }
+    ensures { IfSome result (ReportsScript (map written body.now.steps.now) (builder_of body.now.settings)) }
 {
     let alloc = rt.alloc();
     let script = Script::new(alloc, body.steps).ok()?;

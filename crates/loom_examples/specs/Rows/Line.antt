@@ -30,16 +30,18 @@ PrintedOf report old new status = (status ≡ status_of report) × Appends old n
 abbrev pub counts_text : ℕ → ℕ → ℕ → List ℕ
 counts_text runs met states = decimal runs ++ codes " met " ++ decimal met ++ codes " states " ++ decimal states
 
--- of a failure the line is that of a report
+-- of a failure the line is that of a report, and where some runs never end it has the choices that lead there
 abbrev pub covered_text : Covered → List ℕ
 covered_text (covered.Complete runs met states) = codes "complete " ++ counts_text runs met states
+covered_text (covered.Livelock runs met states choices) = codes "livelock" ++ others_text choices.items
 covered_text (covered.Stopped runs met states limit) = codes "stopped " ++ counts_text runs met states
 covered_text (covered.Failed runs met states failure choices) =
     codes "failed " ++ decimal (number_of failure.kind) ++ codes " " ++ decimal runs ++ others_text choices.items
 
--- 1 where a run failed
+-- 1 where a run failed, or some never end
 abbrev pub covered_status : Covered → ℕ
 covered_status (covered.Complete runs met states) = 0
+covered_status (covered.Livelock runs met states choices) = 1
 covered_status (covered.Stopped runs met states limit) = 0
 covered_status (covered.Failed runs met states failure choices) = 1
 

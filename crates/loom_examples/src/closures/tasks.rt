@@ -4,7 +4,7 @@ use crate::closures::rows::{ClosureRow, refuse_run};
 use crate::rows::drawing::Drawing;
 use crate::rows::json::{of_replay, of_report, print_answer};
 use crate::rows::line::{self, ShownReport};
-use crate::rows::options::RowAsked;
+use crate::rows::options::{RowAsked, Share};
 use crate::rows::tasks::{ShownReplay, ShownRisen, Task};
 use crate::rows::walks::{failing_in, print_walked};
 use crate::rows::words::{refuse, refuse_choices};
@@ -100,20 +100,8 @@ pub fn run_asked<
     out: &mut O,
     err: &mut E,
 ) -> io::Result<u8> {
-    if asked.shortens {
-        return refuse(
-            err,
-            "error: '--shorten' is for rows whose bodies are scripts",
-        );
-    }
-    if asked.covers.is_some() {
-        return refuse(err, "error: '--cover' is for rows whose bodies are scripts");
-    }
-    if asked.jobs.is_some() || asked.share.is_some() {
-        return refuse(
-            err,
-            "error: what is shared out are rows whose bodies are scripts",
-        );
+    if let Some(cause) = refusal(&asked) {
+        return refuse(err, cause);
     }
     let builder = row.builder_with(rt.alloc(), builder, asked.file)?;
     let builder = asked.changes.change(builder);
@@ -130,6 +118,25 @@ pub fn run_asked<
             do_task(rt, row, &builder, task, asked, out, err)
         }
         Err(error) => refuse_choices(rt.alloc(), text, error, err),
+    }
+}
+
+/// Why rows of closures don't take these words, if they don't.
+fn refusal(asked: &RowAsked) -> Option<&'static str> {
+    if asked.shortens {
+        return Some("error: '--shorten' is for rows whose bodies are scripts");
+    }
+    if asked.covers.is_some() {
+        return Some("error: '--cover' is for rows whose bodies are scripts");
+    }
+    if asked.jobs.is_some() {
+        return Some("error: '--jobs' is for rows whose bodies are scripts");
+    }
+    match asked.share {
+        None => None,
+        Some(Share::Split(_, _)) => Some("error: '--split' is for rows whose bodies are scripts"),
+        Some(Share::Part(_)) => Some("error: '--part' is for rows whose bodies are scripts"),
+        Some(Share::Gather(_)) => Some("error: '--gather' is for rows whose bodies are scripts"),
     }
 }
 

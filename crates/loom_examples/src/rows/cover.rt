@@ -22,7 +22,7 @@ use std::io::{self, Write};
 use std::rt::{Clock, Files};
 
 /// What a check found that remembers states: how it ended, how many runs ended, how many were given up where a state was met, and
-/// how many states were noted. Where a run failed, the line of a report.
+/// how many states were noted. Where a run failed, the line of a report, and where some never end, the choices that lead there.
 #[derive(Clone, Copy)]
 pub struct ShownCovered<'a>(pub &'a Covered);
 
@@ -33,6 +33,10 @@ impl fmt::Display for ShownCovered<'_> {
         match self.0 {
             Covered::Complete { runs, met, states } => {
                 write!(f, "complete {runs} met {met} states {states}")
+            }
+            Covered::Livelock { choices, .. } => {
+                let choices = SpacedChoices(choices.as_slice());
+                write!(f, "livelock{choices}")
             }
             Covered::Stopped {
                 runs,
@@ -54,13 +58,13 @@ impl fmt::Display for ShownCovered<'_> {
     }
 }
 
-/// The exit status: whether a run failed.
+/// The exit status: whether a run failed, or some never end.
 pub fn status_of(covered: &Covered) -> u8
     ensures { result ≡ covered_status covered.now }
 {
     match covered {
         Covered::Complete { .. } | Covered::Stopped { .. } => 0,
-        Covered::Failed { .. } => 1,
+        Covered::Failed { .. } | Covered::Livelock { .. } => 1,
     }
 }
 

@@ -191,21 +191,7 @@ pub(crate) fn of_report(
 
 /// The object of what a check found that remembers states.
 fn of_covered(alloc: Global, name: &str, covered: &Covered) -> Result<Answer, AllocError> {
-    let (result, runs, met, states) = match covered {
-        Covered::Complete { runs, met, states } => ("complete", *runs, *met, *states),
-        Covered::Stopped {
-            runs,
-            met,
-            states,
-            ..
-        } => ("stopped", *runs, *met, *states),
-        Covered::Failed {
-            runs,
-            met,
-            states,
-            ..
-        } => ("failed", *runs, *met, *states),
-    };
+    let (result, runs, met, states) = counts_of(covered);
     let mut object = json!(in alloc; {
         "row": name,
         "result": result,
@@ -215,6 +201,10 @@ fn of_covered(alloc: Global, name: &str, covered: &Covered) -> Result<Answer, Al
     })?;
     match covered {
         Covered::Complete { .. } => Ok(Answer { object, status: 0 }),
+        Covered::Livelock { choices, .. } => {
+            put_choices(alloc, &mut object, choices.as_slice())?;
+            Ok(Answer { object, status: 1 })
+        }
         Covered::Stopped { limit, .. } => {
             let limit = format!(in alloc; "{limit}")?;
             put(alloc, &mut object, "limit", json!(in alloc; limit)?)?;
@@ -229,6 +219,31 @@ fn of_covered(alloc: Global, name: &str, covered: &Covered) -> Result<Answer, Al
             put_choices(alloc, &mut object, choices.as_slice())?;
             Ok(Answer { object, status: 1 })
         }
+    }
+}
+
+/// In a word what a check that remembers states came to, and how many runs ended, how many were given up, and how many states were noted.
+fn counts_of(covered: &Covered) -> (&'static str, u64, u64, usize) {
+    match covered {
+        Covered::Complete { runs, met, states } => ("complete", *runs, *met, *states),
+        Covered::Livelock {
+            runs,
+            met,
+            states,
+            ..
+        } => ("livelock", *runs, *met, *states),
+        Covered::Stopped {
+            runs,
+            met,
+            states,
+            ..
+        } => ("stopped", *runs, *met, *states),
+        Covered::Failed {
+            runs,
+            met,
+            states,
+            ..
+        } => ("failed", *runs, *met, *states),
     }
 }
 

@@ -106,6 +106,15 @@ fn words_that_mean_a_row(rt: HostRuntime) {
 const NO_THREAD: &str =
     "usage: loom_rows NAME [FILE]\nerror: invalid value 't9 l0' for '--replay <CHOICES>': word 1 is no choice: a choice is `t0` to `t4` or `t-`, `l0` to `l6`, `s0` or `s1`, with a space between two\n\nFor the options try '--help', and for the names '--list'.\n";
 
+const NO_SHORTEN: &str =
+    "usage: loom_rows NAME [FILE]\nerror: '--shorten' is for rows whose bodies are scripts\n\nFor the options try '--help', and for the names '--list'.\n";
+
+const NO_JOBS: &str =
+    "usage: loom_rows NAME [FILE]\nerror: '--jobs' is for rows whose bodies are scripts\n\nFor the options try '--help', and for the names '--list'.\n";
+
+const NO_SPLIT: &str =
+    "usage: loom_rows NAME [FILE]\nerror: '--split' is for rows whose bodies are scripts\n\nFor the options try '--help', and for the names '--list'.\n";
+
 /// What words with options ask for, what is printed of it on standard output and on standard error, and the status. It is what is printed
 /// of any other row.
 struct Said {
@@ -115,11 +124,29 @@ struct Said {
     status: u8,
 }
 
-static SAID: [Said; 6] = [
+static SAID: [Said; 11] = [
     Said {
         words: &["--replay", "t9 l0", "lock_beside_closures"],
         out: "",
         err: NO_THREAD,
+        status: 2,
+    },
+    Said {
+        words: &["--shorten", "lock_beside_closures"],
+        out: "",
+        err: NO_SHORTEN,
+        status: 2,
+    },
+    Said {
+        words: &["--jobs", "2", "lock_beside_closures"],
+        out: "",
+        err: NO_JOBS,
+        status: 2,
+    },
+    Said {
+        words: &["--split", "parts", "4", "lock_beside_closures"],
+        out: "",
+        err: NO_SPLIT,
         status: 2,
     },
     Said {
@@ -157,6 +184,18 @@ static SAID: [Said; 6] = [
         err: "",
         status: 1,
     },
+    Said {
+        words: &["--walk", "1", "100", "store_buffering_closures"],
+        out: "walked 100 0\n",
+        err: "",
+        status: 0,
+    },
+    Said {
+        words: &["--walk", "1", "100", "--walk-depth", "3", "closure_stops"],
+        out: "failed 1 0 0\n",
+        err: "",
+        status: 1,
+    },
 ];
 
 /// Whether the words come to that.
@@ -180,7 +219,7 @@ fn is_said<R: AllocGlobal + Clock + Files + Threads + Wait + Clone + Send + 'sta
     )
 }
 
-/// A row of closures takes the options that any other row takes.
+/// A row of closures takes the options that any other row takes, and names those that it doesn't.
 #[test]
 fn rows_take_all_options(rt: HostRuntime) -> Result<(), Fail> {
     for said in &SAID {

@@ -47,11 +47,16 @@ fn put_found(alloc: Global, test: &Test, lines: &mut String) {
             &mut Unheard,
         ) {
             let found = if builder.reduce {
-                Found::Reduced(&outcome)
+                Found::Reduced(outcome)
             } else {
-                Found::Whole(&outcome)
+                Found::Whole(outcome)
             };
-            put_answer(alloc, test, &layout, found, lines);
+            let answer = Answer {
+                test,
+                layout: &layout,
+                found: &found,
+            };
+            put_answer(alloc, answer, lines);
         }
     }
 }
@@ -81,23 +86,18 @@ fn put_covered(alloc: Global, test: &Test, lines: &mut String) {
             MOST_STATES,
         )
     {
-        put_answer(alloc, test, &layout, Found::Covering(&covering), lines);
+        let found = Found::Covering(covering);
+        let answer = Answer {
+            test,
+            layout: &layout,
+            found: &found,
+        };
+        put_answer(alloc, answer, lines);
     }
 }
 
 // The lines that say what was found: of all the states and the answer, and of a failure the flag.
-fn put_answer<'a>(
-    alloc: Global,
-    test: &'a Test,
-    layout: &'a Layout,
-    found: Found<'a>,
-    lines: &mut String,
-) {
-    let answer = Answer {
-        test,
-        layout,
-        found,
-    };
+fn put_answer(alloc: Global, answer: Answer, lines: &mut String) {
     if let Ok(whole) = format!(in alloc; "{answer}") {
         put_lines(whole.as_str(), lines);
     }

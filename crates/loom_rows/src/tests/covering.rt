@@ -12,9 +12,12 @@ use loom_examples::measured::{all_bodies, body_of};
 use loom_examples::rows::cover::ShownCovered;
 use loom_examples::rows::settings::{Builds, Settings};
 use loom_examples::rows::{Checked, Row, WHOLE};
+use loom_examples::scripts::step::{END, EXIT, Step, Value};
+use loom_objects::operation::{AtomicOp, MutexOp, Request, ThreadOp};
 use loom_plain::run::Ending;
 use loom_plain::search::Found;
 use loom_testing::page::Page;
+use loom_views::rt::num::Numbers;
 use loom_views::same::Same;
 use std::alloc::Global;
 use std::process::Abort;
@@ -23,8 +26,8 @@ use std::sync::atomic::Ordering;
 // How many runs a whole search may have here.
 const MOST: usize = 1000;
 
-// How many states are remembered: more than such a search comes to, but in rows that make a hundred thousand operations.
-const MOST_REMEMBERED: usize = 200;
+// How many states are remembered. Some of these searches come to more, and then find the same.
+const MOST_REMEMBERED: usize = 64;
 
 // Whether both have the same values, in any order and number.
 fn are_values_same(alloc: Global, one: &[Found], other: &[Found]) -> bool {
@@ -85,7 +88,7 @@ fn is_as_whole<B: Body<Data = u64> + Same>(
             is_failing(found)
                 && is_replayed(alloc, settings, body, failure.kind, choices.as_slice())
         }
-        Ok(Covered::Stopped { .. }) | Err(_) => false,
+        Ok(Covered::Livelock { .. } | Covered::Stopped { .. }) | Err(_) => false,
     }
 }
 
@@ -164,4 +167,40 @@ fn so_many_states_are_met(rt: HostRuntime) {
         }
         same(&rt, page.text.as_str(), *text, *name);
     }
+}
+
+const FINISH: Step = Step::Do(0, Request::Thread(ThreadOp::Finish(Value::Plain(7))));
+
+// Main holds a mutex, which it lets go unless it reads what a thread stores. The thread then tries for the mutex until it has it.
+const TRYING: &[Step] = &[
+    Step::Do(0, Request::Mutex(MutexOp::New(Value::Plain(0)))),
+    Step::Do(0, Request::Mutex(MutexOp::Lock(0))),
+    Step::Do(1, Request::Atomic(AtomicOp::New(Numbers::U64, 0))),
+    Step::SpawnAt(2, "child"),
+    Step::Do(1, Request::Atomic(AtomicOp::Load(1, Ordering::Relaxed))),
+    Step::IfTo(1, 1, "keeps"),
+    Step::Do(0, Request::Mutex(MutexOp::Release(0, Value::Plain(0)))),
+    Step::Label("keeps"),
+    Step::Do(2, Request::Thread(ThreadOp::Join(2, 2))),
+    FINISH,
+    EXIT,
+    END,
+    Step::Label("child"),
+    Step::Do(1, Request::Atomic(AtomicOp::Store(1, 1, Ordering::Relaxed))),
+    Step::Label("again"),
+    Step::Do(0, Request::Mutex(MutexOp::TryLock(0))),
+    Step::IfTo(3, 1, "again"),
+    Step::Do(0, Request::Mutex(MutexOp::Release(0, Value::Plain(0)))),
+    FINISH,
+    EXIT,
+    END,
+];
+
+#[test]
+fn who_tries_for_ever_is_in_a_livelock(rt: HostRuntime) {
+    let mut page = Page::new(rt.alloc());
+    if let Ok(covered) = WHOLE.builder().cover(rt.alloc(), &script(&rt, TRYING)) {
+        page.add_shown(&ShownCovered(&covered));
+    }
+    same(&rt, page.text.as_str(), "livelock t0 t1 t1 t1", "trying");
 }

@@ -35,6 +35,7 @@ walked_to (walked.Failed runs cut failure choices) = far.Failure
 -- what is covered stands for all runs
 abbrev pub covered_to : Covered → Reached
 covered_to (covered.Complete runs met states) = far.All
+covered_to (covered.Livelock runs met states choices) = far.Failure
 covered_to (covered.Stopped runs met states limit) = far.Part
 covered_to (covered.Failed runs met states failure choices) = far.Failure
 

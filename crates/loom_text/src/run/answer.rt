@@ -17,18 +17,18 @@ use std::fmt;
 pub struct Answer<'a> {
     pub test: &'a Test,
     pub layout: &'a Layout,
-    pub found: Found<'a>,
+    pub found: &'a Found,
 }
 
 /// What a search found (own).
-#[derive(Clone, Copy)]
-pub enum Found<'a> {
+#[derive(Drop)]
+pub enum Found {
     /// A check that was to make each run.
-    Whole(&'a Outcome),
+    Whole(Outcome),
     /// A check that was to make those that a reduced or bounded search calls for.
-    Reduced(&'a Outcome),
+    Reduced(Outcome),
     /// A check that remembers states.
-    Covering(&'a Covering),
+    Covering(Covering),
 }
 
 /// How a search ended. `runs` counts the runs that ended without a failure, and `met` those that were given up where a state was met.
@@ -37,6 +37,11 @@ pub(crate) enum End<'a> {
     /// Nothing is left to be tried.
     Complete {
         runs: u64,
+    },
+    /// Nothing is left to be tried, but after these choices no run ends.
+    Livelock {
+        runs: u64,
+        choices: &'a [Choice],
     },
     /// A limit was reached.
     Stopped {
@@ -159,6 +164,10 @@ impl<'a> End<'a> {
     fn of_covered(covered: &'a Covered) -> End<'a> {
         match covered {
             Covered::Complete { runs, .. } => End::Complete { runs: *runs },
+            Covered::Livelock { runs, choices, .. } => End::Livelock {
+                runs: *runs,
+                choices: choices.as_slice(),
+            },
             Covered::Stopped {
                 runs,
                 met,
@@ -188,6 +197,7 @@ impl<'a> End<'a> {
     fn write<W: fmt::Write>(&self, f: &mut fmt::Formatter<W>) -> fmt::Result {
         match *self {
             End::Complete { .. } => Ok(()),
+            End::Livelock { choices, .. } => write_livelock(f, choices),
             End::Stopped { runs, met, limit } => {
                 let made = runs.saturating_add(met);
                 writeln!(f, "Stopped: `{limit}` was reached after {made} runs")?;
@@ -241,6 +251,14 @@ fn write_failure<W: fmt::Write>(
     writeln!(f, "failed in run {number}: {failure}")?;
     writeln!(f, "replay: {choices}")?;
     writeln!(f, "The states are those found up to the failure.")
+}
+
+// The choices after which no run ends.
+fn write_livelock<W: fmt::Write>(f: &mut fmt::Formatter<W>, choices: &[Choice]) -> fmt::Result {
+    let choices = ShownChoices(choices);
+    writeln!(f, "Flag livelock")?;
+    writeln!(f, "no run ends after these choices: {choices}")?;
+    writeln!(f, "The states are those of the runs that end.")
 }
 
 // Whether the test holds, and how often its condition was met, with a line of what is counted.

@@ -1,5 +1,5 @@
 //! The code of a test's threads: instructions over registers, and operations of the machine.
-ghost use Rattle.std.specs.Prelude.{◌≡◌};
+ghost use Rattle.std.specs.Prelude.{◌≡◌, IsTrue};
 ghost use Rattle.loom_text.specs.Run.Code.{code_of, registers_of};
 
 use crate::run::operators::Operator;
@@ -8,6 +8,16 @@ use loom_objects::operation::Name;
 use loom_views::same::{Same, are_same};
 use loom_views::sequence::Sequence;
 use std::sync::atomic::Ordering;
+
+// Whether the value is of this kind, and what it is made of passes the test.
+macro_rules! is_kind {
+    ($value:expr, $kind:pat => $test:expr) => {
+        match $value {
+            $kind => $test,
+            _ => false,
+        }
+    };
+}
 
 /// What an instruction computes with (own).
 #[derive(Clone, Copy, PartialEq, Eq)]
@@ -19,7 +29,7 @@ pub enum Operand {
 }
 
 /// One instruction of a thread. Places are those of the thread's instructions, from 0 (own).
-#[derive(Clone, Copy, PartialEq, Eq)]
+#[derive(Clone, Copy)]
 pub enum Instruction {
     /// A register gets what the operator makes of two numbers.
     Compute {
@@ -37,7 +47,7 @@ pub enum Instruction {
 }
 
 /// An operation with its label, and where its answer goes (own).
-#[derive(Clone, Copy, PartialEq, Eq)]
+#[derive(Clone, Copy)]
 pub struct Asked {
     /// Its line, and the name of what it makes.
     pub label: Label,
@@ -60,7 +70,7 @@ pub enum Update {
 }
 
 /// An operation of an atomic (own).
-#[derive(Clone, Copy, PartialEq, Eq)]
+#[derive(Clone, Copy)]
 pub enum AtomicOperation {
     /// Makes one of an `int`.
     New(u32),
@@ -72,7 +82,7 @@ pub enum AtomicOperation {
 }
 
 /// An operation of the machine. Objects are named by their numbers, in order of creation (own).
-#[derive(Clone, Copy, PartialEq, Eq)]
+#[derive(Clone, Copy)]
 pub enum Operation {
     Atomic(AtomicOperation),
     Fence(Ordering),
@@ -156,6 +166,110 @@ impl Same for Code {
 
 impl Same for Instruction {
     fn is_same(&self, other: &Instruction) -> bool {
-        self == other
+        match *self {
+            Instruction::Compute {
+                to,
+                operator,
+                one,
+                other: second,
+            } => is_kind!(*other, Instruction::Compute { to: a, operator: b, one: x, other: y } =>
+                    to == a && is_operator_same(operator, b) && is_operand_same(one, x) && is_operand_same(second, y)),
+            Instruction::Jump(place) => is_kind!(*other, Instruction::Jump(a) => place == a),
+            Instruction::JumpIfZero(operand, place) =>
+                is_kind!(*other, Instruction::JumpIfZero(x, a) => is_operand_same(operand, x) && place == a),
+            Instruction::Ask(asked) =>
+                is_kind!(*other, Instruction::Ask(a) => is_asked_same(asked, a)),
+        }
     }
+}
+
+fn is_operator_same(one: Operator, other: Operator) -> bool
+    ensures { IsTrue result → one ≡ other }
+{
+    one == other
+}
+
+fn is_operand_same(one: Operand, other: Operand) -> bool
+    ensures { IsTrue result → one ≡ other }
+{
+    one == other
+}
+
+fn is_asked_same(one: Asked, other: Asked) -> bool
+    ensures { IsTrue result → one ≡ other }
+{
+    one.keep == other.keep
+        && is_label_same(one.label, other.label)
+        && is_operation_same(one.operation, other.operation)
+}
+
+fn is_label_same(one: Label, other: Label) -> bool
+    ensures { IsTrue result → one ≡ other }
+{
+    one == other
+}
+
+fn is_operation_same(one: Operation, other: Operation) -> bool
+    ensures { IsTrue result → one ≡ other }
+{
+    match one {
+        Operation::Atomic(a) => is_kind!(other, Operation::Atomic(x) => is_atomic_same(a, x)),
+        Operation::Fence(a) => is_kind!(other, Operation::Fence(x) => is_order_same(a, x)),
+        Operation::NewCell(a) => is_kind!(other, Operation::NewCell(x) => a == x),
+        Operation::Read(a) => is_kind!(other, Operation::Read(x) => a == x),
+        Operation::Write(a, b) =>
+            is_kind!(other, Operation::Write(x, y) => a == x && is_operand_same(b, y)),
+        Operation::NewMutex => matches!(other, Operation::NewMutex),
+        Operation::Lock(a) => is_kind!(other, Operation::Lock(x) => a == x),
+        Operation::TryLock(a) => is_kind!(other, Operation::TryLock(x) => a == x),
+        Operation::Unlock(a) => is_kind!(other, Operation::Unlock(x) => a == x),
+        Operation::NewCondvar => matches!(other, Operation::NewCondvar),
+        Operation::Wait(a, b) => is_kind!(other, Operation::Wait(x, y) => a == x && b == y),
+        Operation::Signal(a) => is_kind!(other, Operation::Signal(x) => a == x),
+        Operation::Broadcast(a) => is_kind!(other, Operation::Broadcast(x) => a == x),
+        Operation::Yield => matches!(other, Operation::Yield),
+        Operation::Fail => matches!(other, Operation::Fail),
+        Operation::Spawn(a, b) =>
+            is_kind!(other, Operation::Spawn(x, y) => a == x && is_name_same(b, y)),
+        Operation::Join(a, b) => is_kind!(other, Operation::Join(x, y) => a == x && b == y),
+        Operation::Finish(a) => is_kind!(other, Operation::Finish(x) => a == x),
+        Operation::Exit => matches!(other, Operation::Exit),
+        Operation::End => matches!(other, Operation::End),
+    }
+}
+
+fn is_order_same(one: Ordering, other: Ordering) -> bool
+    ensures { IsTrue result → one ≡ other }
+{
+    one == other
+}
+
+fn is_name_same(one: Name, other: Name) -> bool
+    ensures { IsTrue result → one ≡ other }
+{
+    one == other
+}
+
+fn is_atomic_same(one: AtomicOperation, other: AtomicOperation) -> bool
+    ensures { IsTrue result → one ≡ other }
+{
+    match one {
+        AtomicOperation::New(a) => is_kind!(other, AtomicOperation::New(x) => a == x),
+        AtomicOperation::Load(a, b) =>
+            is_kind!(other, AtomicOperation::Load(x, y) => a == x && is_order_same(b, y)),
+        AtomicOperation::Store(a, b, c) =>
+            is_kind!(other, AtomicOperation::Store(x, y, z) => a == x && is_operand_same(b, y) && is_order_same(c, z)),
+        AtomicOperation::Update(a, b, c, d) =>
+            is_kind!(other, AtomicOperation::Update(x, y, z, w) =>
+                a == x && is_update_same(b, y) && is_operand_same(c, z) && is_order_same(d, w)),
+        AtomicOperation::CompareExchange(a, b, c, d, e) =>
+            is_kind!(other, AtomicOperation::CompareExchange(x, y, z, w, v) =>
+                a == x && is_operand_same(b, y) && is_operand_same(c, z) && is_order_same(d, w) && is_order_same(e, v)),
+    }
+}
+
+fn is_update_same(one: Update, other: Update) -> bool
+    ensures { IsTrue result → one ≡ other }
+{
+    one == other
 }

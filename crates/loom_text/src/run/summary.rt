@@ -26,7 +26,7 @@ pub enum Observation {
 pub enum Verdict {
     /// What is asked for holds: for `exists` some state meets the condition, for `~exists` none, for `forall` each.
     Ok,
-    /// It doesn't hold, or a run failed.
+    /// It doesn't hold, or a run failed or never ends.
     No,
     /// The check was stopped before that was known, or a walk didn't come to it (own).
     Undecided,
@@ -50,7 +50,7 @@ enum Reached {
     All,
     // There are more.
     Part,
-    // A run failed.
+    // A run failed, or some never end.
     Failure,
 }
 
@@ -144,7 +144,7 @@ fn covered_to(covered: &Covered) -> Reached
     match covered {
         Covered::Complete { .. } => Reached::All,
         Covered::Stopped { .. } => Reached::Part,
-        Covered::Failed { .. } => Reached::Failure,
+        Covered::Failed { .. } | Covered::Livelock { .. } => Reached::Failure,
     }
 }
 

@@ -2,8 +2,8 @@
 use crate::run::answer::{Answer, End, Found, Question, ShownQuestion, ShownTerm, flag_of};
 use crate::run::summary::Summary;
 use crate::run::tally::FinalState;
-use loom::ShownChoices;
 use loom::model::cover::Covered;
+use loom::{Choice, ShownChoices};
 use serde_json::{Value, json};
 use std::alloc::{AllocError, Global};
 
@@ -70,7 +70,7 @@ fn of_state(alloc: Global, answer: Answer, state: &FinalState) -> Result<Value, 
 }
 
 // How runs were chosen.
-fn search_of(found: Found) -> &'static str {
+fn search_of(found: &Found) -> &'static str {
     match found {
         Found::Whole(_) => "whole",
         Found::Reduced(_) => "reduced",
@@ -82,6 +82,10 @@ fn search_of(found: Found) -> &'static str {
 fn put_end(alloc: Global, object: &mut Value, end: End) -> Result<(), AllocError> {
     match end {
         End::Complete { runs } => put_runs(alloc, object, "complete", runs),
+        End::Livelock { runs, choices } => {
+            put_runs(alloc, object, "livelock", runs)?;
+            put_choices(alloc, object, choices)
+        }
         End::Stopped { runs, limit, .. } => {
             put_runs(alloc, object, "stopped", runs)?;
             let limit = format!(in alloc; "{limit}")?;
@@ -98,20 +102,25 @@ fn put_end(alloc: Global, object: &mut Value, end: End) -> Result<(), AllocError
             put(alloc, object, "flag", json!(in alloc; flag)?)?;
             let cause = format!(in alloc; "{failure}")?;
             put(alloc, object, "cause", json!(in alloc; cause)?)?;
-            let shown = ShownChoices(choices);
-            let text = format!(in alloc; "{shown}")?;
-            put(alloc, object, "choices", json!(in alloc; text)?)
+            put_choices(alloc, object, choices)
         }
     }
 }
 
+fn put_choices(alloc: Global, object: &mut Value, choices: &[Choice]) -> Result<(), AllocError> {
+    let shown = ShownChoices(choices);
+    let text = format!(in alloc; "{shown}")?;
+    put(alloc, object, "choices", json!(in alloc; text)?)
+}
+
 // How many runs a search gave up that remembers states, and how many states it noted.
-fn put_noted(alloc: Global, object: &mut Value, found: Found) -> Result<(), AllocError> {
+fn put_noted(alloc: Global, object: &mut Value, found: &Found) -> Result<(), AllocError> {
     let Found::Covering(covering) = found else {
         return Ok(());
     };
     let (met, noted) = match &covering.covered {
         Covered::Complete { met, states, .. }
+        | Covered::Livelock { met, states, .. }
         | Covered::Stopped { met, states, .. }
         | Covered::Failed { met, states, .. } => (*met, *states),
     };

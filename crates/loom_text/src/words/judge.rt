@@ -117,12 +117,12 @@ fn name_of(file: &str) -> &str {
     file.rsplit('/').next().unwrap_or(file)
 }
 
-fn check_test<'a, R: AllocGlobal + HostTime, O: Write, E: Write>(
+fn check_test<R: AllocGlobal + HostTime, O: Write, E: Write>(
     rt: &R,
     asked: &Asked,
     file: &str,
-    test: &'a Test,
-    layout: &'a Layout,
+    test: &Test,
+    layout: &Layout,
     main: &TestThread,
     out: &mut O,
     err: &mut E,
@@ -148,14 +148,14 @@ fn check_test<'a, R: AllocGlobal + HostTime, O: Write, E: Write>(
         Err(error) => return Ok(Err(error)),
     };
     let found = if is_whole {
-        Found::Whole(&outcome)
+        Found::Whole(outcome)
     } else {
-        Found::Reduced(&outcome)
+        Found::Reduced(outcome)
     };
     let answer = Answer {
         test,
         layout,
-        found,
+        found: &found,
     };
     put_answer(rt.alloc(), asked, file, answer, main, out)
 }
@@ -169,13 +169,13 @@ fn status_of(verdict: Verdict) -> u8 {
 }
 
 // Covers the runs of the test with at most so many states, and prints what was found.
-fn cover_test<'a, R: AllocGlobal + HostTime, O: Write>(
+fn cover_test<R: AllocGlobal + HostTime, O: Write>(
     rt: &R,
     asked: &Asked,
     most_states: usize,
     file: &str,
-    test: &'a Test,
-    layout: &'a Layout,
+    test: &Test,
+    layout: &Layout,
     main: &TestThread,
     out: &mut O,
 ) -> io::Result<Result<u8, CheckError>> {
@@ -198,10 +198,11 @@ fn cover_test<'a, R: AllocGlobal + HostTime, O: Write>(
     if let Err(error) = place(alloc, &asked.builder, main, &mut covering.covered) {
         return Ok(Err(error));
     }
+    let found = Found::Covering(covering);
     let answer = Answer {
         test,
         layout,
-        found: Found::Covering(&covering),
+        found: &found,
     };
     put_answer(alloc, asked, file, answer, main, out)
 }
@@ -243,7 +244,9 @@ fn put_answer<O: Write>(
         End::Failed { choices, .. } if asked.explains => {
             Ok(explain(alloc, asked, choices, main, out)?.map(|_| status))
         }
-        End::Failed { .. } | End::Complete { .. } | End::Stopped { .. } => Ok(Ok(status)),
+        End::Failed { .. } | End::Complete { .. } | End::Livelock { .. } | End::Stopped { .. } => {
+            Ok(Ok(status))
+        }
     }
 }
 

@@ -64,6 +64,7 @@ impl fmt::Display for ShownEnd<'_> {
     fn fmt<W: fmt::Write>(&self, f: &mut fmt::Formatter<W>) -> fmt::Result {
         match self.0 {
             End::Complete { .. } => Ok(()),
+            End::Livelock { .. } => f.write_str(", livelock"),
             End::Stopped { .. } => f.write_str(", stopped"),
             End::Failed { failure, .. } => {
                 let flag = flag_of(failure.kind);
