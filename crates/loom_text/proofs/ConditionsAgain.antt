@@ -1,16 +1,14 @@
 -- What is written of a condition is read as that condition.
-use Rattle.std.proofs.Common.{◌≡◌, ℕ, ℤ, pos, negsuc, zero, suc, ◌-◌, ◌+◌, ◌≤◌, ◌<◌, ◌^◌, nat_lt, max, List, [], ◌∷◌, ◌++◌, Bool, true, false, Option, Some, None, refl, sym, ap, cond, ◌∙◌, append_assoc, add_assoc, zero-add, arith}
+use Rattle.std.proofs.Common.{◌≡◌, ℕ, ℤ, pos, negsuc, zero, suc, ◌-◌, ◌+◌, ◌≤◌, ◌<◌, ◌^◌, List, [], ◌∷◌, ◌++◌, Bool, false, Option, Some, None, refl, sym, ap, cond, ◌∙◌, append_assoc, add_assoc, zero-add, arith}
 use Rattle.std.proofs.lemmas.Bool.{lt-ltb, le-ltb}
-use Rattle.loom_text.specs.declared.read.symbol.Symbol.{Symbol}
 use Rattle.loom_text.specs.declared.read.symbol.Symbol.TheVariants as signs
-use Rattle.loom_text.specs.declared.test.Location.{Location}
 use Rattle.loom_text.specs.declared.test.Term.{Term}
 use Rattle.loom_text.specs.declared.test.Term.TheVariants as terms
-use Rattle.loom_text.specs.declared.test.Thread.{Thread}
+use Rattle.loom_text.specs.Known.{Located, Names}
 use Rattle.loom_text.specs.Conditions.{Formula, Equals, Denied, Both, Either, comparison_at, condition_at, conjunction_of, disjunction_of, joined_at, part_at, term_at}
 use Rattle.loom_text.specs.Printing.{ConditionsReadBack, IsFound, IsInt, IsWritable, comparisons, depth, printed, printed_term, printed_value, sign}
 use Rattle.loom_text.proofs.ReadingSteps.{no_more, one_more}
-use Rattle.loom_text.specs.Tokens.{Left, Spelled, ◌>>=◌, after_sign, constant_at, counted, is_next, passed, value_of}
+use Rattle.loom_text.specs.Tokens.{Left, Spelled, ◌>>=◌, after_sign, constant_at, is_next}
 
 -- ---- parts with signs between them
 
@@ -57,22 +55,22 @@ few_ors (Either left right) = let l = few_ors left in let r = some_comparison ri
 
 -- ---- what is read of a condition that is written at each level
 
-abbrev PartAgain : List Location → List Thread → Formula → Type 0
+abbrev PartAgain : List Located → List Names → Formula → Type 0
 PartAgain locations threads f = (d c : ℕ) (behind : List Spelled) → depth 3 f ≤ d → c + comparisons f ≤ 256
     → part_at locations threads d (printed locations threads 3 f ++ behind, c) ≡ Some (f, (behind, c + comparisons f))
 
-abbrev ConjunctionAgain : List Location → List Thread → Formula → Type 0
+abbrev ConjunctionAgain : List Located → List Names → Formula → Type 0
 ConjunctionAgain locations threads f = (d c : ℕ) (behind : List Spelled) → depth 2 f ≤ d → c + comparisons f ≤ 256
     → conjunction_of (part_at locations threads d) (printed locations threads 2 f ++ behind, c)
     ≡ joined_at signs.Conjunction Both (part_at locations threads d) (257 - ands f) f (behind, c + comparisons f)
 
-abbrev DisjunctionAgain : List Location → List Thread → Formula → Type 0
+abbrev DisjunctionAgain : List Located → List Names → Formula → Type 0
 DisjunctionAgain locations threads f = (d c : ℕ) (behind : List Spelled) → depth 1 f ≤ d → c + comparisons f ≤ 256 → is_next signs.Conjunction (behind, 0) ≡ false
     → disjunction_of (part_at locations threads d) (printed locations threads 1 f ++ behind, c)
     ≡ joined_at signs.Disjunction Either (conjunction_of (part_at locations threads d)) (257 - ors f) f (behind, c + comparisons f)
 
 -- what ends a conjunction is a disjunction's part
-conjunction_ends : (locations : List Location) (threads : List Thread) (f : Formula) → ConjunctionAgain locations threads f
+conjunction_ends : (locations : List Located) (threads : List Names) (f : Formula) → ConjunctionAgain locations threads f
     → (d c : ℕ) (behind : List Spelled) → depth 2 f ≤ d → c + comparisons f ≤ 256 → is_next signs.Conjunction (behind, 0) ≡ false
     → conjunction_of (part_at locations threads d) (printed locations threads 2 f ++ behind, c) ≡ Some (f, (behind, c + comparisons f))
 conjunction_ends locations threads f again d c behind deep many off =
@@ -80,7 +78,7 @@ conjunction_ends locations threads f again d c behind deep many off =
     again d c behind deep many
     ∙ no_more signs.Conjunction Both (part_at locations threads d) (257 - ands f) (256 - ands f) f (behind, c + comparisons f) (omega (arith, few, many)) off
 
-disjunction_ends : (locations : List Location) (threads : List Thread) (f : Formula) → DisjunctionAgain locations threads f
+disjunction_ends : (locations : List Located) (threads : List Names) (f : Formula) → DisjunctionAgain locations threads f
     → (d c : ℕ) (behind : List Spelled) → depth 1 f ≤ d → c + comparisons f ≤ 256 → is_next signs.Conjunction (behind, 0) ≡ false → is_next signs.Disjunction (behind, 0) ≡ false
     → disjunction_of (part_at locations threads d) (printed locations threads 1 f ++ behind, c) ≡ Some (f, (behind, c + comparisons f))
 disjunction_ends locations threads f again d c behind deep many off last =
@@ -90,7 +88,7 @@ disjunction_ends locations threads f again d c behind deep many off last =
 
 -- ---- parentheses
 
-in_parentheses_again : (locations : List Location) (threads : List Thread) (d c n : ℕ) (tokens behind : List Spelled) (f : Formula)
+in_parentheses_again : (locations : List Located) (threads : List Names) (d c n : ℕ) (tokens behind : List Spelled) (f : Formula)
     → disjunction_of (part_at locations threads d) (tokens ++ (sign signs.CloseParenthesis ∷ behind), c) ≡ Some (f, (sign signs.CloseParenthesis ∷ behind, n))
     → part_at locations threads (suc d) ((sign signs.OpenParenthesis ∷ (tokens ++ sign signs.CloseParenthesis ∷ [])) ++ behind, c) ≡ Some (f, (behind, n))
 unfolding part_at
@@ -99,7 +97,7 @@ in_parentheses_again locations threads d c n tokens behind f h =
     ap (λ (ts : List Spelled). part_at locations threads (suc d) (sign signs.OpenParenthesis ∷ ts, c)) regrouped
     ∙ ap (λ (o : Option (Formula × Left)). o >>= λ read. after_sign signs.CloseParenthesis read.1 >>= λ left. Some (read.0, left)) h
 
-denied_again : (locations : List Location) (threads : List Thread) (d c n : ℕ) (tokens behind : List Spelled) (f : Formula)
+denied_again : (locations : List Located) (threads : List Names) (d c n : ℕ) (tokens behind : List Spelled) (f : Formula)
     → part_at locations threads d (tokens ++ behind, c) ≡ Some (f, (behind, n))
     → part_at locations threads (suc d) ((sign signs.Tilde ∷ tokens) ++ behind, c) ≡ Some (Denied f, (behind, n))
 unfolding part_at
@@ -107,7 +105,7 @@ denied_again locations threads d c n tokens behind f h = ap (λ (o : Option (For
 
 -- ---- a comparison
 
-pub term_again : (locations : List Location) (threads : List Thread) (term : Term) (c : ℕ) (behind : List Spelled) → IsFound locations threads term
+pub term_again : (locations : List Located) (threads : List Names) (term : Term) (c : ℕ) (behind : List Spelled) → IsFound locations threads term
     → term_at locations threads (printed_term locations threads term ++ behind, c) ≡ Some (term, (behind, c))
 unfolding term_at
 term_again locations threads (terms.Register thread register) c behind found = ap (λ (o : Option Term). o >>= λ term. Some (term, (behind, c))) found
@@ -120,7 +118,7 @@ constant_again (negsuc n) c behind fits =
     let small : suc n ≤ 2 ^ 31 = omega (arith, fits) in
     ap (λ (b : Bool). cond b None (Some (negsuc n)) >>= λ value. Some (value, (behind, c))) (le-ltb (2 ^ 31) (suc n) small)
 
-comparison_again : (locations : List Location) (threads : List Thread) (term : Term) (value : ℤ) (c : ℕ) (behind : List Spelled) → IsFound locations threads term → IsInt value → c < 256
+comparison_again : (locations : List Located) (threads : List Names) (term : Term) (value : ℤ) (c : ℕ) (behind : List Spelled) → IsFound locations threads term → IsInt value → c < 256
     → comparison_at locations threads (printed_term locations threads term ++ (sign signs.Assign ∷ printed_value value) ++ behind, c) ≡ Some (Equals term value, (behind, c + 1))
 unfolding comparison_at
 comparison_again locations threads term value c behind found fits few =
@@ -140,7 +138,7 @@ comparison_again locations threads term value c behind found fits few =
     ∙ ap (λ (o : Option (ℤ × Left)). o >>= λ value. Some (Equals term value.0, value.1)) v
 
 -- it is a part at each depth
-equals_again : (locations : List Location) (threads : List Thread) (term : Term) (value : ℤ) (d c : ℕ) (behind : List Spelled) → IsFound locations threads term → IsInt value → c + 1 ≤ 256
+equals_again : (locations : List Located) (threads : List Names) (term : Term) (value : ℤ) (d c : ℕ) (behind : List Spelled) → IsFound locations threads term → IsInt value → c + 1 ≤ 256
     → part_at locations threads d (printed_term locations threads term ++ (sign signs.Assign ∷ printed_value value) ++ behind, c) ≡ Some (Equals term value, (behind, c + 1))
 unfolding part_at
 equals_again locations threads (terms.Register thread register) value zero c behind found fits few = comparison_again locations threads (terms.Register thread register) value c behind found fits (omega (arith, few))
@@ -151,11 +149,11 @@ equals_again locations threads (terms.Location place) value (suc d) c behind fou
 -- ---- all
 
 -- at each level
-abbrev Again : List Location → List Thread → Formula → Type 0
+abbrev Again : List Located → List Names → Formula → Type 0
 Again locations threads f = PartAgain locations threads f × ConjunctionAgain locations threads f × DisjunctionAgain locations threads f
 
 -- what binds more strongly than `/\` and `\/` is written alike at each level
-plain : (locations : List Location) (threads : List Thread) (f : Formula) → printed locations threads 2 f ≡ printed locations threads 3 f → printed locations threads 1 f ≡ printed locations threads 3 f
+plain : (locations : List Located) (threads : List Names) (f : Formula) → printed locations threads 2 f ≡ printed locations threads 3 f → printed locations threads 1 f ≡ printed locations threads 3 f
     → depth 2 f ≡ depth 3 f → depth 1 f ≡ depth 3 f → ands f ≡ 0 → ors f ≡ 0 → PartAgain locations threads f → Again locations threads f
 plain locations threads f p2 p1 d2 d1 a o again =
     let conjunct : ConjunctionAgain locations threads f = λ d c behind deep many.
@@ -169,7 +167,7 @@ plain locations threads f p2 p1 d2 d1 a o again =
     ∙ ap (λ (n : ℕ). joined_at signs.Disjunction Either (conjunction_of (part_at locations threads d)) (257 - n) f (behind, c + comparisons f)) (sym o) in
     (again, conjunct, disjunct)
 
-conjunction_again : (locations : List Location) (threads : List Thread) (l r : Formula) → Again locations threads l → Again locations threads r → ConjunctionAgain locations threads (Both l r)
+conjunction_again : (locations : List Located) (threads : List Names) (l r : Formula) → Again locations threads l → Again locations threads r → ConjunctionAgain locations threads (Both l r)
 unfolding printed
 conjunction_again locations threads l r again again' d c behind deep many =
     let few = few_ands l in
@@ -184,7 +182,7 @@ conjunction_again locations threads l r again again' d c behind deep many =
     (sign signs.Conjunction ∷ (printed locations threads 3 r ++ behind), c + comparisons l) (behind, c + comparisons l + comparisons r) (omega (arith, few, one, many)) refl second
     ∙ ap (λ (n : ℕ). joined_at signs.Conjunction Both (part_at locations threads d) (257 - (ands l + 1)) (Both l r) (behind, n)) (add_assoc c (comparisons l) (comparisons r))
 
-disjunction_again : (locations : List Location) (threads : List Thread) (l r : Formula) → Again locations threads l → Again locations threads r → DisjunctionAgain locations threads (Either l r)
+disjunction_again : (locations : List Located) (threads : List Names) (l r : Formula) → Again locations threads l → Again locations threads r → DisjunctionAgain locations threads (Either l r)
 unfolding printed
 disjunction_again locations threads l r again again' d c behind deep many off =
     let few = few_ors l in
@@ -200,39 +198,39 @@ disjunction_again locations threads l r again again' d c behind deep many off =
     ∙ ap (λ (n : ℕ). joined_at signs.Disjunction Either (conjunction_of (part_at locations threads d)) (257 - (ors l + 1)) (Either l r) (behind, n)) (add_assoc c (comparisons l) (comparisons r))
 
 -- in parentheses
-both_part : (locations : List Location) (threads : List Thread) (l r : Formula) → DisjunctionAgain locations threads (Both l r) → PartAgain locations threads (Both l r)
+both_part : (locations : List Located) (threads : List Names) (l r : Formula) → DisjunctionAgain locations threads (Both l r) → PartAgain locations threads (Both l r)
 unfolding printed
 both_part locations threads l r again zero c behind deep many = absurd (omega (arith, deep))
 both_part locations threads l r again (suc d) c behind deep many =
     in_parentheses_again locations threads d c _ _ behind (Both l r)
     (disjunction_ends locations threads (Both l r) again d c (sign signs.CloseParenthesis ∷ behind) (omega (arith, deep)) many refl refl)
 
-either_part : (locations : List Location) (threads : List Thread) (l r : Formula) → DisjunctionAgain locations threads (Either l r) → PartAgain locations threads (Either l r)
+either_part : (locations : List Located) (threads : List Names) (l r : Formula) → DisjunctionAgain locations threads (Either l r) → PartAgain locations threads (Either l r)
 unfolding printed
 either_part locations threads l r again zero c behind deep many = absurd (omega (arith, deep))
 either_part locations threads l r again (suc d) c behind deep many =
     in_parentheses_again locations threads d c _ _ behind (Either l r)
     (disjunction_ends locations threads (Either l r) again d c (sign signs.CloseParenthesis ∷ behind) (omega (arith, deep)) many refl refl)
 
-denied_part : (locations : List Location) (threads : List Thread) (f : Formula) → PartAgain locations threads f → PartAgain locations threads (Denied f)
+denied_part : (locations : List Located) (threads : List Names) (f : Formula) → PartAgain locations threads f → PartAgain locations threads (Denied f)
 unfolding printed
 denied_part locations threads f again zero c behind deep many = absurd (omega (arith, deep))
 denied_part locations threads f again (suc d) c behind deep many =
     denied_again locations threads d c _ (printed locations threads 3 f) behind f (again d c behind (omega (arith, deep)) many)
 
-both_disjunct : (locations : List Location) (threads : List Thread) (l r : Formula) → ConjunctionAgain locations threads (Both l r) → DisjunctionAgain locations threads (Both l r)
+both_disjunct : (locations : List Located) (threads : List Names) (l r : Formula) → ConjunctionAgain locations threads (Both l r) → DisjunctionAgain locations threads (Both l r)
 unfolding printed
 both_disjunct locations threads l r again d c behind deep many off =
     one_disjunct (part_at locations threads d) (printed locations threads 2 (Both l r) ++ behind, c) (Both l r) (behind, c + (comparisons l + comparisons r))
     (conjunction_ends locations threads (Both l r) again d c behind deep many off)
 
-either_conjunct : (locations : List Location) (threads : List Thread) (l r : Formula) → PartAgain locations threads (Either l r) → ConjunctionAgain locations threads (Either l r)
+either_conjunct : (locations : List Located) (threads : List Names) (l r : Formula) → PartAgain locations threads (Either l r) → ConjunctionAgain locations threads (Either l r)
 unfolding printed
 either_conjunct locations threads l r again d c behind deep many =
     one_conjunct (part_at locations threads d) (printed locations threads 3 (Either l r) ++ behind, c) (Either l r) (behind, c + (comparisons l + comparisons r))
     (again d c behind deep many)
 
-again_of : (locations : List Location) (threads : List Thread) (f : Formula) → IsWritable locations threads f → Again locations threads f
+again_of : (locations : List Located) (threads : List Names) (f : Formula) → IsWritable locations threads f → Again locations threads f
 unfolding printed
 again_of locations threads (Equals term value) h = plain locations threads (Equals term value) refl refl refl refl refl refl
     (λ d c behind deep many. equals_again locations threads term value d c behind h.0 h.1 many)

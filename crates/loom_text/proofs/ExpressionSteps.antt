@@ -1,32 +1,35 @@
 -- The steps in which an expression is read.
-use Rattle.std.proofs.Common.{◌≡◌, ℕ, zero, suc, ◌-◌, ◌+◌, ◌≤◌, ◌<◌, Bool, false, Option, Some, None, cond, refl, sym, ap, ◌∙◌, arith}
-use Rattle.loom_text.specs.declared.read.scope.Scope.{Scope}
+use Rattle.std.proofs.Common.{◌≡◌, ℕ, zero, suc, ◌-◌, ◌+◌, ◌≤◌, ◌<◌, Bool, true, false, Option, Some, None, is_some, cond, refl, sym, ap, ◌∙◌, arith}
 use Rattle.loom_text.specs.declared.read.stop.Stop.{Stop}
 use Rattle.loom_text.specs.declared.read.stop.Stop.TheVariants as stops
 use Rattle.loom_text.specs.declared.read.symbol.Symbol.TheVariants as signs
+use Rattle.loom_text.specs.contracts.read.token.TokenKindPartialEq.TheImpl as same
+use Rattle.loom_text.specs.declared.read.token.TokenKind.TheVariants as kinds
+use Rattle.loom_text.specs.declared.test.Kind.TheVariants as location_kinds
 use Rattle.loom_text.specs.declared.test.BinaryOperator.{BinaryOperator}
 use Rattle.loom_text.specs.declared.test.UnaryOperator.{UnaryOperator}
-use Rattle.loom_text.specs.Expressions.{Phrase, Between, Readers, Signed, binds, by_operator, enclosed_with, inside, is_type, many_with, one_with, operator_at, operators_at, readers, signed_as}
-use Rattle.loom_text.specs.Tokens.{Left, Stops, ◌>>=◌, after_sign, counted, next, passed}
+use Rattle.loom_text.specs.Expressions.{Phrase, Between, Readers, Signed, binds, by_operator, enclosed_with, inside, is_type, many_with, one_with, operator_at, operators_at, parameter_named, plain_at, readers, signed_as}
+use Rattle.loom_text.specs.Known.{Known, named_in, number_of, parameter_in}
+use Rattle.loom_text.specs.Tokens.{Left, Spelled, Stops, ◌>>=◌, after_sign, counted, next, passed}
 use Rattle.loom_text.proofs.ReadingSteps.{stops_none}
 
 -- ---- readers at a depth
 
-pub one_is : (scope : Scope) (d : ℕ) (left : Left) → (readers scope d).one left ≡ one_with scope (inside scope d) left
+pub one_is : (scope : Known) (d : ℕ) (left : Left) → (readers scope d).one left ≡ one_with scope (inside scope d) left
 unfolding readers inside
 one_is scope zero left = refl
 one_is scope (suc d) left = refl
 
-pub many_is : (scope : Scope) (d lowest : ℕ) (left : Left) → (readers scope d).many lowest left ≡ many_with scope (inside scope d) lowest left
+pub many_is : (scope : Known) (d lowest : ℕ) (left : Left) → (readers scope d).many lowest left ≡ many_with scope (inside scope d) lowest left
 unfolding readers inside
 many_is scope zero lowest left = refl
 many_is scope (suc d) lowest left = refl
 
-pub one_deeper : (scope : Scope) (i d : ℕ) → i + 1 ≡ d → inside scope d ≡ Some (readers scope i)
+pub one_deeper : (scope : Known) (i d : ℕ) → i + 1 ≡ d → inside scope d ≡ Some (readers scope i)
 unfolding inside
 one_deeper scope i d e = let k : d ≡ suc i = omega (arith, e) in ap (λ (n : ℕ). inside scope n) k
 
-pub none_deeper : (scope : Scope) (d : ℕ) → d ≡ 0 → inside scope d ≡ None
+pub none_deeper : (scope : Known) (d : ℕ) → d ≡ 0 → inside scope d ≡ None
 unfolding inside
 none_deeper scope d e = ap (λ (n : ℕ). inside scope n) e
 
@@ -65,7 +68,7 @@ module _ (o : Option Readers) (lowest count i : ℕ) (read : Phrase) (left : Lef
           sym one_counted ∙ ap (λ (x : Option Readers). x >>= λ inside. inside.many (binds operator + 1) (passed more) >>= λ right.
           operators_at o lowest (count - (i + 1)) (Between operator read right.0) right.1) none
 
-      module _ (scope : Scope) (i' n : ℕ) (within : o ≡ Some (readers scope i')) (strong : n ≡ binds operator) (l : Left) (moved : l ≡ passed more) where
+      module _ (scope : Known) (i' n : ℕ) (within : o ≡ Some (readers scope i')) (strong : n ≡ binds operator) (l : Left) (moved : l ≡ passed more) where
         behind_it : (many_with scope (inside scope i') (n + 1) l >>= λ right. operators_at o lowest (count - (i + 1)) (Between operator read right.0) right.1) ≡ total
         behind_it =
             ap (λ (n : ℕ). many_with scope (inside scope i') (n + 1) l >>= λ right. operators_at o lowest (count - (i + 1)) (Between operator read right.0) right.1) strong
@@ -92,12 +95,12 @@ too_many_operators o lowest count i read left total le so_far =
 
 -- ---- what a function returns where a part isn't read
 
-pub no_first : (e : Stop) (scope : Scope) (o : Option Readers) (lowest : ℕ) (left : Left) → Stops e (one_with scope o left) → Stops e (many_with scope o lowest left)
+pub no_first : (e : Stop) (scope : Known) (o : Option Readers) (lowest : ℕ) (left : Left) → Stops e (one_with scope o left) → Stops e (many_with scope o lowest left)
 unfolding many_with
 no_first stops.Memory scope o lowest left h = tt
 no_first (stops.At problem start end) scope o lowest left h = ap (λ (x : Option (Phrase × Left)). x >>= λ first. operators_at o lowest 257 first.0 first.1) h
 
-pub some_first : (scope : Scope) (o : Option Readers) (lowest : ℕ) (left behind : Left) (f : Phrase) → one_with scope o left ≡ Some (f, behind) → operators_at o lowest 257 f behind ≡ many_with scope o lowest left
+pub some_first : (scope : Known) (o : Option Readers) (lowest : ℕ) (left behind : Left) (f : Phrase) → one_with scope o left ≡ Some (f, behind) → operators_at o lowest 257 f behind ≡ many_with scope o lowest left
 unfolding many_with
 some_first scope o lowest left behind f h = sym (ap (λ (x : Option (Phrase × Left)). x >>= λ first. operators_at o lowest 257 first.0 first.1) h)
 
@@ -108,7 +111,7 @@ module _ (o : Option Readers) (operator : UnaryOperator) (left : Left) where
   unfolding signed_as
   not_signed e none = stops_none e (signed_as o operator left) (ap (λ (x : Option Readers). x >>= λ inside. inside.one (passed left) >>= λ operand. Some (Signed operator operand.0, operand.1)) none)
 
-  module _ (scope : Scope) (i : ℕ) (within : o ≡ Some (readers scope i)) (l : Left) (moved : l ≡ passed left) where
+  module _ (scope : Known) (i : ℕ) (within : o ≡ Some (readers scope i)) (l : Left) (moved : l ≡ passed left) where
     signed_is : signed_as o operator left ≡ (one_with scope (inside scope i) l >>= λ operand. Some (Signed operator operand.0, operand.1))
     unfolding signed_as
     signed_is =
@@ -136,7 +139,7 @@ module _ (o : Option Readers) (left : Left) (no_cast : is_type (next left).0 ≡
   pub not_enclosed : (e : Stop) → o ≡ None → Stops e (enclosed_with o left)
   not_enclosed e none = stops_none e (enclosed_with o left) (enclosed_is ∙ ap (λ (x : Option Readers). x >>= λ inside. closed (inside.many 1 left)) none)
 
-  module _ (scope : Scope) (i : ℕ) (within : o ≡ Some (readers scope i)) where
+  module _ (scope : Known) (i : ℕ) (within : o ≡ Some (readers scope i)) where
     inside_is : enclosed_with o left ≡ closed (many_with scope (inside scope i) 1 left)
     inside_is = enclosed_is ∙ ap (λ (x : Option Readers). x >>= λ inside. closed (inside.many 1 left)) within ∙ ap closed (many_is scope i 1 left)
 
@@ -151,3 +154,13 @@ module _ (o : Option Readers) (left : Left) (no_cast : is_type (next left).0 ≡
 
       pub closed_as : (behind : Left) → after_sign signs.CloseParenthesis middle ≡ Some behind → enclosed_with o left ≡ Some (f, behind)
       closed_as behind s = inside_is ∙ ap closed read ∙ ap (λ (x : Option Left). x >>= λ left. Some (f, left)) s
+
+-- ---- what a name points to
+
+pub plain_as : (scope : Known) (left : Left) (token : Spelled) → token ≡ next left → (same.ghosts).eq token.0 kinds.Name ≡ true → is_some (named_in scope.registers token.1) ≡ false
+    → plain_at scope left ≡ number_of location_kinds.Plain (parameter_in scope.locations token.1)
+unfolding plain_at
+plain_as scope left token e name free =
+    ap (λ (t : Spelled). cond ((same.ghosts).eq t.0 kinds.Name) (parameter_named scope location_kinds.Plain t.1) None) (sym e)
+    ∙ ap (λ (b : Bool). cond b (parameter_named scope location_kinds.Plain token.1) None) name
+    ∙ ap (λ (b : Bool). cond b None (number_of location_kinds.Plain (parameter_in scope.locations token.1))) free

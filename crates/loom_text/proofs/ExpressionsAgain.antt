@@ -1,13 +1,10 @@
 -- What is written of an expression is read as that expression.
-use Rattle.std.proofs.Common.{◌≡◌, ℕ, ℤ, pos, negsuc, zero, suc, ◌-◌, ◌+◌, ◌≤◌, ◌<◌, ◌^◌, nat_lt, nat_eq, max, List, [], ◌∷◌, ◌++◌, Bool, true, false, Option, Some, None, is_some, refl, sym, ap, cond, subst, ◌∙◌, inl, inr, append_assoc, add_assoc, zero-add, arith}
+use Rattle.std.proofs.Common.{◌≡◌, ℕ, ℤ, pos, negsuc, zero, suc, ◌-◌, ◌+◌, ◌≤◌, ◌<◌, ◌^◌, nat_lt, nat_eq, max, List, [], ◌∷◌, ◌++◌, Bool, true, false, Option, Some, None, refl, sym, ap, cond, subst, ◌∙◌, inl, inr, append_assoc, add_assoc, zero-add, arith}
 use Rattle.std.proofs.lemmas.Bool.{cases_Bool, lt-ltb, le-ltb, ltb-true, ltb-false, false_from_ne_true, eqb-true}
 use Rattle.std.specs.declared.sync.atomic.Ordering.{Ordering}
 use Rattle.loom_text.specs.contracts.read.token.TokenKindPartialEq.TheImpl as same
 use Rattle.loom_text.specs.declared.read.lexer.TheConstants.{LARGEST_NUMBER}
-use Rattle.loom_text.specs.declared.read.scope.Scope.{Scope}
-use Rattle.loom_text.specs.declared.read.symbol.Symbol.{Symbol}
 use Rattle.loom_text.specs.declared.read.symbol.Symbol.TheVariants as signs
-use Rattle.loom_text.specs.declared.read.token.TokenKind.{TokenKind}
 use Rattle.loom_text.specs.declared.read.token.TokenKind.TheVariants as kinds
 use Rattle.loom_text.specs.declared.read.word.Function.{Function}
 use Rattle.loom_text.specs.declared.read.word.Function.TheVariants as functions
@@ -19,24 +16,25 @@ use Rattle.loom_text.specs.declared.test.UnaryOperator.{UnaryOperator}
 use Rattle.loom_text.specs.declared.test.UnaryOperator.TheVariants as unary
 use Rattle.loom_text.specs.declared.test.Strength.{Strength}
 use Rattle.loom_text.specs.declared.test.FetchOperator.{FetchOperator}
-use Rattle.loom_text.specs.Expressions.{Phrase, Constant, OfRegister, Pointed, Signed, Between, Loaded, Exchanged, Fetched, Compared, ComparedRegister, ComparedPlain, Tried, Readers, argument_at, begin_arguments_at, binds, by_operator, call_at, compare_exchange_at, compared_at, enclosed_with, end_arguments_at, exchange_at, expression_at, fetch_at, first_location_at, for_a_load, inside, is_type, load_order_at, location_at, many_with, next_argument_at, one_with, operator_at, parameter_named, operators_at, order_at, plain_at, plain_named, pointed_at, primary_with, readers, signed_as}
-use Rattle.loom_text.specs.Phrases.{ExpressionsReadBack, IsAtomic, IsConstant, IsFoundRegister, IsWritablePhrase, PhraseCanBeRead, binary_sign, calling, closing, comma_order, location_token, operators, phrase_depth, printed_phrase, register_name_in, unary_sign}
-use Rattle.loom_text.specs.Printing.{in_parentheses, location_name, name, printed_value, sign}
+use Rattle.loom_text.specs.Expressions.{Phrase, Constant, OfRegister, Pointed, Signed, Between, Loaded, Exchanged, Fetched, Compared, ComparedRegister, ComparedPlain, Tried, Readers, argument_at, begin_arguments_at, binds, by_operator, call_at, compare_exchange_at, compared_at, enclosed_with, end_arguments_at, exchange_at, expression_at, fetch_at, first_location_at, for_a_load, inside, is_type, load_order_at, location_at, many_with, next_argument_at, one_with, operator_at, parameter_named, operators_at, order_at, plain_at, pointed_at, primary_with, readers, signed_as}
+use Rattle.loom_text.specs.Known.{Known, name_of}
+use Rattle.loom_text.specs.Phrases.{ExpressionsReadBack, IsAtomic, IsConstant, IsFoundRegister, IsWritablePhrase, binary_sign, closing, comma_order, location_token, operators, phrase_depth, printed_phrase, register_name_in, unary_sign}
+use Rattle.loom_text.specs.Printing.{in_parentheses, name, printed_value, sign}
 use Rattle.loom_text.specs.Readable.{word}
 use Rattle.loom_text.specs.Spelling.{operator_of}
-use Rattle.loom_text.specs.Tokens.{Left, Spelled, ◌>>=◌, after_sign, constant_at, counted, first, is_next, next, passed}
+use Rattle.loom_text.specs.Tokens.{Left, Spelled, ◌>>=◌, constant_at, counted, first, is_next, next, passed}
 use Rattle.loom_text.proofs.ConditionsAgain.{constant_again}
 use Rattle.loom_text.proofs.ExpressionSteps.{many_is, one_is}
 
 -- ---- readers at a depth
 
-many_from : (scope : Scope) (d lowest : ℕ) (left : Left) → (readers scope d).many lowest left ≡ ((readers scope d).one left >>= λ first. operators_at (inside scope d) lowest 257 first.0 first.1)
+many_from : (scope : Known) (d lowest : ℕ) (left : Left) → (readers scope d).many lowest left ≡ ((readers scope d).one left >>= λ first. operators_at (inside scope d) lowest 257 first.0 first.1)
 unfolding readers inside many_with
 many_from scope zero lowest left = refl
 many_from scope (suc d) lowest left = refl
 
 -- what was read alone, and then with operators behind it
-from_one : (scope : Scope) (d lowest : ℕ) (left behind : Left) (f : Phrase) → (readers scope d).one left ≡ Some (f, behind)
+from_one : (scope : Known) (d lowest : ℕ) (left behind : Left) (f : Phrase) → (readers scope d).one left ≡ Some (f, behind)
     → (readers scope d).many lowest left ≡ operators_at (inside scope d) lowest 257 f behind
 from_one scope d lowest left behind f h =
     many_from scope d lowest left ∙ ap (λ (o : Option (Phrase × Left)). o >>= λ first. operators_at (inside scope d) lowest 257 first.0 first.1) h
@@ -146,7 +144,7 @@ none_above_all low high (token ∷ tokens) c le h = none_above low high token to
 -- ---- what an expression begins with
 
 -- what holds of each token with which an expression may begin
-record Starts (scope : Scope) (P : Spelled → Type 0) : Type 0 where
+record Starts (scope : Known) (P : Spelled → Type 0) : Type 0 where
   numbers : (n : ℕ) (spelling : List ℕ) → n < 2 ^ 31 → P (kinds.Number n, spelling)
   parenthesis : P (sign signs.OpenParenthesis)
   minus : P (sign signs.Minus)
@@ -155,7 +153,7 @@ record Starts (scope : Scope) (P : Spelled → Type 0) : Type 0 where
   calls : (function : Function) (explicit : Bool) (spelling : List ℕ) → P (kinds.Word (words.Function function explicit), spelling)
   names : (register : ℕ) → IsFoundRegister scope register → P (name (register_name_in scope register))
 
-module _ (scope : Scope) (P : Spelled → Type 0) (starts : Starts scope P) where
+module _ (scope : Known) (P : Spelled → Type 0) (starts : Starts scope P) where
   abbrev Begins : List Spelled → Type 0
   Begins [] = ⊥
   Begins (token ∷ tokens) = P token
@@ -194,7 +192,7 @@ module _ (scope : Scope) (P : Spelled → Type 0) (starts : Starts scope P) wher
   begins_with f level behind h = first_of (printed_phrase scope level f) behind (begins f level h)
 
 -- it is no cast
-not_type : (scope : Scope) (f : Phrase) (level c : ℕ) (behind : List Spelled) → IsWritablePhrase scope f → is_type (next (printed_phrase scope level f ++ behind, c)).0 ≡ false
+not_type : (scope : Known) (f : Phrase) (level c : ℕ) (behind : List Spelled) → IsWritablePhrase scope f → is_type (next (printed_phrase scope level f ++ behind, c)).0 ≡ false
 not_type scope f level c behind h =
     begins_with scope (λ token. is_type token.0 ≡ false) (record {
       numbers = λ n s lt. refl;
@@ -210,7 +208,7 @@ not_type scope f level c behind h =
 not_largest : (n : ℕ) → n < 2 ^ 31 → nat_eq n (2 ^ 31) ≡ false
 not_largest n lt = false_from_ne_true (nat_eq n (2 ^ 31)) (λ e. absurd (omega (arith, lt, eqb-true n (2 ^ 31) e)))
 
-not_least : (scope : Scope) (f : Phrase) (level c : ℕ) (behind : List Spelled) → IsWritablePhrase scope f
+not_least : (scope : Known) (f : Phrase) (level c : ℕ) (behind : List Spelled) → IsWritablePhrase scope f
     → (same.ghosts).eq (next (printed_phrase scope level f ++ behind, c)).0 (kinds.Number LARGEST_NUMBER) ≡ false
 not_least scope f level c behind h =
     begins_with scope (λ token. (same.ghosts).eq token.0 (kinds.Number LARGEST_NUMBER) ≡ false) (record {
@@ -229,7 +227,7 @@ no_ampersand unary.Neg = refl
 no_ampersand unary.Not = refl
 no_ampersand unary.BitNot = refl
 
-not_place : (scope : Scope) (f : Phrase) (level c : ℕ) (behind : List Spelled) → IsWritablePhrase scope f → is_next signs.Ampersand (printed_phrase scope level f ++ behind, c) ≡ false
+not_place : (scope : Known) (f : Phrase) (level c : ℕ) (behind : List Spelled) → IsWritablePhrase scope f → is_next signs.Ampersand (printed_phrase scope level f ++ behind, c) ≡ false
 not_place scope f level c behind h =
     begins_with scope (λ token. (same.ghosts).eq token.0 (kinds.Symbol signs.Ampersand) ≡ false) (record {
       numbers = λ n s lt. refl;
@@ -241,13 +239,13 @@ not_place scope f level c behind h =
       names = λ register found. refl;
     }) f level behind h
 
-abbrev no_plain : Scope → Spelled → Type 0
-no_plain scope token = cond ((same.ghosts).eq token.0 kinds.Name) (plain_named scope token.1) None ≡ None
+abbrev no_plain : Known → Spelled → Type 0
+no_plain scope token = cond ((same.ghosts).eq token.0 kinds.Name) (parameter_named scope location_kinds.Plain token.1) None ≡ None
 
-no_pointer : (scope : Scope) (register : ℕ) → IsFoundRegister scope register → no_plain scope (name (register_name_in scope register))
+no_pointer : (scope : Known) (register : ℕ) → IsFoundRegister scope register → no_plain scope (name (register_name_in scope register))
 no_pointer scope register found = rw found refl
 
-not_plain : (scope : Scope) (f : Phrase) (level c : ℕ) (behind : List Spelled) → IsWritablePhrase scope f → plain_at scope (printed_phrase scope level f ++ behind, c) ≡ None
+not_plain : (scope : Known) (f : Phrase) (level c : ℕ) (behind : List Spelled) → IsWritablePhrase scope f → plain_at scope (printed_phrase scope level f ++ behind, c) ≡ None
 unfolding plain_at
 not_plain scope f level c behind h =
     begins_with scope (no_plain scope) (record {
@@ -262,12 +260,12 @@ not_plain scope f level c behind h =
 
 -- ---- what is read of each expression
 
-abbrev OneAgain : Scope → Phrase → Type 0
+abbrev pub OneAgain : Known → Phrase → Type 0
 OneAgain scope f = (d c : ℕ) (behind : List Spelled) → phrase_depth 11 f ≤ d → c + operators f ≤ 256 → is_next signs.OpenParenthesis (behind, 0) ≡ false
     → (readers scope d).one (printed_phrase scope 11 f ++ behind, c) ≡ Some (f, (behind, c + operators f))
 
 -- how many operators are joined from the left, where it is written so
-abbrev spine : ℕ → Phrase → ℕ
+abbrev pub spine : ℕ → Phrase → ℕ
 spine level (Between operator left right) = cond (nat_lt (binds operator) level) 0 (spine (binds operator) left + 1)
 spine level (Constant value) = 0
 spine level (OfRegister register) = 0
@@ -281,7 +279,7 @@ spine level (ComparedRegister strength location register value success failure) 
 spine level (ComparedPlain strength location plain value success failure) = 0
 spine level (Tried mutex) = 0
 
-abbrev ManyAgain : Scope → Phrase → Type 0
+abbrev pub ManyAgain : Known → Phrase → Type 0
 ManyAgain scope f = (level lowest d c : ℕ) (behind : List Spelled) → lowest ≤ level → level ≤ 11 → phrase_depth level f ≤ d → c + operators f ≤ 256
     → is_next signs.OpenParenthesis (behind, 0) ≡ false → operator_at (level + 1) (behind, 0) ≡ None
     → (readers scope d).many lowest (printed_phrase scope level f ++ behind, c) ≡ operators_at (inside scope d) lowest (257 - spine level f) f (behind, c + operators f)
@@ -304,7 +302,7 @@ few_joined level (ComparedPlain strength location plain value success failure) =
 few_joined level (Tried mutex) = omega arith
 
 -- whole, where no operator follows
-many_ends : (scope : Scope) (f : Phrase) → ManyAgain scope f → (level d c : ℕ) (behind : List Spelled) → level ≤ 11 → phrase_depth level f ≤ d → c + operators f ≤ 256
+many_ends : (scope : Known) (f : Phrase) → ManyAgain scope f → (level d c : ℕ) (behind : List Spelled) → level ≤ 11 → phrase_depth level f ≤ d → c + operators f ≤ 256
     → is_next signs.OpenParenthesis (behind, 0) ≡ false → operator_at level (behind, 0) ≡ None
     → (readers scope d).many level (printed_phrase scope level f ++ behind, c) ≡ Some (f, (behind, c + operators f))
 unfolding operator_at
@@ -316,31 +314,31 @@ many_ends scope f again level d c behind small deep many off last =
 -- ---- each
 
 -- where it is written alike at each level
-many_of_one : (scope : Scope) (f : Phrase) → ((level : ℕ) → level ≤ 11 → printed_phrase scope level f ≡ printed_phrase scope 11 f) → ((level : ℕ) → level ≤ 11 → phrase_depth level f ≡ phrase_depth 11 f)
+many_of_one : (scope : Known) (f : Phrase) → ((level : ℕ) → level ≤ 11 → printed_phrase scope level f ≡ printed_phrase scope 11 f) → ((level : ℕ) → level ≤ 11 → phrase_depth level f ≡ phrase_depth 11 f)
     → ((level : ℕ) → spine level f ≡ 0) → OneAgain scope f → ManyAgain scope f
 many_of_one scope f alike depth_alike none one level lowest d c behind le small deep many off last =
     ap (λ (ts : List Spelled). (readers scope d).many lowest (ts ++ behind, c)) (alike level small)
     ∙ from_one scope d lowest (printed_phrase scope 11 f ++ behind, c) (behind, c + operators f) f (one d c behind (omega (arith, deep, depth_alike level small)) many off)
     ∙ ap (λ (n : ℕ). operators_at (inside scope d) lowest (257 - n) f (behind, c + operators f)) (sym (none level))
 
-constant_one : (scope : Scope) (o : Option Readers) (value : ℤ) (c : ℕ) (behind : List Spelled) → IsConstant value → one_with scope o (printed_value value ++ behind, c) ≡ Some (Constant value, (behind, c))
+constant_one : (scope : Known) (o : Option Readers) (value : ℤ) (c : ℕ) (behind : List Spelled) → IsConstant value → one_with scope o (printed_value value ++ behind, c) ≡ Some (Constant value, (behind, c))
 unfolding one_with primary_with constant_at
 constant_one scope o (pos n) c behind h = ap (λ (o : Option (ℤ × Left)). o >>= λ value. Some (Constant value.0, value.1)) (constant_again (pos n) c behind h)
 constant_one scope o (negsuc n) c behind h =
     let e : 2147483647 ≡ n = omega (arith, h) in
     subst (λ (n : ℕ). one_with scope o (printed_value (negsuc n) ++ behind, c) ≡ Some (Constant (negsuc n), (behind, c))) e refl
 
-register_one : (scope : Scope) (o : Option Readers) (register c : ℕ) (behind : List Spelled) → IsFoundRegister scope register → is_next signs.OpenParenthesis (behind, 0) ≡ false
+register_one : (scope : Known) (o : Option Readers) (register c : ℕ) (behind : List Spelled) → IsFoundRegister scope register → is_next signs.OpenParenthesis (behind, 0) ≡ false
     → one_with scope o (name (register_name_in scope register) ∷ behind, c) ≡ Some (OfRegister register, (behind, c))
 unfolding one_with primary_with
 register_one scope o register c behind found off = rw (off, found) refl
 
-pointed_one : (scope : Scope) (o : Option Readers) (location c : ℕ) (behind : List Spelled) → parameter_named scope location_kinds.Plain (location_name scope.locations.items location) ≡ Some location
+pointed_one : (scope : Known) (o : Option Readers) (location c : ℕ) (behind : List Spelled) → parameter_named scope location_kinds.Plain (name_of scope.locations location) ≡ Some location
     → one_with scope o (sign signs.Star ∷ location_token scope location ∷ behind, c) ≡ Some (Pointed location, (behind, c))
 unfolding one_with pointed_at location_at
 pointed_one scope o location c behind found = rw found refl
 
-signed_one : (scope : Scope) (r : Readers) (operator : UnaryOperator) (f : Phrase) (tokens behind : List Spelled) (c n : ℕ)
+signed_one : (scope : Known) (r : Readers) (operator : UnaryOperator) (f : Phrase) (tokens behind : List Spelled) (c n : ℕ)
     → (same.ghosts).eq (next (tokens ++ behind, c)).0 (kinds.Number LARGEST_NUMBER) ≡ false → r.one (tokens ++ behind, c) ≡ Some (f, (behind, n))
     → one_with scope (Some r) (sign (unary_sign operator) ∷ (tokens ++ behind), c) ≡ Some (Signed operator f, (behind, n))
 unfolding one_with signed_as
@@ -348,7 +346,7 @@ signed_one scope r unary.Not f tokens behind c n other h = ap (λ (o : Option (P
 signed_one scope r unary.BitNot f tokens behind c n other h = ap (λ (o : Option (Phrase × Left)). o >>= λ operand. Some (Signed unary.BitNot operand.0, operand.1)) h
 signed_one scope r unary.Neg f tokens behind c n other h = rw (other, h) refl
 
-enclosed_one : (scope : Scope) (r : Readers) (f : Phrase) (tokens behind : List Spelled) (c n : ℕ)
+enclosed_one : (scope : Known) (r : Readers) (f : Phrase) (tokens behind : List Spelled) (c n : ℕ)
     → is_type (next (tokens ++ (sign signs.CloseParenthesis ∷ behind), c)).0 ≡ false → r.many 1 (tokens ++ (sign signs.CloseParenthesis ∷ behind), c) ≡ Some (f, (sign signs.CloseParenthesis ∷ behind, n))
     → one_with scope (Some r) ((sign signs.OpenParenthesis ∷ (tokens ++ closing)) ++ behind, c) ≡ Some (f, (behind, n))
 unfolding one_with primary_with enclosed_with
@@ -358,7 +356,7 @@ enclosed_one scope r f tokens behind c n other h =
 
 -- ---- an operator between two
 
-abbrev body : Scope → BinaryOperator → Phrase → Phrase → List Spelled
+abbrev body : Known → BinaryOperator → Phrase → Phrase → List Spelled
 body scope operator l r = printed_phrase scope (binds operator) l ++ (sign (binary_sign operator) ∷ printed_phrase scope (binds operator + 1) r)
 
 no_open : (operator : BinaryOperator) → (same.ghosts).eq (kinds.Symbol (binary_sign operator)) (kinds.Symbol signs.OpenParenthesis) ≡ false
@@ -381,7 +379,7 @@ no_open binary.Mul = refl
 no_open binary.Div = refl
 no_open binary.Rem = refl
 
-between_plain : (scope : Scope) (operator : BinaryOperator) (l r : Phrase) → ManyAgain scope l → ManyAgain scope r → (lowest d c : ℕ) (behind : List Spelled) → lowest ≤ binds operator
+between_plain : (scope : Known) (operator : BinaryOperator) (l r : Phrase) → ManyAgain scope l → ManyAgain scope r → (lowest d c : ℕ) (behind : List Spelled) → lowest ≤ binds operator
     → max (phrase_depth (binds operator) l) (1 + phrase_depth (binds operator + 1) r) ≤ d → c + operators (Between operator l r) ≤ 256
     → is_next signs.OpenParenthesis (behind, 0) ≡ false → operator_at (binds operator + 1) (behind, 0) ≡ None
     → (readers scope d).many lowest (body scope operator l r ++ behind, c)
@@ -406,7 +404,7 @@ between_plain scope operator l r again again' lowest (suc d) c behind le deep ma
     regroup : (c m n : ℕ) → c + m + 1 + n ≡ c + (m + 1 + n)
     regroup c m n = omega arith
 
-between_one : (scope : Scope) (operator : BinaryOperator) (l r : Phrase) → IsWritablePhrase scope (Between operator l r) → ManyAgain scope l → ManyAgain scope r → OneAgain scope (Between operator l r)
+between_one : (scope : Known) (operator : BinaryOperator) (l r : Phrase) → IsWritablePhrase scope (Between operator l r) → ManyAgain scope l → ManyAgain scope r → OneAgain scope (Between operator l r)
 unfolding printed_phrase inside operator_at
 between_one scope operator l r h again again' d c behind deep many off =
     let bound = bounds operator in
@@ -432,7 +430,7 @@ between_one scope operator l r h again again' d c behind deep many off =
         ∙ enclosed_one scope (readers scope d) (Between operator l r) (body scope operator l r) behind c (c + operators (Between operator l r)) (body_type close) whole
 
 -- in parentheses or not
-between_many : (scope : Scope) (operator : BinaryOperator) (l r : Phrase) → ManyAgain scope l → ManyAgain scope r → OneAgain scope (Between operator l r) → ManyAgain scope (Between operator l r)
+between_many : (scope : Known) (operator : BinaryOperator) (l r : Phrase) → ManyAgain scope l → ManyAgain scope r → OneAgain scope (Between operator l r) → ManyAgain scope (Between operator l r)
 unfolding printed_phrase
 between_many scope operator l r again again' one level lowest d c behind le small deep many off last = elim (cases_Bool (nat_lt (binds operator) level)) [
   | inl e ↦
@@ -454,22 +452,22 @@ between_many scope operator l r again again' one level lowest d c behind le smal
 
 -- ---- calls
 
-called : (scope : Scope) (d : ℕ) (function : Function) (explicit : Bool) (spelling : List ℕ) (tokens : List Spelled) (c : ℕ)
+pub called : (scope : Known) (d : ℕ) (function : Function) (explicit : Bool) (spelling : List ℕ) (tokens : List Spelled) (c : ℕ)
     → (readers scope (suc d)).one (word (words.Function function explicit) spelling ∷ tokens, c) ≡ call_at scope (readers scope d) function explicit (tokens, c)
 unfolding readers one_with primary_with
 called scope d function explicit spelling tokens c = refl
 
-loaded_again : (scope : Scope) (r : Readers) (location : ℕ) (order : Ordering) (c : ℕ) (behind : List Spelled) → IsAtomic scope location → for_a_load order ≡ true
+loaded_again : (scope : Known) (r : Readers) (location : ℕ) (order : Ordering) (c : ℕ) (behind : List Spelled) → IsAtomic scope location → for_a_load order ≡ true
     → call_at scope r functions.Load true (sign signs.OpenParenthesis ∷ location_token scope location ∷ (comma_order order closing ++ behind), c) ≡ Some (Loaded location order, (behind, c))
 unfolding call_at first_location_at begin_arguments_at location_at load_order_at order_at next_argument_at end_arguments_at
 loaded_again scope r location order c behind found ok = rw (found, ok) refl
 
-tried_again : (scope : Scope) (r : Readers) (mutex c : ℕ) (behind : List Spelled) → parameter_named scope location_kinds.Mutex (location_name scope.locations.items mutex) ≡ Some mutex
+tried_again : (scope : Known) (r : Readers) (mutex c : ℕ) (behind : List Spelled) → parameter_named scope location_kinds.Mutex (name_of scope.locations mutex) ≡ Some mutex
     → call_at scope r functions.TryLock false (sign signs.OpenParenthesis ∷ location_token scope mutex ∷ (closing ++ behind), c) ≡ Some (Tried mutex, (behind, c))
 unfolding call_at first_location_at begin_arguments_at location_at end_arguments_at
 tried_again scope r mutex c behind found = rw found refl
 
-exchanged_again : (scope : Scope) (r : Readers) (location : ℕ) (v : Phrase) (order : Ordering) (tokens behind : List Spelled) (c n : ℕ) → IsAtomic scope location
+exchanged_again : (scope : Known) (r : Readers) (location : ℕ) (v : Phrase) (order : Ordering) (tokens behind : List Spelled) (c n : ℕ) → IsAtomic scope location
     → r.many 1 (tokens ++ comma_order order (closing ++ behind), c) ≡ Some (v, (comma_order order (closing ++ behind), n))
     → call_at scope r functions.Exchange true (sign signs.OpenParenthesis ∷ location_token scope location ∷ sign signs.Comma ∷ ((tokens ++ comma_order order closing) ++ behind), c)
     ≡ Some (Exchanged location v order, (behind, n))
@@ -478,7 +476,7 @@ exchanged_again scope r location v order tokens behind c n found h =
     ap (λ (ts : List Spelled). call_at scope r functions.Exchange true (sign signs.OpenParenthesis ∷ location_token scope location ∷ sign signs.Comma ∷ ts, c)) (append_assoc tokens (comma_order order closing) behind)
     ∙ rw (found, h) refl
 
-fetched_again : (scope : Scope) (r : Readers) (operator : FetchOperator) (location : ℕ) (v : Phrase) (order : Ordering) (tokens behind : List Spelled) (c n : ℕ) → IsAtomic scope location
+fetched_again : (scope : Known) (r : Readers) (operator : FetchOperator) (location : ℕ) (v : Phrase) (order : Ordering) (tokens behind : List Spelled) (c n : ℕ) → IsAtomic scope location
     → r.many 1 (tokens ++ comma_order order (closing ++ behind), c) ≡ Some (v, (comma_order order (closing ++ behind), n))
     → call_at scope r (functions.Fetch operator) true (sign signs.OpenParenthesis ∷ location_token scope location ∷ sign signs.Comma ∷ ((tokens ++ comma_order order closing) ++ behind), c)
     ≡ Some (Fetched operator location v order, (behind, n))
@@ -491,7 +489,7 @@ fetched_again scope r operator location v order tokens behind c n found h =
 abbrev two_orders : Ordering → Ordering → List Spelled → List Spelled
 two_orders success failure behind = comma_order success (comma_order failure behind)
 
-compared_again : (scope : Scope) (r : Readers) (strength : Strength) (location : ℕ) (v w : Phrase) (success failure : Ordering) (first second behind : List Spelled) (c n m : ℕ) → IsAtomic scope location → for_a_load failure ≡ true
+compared_again : (scope : Known) (r : Readers) (strength : Strength) (location : ℕ) (v w : Phrase) (success failure : Ordering) (first second behind : List Spelled) (c n m : ℕ) → IsAtomic scope location → for_a_load failure ≡ true
     → is_next signs.Ampersand (first ++ (sign signs.Comma ∷ (second ++ two_orders success failure (closing ++ behind))), c) ≡ false
     → plain_at scope (first ++ (sign signs.Comma ∷ (second ++ two_orders success failure (closing ++ behind))), c) ≡ None
     → r.many 1 (first ++ (sign signs.Comma ∷ (second ++ two_orders success failure (closing ++ behind))), c) ≡ Some (v, (sign signs.Comma ∷ (second ++ two_orders success failure (closing ++ behind)), n))
@@ -507,7 +505,7 @@ compared_again scope r strength location v w success failure first second behind
     ap (λ (ts : List Spelled). call_at scope r (functions.CompareExchange strength) true (sign signs.OpenParenthesis ∷ location_token scope location ∷ sign signs.Comma ∷ ts, c)) regrouped
     ∙ rw (found, place, plain, h, i, ok) refl
 
-compared_register_again : (scope : Scope) (r : Readers) (strength : Strength) (location register : ℕ) (w : Phrase) (success failure : Ordering) (tokens behind : List Spelled) (c n : ℕ) → IsAtomic scope location
+compared_register_again : (scope : Known) (r : Readers) (strength : Strength) (location register : ℕ) (w : Phrase) (success failure : Ordering) (tokens behind : List Spelled) (c n : ℕ) → IsAtomic scope location
     → IsFoundRegister scope register → for_a_load failure ≡ true
     → r.many 1 (tokens ++ two_orders success failure (closing ++ behind), c) ≡ Some (w, (two_orders success failure (closing ++ behind), n))
     → call_at scope r (functions.CompareExchange strength) true
@@ -519,8 +517,8 @@ compared_register_again scope r strength location register w success failure tok
     (sign signs.OpenParenthesis ∷ location_token scope location ∷ sign signs.Comma ∷ sign signs.Ampersand ∷ name (register_name_in scope register) ∷ sign signs.Comma ∷ ts, c)) (append_assoc tokens (two_orders success failure closing) behind)
     ∙ rw (found, of_register, h, ok) refl
 
-compared_plain_again : (scope : Scope) (r : Readers) (strength : Strength) (location plain : ℕ) (w : Phrase) (success failure : Ordering) (tokens behind : List Spelled) (c n : ℕ) → IsAtomic scope location
-    → plain_named scope (location_name scope.locations.items plain) ≡ Some plain → for_a_load failure ≡ true
+compared_plain_again : (scope : Known) (r : Readers) (strength : Strength) (location plain : ℕ) (w : Phrase) (success failure : Ordering) (tokens behind : List Spelled) (c n : ℕ) → IsAtomic scope location
+    → parameter_named scope location_kinds.Plain (name_of scope.locations plain) ≡ Some plain → for_a_load failure ≡ true
     → r.many 1 (tokens ++ two_orders success failure (closing ++ behind), c) ≡ Some (w, (two_orders success failure (closing ++ behind), n))
     → call_at scope r (functions.CompareExchange strength) true
     (sign signs.OpenParenthesis ∷ location_token scope location ∷ sign signs.Comma ∷ location_token scope plain ∷ sign signs.Comma ∷ ((tokens ++ two_orders success failure closing) ++ behind), c)
@@ -534,7 +532,7 @@ compared_plain_again scope r strength location plain w success failure tokens be
 -- ---- all
 
 -- an argument, up to a comma
-argument : (scope : Scope) (v : Phrase) → ManyAgain scope v → (d c : ℕ) (behind : List Spelled) → phrase_depth 1 v ≤ d → c + operators v ≤ 256
+argument : (scope : Known) (v : Phrase) → ManyAgain scope v → (d c : ℕ) (behind : List Spelled) → phrase_depth 1 v ≤ d → c + operators v ≤ 256
     → (readers scope d).many 1 (printed_phrase scope 1 v ++ (sign signs.Comma ∷ behind), c) ≡ Some (v, (sign signs.Comma ∷ behind, c + operators v))
 unfolding operator_at
 argument scope v again d c behind deep many = many_ends scope v again 1 d c (sign signs.Comma ∷ behind) (omega arith) deep many refl refl
@@ -548,32 +546,32 @@ none_counted f behind c = let at : ℕ → Option (Phrase × Left) = λ n. Some 
 
 -- ---- by depth
 
-signed_again : (scope : Scope) (operator : UnaryOperator) (f : Phrase) → IsWritablePhrase scope f → OneAgain scope f → OneAgain scope (Signed operator f)
+signed_again : (scope : Known) (operator : UnaryOperator) (f : Phrase) → IsWritablePhrase scope f → OneAgain scope f → OneAgain scope (Signed operator f)
 unfolding printed_phrase inside
 signed_again scope operator f h one zero c behind deep many off = absurd (omega (arith, deep))
 signed_again scope operator f h one (suc d) c behind deep many off =
     one_is scope (suc d) (sign (unary_sign operator) ∷ (printed_phrase scope 11 f ++ behind), c)
     ∙ signed_one scope (readers scope d) operator f (printed_phrase scope 11 f) behind c (c + operators f) (not_least scope f 11 c behind h) (one d c behind (omega (arith, deep)) many off)
 
-loaded_one : (scope : Scope) (location : ℕ) (order : Ordering) → IsWritablePhrase scope (Loaded location order) → OneAgain scope (Loaded location order)
+loaded_one : (scope : Known) (location : ℕ) (order : Ordering) → IsWritablePhrase scope (Loaded location order) → OneAgain scope (Loaded location order)
 unfolding printed_phrase
 loaded_one scope location order h zero c behind deep many off = absurd (omega (arith, deep))
 loaded_one scope location order h (suc d) c behind deep many off =
     called scope d functions.Load true _ _ c ∙ loaded_again scope (readers scope d) location order c behind h.0 h.1 ∙ none_counted (Loaded location order) behind c
 
-tried_one : (scope : Scope) (mutex : ℕ) → IsWritablePhrase scope (Tried mutex) → OneAgain scope (Tried mutex)
+tried_one : (scope : Known) (mutex : ℕ) → IsWritablePhrase scope (Tried mutex) → OneAgain scope (Tried mutex)
 unfolding printed_phrase
 tried_one scope mutex h zero c behind deep many off = absurd (omega (arith, deep))
 tried_one scope mutex h (suc d) c behind deep many off = called scope d functions.TryLock false _ _ c ∙ tried_again scope (readers scope d) mutex c behind h ∙ none_counted (Tried mutex) behind c
 
-exchanged_one : (scope : Scope) (location : ℕ) (v : Phrase) (order : Ordering) → IsWritablePhrase scope (Exchanged location v order) → ManyAgain scope v → OneAgain scope (Exchanged location v order)
+exchanged_one : (scope : Known) (location : ℕ) (v : Phrase) (order : Ordering) → IsWritablePhrase scope (Exchanged location v order) → ManyAgain scope v → OneAgain scope (Exchanged location v order)
 unfolding printed_phrase
 exchanged_one scope location v order h again zero c behind deep many off = absurd (omega (arith, deep))
 exchanged_one scope location v order h again (suc d) c behind deep many off =
     called scope d functions.Exchange true _ _ c
     ∙ exchanged_again scope (readers scope d) location v order (printed_phrase scope 1 v) behind c (c + operators v) h.0 (argument scope v again d c _ (omega (arith, deep)) many)
 
-fetched_one : (scope : Scope) (operator : FetchOperator) (location : ℕ) (v : Phrase) (order : Ordering) → IsWritablePhrase scope (Fetched operator location v order) → ManyAgain scope v
+fetched_one : (scope : Known) (operator : FetchOperator) (location : ℕ) (v : Phrase) (order : Ordering) → IsWritablePhrase scope (Fetched operator location v order) → ManyAgain scope v
     → OneAgain scope (Fetched operator location v order)
 unfolding printed_phrase
 fetched_one scope operator location v order h again zero c behind deep many off = absurd (omega (arith, deep))
@@ -581,7 +579,7 @@ fetched_one scope operator location v order h again (suc d) c behind deep many o
     called scope d (functions.Fetch operator) true _ _ c
     ∙ fetched_again scope (readers scope d) operator location v order (printed_phrase scope 1 v) behind c (c + operators v) h.0 (argument scope v again d c _ (omega (arith, deep)) many)
 
-compared_one : (scope : Scope) (strength : Strength) (location : ℕ) (v w : Phrase) (success failure : Ordering) → IsWritablePhrase scope (Compared strength location v w success failure) → ManyAgain scope v → ManyAgain scope w
+compared_one : (scope : Known) (strength : Strength) (location : ℕ) (v w : Phrase) (success failure : Ordering) → IsWritablePhrase scope (Compared strength location v w success failure) → ManyAgain scope v → ManyAgain scope w
     → OneAgain scope (Compared strength location v w success failure)
 unfolding printed_phrase
 compared_one scope strength location v w success failure h again again' zero c behind deep many off = absurd (omega (arith, deep))
@@ -593,7 +591,7 @@ compared_one scope strength location v w success failure h again again' (suc d) 
     (argument scope w again' d (c + operators v) _ (omega (arith, deep)) (omega (arith, many)))
     ∙ ap (λ (n : ℕ). Some (Compared strength location v w success failure, (behind, n))) (add_assoc c (operators v) (operators w))
 
-compared_register_one : (scope : Scope) (strength : Strength) (location register : ℕ) (w : Phrase) (success failure : Ordering) → IsWritablePhrase scope (ComparedRegister strength location register w success failure) → ManyAgain scope w
+compared_register_one : (scope : Known) (strength : Strength) (location register : ℕ) (w : Phrase) (success failure : Ordering) → IsWritablePhrase scope (ComparedRegister strength location register w success failure) → ManyAgain scope w
     → OneAgain scope (ComparedRegister strength location register w success failure)
 unfolding printed_phrase
 compared_register_one scope strength location register w success failure h again zero c behind deep many off = absurd (omega (arith, deep))
@@ -601,7 +599,7 @@ compared_register_one scope strength location register w success failure h again
     called scope d (functions.CompareExchange strength) true _ _ c
     ∙ compared_register_again scope (readers scope d) strength location register w success failure (printed_phrase scope 1 w) behind c (c + operators w) h.0 h.1 h.3 (argument scope w again d c _ (omega (arith, deep)) many)
 
-compared_plain_one : (scope : Scope) (strength : Strength) (location plain : ℕ) (w : Phrase) (success failure : Ordering) → IsWritablePhrase scope (ComparedPlain strength location plain w success failure) → ManyAgain scope w
+compared_plain_one : (scope : Known) (strength : Strength) (location plain : ℕ) (w : Phrase) (success failure : Ordering) → IsWritablePhrase scope (ComparedPlain strength location plain w success failure) → ManyAgain scope w
     → OneAgain scope (ComparedPlain strength location plain w success failure)
 unfolding printed_phrase
 compared_plain_one scope strength location plain w success failure h again zero c behind deep many off = absurd (omega (arith, deep))
@@ -609,7 +607,7 @@ compared_plain_one scope strength location plain w success failure h again (suc 
     called scope d (functions.CompareExchange strength) true _ _ c
     ∙ compared_plain_again scope (readers scope d) strength location plain w success failure (printed_phrase scope 1 w) behind c (c + operators w) h.0 h.1 h.3 (argument scope w again d c _ (omega (arith, deep)) many)
 
-again_of : (scope : Scope) (f : Phrase) → IsWritablePhrase scope f → OneAgain scope f × ManyAgain scope f
+pub again_of : (scope : Known) (f : Phrase) → IsWritablePhrase scope f → OneAgain scope f × ManyAgain scope f
 unfolding printed_phrase
 again_of scope (Constant value) h =
     let one : OneAgain scope (Constant value) = λ d c behind deep many off. one_is scope d (printed_value value ++ behind, c) ∙ constant_one scope (inside scope d) value c behind h ∙ none_counted (Constant value) behind c in

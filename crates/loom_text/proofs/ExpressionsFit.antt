@@ -1,19 +1,18 @@
 -- What is read of an expression can be written so that it is read again.
-use Rattle.std.proofs.Common.{◌≡◌, ℕ, ℤ, pos, negsuc, zero, suc, ◌+◌, ◌≤◌, ◌<◌, ◌^◌, ◌⊎◌, nat_lt, nat_eq, max, List, length, Bool, true, false, Option, Some, None, Result, Ok, Err, IfOk, cond, get_or, string_bytes, codes, refl, sym, ap, subst, ◌∙◌, inl, inr, arith}
+use Rattle.std.proofs.Common.{◌≡◌, ℕ, ℤ, pos, zero, suc, ◌+◌, ◌≤◌, ◌<◌, ◌^◌, ◌⊎◌, nat_lt, List, Bool, true, false, Option, Some, None, Result, Ok, Err, IfOk, cond, codes, refl, sym, ap, subst, ◌∙◌, inl, inr, arith}
 use Rattle.std.proofs.lemmas.Bool.{cases_Bool, and_parts, lt-ltb, le-ltb, ltb-true, ltb-false, eqb-true}
 use Rattle.std.proofs.lemmas.List.Quantifiers.{position-Some}
 use Rattle.std.proofs.lemmas.Option.{cond_some, none-some, same_Some, slice_get_cases}
 use Rattle.std.proofs.lemmas.Slice.Eq.{bytes_eq-Decides}
 use Rattle.std.specs.Int.{from_bool}
-use Rattle.std.specs.List.{position, position_or_len, slice_get}
-use Rattle.std.specs.Option.{option_map, unwrap_or}
-use Rattle.std.specs.Str.{bytes_eq}
+use Rattle.std.specs.List.{position}
+use Rattle.std.specs.Option.{option_and_then, option_flatten, option_map, unwrap_or}
 use Rattle.std.specs.declared.sync.atomic.Ordering.{Ordering}
 use Rattle.std.specs.declared.sync.atomic.Ordering.TheVariants as orders
 use Rattle.loom_text.specs.contracts.read.symbol.SymbolPartialEq.TheImpl as same_signs
 use Rattle.loom_text.specs.contracts.read.token.TokenKindPartialEq.TheImpl as same
+use Rattle.loom_text.specs.contracts.test.KindPartialEq.TheImpl as same_kinds
 use Rattle.loom_text.specs.declared.read.lexer.TheConstants.{LARGEST_NUMBER}
-use Rattle.loom_text.specs.declared.read.scope.Scope.{Scope}
 use Rattle.loom_text.specs.declared.read.stop.Stop.{Stop}
 use Rattle.loom_text.specs.declared.read.symbol.Symbol.{Symbol}
 use Rattle.loom_text.specs.declared.read.symbol.Symbol.TheVariants as signs
@@ -27,21 +26,20 @@ use Rattle.loom_text.specs.declared.test.Expression.{Expression}
 use Rattle.loom_text.specs.declared.test.FetchOperator.{FetchOperator}
 use Rattle.loom_text.specs.declared.test.Kind.{Kind}
 use Rattle.loom_text.specs.declared.test.Kind.TheVariants as location_kinds
-use Rattle.loom_text.specs.declared.test.Location.{Location}
 use Rattle.loom_text.specs.declared.test.Strength.{Strength}
 use Rattle.loom_text.specs.declared.test.UnaryOperator.{UnaryOperator}
-use Rattle.loom_text.specs.Expressions.{Phrase, Constant, OfRegister, Pointed, Signed, Between, Loaded, Exchanged, Fetched, Compared, ComparedRegister, ComparedPlain, Tried, Comparand, ByValue, ByRegister, ByPlain, Readers, argument_at, arguments_at, arguments_of, begin_arguments_at, binds, by_operator, by_value, call_at, compare_exchange_at, compared_at, comparing, enclosed_with, end_arguments_at, exchange_at, expression_at, fetch_at, first_location_at, for_a_load, inside, is_least, load_order_at, location_at, many_with, next_argument_at, of_kind, one_from, one_with, operator_at, operator_from, operators_at, order_at, order_from, parameter_named, phrase, plain_at, plain_named, pointed_at, primary_from, primary_with, readers, register_from, signed_as, signed_with}
-use Rattle.loom_text.specs.Named.{kind_at, location_named, register_named}
-use Rattle.loom_text.specs.Phrases.{IsAtomic, IsConstant, IsFoundRegister, IsWritablePhrase, PhraseCanBeRead, operators, phrase_depth}
-use Rattle.loom_text.specs.Printing.{location_name}
+use Rattle.loom_text.specs.Expressions.{Phrase, Constant, OfRegister, Pointed, Signed, Between, Loaded, Exchanged, Fetched, Compared, ComparedRegister, ComparedPlain, Tried, Comparand, ByValue, ByRegister, ByPlain, Readers, argument_at, arguments_at, arguments_of, begin_arguments_at, binds, by_operator, by_value, call_at, compare_exchange_at, compared_at, comparing, enclosed_with, end_arguments_at, exchange_at, expression_at, fetch_at, first_location_at, for_a_load, inside, is_least, load_order_at, location_at, many_with, next_argument_at, one_from, one_with, operator_at, operator_from, operators_at, order_at, order_from, parameter_named, phrase, plain_at, pointed_at, primary_from, primary_with, readers, register_from, signed_as, signed_with}
+use Rattle.loom_text.specs.Known.{Known, Located, has_name, name_of, named_in, number_of, numbered, parameter_in, parameter_numbered}
+use Rattle.loom_text.specs.Phrases.{IsAtomic, IsConstant, IsFoundRegister, IsWritablePhrase, PhraseCanBeRead, operators, phrase_depth, register_name_in}
 use Rattle.loom_text.specs.Spelling.{operator_of, unary_of}
 use Rattle.loom_text.specs.Tokens.{Gives, Left, ◌>>=◌, after_sign, constant_at, counted, is_next, name_at, negated, next, number_at, passed, value_of}
 use Rattle.loom_text.proofs.ConditionsFit.{after_sign_counts, bind_some, else_some, name_counts}
 use Rattle.loom_text.proofs.ExpressionsAgain.{bounds}
 use Rattle.loom_text.proofs.ExpressionSteps.{many_is}
+use Rattle.loom_text.proofs.NameLemmas.{named_so}
 
 -- ---- what is known of what was read, at this level and depth, behind so many operators
-pub record Fits (scope : Scope) (level d c : ℕ) (f : Phrase) (n : ℕ) : Type 0 where
+pub record Fits (scope : Known) (level d c : ℕ) (f : Phrase) (n : ℕ) : Type 0 where
   pub shallow : phrase_depth level f ≤ d
   pub count : n ≡ c + operators f
   pub few : c ≤ 256 → n ≤ 256
@@ -104,77 +102,75 @@ next_operator lowest high left operator h none =
 -- ---- operators that are joined
 
 -- what a reader of operators gives, from this strength on
-abbrev Whole : Scope → ℕ → ℕ → Left → Phrase × Left → Type 0
+abbrev Whole : Known → ℕ → ℕ → Left → Phrase × Left → Type 0
 Whole scope level d left x = Fits scope level d left.1 x.0 x.1.1 × (operator_at level x.1 ≡ None)
 
 -- ---- what the readers one deeper give
 
-pub record InnerFits (scope : Scope) (d : ℕ) (r : Readers) : Type 0 where
+pub record InnerFits (scope : Known) (d : ℕ) (r : Readers) : Type 0 where
   pub one : (left : Left) (x : Phrase × Left) → r.one left ≡ Some x → Fits scope 11 d left.1 x.0 x.1.1
   pub many : (level : ℕ) (left : Left) (x : Phrase × Left) → level ≤ 11 → r.many level left ≡ Some x → Whole scope level d left x
 
 -- where there are some
-abbrev InnerOf : Scope → ℕ → Option Readers → Type 0
+abbrev InnerOf : Known → ℕ → Option Readers → Type 0
 InnerOf scope d o = (r : Readers) → o ≡ Some r → (e : ℕ) × (d ≡ suc e) × InnerFits scope e r
 
 -- ---- names
 
-when_some : {A : Type 0} (b : Bool) (o : Option A) (y : A) → cond b o None ≡ Some y → (b ≡ true) × (o ≡ Some y)
+pub when_some : {A : Type 0} (b : Bool) (o : Option A) (y : A) → cond b o None ≡ Some y → (b ≡ true) × (o ≡ Some y)
 when_some true o y h = (refl, h)
 when_some false o y h = absurd (none-some y h)
 
--- the name that leads to a place is the name there
-spelled_so : {X : Type 0} (name_of : X → List ℕ) (xs : List X) (name : List ℕ) (n : ℕ) → position (λ x. bytes_eq (name_of x) name) xs ≡ Some n
-    → unwrap_or (option_map name_of (slice_get xs n)) (codes "?") ≡ name
-spelled_so name_of xs name n h =
-    let found = cond_some (nat_lt (position_or_len (λ x. bytes_eq (name_of x) name) xs) (length xs)) (position_or_len (λ x. bytes_eq (name_of x) name) xs) n h in
-    let within = ltb-true (position_or_len (λ x. bytes_eq (name_of x) name) xs) (length xs) found.0 in
-    elim (slice_get_cases xs n).1 [
-      | inl (x, lt, e, here) ↦
-          let passes = (position-Some (λ x. bytes_eq (name_of x) name) xs n x h).1 in
-          rw e (ap name_of (sym here) ∙ (bytes_eq-Decides (name_of (get_or xs n x)) name).0 passes)
-      | inr (le, e) ↦ absurd (omega (arith, within, found.1, le))
+pub register_spelled : (scope : Known) (spelling : List ℕ) (n : ℕ) → named_in scope.registers spelling ≡ Some n → register_name_in scope n ≡ spelling
+register_spelled scope spelling n h = named_so scope.registers spelling n h
+
+register_found : (scope : Known) (spelling : List ℕ) (n : ℕ) → named_in scope.registers spelling ≡ Some n → IsFoundRegister scope n
+register_found scope spelling n h = subst (λ (s : List ℕ). named_in scope.registers s ≡ Some n) (sym (register_spelled scope spelling n h)) h
+
+-- a parameter's name leads to it
+location_spelled : (locations : List (Option Located)) (spelling : List ℕ) (found : ℕ × Kind) → parameter_in locations spelling ≡ Some found → name_of locations found.0 ≡ spelling
+location_spelled locations spelling found h = there (position (has_name spelling) locations) refl h
+  where
+    named : (n : ℕ) (l : Option Located) → parameter_numbered locations n ≡ l → has_name spelling l ≡ true → numbered n l ≡ Some found → name_of locations found.0 ≡ spelling
+    named n None e passes is = absurd (none-some found is)
+    named n (Some l) e passes is =
+        let same : n ≡ found.0 = ap (λ (x : ℕ × Kind). x.0) (same_Some (n, l.kind) found is) in
+        subst (λ (m : ℕ). name_of locations m ≡ spelling) same
+        (ap (λ (o : Option Located). unwrap_or (option_map (λ (l : Located). l.name) o) (codes "?")) e ∙ (bytes_eq-Decides l.name spelling).0 passes)
+
+    there : (o : Option ℕ) → position (has_name spelling) locations ≡ o → option_and_then (λ n. numbered n (parameter_numbered locations n)) o ≡ Some found → name_of locations found.0 ≡ spelling
+    there None e is = absurd (none-some found is)
+    there (Some n) e is = elim (slice_get_cases locations n).1 [
+      | inl (l, lt, e', here) ↦
+          let passes = (position-Some (has_name spelling) locations n l e).1 in
+          named n l (ap (λ (o : Option (Option Located)). option_flatten o) e') (ap (λ (x : Option Located). has_name spelling x) (sym here) ∙ passes)
+          (ap (λ (o : Option (Option Located)). numbered n (option_flatten o)) (sym e') ∙ is)
+      | inr (le, e') ↦ absurd (none-some found (sym (ap (λ (o : Option (Option Located)). numbered n (option_flatten o)) e') ∙ is))
     ]
 
-register_found : (scope : Scope) (spelling : List ℕ) (n : ℕ) → register_named scope.registers.items spelling ≡ Some n → IsFoundRegister scope n
-register_found scope spelling n h =
-    let spelled = spelled_so (λ name. string_bytes name) scope.registers.items spelling n h in
-    subst (λ (s : List ℕ). register_named scope.registers.items s ≡ Some n) (sym spelled) h
-
-location_spelled : (scope : Scope) (spelling : List ℕ) (n : ℕ) → location_named scope.locations.items spelling ≡ Some n → location_name scope.locations.items n ≡ spelling
-location_spelled scope spelling n h = spelled_so (λ (l : Location). string_bytes l.name) scope.locations.items spelling n h
-
-kind_keeps : (kind : Kind) (n m : ℕ) (found : Option Kind) → of_kind kind n found ≡ Some m → n ≡ m
-kind_keeps kind n m None h = same_Some n m h
-kind_keeps kind n m (Some found) h = (cond_some _ n m h).1
-
-parameter_found : (scope : Scope) (kind : Kind) (spelling : List ℕ) (n : ℕ) → parameter_named scope kind spelling ≡ Some n → parameter_named scope kind (location_name scope.locations.items n) ≡ Some n
+parameter_found : (scope : Known) (kind : Kind) (spelling : List ℕ) (n : ℕ) → parameter_named scope kind spelling ≡ Some n → parameter_named scope kind (name_of scope.locations n) ≡ Some n
 parameter_found scope kind spelling n h =
-    bind_some (location_named scope.locations.items spelling) _ n (else_some _ _ n h).1 (λ l p q.
-    let same = kind_keeps kind l n (kind_at scope.locations.items l) (when_some _ _ n q).1 in
-    let spelled = location_spelled scope spelling n (p ∙ ap (λ (m : ℕ). Some m) same) in
-    subst (λ (s : List ℕ). parameter_named scope kind s ≡ Some n) (sym spelled) h)
+    let spelled = there (parameter_in scope.locations spelling) refl (else_some _ _ n h).1 in
+    subst (λ (s : List ℕ). parameter_named scope kind s ≡ Some n) (sym spelled) h
+  where
+    there : (o : Option (ℕ × Kind)) → parameter_in scope.locations spelling ≡ o → number_of kind o ≡ Some n → name_of scope.locations n ≡ spelling
+    there None p q = absurd (none-some n q)
+    there (Some found) p q =
+        let same = (cond_some ((same_kinds.ghosts).eq found.1 kind) found.0 n q).1 in
+        subst (λ (m : ℕ). name_of scope.locations m ≡ spelling) same (location_spelled scope.locations spelling found p)
 
-plain_found : (scope : Scope) (spelling : List ℕ) (n : ℕ) → plain_named scope spelling ≡ Some n → plain_named scope (location_name scope.locations.items n) ≡ Some n
-plain_found scope spelling n h =
-    bind_some (location_named scope.locations.items spelling) _ n (else_some _ _ n h).1 (λ l p q.
-    bind_some (kind_at scope.locations.items l) _ n q (λ kind p' q'.
-    let same = (cond_some _ l n q').1 in
-    let spelled = location_spelled scope spelling n (p ∙ ap (λ (m : ℕ). Some m) same) in
-    subst (λ (s : List ℕ). plain_named scope s ≡ Some n) (sym spelled) h))
-
-register_read : (scope : Scope) (name : List ℕ) (left : Left) (n : ℕ) → register_from scope name left ≡ Some n → IsFoundRegister scope n
+pub register_read : (scope : Known) (name : List ℕ) (left : Left) (n : ℕ) → register_from scope name left ≡ Some n → IsFoundRegister scope n
 register_read scope name left n h = register_found scope name n (else_some _ _ n h).1
 
 -- ---- arguments: none counts an operator
 
-location_fits : (scope : Scope) (kind : Kind) (left : Left) (x : ℕ × Left) → location_at scope kind left ≡ Some x → (x.1.1 ≡ left.1) × (parameter_named scope kind (location_name scope.locations.items x.0) ≡ Some x.0)
+pub location_fits : (scope : Known) (kind : Kind) (left : Left) (x : ℕ × Left) → location_at scope kind left ≡ Some x → (x.1.1 ≡ left.1) × (parameter_named scope kind (name_of scope.locations x.0) ≡ Some x.0)
 unfolding location_at
 location_fits scope kind left x h =
     bind_some (name_at left) _ x (else_some _ _ x h).1 (λ name p q.
     bind_some (parameter_named scope kind name.0) _ x q (λ n p' q'.
     let e = same_Some (n, name.1) x q' in
-    let P : ℕ × Left → Type 0 = λ y. (y.1.1 ≡ left.1) × (parameter_named scope kind (location_name scope.locations.items y.0) ≡ Some y.0) in
+    let P : ℕ × Left → Type 0 = λ y. (y.1.1 ≡ left.1) × (parameter_named scope kind (name_of scope.locations y.0) ≡ Some y.0) in
     subst P e (name_counts left name p, parameter_found scope kind name.0 n p')))
 
 begin_counts : (count : ℕ) (left behind : Left) → begin_arguments_at count left ≡ Some behind → behind.1 ≡ left.1
@@ -183,8 +179,8 @@ begin_counts count left behind h =
     bind_some (after_sign signs.OpenParenthesis left) _ behind h (λ l p q.
     sym (ap (λ (y : Left). y.1) (same_Some l behind (else_some _ _ behind q).1)) ∙ after_sign_counts signs.OpenParenthesis left l p)
 
-first_fits : (scope : Scope) (count : ℕ) (kind : Kind) (left : Left) (x : ℕ × Left) → first_location_at scope count kind left ≡ Some x
-    → (x.1.1 ≡ left.1) × (parameter_named scope kind (location_name scope.locations.items x.0) ≡ Some x.0)
+pub first_fits : (scope : Known) (count : ℕ) (kind : Kind) (left : Left) (x : ℕ × Left) → first_location_at scope count kind left ≡ Some x
+    → (x.1.1 ≡ left.1) × (parameter_named scope kind (name_of scope.locations x.0) ≡ Some x.0)
 unfolding first_location_at
 first_fits scope count kind left x h =
     bind_some (begin_arguments_at count left) _ x h (λ l p q.
@@ -217,7 +213,7 @@ load_order_fits explicit left x h =
     let P : Ordering × Left → Type 0 = λ y. (y.1.1 ≡ left.1) × (for_a_load y.0 ≡ true) in
     subst P some.1 (order_counts explicit left order p, some.0))
 
-module _ (scope : Scope) (d : ℕ) (r : Readers) (inner : InnerFits scope d r) where
+module _ (scope : Known) (d : ℕ) (r : Readers) (inner : InnerFits scope d r) where
   argument_fits : (left : Left) (x : Phrase × Left) → argument_at r left ≡ Some x → Fits scope 1 d left.1 x.0 x.1.1
   unfolding argument_at
   argument_fits left x h =
@@ -269,13 +265,13 @@ module _ (scope : Scope) (d : ℕ) (r : Readers) (inner : InnerFits scope d r) w
   abbrev ComparandFits : ℕ → Comparand → ℕ → Type 0
   ComparandFits c (ByValue value) n = Fits scope 1 d c value n
   ComparandFits c (ByRegister register) n = (n ≡ c) × IsFoundRegister scope register
-  ComparandFits c (ByPlain plain) n = (n ≡ c) × (plain_named scope (location_name scope.locations.items plain) ≡ Some plain)
+  ComparandFits c (ByPlain plain) n = (n ≡ c) × (parameter_named scope location_kinds.Plain (name_of scope.locations plain) ≡ Some plain)
 
   by_value_fits : (pointer : Option ℕ) (left : Left) (x : Comparand × Left) → plain_at scope left ≡ pointer → by_value r pointer left ≡ Some x → ComparandFits left.1 x.0 x.1.1
   unfolding plain_at
   by_value_fits (Some plain) left x e h =
       let P : Comparand × Left → Type 0 = λ y. ComparandFits left.1 y.0 y.1.1 in
-      subst P (same_Some (ByPlain plain, passed left) x h) (refl, plain_found scope (next left).1 plain (when_some _ _ plain e).1)
+      subst P (same_Some (ByPlain plain, passed left) x h) (refl, parameter_found scope location_kinds.Plain (next left).1 plain (when_some _ _ plain e).1)
   by_value_fits None left x e h =
       bind_some (r.many 1 left) _ x h (λ value p q.
       let P : Comparand × Left → Type 0 = λ y. ComparandFits left.1 y.0 y.1.1 in
@@ -336,7 +332,7 @@ module _ (scope : Scope) (d : ℕ) (r : Readers) (inner : InnerFits scope d r) w
       subst P (same_Some (comparing strength location.0 compared.0 value.0 success.0 failure.0, failure.1) x q4)
       (moved 11 (suc d) location.1.1 left.1 value.1.1 failure.1.1 (comparing strength location.0 compared.0 value.0 success.0 failure.0) first.0 (sym (last.0 ∙ order_counts explicit value.1 success p3)) whole))))))
 
-  call_fits : (function : Function) (count : ℕ) (explicit : Bool) (left : Left) (x : Phrase × Left) → arguments_at scope r function count explicit left ≡ Some x → Fits scope 11 (suc d) left.1 x.0 x.1.1
+  pub call_fits : (function : Function) (count : ℕ) (explicit : Bool) (left : Left) (x : Phrase × Left) → arguments_at scope r function count explicit left ≡ Some x → Fits scope 11 (suc d) left.1 x.0 x.1.1
   call_fits functions.Load count explicit left x h =
       bind_some (first_location_at scope count location_kinds.Atomic left) _ x h (λ location p q.
       bind_some (load_order_at explicit location.1) _ x q (λ order p' q'.
@@ -456,7 +452,7 @@ none_of_them (Some operator) = let bound = bounds operator in ap (λ (b : Bool).
 none_so_strong : (left : Left) → operator_at 12 left ≡ None
 none_so_strong left = operator_is 12 left ∙ none_of_them (sign_of (next left).0)
 
-module _ (scope : Scope) (lowest d : ℕ) (o : Option Readers) (inner : InnerOf scope d o) where
+module _ (scope : Known) (lowest d : ℕ) (o : Option Readers) (inner : InnerOf scope d o) where
   -- with so many operators at most; `strong` is how strongly the next one may bind
   abbrev Joined : ℕ → Type 0
   Joined n = (c strong : ℕ) (f : Phrase) (left : Left) (x : Phrase × Left) → lowest ≤ strong → ((level : ℕ) → level ≤ strong → phrase_depth level f ≤ d)
@@ -564,7 +560,7 @@ nothing_signed : (operator : UnaryOperator) (left : Left) (x : Phrase × Left) �
 unfolding signed_as
 nothing_signed operator left x h = none-some x h
 
-module _ (scope : Scope) (d : ℕ) (o : Option Readers) (inner : InnerOf scope d o) where
+module _ (scope : Known) (d : ℕ) (o : Option Readers) (inner : InnerOf scope d o) where
   -- where the readers one deeper are there
   deeper_fits : (left behind : Left) (x : Phrase × Left) → behind.1 ≡ left.1 → ((e : ℕ) (r : Readers) → o ≡ Some r → InnerFits scope e r → Fits scope 11 (suc e) behind.1 x.0 x.1.1)
       → (r : Readers) → o ≡ Some r → Fits scope 11 d left.1 x.0 x.1.1
@@ -634,7 +630,7 @@ module _ (scope : Scope) (d : ℕ) (o : Option Readers) (inner : InnerOf scope d
   unfolding pointed_at
   pointed_fits left x h =
       bind_some (pointed_at scope (passed left)) _ x h (λ location p q.
-      let found : (location.1.1 ≡ left.1) × (parameter_named scope location_kinds.Plain (location_name scope.locations.items location.0) ≡ Some location.0) =
+      let found : (location.1.1 ≡ left.1) × (parameter_named scope location_kinds.Plain (name_of scope.locations location.0) ≡ Some location.0) =
       location_fits scope location_kinds.Plain (passed left) location (else_some _ _ location p).1 in
       let P : Phrase × Left → Type 0 = λ y. Fits scope 11 d left.1 y.0 y.1.1 in
       subst P (same_Some (Pointed location.0, location.1) x q) (record {
@@ -671,10 +667,10 @@ module _ (scope : Scope) (d : ℕ) (o : Option Readers) (inner : InnerOf scope d
 
 -- ---- at each depth
 
-no_inner : (scope : Scope) (d : ℕ) → InnerOf scope d None
+no_inner : (scope : Known) (d : ℕ) → InnerOf scope d None
 no_inner scope d r p = absurd (none-some r p)
 
-readers_fit : (scope : Scope) (d : ℕ) → InnerFits scope d (readers scope d)
+pub readers_fit : (scope : Known) (d : ℕ) → InnerFits scope d (readers scope d)
 unfolding readers
 readers_fit scope zero =
     let one = one_fits scope 0 None (no_inner scope 0) in
@@ -684,8 +680,15 @@ readers_fit scope (suc d) =
     let one = one_fits scope (suc d) (Some (readers scope d)) inner in
     record { one = one; many = λ level left x small h. many_fits scope level (suc d) (Some (readers scope d)) inner one small left x h }
 
+pub expression_can_be_read : (scope : Known) (left : Left) (x : Phrase × Left) → expression_at scope left ≡ Some x → PhraseCanBeRead scope x.0
+unfolding expression_at
+expression_can_be_read scope left x h =
+    let fits = ((readers_fit scope 64).many 1 (left.0, 0) x (omega arith) (many_is scope 64 1 (left.0, 0) ∙ h)).0 in
+    let few = fits.few (omega arith) in
+    record { writable = fits.writable; few = omega (arith, fits.count, few); shallow = fits.shallow }
+
 -- so it is where it is returned
-pub expression_fits : (scope : Scope) (left behind : Left) (result : Result Expression Stop) → left.1 ≡ 0
+pub expression_fits : (scope : Known) (left behind : Left) (result : Result Expression Stop) → left.1 ≡ 0
     → Gives (λ expression. (phrase expression, behind)) result (many_with scope (inside scope 64) 1 left) → IfOk result (λ expression. PhraseCanBeRead scope (phrase expression))
 expression_fits scope left behind (Err e) none h = tt
 expression_fits scope left behind (Ok expression) none h =

@@ -1,3 +1,4 @@
+pub mod BlocksAgain
 pub mod CheckLemmas
 pub mod ConditionsAgain
 pub mod ConditionsFit
@@ -6,13 +7,22 @@ pub mod CoveredLemmas
 pub mod ExpressionSteps
 pub mod ExpressionsAgain
 pub mod ExpressionsFit
+pub mod HeadSteps
+pub mod KnownLater
+pub mod KnownLemmas
 pub mod LawLemmas
+pub mod LocationsAgain
 pub mod NameLemmas
+pub mod PlacedRight
 pub mod QuestionsAgain
+pub mod QuestionsFit
 pub mod ReadableLemmas
 pub mod ReadingSteps
 pub mod RunLemmas
+pub mod SimpleAgain
+pub mod StatementSteps
 pub mod TallyLemmas
 pub mod TermSteps
 pub mod WalkLemmas
+pub mod WholeAgain
 pub mod WholeLemmas

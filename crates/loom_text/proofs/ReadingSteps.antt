@@ -4,8 +4,7 @@ use Rattle.loom_text.specs.declared.read.stop.Stop.{Stop}
 use Rattle.loom_text.specs.declared.read.stop.Stop.TheVariants as stops
 use Rattle.loom_text.specs.declared.read.symbol.Symbol.{Symbol}
 use Rattle.loom_text.specs.declared.read.symbol.Symbol.TheVariants as signs
-use Rattle.loom_text.specs.declared.test.Location.{Location}
-use Rattle.loom_text.specs.declared.test.Thread.{Thread}
+use Rattle.loom_text.specs.Known.{Located, Names}
 use Rattle.loom_text.specs.Conditions.{Formula, Denied, comparison_at, disjunction_of, joined_at, part_at}
 use Rattle.loom_text.specs.Tokens.{Left, Stops, ◌>>=◌, after_sign, is_next, passed}
 
@@ -69,7 +68,7 @@ too_many sign join part count i read left total le so_far =
 
 -- ---- a part of a condition
 
-pub denied : (locations : List Location) (threads : List Thread) (inside depth : ℕ) (left : Left) → inside + 1 ≡ depth → is_next signs.Tilde left ≡ true
+pub denied : (locations : List Located) (threads : List Names) (inside depth : ℕ) (left : Left) → inside + 1 ≡ depth → is_next signs.Tilde left ≡ true
     → part_at locations threads depth left ≡ (part_at locations threads inside (passed left) >>= λ read. Some (Denied read.0, read.1))
 unfolding part_at
 denied locations threads inside depth left e h =
@@ -80,7 +79,7 @@ denied locations threads inside depth left e h =
     (disjunction_of (part_at locations threads inside) (passed left) >>= λ read. after_sign signs.CloseParenthesis read.1 >>= λ left. Some (read.0, left))
     (comparison_at locations threads left))) h
 
-pub enclosed : (locations : List Location) (threads : List Thread) (inside depth : ℕ) (left : Left) → inside + 1 ≡ depth → is_next signs.Tilde left ≡ false → is_next signs.OpenParenthesis left ≡ true
+pub enclosed : (locations : List Located) (threads : List Names) (inside depth : ℕ) (left : Left) → inside + 1 ≡ depth → is_next signs.Tilde left ≡ false → is_next signs.OpenParenthesis left ≡ true
     → part_at locations threads depth left ≡ (disjunction_of (part_at locations threads inside) (passed left) >>= λ read. after_sign signs.CloseParenthesis read.1 >>= λ left. Some (read.0, left))
 unfolding part_at
 enclosed locations threads inside depth left e h i =
@@ -94,13 +93,13 @@ enclosed locations threads inside depth left e h i =
     (disjunction_of (part_at locations threads inside) (passed left) >>= λ read. after_sign signs.CloseParenthesis read.1 >>= λ left. Some (read.0, left))
     (comparison_at locations threads left)) i
 
-pub too_deep : (locations : List Location) (threads : List Thread) (depth : ℕ) (left : Left) → depth ≡ 0 → is_next signs.Tilde left ≡ true → part_at locations threads depth left ≡ None
+pub too_deep : (locations : List Located) (threads : List Names) (depth : ℕ) (left : Left) → depth ≡ 0 → is_next signs.Tilde left ≡ true → part_at locations threads depth left ≡ None
 unfolding part_at
 too_deep locations threads depth left e h =
     ap (λ (n : ℕ). part_at locations threads n left) e
     ∙ ap (λ (b : Bool). cond b None (cond (is_next signs.OpenParenthesis left) None (comparison_at locations threads left))) h
 
-pub enclosed_too_deep : (locations : List Location) (threads : List Thread) (depth : ℕ) (left : Left) → depth ≡ 0 → is_next signs.Tilde left ≡ false → is_next signs.OpenParenthesis left ≡ true
+pub enclosed_too_deep : (locations : List Located) (threads : List Names) (depth : ℕ) (left : Left) → depth ≡ 0 → is_next signs.Tilde left ≡ false → is_next signs.OpenParenthesis left ≡ true
     → part_at locations threads depth left ≡ None
 unfolding part_at
 enclosed_too_deep locations threads depth left e h i =
@@ -108,7 +107,7 @@ enclosed_too_deep locations threads depth left e h i =
     ∙ ap (λ (b : Bool). cond b None (cond (is_next signs.OpenParenthesis left) None (comparison_at locations threads left))) h
     ∙ ap (λ (b : Bool). cond b None (comparison_at locations threads left)) i
 
-pub compared : (locations : List Location) (threads : List Thread) (depth : ℕ) (left : Left) → is_next signs.Tilde left ≡ false → is_next signs.OpenParenthesis left ≡ false
+pub compared : (locations : List Located) (threads : List Names) (depth : ℕ) (left : Left) → is_next signs.Tilde left ≡ false → is_next signs.OpenParenthesis left ≡ false
     → part_at locations threads depth left ≡ comparison_at locations threads left
 unfolding part_at
 compared locations threads zero left h i =
@@ -149,13 +148,13 @@ eaten_behind found symbol old middle new e is moved h =
 
 -- ---- parts that are read, and parts that aren't
 
-pub denied_as : (locations : List Location) (threads : List Thread) (inside depth : ℕ) (left behind : Left) (f : Formula) → inside + 1 ≡ depth → is_next signs.Tilde left ≡ true
+pub denied_as : (locations : List Located) (threads : List Names) (inside depth : ℕ) (left behind : Left) (f : Formula) → inside + 1 ≡ depth → is_next signs.Tilde left ≡ true
     → part_at locations threads inside (passed left) ≡ Some (f, behind) → part_at locations threads depth left ≡ Some (Denied f, behind)
 denied_as locations threads inside depth left behind f e h read =
     denied locations threads inside depth left e h
     ∙ then_some (part_at locations threads inside (passed left)) (λ (read : Formula × Left). Some (Denied read.0, read.1)) (f, behind) (Denied f, behind) read refl
 
-pub not_denied : (e : Stop) (locations : List Location) (threads : List Thread) (inside depth : ℕ) (left : Left) → inside + 1 ≡ depth → is_next signs.Tilde left ≡ true
+pub not_denied : (e : Stop) (locations : List Located) (threads : List Names) (inside depth : ℕ) (left : Left) → inside + 1 ≡ depth → is_next signs.Tilde left ≡ true
     → Stops e (part_at locations threads inside (passed left)) → Stops e (part_at locations threads depth left)
 not_denied stops.Memory locations threads inside depth left k h read = tt
 not_denied (stops.At problem start end) locations threads inside depth left k h read =
@@ -165,18 +164,18 @@ not_denied (stops.At problem start end) locations threads inside depth left k h 
 abbrev closed : Option (Formula × Left) → Option (Formula × Left)
 closed read = read >>= λ read. after_sign signs.CloseParenthesis read.1 >>= λ left. Some (read.0, left)
 
-pub enclosed_as : (locations : List Location) (threads : List Thread) (inside depth : ℕ) (left middle behind : Left) (f : Formula) → inside + 1 ≡ depth → is_next signs.Tilde left ≡ false
+pub enclosed_as : (locations : List Located) (threads : List Names) (inside depth : ℕ) (left middle behind : Left) (f : Formula) → inside + 1 ≡ depth → is_next signs.Tilde left ≡ false
     → is_next signs.OpenParenthesis left ≡ true → disjunction_of (part_at locations threads inside) (passed left) ≡ Some (f, middle) → after_sign signs.CloseParenthesis middle ≡ Some behind
     → part_at locations threads depth left ≡ Some (f, behind)
 enclosed_as locations threads inside depth left middle behind f e h i read last =
     enclosed locations threads inside depth left e h i ∙ ap closed read ∙ ap (λ (o : Option Left). o >>= λ left. Some (f, left)) last
 
-pub not_enclosed : (e : Stop) (locations : List Location) (threads : List Thread) (inside depth : ℕ) (left : Left) → inside + 1 ≡ depth → is_next signs.Tilde left ≡ false
+pub not_enclosed : (e : Stop) (locations : List Located) (threads : List Names) (inside depth : ℕ) (left : Left) → inside + 1 ≡ depth → is_next signs.Tilde left ≡ false
     → is_next signs.OpenParenthesis left ≡ true → Stops e (disjunction_of (part_at locations threads inside) (passed left)) → Stops e (part_at locations threads depth left)
 not_enclosed stops.Memory locations threads inside depth left k h i read = tt
 not_enclosed (stops.At problem start end) locations threads inside depth left k h i read = enclosed locations threads inside depth left k h i ∙ ap closed read
 
-pub not_closed : (e : Stop) (locations : List Location) (threads : List Thread) (inside depth : ℕ) (left middle : Left) (f : Formula) → inside + 1 ≡ depth → is_next signs.Tilde left ≡ false
+pub not_closed : (e : Stop) (locations : List Located) (threads : List Names) (inside depth : ℕ) (left middle : Left) (f : Formula) → inside + 1 ≡ depth → is_next signs.Tilde left ≡ false
     → is_next signs.OpenParenthesis left ≡ true → disjunction_of (part_at locations threads inside) (passed left) ≡ Some (f, middle) → Stops e (after_sign signs.CloseParenthesis middle)
     → Stops e (part_at locations threads depth left)
 not_closed stops.Memory locations threads inside depth left middle f k h i read last = tt

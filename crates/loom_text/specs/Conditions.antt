@@ -1,5 +1,6 @@
 -- How conditions are read.
-use Rattle.std.specs.Prelude.{ℕ, ℤ, zero, suc, ◌+◌, List, Bool, Option, Some, None, slice_get, if◌then◌else◌}
+use Rattle.std.specs.Prelude.{ℕ, ℤ, zero, suc, ◌+◌, List, Option, Some, None, map, slice_get, if◌then◌else◌}
+use Rattle.loom_text.specs.declared.read.conditions.Names.{Names as Naming}
 use Rattle.loom_text.specs.declared.read.parser.TheConstants.{MAX_DEPTH, MAX_OPERATORS}
 use Rattle.loom_text.specs.declared.read.symbol.Symbol.{Symbol}
 use Rattle.loom_text.specs.declared.read.symbol.Symbol.TheVariants as signs
@@ -9,12 +10,17 @@ use Rattle.loom_text.specs.declared.test.Condition.{Condition}
 use Rattle.loom_text.specs.declared.test.Condition.TheVariants.{Equal, Not', And', Or'}
 use Rattle.loom_text.specs.declared.test.Kind.{Kind}
 use Rattle.loom_text.specs.declared.test.Kind.TheVariants.{Atomic, Plain, Mutex, Condvar}
-use Rattle.loom_text.specs.declared.test.Location.{Location}
 use Rattle.loom_text.specs.declared.test.Term.{Term}
 use Rattle.loom_text.specs.declared.test.Term.TheVariants as terms
-use Rattle.loom_text.specs.declared.test.Thread.{Thread}
-use Rattle.loom_text.specs.Named.{location_named, register_named}
+use Rattle.loom_text.specs.Known.{Located, Names, located, location_in, named_in, registers_of}
 use Rattle.loom_text.specs.Tokens.{Left, ◌>>=◌, after_sign, constant_at, counted, is_next, name_at, next, passed}
+
+-- what may be named, wherever the names lie
+abbrev pub places_of : Naming → List Located
+places_of names = map located names.locations.now
+
+abbrev pub threads_of : Naming → List Names
+threads_of names = map registers_of names.threads.now
 
 -- a condition, wherever its parts lie
 pub data Formula : Type 0 where
@@ -36,20 +42,20 @@ has_value Plain number = Some (terms.Location number)
 has_value Mutex number = None
 has_value Condvar number = None
 
-abbrev pub location_term : List Location → List ℕ → Option Term
+abbrev pub location_term : List Located → List ℕ → Option Term
 location_term locations name =
-    location_named locations name >>= λ number.
+    location_in locations name >>= λ number.
     slice_get locations number >>= λ location.
     has_value location.kind number
 
-abbrev pub register_term : List Thread → ℕ → List ℕ → Option Term
+abbrev pub register_term : List Names → ℕ → List ℕ → Option Term
 register_term threads thread name =
-    slice_get threads thread >>= λ found.
-    register_named found.registers.items name >>= λ register.
+    slice_get threads thread >>= λ registers.
+    named_in registers name >>= λ register.
     Some (terms.Register thread register)
 
 -- `0:r0`, `x` or `[x]`
-abbrev pub term_from : List Location → List Thread → TokenKind → List ℕ → Left → Option (Term × Left)
+abbrev pub term_from : List Located → List Names → TokenKind → List ℕ → Left → Option (Term × Left)
 term_from locations threads (kinds.Number thread) spelling left =
     after_sign signs.Colon left >>= λ left.
     name_at left >>= λ name.
@@ -65,11 +71,11 @@ term_from locations threads (kinds.Symbol signs.OpenBracket) spelling left =
     Some (term, left)
 term_from locations threads _ spelling left = None
 
-unfoldable pub term_at : List Location → List Thread → Left → Option (Term × Left)
+unfoldable pub term_at : List Located → List Names → Left → Option (Term × Left)
 term_at locations threads left = term_from locations threads (next left).0 (next left).1 (passed left)
 
 -- `0:r0=1` and the like
-unfoldable pub comparison_at : List Location → List Thread → Left → Option (Formula × Left)
+unfoldable pub comparison_at : List Located → List Names → Left → Option (Formula × Left)
 comparison_at locations threads left =
     counted left >>= λ left.
     term_at locations threads left >>= λ term.
@@ -94,7 +100,7 @@ disjunction_of part left =
     conjunction_of part left >>= λ read. joined_at signs.Disjunction Either (conjunction_of part) (MAX_OPERATORS + 1) read.0 read.1
 
 -- `~` and a part, a condition in parentheses, or a comparison, with so many of the first two in one another
-unfoldable pub part_at : List Location → List Thread → ℕ → Left → Option (Formula × Left)
+unfoldable pub part_at : List Located → List Names → ℕ → Left → Option (Formula × Left)
 part_at locations threads zero left =
     if is_next signs.Tilde left then None
     else (if is_next signs.OpenParenthesis left then None else comparison_at locations threads left)
@@ -108,5 +114,5 @@ part_at locations threads (suc depth) left =
     else comparison_at locations threads left)
 
 -- a whole condition
-unfoldable pub condition_at : List Location → List Thread → Left → Option (Formula × Left)
+unfoldable pub condition_at : List Located → List Names → Left → Option (Formula × Left)
 condition_at locations threads left = disjunction_of (part_at locations threads MAX_DEPTH) (left.0, 0)

@@ -1,23 +1,18 @@
 -- How expressions are read.
-use Rattle.std.specs.Prelude.{ℕ, ℤ, pos, zero, suc, ◌+◌, ◌*◌, ◌&&◌, nat_eq, nat_lt, List, Bool, true, false, Option, Some, None, is_some, cond, if◌then◌else◌}
+use Rattle.std.specs.Prelude.{ℕ, ℤ, pos, zero, suc, ◌+◌, ◌*◌, ◌&&◌, nat_lt, List, Bool, true, false, Option, Some, None, is_some, cond, if◌then◌else◌}
 use Rattle.std.specs.Int.{from_bool}
-use Rattle.std.specs.List.{list_any}
-use Rattle.std.specs.Option.{option_and_then, option_map, unwrap_or}
 use Rattle.std.specs.declared.sync.atomic.Ordering.{Ordering}
 use Rattle.std.specs.declared.sync.atomic.Ordering.TheVariants as orders
 use Rattle.loom_text.specs.contracts.read.symbol.SymbolPartialEq.TheImpl as same_signs
 use Rattle.loom_text.specs.contracts.read.token.TokenKindPartialEq.TheImpl as same
-use Rattle.loom_text.specs.contracts.test.KindPartialEq.TheImpl as same_kinds
 use Rattle.loom_text.specs.declared.read.lexer.TheConstants.{LARGEST_NUMBER}
 use Rattle.loom_text.specs.declared.read.parser.TheConstants.{MAX_DEPTH, MAX_OPERATORS}
-use Rattle.loom_text.specs.declared.read.scope.Scope.{Scope}
 use Rattle.loom_text.specs.declared.read.symbol.Symbol.{Symbol}
 use Rattle.loom_text.specs.declared.read.symbol.Symbol.TheVariants as signs
 use Rattle.loom_text.specs.declared.read.token.TokenKind.{TokenKind}
 use Rattle.loom_text.specs.declared.read.token.TokenKind.TheVariants as kinds
 use Rattle.loom_text.specs.declared.read.word.Function.{Function}
 use Rattle.loom_text.specs.declared.read.word.Function.TheVariants as functions
-use Rattle.loom_text.specs.declared.read.word.Word.{Word}
 use Rattle.loom_text.specs.declared.read.word.Word.TheVariants as words
 use Rattle.loom_text.specs.declared.test.BinaryOperator.{BinaryOperator}
 use Rattle.loom_text.specs.declared.test.BinaryOperator.TheVariants as binary
@@ -28,11 +23,9 @@ use Rattle.loom_text.specs.declared.test.Expression.TheVariants as expressions
 use Rattle.loom_text.specs.declared.test.FetchOperator.{FetchOperator}
 use Rattle.loom_text.specs.declared.test.Kind.{Kind}
 use Rattle.loom_text.specs.declared.test.Kind.TheVariants as location_kinds
-use Rattle.loom_text.specs.declared.test.Location.{Location}
 use Rattle.loom_text.specs.declared.test.Strength.{Strength}
 use Rattle.loom_text.specs.declared.test.UnaryOperator.{UnaryOperator}
-use Rattle.loom_text.specs.declared.test.UnaryOperator.TheVariants as unary
-use Rattle.loom_text.specs.Named.{kind_at, location_named, register_named}
+use Rattle.loom_text.specs.Known.{Known, named_in, number_of, parameter_in}
 use Rattle.loom_text.specs.Spelling.{operator_of, unary_of}
 use Rattle.loom_text.specs.Tokens.{Left, ◌>>=◌, after_sign, constant_at, counted, is_next, name_at, next, passed}
 
@@ -83,44 +76,28 @@ abbrev mutual
 
 -- ---- names
 
-abbrev pub is_parameter : Scope → ℕ → Bool
-is_parameter scope location = list_any (λ parameter. nat_eq parameter location) scope.parameters.items
-
--- the location, if it is of this kind
-abbrev pub of_kind : Kind → ℕ → Option Kind → Option ℕ
-of_kind kind location None = Some location
-of_kind kind location (Some found) = if (same_kinds.ghosts).eq found kind then Some location else None
-
 -- the parameter of this name and kind
-abbrev pub parameter_named : Scope → Kind → List ℕ → Option ℕ
+abbrev pub parameter_named : Known → Kind → List ℕ → Option ℕ
 parameter_named scope kind name =
-    if is_some (register_named scope.registers.items name) then None
-    else (location_named scope.locations.items name >>= λ location.
-    if is_parameter scope location then of_kind kind location (kind_at scope.locations.items location) else None)
+    if is_some (named_in scope.registers name) then None
+    else number_of kind (parameter_in scope.locations name)
 
-unfoldable pub location_at : Scope → Kind → Left → Option (ℕ × Left)
+unfoldable pub location_at : Known → Kind → Left → Option (ℕ × Left)
 location_at scope kind left =
     if is_next signs.Ampersand left then None
     else (name_at left >>= λ name. parameter_named scope kind name.0 >>= λ location. Some (location, name.1))
 
 -- what a star stands before
-unfoldable pub pointed_at : Scope → Left → Option (ℕ × Left)
+unfoldable pub pointed_at : Known → Left → Option (ℕ × Left)
 pointed_at scope left = if is_next signs.Star left then None else location_at scope location_kinds.Plain left
 
 -- a name that was read, as a register
-abbrev pub register_from : Scope → List ℕ → Left → Option ℕ
-register_from scope name left = if is_next signs.OpenParenthesis left then None else register_named scope.registers.items name
+abbrev pub register_from : Known → List ℕ → Left → Option ℕ
+register_from scope name left = if is_next signs.OpenParenthesis left then None else named_in scope.registers name
 
 -- the plain int to which the next token points
-abbrev pub plain_named : Scope → List ℕ → Option ℕ
-plain_named scope name =
-    if is_some (register_named scope.registers.items name) then None
-    else (location_named scope.locations.items name >>= λ location.
-    kind_at scope.locations.items location >>= λ kind.
-    if (same_kinds.ghosts).eq kind location_kinds.Plain && is_parameter scope location then Some location else None)
-
-unfoldable pub plain_at : Scope → Left → Option ℕ
-plain_at scope left = if (same.ghosts).eq (next left).0 kinds.Name then plain_named scope (next left).1 else None
+unfoldable pub plain_at : Known → Left → Option ℕ
+plain_at scope left = if (same.ghosts).eq (next left).0 kinds.Name then parameter_named scope location_kinds.Plain (next left).1 else None
 
 -- ---- the arguments of a call that has so many
 
@@ -154,7 +131,7 @@ next_argument_at left = if is_next signs.CloseParenthesis left then None else af
 unfoldable pub end_arguments_at : Left → Option Left
 end_arguments_at left = if is_next signs.Comma left then None else after_sign signs.CloseParenthesis left
 
-unfoldable pub first_location_at : Scope → ℕ → Kind → Left → Option (ℕ × Left)
+unfoldable pub first_location_at : Known → ℕ → Kind → Left → Option (ℕ × Left)
 first_location_at scope count kind left = begin_arguments_at count left >>= λ left. location_at scope kind left
 
 abbrev pub order_from : TokenKind → Left → Option (Ordering × Left)
@@ -193,28 +170,28 @@ abbrev pub by_value : Readers → Option ℕ → Left → Option (Comparand × L
 by_value readers (Some location) left = Some (ByPlain location, passed left)
 by_value readers None left = readers.many 1 left >>= λ value. Some (ByValue value.0, value.1)
 
-unfoldable pub compared_at : Scope → Readers → Left → Option (Comparand × Left)
+unfoldable pub compared_at : Known → Readers → Left → Option (Comparand × Left)
 compared_at scope readers left =
     next_argument_at left >>= λ left.
     if is_next signs.Ampersand left
     then (name_at (passed left) >>= λ name. register_from scope name.0 name.1 >>= λ register. Some (ByRegister register, name.1))
     else by_value readers (plain_at scope left) left
 
-unfoldable pub exchange_at : Scope → Readers → ℕ → Bool → Left → Option (Phrase × Left)
+unfoldable pub exchange_at : Known → Readers → ℕ → Bool → Left → Option (Phrase × Left)
 exchange_at scope readers count explicit left =
     first_location_at scope count location_kinds.Atomic left >>= λ location.
     argument_at readers location.1 >>= λ value.
     order_at explicit value.1 >>= λ order.
     Some (Exchanged location.0 value.0 order.0, order.1)
 
-unfoldable pub fetch_at : Scope → Readers → FetchOperator → ℕ → Bool → Left → Option (Phrase × Left)
+unfoldable pub fetch_at : Known → Readers → FetchOperator → ℕ → Bool → Left → Option (Phrase × Left)
 fetch_at scope readers operator count explicit left =
     first_location_at scope count location_kinds.Atomic left >>= λ location.
     argument_at readers location.1 >>= λ value.
     order_at explicit value.1 >>= λ order.
     Some (Fetched operator location.0 value.0 order.0, order.1)
 
-unfoldable pub compare_exchange_at : Scope → Readers → Strength → ℕ → Bool → Left → Option (Phrase × Left)
+unfoldable pub compare_exchange_at : Known → Readers → Strength → ℕ → Bool → Left → Option (Phrase × Left)
 compare_exchange_at scope readers strength count explicit left =
     first_location_at scope count location_kinds.Atomic left >>= λ location.
     compared_at scope readers location.1 >>= λ compared.
@@ -223,7 +200,7 @@ compare_exchange_at scope readers strength count explicit left =
     load_order_at explicit success.1 >>= λ failure.
     Some (comparing strength location.0 compared.0 value.0 success.0 failure.0, failure.1)
 
-abbrev pub arguments_at : Scope → Readers → Function → ℕ → Bool → Left → Option (Phrase × Left)
+abbrev pub arguments_at : Known → Readers → Function → ℕ → Bool → Left → Option (Phrase × Left)
 arguments_at scope readers functions.Load count explicit left =
     first_location_at scope count location_kinds.Atomic left >>= λ location.
     load_order_at explicit location.1 >>= λ order.
@@ -236,7 +213,7 @@ arguments_at scope readers functions.TryLock count explicit left =
 arguments_at scope readers _ count explicit left = None
 
 -- a call that has a value
-unfoldable pub call_at : Scope → Readers → Function → Bool → Left → Option (Phrase × Left)
+unfoldable pub call_at : Known → Readers → Function → Bool → Left → Option (Phrase × Left)
 call_at scope readers function explicit left =
     arguments_at scope readers function (arguments_of function explicit) explicit left >>= λ call.
     end_arguments_at call.1 >>= λ left.
@@ -260,7 +237,7 @@ enclosed_with inside left =
     Some (read.0, left))
 
 -- a number, a name, a call or parentheses
-abbrev pub primary_from : Scope → Option Readers → TokenKind → List ℕ → Left → Left → Option (Phrase × Left)
+abbrev pub primary_from : Known → Option Readers → TokenKind → List ℕ → Left → Left → Option (Phrase × Left)
 primary_from scope inside (kinds.Number number) spelling behind left = constant_at left >>= λ value. Some (Constant value.0, value.1)
 primary_from scope inside (kinds.Word (words.Status busy)) spelling behind left = Some (Constant (pos (from_bool busy)), behind)
 primary_from scope inside kinds.Name spelling behind left = register_from scope spelling behind >>= λ register. Some (OfRegister register, behind)
@@ -269,14 +246,14 @@ primary_from scope inside (kinds.Word (words.Function function explicit)) spelli
 primary_from scope inside (kinds.Symbol signs.OpenParenthesis) spelling behind left = enclosed_with inside behind
 primary_from scope inside _ spelling behind left = None
 
-unfoldable pub primary_with : Scope → Option Readers → Reads
+unfoldable pub primary_with : Known → Option Readers → Reads
 primary_with scope inside left = primary_from scope inside (next left).0 (next left).1 (passed left) left
 
 -- a sign, and what it stands before
 unfoldable pub signed_as : Option Readers → UnaryOperator → Reads
 signed_as inside operator left = inside >>= λ inside. inside.one (passed left) >>= λ operand. Some (Signed operator operand.0, operand.1)
 
-abbrev pub signed_with : Scope → Option Readers → Option UnaryOperator → Reads
+abbrev pub signed_with : Known → Option Readers → Option UnaryOperator → Reads
 signed_with scope inside None left = primary_with scope inside left
 signed_with scope inside (Some operator) left = signed_as inside operator left
 
@@ -284,7 +261,7 @@ signed_with scope inside (Some operator) left = signed_as inside operator left
 abbrev pub is_least : Symbol → Left → Bool
 is_least symbol behind = (same_signs.ghosts).eq symbol signs.Minus && (same.ghosts).eq (next behind).0 (kinds.Number LARGEST_NUMBER)
 
-abbrev pub one_from : Scope → Option Readers → TokenKind → Reads
+abbrev pub one_from : Known → Option Readers → TokenKind → Reads
 one_from scope inside (kinds.Symbol symbol) left =
     if (same_signs.ghosts).eq symbol signs.Ampersand then None
     else (if (same_signs.ghosts).eq symbol signs.Star
@@ -294,7 +271,7 @@ one_from scope inside (kinds.Symbol symbol) left =
     else signed_with scope inside (unary_of symbol) left))
 one_from scope inside _ left = primary_with scope inside left
 
-unfoldable pub one_with : Scope → Option Readers → Reads
+unfoldable pub one_with : Known → Option Readers → Reads
 one_with scope inside left = one_from scope inside (next left).0 left
 
 -- how strongly an operator binds
@@ -339,19 +316,19 @@ unfoldable pub operators_at : Option Readers → ℕ → ℕ → Phrase → Read
 operators_at inside lowest zero read left = None
 operators_at inside lowest (suc n) read left = by_operator inside (operators_at inside lowest n) read (operator_at lowest left) left
 
-unfoldable pub many_with : Scope → Option Readers → ℕ → Reads
+unfoldable pub many_with : Known → Option Readers → ℕ → Reads
 many_with scope inside lowest left = one_with scope inside left >>= λ first. operators_at inside lowest (MAX_OPERATORS + 1) first.0 first.1
 
 -- at this depth, with parts that may stand so deep in it
-unfoldable pub readers : Scope → ℕ → Readers
+unfoldable pub readers : Known → ℕ → Readers
 readers scope zero = record { one = one_with scope None; many = many_with scope None }
 readers scope (suc depth) = record { one = one_with scope (Some (readers scope depth)); many = many_with scope (Some (readers scope depth)) }
 
 -- what may stand inside
-unfoldable pub inside : Scope → ℕ → Option Readers
+unfoldable pub inside : Known → ℕ → Option Readers
 inside scope zero = None
 inside scope (suc depth) = Some (readers scope depth)
 
 -- a whole expression
-unfoldable pub expression_at : Scope → Left → Option (Phrase × Left)
+unfoldable pub expression_at : Known → Left → Option (Phrase × Left)
 expression_at scope left = many_with scope (inside scope MAX_DEPTH) 1 (left.0, 0)

@@ -1,5 +1,9 @@
+pub mod Blocks
 pub mod Conditions
+pub mod Deeds
 pub mod Expressions
+pub mod Heads
+pub mod Known
 pub mod Named
 pub mod Phrases
 pub mod Place
@@ -8,4 +12,6 @@ pub mod Question
 pub mod Readable
 pub mod Run
 pub mod Spelling
+pub mod Statements
 pub mod Tokens
+pub mod Whole

@@ -1,10 +1,8 @@
 -- Which tokens an expression is written as, and that reading them gives it again.
-use Rattle.std.specs.Prelude.{ℕ, ℤ, pos, negsuc, suc, ◌≡◌, ◌+◌, ◌<◌, ◌≤◌, ◌^◌, ◌==◌, nat_lt, max, List, [], ◌∷◌, ◌++◌, Bool, true, false, Option, Some, None, slice_get, string_bytes, codes, String, if◌then◌else◌}
-use Rattle.std.specs.Option.{option_map, unwrap_or}
-use Rattle.std.specs.declared.alloc.Global.{Global}
+use Rattle.std.specs.Prelude.{ℕ, ℤ, pos, negsuc, suc, ◌≡◌, ◌+◌, ◌<◌, ◌≤◌, ◌^◌, nat_lt, max, List, [], ◌∷◌, ◌++◌, Bool, true, false, Some, None, slice_get, codes, if◌then◌else◌}
+use Rattle.std.specs.Option.{unwrap_or}
 use Rattle.std.specs.declared.sync.atomic.Ordering.{Ordering}
 use Rattle.loom_text.specs.declared.read.parser.TheConstants.{MAX_DEPTH, MAX_OPERATORS}
-use Rattle.loom_text.specs.declared.read.scope.Scope.{Scope}
 use Rattle.loom_text.specs.declared.read.symbol.Symbol.{Symbol}
 use Rattle.loom_text.specs.declared.read.symbol.Symbol.TheVariants as signs
 use Rattle.loom_text.specs.declared.read.word.Function.{Function}
@@ -15,17 +13,16 @@ use Rattle.loom_text.specs.declared.test.BinaryOperator.TheVariants as binary
 use Rattle.loom_text.specs.declared.test.FetchOperator.{FetchOperator}
 use Rattle.loom_text.specs.declared.test.FetchOperator.TheVariants as fetch
 use Rattle.loom_text.specs.declared.test.Kind.TheVariants as location_kinds
-use Rattle.loom_text.specs.declared.test.Location.{Location}
 use Rattle.loom_text.specs.declared.test.Strength.{Strength}
 use Rattle.loom_text.specs.declared.test.Strength.TheVariants as strengths
 use Rattle.loom_text.specs.declared.test.UnaryOperator.{UnaryOperator}
 use Rattle.loom_text.specs.declared.test.UnaryOperator.TheVariants as unary
-use Rattle.loom_text.specs.Expressions.{Phrase, Constant, OfRegister, Pointed, Signed, Between, Loaded, Exchanged, Fetched, Compared, ComparedRegister, ComparedPlain, Tried, binds, expression_at, for_a_load, operator_at, parameter_named, plain_named}
-use Rattle.loom_text.specs.Named.{register_named}
-use Rattle.loom_text.specs.Printing.{IsInt, in_parentheses, location_name, name, printed_value, sign}
+use Rattle.loom_text.specs.Expressions.{Phrase, Constant, OfRegister, Pointed, Signed, Between, Loaded, Exchanged, Fetched, Compared, ComparedRegister, ComparedPlain, Tried, binds, expression_at, for_a_load, operator_at, parameter_named}
+use Rattle.loom_text.specs.Known.{Known, name_of, named_in}
+use Rattle.loom_text.specs.Printing.{in_parentheses, name, printed_value, sign}
 use Rattle.loom_text.specs.Readable.{word}
 use Rattle.loom_text.specs.Spelling.{order_text}
-use Rattle.loom_text.specs.Tokens.{Left, Spelled, is_next}
+use Rattle.loom_text.specs.Tokens.{Spelled, is_next}
 
 abbrev pub unary_sign : UnaryOperator → Symbol
 unary_sign unary.Neg = signs.Minus
@@ -63,11 +60,11 @@ abbrev pub compare_text : Strength → List ℕ
 compare_text strengths.Strong = codes "atomic_compare_exchange_strong_explicit"
 compare_text strengths.Weak = codes "atomic_compare_exchange_weak_explicit"
 
-abbrev pub register_name_in : Scope → ℕ → List ℕ
-register_name_in scope register = unwrap_or (option_map (λ name. string_bytes name) (slice_get scope.registers.items register)) (codes "?")
+abbrev pub register_name_in : Known → ℕ → List ℕ
+register_name_in scope register = unwrap_or (slice_get scope.registers register) (codes "?")
 
-abbrev pub location_token : Scope → ℕ → Spelled
-location_token scope location = name (location_name scope.locations.items location)
+abbrev pub location_token : Known → ℕ → Spelled
+location_token scope location = name (name_of scope.locations location)
 
 -- a call's name and its parenthesis
 abbrev pub calling : Function → Bool → List ℕ → List Spelled → List Spelled
@@ -80,7 +77,7 @@ abbrev pub closing : List Spelled
 closing = sign signs.CloseParenthesis ∷ []
 
 -- The expression, in parentheses where it binds less strongly than so: an operator as `binds` says, a sign before it 11.
-unfoldable pub printed_phrase : Scope → ℕ → Phrase → List Spelled
+unfoldable pub printed_phrase : Known → ℕ → Phrase → List Spelled
 printed_phrase scope lowest (Constant value) = printed_value value
 printed_phrase scope lowest (OfRegister register) = name (register_name_in scope register) ∷ []
 printed_phrase scope lowest (Pointed location) = sign signs.Star ∷ location_token scope location ∷ []
@@ -120,17 +117,17 @@ IsConstant (pos n) = n < 2 ^ 31
 IsConstant (negsuc n) = suc n ≡ 2 ^ 31
 
 -- its name leads to it
-abbrev pub IsFoundRegister : Scope → ℕ → Type 0
-IsFoundRegister scope register = register_named scope.registers.items (register_name_in scope register) ≡ Some register
+abbrev pub IsFoundRegister : Known → ℕ → Type 0
+IsFoundRegister scope register = named_in scope.registers (register_name_in scope register) ≡ Some register
 
-abbrev pub IsAtomic : Scope → ℕ → Type 0
-IsAtomic scope location = parameter_named scope location_kinds.Atomic (location_name scope.locations.items location) ≡ Some location
+abbrev pub IsAtomic : Known → ℕ → Type 0
+IsAtomic scope location = parameter_named scope location_kinds.Atomic (name_of scope.locations location) ≡ Some location
 
 -- each name leads to what it names, and each order is one that its operation may have
-abbrev pub IsWritablePhrase : Scope → Phrase → Type 0
+abbrev pub IsWritablePhrase : Known → Phrase → Type 0
 IsWritablePhrase scope (Constant value) = IsConstant value
 IsWritablePhrase scope (OfRegister register) = IsFoundRegister scope register
-IsWritablePhrase scope (Pointed location) = parameter_named scope location_kinds.Plain (location_name scope.locations.items location) ≡ Some location
+IsWritablePhrase scope (Pointed location) = parameter_named scope location_kinds.Plain (name_of scope.locations location) ≡ Some location
 IsWritablePhrase scope (Signed operator operand) = IsWritablePhrase scope operand
 IsWritablePhrase scope (Between operator left right) = IsWritablePhrase scope left × IsWritablePhrase scope right
 IsWritablePhrase scope (Loaded location order) = IsAtomic scope location × (for_a_load order ≡ true)
@@ -141,8 +138,8 @@ IsWritablePhrase scope (Compared strength location compared value success failur
 IsWritablePhrase scope (ComparedRegister strength location register value success failure) =
     IsAtomic scope location × IsFoundRegister scope register × IsWritablePhrase scope value × (for_a_load failure ≡ true)
 IsWritablePhrase scope (ComparedPlain strength location plain value success failure) =
-    IsAtomic scope location × (plain_named scope (location_name scope.locations.items plain) ≡ Some plain) × IsWritablePhrase scope value × (for_a_load failure ≡ true)
-IsWritablePhrase scope (Tried mutex) = parameter_named scope location_kinds.Mutex (location_name scope.locations.items mutex) ≡ Some mutex
+    IsAtomic scope location × (parameter_named scope location_kinds.Plain (name_of scope.locations plain) ≡ Some plain) × IsWritablePhrase scope value × (for_a_load failure ≡ true)
+IsWritablePhrase scope (Tried mutex) = parameter_named scope location_kinds.Mutex (name_of scope.locations mutex) ≡ Some mutex
 
 -- how many operators stand between two expressions
 abbrev pub operators : Phrase → ℕ
@@ -176,13 +173,13 @@ phrase_depth lowest (ComparedPlain strength location plain value success failure
 phrase_depth lowest (Tried mutex) = 1
 
 -- what is written of it is read: it isn't deeper or longer than what is read
-pub record PhraseCanBeRead (scope : Scope) (phrase : Phrase) : Type 0 where
+pub record PhraseCanBeRead (scope : Known) (phrase : Phrase) : Type 0 where
   pub writable : IsWritablePhrase scope phrase
   pub few : operators phrase ≤ MAX_OPERATORS
   pub shallow : phrase_depth 1 phrase ≤ MAX_DEPTH
 
 -- What is written of an expression is read as that expression, whatever follows it that doesn't go on with it.
 abbrev pub ExpressionsReadBack : Type 0
-ExpressionsReadBack = (scope : Scope) (phrase : Phrase) (behind : List Spelled) (count : ℕ) → PhraseCanBeRead scope phrase
+ExpressionsReadBack = (scope : Known) (phrase : Phrase) (behind : List Spelled) (count : ℕ) → PhraseCanBeRead scope phrase
     → is_next signs.OpenParenthesis (behind, 0) ≡ false → operator_at 1 (behind, 0) ≡ None
     → expression_at scope (printed_phrase scope 1 phrase ++ behind, count) ≡ Some (phrase, (behind, operators phrase))

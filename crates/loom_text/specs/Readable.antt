@@ -6,14 +6,13 @@ use Rattle.loom_text.specs.declared.read.symbol.Symbol.TheVariants as signs
 use Rattle.loom_text.specs.declared.read.token.TokenKind.TheVariants as kinds
 use Rattle.loom_text.specs.declared.read.word.Word.{Word}
 use Rattle.loom_text.specs.declared.read.word.Word.TheVariants as words
-use Rattle.loom_text.specs.declared.test.Location.{Location}
 use Rattle.loom_text.specs.declared.test.Quantifier.{Quantifier}
 use Rattle.loom_text.specs.declared.test.Quantifier.TheVariants as quantifiers
 use Rattle.loom_text.specs.declared.test.Term.{Term}
 use Rattle.loom_text.specs.declared.test.Test.{Test}
-use Rattle.loom_text.specs.declared.test.Thread.{Thread}
+use Rattle.loom_text.specs.Known.{Located, Names}
 use Rattle.loom_text.specs.Conditions.{Formula, formula}
-use Rattle.loom_text.specs.Printing.{CanBeRead, IsFound, printed, printed_term, sign}
+use Rattle.loom_text.specs.Printing.{CanBeRead, IsFound, places_in, printed, printed_term, sign, threads_in}
 use Rattle.loom_text.specs.Question.{Asked, question_at}
 use Rattle.loom_text.specs.Tokens.{Spelled}
 
@@ -21,15 +20,15 @@ abbrev pub word : Word → List ℕ → Spelled
 word w spelling = (kinds.Word w, spelling)
 
 -- each term with a semicolon behind it
-abbrev pub printed_terms : List Location → List Thread → List Term → List Spelled
+abbrev pub printed_terms : List Located → List Names → List Term → List Spelled
 printed_terms locations threads = flat_map (λ term. printed_term locations threads term ++ sign signs.Semicolon ∷ [])
 
-abbrev pub printed_listed : List Location → List Thread → List Term → List Spelled
+abbrev pub printed_listed : List Located → List Names → List Term → List Spelled
 printed_listed locations threads [] = []
 printed_listed locations threads (term ∷ terms) =
     word words.Locations (codes "locations") ∷ sign signs.OpenBracket ∷ (printed_terms locations threads (term ∷ terms) ++ sign signs.CloseBracket ∷ [])
 
-abbrev pub printed_filter : List Location → List Thread → Option Formula → List Spelled
+abbrev pub printed_filter : List Located → List Names → Option Formula → List Spelled
 printed_filter locations threads None = []
 printed_filter locations threads (Some filter) = word words.Filter (codes "filter") ∷ printed locations threads 1 filter
 
@@ -38,13 +37,13 @@ printed_quantifier quantifiers.Exists = word words.Exists (codes "exists") ∷ [
 printed_quantifier quantifiers.NotExists = sign signs.Tilde ∷ word words.Exists (codes "exists") ∷ []
 printed_quantifier quantifiers.Forall = word words.Forall (codes "forall") ∷ []
 
-abbrev pub printed_question : List Location → List Thread → Asked → List Spelled
+abbrev pub printed_question : List Located → List Names → Asked → List Spelled
 printed_question locations threads asked =
     printed_listed locations threads asked.listed ++ (printed_filter locations threads asked.filter
     ++ (printed_quantifier asked.quantifier ++ (printed locations threads 1 asked.condition ++ (kinds.End, []) ∷ [])))
 
 -- each name leads to what it names, and no condition is deeper or longer than what is read
-pub record QuestionCanBeRead (locations : List Location) (threads : List Thread) (asked : Asked) : Type 0 where
+pub record QuestionCanBeRead (locations : List Located) (threads : List Names) (asked : Asked) : Type 0 where
   pub listed : All (IsFound locations threads) asked.listed
   pub filter : IfSome asked.filter (CanBeRead locations threads)
   pub condition : CanBeRead locations threads asked.condition
@@ -59,9 +58,9 @@ asked_of test = record {
 
 -- what is written of what follows its threads is read
 abbrev pub IsReadable : Test → Type 0
-IsReadable test = QuestionCanBeRead test.locations.items test.threads.items (asked_of test)
+IsReadable test = QuestionCanBeRead (places_in test) (threads_in test) (asked_of test)
 
 -- What is written of it is read as the same.
 abbrev pub QuestionsReadBack : Type 0
-QuestionsReadBack = (locations : List Location) (threads : List Thread) (asked : Asked) (count : ℕ) → QuestionCanBeRead locations threads asked
+QuestionsReadBack = (locations : List Located) (threads : List Names) (asked : Asked) (count : ℕ) → QuestionCanBeRead locations threads asked
     → question_at locations threads (printed_question locations threads asked, count) ≡ Some asked

@@ -1,6 +1,5 @@
 -- The tokens that are left to read, and what reading one of them gives.
 use Rattle.std.specs.Prelude.{ℕ, ℤ, pos, negsuc, zero, suc, ◌≡◌, ◌+◌, ◌^◌, nat_lt, List, [], ◌∷◌, Bool, Option, Some, None, Result, Ok, Err, map, if◌then◌else◌}
-use Rattle.std.specs.Option.{option_and_then}
 use Rattle.loom_text.specs.contracts.read.token.TokenKindPartialEq.TheImpl as same
 use Rattle.loom_text.specs.declared.read.parser.Parser.{Parser}
 use Rattle.loom_text.specs.declared.read.parser.TheConstants.{MAX_OPERATORS}

@@ -3,12 +3,14 @@ ghost use Rattle.std.specs.Prelude.{IfOk, IfErr};
 ghost use Rattle.loom_text.specs.Named.{IsNamed};
 ghost use Rattle.loom_text.specs.Place.{IsPlaced};
 ghost use Rattle.loom_text.specs.Readable.{IsReadable};
+ghost use Rattle.loom_text.specs.Whole.{IsRead};
 
 pub(crate) mod conditions;
 pub(crate) mod expressions;
 pub(crate) mod heads;
 pub(crate) mod lexer;
 pub(crate) mod parser;
+pub(crate) mod places;
 pub(crate) mod scope;
 pub(crate) mod statements;
 pub(crate) mod stop;
@@ -32,6 +34,7 @@ pub fn read(alloc: Global, text: &[u8]) -> Result<Test, ReadError>
     ensures place { IfErr result (IsPlaced text.now) }
     ensures named { IfOk result IsNamed }
     ensures again { IfOk result IsReadable }
+    ensures read { IfOk result IsRead }
 {
     match test(alloc, text) {
         Ok(test) => Ok(test),
@@ -46,6 +49,7 @@ pub fn read(alloc: Global, text: &[u8]) -> Result<Test, ReadError>
 fn test(alloc: Global, text: &[u8]) -> Result<Test, Stop>
     ensures named { IfOk result IsNamed }
     ensures again { IfOk result IsReadable }
+    ensures read { IfOk result IsRead }
 {
     if text.len() > MAX_TEXT {
         return Err(Stop::At(Problem::TooLong, MAX_TEXT, text.len()));

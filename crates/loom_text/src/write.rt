@@ -1,9 +1,10 @@
 //! Writes a litmus test as the text that `read` reads. All names of a test that was read are found; a number that is no name's shows
 //! as `?`.
-ghost use Rattle.std.specs.Prelude.{◌≡◌, ◌++◌, ℕ, List, codes, nat_lt, slice_get, string_bytes, IfOk, OnOk, if◌then◌else◌};
+ghost use Rattle.std.specs.Prelude.{◌≡◌, ◌++◌, ℕ, List, codes, map, nat_lt, slice_get, string_bytes, IfOk, OnOk, if◌then◌else◌};
 ghost use Rattle.std.specs.Option.{option_map, unwrap_or};
 ghost use Rattle.loom_text.specs.Conditions.{formula};
-ghost use Rattle.loom_text.specs.Printing.{filter_text, listed_text, location_name, printed, printed_term, quantifier_text, question_text, terms_text, text_of};
+ghost use Rattle.loom_text.specs.Known.{located, spellings};
+ghost use Rattle.loom_text.specs.Printing.{filter_text, listed_text, location_name, places_in, printed, printed_term, quantifier_text, question_text, terms_text, text_of, threads_in};
 ghost use Rattle.loom_text.specs.Spelling.{binary_text, order_text, unary_text};
 
 use crate::read::expressions::binds;
@@ -60,7 +61,7 @@ fn write_question(test: &Test, text: &mut String) -> Result<(), AllocError>
 
 fn write_filter(test: &Test, text: &mut String) -> Result<(), AllocError>
     ensures { OnOk result (string_bytes text.new ≡ string_bytes text.old
-        ++ filter_text test.now.locations.items test.now.threads.items (option_map formula test.now.filter)) }
+        ++ filter_text (places_in test.now) (threads_in test.now) (option_map formula test.now.filter)) }
 {
     if let Some(filter) = &test.filter {
         text.push_str("filter ")?;
@@ -116,8 +117,9 @@ impl<'a> Names<'a> {
     }
 }
 
+#[tactic(auto, using(crate::proofs::NameLemmas::location_there))]
 fn location_name(locations: &[Location], number: usize) -> &str
-    ensures { result.now ≡ location_name locations.now number }
+    ensures { result.now ≡ location_name (map located locations.now) number }
 {
     match locations.get(number) {
         Some(location) => location.name.as_str(),
@@ -125,8 +127,9 @@ fn location_name(locations: &[Location], number: usize) -> &str
     }
 }
 
+#[tactic(auto, using(crate::proofs::NameLemmas::register_there))]
 fn register_name(registers: &[String], number: usize) -> &str
-    ensures { result.now ≡ unwrap_or (option_map (λ name. string_bytes name) (slice_get registers.now number)) (codes "?") }
+    ensures { result.now ≡ unwrap_or (slice_get (spellings registers.now) number) (codes "?") }
 {
     match registers.get(number) {
         Some(register) => register.as_str(),
@@ -445,7 +448,7 @@ fn write_order(order: Ordering, text: &mut String) -> Result<(), AllocError> {
 
 fn write_listed(test: &Test, text: &mut String) -> Result<(), AllocError>
     ensures { OnOk result (string_bytes text.new ≡ string_bytes text.old
-        ++ listed_text test.now.locations.items test.now.threads.items test.now.listed.items) }
+        ++ listed_text (places_in test.now) (threads_in test.now) test.now.listed.items) }
 {
     if test.listed.is_empty() {
         return Ok(());
@@ -455,7 +458,7 @@ fn write_listed(test: &Test, text: &mut String) -> Result<(), AllocError>
 
 fn write_terms(test: &Test, text: &mut String) -> Result<(), AllocError>
     ensures { OnOk result (string_bytes text.new ≡ string_bytes text.old
-        ++ terms_text test.now.locations.items test.now.threads.items test.now.listed.items) }
+        ++ terms_text (places_in test.now) (threads_in test.now) test.now.listed.items) }
 {
     text.push_str("locations [")?;
     for term in &test.listed {
@@ -465,9 +468,10 @@ fn write_terms(test: &Test, text: &mut String) -> Result<(), AllocError>
     text.push_str("]\n")
 }
 
+#[tactic(auto, using(crate::proofs::NameLemmas::thread_there))]
 fn write_term(term: Term, test: &Test, text: &mut String) -> Result<(), AllocError>
     ensures { OnOk result (string_bytes text.new ≡ string_bytes text.old
-        ++ text_of (printed_term test.now.locations.items test.now.threads.items term)) }
+        ++ text_of (printed_term (places_in test.now) (threads_in test.now) term)) }
 {
     match term {
         Term::Register { thread, register } => {
@@ -493,7 +497,7 @@ fn write_condition(
     text: &mut String,
 ) -> Result<(), AllocError>
     ensures { OnOk result (string_bytes text.new ≡ string_bytes text.old
-        ++ text_of (printed test.now.locations.items test.now.threads.items lowest (formula condition.now))) }
+        ++ text_of (printed (places_in test.now) (threads_in test.now) lowest (formula condition.now))) }
 {
     match condition {
         Condition::Equal(term, value) => {

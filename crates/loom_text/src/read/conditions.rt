@@ -1,7 +1,7 @@
 //! Conditions on final states.
-ghost use Rattle.std.specs.Prelude.{◌<◌, length, All, IfOk, IfSome, OnOk};
-ghost use Rattle.loom_text.specs.Conditions.{comparison_at, condition_at, conjunction_of, disjunction_of, formula, location_term, part_at, register_term, term_at};
-ghost use Rattle.loom_text.specs.Named.{IsConditionOf, IsTermOf};
+ghost use Rattle.std.specs.Prelude.{◌≡◌, ◌<◌, length, All, IfOk, IfSome, OnOk};
+ghost use Rattle.loom_text.specs.Conditions.{comparison_at, condition_at, conjunction_of, disjunction_of, formula, has_value, location_term, part_at, places_of, register_term, term_at, threads_of};
+ghost use Rattle.loom_text.specs.Named.{HasValue, IsConditionOf, IsTermOf};
 ghost use Rattle.loom_text.specs.Printing.{FitsReader};
 ghost use Rattle.loom_text.specs.Question.{listed_at, listed_term_at, terms_at};
 ghost use Rattle.loom_text.specs.Tokens.{Gives, left};
@@ -27,7 +27,7 @@ impl Parser<'_> {
     #[tactic(auto, unfolding(crate::specs::Conditions::condition_at))]
     pub(crate) fn condition(&mut self, names: Names<'_>) -> Result<Condition, Stop>
         ensures named { IfOk result (λ condition. IsConditionOf names.entry.locations.now names.entry.threads.now condition) }
-        ensures read { Gives (λ condition. (formula condition, left self.new)) result (condition_at names.entry.locations.now names.entry.threads.now (left self.old)) }
+        ensures read { Gives (λ condition. (formula condition, left self.new)) result (condition_at (places_of names.entry) (threads_of names.entry) (left self.old)) }
         ensures fits { IfOk result (λ condition. FitsReader (formula condition)) }
     {
         self.begin_operators();
@@ -38,7 +38,7 @@ impl Parser<'_> {
     #[tactic(auto, using(crate::proofs::ReadingSteps::goes_on, crate::proofs::ReadingSteps::stopped, crate::proofs::ReadingSteps::ends, crate::proofs::ReadingSteps::too_many), unfolding(crate::specs::Conditions::disjunction_of))]
     fn disjunction(&mut self, names: Names<'_>, depth: usize) -> Result<Condition, Stop>
         ensures named { IfOk result (λ condition. IsConditionOf names.entry.locations.now names.entry.threads.now condition) }
-        ensures read { Gives (λ condition. (formula condition, left self.new)) result (disjunction_of (part_at names.entry.locations.now names.entry.threads.now depth) (left self.old)) }
+        ensures read { Gives (λ condition. (formula condition, left self.new)) result (disjunction_of (part_at (places_of names.entry) (threads_of names.entry) depth) (left self.old)) }
     {
         let mut left = self.conjunction(names, depth)?;
         for _ in 0..MAX_OPERATORS + 1 {
@@ -57,7 +57,7 @@ impl Parser<'_> {
     #[tactic(auto, using(crate::proofs::ReadingSteps::goes_on, crate::proofs::ReadingSteps::stopped, crate::proofs::ReadingSteps::ends, crate::proofs::ReadingSteps::too_many), unfolding(crate::specs::Conditions::conjunction_of))]
     fn conjunction(&mut self, names: Names<'_>, depth: usize) -> Result<Condition, Stop>
         ensures named { IfOk result (λ condition. IsConditionOf names.entry.locations.now names.entry.threads.now condition) }
-        ensures read { Gives (λ condition. (formula condition, left self.new)) result (conjunction_of (part_at names.entry.locations.now names.entry.threads.now depth) (left self.old)) }
+        ensures read { Gives (λ condition. (formula condition, left self.new)) result (conjunction_of (part_at (places_of names.entry) (threads_of names.entry) depth) (left self.old)) }
     {
         let mut left = self.negation(names, depth)?;
         for _ in 0..MAX_OPERATORS + 1 {
@@ -76,7 +76,7 @@ impl Parser<'_> {
     #[tactic(auto, using(crate::proofs::ReadingSteps::denied, crate::proofs::ReadingSteps::enclosed, crate::proofs::ReadingSteps::too_deep, crate::proofs::ReadingSteps::enclosed_too_deep, crate::proofs::ReadingSteps::compared))]
     fn negation(&mut self, names: Names<'_>, depth: usize) -> Result<Condition, Stop>
         ensures named { IfOk result (λ condition. IsConditionOf names.entry.locations.now names.entry.threads.now condition) }
-        ensures read { Gives (λ condition. (formula condition, left self.new)) result (part_at names.entry.locations.now names.entry.threads.now depth (left self.old)) }
+        ensures read { Gives (λ condition. (formula condition, left self.new)) result (part_at (places_of names.entry) (threads_of names.entry) depth (left self.old)) }
     {
         if self.eat(Symbol::Tilde) {
             let inside = self.deeper(depth)?;
@@ -96,7 +96,7 @@ impl Parser<'_> {
     #[tactic(auto, unfolding(crate::specs::Conditions::comparison_at))]
     fn comparison(&mut self, names: Names<'_>) -> Result<Condition, Stop>
         ensures named { IfOk result (λ condition. IsConditionOf names.entry.locations.now names.entry.threads.now condition) }
-        ensures read { Gives (λ condition. (formula condition, left self.new)) result (comparison_at names.entry.locations.now names.entry.threads.now (left self.old)) }
+        ensures read { Gives (λ condition. (formula condition, left self.new)) result (comparison_at (places_of names.entry) (threads_of names.entry) (left self.old)) }
     {
         self.count_operator()?;
         let term = self.term(names, Wanted::Condition)?;
@@ -109,7 +109,7 @@ impl Parser<'_> {
     #[tactic(auto, unfolding(crate::specs::Conditions::term_at))]
     fn term(&mut self, names: Names<'_>, wanted: Wanted) -> Result<Term, Stop>
         ensures named { IfOk result (IsTermOf names.entry.locations.now names.entry.threads.now) }
-        ensures read { Gives (λ term. (term, left self.new)) result (term_at names.entry.locations.now names.entry.threads.now (left self.old)) }
+        ensures read { Gives (λ term. (term, left self.new)) result (term_at (places_of names.entry) (threads_of names.entry) (left self.old)) }
     {
         let token = self.peek();
         match token.kind {
@@ -141,7 +141,7 @@ impl Parser<'_> {
     pub(crate) fn listed(&mut self, names: Names<'_>, listed: &mut Vec<Term>) -> Result<(), Stop>
         ensures named { All (IsTermOf names.entry.locations.now names.entry.threads.now) listed.old.items
             → All (IsTermOf names.entry.locations.now names.entry.threads.now) listed.new.items }
-        ensures read { Gives (λ x. (listed.new.items, left self.new)) result (listed_at names.entry.locations.now names.entry.threads.now listed.old.items (left self.old)) }
+        ensures read { Gives (λ x. (listed.new.items, left self.new)) result (listed_at (places_of names.entry) (threads_of names.entry) listed.old.items (left self.old)) }
     {
         if self.peek().kind != TokenKind::Word(Word::Locations) {
             return Ok(());
@@ -155,7 +155,7 @@ impl Parser<'_> {
     fn terms(&mut self, names: Names<'_>, listed: &mut Vec<Term>) -> Result<(), Stop>
         ensures named { All (IsTermOf names.entry.locations.now names.entry.threads.now) listed.old.items
             → All (IsTermOf names.entry.locations.now names.entry.threads.now) listed.new.items }
-        ensures read { Gives (λ x. (listed.new.items, left self.new)) result (terms_at names.entry.locations.now names.entry.threads.now (length (left self.old).0) listed.old.items (left self.old)) }
+        ensures read { Gives (λ x. (listed.new.items, left self.new)) result (terms_at (places_of names.entry) (threads_of names.entry) (length (left self.old).0) listed.old.items (left self.old)) }
     {
         for _ in 0..self.len() {
             if self.eat(Symbol::CloseBracket) {
@@ -171,7 +171,7 @@ impl Parser<'_> {
     #[tactic(auto, unfolding(crate::specs::Question::listed_term_at))]
     fn listed_term(&mut self, names: Names<'_>) -> Result<Term, Stop>
         ensures named { IfOk result (IsTermOf names.entry.locations.now names.entry.threads.now) }
-        ensures read { Gives (λ term. (term, left self.new)) result (listed_term_at names.entry.locations.now names.entry.threads.now (left self.old)) }
+        ensures read { Gives (λ term. (term, left self.new)) result (listed_term_at (places_of names.entry) (threads_of names.entry) (left self.old)) }
     {
         let term = self.term(names, Wanted::Term)?;
         if !self.sees(Symbol::CloseBracket) {
@@ -189,7 +189,7 @@ fn register_term(
     name: Token<'_>,
 ) -> Result<Term, Stop>
     ensures named { IfOk result (IsTermOf names.entry.locations.now names.entry.threads.now) }
-    ensures read { Gives (λ term. term) result (register_term names.entry.threads.now number name.entry.spelling.now) }
+    ensures read { Gives (λ term. term) result (register_term (threads_of names.entry) number name.entry.spelling.now) }
 {
     let Ok(thread) = usize::try_from(number) else {
         return Err(Stop::at(token, Problem::NoThread));
@@ -206,7 +206,7 @@ fn register_term(
 // The location of this name, if it has a value.
 fn location_term(names: Names<'_>, name: Token<'_>) -> Result<Term, Stop>
     ensures named { IfOk result (IsTermOf names.entry.locations.now names.entry.threads.now) }
-    ensures read { Gives (λ term. term) result (location_term names.entry.locations.now name.entry.spelling.now) }
+    ensures read { Gives (λ term. term) result (location_term (places_of names.entry) name.entry.spelling.now) }
 {
     let Some(number) = location_named(names.locations, name.spelling) else {
         return Err(Stop::at(name, Problem::NoLocation));
@@ -214,8 +214,19 @@ fn location_term(names: Names<'_>, name: Token<'_>) -> Result<Term, Stop>
     let Some(found) = names.locations.get(number) else {
         return Err(Stop::at(name, Problem::NoLocation));
     };
-    match found.kind {
-        Kind::Mutex | Kind::Condvar => Err(Stop::at(name, Problem::NoValue)),
-        Kind::Atomic | Kind::Plain => Ok(Term::Location(number)),
+    match value_term(found.kind, number) {
+        Some(term) => Ok(term),
+        None => Err(Stop::at(name, Problem::NoValue)),
+    }
+}
+
+// The location of this number and kind, if it has a value.
+fn value_term(kind: Kind, number: usize) -> Option<Term>
+    ensures named { IfSome result (λ term. (term ≡ Term.Location number) × HasValue kind) }
+    ensures read { result ≡ has_value kind number }
+{
+    match kind {
+        Kind::Mutex | Kind::Condvar => None,
+        Kind::Atomic | Kind::Plain => Some(Term::Location(number)),
     }
 }

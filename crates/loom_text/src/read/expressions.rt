@@ -2,6 +2,7 @@
 ghost use Rattle.std.specs.Prelude.{◌≡◌, ◌≤◌, IfOk};
 ghost use Rattle.loom_text.specs.Phrases.{PhraseCanBeRead};
 ghost use Rattle.loom_text.specs.Expressions.{argument_at, arguments_at, arguments_of, begin_arguments_at, binds, call_at, comparand, compare_exchange_at, compared_at, enclosed_with, end_arguments_at, exchange_at, expression_at, fetch_at, first_location_at, inside, is_type, load_order_at, location_at, many_with, next_argument_at, one_with, operator_at, order_at, order_from, phrase, plain_at, pointed_at, primary_with, readers, register_from, signed_as};
+ghost use Rattle.loom_text.specs.Known.{known};
 ghost use Rattle.loom_text.specs.Tokens.{Gives, left, next, passed};
 ghost use Rattle.loom_text.specs.Spelling.{operator_of, unary_of};
 
@@ -21,9 +22,9 @@ use std::sync::atomic::Ordering;
 impl<'a> Parser<'a> {
     /// A whole expression.
     #[tactic(auto, unfolding(crate::specs::Expressions::expression_at))]
-    pub(crate) fn expression(&mut self, scope: &Scope) -> Result<Expression, Stop>
-        ensures read { Gives (λ expression. (phrase expression, left self.new)) result (expression_at scope.now (left self.old)) }
-        ensures fits { IfOk result (λ expression. PhraseCanBeRead scope.now (phrase expression)) }
+    pub(crate) fn expression(&mut self, scope: &Scope<'_>) -> Result<Expression, Stop>
+        ensures read { Gives (λ expression. (phrase expression, left self.new)) result (expression_at (known scope.now) (left self.old)) }
+        ensures fits { IfOk result (λ expression. PhraseCanBeRead (known scope.now) (phrase expression)) }
     {
         self.begin_operators();
         self.binary(scope, 1, MAX_DEPTH)
@@ -33,11 +34,11 @@ impl<'a> Parser<'a> {
     #[cycle(expressions)]
     pub(crate) fn binary(
         &mut self,
-        scope: &Scope,
+        scope: &Scope<'_>,
         lowest: u8,
         depth: usize,
     ) -> Result<Expression, Stop>
-        ensures { Gives (λ expression. (phrase expression, left self.new)) result (many_with scope.now (inside scope.now depth) lowest (left self.old)) }
+        ensures { Gives (λ expression. (phrase expression, left self.new)) result (many_with (known scope.now) (inside (known scope.now) depth) lowest (left self.old)) }
     {
         let mut left = self.unary(scope, depth)?;
         for _ in 0..MAX_OPERATORS + 1 {
@@ -73,8 +74,8 @@ impl<'a> Parser<'a> {
 
     #[cycle(expressions)]
     #[tactic(auto, unfolding(crate::specs::Expressions::one_with))]
-    fn unary(&mut self, scope: &Scope, depth: usize) -> Result<Expression, Stop>
-        ensures { Gives (λ expression. (phrase expression, left self.new)) result (one_with scope.now (inside scope.now depth) (left self.old)) }
+    fn unary(&mut self, scope: &Scope<'_>, depth: usize) -> Result<Expression, Stop>
+        ensures { Gives (λ expression. (phrase expression, left self.new)) result (one_with (known scope.now) (inside (known scope.now) depth) (left self.old)) }
     {
         let token = self.peek();
         let TokenKind::Symbol(symbol) = token.kind else {
@@ -103,11 +104,11 @@ impl<'a> Parser<'a> {
     #[tactic(auto, unfolding(crate::specs::Expressions::signed_as))]
     fn signed(
         &mut self,
-        scope: &Scope,
+        scope: &Scope<'_>,
         operator: UnaryOperator,
         depth: usize,
     ) -> Result<Expression, Stop>
-        ensures { Gives (λ expression. (phrase expression, left self.new)) result (signed_as (inside scope.now depth) operator (left self.old)) }
+        ensures { Gives (λ expression. (phrase expression, left self.new)) result (signed_as (inside (known scope.now) depth) operator (left self.old)) }
     {
         self.take();
         let inside = self.deeper(depth)?;
@@ -117,8 +118,8 @@ impl<'a> Parser<'a> {
 
     #[cycle(expressions)]
     #[tactic(auto, using(crate::proofs::ExpressionSteps::one_deeper, crate::proofs::ExpressionSteps::none_deeper), unfolding(crate::specs::Expressions::primary_with))]
-    fn primary(&mut self, scope: &Scope, depth: usize) -> Result<Expression, Stop>
-        ensures { Gives (λ expression. (phrase expression, left self.new)) result (primary_with scope.now (inside scope.now depth) (left self.old)) }
+    fn primary(&mut self, scope: &Scope<'_>, depth: usize) -> Result<Expression, Stop>
+        ensures { Gives (λ expression. (phrase expression, left self.new)) result (primary_with (known scope.now) (inside (known scope.now) depth) (left self.old)) }
     {
         let token = self.peek();
         match token.kind {
@@ -147,8 +148,8 @@ impl<'a> Parser<'a> {
     // What stands in parentheses, of which the first was read. A type would be a cast.
     #[cycle(expressions)]
     #[tactic(auto, unfolding(crate::specs::Expressions::enclosed_with))]
-    fn enclosed(&mut self, scope: &Scope, depth: usize) -> Result<Expression, Stop>
-        ensures { Gives (λ expression. (phrase expression, left self.new)) result (enclosed_with (inside scope.now depth) (left self.old)) }
+    fn enclosed(&mut self, scope: &Scope<'_>, depth: usize) -> Result<Expression, Stop>
+        ensures { Gives (λ expression. (phrase expression, left self.new)) result (enclosed_with (inside (known scope.now) depth) (left self.old)) }
     {
         if self.sees_type() {
             return Err(Stop::unsupported(self.peek(), Feature::Casts));
@@ -169,8 +170,8 @@ impl<'a> Parser<'a> {
     }
 
     /// The register of the name that was read.
-    pub(crate) fn register(&self, scope: &Scope, token: Token<'_>) -> Result<usize, Stop>
-        ensures { Gives (λ register. register) result (register_from scope.now token.entry.spelling.now (left self.now)) }
+    pub(crate) fn register(&self, scope: &Scope<'_>, token: Token<'_>) -> Result<usize, Stop>
+        ensures { Gives (λ register. register) result (register_from (known scope.now) token.entry.spelling.now (left self.now)) }
     {
         if self.sees(Symbol::OpenParenthesis) {
             return Err(Stop::unsupported(token, Feature::Function));
@@ -178,24 +179,25 @@ impl<'a> Parser<'a> {
         if let Some(register) = scope.register_of(token) {
             return Ok(register);
         }
-        match scope.location_of(token) {
-            Some(_) => Err(Stop::unsupported(token, Feature::Pointers)),
-            None => Err(Stop::at(token, Problem::Undeclared)),
+        if scope.is_declared(token) {
+            Err(Stop::unsupported(token, Feature::Pointers))
+        } else {
+            Err(Stop::at(token, Problem::Undeclared))
         }
     }
 
     // The value of a call, of which the name was read.
     #[cycle(expressions)]
     #[tactic(auto, unfolding(crate::specs::Expressions::call_at))]
-    pub(crate) fn call(
+    fn call(
         &mut self,
-        scope: &Scope,
+        scope: &Scope<'_>,
         token: Token<'_>,
         function: Function,
         explicit: bool,
         depth: usize,
     ) -> Result<Expression, Stop>
-        ensures { Gives (λ expression. (phrase expression, left self.new)) result (call_at scope.now (readers scope.now depth) function explicit (left self.old)) }
+        ensures { Gives (λ expression. (phrase expression, left self.new)) result (call_at (known scope.now) (readers (known scope.now) depth) function explicit (left self.old)) }
     {
         let count = arguments_of(function, explicit);
         let call = self.arguments(scope, token, function, count, explicit, depth)?;
@@ -203,18 +205,18 @@ impl<'a> Parser<'a> {
         Ok(call)
     }
 
-    // The call up to its last parenthesis.
+    /// The call up to its last parenthesis.
     #[cycle(expressions)]
-    fn arguments(
+    pub(crate) fn arguments(
         &mut self,
-        scope: &Scope,
+        scope: &Scope<'_>,
         token: Token<'_>,
         function: Function,
         count: usize,
         explicit: bool,
         depth: usize,
     ) -> Result<Expression, Stop>
-        ensures { Gives (λ expression. (phrase expression, left self.new)) result (arguments_at scope.now (readers scope.now depth) function count explicit (left self.old)) }
+        ensures { Gives (λ expression. (phrase expression, left self.new)) result (arguments_at (known scope.now) (readers (known scope.now) depth) function count explicit (left self.old)) }
     {
         match function {
             Function::Load => {
@@ -248,12 +250,12 @@ impl<'a> Parser<'a> {
     #[tactic(auto, unfolding(crate::specs::Expressions::exchange_at))]
     fn exchange(
         &mut self,
-        scope: &Scope,
+        scope: &Scope<'_>,
         count: usize,
         explicit: bool,
         depth: usize,
     ) -> Result<Expression, Stop>
-        ensures { Gives (λ expression. (phrase expression, left self.new)) result (exchange_at scope.now (readers scope.now depth) count explicit (left self.old)) }
+        ensures { Gives (λ expression. (phrase expression, left self.new)) result (exchange_at (known scope.now) (readers (known scope.now) depth) count explicit (left self.old)) }
     {
         let location = self.first_location(scope, count, Kind::Atomic)?;
         let value = self.boxed_argument(scope, count, depth)?;
@@ -270,13 +272,13 @@ impl<'a> Parser<'a> {
     #[tactic(auto, unfolding(crate::specs::Expressions::fetch_at))]
     fn fetch(
         &mut self,
-        scope: &Scope,
+        scope: &Scope<'_>,
         operator: FetchOperator,
         count: usize,
         explicit: bool,
         depth: usize,
     ) -> Result<Expression, Stop>
-        ensures { Gives (λ expression. (phrase expression, left self.new)) result (fetch_at scope.now (readers scope.now depth) operator count explicit (left self.old)) }
+        ensures { Gives (λ expression. (phrase expression, left self.new)) result (fetch_at (known scope.now) (readers (known scope.now) depth) operator count explicit (left self.old)) }
     {
         let location = self.first_location(scope, count, Kind::Atomic)?;
         let value = self.boxed_argument(scope, count, depth)?;
@@ -294,13 +296,13 @@ impl<'a> Parser<'a> {
     #[tactic(auto, unfolding(crate::specs::Expressions::compare_exchange_at))]
     fn compare_exchange(
         &mut self,
-        scope: &Scope,
+        scope: &Scope<'_>,
         strength: Strength,
         count: usize,
         explicit: bool,
         depth: usize,
     ) -> Result<Expression, Stop>
-        ensures { Gives (λ expression. (phrase expression, left self.new)) result (compare_exchange_at scope.now (readers scope.now depth) strength count explicit (left self.old)) }
+        ensures { Gives (λ expression. (phrase expression, left self.new)) result (compare_exchange_at (known scope.now) (readers (known scope.now) depth) strength count explicit (left self.old)) }
     {
         let location = self.first_location(scope, count, Kind::Atomic)?;
         let expected = self.compared(scope, count, depth)?;
@@ -322,11 +324,11 @@ impl<'a> Parser<'a> {
     #[tactic(auto, using(crate::proofs::ExpressionSteps::many_is), unfolding(crate::specs::Expressions::argument_at))]
     fn boxed_argument(
         &mut self,
-        scope: &Scope,
+        scope: &Scope<'_>,
         count: usize,
         depth: usize,
     ) -> Result<Box<Expression>, Stop>
-        ensures { Gives (λ argument. (phrase argument.value, left self.new)) result (argument_at (readers scope.now depth) (left self.old)) }
+        ensures { Gives (λ argument. (phrase argument.value, left self.new)) result (argument_at (readers (known scope.now) depth) (left self.old)) }
     {
         self.next_argument(count)?;
         let argument = self.binary(scope, 1, depth)?;
@@ -336,8 +338,8 @@ impl<'a> Parser<'a> {
     // What a compare-exchange compares with: `&r`, a plain int's pointer, or a value.
     #[cycle(expressions)]
     #[tactic(auto, using(crate::proofs::ExpressionSteps::many_is), unfolding(crate::specs::Expressions::compared_at))]
-    fn compared(&mut self, scope: &Scope, count: usize, depth: usize) -> Result<Expected, Stop>
-        ensures { Gives (λ compared. (comparand compared, left self.new)) result (compared_at scope.now (readers scope.now depth) (left self.old)) }
+    fn compared(&mut self, scope: &Scope<'_>, count: usize, depth: usize) -> Result<Expected, Stop>
+        ensures { Gives (λ compared. (comparand compared, left self.new)) result (compared_at (known scope.now) (readers (known scope.now) depth) (left self.old)) }
     {
         self.next_argument(count)?;
         if self.eat(Symbol::Ampersand) {
@@ -354,26 +356,20 @@ impl<'a> Parser<'a> {
 
     // The plain int to which the next token points, if it is one.
     #[tactic(auto, unfolding(crate::specs::Expressions::plain_at))]
-    fn plain_pointer(&self, scope: &Scope) -> Option<usize>
-        ensures { result ≡ plain_at scope.now (left self.now) }
+    fn plain_pointer(&self, scope: &Scope<'_>) -> Option<usize>
+        ensures { result ≡ plain_at (known scope.now) (left self.now) }
     {
         let token = self.peek();
         if token.kind != TokenKind::Name || scope.register_of(token).is_some() {
             return None;
         }
-        let location = scope.location_of(token)?;
-        let kind = scope.kind_of(location)?;
-        if kind == Kind::Plain && scope.is_passed(location) {
-            Some(location)
-        } else {
-            None
-        }
+        scope.plain_of(token)
     }
 
     /// The plain int after a star.
     #[tactic(auto, unfolding(crate::specs::Expressions::pointed_at))]
-    pub(crate) fn pointed(&mut self, scope: &Scope) -> Result<usize, Stop>
-        ensures { Gives (λ location. (location, left self.new)) result (pointed_at scope.now (left self.old)) }
+    pub(crate) fn pointed(&mut self, scope: &Scope<'_>) -> Result<usize, Stop>
+        ensures { Gives (λ location. (location, left self.new)) result (pointed_at (known scope.now) (left self.old)) }
     {
         let token = self.peek();
         if token.kind == TokenKind::Symbol(Symbol::Star) {
@@ -396,8 +392,8 @@ impl<'a> Parser<'a> {
 
     /// A location of this kind, one of the thread's parameters.
     #[tactic(auto, unfolding(crate::specs::Expressions::location_at))]
-    pub(crate) fn location(&mut self, scope: &Scope, wanted: Kind) -> Result<usize, Stop>
-        ensures { Gives (λ location. (location, left self.new)) result (location_at scope.now wanted (left self.old)) }
+    pub(crate) fn location(&mut self, scope: &Scope<'_>, wanted: Kind) -> Result<usize, Stop>
+        ensures { Gives (λ location. (location, left self.new)) result (location_at (known scope.now) wanted (left self.old)) }
     {
         let token = self.peek();
         if token.kind == TokenKind::Symbol(Symbol::Ampersand) {
@@ -407,18 +403,13 @@ impl<'a> Parser<'a> {
         if scope.register_of(token).is_some() {
             return Err(Stop::at(token, Problem::Expected(Wanted::Location)));
         }
-        let Some(number) = scope.location_of(token) else {
-            return Err(Stop::at(token, Problem::Undeclared));
+        let Some((number, found)) = scope.parameter_of(token) else {
+            return Err(Stop::at(token, scope.unknown(token)));
         };
-        if !scope.is_passed(number) {
-            return Err(Stop::at(token, Problem::NotAParameter));
-        }
-        match scope.kind_of(number) {
-            Some(found) if found != wanted => Err(Stop::at(
-                token,
-                Problem::WrongKind { wanted, found },
-            )),
-            _ => Ok(number),
+        if found == wanted {
+            Ok(number)
+        } else {
+            Err(Stop::at(token, Problem::WrongKind { wanted, found }))
         }
     }
 
@@ -426,11 +417,11 @@ impl<'a> Parser<'a> {
     #[tactic(auto, unfolding(crate::specs::Expressions::first_location_at))]
     pub(crate) fn first_location(
         &mut self,
-        scope: &Scope,
+        scope: &Scope<'_>,
         count: usize,
         kind: Kind,
     ) -> Result<usize, Stop>
-        ensures { Gives (λ location. (location, left self.new)) result (first_location_at scope.now count kind (left self.old)) }
+        ensures { Gives (λ location. (location, left self.new)) result (first_location_at (known scope.now) count kind (left self.old)) }
     {
         self.begin_arguments(count)?;
         self.location(scope, kind)

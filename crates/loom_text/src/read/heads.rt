@@ -1,16 +1,18 @@
 //! The parts of a test: its name, its initial state, its threads, and what follows them.
-ghost use Rattle.std.specs.Prelude.{◌≡◌, ◌≤◌, length, All, IfOk, IfSome};
+ghost use Rattle.std.specs.Prelude.{◌≡◌, ◌<◌, ◌≤◌, [], length, map, string_bytes, true, All, IfOk, IfSome, None, Some, if◌then◌else◌};
 ghost use Rattle.std.specs.Option.{option_map};
 ghost use Rattle.loom_text.specs.Named.{IsConditionOf, IsNamed, RegistersDiffer};
-ghost use Rattle.loom_text.specs.Conditions.{formula};
+ghost use Rattle.loom_text.specs.Conditions.{formula, places_of, threads_of};
+ghost use Rattle.loom_text.specs.Heads.{all_parameters_at, are_digits, first_other, head_at, initial_at, initial_name_at, initial_number_at, initial_part_at, initial_parts_at, initial_value_at, is_number, is_thread, is_thread_name, names_thread, numbered_thread_at, parameter_at, parameters_at, placed, strand, test_at, thread_at, threads_at, threads_end, whole, without_void};
 ghost use Rattle.loom_text.specs.Printing.{FitsReader};
 ghost use Rattle.loom_text.specs.Question.{IsQuestionOf, asked, filter_at, question_at, quantifier_at};
 ghost use Rattle.loom_text.specs.Readable.{IsReadable};
-ghost use Rattle.loom_text.specs.Tokens.{Gives, left};
+ghost use Rattle.loom_text.specs.Tokens.{Gives, left, next, spelled};
 
 use crate::error::{Feature, Problem, Wanted};
 use crate::read::conditions::Names;
 use crate::read::parser::{MAX_DEPTH, Parser};
+use crate::read::places::Places;
 use crate::read::scope::{Scope, owned};
 use crate::read::stop::Stop;
 use crate::read::symbol::Symbol;
@@ -29,15 +31,17 @@ struct Question {
 
 impl<'a> Parser<'a> {
     /// The whole test.
+    #[tactic(auto, using(crate::proofs::HeadSteps::names_alike), unfolding(crate::specs::Heads::test_at))]
     pub(crate) fn test(&mut self) -> Result<Test, Stop>
         ensures named { IfOk result IsNamed }
         ensures again { IfOk result IsReadable }
+        ensures read { Gives whole result (test_at (left self.old)) }
     {
         let name = self.head()?;
-        let mut scope = Scope::new(self.alloc);
-        self.initial_state(&mut scope)?;
-        let threads = self.all_threads(&mut scope)?;
-        let locations = scope.into_locations();
+        let mut places = Places::new(self.alloc);
+        self.initial_state(&mut places)?;
+        let threads = self.all_threads(&mut places)?;
+        let locations = places.into_locations();
         let question = self.question(Names {
             locations: &locations,
             threads: &threads,
@@ -63,7 +67,7 @@ impl<'a> Parser<'a> {
     #[tactic(auto, unfolding(crate::specs::Question::question_at))]
     fn question(&mut self, names: Names<'_>) -> Result<Question, Stop>
         ensures named { IfOk result (IsQuestionOf names.entry.locations.now names.entry.threads.now) }
-        ensures read { Gives asked result (question_at names.entry.locations.now names.entry.threads.now (left self.old)) }
+        ensures read { Gives asked result (question_at (places_of names.entry) (threads_of names.entry) (left self.old)) }
     {
         let mut listed = Vec::new(self.alloc);
         self.listed(names, &mut listed)?;
@@ -87,7 +91,7 @@ impl<'a> Parser<'a> {
     fn filter(&mut self, names: Names<'_>) -> Result<Option<Condition>, Stop>
         ensures named { IfOk result (λ filter. IfSome filter (IsConditionOf names.entry.locations.now names.entry.threads.now)) }
         ensures fits { IfOk result (λ filter. IfSome filter (λ filter. FitsReader (formula filter))) }
-        ensures read { Gives (λ filter. (option_map formula filter, left self.new)) result (filter_at names.entry.locations.now names.entry.threads.now (left self.old)) }
+        ensures read { Gives (λ filter. (option_map formula filter, left self.new)) result (filter_at (places_of names.entry) (threads_of names.entry) (left self.old)) }
     {
         if self.peek().kind != TokenKind::Word(Word::Filter) {
             return Ok(None);
@@ -98,7 +102,10 @@ impl<'a> Parser<'a> {
     }
 
     // `C` and the test's name.
-    fn head(&mut self) -> Result<String, Stop> {
+    #[tactic(auto, unfolding(crate::specs::Heads::head_at))]
+    fn head(&mut self) -> Result<String, Stop>
+        ensures { Gives (λ name. (string_bytes name, left self.new)) result (head_at (left self.old)) }
+    {
         if self.peek().kind != TokenKind::Word(Word::Language) {
             return Err(self.expected(Wanted::Head));
         }
@@ -111,55 +118,68 @@ impl<'a> Parser<'a> {
     }
 
     // What the locations hold when the threads start.
-    fn initial_state(&mut self, scope: &mut Scope) -> Result<(), Stop> {
+    #[tactic(auto, unfolding(crate::specs::Heads::initial_at))]
+    fn initial_state(&mut self, places: &mut Places) -> Result<(), Stop>
+        ensures { Gives (λ x. (placed places.new, left self.new)) result (initial_at (placed places.old) (left self.old)) }
+    {
         self.expect(Symbol::OpenBrace)?;
+        self.initial_parts(places)
+    }
+
+    // Values up to a brace.
+    fn initial_parts(&mut self, places: &mut Places) -> Result<(), Stop>
+        ensures { Gives (λ x. (placed places.new, left self.new)) result (initial_parts_at (length (left self.old).0) (placed places.old) (left self.old)) }
+    {
         for _ in 0..self.len() {
             if self.eat(Symbol::CloseBrace) {
                 return Ok(());
             }
-            if !self.eat(Symbol::Semicolon) {
-                self.initial_value(scope)?;
-                if !self.sees(Symbol::CloseBrace) {
-                    self.expect(Symbol::Semicolon)?;
-                }
-            }
+            self.initial_part(places)?;
         }
         Err(self.expected(Wanted::Initial))
     }
 
-    // `x = 1`, `[x] = 1`, `int x`, `int x = 1` or `int *x`.
-    fn initial_value(&mut self, scope: &mut Scope) -> Result<(), Stop> {
-        let token = self.peek();
-        if matches!(token.kind, TokenKind::Number(_)) && self.peek_after().kind == colon() {
-            return Err(Stop::unsupported(token, Feature::InitialRegisters));
+    // A semicolon alone, or a value with a semicolon behind it unless it is the last.
+    #[tactic(auto, unfolding(crate::specs::Heads::initial_part_at))]
+    fn initial_part(&mut self, places: &mut Places) -> Result<(), Stop>
+        ensures { Gives (λ x. (placed places.new, left self.new)) result (initial_part_at (placed places.old) (left self.old)) }
+    {
+        if self.eat(Symbol::Semicolon) {
+            return Ok(());
         }
+        self.initial_value(places)?;
+        if self.sees(Symbol::CloseBrace) {
+            return Ok(());
+        }
+        self.expect(Symbol::Semicolon)
+    }
+
+    // `x = 1`, `[x] = 1`, `int x`, `int x = 1` or `int *x`.
+    #[tactic(auto, unfolding(crate::specs::Heads::initial_value_at))]
+    fn initial_value(&mut self, places: &mut Places) -> Result<(), Stop>
+        ensures { Gives (λ x. (placed places.new, left self.new)) result (initial_value_at (placed places.old) (left self.old)) }
+    {
         let kind = self.kind()?;
         let pointer = kind.is_some() && self.eat(Symbol::Star);
         let name = self.initial_name()?;
-        if scope.location_of(name).is_some() {
+        if places.location_of(name).is_some() {
             return Err(Stop::at(name, Problem::DeclaredTwice));
         }
-        let has_value = self.sees(Symbol::Assign);
-        if has_value && pointer {
-            return Err(Stop::unsupported(self.peek(), Feature::Pointers));
-        }
-        if has_value && matches!(kind, Some(Kind::Mutex | Kind::Condvar)) {
-            return Err(Stop::at(self.peek(), Problem::NoValue));
-        }
-        let value = if has_value || kind.is_none() {
-            self.expect(Symbol::Assign)?;
-            self.constant()?
-        } else {
-            0
-        };
-        scope.add_location(name, kind, value)?;
+        let value = self.initial_number(kind, pointer)?;
+        places.declare(name, kind, value)?;
         Ok(())
     }
 
     // The name of a location, which may stand in brackets.
-    fn initial_name(&mut self) -> Result<Token<'a>, Stop> {
+    #[tactic(auto, unfolding(crate::specs::Heads::initial_name_at))]
+    fn initial_name(&mut self) -> Result<Token<'a>, Stop>
+        ensures { Gives (λ token. (token.spelling.now, left self.new)) result (initial_name_at (left self.old)) }
+    {
         if self.sees(Symbol::Star) {
             return Err(Stop::unsupported(self.peek(), Feature::Pointers));
+        }
+        if self.sees_register() {
+            return Err(Stop::unsupported(self.peek(), Feature::InitialRegisters));
         }
         let brackets = self.eat(Symbol::OpenBracket);
         let name = self.name(Wanted::Initial)?;
@@ -171,80 +191,135 @@ impl<'a> Parser<'a> {
         Ok(name)
     }
 
+    // Whether a register such as `0:r0` is next.
+    fn sees_register(&self) -> bool
+        ensures { result ≡ true → is_number (next (left self.now)).0 ≡ true }
+    {
+        matches!(self.peek().kind, TokenKind::Number(_))
+            && self.peek_after().kind == TokenKind::Symbol(Symbol::Colon)
+    }
+
+    // `= 1`, or nothing behind a name with a type.
+    #[tactic(auto, unfolding(crate::specs::Heads::initial_number_at))]
+    fn initial_number(&mut self, kind: Option<Kind>, pointer: bool) -> Result<i32, Stop>
+        ensures { Gives (λ value. (value, left self.new)) result (initial_number_at kind pointer (left self.old)) }
+    {
+        let token = self.peek();
+        if !self.eat(Symbol::Assign) {
+            return match kind {
+                Some(_) => Ok(0),
+                None => Err(self.expected(Wanted::Symbol(Symbol::Assign))),
+            };
+        }
+        if pointer {
+            return Err(Stop::unsupported(token, Feature::Pointers));
+        }
+        if matches!(kind, Some(Kind::Mutex | Kind::Condvar)) {
+            return Err(Stop::at(token, Problem::NoValue));
+        }
+        self.constant()
+    }
+
     // `P0`, `P1` and so on.
-    fn all_threads(&mut self, scope: &mut Scope) -> Result<Vec<Thread>, Stop>
+    fn all_threads(&mut self, places: &mut Places) -> Result<Vec<Thread>, Stop>
         ensures count { IfOk result (λ threads. (1 ≤ length threads.items) × (length threads.items ≤ MAX_TEST_THREADS)) }
         ensures registers { IfOk result (λ threads. All RegistersDiffer threads.items) }
+        ensures read { Gives (λ threads. (map strand threads.items, placed places.new, left self.new)) result
+            (threads_at MAX_TEST_THREADS 0 [] (placed places.old) (left self.old)) }
     {
         let mut threads = Vec::new(self.alloc);
         for number in 0..MAX_TEST_THREADS {
-            let token = self.peek();
-            if number > 0 && !self.is_thread_name(token) {
+            if self.threads_end(number) {
                 return Ok(threads);
             }
-            if !self.is_thread(token, number) {
-                return Err(self.expected(Wanted::Thread(number)));
-            }
-            self.take();
-            let thread = self.thread(scope)?;
+            let thread = self.numbered_thread(number, places)?;
             threads.push(thread)?;
         }
-        let token = self.peek();
-        if self.is_thread_name(token) {
-            return Err(Stop::unsupported(token, Feature::Threads));
-        }
+        self.no_more_threads()?;
         Ok(threads)
     }
 
-    // Whether the token is a name such as `P0`.
-    fn is_thread_name(&self, token: Token<'_>) -> bool {
-        match token.spelling {
-            [b'P', digits @ ..] => {
-                token.kind == TokenKind::Name
-                    && !digits.is_empty()
-                    && digits.iter().all(|digit| digit.is_ascii_digit())
-            }
-            _ => false,
-        }
+    // Whether there is no thread of this number, nor of a later one. The first thread has to be there.
+    fn threads_end(&self, number: usize) -> bool
+        ensures { result ≡ threads_end number (left self.now) }
+    {
+        number > 0 && !is_thread_name(self.peek())
     }
 
-    // Whether the token is the name of the thread of this number, of one digit.
-    fn is_thread(&self, token: Token<'_>, number: usize) -> bool {
-        match token.spelling {
-            [b'P', digit] => {
-                digit.is_ascii_digit() && usize::from(digit.wrapping_sub(b'0')) == number
-            }
-            _ => false,
+    // That no thread is left to read.
+    fn no_more_threads(&self) -> Result<(), Stop>
+        ensures { Gives (λ x. left self.now) result (if is_thread_name (next (left self.now)) then None else Some (left self.now)) }
+    {
+        let token = self.peek();
+        if is_thread_name(token) {
+            return Err(Stop::unsupported(token, Feature::Threads));
         }
+        Ok(())
+    }
+
+    // The thread of this number, with its name.
+    fn numbered_thread(&mut self, number: usize, places: &mut Places) -> Result<Thread, Stop>
+        requires { number < 10 }
+        ensures registers { IfOk result RegistersDiffer }
+        ensures read { Gives (λ thread. (strand thread, placed places.new, left self.new)) result
+            (numbered_thread_at number (placed places.old) (left self.old)) }
+    {
+        if !is_thread(self.peek(), number) {
+            return Err(self.expected(Wanted::Thread(number)));
+        }
+        self.take();
+        self.thread(places)
     }
 
     // What follows the thread's name.
-    fn thread(&mut self, scope: &mut Scope) -> Result<Thread, Stop>
-        ensures { IfOk result RegistersDiffer }
+    #[tactic(auto, unfolding(crate::specs::Heads::thread_at))]
+    fn thread(&mut self, places: &mut Places) -> Result<Thread, Stop>
+        ensures registers { IfOk result RegistersDiffer }
+        ensures read { Gives (λ thread. (strand thread, placed places.new, left self.new)) result (thread_at (placed places.old) (left self.old)) }
     {
-        scope.begin_thread();
         self.expect(Symbol::OpenParenthesis)?;
-        self.all_parameters(scope)?;
-        let body = self.block(scope, MAX_DEPTH)?;
+        let parameters = self.all_parameters(places)?;
+        let mut scope = Scope::new(self.alloc, &places.locations, &parameters);
+        let body = self.block(&mut scope, MAX_DEPTH)?;
+        let registers = scope.into_registers();
         Ok(Thread {
-            parameters: scope.take_parameters(),
-            registers: scope.take_registers(),
+            parameters,
+            registers,
             body,
         })
     }
 
     // The parameters, and the parenthesis behind them.
-    fn all_parameters(&mut self, scope: &mut Scope) -> Result<(), Stop> {
+    #[tactic(auto, unfolding(crate::specs::Heads::all_parameters_at))]
+    fn all_parameters(&mut self, places: &mut Places) -> Result<Vec<usize>, Stop>
+        ensures { Gives (λ parameters. ((parameters.items, placed places.new), left self.new)) result (all_parameters_at (placed places.old) (left self.old)) }
+    {
+        self.void();
+        let mut parameters = Vec::new(self.alloc);
+        if !self.eat(Symbol::CloseParenthesis) {
+            self.parameters(places, &mut parameters)?;
+        }
+        Ok(parameters)
+    }
+
+    // `void`, which may stand for no parameters.
+    fn void(&mut self)
+        ensures { left self.new ≡ without_void (left self.old) }
+    {
         if self.peek().kind == TokenKind::Word(Word::Void)
             && self.peek_after().kind == TokenKind::Symbol(Symbol::CloseParenthesis)
         {
             self.take();
         }
-        if self.eat(Symbol::CloseParenthesis) {
-            return Ok(());
-        }
+    }
+
+    // Parameters with commas between them, and the parenthesis behind the last.
+    fn parameters(&mut self, places: &mut Places, parameters: &mut Vec<usize>) -> Result<(), Stop>
+        ensures { Gives (λ x. ((parameters.new.items, placed places.new), left self.new)) result
+            (parameters_at (length (left self.old).0) (parameters.old.items, placed places.old) (left self.old)) }
+    {
         for _ in 0..self.len() {
-            self.parameter(scope)?;
+            self.parameter(places, parameters)?;
             if !self.eat(Symbol::Comma) {
                 return self.expect(Symbol::CloseParenthesis);
             }
@@ -253,7 +328,11 @@ impl<'a> Parser<'a> {
     }
 
     // `atomic_int* x` and the like.
-    fn parameter(&mut self, scope: &mut Scope) -> Result<(), Stop> {
+    #[tactic(auto, unfolding(crate::specs::Heads::parameter_at))]
+    fn parameter(&mut self, places: &mut Places, parameters: &mut Vec<usize>) -> Result<(), Stop>
+        ensures { Gives (λ x. ((parameters.new.items, placed places.new), left self.new)) result
+            (parameter_at (parameters.old.items, placed places.old) (left self.old)) }
+    {
         let Some(kind) = self.kind()? else {
             return Err(self.expected(Wanted::Parameter));
         };
@@ -268,17 +347,11 @@ impl<'a> Parser<'a> {
         if self.sees(Symbol::OpenBracket) {
             return Err(Stop::unsupported(self.peek(), Feature::Arrays));
         }
-        let location = match scope.location_of(name) {
-            Some(location) => {
-                scope.agree(name, location, kind)?;
-                location
-            }
-            None => scope.add_location(name, Some(kind), 0)?,
-        };
-        if scope.parameters.contains(&location) {
+        let location = places.place(name, kind)?;
+        if parameters.contains(&location) {
             return Err(Stop::at(name, Problem::DeclaredTwice));
         }
-        scope.parameters.push(location)?;
+        parameters.push(location)?;
         Ok(())
     }
 
@@ -302,8 +375,48 @@ impl<'a> Parser<'a> {
     }
 }
 
-fn colon() -> TokenKind {
-    TokenKind::Symbol(Symbol::Colon)
+// Whether the token is a name such as `P0`.
+fn is_thread_name(token: Token<'_>) -> bool
+    ensures { result ≡ is_thread_name (spelled token.entry) }
+{
+    token.kind == TokenKind::Name && names_thread(token.spelling)
+}
+
+// Whether it is `P` and digits.
+fn names_thread(spelling: &[u8]) -> bool
+    ensures { result ≡ names_thread spelling.now }
+{
+    match spelling {
+        [first, digits @ ..] => *first == b'P' && are_digits(digits),
+        [] => false,
+    }
+}
+
+// Whether there are digits, and nothing else.
+fn are_digits(bytes: &[u8]) -> bool
+    ensures { result ≡ are_digits bytes.now }
+{
+    !bytes.is_empty() && first_other(bytes).is_none()
+}
+
+// The first byte that is no digit.
+fn first_other(bytes: &[u8]) -> Option<usize>
+    ensures { result ≡ first_other bytes.now }
+{
+    bytes.iter().position(|byte| !byte.is_ascii_digit())
+}
+
+// Whether the token is the name of the thread of this number, of one digit.
+fn is_thread(token: Token<'_>, number: usize) -> bool
+    requires { number < 10 }
+    ensures { result ≡ is_thread number (spelled token.entry) }
+{
+    match token.spelling {
+        [first, digit] => {
+            token.kind == TokenKind::Name && *first == b'P' && usize::from(*digit) == 48 + number
+        }
+        _ => false,
+    }
 }
 
 fn exists() -> TokenKind

@@ -1,5 +1,6 @@
 //! A cursor over the tokens of a test.
 ghost use Rattle.std.specs.Prelude.{◌≡◌, [], ◌+◌, length, IfOk, IsErr, if◌then◌else◌};
+ghost use Rattle.loom_text.specs.Statements.{kind_at, unqualified};
 ghost use Rattle.loom_text.specs.Tokens.{Gives, after_sign, constant_at, counted, is_next, left, name_at, next, passed, spelled, value_of};
 
 use crate::error::{Feature, Problem, Wanted};
@@ -170,7 +171,10 @@ impl<'a> Parser<'a> {
     }
 
     /// The kind that a type stands for, if a type is next. `volatile` and `const` may stand before it, and say nothing here.
-    pub(crate) fn kind(&mut self) -> Result<Option<Kind>, Stop> {
+    #[tactic(auto, unfolding(crate::specs::Statements::kind_at))]
+    pub(crate) fn kind(&mut self) -> Result<Option<Kind>, Stop>
+        ensures { Gives (λ kind. (kind, left self.new)) result (kind_at (left self.old)) }
+    {
         self.qualifiers();
         let token = self.peek();
         match token.kind {
@@ -185,7 +189,9 @@ impl<'a> Parser<'a> {
         }
     }
 
-    fn qualifiers(&mut self) {
+    fn qualifiers(&mut self)
+        ensures { left self.new ≡ (unqualified (left self.old).0, (left self.old).1) }
+    {
         for _ in 0..self.len() {
             if self.peek().kind != TokenKind::Word(Word::Qualifier) {
                 return;

@@ -3,7 +3,7 @@ use Rattle.std.proofs.lemmas.List.{take_all}
 use Rattle.std.specs.List.{flat_map}
 use Rattle.std.specs.Prelude.{is_ok}
 use Rattle.loom_text.specs.declared.test.Term.{Term}
-use Rattle.loom_text.specs.Printing.{printed_term, text_of}
+use Rattle.loom_text.specs.Printing.{places_in, printed_term, text_of, threads_in}
 use Rattle.loom_text.proofs.write.write_terms.Goals as goal
 
 on_ok : {T E : Type 0} (r : Result T E) (new a b c : List ℕ) → new ≡ cond (is_ok r) a b → a ≡ c → OnOk r (new ≡ c)
@@ -18,7 +18,7 @@ returns c =
     let test = c.args.test.now in
     let old = string_bytes c.args.text.now in
     let first = codes "locations [" in
-    let write = λ (term : Term). text_of (printed_term test.locations.items test.threads.items term) ++ codes ";" in
+    let write = λ (term : Term). text_of (printed_term (places_in test) (threads_in test) term) ++ codes ";" in
     let over : length c.deref-term-items.result.now ≤ c.loop-term.term-index = omega (arith, c.loop-term-test.false) in
     let all : take c.loop-term.term-index test.listed.items ≡ test.listed.items =
     take_all c.loop-term.term-index test.listed.items (subst (λ (xs : List Term). length xs ≤ c.loop-term.term-index) c.deref-term-items.ensures.value over) in

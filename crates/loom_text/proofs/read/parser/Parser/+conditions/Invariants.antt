@@ -1,5 +1,5 @@
 use Rattle.std.proofs.Common.{◌≡◌, ◌+◌, ◌-◌, ◌*◌}
-use Rattle.loom_text.specs.Conditions.{Both, Either, conjunction_of, disjunction_of, formula, joined_at, part_at}
+use Rattle.loom_text.specs.Conditions.{Both, Either, conjunction_of, disjunction_of, formula, joined_at, part_at, places_of, threads_of}
 use Rattle.loom_text.specs.Named.{IsConditionOf}
 use Rattle.loom_text.specs.Tokens.{left}
 use Rattle.loom_text.specs.declared.read.symbol.Symbol.TheVariants as signs
@@ -18,12 +18,12 @@ decreases-negation l = 4 * l.depth
 -- what was read is of the test, and with what is still read it is what the whole reads
 abbrev pub invariant-disjunction-loop : goal.invariant-disjunction-loop
 invariant-disjunction-loop l =
-    let part = part_at l.fn.names.locations.now l.fn.names.threads.now l.fn.depth in
+    let part = part_at (places_of l.fn.names) (threads_of l.fn.names) l.fn.depth in
     IsConditionOf l.fn.names.locations.now l.fn.names.threads.now l.left
     × (joined_at signs.Disjunction Either (conjunction_of part) (257 - l.counter) (formula l.left) (left l.self) ≡ disjunction_of part (left l.fn.self))
 
 abbrev pub invariant-conjunction-loop : goal.invariant-conjunction-loop
 invariant-conjunction-loop l =
-    let part = part_at l.fn.names.locations.now l.fn.names.threads.now l.fn.depth in
+    let part = part_at (places_of l.fn.names) (threads_of l.fn.names) l.fn.depth in
     IsConditionOf l.fn.names.locations.now l.fn.names.threads.now l.left
     × (joined_at signs.Conjunction Both part (257 - l.counter) (formula l.left) (left l.self) ≡ conjunction_of part (left l.fn.self))

@@ -1,5 +1,6 @@
 use Rattle.std.proofs.Common.{◌≡◌, ◌+◌, ◌-◌, ◌*◌}
 use Rattle.loom_text.specs.Expressions.{inside, many_with, operators_at, phrase}
+use Rattle.loom_text.specs.Known.{known}
 use Rattle.loom_text.specs.Tokens.{left}
 use Rattle.loom_text.proofs.read.parser.Parser.+expressions.Given as goal
 
@@ -43,5 +44,5 @@ decreases-compared l = 8 * l.depth + 4
 -- what was read is, with what is still read, what the whole reads
 abbrev pub invariant-binary-loop : goal.invariant-binary-loop
 invariant-binary-loop l =
-    let within = inside l.fn.scope l.fn.depth in
-    operators_at within l.fn.lowest (257 - l.counter) (phrase l.left) (left l.self) ≡ many_with l.fn.scope within l.fn.lowest (left l.fn.self)
+    let within = inside (known l.fn.scope) l.fn.depth in
+    operators_at within l.fn.lowest (257 - l.counter) (phrase l.left) (left l.self) ≡ many_with (known l.fn.scope) within l.fn.lowest (left l.fn.self)

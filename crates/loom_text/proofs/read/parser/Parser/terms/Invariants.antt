@@ -1,4 +1,5 @@
 use Rattle.std.proofs.Common.{◌≡◌, ◌-◌, length, All}
+use Rattle.loom_text.specs.Conditions.{places_of, threads_of}
 use Rattle.loom_text.specs.Named.{IsTermOf}
 use Rattle.loom_text.specs.Question.{terms_at}
 use Rattle.loom_text.specs.Tokens.{left}
@@ -11,4 +12,4 @@ invariant-loop l =
     let threads = l.fn.names.threads.now in
     let count = length (left l.fn.self).0 in
     (All (IsTermOf locations threads) l.initial.listed.items → All (IsTermOf locations threads) l.listed.items)
-    × (terms_at locations threads (count - l.counter) l.listed.items (left l.self) ≡ terms_at locations threads count l.initial.listed.items (left l.fn.self))
+    × (terms_at (places_of l.fn.names) (threads_of l.fn.names) (count - l.counter) l.listed.items (left l.self) ≡ terms_at (places_of l.fn.names) (threads_of l.fn.names) count l.initial.listed.items (left l.fn.self))
