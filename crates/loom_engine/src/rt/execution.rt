@@ -349,7 +349,7 @@ fn wait<D: Data>(run: &mut Progress<D>, path: &mut Path, notifier: usize) -> Res
 }
 
 /// A schedule, and those after it, up to a turn. `Misuse` at one branch point more than there may be.
-// Not inlined, as `take_turn` isn't: what each passes is inlined into them.
+// Not inlined: what it passes is inlined into it.
 #[inline(never)]
 fn schedule<D: Data>(run: &mut Progress<D>, path: &mut Path, more: u32) -> Result<Turn<D>, Stop>
     ensures along { Along (machine.schedule more) run.old path.old result run.new path.new }
@@ -407,8 +407,6 @@ fn mark<D: Data>(run: &Progress<D>, path: &mut Path)
 }
 
 /// Marks are made for the last accesses that what is pending depends on and isn't ordered after.
-// Not inlined, so that a search that isn't reduced has no room to clear for what is looked up here.
-#[inline(never)]
 fn mark_unordered<D: Data>(run: &Progress<D>, path: &mut Path)
     ensures marks { IsMarked run.now path.old path.new }
     ensures same { IsSame path.old path.new }
@@ -444,7 +442,7 @@ fn access<D: Data>(run: &mut Progress<D>, thread: u8, place: usize) -> Result<()
 }
 
 /// The chosen thread goes on with what it has pending. A load asks the path which store it reads.
-#[inline(never)]
+#[inline(always)]
 fn take_turn<D: Data>(run: &mut Progress<D>, path: &mut Path, thread: u8) -> Result<Passed<D>, Stop>
     ensures along { Along (takes_turn thread) run.old path.old result run.new path.new }
     ensures growth { result ≡ Err Stop.Memory → AllNeedMemory Passed.Turn (takes_turn thread) run.old path.old }

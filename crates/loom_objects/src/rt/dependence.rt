@@ -124,6 +124,7 @@ impl Dependence {
 
     /// For each thread, by what it is about to do, the place of the last access that this depends on, where the thread isn't
     /// ordered after that access (loom's `schedule` of `rt/execution.rs`).
+    #[inline(always)]
     pub fn unordered(&self, uses: &[Option<Use>; MAX_THREADS]) -> [Option<usize>; MAX_THREADS]
         ensures { (o : Order) → ShowsOrder o self.now → result ≡ unordered o uses.now }
     {
@@ -136,6 +137,7 @@ impl Dependence {
 
     /// For this thread, by what it is about to do, the place of the last access that this depends on, where the thread isn't
     /// ordered after that access.
+    #[inline(always)]
     fn unordered_by(&self, thread: usize, used: Option<Use>) -> Option<usize>
         ensures { (o : Order) → ShowsOrder o self.now → result ≡ unordered_by o thread used }
     {
@@ -154,6 +156,7 @@ impl Dependence {
     /// A thread is chosen by the schedule at this place, and uses an object: it comes after the last access that this depends
     /// on. `TooManyVersions` where it has done so 65,534 times, `Misuse` where there is no such thread (loom's `schedule` of
     /// `rt/execution.rs`; the limit is own).
+    #[inline(always)]
     pub fn record(&mut self, thread: usize, used: Use, place: usize) -> Result<(), FailureKind>
         requires { thread < 5 }
         ensures { (o : Order) → ShowsOrder o self.old → OrdersAs (after_use thread used place o) result self.new }

@@ -65,6 +65,7 @@ fn yielding_place(standings: &[(Ability, u64); MAX_THREADS]) -> Option<usize>
 
 /// The active thread if it can go on, or else the one with the fewest yields that can, or else the first that has yielded. Each
 /// thread is given by what it offers and how often it has yielded (loom's `rt/execution.rs`).
+#[inline(always)]
 pub fn default_thread(active: u8, standings: &[(Ability, u64); MAX_THREADS]) -> Option<u8>
     ensures { result ≡ rules.default_thread active standings.now }
 {

@@ -565,6 +565,7 @@ impl State {
     }
 
     /// An atomic that a thread makes with a value, which is its first store (loom's `rt/atomic.rs`).
+    #[inline(always)]
     pub fn new(thread: usize, views: &ThreadViews, value: u64) -> State
         requires { thread < 5 }
         ensures { (g : Graph) (p : ThreadPoints) → IsChained g → IsPresent g thread p.present → ShowsThread g thread p views.now →

@@ -310,6 +310,7 @@ impl Views {
     }
 
     /// A thread makes an atomic. An error where a growth was refused; then nothing changes (loom's `rt/atomic.rs`).
+    #[inline(always)]
     pub fn add_atomic(&mut self, thread: usize, value: u64) -> Result<(), AllocError>
         ensures shown { (p : Points) → ShowsViews p self.old → OnOk result (ShowsViews (points_with_atomic p thread value) self.new) }
         ensures err { OnErr result (self.new ≡ self.old) }

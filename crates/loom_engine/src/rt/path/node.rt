@@ -330,6 +330,7 @@ fn are_same_slots(one: &[bool; MAX_ATOMIC_HISTORY], other: &[bool; MAX_ATOMIC_HI
 
 impl Load {
     /// The slot that is the choice.
+    #[inline(always)]
     pub fn slot(&self) -> u8
         ensures { Choice.Load result ≡ (seen_load self.now).present }
     {

@@ -24,6 +24,7 @@ fn use_at<D>(threads: &Sequence<Thread<D>>, place: usize) -> Option<Use>
 
 impl<D: Drop> Scene<D> {
     /// What the pending operation of each of the five threads does to its object, whatever the thread's state.
+    #[inline(always)]
     pub fn uses(&self) -> [Option<Use>; MAX_THREADS]
         ensures { (points : Points) → (left : ℕ) → result ≡ rules.uses (world_of points left self.now) }
     {
