@@ -7,7 +7,7 @@ use crate::model::visitor::Visitor;
 use loom_engine::rt::path::Path;
 use std::alloc::{AllocError, Global};
 
-/// The choices of each run are listed.
+/// The choices of each run are listed, for a visitor that looks at them.
 pub struct Listed;
 
 /// No choices are listed, since nobody takes them.
@@ -27,8 +27,7 @@ impl<D: Drop, V: Visitor<D>> Receiver<D, Listed> for V {
     ghost receives = { V.takes };
 
     fn receive(&mut self, alloc: Global, path: &Path, value: D) -> Result<(), AllocError> {
-        let choices = path.choices(alloc)?;
-        self.run(choices.as_slice(), value)
+        self.run_along(alloc, path, value)
     }
 }
 

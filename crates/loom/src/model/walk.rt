@@ -118,8 +118,7 @@ fn take_run<D: Drop, V: Visitor<D>>(
 {
     match ending {
         Ending::Ended(value) => {
-            let choices = path.choices(alloc)?;
-            visitor.run(choices.as_slice(), value)?;
+            visitor.run_along(alloc, path, value)?;
             Ok(Taken::On)
         }
         Ending::Failed(failure) if is_cut(failure.kind) => {

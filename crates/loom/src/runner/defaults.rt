@@ -13,6 +13,7 @@ use crate::runner::error::RunnerError;
 use crate::runner::exact::Exact;
 use crate::runner::handle::Handle;
 use crate::runner::stop::Stop;
+use loom_engine::rt::path::Path;
 use loom_objects::choice::Choice;
 use std::alloc::{AllocError, Global};
 use std::sync::Wait;
@@ -26,6 +27,10 @@ impl<D: Drop> Visitor<D> for NoVisitor {
     ghost takes = { λ old choices value new. Unit {0} };
 
     fn run(&mut self, _choices: &[Choice], _value: D) -> Result<(), AllocError> {
+        Ok(())
+    }
+
+    fn run_along(&mut self, _alloc: Global, _path: &Path, _value: D) -> Result<(), AllocError> {
         Ok(())
     }
 }

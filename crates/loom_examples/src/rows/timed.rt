@@ -1,6 +1,4 @@
 //! A check that makes no further run once its time is over.
-ghost use Rattle.std.specs.Prelude.{⊤};
-
 use crate::bodies::updates::Updater;
 use crate::rows::changes::Changes;
 use crate::rows::settings::Builds;
@@ -11,23 +9,10 @@ use loom::checkpoint::file::file_store;
 use loom::model::Report;
 use loom::model::builder::Builder;
 use loom::model::error::CheckError;
-use loom::model::visitor::Visitor;
-use loom::{Body, Choice, HostClock};
-use std::alloc::AllocError;
+use loom::runner::NoVisitor;
+use loom::{Body, HostClock};
 use std::io::{self, Write};
 use std::rt::{Clock, Files};
-
-/// Nobody is given the runs.
-#[derive(Clone, Copy)]
-pub(crate) struct NoVisitor;
-
-impl Visitor<u64> for NoVisitor {
-    ghost takes = { λ _ _ _ _. ⊤ };
-
-    fn run(&mut self, _choices: &[Choice], _value: u64) -> Result<(), AllocError> {
-        Ok(())
-    }
-}
 
 /// Checks the body by this builder, and by the host's clock.
 pub(crate) fn check<R: AllocGlobal + Clock + Files, B: Body<Data = u64>>(
