@@ -128,15 +128,30 @@ fn find<
     R: AllocGlobal + HostTime + Files + Threads + Wait + Sync,
     B: Body<Data = u64> + Apart + Sync,
 >(rt: &R, builder: &Builder, body: &B, count: usize) -> Result<Report, CheckError> {
-    let alloc = rt.alloc();
-    let mut store = file_store(rt, alloc, &builder.checkpoint_file);
-    let mut parts = begin(alloc, builder, &mut store)?;
+    let mut store = file_store(rt, rt.alloc(), &builder.checkpoint_file);
+    let mut parts = begin(rt.alloc(), builder, &mut store)?;
+    find_from(rt, builder, body, count, &mut parts, &mut store)
+}
+
+// What it finds from this list of parts on. The store saves it.
+fn find_from<
+    R: AllocGlobal + HostTime + Files + Threads + Wait + Sync,
+    B: Body<Data = u64> + Apart + Sync,
+    S: CheckpointStore,
+>(
+    rt: &R,
+    builder: &Builder,
+    body: &B,
+    count: usize,
+    parts: &mut Parts,
+    store: &mut S,
+) -> Result<Report, CheckError> {
     let mut clock = HostClock::start(rt);
     let mut runs = 0u64;
     let mut saved = 0u64;
     for _ in rt.forever() {
         let stage = stage(builder, runs, clock.elapsed());
-        let found = find_in(rt, &stage, body, count, &mut parts, &mut clock)?;
+        let found = find_in(rt, &stage, body, count, parts, &mut clock)?;
         let (now, limit) = match ended(found, runs) {
             Ok(report) => return Ok(report),
             Err(stopped) => stopped,
@@ -146,7 +161,7 @@ fn find<
         if !is_over && runs.saturating_sub(saved) < builder.checkpoint_interval as u64 {
             continue;
         }
-        let checkpoint = parts.to_text(alloc)?;
+        let checkpoint = parts.to_text(rt.alloc())?;
         store.save(checkpoint.as_str())?;
         saved = runs;
         if is_over {

@@ -19,7 +19,7 @@ use loom::model::error::CheckError;
 use loom::model::parts::{Slice, Worked};
 use loom::model::{Replay, Report};
 use loom::runner::NoVisitor;
-use loom::{Body, Choices, HostClock, NoClock, ShownChoices};
+use loom::{Body, Choice, Choices, Failure, HostClock, NoClock, ShownChoices};
 use loom_engine::rt::parts::Part;
 use std::alloc::{AllocError, Global};
 use std::fs::File;
@@ -52,32 +52,11 @@ pub fn do_share<R: AllocGlobal + Clock + Files<File = File>, O: Write, E: Write>
 ) -> io::Result<u8> {
     match share {
         Share::Split(_, 0) => refuse(err, "error: a check is split into one part or more"),
-        Share::Split(path, wanted) => {
-            let folder = Folder::new(rt, path);
-            folder.make()?;
-            if folder.read("list").is_ok_and(|text| text.is_some()) {
-                return refuse(err, "error: the folder has a check already");
-            }
-            let text = row_text(rt.alloc(), &asked)?;
-            match folder.write("row", text.as_str()) {
-                Ok(()) => with_row(rt, &folder, Step::Split(wanted), asked, out, err),
-                Err(_) => refuse(err, NO_FOLDER),
-            }
-        }
+        Share::Split(path, wanted) => split_row(rt, path, wanted, asked, out, err),
         Share::Part(word) => match word.rsplit_once('/') {
             Some((path, number)) => {
-                let folder = Folder::new(rt, path);
-                let lock = format!(in rt.alloc(); "{number}.lock")?;
-                let Ok(lock) = folder.lock(lock.as_str()) else {
-                    return refuse(err, NO_FOLDER);
-                };
-                match lock {
-                    Some(_held) => {
-                        let longest = asked.changes.max_duration;
-                        with_folder(rt, &folder, Step::Part(number), longest, out, err)
-                    }
-                    None => refuse(err, "error: another process works on this part"),
-                }
+                let longest = asked.changes.max_duration;
+                work_in(rt, path, number, longest, out, err)
             }
             None => refuse(err, "error: a part is named as 'FOLDER/NUMBER'"),
         },
@@ -91,6 +70,47 @@ pub fn do_share<R: AllocGlobal + Clock + Files<File = File>, O: Write, E: Write>
                 None => refuse(err, "error: another process gathers here"),
             }
         }
+    }
+}
+
+// Makes the folder of the check that was asked for, which has none yet, and splits the check.
+fn split_row<R: AllocGlobal + Clock + Files<File = File>, O: Write, E: Write>(
+    rt: &R,
+    path: &str,
+    wanted: usize,
+    asked: RowAsked,
+    out: &mut O,
+    err: &mut E,
+) -> io::Result<u8> {
+    let folder = Folder::new(rt, path);
+    folder.make()?;
+    if folder.read("list").is_ok_and(|text| text.is_some()) {
+        return refuse(err, "error: the folder has a check already");
+    }
+    let text = row_text(rt.alloc(), &asked)?;
+    match folder.write("row", text.as_str()) {
+        Ok(()) => with_row(rt, &folder, Step::Split(wanted), asked, out, err),
+        Err(_) => refuse(err, NO_FOLDER),
+    }
+}
+
+// Works on the part of this number of a folder, alone and for so long at most.
+fn work_in<R: AllocGlobal + Clock + Files<File = File>, O: Write, E: Write>(
+    rt: &R,
+    path: &str,
+    number: &str,
+    longest: Option<Duration>,
+    out: &mut O,
+    err: &mut E,
+) -> io::Result<u8> {
+    let folder = Folder::new(rt, path);
+    let lock = format!(in rt.alloc(); "{number}.lock")?;
+    let Ok(lock) = folder.lock(lock.as_str()) else {
+        return refuse(err, NO_FOLDER);
+    };
+    match lock {
+        Some(_held) => with_folder(rt, &folder, Step::Part(number), longest, out, err),
+        None => refuse(err, "error: another process works on this part"),
     }
 }
 
@@ -251,38 +271,58 @@ fn split<R: AllocGlobal + Files, B: Body<Data = u64>>(
     wanted: usize,
 ) -> Result<Came, CheckError> {
     let mut listed = Listed::new(alloc, wanted, builder.parts(alloc)?)?;
+    match make_runs(alloc, builder, body, &mut listed)? {
+        Some(report) => Ok(Came::Found(report)),
+        None => write_out(alloc, folder, &listed),
+    }
+}
+
+// Makes a run at a time of the first part, until there are as many as are wanted, or none. Answers the report if one fails.
+fn make_runs<B: Body<Data = u64>>(
+    alloc: Global,
+    builder: &Builder,
+    body: &B,
+    listed: &mut Listed,
+) -> Result<Option<Report>, CheckError> {
     for _ in 0..MOST_RUNS {
-        if listed.parts.is_over() || listed.parts.len() >= wanted {
+        if listed.parts.is_over() || listed.parts.len() >= listed.wanted {
             break;
         }
-        if let Some(mut part) = listed.parts.take(alloc, 0)? {
-            match builder.check_part(
-                alloc,
-                body,
-                &mut part,
-                ONE_RUN,
-                &mut NoVisitor,
-                &mut NoClock,
-            )? {
-                Worked::Made { .. } => {
-                    listed.take_one_back(alloc, part)?;
-                }
-                Worked::Failed {
-                    runs: _,
+        let Some(mut part) = listed.parts.take(alloc, 0)? else {
+            continue;
+        };
+        match make_run(alloc, builder, body, &mut part)? {
+            Some((failure, choices)) => {
+                let runs = listed.parts.runs;
+                return Ok(Some(Report::Failed {
+                    runs,
                     failure,
                     choices,
-                } => {
-                    let runs = listed.parts.runs;
-                    return Ok(Came::Found(Report::Failed {
-                        runs,
-                        failure,
-                        choices,
-                    }));
-                }
+                }));
+            }
+            None => {
+                listed.take_one_back(alloc, part)?;
             }
         }
     }
-    write_out(alloc, folder, &listed)
+    Ok(None)
+}
+
+// Makes a run of the part. Answers how it fails, and its choices, if it does.
+fn make_run<B: Body<Data = u64>>(
+    alloc: Global,
+    builder: &Builder,
+    body: &B,
+    part: &mut Part,
+) -> Result<Option<(Failure, Vec<Choice>)>, CheckError> {
+    match builder.check_part(alloc, body, part, ONE_RUN, &mut NoVisitor, &mut NoClock)? {
+        Worked::Made { .. } => Ok(None),
+        Worked::Failed {
+            runs: _,
+            failure,
+            choices,
+        } => Ok(Some((failure, choices))),
+    }
 }
 
 // Works on the part of this number until nothing is left of it or the time is over, and writes what came of it.
@@ -345,23 +385,45 @@ fn gather<R: AllocGlobal + Files, B: Body<Data = u64>>(
     };
     let mut listed = Listed::from_text(alloc, builder, text)?;
     let mut sorted = Sorted::new(alloc);
+    match sort(alloc, folder, builder, body, &listed, &mut sorted)? {
+        Some(report) => Ok(Came::Found(report)),
+        None => take_back(alloc, folder, &mut listed, sorted),
+    }
+}
+
+// Sorts the parts of the list by whether they came back. Answers the report if a run of one failed.
+fn sort<R: AllocGlobal + Files, B: Body<Data = u64>>(
+    alloc: Global,
+    folder: &Folder<R>,
+    builder: &Builder,
+    body: &B,
+    listed: &Listed,
+    sorted: &mut Sorted,
+) -> Result<Option<Report>, CheckError> {
     for place in 0..listed.numbers.len().min(listed.parts.list.len()) {
         let number = listed.numbers[place];
-        if let Some(report) = failure_of(alloc, folder, builder, body, number, listed.parts.runs)? {
-            return Ok(Came::Found(report));
+        let failed = failure_of(alloc, folder, builder, body, number, listed.parts.runs)?;
+        if failed.is_some() {
+            return Ok(failed);
         }
         let word = format!(in alloc; "{number}")?;
         let part = part_in(alloc, folder, builder, word.as_str(), "done")?;
-        sorted.add(
-            alloc,
-            number,
-            part,
-            listed.parts.list[place].base.as_slice(),
-        )?;
+        let base = listed.parts.list[place].base.as_slice();
+        sorted.add(alloc, number, part, base)?;
     }
+    Ok(None)
+}
+
+// Takes back the parts that came back, and writes what is left.
+fn take_back<R: AllocGlobal + Files>(
+    alloc: Global,
+    folder: &Folder<R>,
+    listed: &mut Listed,
+    sorted: Sorted,
+) -> Result<Came, CheckError> {
     let Sorted { done, back, out } = sorted;
     listed.take_back(alloc, done, out.as_slice())?;
-    let came = write_out(alloc, folder, &listed)?;
+    let came = write_out(alloc, folder, listed)?;
     remove_each(alloc, folder, back.as_slice())?;
     Ok(came)
 }

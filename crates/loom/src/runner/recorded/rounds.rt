@@ -75,9 +75,57 @@ pub(crate) fn make_recorded_rounds<
         max_threads: builder.max_threads,
         max_steps: builder.max_steps,
     };
+    let mut recorder = Recorder::new(alloc, limits, builder.location)?;
+    record_rounds(
+        rt,
+        alloc,
+        builder,
+        watcher,
+        closure,
+        visitor,
+        clock,
+        store,
+        log,
+        &mut recorder,
+    )
+}
+
+/// Makes them by this recorder, which has recorded nothing yet.
+fn record_rounds<
+    D: Exact + 'static,
+    R: Threads + Wait + Clone + Send + 'static,
+    F: FnMut(&mut Handle<D, R>) -> Result<D, Stop>,
+    V: Visitor<D>,
+    C: Clock,
+    S: CheckpointStore,
+    L: Log + Clone + Send + 'static,
+>(
+    rt: &R,
+    alloc: Global,
+    builder: &Builder,
+    watcher: &Watcher<D, L>,
+    closure: &mut F,
+    visitor: &mut V,
+    clock: &mut C,
+    store: &mut S,
+    log: &L,
+    recorder: &mut Recorder<D>,
+) -> Result<Report, RunnerError>
+    requires some { 1 ≤ builder.now.max_threads }
+    requires few { builder.now.max_threads ≤ 5 }
+    requires branches { builder.now.max_branches ≤ 1000000 }
+    requires bound { IfSome builder.now.preemption_bound (λ bound. bound ≤ 255) }
+    requires interval { 0 < builder.now.checkpoint_interval }
+    requires callable { F.IsAlwaysCallable closure.old }
+    requires limits { recorder.old.limits ≡ limits_of builder.now }
+    requires locations { recorder.old.keeps_locations ≡ builder.now.location }
+    requires fresh { (does : Function D) → IsTrueOf does ([] ∷ []) recorder.old.recording }
+    ensures again { F.IsAlwaysCallable closure.new }
+    ensures reports { IfOk result (ReportsRecorded (CalledAtMut F.FnMut) V.takes builder.now closure.old visitor.old visitor.new (S.gives store.old) (S.holds store.new) (C.answered clock.new)) }
+    ensures faults { CountsFaults result (S.fault_count store.old) (S.fault_count store.new) }
+{
     let mut path = builder.begin(alloc, store)?;
     let mut pace = Pace::new(builder.checkpoint_interval);
-    let mut recorder = Recorder::new(alloc, limits, builder.location)?;
     loop {
         if let Some(limit) = builder.reached(pace.runs, clock) {
             return Ok(stop(alloc, &path, store, pace.runs, limit)?);

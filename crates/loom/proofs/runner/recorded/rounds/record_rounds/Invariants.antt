@@ -3,7 +3,7 @@ use Rattle.std.specs.Fn.{CalledAtMut}
 use Rattle.loom.specs.Model.Settings.{most_runs}
 use Rattle.loom.specs.Runner.Check.{limits_of}
 use Rattle.loom.proofs.RunnerLemmas.Rounds.{IsRecorded}
-use Rattle.loom.proofs.runner.recorded.rounds.make_recorded_rounds.Given as goal
+use Rattle.loom.proofs.runner.recorded.rounds.record_rounds.Given as goal
 
 -- the runs that were made of the closure, and the check so far as one of each function that does what was done in them; the store met
 -- no fault
