@@ -62,31 +62,36 @@ fn put_and_take<R: Wait>(
     take(handle, stack)
 }
 
-/// Puts this node on top.
+/// Puts this node on top. A try that fails says which node is on top.
 fn put<R: Wait>(
     handle: &mut Handle<u64, R>,
     stack: &Stack,
     node: u64,
     publish: Ordering,
 ) -> Result<(), Stop> {
+    let mut top = handle.load(&stack.top, Relaxed)?;
     handle.until(|handle| {
-        let top = handle.load(&stack.top, Relaxed)?;
         handle.set(below(stack, node), top)?;
         let put = handle.compare_exchange(&stack.top, top, node, publish, Relaxed)?;
+        if let Err(now) = put {
+            top = now;
+        }
         Ok(put.is_ok())
     })
 }
 
 /// Takes the node on top off, and answers it, or 0 where there is none.
 fn take<R: Wait>(handle: &mut Handle<u64, R>, stack: &Stack) -> Result<u64, Stop> {
-    let mut top = 0;
+    let mut top = handle.load(&stack.top, Acquire)?;
     handle.until(|handle| {
-        top = handle.load(&stack.top, Acquire)?;
         if top == 0 {
             return Ok(true);
         }
         let next = handle.copied(below(stack, top))?;
-        let taken = handle.compare_exchange(&stack.top, top, next, Acquire, Relaxed)?;
+        let taken = handle.compare_exchange(&stack.top, top, next, Acquire, Acquire)?;
+        if let Err(now) = taken {
+            top = now;
+        }
         Ok(taken.is_ok())
     })?;
     Ok(top)

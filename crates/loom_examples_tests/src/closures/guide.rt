@@ -61,9 +61,9 @@ fn a_closure_prints(rt: HostRuntime) -> Result<(), Fail> {
 /// Three threads put a node each on Treiber's stack, and take one off. With few preemptions there are few runs.
 #[test]
 fn few_preemptions_make_few_runs(rt: HostRuntime) -> Result<(), Fail> {
-    has_runs(&rt, 0, 16)?;
-    has_runs(&rt, 1, 186)?;
-    has_runs(&rt, 2, 1_361)
+    has_runs(&rt, 0, 13)?;
+    has_runs(&rt, 1, 168)?;
+    has_runs(&rt, 2, 1_143)
 }
 
 /// With so many preemptions at most the stack has so many runs, and none fails.

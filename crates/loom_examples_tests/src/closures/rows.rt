@@ -31,7 +31,7 @@ static LINES: [(&str, &str, u8); 12] = [
         "failed 3 0 t0 l0 t1 t1 t1 t1 l0 t0 t0 l1\n",
         1,
     ),
-    ("treiber_stack_closures", "complete 16\n", 0),
+    ("treiber_stack_closures", "complete 13\n", 0),
     (
         "buggy_concurrent_inc_closures",
         "failed 1 0 t1 t1 l0 t1 t1 t0 t2 t2 l0 t2 t2 t0 t0 l1\n",
