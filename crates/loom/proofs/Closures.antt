@@ -8,4 +8,5 @@ pub mod Reporting
 pub mod Refusing
 pub mod Together
 pub mod Rising
+pub mod Shortening
 pub mod Walking

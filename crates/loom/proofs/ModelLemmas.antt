@@ -6,6 +6,7 @@ pub mod Checking
 pub mod Drawing
 pub mod Errors
 pub mod Handing
+pub mod Noting
 pub mod Numbers
 pub mod Parts
 pub mod Paths

@@ -5,6 +5,7 @@ pub mod Called
 pub mod Check
 pub mod ChoicesRead
 pub mod ChoicesText
+pub mod Different
 pub mod Environment
 pub mod Errors
 pub mod Fresh

@@ -23,5 +23,7 @@ pub mod Refusals
 pub mod Replay
 pub mod Rising
 pub mod Run
+pub mod Shortening
+pub mod Trying
 pub mod Walking
 pub mod Workers

@@ -1,4 +1,4 @@
-use Rattle.std.proofs.Common.{◌≡◌, ◌-◌, Bool, true, false, List, [], ◌∷◌, ◌++◌, ap, sym, ◌∙◌, refl, subst, length, arith, Option, None, Some, IfSome, IfNone, OnSome, MatchOption, is_some, length-append}
+use Rattle.std.proofs.Common.{◌≡◌, ◌-◌, inl, inr, Bool, true, false, List, [], ◌∷◌, ◌++◌, ap, sym, ◌∙◌, refl, subst, length, arith, Option, None, Some, IfSome, IfNone, OnSome, MatchOption, is_some, length-append}
 use Rattle.std.specs.Prelude.{slice_get, option_map, ⊤, Result, Ok, Err}
 use Rattle.loom_objects.specs.declared.choice.Choice.{Choice}
 use Rattle.loom_objects.specs.declared.failure.Stop.{Stop as Halt}
@@ -18,7 +18,7 @@ use Rattle.loom_engine.specs.declared.rt.execution.Limits.{Limits}
 use Rattle.loom_engine.specs.Execution.{ExecutionState, ShowsCourse, SubmitsAt, over_after}
 use Rattle.loom.specs.declared.runner.stop.Stop.{Stop}
 use Rattle.loom.specs.declared.runner.history.event.Event.{Event}
-use Rattle.loom.specs.Runner.Events.{IsAdded, last_event, end_after, end_in, outcome_by}
+use Rattle.loom.specs.Runner.Events.{HasStayed, IsAdded, last_event, end_after, end_in, outcome_by}
 use Rattle.loom.specs.Runner.Drawn.{AddsBy, GoesOn, HandedAt, HandedBy, KeptBy, KeptDrawn, LeadsBy, MayLead, Spot, led, led_log, passed_of, turn_of}
 use Rattle.loom.specs.Runner.Histories.{Moment, moment, first, active_at, answered, Handed, Happens, IsOf, Leads, Kept, Goes, Log, Adds, passed_at}
 
@@ -154,6 +154,12 @@ module _ {D : Type 0} where
   goes_by s t op label es es' None live added =
       (added.event, goes_one s.drawn s.moment t.moment op label added.event live added.asked added.labelled (added.active, added.choices) added.happens_so.0, added.happens_so.1, added.history)
   goes_by s t op label es es' (Some stop) live added = tt
+
+  -- choices are drawn afterwards as before
+  pub drawn_after : (s t : Spot D) (op : Request D ⊤) (label : Option Label) (es es' : List (Event D)) (after : Option Stop) → IsMore s op label t es es' after → OnSome after (HasStayed HandedAt s op t) → t.drawn ≡ s.drawn
+  drawn_after s t op label es es' None (e, goes, same, more) stays = same
+  drawn_after s t op label es es' (Some stop) added (inl is) = ap (λ (x : Spot _). x.drawn) is
+  drawn_after s t op label es es' (Some stop) added (inr handed) = handed.1
 
   -- ---- what is kept
 

@@ -1,5 +1,5 @@
 -- The events of a run, and the told list of each thread: its operations, with the replies to them.
-use Rattle.std.specs.Prelude.{ℕ, ◌≡◌, ◌<◌, ◌≤◌, ◌-◌, ◌+◌, ◌==◌, ◌&&◌, ⊤, Bool, true, false, cond, List, [], ◌∷◌, ◌++◌, length, Option, Some, None, Result, Ok, Err, slice_index, slice_get}
+use Rattle.std.specs.Prelude.{ℕ, ◌≡◌, ◌<◌, ◌≤◌, ◌-◌, ◌+◌, ◌==◌, ◌&&◌, ◌⊎◌, ⊤, Bool, true, false, cond, List, [], ◌∷◌, ◌++◌, length, Option, Some, None, Result, Ok, Err, slice_index, slice_get}
 use Rattle.loom_views.specs.declared.rt.failure.FailureKind.TheVariants.{Misuse}
 use Rattle.loom_objects.specs.declared.failure.Failure.{Failure}
 use Rattle.loom_objects.specs.declared.label.Label.{Label}
@@ -157,6 +157,10 @@ module _ {D : Type 0} where
     pub choices : event.choices_before ≡ passed old
     pub happens_so : happens old op (answered event.outcome) new
     pub history : after ≡ before ++ event ∷ []
+
+  -- where nothing was added the machine has stayed, or memory was refused in it
+  abbrev pub HasStayed : {M : Type 0} → (M → Request D ⊤ → Result (Turn D) Halt → M → Type 0) → M → Request D ⊤ → M → Type 0
+  HasStayed happens old op new = (new ≡ old) ⊎ happens old op (Err halt.Memory) new
 
   -- ---- told lists
 

@@ -71,14 +71,7 @@ module _ {D V : Type 0} (limits : Limits) where
 abbrev pub IsByItsChoices : {D : Type 0} → Route → Made D → Type 0
 IsByItsChoices path m = m.began ≡ led_by (chosen m.log.now.route) path
 
-module _ {D F V : Type 0} (called : F → Teller D → Result D Stop → F → Teller D → Type 0) (takes : V → List Choice → D → V → Type 0) (limits : Limits) where
-  -- How a run ended that a call of the closure has made from this path on, whose choices were drawn.
-  abbrev pub WasDrawn : F → V → Route → DrawnEnd → F → V → Type 0
-  WasDrawn f v path Ended f' v' = (m : Made D) × IsByItsChoices path m × Given called takes limits f v m f' v'
-  WasDrawn f v path Cut f' v' = (m : Made D) × IsByItsChoices path m × MadeBy called takes limits f m f' × WasCut m.log × (v' ≡ v)
-  WasDrawn f v path (Failed failure choices) f' v' =
-      (m : Made D) × IsByItsChoices path m × MadeBy called takes limits f m f' × HasFailed m.log failure choices.items × (is_cut failure.kind ≡ false) × (v' ≡ v)
-
+module _ {D F : Type 0} (called : F → Teller D → Result D Stop → F → Teller D → Type 0) (limits : Limits) where
   -- a call of the closure has made a run from this path on whose end isn't settled
   pub record IsLeftUnsettled (f : F) (path : Route) : Type 0 where
     pub after : F
@@ -87,7 +80,15 @@ module _ {D F V : Type 0} (called : F → Teller D → Result D Stop → F → T
     pub call : WasCalled called f after told
     pub unsettled : IsUnsettledDrawn log path limits told
 
-  -- or one that came to a result
+module _ {D F V : Type 0} (called : F → Teller D → Result D Stop → F → Teller D → Type 0) (takes : V → List Choice → D → V → Type 0) (limits : Limits) where
+  -- How a run ended that a call of the closure has made from this path on, whose choices were drawn.
+  abbrev pub WasDrawn : F → V → Route → DrawnEnd → F → V → Type 0
+  WasDrawn f v path Ended f' v' = (m : Made D) × IsByItsChoices path m × Given called takes limits f v m f' v'
+  WasDrawn f v path Cut f' v' = (m : Made D) × IsByItsChoices path m × MadeBy called takes limits f m f' × WasCut m.log × (v' ≡ v)
+  WasDrawn f v path (Failed failure choices) f' v' =
+      (m : Made D) × IsByItsChoices path m × MadeBy called takes limits f m f' × HasFailed m.log failure choices.items × (is_cut failure.kind ≡ false) × (v' ≡ v)
+
+  -- a call of the closure has made one that came to a result
   pub record CameToResult (f : F) (path : Route) : Type 0 where
     pub run : Made D
     pub after : F
@@ -100,7 +101,7 @@ module _ {D F V : Type 0} (called : F → Teller D → Result D Stop → F → T
   IsNoDrawnRun f v path (error.Settings why) v' = ⊥
   IsNoDrawnRun f v path (error.Changed change) v' = ⊥
   IsNoDrawnRun f v path error.Refused v' = v' ≡ v
-  IsNoDrawnRun f v path error.NotSettled v' = IsLeftUnsettled f path × (v' ≡ v)
+  IsNoDrawnRun f v path error.NotSettled v' = IsLeftUnsettled called limits f path × (v' ≡ v)
   IsNoDrawnRun f v path error.Memory v' = (v' ≡ v) ⊎ CameToResult f path
 
 -- ---- a walk

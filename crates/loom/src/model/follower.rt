@@ -18,8 +18,8 @@ struct Step {
 /// Chooses as a run did, one step after another. A step whose thread can't go on waits, and where none can go on that is left, the
 /// default does.
 #[derive(Drop)]
-pub(crate) struct Follower<'a> {
-    choices: &'a [Choice],
+pub(crate) struct Follower {
+    choices: Vec<Choice>,
     // the steps that are left
     steps: Vec<Step>,
     // the values that the present step has left
@@ -50,14 +50,14 @@ const CHANGES: [Change; 5] = [
     Change::Forgets,
 ];
 
-impl<'a> Follower<'a> {
+impl Follower {
     /// Follows the run by these choices with a change of this number or the next one that makes a difference, and says the number
     /// behind that. None where there is no further one.
     pub(crate) fn next(
         alloc: Global,
-        choices: &'a [Choice],
+        choices: &[Choice],
         number: usize,
-    ) -> Result<Option<(Follower<'a>, usize)>, AllocError> {
+    ) -> Result<Option<(Follower, usize)>, AllocError> {
         let mut steps = steps_of(alloc, choices)?;
         let count = steps.len();
         let at = first_step(choices);
@@ -70,7 +70,7 @@ impl<'a> Follower<'a> {
             };
             if make_change(&mut steps, *kind, number % count) {
                 let follower = Follower {
-                    choices,
+                    choices: choices.to_vec(alloc)?,
                     steps,
                     at: 0,
                     end: at,
@@ -92,7 +92,7 @@ impl<'a> Follower<'a> {
     }
 }
 
-impl Chooser for Follower<'_> {
+impl Chooser for Follower {
     fn thread(&mut self, offers: &Offers) -> Option<u8> {
         let next = self
             .steps

@@ -18,6 +18,7 @@ use crate::runner::run::call_closure;
 use crate::runner::shared::share_drawn;
 use crate::runner::stop::Stop;
 use crate::runner::turns::Turns;
+use crate::runner::turns::drawing::Drawing;
 use crate::runner::watcher::Watcher;
 use log::Log;
 use loom_engine::rt::execution::Limits;
@@ -74,7 +75,7 @@ pub(crate) fn draw_run<
     let Ok(theirs) = drawer.clone() else {
         return Err(RunnerError::Memory);
     };
-    let shared = share_drawn(alloc, limits, path, theirs)?;
+    let shared = share_drawn(alloc, limits, path, Drawing::Walk(theirs))?;
     watcher.show(rt, number, &shared);
     let told = call_closure(rt, alloc, &shared, closure)?;
     watcher.tell(rt, number, &*shared);

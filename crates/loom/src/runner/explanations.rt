@@ -133,7 +133,7 @@ fn tell<D: Exact>(
 }
 
 /// How the run ended by its history.
-fn end_of<D: Exact>(turns: &Turns<D>) -> Result<End, RunnerError>
+pub(crate) fn end_of<D: Exact>(turns: &Turns<D>) -> Result<End, RunnerError>
     ensures end { IfOk result (IsEndOf turns.now.history) }
     ensures errors { IfErr result (IsOpenOrRefused turns.now) }
 {

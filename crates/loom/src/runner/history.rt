@@ -9,7 +9,7 @@ pub mod telling;
 pub mod told;
 
 ghost use Rattle.std.specs.Prelude.{◌≡◌, ◌+◌, ◌<◌, ◌==◌, ◌-◌, ◌^◌, ℕ, [], if◌then◌else◌, IfOk, IfErr, IfNone, IfSome, OnOk, OnSome, length, vec_len, vec_capacity, slice_index};
-ghost use Rattle.loom.specs.Runner.Events.{IsAdded, IsCounted, IsNotAdded, made, made_by};
+ghost use Rattle.loom.specs.Runner.Events.{HasStayed, IsAdded, IsCounted, IsNotAdded, made, made_by};
 
 use crate::runner::exact::Exact;
 use crate::runner::history::adding::take_turn;
@@ -99,6 +99,7 @@ impl<D: Exact> History<D> {
         ensures added { IfNone result (IsAdded M.turn M.passed M.happens machine.old op label machine.new self.old self.new) }
         ensures stopped { OnSome result (self.new ≡ self.old) }
         ensures why { IfSome result (IsNotAdded (M.turn machine.old) (1 + made self.old)) }
+        ensures stays { OnSome result (HasStayed M.happens machine.old op machine.new) }
     {
         let by = machine.active();
         let choices_before = machine.passed();

@@ -6,7 +6,6 @@ ghost use Rattle.loom_engine.specs.Path.Route.{IsAtStart};
 ghost use Rattle.loom.specs.Runner.Handle.{newcomer};
 ghost use Rattle.loom.specs.Runner.Errors.{IsRefusedByHost};
 
-use crate::model::drawer::Drawer;
 use crate::runner::error::RunnerError;
 use crate::runner::exact::Exact;
 use crate::runner::handle::Handle;
@@ -14,6 +13,7 @@ use crate::runner::history::told::Told;
 use crate::runner::job::Job;
 use crate::runner::stop::Stop;
 use crate::runner::turns::Turns;
+use crate::runner::turns::drawing::Drawing;
 use loom_engine::rt::execution::Limits;
 use loom_engine::rt::path::Path;
 use loom_objects::label::Label;
@@ -45,7 +45,7 @@ pub(crate) fn share_drawn<D: Exact + 'static>(
     alloc: Global,
     limits: Limits,
     path: &Path,
-    drawer: Drawer,
+    drawing: Drawing,
 ) -> Result<Arc<Shared<D>, Global>, RunnerError>
     requires some { 1 ≤ limits.max_threads }
     requires few { limits.max_threads ≤ 5 }
@@ -53,7 +53,7 @@ pub(crate) fn share_drawn<D: Exact + 'static>(
     requires empty { IsDrawn path.now }
     ensures { IfErr result (λ e. e ≡ RunnerError.Memory) }
 {
-    let Ok(turns) = Turns::drawn(alloc, path, limits, drawer) else {
+    let Ok(turns) = Turns::drawn(alloc, path, limits, drawing) else {
         return Err(RunnerError::Memory);
     };
     share_turns(alloc, turns)

@@ -5,6 +5,7 @@ ghost use Rattle.loom_engine.specs.Path.Route.{IsAtStart, chosen};
 ghost use Rattle.loom.specs.Runner.Drawn.{AddsBy, LeadsBy, SettlesDrawn};
 ghost use Rattle.loom.specs.Runner.Histories.{active_at, Answers, IsDecided, IsNotAdded, Settles, Starts, last_event, end_in, ended_by, failed_by, or_else, why_stopped};
 
+pub(crate) mod drawing;
 mod ignored;
 pub mod laws;
 mod moment;
@@ -18,6 +19,7 @@ use crate::runner::history::shares::are_shares;
 use crate::runner::history::submit::Submit;
 use crate::runner::history::told::Told;
 use crate::runner::stop::Stop;
+use crate::runner::turns::drawing::Drawing;
 use crate::runner::turns::ignored::Ignored;
 use crate::runner::turns::moment::Place;
 use log::Log;
@@ -80,7 +82,7 @@ impl<D: Exact> Turns<D> {
         alloc: Global,
         path: &Path,
         limits: Limits,
-        drawer: Drawer,
+        drawing: Drawing,
     ) -> Result<Turns<D>, AllocError>
         requires some { 1 ≤ limits.max_threads }
         requires few { limits.max_threads ≤ 5 }
@@ -92,7 +94,7 @@ impl<D: Exact> Turns<D> {
         ensures spoiled { IfOk result (λ t. t.spoiled ≡ None) }
         ensures drawn { IfOk result (λ t. t.drawn ≡ true) }
     {
-        Turns::begin(alloc, path, limits, Some(drawer))
+        Turns::begin(alloc, path, limits, Some(drawing))
     }
 
     /// The state before a run, whose choices this draws, if it is there.
@@ -100,17 +102,17 @@ impl<D: Exact> Turns<D> {
         alloc: Global,
         path: &Path,
         limits: Limits,
-        drawer: Option<Drawer>,
+        drawing: Option<Drawing>,
     ) -> Result<Turns<D>, AllocError>
         requires some { 1 ≤ limits.max_threads }
         requires few { limits.max_threads ≤ 5 }
         requires starts { IsAtStart path.now.explores path.now }
-        requires empty { is_some drawer ≡ true → IsDrawn path.now }
+        requires empty { is_some drawing ≡ true → IsDrawn path.now }
         ensures began { IfOk result (λ t. t.began ≡ path.now) }
         ensures limits { IfOk result (λ t. t.limits ≡ limits) }
         ensures history { IfOk result (λ t. t.history ≡ []) }
         ensures spoiled { IfOk result (λ t. t.spoiled ≡ None) }
-        ensures drawn { IfOk result (λ t. t.drawn ≡ is_some drawer) }
+        ensures drawn { IfOk result (λ t. t.drawn ≡ is_some drawing) }
     {
         let began = path.try_clone(alloc)?;
         let path = path.try_clone(alloc)?;
@@ -122,7 +124,7 @@ impl<D: Exact> Turns<D> {
             place: Place {
                 execution,
                 path,
-                drawer,
+                drawing,
             },
             began,
             limits,
@@ -141,6 +143,7 @@ impl<D: Exact> Turns<D> {
         ensures spoiled { IfSome self.old.spoiled (λ stop. self.new ≡ self.old) }
         ensures adds { self.old.spoiled ≡ None → end_in self.old.history ≡ None → MatchOption self.new.spoiled (AddsBy self.old.drawn self.old op label self.new) (λ stop. self.new.history ≡ self.old.history) }
         ensures why { self.old.spoiled ≡ None → end_in self.old.history ≡ None → IfSome self.new.spoiled (IsNotAdded (active_at self.old.now) self.old.threads) }
+        ensures drawn { self.new.drawn ≡ self.old.drawn }
     {
         if self.spoiled.is_some() {
             op.let_go();
@@ -157,6 +160,7 @@ impl<D: Exact> Turns<D> {
     pub fn give_up(&mut self, stop: Stop)
         ensures history { self.new.history ≡ self.old.history }
         ensures spoiled { self.new.spoiled ≡ or_else self.old.spoiled (Some stop) }
+        ensures drawn { self.new.drawn ≡ self.old.drawn }
     {
         if self.spoiled.is_none() {
             self.spoiled = Some(stop);
@@ -232,6 +236,7 @@ impl<D: Exact> Turns<D> {
     pub(crate) fn take_events(&mut self) -> Result<Vec<Event<D>>, AllocError>
         ensures events { IfOk result (λ events. events.items ≡ self.old.history) }
         ensures refused { OnErr result (self.new ≡ self.old) }
+        ensures drawn { self.new.drawn ≡ self.old.drawn }
     {
         let none = History::new(self.alloc)?;
         self.spoiled = Some(Stop::Refused);
@@ -266,6 +271,11 @@ impl<D: Exact> Turns<D> {
         log_switches(log, &self.place.path);
     }
 
+    /// How many preemptions the run has (own).
+    pub(crate) fn preemptions(&self) -> u32 {
+        self.place.path.preemptions()
+    }
+
     /// The choices of the run. It fails only where a growth is refused (own).
     pub fn choices(&self) -> Result<Vec<Choice>, AllocError>
         ensures { IfOk result (λ list. list.items ≡ chosen self.now.now.route) }
@@ -280,9 +290,12 @@ impl<D: Exact> Turns<D> {
         self.place.path.try_clone(self.alloc)
     }
 
-    /// What draws the run's choices, if they are drawn. An error only where a growth is refused (own).
+    /// What draws the run's choices, if they are drawn as a walk does. An error only where a growth is refused (own).
     pub(crate) fn drawer(&self) -> Result<Option<Drawer>, AllocError> {
-        self.place.drawer.clone()
+        match &self.place.drawing {
+            Some(Drawing::Walk(drawer)) => Ok(Some(drawer.clone()?)),
+            Some(Drawing::Change(_)) | None => Ok(None),
+        }
     }
 
     /// Whether the run began with this path and these limits and followed its path, and the told list of each thread is its part of

@@ -14,9 +14,9 @@ use loom::checkpoint::file::file_store;
 use loom::explain::Explanation;
 use loom::model::builder::Builder;
 use loom::model::rising::Risen;
-use loom::model::{Replay, Report, Walk, Walked};
+use loom::model::{Replay, Report, Shortened, Walk, Walked};
 use loom::runner::{
-    Handle, NoVisitor, RunnerError, Stop, check_rising, check_with, explain, replay, walk,
+    Handle, NoVisitor, RunnerError, Stop, check_rising, check_with, explain, replay, shorten, walk,
 };
 use loom::{Choice, HostClock};
 use loom_ops::sync::atomic::Ordering::{Relaxed, Release};
@@ -211,6 +211,19 @@ impl ClosureRow {
     ) -> Result<Replay<u64>, RunnerError> {
         let main = |handle: &mut Handle<u64, R>| self.run(handle, true);
         replay(rt, alloc, builder, choices, main)
+    }
+
+    /// A shorter run of the row that fails as the one by these choices does, found in at most so many runs. None where that doesn't fail.
+    pub fn shorten<R: Threads + Wait + Clone + Send + 'static>(
+        self,
+        rt: &R,
+        alloc: Global,
+        builder: &Builder,
+        choices: &[Choice],
+        most_runs: u64,
+    ) -> Result<Option<Shortened>, RunnerError> {
+        let main = |handle: &mut Handle<u64, R>| self.run(handle, true);
+        shorten(rt, alloc, builder, choices, most_runs, main)
     }
 
     /// What happened in that run.

@@ -1,12 +1,12 @@
 //! What the program does with a row of closures by its options: a check by other settings or with rising bounds, a walk, one run by
-//! given choices, an explanation of a failure, and a JSON object.
+//! given choices, a shorter failure, an explanation of a failure, and a JSON object.
 use crate::closures::rows::{ClosureRow, refuse_run};
 use crate::rows::drawing::Drawing;
 use crate::rows::json::{of_replay, of_report, print_answer};
 use crate::rows::line::{self, ShownReport};
 use crate::rows::options::{RowAsked, Share};
 use crate::rows::tasks::{ShownReplay, ShownRisen, Task};
-use crate::rows::walks::{failing_in, print_walked};
+use crate::rows::walks::{SHORTENING_RUNS, failing_in, print_shortened, print_walked};
 use crate::rows::words::{refuse, refuse_choices};
 use log::Log;
 use loom::model::builder::Builder;
@@ -123,9 +123,6 @@ pub fn run_asked<
 
 /// Why rows of closures don't take these words, if they don't.
 fn refusal(asked: &RowAsked) -> Option<&'static str> {
-    if asked.shortens {
-        return Some("error: '--shorten' is for rows whose bodies are scripts");
-    }
     if asked.covers.is_some() {
         return Some("error: '--cover' is for rows whose bodies are scripts");
     }
@@ -159,10 +156,8 @@ fn walk_through<
     match row.walk(rt, rt.alloc(), builder, walk, log) {
         Ok(walked) => {
             let status = print_walked(&walked, out)?;
-            if asked.explains
-                && let Some(choices) = failing_in(&walked)
-            {
-                tell_failure(rt, row, builder, choices, asked.drawing, out)?;
+            if let Some(choices) = failing_in(&walked) {
+                tell(rt, row, builder, choices, asked, out)?;
             }
             Ok(status)
         }
@@ -218,12 +213,47 @@ fn print_found<R: AllocGlobal + Files + Threads + Wait + Clone + Send + 'static,
         return found.print_object(rt.alloc(), row.name(), out);
     }
     let status = found.print(out)?;
-    if asked.explains
-        && let Some(choices) = found.failing()
-    {
-        tell_failure(rt, row, builder, choices, asked.drawing, out)?;
+    if let Some(choices) = found.failing() {
+        tell(rt, row, builder, choices, asked, out)?;
     }
     Ok(status)
+}
+
+/// Shortens the failing run with these choices, and explains and draws it, as is asked for.
+fn tell<R: AllocGlobal + Files + Threads + Wait + Clone + Send + 'static, O: Write>(
+    rt: &R,
+    row: ClosureRow,
+    builder: &Builder,
+    choices: &[Choice],
+    asked: RowAsked,
+    out: &mut O,
+) -> io::Result<()> {
+    if !asked.shortens {
+        return explain(rt, row, builder, choices, asked, out);
+    }
+    match row.shorten(rt, rt.alloc(), builder, choices, SHORTENING_RUNS) {
+        Ok(Some(shortened)) => {
+            print_shortened(out, &shortened)?;
+            explain(rt, row, builder, &shortened.choices, asked, out)
+        }
+        Ok(None) => Ok(()),
+        Err(error) => writeln!(out, "{error}"),
+    }
+}
+
+fn explain<R: AllocGlobal + Files + Threads + Wait + Clone + Send + 'static, O: Write>(
+    rt: &R,
+    row: ClosureRow,
+    builder: &Builder,
+    choices: &[Choice],
+    asked: RowAsked,
+    out: &mut O,
+) -> io::Result<()> {
+    if asked.explains {
+        tell_failure(rt, row, builder, choices, asked.drawing, out)
+    } else {
+        Ok(())
+    }
 }
 
 /// Explains the failing run with these choices, and draws it where that is asked for.

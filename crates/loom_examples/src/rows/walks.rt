@@ -164,7 +164,7 @@ pub(crate) fn tell<R: AllocGlobal + Files, B: Body<Data = u64>, O: Write>(
 }
 
 /// How it fails, in how many runs it was found, and its choices.
-fn print_shortened<O: Write>(out: &mut O, shortened: &Shortened) -> io::Result<()> {
+pub(crate) fn print_shortened<O: Write>(out: &mut O, shortened: &Shortened) -> io::Result<()> {
     let kind = shortened.failure.kind.number();
     let runs = shortened.runs;
     let choices = SpacedChoices(shortened.choices.as_slice());

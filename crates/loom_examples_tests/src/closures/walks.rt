@@ -1,11 +1,11 @@
 //! Walks of closures.
 use crate::asserting::holds;
 use crate::walks::{Keeper, walk_of};
-use loom::model::{Builder, Replay, Walked};
-use loom::runner::{Handle, walk};
+use loom::model::{Builder, Replay, Report, Walked};
+use loom::runner::{Handle, RunnerError, Stop, shorten, walk};
 use loom::{Choice, NoClock};
 use loom_examples::closures::rows::ClosureRow;
-use loom_examples::closures::scenes::store_buffering;
+use loom_examples::closures::scenes::{buggy_concurrent_inc, store_buffering};
 use std::process::Abort;
 use std::rt::Clock;
 use std::sync::Wait;
@@ -66,6 +66,64 @@ fn is_made_again<R: AllocGlobal + Clock + Threads + Wait + Clone + Send + 'stati
     }
 }
 
+/// Whether the failure that a walk through the row finds is shortened, to one that its choices make again.
+fn is_shortened<R: AllocGlobal + Clock + Threads + Wait + Clone + Send + 'static>(
+    rt: &R,
+    row: ClosureRow,
+) -> Option<bool> {
+    let (alloc, builder) = (rt.alloc(), row.builder());
+    let log = None::<HostRuntime>;
+    let found = row
+        .walk(rt, alloc, &builder, walk_of(1, None, 1000), &log)
+        .ok()?;
+    let Walked::Failed { choices, .. } = found else {
+        return None;
+    };
+    let shorter = row
+        .shorten(rt, alloc, &builder, choices.as_slice(), 1000)
+        .ok()??;
+    let again = row
+        .replay(rt, alloc, &builder, shorter.choices.as_slice())
+        .ok()?;
+    let Replay::Failed {
+        failure,
+        choices: same,
+    } = again
+    else {
+        return Some(false);
+    };
+    let is_again = failure == shorter.failure && same == shorter.choices;
+    Some(is_again && shorter.runs <= 1000)
+}
+
+/// What main does: behind its first run something else.
+fn do_other<R: Threads + Wait + Clone + Send + 'static>(
+    handle: &mut Handle<u64, R>,
+    is_first: &mut bool,
+) -> Result<u64, Stop> {
+    let was_first = *is_first;
+    *is_first = false;
+    if was_first {
+        buggy_concurrent_inc(handle)
+    } else {
+        store_buffering(handle)
+    }
+}
+
+/// Whether it is told that main does something else in its second run.
+fn is_told_changed<R: AllocGlobal + Threads + Wait + Clone + Send + 'static>(
+    rt: &R,
+    choices: &[Choice],
+) -> bool {
+    let mut is_first = true;
+    let main = |handle: &mut Handle<u64, R>| do_other(handle, &mut is_first);
+    let found = shorten(rt, rt.alloc(), &Builder::new(), choices, 1000, main);
+    match &found {
+        Err(RunnerError::Changed(change)) => change.run == 2 && change.thread == 0,
+        _ => false,
+    }
+}
+
 #[test]
 fn walks_as_its_seed_says(rt: HostRuntime) {
     for depth in [None, Some(3)] {
@@ -88,4 +146,27 @@ fn its_failures_are_made_again(rt: HostRuntime) {
             holds(&rt, is_so, row.name());
         }
     }
+}
+
+#[test]
+fn its_failures_are_shortened(rt: HostRuntime) {
+    for row in [
+        ClosureRow::TwoMutexesDeadlock,
+        ClosureRow::BuggyConcurrentInc,
+        ClosureRow::Stops,
+    ] {
+        let is_so = is_shortened(&rt, row) == Some(true);
+        holds(&rt, is_so, row.name());
+    }
+}
+
+#[test]
+fn a_change_is_told_where_it_shortens(rt: HostRuntime) {
+    let row = ClosureRow::BuggyConcurrentInc;
+    let found = row.check_by(&rt, rt.alloc(), &row.builder());
+    let is_told = match &found {
+        Ok(Report::Failed { choices, .. }) => is_told_changed(&rt, choices.as_slice()),
+        _ => false,
+    };
+    holds(&rt, is_told, "changed");
 }

@@ -1,5 +1,6 @@
 //! One operation of the machine, and how it ends.
-ghost use Rattle.std.specs.Prelude.{IfOk};
+ghost use Rattle.std.specs.Prelude.{Err, IfErr, IfOk};
+ghost use Rattle.loom_objects.specs.declared.failure.Stop.TheVariants.{Memory};
 ghost use Rattle.loom.specs.Runner.Events.{answered};
 
 use crate::runner::exact::Exact;
@@ -14,7 +15,8 @@ pub fn take_turn<D: Exact, M: Submit<D>>(
     op: Request<D, ()>,
 ) -> Result<Result<Turn<D>, Failure>, AllocError>
     requires { M.goes_on machine.old }
-    ensures { IfOk result (λ outcome. M.happens machine.old op (answered outcome) machine.new) }
+    ensures happens { IfOk result (λ outcome. M.happens machine.old op (answered outcome) machine.new) }
+    ensures refused { IfErr result (λ e. M.happens machine.old op (Err Memory) machine.new) }
 {
     match machine.submit(op) {
         Ok(turn) => Ok(Ok(turn)),

@@ -2,9 +2,9 @@
 ghost use Rattle.std.specs.Prelude.{◌≡◌};
 ghost use Rattle.loom.specs.Runner.Drawn.{GoesOn, HandedAt};
 
-use crate::model::drawer::Drawer;
 use crate::runner::exact::Exact;
 use crate::runner::history::submit::Submit;
+use crate::runner::turns::drawing::Drawing;
 use loom_engine::rt::execution::Execution;
 use loom_engine::rt::path::Path;
 use loom_objects::failure::Stop;
@@ -17,7 +17,7 @@ pub(crate) struct Place<D> {
     pub(crate) execution: Execution<D>,
     pub(crate) path: Path,
     // draws the choices, where they are drawn as the run comes to them
-    pub(crate) drawer: Option<Drawer>,
+    pub(crate) drawing: Option<Drawing>,
 }
 
 impl<D> Model for Place<D> {
@@ -27,7 +27,7 @@ impl<D> Model for Place<D> {
 
     ghost Value = { Spot D };
 
-    ghost view = { λ p. record { moment = moment p.execution p.path; drawn = is_some p.drawer } };
+    ghost view = { λ p. record { moment = moment p.execution p.path; drawn = is_some p.drawing } };
 }
 
 impl<D> Place<D> {
@@ -35,7 +35,7 @@ impl<D> Place<D> {
     pub(crate) fn is_drawn(&self) -> bool
         ensures { result ≡ self.now.drawn }
     {
-        self.drawer.is_some()
+        self.drawing.is_some()
     }
 }
 
@@ -62,8 +62,8 @@ impl<D: Exact> Submit<D> for Place<D> {
         requires { GoesOn self.old }
         ensures { HandedAt self.old op result self.new }
     {
-        match &mut self.drawer {
-            Some(drawer) => self.execution.submit_drawn(&mut self.path, drawer, op),
+        match &mut self.drawing {
+            Some(drawing) => self.execution.submit_drawn(&mut self.path, drawing, op),
             None => self.execution.submit(&mut self.path, op),
         }
     }

@@ -13,7 +13,7 @@ pub returns-in-Ok-take_turn-clause-added : goal.returns-in-Ok-take_turn-clause-a
 returns-in-Ok-take_turn-clause-added g c =
     rw (← c.self.view_is)
     (added_so _ _ _ _ c.args.op c.in-Ok.kept c.args.label _ c.self.inside.events.items c.prepare.new.history.items c.push_reserved.new.self.items c.active-by.result c.passed-choices_before.result c.in-Ok-take_turn.outcome
-    c.active-by.ensures c.passed-choices_before.ensures c.in-Ok.ensures.copy c.in-Ok-take_turn.ensures c.prepare.ensures.history c.push_reserved.ensures.items)
+    c.active-by.ensures c.passed-choices_before.ensures c.in-Ok.ensures.copy c.in-Ok-take_turn.ensures.happens c.prepare.ensures.history c.push_reserved.ensures.items)
 
 pub invariant_of-self-in-Ok-take_turn : goal.invariant_of-self-in-Ok-take_turn
 invariant_of-self-in-Ok-take_turn g c =

@@ -1,6 +1,6 @@
 use Rattle.std.proofs.Common.{sym, ◌∙◌, ap}
 use Rattle.loom.specs.Runner.Histories.{Log, end_in}
-use Rattle.loom.proofs.RunnerLemmas.Leading.{kept_after, adds_after, goes_after, live_if, none_holds, none_is, goes_on_by, ends_by}
+use Rattle.loom.proofs.RunnerLemmas.Leading.{kept_after, adds_after, drawn_after, goes_after, live_if, none_holds, none_is, goes_on_by, ends_by}
 use Rattle.loom.proofs.runner.turns.Turns.submit.Goals as goal
 
 pub returns-then-is_some-2-clause-adds : goal.returns-then-is_some-2-clause-adds
@@ -42,3 +42,10 @@ returns-then-is_some-2-clause-why g c = λ fresh live.
 
 pub returns-clause-why : goal.returns-clause-why
 returns-clause-why g c none live = rw (← c.self.view_is) c.add-self-inside.ensures.why
+
+pub returns-clause-drawn : goal.returns-clause-drawn
+returns-clause-drawn g c =
+    rw (← c.self.view_is) (drawn_after c.self.inside.place c.add-self-inside.new.machine c.args.op c.args.label c.self.inside.history c.add-self-inside.new.self c.add-self-inside.result
+    (goes_after c.self.inside.limits c.self.inside.began c.self.inside.history c.add-self-inside.new.self c.self.inside.spoiled c.add-self-inside.result c.self.inside.place c.add-self-inside.new.machine c.args.op c.args.label
+    c.end.result c.is_some.result c.is_some-2.result c.self.invariant c.is_some.ensures c.if-is_some.false c.end.ensures c.is_some-2.ensures c.if-is_some-2.false c.add-self-inside.ensures.added)
+    c.add-self-inside.ensures.stays)
