@@ -18,4 +18,7 @@ pub mod Unheard
 pub mod Walking
 pub mod Within
 pub mod Covering
+pub mod CoverDefaults
+pub mod CoverFrom
 pub mod CoverRounds
+pub mod CoverTexts

@@ -26,4 +26,6 @@ pub mod Turns
 pub mod Walking
 pub mod Within
 pub mod Cover
+pub mod CoverStores
+pub mod CoverText
 pub mod Covered

@@ -3,6 +3,7 @@ pub mod preemptions;
 
 ghost use Rattle.std.specs.Fn.{CalledAtMut};
 ghost use Rattle.loom.specs.Model.Check.{TogetherLaw};
+ghost use Rattle.loom.specs.Model.Covered.{GoesOnLaw};
 ghost use Rattle.loom.specs.Runner.Check.{TogetherLaw as ClosuresLaw};
 
 use crate::model::visitor::Visitor;
@@ -15,6 +16,12 @@ use std::sync::Wait;
 /// reachable runs, each once.
 pub fn resumed_checks<D>()
     ensures { TogetherLaw D }
+{}
+
+/// A covering check goes on where another one was stopped whose text it reads: so each run is covered by the runs of all, up to one
+/// that is complete.
+pub fn resumed_covers<D, S>()
+    ensures { GoesOnLaw D S }
 {}
 
 /// The runs of a check of closures that was stopped and of those that went on, one after another: no list of choices comes twice, and

@@ -3,10 +3,14 @@ use Rattle.std.specs.Prelude.{ℕ, ◌≡◌, List, ◌++◌, Option, Some, code
 use Rattle.std.specs.Io.KnownBytes.{Appends}
 use Rattle.std.specs.List.{find}
 use Rattle.std.specs.Str.{bytes_eq}
+use Rattle.loom.specs.Model.Covered.{CoveringAlone}
+use Rattle.loom.specs.declared.model.cover.Covered.{Covered}
 use Rattle.loom.specs.declared.model.report.Report.{Report}
 use Rattle.loom_examples.specs.Rows.Builder.{builder_of}
-use Rattle.loom_examples.specs.Rows.Line.{report_text, status_of}
+use Rattle.loom_examples.specs.Rows.Line.{covered_status, covered_text, report_text, status_of}
 use Rattle.loom_examples.specs.Rows.Printed.{ReportsScript}
+use Rattle.loom_examples.specs.Scripts.Running.{started}
+use Rattle.loom_examples.specs.Scripts.Script.{next_of}
 use Rattle.loom_examples.specs.Scripts.Written.{written}
 use Rattle.loom_examples.specs.Measured.Body.{Named}
 use Rattle.loom_examples.specs.Measured.Table.{all, body_of}
@@ -39,3 +43,12 @@ PrintedNamed name old new status =
     × (named_by all name ≡ Some body)
     × ReportsScript body.steps (builder_of body.settings) report
     × PrintedLine name report old new status
+
+-- the name means a body, and what was written is of a check of it that remembers states, with its settings
+abbrev pub PrintedCover : List Measured → List ℕ → Option (List ℕ) → Option (List ℕ) → ℕ → Type 0
+PrintedCover bodies name old new status =
+    (body : Measured) × (covered : Covered)
+    × (body_of bodies name ≡ Some body)
+    × CoveringAlone (builder_of body.settings) next_of (started (map written body.steps.now)) covered
+    × (status ≡ covered_status covered)
+    × Appends old new (name ++ codes " cover " ++ covered_text covered ++ codes "\n")

@@ -9,8 +9,10 @@ ghost use Rattle.loom_examples.specs.Scripts.Written.{written};
 ghost use Rattle.loom_rows.specs.Measures.{PrintedBody, PrintedLine, PrintedNamed};
 
 mod closures;
+mod cover;
 
 use crate::measuring::closures::{Closures, closures_of};
+use crate::measuring::cover::{covered_name, measure_cover};
 use loom::model::Report;
 use loom_examples::measured::{Measured, all_bodies, body_of};
 use loom_examples::rows::line::{self, ShownReport};
@@ -23,7 +25,7 @@ use std::thread::Threads;
 use std::time::{Duration, Instant};
 
 /// What is checked where no word names a body: what takes seconds.
-static QUICK: [&str; 27] = [
+static QUICK: [&str; 28] = [
     "store_buffering",
     "store_buffering bound 1",
     "store_buffering bound 2",
@@ -49,6 +51,7 @@ static QUICK: [&str; 27] = [
     "three_adds reduced bound 1",
     "three_adds reduced bound 2",
     "three_threads reduced",
+    "three_threads cover",
     "stores_apart",
     "store_buffering closures",
 ];
@@ -64,7 +67,7 @@ pub(crate) fn measure_all<
     for name in names {
         let measured = match closures_of(*name) {
             Some(closures) => measure_closures(rt, closures, out, err),
-            None => measure_named(rt, *name, out, err),
+            None => measure_body(rt, *name, out, err),
         };
         status = status.max(measured.unwrap_or(2));
     }
@@ -104,6 +107,22 @@ fn check_closures<R: AllocGlobal + Clock + Files + Threads + Wait + Clone + Send
         found = Some(closures.row.check_by(rt, rt.alloc(), &builder).ok()?);
     }
     found
+}
+
+/// Covers the body of this name, if `cover` stands behind it, or checks it, and answers the exit status.
+fn measure_body<R: AllocGlobal + Clock + Files, O: Write, E: Write>(
+    rt: &R,
+    name: &str,
+    out: &mut O,
+    err: &mut E,
+) -> io::Result<u8> {
+    match covered_name(name) {
+        Some(body) => {
+            let bodies = all_bodies(rt.alloc())?;
+            measure_cover(rt, bodies.as_slice(), body, out, err)
+        }
+        None => measure_named(rt, name, out, err),
+    }
 }
 
 /// Checks the body that the name means by the program's table, prints what `measure` does, and answers its exit status. It is 2

@@ -1,16 +1,28 @@
 -- What a check that remembers states says of a body.
-use Rattle.std.specs.Prelude.{ℕ, ◌≡◌, ◌+◌, ◌++◌, Bool, List, Some, None, Ok, Err, length, slice_get}
+use Rattle.std.specs.Prelude.{ℕ, ◌≡◌, ◌≤◌, ◌+◌, ◌++◌, Bool, false, List, [], Option, Some, None, Ok, Err, length, slice_get, Vec}
+use Rattle.std.specs.declared.alloc.Global.{Global}
 use Rattle.std.specs.declared.time.Duration.{Duration}
 use Rattle.loom_views.specs.declared.rt.failure.FailureKind.{FailureKind}
 use Rattle.loom_objects.specs.declared.choice.Choice.{Choice}
+use Rattle.loom_objects.specs.declared.failure.Failure.{Failure}
+use Rattle.serde_json.specs.Written.{compact_text}
+use Rattle.loom_engine.specs.declared.rt.path.node.Node.{Node}
 use Rattle.loom_engine.specs.declared.rt.states.ways.Way.{Way}
+use Rattle.loom_engine.specs.Path.Route.{Route, chosen, stored}
 use Rattle.loom_engine.specs.Runs.Body.{Meaning, runs}
+use Rattle.loom_engine.specs.Trees.Marks.{marking}
+use Rattle.loom_engine.specs.Trees.Meeting.{whole_search}
 use Rattle.loom_engine.specs.Trees.Outcomes.{outcome}
+use Rattle.loom_engine.specs.Walk.Path.{Stored}
 use Rattle.loom_engine.specs.Covering.Between.{IsFirstLost}
 use Rattle.loom_engine.specs.Covering.Covered.{Covers}
-use Rattle.loom_engine.specs.Covering.States.{AreLimits}
+use Rattle.loom_engine.specs.Covering.Kept.{Key}
+use Rattle.loom_engine.specs.Covering.Sight.{seen_at}
+use Rattle.loom_engine.specs.Covering.States.{AreLimits, state_after}
+use Rattle.loom_engine.specs.Covering.Table.{Notes}
 use Rattle.loom_engine.specs.Covering.Ways.{CanEnd}
 use Rattle.loom_engine.specs.Covering.World.{World, IsCalled, world_of}
+use Rattle.loom.specs.Model.CoverText.{CoverReadsAs, IsCoverTextOf, cover_data}
 use Rattle.loom.specs.Model.Fresh.{WasGiven}
 use Rattle.loom.specs.Model.Loop.{HasReached}
 use Rattle.loom.specs.Model.Settings.{explores}
@@ -61,11 +73,96 @@ IsToldBy ways led_by count (Livelock number met states choices) = (number ≡ co
 IsToldBy ways led_by count (Stopped number met states limit) = ⊥
 IsToldBy ways led_by count (Failed number met states failure choices) = ⊥
 
--- What a report says of the body, and of the runs that the visitor was given.
-pub record Covering {V D S : Type 0} (takes : V → List Choice → D → V → Type 0) (old new : V) (b : Builder) (next : Meaning D S) (body : S) (answered : Duration → Type 0) (covered : Covered) : Type 0 where
+-- The run along the path failed so, by these choices, and has a place only where places are asked for.
+pub record FailsAlong (b : Builder) (path : Route) (kind : FailureKind) (failure : Failure) (made : Vec Choice Global) : Type 0 where
+  pub is : failure.kind ≡ kind
+  pub placed : b.location ≡ false → failure.location ≡ None
+  pub list : made.items ≡ chosen path
+
+-- ---- checks one after another
+
+module _ {D S : Type 0} (b : Builder) (next : Meaning D S) (body : S) where
+  -- the state of a run after these choices, as it is kept
+  abbrev pub state_so : List Choice → Key D S
+  state_so = state_after seen_at next (explores b) b.max_threads b.max_steps body
+
+  -- Covering checks of the body have come to this path, the first from the beginning, and each that followed from where the one before it was
+  -- stopped: these states were kept, these paths were left by their runs, and the visitor was given these runs.
+  pub record HaveComeTo (path : List Node) (given : List (List Choice × D)) : Type 0 where
+    pub kept : List (Key D S)
+    pub left : List (List Stored)
+    pub rounds : Notes b.max_branches (marking None) (runs next (explores b) b.max_threads b.max_steps body) state_so kept left given (stored path)
+
+-- What one says that began with a path, to which such checks had come that gave the first runs: of these and of its own together.
+module _ {D S : Type 0} (b : Builder) (next : Meaning D S) (body : S) (holds : Option (List ℕ) → Type 0) (before given : List (List Choice × D)) where
+  -- the store may hold the text of a path with which to go on, to which they all have come
+  pub record StopsAt : Type 0 where
+    pub text : List ℕ
+    pub held : holds (Some text)
+    pub last : List Node
+    pub reads : IsCoverTextOf (whole_search b.max_branches) (explores b) text last
+    pub compact : text ≡ compact_text (cover_data (whole_search b.max_branches) (explores b) last)
+    pub goes_on : HaveComeTo b next body last (before ++ given)
+
+  -- each run is covered by all their runs; of the ways to ends only those that this check has seen are known
+  abbrev pub ClaimsTogether : Covered → Type 0
+  ClaimsTogether (Complete count met states) = IsCovered b next body (before ++ given)
+  ClaimsTogether (Livelock count met states choices) = IsCovered b next body (before ++ given) × NeverEnds b next body (before ++ given) choices.items
+  ClaimsTogether (Stopped count met states limit) = StopsAt
+  ClaimsTogether (Failed count met states failure choices) = outcome b.max_branches (runs next (explores b) b.max_threads b.max_steps body) choices.items ≡ Some (Err failure.kind)
+
+  -- what the store may hold is a text of a path to which they have come, after all but the last runs, no more than the interval
+  pub record IsHeld : Type 0 where
+    pub text : Option (List ℕ)
+    pub held : holds text
+    pub last : List Node
+    pub reads : CoverReadsAs (whole_search b.max_branches) (explores b) text last
+    pub front : List (List Choice × D)
+    pub behind : List (List Choice × D)
+    pub splits : given ≡ front ++ behind
+    pub few : length behind ≤ b.checkpoint_interval
+    pub goes_on : HaveComeTo b next body last (before ++ front)
+
+-- Where one check was stopped, another one goes on that reads the same text.
+abbrev pub GoesOnLaw : Type 0 → Type 0 → Type 0
+GoesOnLaw D S = (b : Builder) (next : Meaning D S) (body : S) (text : List ℕ) (last path : List Node) (given : List (List Choice × D)) → IsCoverTextOf (whole_search b.max_branches) (explores b) text last
+    → IsCoverTextOf (whole_search b.max_branches) (explores b) text path → HaveComeTo b next body last given → HaveComeTo b next body path given
+
+-- ---- reports
+
+-- a limit stops a check only where it is reached, by the runs that were begun
+abbrev pub StopsBy : (Duration → Type 0) → Builder → Covered → Type 0
+StopsBy answered b (Complete count met states) = Unit {0}
+StopsBy answered b (Livelock count met states choices) = Unit {0}
+StopsBy answered b (Stopped count met states limit) = HasReached answered b (count + met) (Some limit)
+StopsBy answered b (Failed count met states failure choices) = Unit {0}
+
+-- a failure has no place where none is asked for
+abbrev pub IsPlaced : Builder → Covered → Type 0
+IsPlaced b (Complete count met states) = Unit {0}
+IsPlaced b (Livelock count met states choices) = Unit {0}
+IsPlaced b (Stopped count met states limit) = Unit {0}
+IsPlaced b (Failed count met states failure choices) = b.location ≡ false → failure.location ≡ None
+
+-- What a report says of the body, and of the runs that the visitor was given: where the store gave what it may give, and holds what it
+-- may hold, and where the clock has answered so.
+pub record Covering {V D S : Type 0} (takes : V → List Choice → D → V → Type 0) (old new : V) (b : Builder) (next : Meaning D S) (body : S) (gives holds : Option (List ℕ) → Type 0) (answered : Duration → Type 0)
+    (covered : Covered) : Type 0 where
+  -- the path with which the check began
+  pub text : Option (List ℕ)
+  pub gave : gives text
+  pub path : List Node
+  pub reads : CoverReadsAs (whole_search b.max_branches) (explores b) text path
+  -- what the visitor was given
   pub given : List (List Choice × D)
   pub was_given : WasGiven takes old new given (runs_in covered)
-  pub claims : Claims b next body given answered covered
+  pub limits : StopsBy answered b covered
+  pub placed : IsPlaced b covered
+  -- from the beginning
+  pub fresh : path ≡ [] → Claims b next body given answered covered
+  -- from where other checks were stopped
+  pub together : (before : List (List Choice × D)) → HaveComeTo b next body path before → ClaimsTogether b next body holds before given covered
+  pub held : (before : List (List Choice × D)) → HaveComeTo b next body path before → IsHeld b next body holds before given
 
 -- What it says where nobody was given the runs, and no time passes: there are as many as it counts.
 pub record CoveringAlone {D S : Type 0} (b : Builder) (next : Meaning D S) (body : S) (covered : Covered) : Type 0 where

@@ -2,26 +2,35 @@
 //! path a run's state is looked up: if it was noted the run is given up there, since what comes then is tried from where it was
 //! noted; otherwise it is noted. From the ways that runs went between such states it is known whether each of them leads to an end.
 pub mod run;
+pub(crate) mod saving;
+pub mod text;
 
-ghost use Rattle.std.specs.Prelude.{◌≡◌, ◌≤◌, [], Err, IfOk, IfErr};
-ghost use Rattle.loom.specs.Model.Covered.{Covering, CoveringAlone, IsToldBy};
+ghost use Rattle.std.specs.Prelude.{◌≡◌, ◌≤◌, ◌<◌, [], Err, IfOk, IfErr, OnErr};
+ghost use Rattle.loom.specs.Model.CoverStores.{IsNoReport, StillHolds};
+ghost use Rattle.loom.specs.Model.Covered.{Covering, CoveringAlone, FailsAlong, IsToldBy};
+ghost use Rattle.loom.specs.Model.Refusals.{CountsFaults};
 ghost use Rattle.loom.specs.Model.Settings.{tested};
 
+use crate::checkpoint::memory::MemoryStore;
+use crate::checkpoint::store::CheckpointStore;
 use crate::model::Limit;
 use crate::model::builder::Builder;
 use crate::model::clock::{Clock, NoClock};
 use crate::model::cover::run::{Ending, run};
+use crate::model::cover::saving::{keep, save};
 use crate::model::error::CheckError;
-use crate::model::paths::path_search;
+use crate::model::limits::log_runs;
 use crate::model::receiver::{Listed, NoReceiver, Receiver, Unlisted};
 use crate::model::run::Room;
 use crate::model::visitor::Visitor;
+use log::Log;
 use loom_engine::rt::path::Path;
 use loom_engine::rt::states::States;
 use loom_engine::rt::states::ways::Ways;
 use loom_objects::body::Body;
 use loom_objects::choice::Choice;
 use loom_objects::failure::Failure;
+use loom_views::rt::failure::FailureKind;
 use loom_views::same::Same;
 use loom_views::sequence::Sequence;
 use std::alloc::{AllocError, Global};
@@ -65,74 +74,123 @@ pub enum Covered {
 }
 
 impl Builder {
-    /// `cover_with`, without a visitor and a clock, and with at most `MOST_STATES` states (own).
+    /// `cover_with`, without a visitor, a clock, a store and a log, and with at most `MOST_STATES` states (own).
     pub fn cover<B: Body + Same>(&self, alloc: Global, body: &B) -> Result<Covered, CheckError>
     where
         B::Data: Same,
         ensures covers { IfOk result (CoveringAlone self.now B.next body.now) }
         ensures refused { IfErr (tested self.now) (λ e. result ≡ Err e) }
     {
-        self.cover_runs::<B, Unlisted, NoReceiver, NoClock>(
+        let log = None::<HostRuntime>;
+        self.cover_runs::<
+            B,
+            Unlisted,
+            NoReceiver,
+            NoClock,
+            Option<MemoryStore>,
+            Option<HostRuntime>,
+        >(
             alloc,
             body,
             &mut NoReceiver,
             &mut NoClock,
+            &mut None,
             MOST_STATES,
+            &log,
         )
     }
 
     /// Makes runs of the body until each of its runs is covered, one fails or a limit is reached, and gives each that ended without a
-    /// failure to the visitor. Its search is whole and without a bound, whatever `reduce` and `preemption_bound` say, and it has no
-    /// store. So many states are noted at most; where there are as many none is noted any more, and the report claims the same.
-    /// `max_permutations` counts the runs that were begun. Where a run that never ends comes to a state again it is given up there; if no
-    /// way leads from there to an end, that is a livelock. Errors are those of `check_with` (own).
-    pub fn cover_with<B: Body + Same, V: Visitor<B::Data>, C: Clock>(
+    /// failure to the visitor. Its search is whole and without a bound, whatever `reduce` and `preemption_bound` say. So many states are
+    /// noted at most; where there are as many none is noted any more, and the report claims the same. `max_permutations` counts the runs
+    /// that were begun. Where a run that never ends comes to a state again it is given up there; if no way leads from there to an end, that
+    /// is a livelock.
+    ///
+    /// It begins with the path that the store holds, if there is one, and saves its path before each run whose number is a multiple of the
+    /// interval, and where it stops. What it had noted is forgotten then: so runs are made again, and livelocks are told of the states alone
+    /// that were noted since. The text of its path says that it is of a covering check: `check_with` refuses it, and this one that of
+    /// another check. Errors are those of `check_with` (own).
+    pub fn cover_with<B: Body + Same, V: Visitor<B::Data>, C: Clock, S: CheckpointStore, L: Log>(
         &self,
         alloc: Global,
         body: &B,
         visitor: &mut V,
         clock: &mut C,
+        store: &mut S,
         most_states: usize,
+        log: &L,
     ) -> Result<Covered, CheckError>
     where
         B::Data: Same,
-        ensures covers { IfOk result (Covering V.takes visitor.old visitor.new self.now B.next body.now (C.answered clock.new)) }
+        ensures covers { IfOk result (Covering V.takes visitor.old visitor.new self.now B.next body.now (S.gives store.old) (S.holds store.new) (C.answered clock.new)) }
         ensures refused { IfErr (tested self.now) (λ e. (result ≡ Err e) × (visitor.new ≡ visitor.old)) }
+        ensures errors { IfErr result (IsNoReport self.now (S.gives store.old) (visitor.new ≡ visitor.old)) }
+        ensures left { OnErr result (StillHolds self.now B.next body.now (S.gives store.old) (S.holds store.old) (S.holds store.new)) }
+        ensures faults { CountsFaults result (S.fault_count store.old) (S.fault_count store.new) }
     {
-        self.cover_runs::<B, Listed, V, C>(alloc, body, visitor, clock, most_states)
+        self.cover_runs::<B, Listed, V, C, S, L>(
+            alloc,
+            body,
+            visitor,
+            clock,
+            store,
+            most_states,
+            log,
+        )
     }
 
     /// The runs of such a check, which a receiver is given.
-    fn cover_runs<B: Body + Same, Choices, R: Receiver<B::Data, Choices>, C: Clock>(
+    fn cover_runs<
+        B: Body + Same,
+        Choices,
+        R: Receiver<B::Data, Choices>,
+        C: Clock,
+        S: CheckpointStore,
+        L: Log,
+    >(
         &self,
         alloc: Global,
         body: &B,
         receiver: &mut R,
         clock: &mut C,
+        store: &mut S,
         most_states: usize,
+        log: &L,
     ) -> Result<Covered, CheckError>
     where
         B::Data: Same,
-        ensures covers { IfOk result (Covering R.receives receiver.old receiver.new self.now B.next body.now (C.answered clock.new)) }
+        ensures covers { IfOk result (Covering R.receives receiver.old receiver.new self.now B.next body.now (S.gives store.old) (S.holds store.new) (C.answered clock.new)) }
         ensures refused { IfErr (tested self.now) (λ e. (result ≡ Err e) × (receiver.new ≡ receiver.old)) }
+        ensures errors { IfErr result (IsNoReport self.now (S.gives store.old) (receiver.new ≡ receiver.old)) }
+        ensures left { OnErr result (StillHolds self.now B.next body.now (S.gives store.old) (S.holds store.old) (S.holds store.new)) }
+        ensures faults { CountsFaults result (S.fault_count store.old) (S.fault_count store.new) }
     {
         self.test()?;
         let mut room = Room::new(alloc, self.limits())?;
         let mut states = States::new(alloc, most_states)?;
-        let covered = self.cover_rounds::<B, Choices, R, C>(
+        let covered = self.cover_rounds::<B, Choices, R, C, S, L>(
             alloc,
             body,
             &mut room,
             &mut states,
             receiver,
             clock,
+            store,
+            log,
         );
         room.leave();
         covered
     }
 
     /// Makes one run after another with these states, of which none is noted yet. The settings were tested.
-    fn cover_rounds<B: Body + Same, Choices, R: Receiver<B::Data, Choices>, C: Clock>(
+    fn cover_rounds<
+        B: Body + Same,
+        Choices,
+        R: Receiver<B::Data, Choices>,
+        C: Clock,
+        S: CheckpointStore,
+        L: Log,
+    >(
         &self,
         alloc: Global,
         body: &B,
@@ -140,28 +198,32 @@ impl Builder {
         states: &mut States<B::Data, B>,
         receiver: &mut R,
         clock: &mut C,
+        store: &mut S,
+        log: &L,
     ) -> Result<Covered, CheckError>
     where
         B::Data: Same,
         requires some { 1 ≤ self.now.max_threads }
         requires few { self.now.max_threads ≤ 5 }
         requires branches { self.now.max_branches ≤ 1000000 }
+        requires interval { 0 < self.now.checkpoint_interval }
         requires none { states.old ≡ record { states = []; led_by = [] } }
-        ensures covers { IfOk result (Covering R.receives receiver.old receiver.new self.now B.next body.now (C.answered clock.new)) }
+        ensures covers { IfOk result (Covering R.receives receiver.old receiver.new self.now B.next body.now (S.gives store.old) (S.holds store.new) (C.answered clock.new)) }
+        ensures errors { IfErr result (IsNoReport self.now (S.gives store.old) (receiver.new ≡ receiver.old)) }
+        ensures left { OnErr result (StillHolds self.now B.next body.now (S.gives store.old) (S.holds store.old) (S.holds store.new)) }
+        ensures faults { CountsFaults result (S.fault_count store.old) (S.fault_count store.new) }
     {
-        let search = path_search(false, None, self.max_branches, self.expect_explicit_explore);
-        let mut path = Path::new(alloc, search);
+        let interval = self.checkpoint_interval;
+        let mut path = self.begin_cover(alloc, store)?;
+        let mut until_save = interval - 1;
         let mut ways = Ways::new(alloc);
         let (mut runs, mut met) = (0u64, 0u64);
         loop {
             if let Some(limit) = self.reached(runs + met, clock) {
-                return Ok(Covered::Stopped {
-                    runs,
-                    met,
-                    states: states.len(),
-                    limit,
-                });
+                save(alloc, &path, store)?;
+                return Ok(stopped(runs, met, states.len(), limit));
             }
+            until_save = keep(alloc, &path, store, log, runs + met, interval, until_save)?;
             let noted = states.len();
             let to = match run(room, self.limits(), body, &mut path, states)? {
                 Ending::Ended(value) => {
@@ -174,20 +236,66 @@ impl Builder {
                     Some(number)
                 }
                 Ending::Failed(failure) => {
-                    return Ok(Covered::Failed {
-                        runs,
-                        met,
-                        states: states.len(),
-                        failure,
-                        choices: path.choices(alloc)?,
-                    });
+                    let failing = self.failing(alloc, body, &path, failure.kind)?;
+                    return Ok(failed(runs, met, states.len(), failing));
                 }
             };
             ways.add_run(states.led_by(), noted, path.choices(alloc)?.as_slice(), to)?;
             if !path.step() {
+                log_runs(log, "completed in ", runs + met, " iterations");
                 return Ok(told(alloc, runs, met, states.led_by(), &ways)?);
             }
         }
+    }
+
+    /// The failure of this kind of the run along the path, with its place, if places are asked for, and the run's choices.
+    fn failing<B: Body>(
+        &self,
+        alloc: Global,
+        body: &B,
+        path: &Path,
+        kind: FailureKind,
+    ) -> Result<Failing, AllocError>
+        requires some { 1 ≤ self.now.max_threads }
+        requires few { self.now.max_threads ≤ 5 }
+        requires branches { self.now.max_branches ≤ 1000000 }
+        ensures { IfOk result (λ failing. FailsAlong self.now path.now kind failing.failure failing.choices) }
+    {
+        let choices = path.choices(alloc)?;
+        let failure = self.placed(alloc, body, kind, choices.as_slice())?;
+        Ok(Failing { failure, choices })
+    }
+}
+
+/// How a run failed, and its choices.
+#[derive(Drop)]
+struct Failing {
+    failure: Failure,
+    choices: Vec<Choice>,
+}
+
+/// What is told where a run failed after these.
+fn failed(runs: u64, met: u64, states: usize, failing: Failing) -> Covered
+    ensures { result ≡ Covered.Failed runs met states failing.failure failing.choices }
+{
+    Covered::Failed {
+        runs,
+        met,
+        states,
+        failure: failing.failure,
+        choices: failing.choices,
+    }
+}
+
+/// What is told where a limit was reached after these.
+fn stopped(runs: u64, met: u64, states: usize, limit: Limit) -> Covered
+    ensures { result ≡ Covered.Stopped runs met states limit }
+{
+    Covered::Stopped {
+        runs,
+        met,
+        states,
+        limit,
     }
 }
 

@@ -1,11 +1,11 @@
 -- What is printed of a row besides the line of a check.
-use Rattle.std.specs.Prelude.{ℕ, ◌≡◌, ◌++◌, Bool, false, List, Option, codes, decimal, length, map, ⊤}
+use Rattle.std.specs.Prelude.{ℕ, ◌≡◌, ◌++◌, Bool, false, List, [], Option, None, codes, decimal, length, map, ⊤}
 use Rattle.std.specs.Io.KnownBytes.{Appends}
 use Rattle.loom_views.specs.Failures.{number_of}
 use Rattle.loom_objects.specs.declared.choice.Choice.{Choice}
 use Rattle.loom_objects.specs.Tree.Tree.{Tree}
 use Rattle.loom.specs.Model.ChoicesText.{others_text}
-use Rattle.loom.specs.Model.Covered.{Claims, runs_in}
+use Rattle.loom.specs.Model.Covered.{Claims, ClaimsTogether, HaveComeTo, runs_in}
 use Rattle.loom.specs.Model.Fresh.{Replays}
 use Rattle.loom.specs.Model.Check.{ReportsAlone}
 use Rattle.loom.specs.Model.Rising.{RisesTo}
@@ -17,9 +17,10 @@ use Rattle.loom.specs.declared.model.Replay.TheVariants as replay
 use Rattle.loom.specs.declared.model.report.Report.{Report}
 use Rattle.loom.specs.declared.model.rising.Risen.{Risen}
 use Rattle.loom_engine.specs.Runs.Body.{Meaning, runs as runs_of}
+use Rattle.loom_engine.specs.declared.rt.path.node.Node.{Node}
 use Rattle.loom_examples.specs.Scripts.Running.{started}
 use Rattle.loom_examples.specs.Scripts.Script as script
-use Rattle.loom_examples.specs.Rows.Builder.{IsBuilder, builder_of}
+use Rattle.loom_examples.specs.Rows.Builder.{IsBuilder}
 use Rattle.loom_examples.specs.Rows.Changes.{changed}
 use Rattle.loom_examples.specs.Scripts.Written.{written}
 use Rattle.loom_examples.specs.Rows.Line.{PrintedCovered, PrintedOf, report_text, status_of}
@@ -85,10 +86,16 @@ PrintedChanged changes task explains checked settings file old new status =
 
 -- ---- checks that remember states
 
--- what such a check by this builder, and by the host's clock, says of a body, and of the runs that ended: there are as many as it counts
-abbrev pub CoversBody : {S : Type 0} → Builder → Meaning ℕ S → S → Covered → Type 0
-CoversBody b next body covered =
-    (given : List (List Choice × ℕ)) × (length given ≡ runs_in covered) × Claims b next body given (λ time. ⊤) covered
+-- What such a check by this builder, and by the host's clock, says of a body, and of the runs that ended: there are as many as it counts.
+pub record CoversBody {S : Type 0} (b : Builder) (next : Meaning ℕ S) (body : S) (covered : Covered) : Type 0 where
+  pub given : List (List Choice × ℕ)
+  pub counted : length given ≡ runs_in covered
+  -- the path with which it began, which has no nodes where there is no checkpoint file
+  pub path : List Node
+  pub unfiled : b.checkpoint_file ≡ None → path ≡ []
+  pub fresh : path ≡ [] → Claims b next body given (λ time. ⊤) covered
+  -- with the runs of the checks that had come to that path
+  pub together : (before : List (List Choice × ℕ)) → HaveComeTo b next body path before → ClaimsTogether b next body (λ text. Unit {0}) before given covered
 
 -- what was written is of such a check, and unless a failure is told nothing stands behind the line
 abbrev pub PrintedCovering : {S : Type 0} → Bool → Builder → Meaning ℕ S → S → Option (List ℕ) → Option (List ℕ) → ℕ → Type 0
@@ -100,6 +107,7 @@ abbrev pub PrintedCover : Bool → Checked → Builder → Option (List ℕ) →
 PrintedCover tells (Script steps) b = PrintedCovering tells b script.next_of (started (map written steps.now))
 PrintedCover tells (Updater one other) b = PrintedCovering tells b updates.next_of (updates.begun one other)
 
--- what was written is of such a check by a builder of these settings, in which those that the command line names are changed
-abbrev pub PrintedCoverOf : Changes → Bool → Checked → Settings → Option (List ℕ) → Option (List ℕ) → ℕ → Type 0
-PrintedCoverOf changes tells checked settings old new status = PrintedCover tells checked (changed changes (builder_of settings)) old new status
+-- what was written is of such a check by a builder of these settings and with this checkpoint file, if there is one, in which the settings
+-- that the command line names are changed
+abbrev pub PrintedCoverOf : Changes → Bool → Checked → Settings → Option (List ℕ) → Option (List ℕ) → Option (List ℕ) → ℕ → Type 0
+PrintedCoverOf changes tells checked settings file old new status = (b : Builder) × IsBuilder settings file b × PrintedCover tells checked (changed changes b) old new status

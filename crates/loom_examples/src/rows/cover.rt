@@ -1,5 +1,5 @@
 //! Checks of rows that remember states, and what the program prints of them.
-ghost use Rattle.std.specs.Prelude.{◌≡◌, ◌⊎◌, Some, IfOk, OnOk, false};
+ghost use Rattle.std.specs.Prelude.{◌≡◌, ◌⊎◌, Some, IfOk, OnOk, false, option_copied};
 ghost use Rattle.loom_examples.specs.Rows.Line.{PrintedCovered, covered_status, covered_text};
 ghost use Rattle.loom_examples.specs.Rows.Tasks.{CoversBody, PrintedCover, PrintedCoverOf, PrintedCovering};
 
@@ -11,6 +11,7 @@ use crate::rows::settings::Builds;
 use crate::rows::walks::tell;
 use crate::rows::{Checked, Row, refuse_check};
 use crate::scripts::script::Script;
+use loom::checkpoint::file::file_store;
 use loom::model::builder::Builder;
 use loom::model::cover::Covered;
 use loom::model::error::CheckError;
@@ -68,21 +69,23 @@ pub fn status_of(covered: &Covered) -> u8
     }
 }
 
-/// Covers the row by the host's clock, with at most so many states and with these settings in place of its own. Prints the line, and
-/// where a run failed and failures are told, what is asked for of that. Answers the exit status.
+/// Covers the row by the host's clock, with at most so many states, with these settings in place of its own and with this checkpoint
+/// file, if there is one. Prints the line, and where a run failed and failures are told, what is asked for of that. Answers the exit
+/// status.
 pub(crate) fn cover_row<R: AllocGlobal + Clock + Files, O: Write, E: Write>(
     rt: &R,
     row: &Row,
     changes: Changes,
     most_states: usize,
+    file: Option<&str>,
     tells: bool,
     asked: RowAsked,
     out: &mut O,
     err: &mut E,
 ) -> io::Result<u8>
-    ensures { IfOk result (λ status. (status ≡ 2) ⊎ PrintedCoverOf changes tells row.now.checked row.now.settings (O.contents out.old) (O.contents out.new) status) }
+    ensures { IfOk result (λ status. (status ≡ 2) ⊎ PrintedCoverOf changes tells row.now.checked row.now.settings (option_copied file.entry) (O.contents out.old) (O.contents out.new) status) }
 {
-    let builder = changes.change(row.settings.builder());
+    let builder = changes.change(row.settings.builder_with(rt.alloc(), file)?);
     cover_checked(
         rt,
         &builder,
@@ -142,8 +145,8 @@ fn cover_body<R: AllocGlobal + Clock + Files, B: Body<Data = u64> + Same, O: Wri
     }
 }
 
-/// Covers the body by this builder and by the host's clock, with at most so many states.
-pub(crate) fn covered_by<R: AllocGlobal + Clock, B: Body<Data = u64> + Same>(
+/// Covers the body by this builder, with the checkpoint file that it names, and by the host's clock, with at most so many states.
+pub(crate) fn covered_by<R: AllocGlobal + Clock + Files, B: Body<Data = u64> + Same>(
     rt: &R,
     builder: &Builder,
     body: &B,
@@ -152,7 +155,17 @@ pub(crate) fn covered_by<R: AllocGlobal + Clock, B: Body<Data = u64> + Same>(
     ensures { IfOk result (CoversBody builder.now B.next body.now) }
 {
     let mut clock = HostClock::start(rt);
-    builder.cover_with(rt.alloc(), body, &mut NoVisitor, &mut clock, most_states)
+    let mut store = file_store(rt, rt.alloc(), &builder.checkpoint_file);
+    let log = None::<HostRuntime>;
+    builder.cover_with(
+        rt.alloc(),
+        body,
+        &mut NoVisitor,
+        &mut clock,
+        &mut store,
+        most_states,
+        &log,
+    )
 }
 
 fn print_covered<W: Write>(out: &mut W, covered: &Covered) -> io::Result<u8>

@@ -66,17 +66,18 @@ pub fn do_task<R: AllocGlobal + Clock + Files, O: Write, E: Write>(
     }
 }
 
-/// Covers the row, with at most so many states and with these settings in place of its own, and prints what that found as one JSON
-/// object. Answers the exit status.
+/// Covers the row, with at most so many states, with these settings in place of its own and with this checkpoint file, if there is one,
+/// and prints what that found as one JSON object. Answers the exit status.
 pub(crate) fn cover_row<R: AllocGlobal + Clock + Files, O: Write, E: Write>(
     rt: &R,
     row: &Row,
     changes: Changes,
     most_states: usize,
+    file: Option<&str>,
     out: &mut O,
     err: &mut E,
 ) -> io::Result<u8> {
-    let builder = changes.change(row.settings.builder());
+    let builder = changes.change(row.settings.builder_with(rt.alloc(), file)?);
     match cover_answer(rt, &builder, row, most_states) {
         Ok(answer) => print_answer(rt.alloc(), &answer, out),
         Err(NoAnswer::Check(error)) => refuse_check(err, &builder, error),

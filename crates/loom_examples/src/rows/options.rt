@@ -118,7 +118,6 @@ static OPTIONS: [Known; 28] = [
             "gather",
             "reduce",
             "preemption-bound",
-            "checkpoint-interval",
         ],
         ..FLAG
     },

@@ -209,12 +209,12 @@ fn cover<R: AllocGlobal + Clock + Files, O: Write, E: Write>(
         let rows = rows::all_rows(rt.alloc())?;
         return refuse_name(rt.alloc(), rows.as_slice(), asked.name, err);
     };
-    let changes = asked.changes;
+    let RowAsked { changes, file, .. } = asked;
     if asked.json {
-        return json::cover_row(rt, &row, changes, most_states, out, err);
+        return json::cover_row(rt, &row, changes, most_states, file, out, err);
     }
     let tells = asked.explains || asked.shortens;
-    cover_row(rt, &row, changes, most_states, tells, asked, out, err)
+    cover_row(rt, &row, changes, most_states, file, tells, asked, out, err)
 }
 
 /// The words mean nothing: the usage, the cause with the nearest name or option, and how to ask for all of them.

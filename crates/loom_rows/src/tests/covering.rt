@@ -3,8 +3,10 @@ use super::checking::{Keeper, found_by};
 use super::finding::{put_values, replays};
 use super::rows::program_rows;
 use crate::tests::asserting::{holds, same, script};
+use loom::model::Report;
 use loom::model::cover::Covered;
-use loom::{Body, Choice, FailureKind, NoClock};
+use loom::model::error::CheckError;
+use loom::{Body, Choice, FailureKind, MemoryStore, NoClock};
 use loom_examples::bodies::guide::Counter;
 use loom_examples::bodies::spin::Spin;
 use loom_examples::bodies::updates::Updater;
@@ -74,7 +76,18 @@ fn is_as_whole<B: Body<Data = u64> + Same>(
 ) -> bool {
     let mut ended = Keeper::new(alloc);
     let builder = settings.builder();
-    match builder.cover_with(alloc, body, &mut ended, &mut NoClock, MOST_REMEMBERED) {
+    let mut store = None::<MemoryStore>;
+    let log = None::<HostRuntime>;
+    let covered = builder.cover_with(
+        alloc,
+        body,
+        &mut ended,
+        &mut NoClock,
+        &mut store,
+        MOST_REMEMBERED,
+        &log,
+    );
+    match covered {
         Ok(Covered::Complete { .. }) => {
             !is_failing(found) && are_values_same(alloc, found, ended.found.as_slice())
         }
@@ -124,6 +137,127 @@ fn covered_rows_are_as_their_whole_searches_say(rt: HostRuntime) {
     for row in rows.as_slice() {
         cover_row(&rt, row);
     }
+}
+
+// After how many runs a check is stopped whose text another one goes on with.
+const RUNS_IN_A_PART: usize = 3;
+
+// Whether checks that are stopped after so many runs, each of which goes on with the text of the one before, come together to what the
+// whole search does.
+fn is_covered_in_parts<B: Body<Data = u64> + Same>(alloc: Global, body: &B) -> bool {
+    let keeper = found_by(alloc, WHOLE, body);
+    let mut builder = WHOLE.builder();
+    builder.max_permutations = Some(RUNS_IN_A_PART);
+    let mut ended = Keeper::new(alloc);
+    let mut store = MemoryStore::new(alloc);
+    let log = None::<HostRuntime>;
+    for _ in 0..MOST {
+        let covered = builder.cover_with(
+            alloc,
+            body,
+            &mut ended,
+            &mut NoClock,
+            &mut store,
+            MOST_REMEMBERED,
+            &log,
+        );
+        match covered {
+            Ok(Covered::Stopped { .. }) => {}
+            Ok(Covered::Complete { .. }) => {
+                return are_values_same(alloc, keeper.found.as_slice(), ended.found.as_slice());
+            }
+            Ok(Covered::Failed { .. } | Covered::Livelock { .. }) | Err(_) => return false,
+        }
+    }
+    false
+}
+
+#[test]
+fn stopped_covers_go_on(rt: HostRuntime) {
+    let alloc = rt.alloc();
+    let bodies = all_bodies(alloc).expect(&rt, "no memory for the bodies");
+    for name in &["store_buffering", "writers_beside_a_reader"] {
+        if let Some(measured) = body_of(bodies.as_slice(), *name) {
+            let body = script(&rt, measured.steps);
+            holds(&rt, is_covered_in_parts(alloc, &body), *name);
+        }
+    }
+    holds(
+        &rt,
+        is_covered_in_parts(alloc, &Counter::main(2)),
+        "counter",
+    );
+}
+
+// What a check says with this store, where it is stopped after one run.
+fn first_of_check(alloc: Global, store: &mut MemoryStore) -> Result<Report, CheckError> {
+    let mut builder = WHOLE.builder();
+    builder.max_permutations = Some(1);
+    let mut keeper = Keeper::new(alloc);
+    let log = None::<HostRuntime>;
+    builder.check_with(
+        alloc,
+        &Counter::main(2),
+        &mut keeper,
+        &mut NoClock,
+        store,
+        &log,
+    )
+}
+
+// And one that remembers states.
+fn first_of_cover(alloc: Global, store: &mut MemoryStore) -> Result<Covered, CheckError> {
+    let mut builder = WHOLE.builder();
+    builder.max_permutations = Some(1);
+    let mut keeper = Keeper::new(alloc);
+    let log = None::<HostRuntime>;
+    builder.cover_with(
+        alloc,
+        &Counter::main(2),
+        &mut keeper,
+        &mut NoClock,
+        store,
+        MOST_REMEMBERED,
+        &log,
+    )
+}
+
+// Whether the store holds a text with these bytes in it.
+fn has_text(store: &MemoryStore, part: &str) -> bool {
+    match &store.text {
+        Some(text) => match str::from_utf8(text.as_slice()) {
+            Ok(text) => text.contains(part),
+            Err(_) => false,
+        },
+        None => false,
+    }
+}
+
+#[test]
+fn checks_and_covers_refuse_each_others_texts(rt: HostRuntime) {
+    let alloc = rt.alloc();
+    let mut store = MemoryStore::new(alloc);
+    let covered = first_of_cover(alloc, &mut store);
+    holds(
+        &rt,
+        matches!(covered, Ok(Covered::Stopped { .. })) && has_text(&store, "\"search\":\"cover\""),
+        "the text of a check that remembers states",
+    );
+    let refused = first_of_check(alloc, &mut store);
+    holds(
+        &rt,
+        matches!(refused, Err(CheckError::WrongShape)),
+        "a check",
+    );
+    let mut store = MemoryStore::new(alloc);
+    let checked = first_of_check(alloc, &mut store);
+    let refused = first_of_cover(alloc, &mut store);
+    holds(
+        &rt,
+        matches!(checked, Ok(Report::Stopped { .. }))
+            && matches!(refused, Err(CheckError::WrongShape)),
+        "a check that remembers states",
+    );
 }
 
 #[test]

@@ -7,6 +7,7 @@ use crate::run::layout::Layout;
 use crate::run::tally::{Counts, Tally};
 use crate::run::thread::TestThread;
 use crate::test::Test;
+use loom::MemoryStore;
 use loom::model::builder::Builder;
 use loom::model::clock::Clock;
 use loom::model::cover::Covered;
@@ -37,7 +38,17 @@ pub fn cover<C: Clock, H: Counting>(
     ensures { IfOk result (IsCovering builder.now (C.answered clock.new) main.now test.now layout.now) }
 {
     let mut tally = Tally::new(alloc, test, layout, counting);
-    let covered = builder.cover_with(alloc, main, &mut tally, clock, most_states)?;
+    let mut store = None::<MemoryStore>;
+    let log = None::<HostRuntime>;
+    let covered = builder.cover_with(
+        alloc,
+        main,
+        &mut tally,
+        clock,
+        &mut store,
+        most_states,
+        &log,
+    )?;
     Ok(Covering {
         covered,
         counts: tally.into_counts(),

@@ -19,7 +19,6 @@ use crate::words::options::{Asked, Shows};
 use crate::words::table::{Line, TableLine};
 use loom::model::builder::Builder;
 use loom::model::clock::Clock;
-use loom::model::cover::Covered;
 use loom::model::error::CheckError;
 use loom::model::{Replay, Walk, Walked};
 use loom::{Choice, ShownChoices};
@@ -191,13 +190,10 @@ fn cover_test<R: AllocGlobal + HostTime, O: Write>(
         &mut Unheard,
         most_states,
     );
-    let mut covering = match covered {
+    let covering = match covered {
         Ok(covering) => covering,
         Err(error) => return Ok(Err(error)),
     };
-    if let Err(error) = place(alloc, &asked.builder, main, &mut covering.covered) {
-        return Ok(Err(error));
-    }
     let found = Found::Covering(covering);
     let answer = Answer {
         test,
@@ -205,28 +201,6 @@ fn cover_test<R: AllocGlobal + HostTime, O: Write>(
         found: &found,
     };
     put_answer(alloc, asked, file, answer, main, out)
-}
-
-// Where a run failed its failure gets its place, as the run has that is made by its choices.
-fn place(
-    alloc: Global,
-    builder: &Builder,
-    main: &TestThread,
-    covered: &mut Covered,
-) -> Result<(), CheckError> {
-    if let Covered::Failed {
-        failure,
-        choices,
-        ..
-    } = covered
-        && let Replay::Failed {
-            failure: again,
-            choices: _made,
-        } = builder.replay(alloc, main, choices.as_slice())?
-    {
-        *failure = failure.at(again.location);
-    }
-    Ok(())
 }
 
 // Prints the answer, and where a run failed, what happened in it, if that is asked for.

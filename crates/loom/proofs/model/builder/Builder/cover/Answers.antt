@@ -4,4 +4,4 @@ use Rattle.loom.proofs.model.builder.Builder.cover.Goals as goal
 
 pub returns-clause-covers : goal.returns-clause-covers
 returns-clause-covers g c =
-    alone {V = NoReceiver} c.args.self.now g.B.Body.next c.args.body.now (λ old choices value new. Unit {0}) (record {}) c.cover_runs.result c.cover_runs.new.receiver c.cover_runs.ensures.covers
+    alone {V = NoReceiver} (λ old choices value new. Unit {0}) (record {}) c.cover_runs.new.receiver c.args.self.now g.B.Body.next c.args.body.now _ _ c.cover_runs.result (λ text gave. gave) c.cover_runs.ensures.covers

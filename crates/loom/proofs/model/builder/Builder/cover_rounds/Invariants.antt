@@ -1,12 +1,15 @@
-use Rattle.std.proofs.Common.{◌≤◌, ◌+◌, ◌-◌, ◌^◌}
-use Rattle.loom.proofs.ModelLemmas.CoverRounds.{IsCovering}
+use Rattle.std.proofs.Common.{◌≡◌, ◌≤◌, ◌+◌, ◌-◌, ◌^◌, ℕ}
+use Rattle.loom.proofs.ModelLemmas.CoverRounds.{IsChecking}
 use Rattle.loom.proofs.model.builder.Builder.cover_rounds.Given as goal
 
--- rounds were made, and the receiver was given their runs
+-- rounds were made, and the receiver was given their runs; the store met no fault
 abbrev pub invariant-loop-limit : goal.invariant-loop-limit
 invariant-loop-limit g l = record {
+  most : ℕ;
+  few : most + l.until_save ≤ l.self.checkpoint_interval;
   within : l.runs + l.met ≤ 2 ^ 64 - 1;
-  covering : IsCovering l.self g.B.Body.next l.body g.R.Receiver.receives l.fn.receiver l.path l.receiver l.runs l.states l.ways;
+  checking : IsChecking l.self g.B.Body.next l.body g.R.Receiver.receives l.fn.receiver (g.S.CheckpointStore.gives l.fn.store) (g.S.CheckpointStore.holds l.store) l.path l.receiver l.runs most l.states l.ways;
+  faultless : g.S.CheckpointStore.fault_count l.store ≡ g.S.CheckpointStore.fault_count l.fn.store;
 }
 
 abbrev pub decreases-loop-limit : goal.decreases-loop-limit
