@@ -5,18 +5,19 @@
 #[cfg(test)]
 mod tests;
 
+use loom::runner::Host;
 use loom_text::words::run_words;
 use std::env;
 use std::io::{self, Write};
 use std::process::ExitCode;
-use std::rt::{Clock, Env, Files};
+use std::rt::{Clock, Env};
 
 fn main(rt: HostRuntime) -> ExitCode {
     let status = run(&rt, &mut rt.stdout(), &mut rt.stderr());
     ExitCode::from(status.unwrap_or(2))
 }
 
-fn run<R: AllocGlobal + Clock + Env + Files, O: Write, E: Write>(
+fn run<R: Host + Clock + Env + Sync, O: Write, E: Write>(
     rt: &R,
     out: &mut O,
     err: &mut E,

@@ -4,3 +4,4 @@ mod finding;
 pub mod reading;
 mod results;
 mod words;
+mod workers;

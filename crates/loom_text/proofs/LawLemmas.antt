@@ -1,18 +1,17 @@
 -- The laws of counted states.
-use Rattle.std.proofs.Common.{◌≡◌, ◌≢◌, ℕ, zero, suc, ◌+◌, ◌<◌, ◌≤◌, ◌&&◌, Bool, true, false, not, cond, ltb, eqb, List, [], ◌∷◌, take, refl, sym, ap, ◌∙◌, subst, inl, inr, ◌⊎◌, arith, eq-eqb}
-use Rattle.std.proofs.lemmas.Bool.{cases_Bool, cases_eq, and_parts, and_from, eqb-true, ne_eqb, ltb-true, lt-ltb, le-ltb, false≢true}
+use Rattle.std.proofs.Common.{◌≡◌, ◌≢◌, ℕ, ◌+◌, ◌≤◌, ◌&&◌, true, false, eqb, List, [], ◌∷◌, take, refl, sym, ap, ◌∙◌, subst, inl, inr, arith, eq-eqb}
+use Rattle.std.proofs.lemmas.Bool.{cases_Bool, cases_eq, and_parts, eqb-true, ne_eqb, false≢true}
 use Rattle.std.proofs.lemmas.Bool.Decides.{nat_tests}
 use Rattle.loom_text.specs.declared.run.layout.Layout.{Layout}
 use Rattle.loom_text.specs.declared.test.Test.{Test}
-use Rattle.loom_text.specs.Run.Check.{tally_of}
 use Rattle.loom_text.specs.Run.Counted.{Counted, Tallied}
 use Rattle.loom_text.specs.Run.Laws.{AreInOrder, IsBeforeAll, NeverLaw, NoneMeets, NotBeforeItselfLaw, OrderLaw, StatesLaw, runs_of, showing}
 use Rattle.loom_text.specs.Run.Operators.{is_less, truth}
-use Rattle.loom_text.specs.Run.States.{added, counts, is_before, is_positive, is_same, nothing_told, once, one_more, told, told_all}
+use Rattle.loom_text.specs.Run.States.{added, counts, is_before, is_positive, is_same, nothing_told, told, told_all}
 
 -- ---- the same numbers
 
-same_is : (one other : List ℕ) → is_same one other ≡ true → one ≡ other
+pub same_is : (one other : List ℕ) → is_same one other ≡ true → one ≡ other
 same_is [] [] h = refl
 same_is [] (n ∷ other) h = absurd (false≢true h)
 same_is (m ∷ one) [] h = absurd (false≢true h)
@@ -82,7 +81,7 @@ pub not_before_itself : NotBeforeItselfLaw
 not_before_itself [] = refl
 not_before_itself (n ∷ numbers) = rw (eq-eqb n n refl) (not_before_itself numbers)
 
-before_trans : (a b c : List ℕ) → is_before a b ≡ true → is_before b c ≡ true → is_before a c ≡ true
+pub before_trans : (a b c : List ℕ) → is_before a b ≡ true → is_before b c ≡ true → is_before a c ≡ true
 before_trans a [] c h k = absurd (false≢true h)
 before_trans a (m ∷ b) [] h k = absurd (false≢true k)
 before_trans [] (m ∷ b) (n ∷ c) h k = refl
@@ -118,7 +117,7 @@ before_trans (l ∷ a) (m ∷ b) (n ∷ c) h k = elim (cases_eq l m) [
   ]
 ]
 
-before_total : (a b : List ℕ) → is_before a b ≡ false → is_same a b ≡ false → is_before b a ≡ true
+pub before_total : (a b : List ℕ) → is_before a b ≡ false → is_same a b ≡ false → is_before b a ≡ true
 before_total [] [] h other = absurd (false≢true (sym other))
 before_total [] (n ∷ b) h other = absurd (false≢true (sym h))
 before_total (m ∷ a) [] h other = refl

@@ -13,6 +13,8 @@ pub mod KnownLemmas
 pub mod LawLemmas
 pub mod LocationsAgain
 pub mod NameLemmas
+pub mod OrderLemmas
+pub mod ParallelLemmas
 pub mod PlacedRight
 pub mod QuestionsAgain
 pub mod QuestionsFit

@@ -13,23 +13,28 @@ use Rattle.loom_engine.specs.Trees.Outcomes.{outcome as comes_to, AreRuns, choic
 use Rattle.loom_engine.specs.Trees.Marks.{marking}
 use Rattle.loom_engine.specs.Trees.Reported.{HasCompleted}
 use Rattle.loom_engine.specs.Walk.Lists.{Member}
+use Rattle.loom_engine.specs.Walk.Runs.{Reachable}
+use Rattle.loom_engine.proofs.Runs.Bodies.{run_tree_law}
 use Rattle.loom_engine.proofs.Runs.Exploring.{explores_law}
+use Rattle.loom_engine.proofs.Trees.Counting.{every_run_law}
+use Rattle.loom_engine.proofs.Trees.Marks.{marking_law}
+use Rattle.loom.specs.Model.Fresh.{machine}
 use Rattle.loom.specs.Model.Settings.{explores, search_of}
 use Rattle.loom.specs.declared.model.builder.Builder.{Builder}
 use Rattle.loom.specs.declared.model.report.Report.{Report}
-use Rattle.loom.specs.declared.model.report.Report.TheVariants.{Complete}
 use Rattle.loom_text.specs.declared.run.check.Outcome.{Outcome}
-use Rattle.loom_text.specs.declared.run.code.Asked.{Asked}
 use Rattle.loom_text.specs.declared.run.code.Instruction.{Instruction}
 use Rattle.loom_text.specs.declared.run.code.Instruction.TheVariants.{Compute, Jump, JumpIfZero, Ask}
 use Rattle.loom_text.specs.declared.run.code.Operation.{Operation}
 use Rattle.loom_text.specs.declared.run.code.Operation.TheVariants.{Atomic, Fence, NewCell, Read, Write, NewMutex, Lock, TryLock, Unlock, NewCondvar, Wait, Signal, Broadcast, Yield, Fail, Spawn, Join, Finish, Exit, End}
 use Rattle.loom_text.specs.declared.run.layout.Layout.{Layout}
 use Rattle.loom_text.specs.declared.test.Test.{Test}
-use Rattle.loom_text.specs.Run.Check.{IsOutcome, Says, is_whole, tally_of}
+use Rattle.loom_text.specs.Run.Check.{Says, is_whole, tally_of}
 use Rattle.loom_text.specs.Run.Counted.{Counted}
-use Rattle.loom_text.specs.Run.Laws.{EachRunLaw, NoneMeets, runs_by, runs_of, showing}
+use Rattle.loom_text.specs.Run.Covered.{AreCounted}
+use Rattle.loom_text.specs.Run.Laws.{EachRunLaw, NoneMeets, SaysOfEachRun, SharedRunLaw, runs_by, runs_of, showing}
 use Rattle.loom_text.specs.Run.Operators.{truth}
+use Rattle.loom_text.specs.Run.Parallel.{AreAll, SaysOf}
 use Rattle.loom_text.specs.Run.Running.{Running}
 use Rattle.loom_text.specs.Run.States.{counts, is_positive, is_same}
 use Rattle.loom_text.specs.Run.Thread.{gone_on, instruction_at, next_of, operation, request}
@@ -125,36 +130,46 @@ module _ (test : Test) (layout : Layout) (room : ℕ) (tree : Tree (List ℕ)) (
       subst (λ v. counts test layout v ≡ true → is_positive test layout v ≡ false) (its_value run are.0 e) none.0 h
   none_among (run ∷ runs) are (inr m) none h = none_among runs are.1 m none.1 h
 
--- ---- the law
+-- ---- the laws
 
-module _ (b : Builder) (main : Running) (test : Test) (layout : Layout) (found : Outcome) (count : ℕ) (whole : is_whole b ≡ true) (is : IsOutcome b (runs_by b main) test layout found) (complete : found.report ≡ Complete count) where
-  completed : HasCompleted (search_of b) (marking b.preemption_bound) (runs_by b main) is.runs
-  completed = subst (λ (r : Report). Says b (runs_by b main) is.runs r) complete is.says
-
-  was_made : (choices : List Choice) (o : Result (List ℕ) FailureKind) → comes_to b.max_branches (runs_by b main) choices ≡ Some o → Member choices (choices_made is.runs)
-  was_made choices o comes =
-      let reachable = (completed.all_runs.every_run (every b whole) (unbounded b whole) (throughout b main (explicit b whole)) choices).1 (o, comes) in
-      (completed.all_runs.walk.members choices).0 reachable
+module _ (b : Builder) (main : Running) (test : Test) (layout : Layout) (found : Outcome) (whole : is_whole b ≡ true) (runs : List (List Choice × List ℕ)) (are_runs : AreRuns b.max_branches (runs_by b main) runs)
+    (all : (choices : List Choice) → Reachable (machine (search_of b) (runs_by b main)) choices → Member choices (choices_made runs))
+    (ends : (choices : List Choice) → Reachable (machine (search_of b) (runs_by b main)) choices → (numbers : List ℕ) × (comes_to b.max_branches (runs_by b main) choices ≡ Some (Ok numbers)))
+    (counted : AreCounted test layout runs found.counts) where
+  -- a search of all runs reaches each
+  reached : (choices : List Choice) (o : Result (List ℕ) FailureKind) → comes_to b.max_branches (runs_by b main) choices ≡ Some o → Reachable (machine (search_of b) (runs_by b main)) choices
+  reached choices o comes =
+      let sound = run_tree_law next_of (explores b) b.max_threads b.max_steps main in
+      (every_run_law (search_of b) (marking b.preemption_bound) (runs_by b main) sound.sound (marking_law b.preemption_bound).0 (every b whole) (unbounded b whole) (throughout b main (explicit b whole)) choices).1 (o, comes)
 
   fails_none : (choices : List Choice) (kind : FailureKind) → comes_to b.max_branches (runs_by b main) choices ≢ Some (Err kind)
   fails_none choices kind = λ comes.
-      let reachable = (completed.all_runs.every_run (every b whole) (unbounded b whole) (throughout b main (explicit b whole)) choices).1 (Err kind, comes) in
-      let ended = completed.none_fails choices reachable in
+      let ended = ends choices (reached choices (Err kind) comes) in
       let both : Some (Err kind) ≡ Some (Ok ended.0) = sym comes ∙ ended.1 in
       cc both
 
+  says_of_each : SaysOfEachRun b main test layout found
+  says_of_each = record {
+    none_fails = fails_none;
+    shown = λ choices numbers comes h.
+        let made = all choices (reached choices (Ok numbers) comes) in
+        let some = shown_among test layout b.max_branches (runs_by b main) choices numbers comes runs are_runs made h in
+        let so_many = states_law test layout (map (λ run. run.1) runs) (take layout.shown numbers) in
+        let states : runs_of (take layout.shown numbers) found.counts.states.items ≡ runs_of (take layout.shown numbers) (tally_of test layout (map (λ run. run.1) runs)).states =
+        ap (λ (xs : List Counted). runs_of (take layout.shown numbers) xs) counted.states in
+        rw (states, so_many) some;
+    never = λ none choices numbers comes h.
+        let made = all choices (reached choices (Ok numbers) comes) in
+        none_among test layout b.max_branches (runs_by b main) choices numbers comes runs are_runs made (never_law test layout (map (λ run. run.1) runs) (sym counted.positive ∙ none)) h;
+  }
+
 pub each_run_law : EachRunLaw
-each_run_law b main test layout found count whole is complete = record {
-  none_fails = fails_none b main test layout found count whole is complete;
-  shown = λ choices numbers comes h.
-      let made = was_made b main test layout found count whole is complete choices (Ok numbers) comes in
-      let some = shown_among test layout b.max_branches (runs_by b main) choices numbers comes is.runs (completed b main test layout found count whole is complete).are_runs made h in
-      let counted = states_law test layout (map (λ run. run.1) is.runs) (take layout.shown numbers) in
-      let states : runs_of (take layout.shown numbers) found.counts.states.items ≡ runs_of (take layout.shown numbers) (tally_of test layout (map (λ run. run.1) is.runs)).states =
-      ap (λ (xs : List Counted). runs_of (take layout.shown numbers) xs) is.states in
-      rw (states, counted) some;
-  never = λ none choices numbers comes h.
-      let made = was_made b main test layout found count whole is complete choices (Ok numbers) comes in
-      none_among test layout b.max_branches (runs_by b main) choices numbers comes is.runs (completed b main test layout found count whole is complete).are_runs made
-      (never_law test layout (map (λ run. run.1) is.runs) (sym is.positive ∙ none)) h;
-}
+each_run_law b main test layout found count whole is complete =
+    let completed : HasCompleted (search_of b) (marking b.preemption_bound) (runs_by b main) is.runs = subst (λ (r : Report). Says b (runs_by b main) is.runs r) complete is.says in
+    says_of_each b main test layout found whole is.runs completed.are_runs (λ choices r. (completed.all_runs.walk.members choices).0 r) completed.none_fails
+    (record { states = is.states; positive = is.positive; negative = is.negative })
+
+pub shared_run_law : SharedRunLaw
+shared_run_law b main test layout found count whole is complete =
+    let all : AreAll b (runs_by b main) is.runs = subst (λ (r : Report). SaysOf b (runs_by b main) is.runs r) complete is.says in
+    says_of_each b main test layout found whole is.runs all.are_runs (λ choices r. (all.all.1 choices).0 r) all.none_fails is.counted

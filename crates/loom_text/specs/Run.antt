@@ -5,6 +5,7 @@ pub mod Covered
 pub mod Drawn
 pub mod Laws
 pub mod Operators
+pub mod Parallel
 pub mod Progress
 pub mod Running
 pub mod State

@@ -9,6 +9,7 @@ pub(crate) mod expressions;
 pub mod laws;
 pub mod layout;
 pub mod operators;
+pub mod parallel;
 pub mod program;
 pub(crate) mod state;
 pub(crate) mod statements;

@@ -9,12 +9,14 @@ use crate::words::options::{Asked, Shows, read};
 use crate::words::table::TABLE_HEAD;
 use clap::Error;
 use loom::Choices;
+use loom::runner::Host;
 use std::io::{self, Write};
-use std::rt::{Clock, Files};
+use std::rt::Clock;
+use std::thread::{self, Threads};
 
 /// Reads the tests that the words name, checks them, and prints the answers. The exit status is 0 where each test holds, 1 where one
 /// doesn't, and 2 where the words, a file or a setting is wrong, or where memory or a writer fails (own).
-pub fn run_words<R: AllocGlobal + Clock + Files, O: Write, E: Write>(
+pub fn run_words<R: Host + Clock + Sync, O: Write, E: Write>(
     rt: &R,
     words: &[&str],
     out: &mut O,
@@ -36,7 +38,7 @@ fn help_or_refuse<O: Write, E: Write>(error: &Error, out: &mut O, err: &mut E) -
     Ok(0)
 }
 
-fn run_asked<R: AllocGlobal + Clock + Files, O: Write, E: Write>(
+fn run_asked<R: Host + Clock + Sync, O: Write, E: Write>(
     rt: &R,
     asked: &Asked,
     out: &mut O,
@@ -46,9 +48,10 @@ fn run_asked<R: AllocGlobal + Clock + Files, O: Write, E: Write>(
         return run_files(rt, asked, Job::Walk(walk), out, err);
     }
     let Some(text) = asked.replay else {
-        let job = match asked.covers {
-            Some(most_states) => Job::Cover(most_states),
-            None => Job::Check,
+        let job = match (asked.covers, asked.jobs) {
+            (Some(most_states), _) => Job::Cover(most_states),
+            (None, Some(count)) => Job::Share(workers(rt, count)),
+            (None, None) => Job::Check,
         };
         return run_files(rt, asked, job, out, err);
     };
@@ -64,8 +67,19 @@ fn run_asked<R: AllocGlobal + Clock + Files, O: Write, E: Write>(
     }
 }
 
+// So many workers, or as many as there are processors.
+fn workers<R: Threads>(rt: &R, count: usize) -> usize {
+    if count > 0 {
+        return count;
+    }
+    match thread::available_parallelism(rt) {
+        Ok(count) => count.get(),
+        Err(_) => 1,
+    }
+}
+
 // Does this with each file, and answers the highest status.
-fn run_files<R: AllocGlobal + Clock + Files, O: Write, E: Write>(
+fn run_files<R: Host + Clock + Sync, O: Write, E: Write>(
     rt: &R,
     asked: &Asked,
     job: Job,

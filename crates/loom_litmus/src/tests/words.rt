@@ -1,15 +1,16 @@
 //! What the program of litmus tests does with words.
 use crate::tests::reading::texts::TEXTS;
+use loom::runner::Host;
 use loom_testing::pens::{Pen, Printed, is_printed};
 use loom_text::words::run_words;
 use std::process::Abort;
-use std::rt::{Clock, Files};
+use std::rt::Clock;
 use std::{fs, io};
 
 // Words, what they print on standard output and on standard error, and the status.
 type Call = (&'static [&'static str], &'static str, &'static str, u8);
 
-static CALLS: [Call; 19] = [
+static CALLS: [Call; 22] = [
     // One file has its whole answer.
     (
         &["SB.litmus"],
@@ -35,6 +36,25 @@ static CALLS: [Call; 19] = [
         "Test SB Allowed\nStates 4\n0:r0=0; 1:r0=0;\n0:r0=0; 1:r0=1;\n0:r0=1; 1:r0=0;\n0:r0=1; 1:r0=1;\nOk\nWitnesses\nPositive: 21 Negative: 39\nThe counts are of the runs that this search made.\nCondition exists (0:r0=0 /\\ 1:r0=0)\nObservation SB Sometimes 21 39\n",
         "",
         0,
+    ),
+    // By several workers they are those of one.
+    (
+        &["--jobs", "3", "--whole", "SB.litmus"],
+        "Test SB Allowed\nStates 4\n0:r0=0; 1:r0=0;\n0:r0=0; 1:r0=1;\n0:r0=1; 1:r0=0;\n0:r0=1; 1:r0=1;\nOk\nWitnesses\nPositive: 126 Negative: 246\nCondition exists (0:r0=0 /\\ 1:r0=0)\nObservation SB Sometimes 126 246\n",
+        "",
+        0,
+    ),
+    (
+        &["--jobs", "3", "SB.litmus"],
+        "",
+        "error: --jobs needs --whole or --reduce\n\nUsage: loom_litmus [OPTIONS] FILE..\n\nFor more information, try '--help'.\n",
+        2,
+    ),
+    (
+        &["--jobs", "3", "--replay", "", "SB.litmus"],
+        "",
+        "error: the argument '--jobs <N>' cannot be used with '--replay <CHOICES>'\n\nUsage: loom_litmus [OPTIONS] FILE..\n\nFor more information, try '--help'.\n",
+        2,
     ),
     (
         &["--states", "3", "--whole", "SB.litmus"],
@@ -147,7 +167,7 @@ const ONE: &str =
 const WRONG: &str =
     "C wrong\n{ }\nP0 (atomic_int* x) { atomic_store_explicit(x, 1, release); }\nexists (x=1)\n";
 
-fn prints(rt: &(impl Abort + AllocGlobal + Clock + Files), call: &Call) {
+fn prints(rt: &(impl Abort + Host + Clock + Sync), call: &Call) {
     let (words, out, err, status) = *call;
     let mut pen = Pen::new(rt.alloc());
     let mut other = Pen::new(rt.alloc());
@@ -179,4 +199,13 @@ fn words_print_answers(rt: HostRuntime) -> io::Result<()> {
         fs::remove_file(&rt, *name)?;
     }
     Ok(())
+}
+
+#[test]
+fn the_help_tells_of_workers(rt: HostRuntime) {
+    let mut pen = Pen::new(rt.alloc());
+    let mut other = Pen::new(rt.alloc());
+    let status = run_words(&rt, &["--help"], &mut pen, &mut other);
+    let help = str::from_utf8(pen.text.as_slice()).unwrap_or("");
+    assert!(&rt; status == 0 && help.contains("--jobs <N>"));
 }

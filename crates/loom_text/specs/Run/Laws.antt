@@ -19,6 +19,7 @@ use Rattle.loom_text.specs.Run.Check.{IsOutcome, is_whole, tally_of}
 use Rattle.loom_text.specs.Run.Counted.{Counted}
 use Rattle.loom_text.specs.Run.Covered.{AreCounted}
 use Rattle.loom_text.specs.Run.Operators.{truth}
+use Rattle.loom_text.specs.Run.Parallel.{IsShared}
 use Rattle.loom_text.specs.Run.Running.{Running}
 use Rattle.loom_text.specs.Run.States.{counts, is_before, is_positive, is_same}
 use Rattle.loom_text.specs.Run.Thread.{next_of}
@@ -90,6 +91,11 @@ module _ (b : Builder) (main : Running) (test : Test) (layout : Layout) (found :
 abbrev pub EachRunLaw : Type 0
 EachRunLaw = (b : Builder) (main : Running) (test : Test) (layout : Layout) (found : Outcome) (count : ℕ) → is_whole b ≡ true
     → IsOutcome b (runs_by b main) test layout found → found.report ≡ Complete count → SaysOfEachRun b main test layout found
+
+-- And so it is after such a check by several workers.
+abbrev pub SharedRunLaw : Type 0
+SharedRunLaw = (b : Builder) (main : Running) (test : Test) (layout : Layout) (found : Outcome) (count : ℕ) → is_whole b ≡ true
+    → IsShared b (runs_by b main) test layout found → found.report ≡ Complete count → SaysOfEachRun b main test layout found
 
 -- ---- a complete check that remembers states
 

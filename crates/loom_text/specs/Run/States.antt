@@ -8,7 +8,7 @@ use Rattle.loom_text.specs.declared.test.Term.{Term}
 use Rattle.loom_text.specs.declared.test.Term.TheVariants.{Register, Location}
 use Rattle.loom_text.specs.declared.test.Test.{Test}
 use Rattle.loom_text.specs.Run.Counted.{Counted, Tallied}
-use Rattle.loom_text.specs.Run.Operators.{is_less, truth}
+use Rattle.loom_text.specs.Run.Operators.{is_less}
 
 -- the same register, or the same location
 abbrev pub is_term : Term → Term → Bool
@@ -54,15 +54,19 @@ is_before (m ∷ one) (n ∷ other) = cond (m == n) (is_before one other) (is_le
 abbrev pub once : List ℕ → Counted
 once numbers = record { numbers = numbers; runs = 1 }
 
-abbrev pub one_more : Counted → Counted
-one_more state = record state { runs = state.runs + 1 }
+abbrev pub more_often : ℕ → Counted → Counted
+more_often count state = record state { runs = state.runs + count }
+
+-- runs more, so many as the one state has, ended with its numbers
+abbrev pub put : Counted → List Counted → List Counted
+put more [] = more ∷ []
+put more (state ∷ states) =
+    cond (is_before state.numbers more.numbers) (state ∷ put more states)
+    (cond (is_same state.numbers more.numbers) (more_often more.runs state ∷ states) (more ∷ state ∷ states))
 
 -- one run more ended with these numbers
 abbrev pub added : List ℕ → List Counted → List Counted
-added numbers [] = once numbers ∷ []
-added numbers (state ∷ states) =
-    cond (is_before state.numbers numbers) (state ∷ added numbers states)
-    (cond (is_same state.numbers numbers) (one_more state ∷ states) (once numbers ∷ state ∷ states))
+added numbers states = put (once numbers) states
 
 -- how many states are shown before one with these numbers
 abbrev pub place_in : List ℕ → List Counted → ℕ
@@ -80,17 +84,26 @@ nothing_told test layout = tallied test layout [] 0 0
 abbrev pub is_positive : Test → Layout → List ℕ → Bool
 is_positive test layout numbers = meets test.condition layout.terms.items numbers
 
--- a run more ended with this result of main, which counts
-abbrev pub counted : Tallied → List ℕ → Tallied
-counted t numbers = record t {
-  states = added (take t.layout.shown numbers) t.states;
-  positive = t.positive + truth (is_positive t.test t.layout numbers);
-  negative = t.negative + truth (not (is_positive t.test t.layout numbers));
+-- runs more ended with the result of main that the state has, which counts
+abbrev pub counted : Tallied → Counted → Tallied
+counted t more = record t {
+  states = put (record more { numbers = take t.layout.shown more.numbers }) t.states;
+  positive = t.positive + cond (is_positive t.test t.layout more.numbers) more.runs 0;
+  negative = t.negative + cond (not (is_positive t.test t.layout more.numbers)) more.runs 0;
 }
+
+-- runs more ended with the result that the state has
+abbrev pub told_more : Tallied → Counted → Tallied
+told_more t more = cond (counts t.test t.layout more.numbers) (counted t more) t
 
 -- a run more ended with this result
 abbrev pub told : Tallied → List ℕ → Tallied
-told t numbers = cond (counts t.test t.layout numbers) (counted t numbers) t
+told t numbers = told_more t (once numbers)
+
+-- runs more ended with the results that these states have
+abbrev pub told_each : Tallied → List Counted → Tallied
+told_each t [] = t
+told_each t (more ∷ states) = told_each (told_more t more) states
 
 -- runs with these results
 abbrev pub told_all : Tallied → List (List ℕ) → Tallied

@@ -1,5 +1,5 @@
 //! The code of a test's threads: instructions over registers, and operations of the machine.
-ghost use Rattle.std.specs.Prelude.{◌≡◌, IsTrue};
+ghost use Rattle.std.specs.Prelude.{◌≡◌, IfOk, IsTrue};
 ghost use Rattle.loom_text.specs.Run.Code.{code_of, registers_of};
 
 use crate::run::operators::Operator;
@@ -7,6 +7,7 @@ use loom_objects::label::Label;
 use loom_objects::operation::Name;
 use loom_views::same::{Same, are_same};
 use loom_views::sequence::Sequence;
+use std::alloc::{AllocError, Global};
 use std::sync::atomic::Ordering;
 
 // Whether the value is of this kind, and what it is made of passes the test.
@@ -129,7 +130,31 @@ pub struct Program {
     pub threads: Sequence<Code>,
 }
 
+impl Code {
+    // A copy of it. It fails only where a growth is refused.
+    fn try_clone(&self, alloc: Global) -> Result<Code, AllocError>
+        ensures { IfOk result (λ copy. copy ≡ self.now) }
+    {
+        let instructions = self.instructions.try_clone(alloc)?;
+        Ok(Code {
+            instructions,
+            registers: self.registers,
+        })
+    }
+}
+
 impl Program {
+    /// A copy of it. It fails only where a growth is refused.
+    pub(crate) fn try_clone(&self, alloc: Global) -> Result<Program, AllocError>
+        ensures { IfOk result (λ copy. copy ≡ self.now) }
+    {
+        let mut threads = Sequence::new(alloc);
+        for code in self.threads.as_slice() {
+            threads.push(code.try_clone(alloc)?)?;
+        }
+        Ok(Program { threads })
+    }
+
     /// The instructions of the thread at this place. Without such a thread there are none.
     pub(crate) fn code_of(&self, thread: usize) -> &[Instruction]
         ensures { result.now ≡ code_of self.now thread }

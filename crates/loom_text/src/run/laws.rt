@@ -1,5 +1,5 @@
 //! Laws of counted states. The contract of each function is a law. The definitions stand in `specs/Run/Laws.antt`.
-ghost use Rattle.loom_text.specs.Run.Laws.{CoveredLaw, EachRunLaw, NeverLaw, NotBeforeItselfLaw, OrderLaw, StatesLaw};
+ghost use Rattle.loom_text.specs.Run.Laws.{CoveredLaw, EachRunLaw, NeverLaw, NotBeforeItselfLaw, OrderLaw, SharedRunLaw, StatesLaw};
 
 /// The states are the results that the filter lets through, as far as they are shown, each with as many runs as had it.
 pub fn states_are_results()
@@ -25,6 +25,11 @@ pub fn never_is_never()
 /// that meets the condition, no run of the machine ends with a state that counts and meets it.
 pub fn states_are_of_all_runs()
     ensures { EachRunLaw }
+{}
+
+/// And so it is after such a check by several workers.
+pub fn states_are_of_shared_runs()
+    ensures { SharedRunLaw }
 {}
 
 /// Where runs cover each run of main, as those do of a complete check that remembers states, and their results were counted, the states

@@ -6,6 +6,7 @@ ghost use Rattle.loom_text.specs.Run.Thread.{atomic_op, change_of, next_of, requ
 use crate::run::code::{AtomicOperation, Instruction, Operand, Operation, Program, Update};
 use crate::run::state::State;
 use crate::run::values::Values;
+use loom::runner::Apart;
 use loom_objects::body::Body;
 use loom_objects::operation::{
     AtomicOp, CellOp, CondvarOp, Exchange, Labelled, MutexOp, Op, Reply, Request, ThreadOp,
@@ -15,7 +16,7 @@ use loom_views::rt::num::change::Change;
 use loom_views::same::Same;
 use std::alloc::{AllocError, Global};
 use std::marker::Model;
-use std::rc::Rc;
+use std::sync::Arc;
 
 // After so many instructions that are no operations a thread asks who it is, which changes nothing, so that one that never ends
 // comes to `max_steps`.
@@ -24,8 +25,8 @@ const SILENT: u32 = 1000;
 /// A thread of a test (own).
 #[derive(Drop)]
 pub struct TestThread {
-    // All threads of all runs share it.
-    program: Rc<Program>,
+    // All threads of all runs share it, but each worker has its own.
+    program: Arc<Program>,
     // Its place in the program: main is 0.
     thread: usize,
     state: State,
@@ -46,7 +47,7 @@ impl TestThread {
     {
         let state = State::new(alloc, program.registers_of(0))?;
         Ok(TestThread {
-            program: Rc::new(alloc, program)?,
+            program: Arc::new(alloc, program)?,
             thread: 0,
             state,
         })
@@ -58,7 +59,7 @@ impl TestThread {
     {
         let registers = self.program.registers_of(thread);
         Ok(TestThread {
-            program: self.program.clone()?,
+            program: Arc::try_clone(&self.program)?,
             thread,
             state: State::new(self.state.alloc(), registers)?,
         })
@@ -207,7 +208,20 @@ impl Body for TestThread {
         ensures { IfOk result (λ copy. copy ≡ self.now) }
     {
         Ok(TestThread {
-            program: self.program.clone()?,
+            program: Arc::try_clone(&self.program)?,
+            thread: self.thread,
+            state: self.state.try_clone()?,
+        })
+    }
+}
+
+impl Apart for TestThread {
+    fn apart(&self) -> Result<TestThread, AllocError> {
+        // The program too is a copy, so that workers don't meet at the count of its owners.
+        let alloc = self.state.alloc();
+        let program = Arc::new(alloc, self.program.try_clone(alloc)?)?;
+        Ok(TestThread {
+            program,
             thread: self.thread,
             state: self.state.try_clone()?,
         })

@@ -1,13 +1,12 @@
 //! What is done with one file: its test is read and checked, or run once, and what comes of it is printed.
-ghost use Rattle.std.specs.Prelude.{⊤};
-
 use crate::error::{ReadError, report};
 use crate::read::read;
 use crate::run::answer::{Answer, End, Found, ShownNumbers, Sight, flag_of};
-use crate::run::check::{check, is_whole};
+use crate::run::check::{Outcome, check, is_whole};
 use crate::run::counting::{Counting, Unheard};
 use crate::run::cover::cover;
 use crate::run::layout::Layout;
+use crate::run::parallel::check_by;
 use crate::run::program::assemble;
 use crate::run::summary::Verdict;
 use crate::run::thread::TestThread;
@@ -18,21 +17,24 @@ use crate::words::json;
 use crate::words::options::{Asked, Shows};
 use crate::words::table::{Line, TableLine};
 use loom::model::builder::Builder;
-use loom::model::clock::Clock;
 use loom::model::error::CheckError;
+use loom::model::parts::Slice;
 use loom::model::{Replay, Walk, Walked};
-use loom::{Choice, ShownChoices};
+use loom::runner::{Host, Workers};
+use loom::{Choice, HostClock, ShownChoices};
 use std::alloc::Global;
 use std::fs::File;
 use std::io::{self, Read, Write};
-use std::rt::{Clock as HostTime, Files};
-use std::time::{Duration, Instant};
+use std::rt::{Clock, Files};
+use std::time::Duration;
 
 /// What is done with each test.
 #[derive(Clone, Copy)]
 pub(crate) enum Job<'a> {
     /// It is checked.
     Check,
+    /// It is checked by so many workers.
+    Share(usize),
     /// Its runs are covered, with at most so many states.
     Cover(usize),
     /// Runs are made that are drawn so.
@@ -44,9 +46,12 @@ pub(crate) enum Job<'a> {
 // Above so many runs it is said that there is a way to make fewer.
 const MANY_RUNS: u64 = 1_000_000;
 
+// A worker works on a part for so long at a time. One whose part has ended before waits for the others.
+const SLICE_MILLIS: u64 = 20;
+
 /// Does this with the test in the file, prints what comes of it, and answers the exit status: 0 where it holds, 1 where it
 /// doesn't, and 2 where the file can't be read, is no test, or can't be checked so.
-pub(crate) fn judge_file<R: AllocGlobal + HostTime + Files, O: Write, E: Write>(
+pub(crate) fn judge_file<R: Host + Clock + Sync, O: Write, E: Write>(
     rt: &R,
     asked: &Asked,
     job: Job,
@@ -83,7 +88,7 @@ fn bytes_of<R: AllocGlobal + Files>(rt: &R, file: &str) -> io::Result<Vec<u8>> {
 }
 
 /// Does this with the test, which stands in the file of this name.
-pub(crate) fn judge_test<R: AllocGlobal + HostTime, O: Write, E: Write>(
+pub(crate) fn judge_test<R: Host + Clock + Sync, O: Write, E: Write>(
     rt: &R,
     asked: &Asked,
     job: Job,
@@ -97,7 +102,11 @@ pub(crate) fn judge_test<R: AllocGlobal + HostTime, O: Write, E: Write>(
     let program = assemble(alloc, test, &layout, name_of(file))?;
     let main = TestThread::main(alloc, program)?;
     let answered = match job {
-        Job::Check => check_test(rt, asked, file, test, &layout, &main, out, err)?,
+        Job::Check => check_test(rt, asked, None, file, test, &layout, &main, out, err)?,
+        Job::Share(count) => {
+            let workers = Some(timed_workers(count));
+            check_test(rt, asked, workers, file, test, &layout, &main, out, err)?
+        }
         Job::Cover(most) => cover_test(rt, asked, most, file, test, &layout, &main, out)?,
         Job::Walk(walk) => walk_test(rt, asked, walk, test, &layout, &main, out)?,
         Job::Replay(choices) => replay_test(alloc, asked, choices, test, &layout, &main, out)?,
@@ -116,9 +125,10 @@ fn name_of(file: &str) -> &str {
     file.rsplit('/').next().unwrap_or(file)
 }
 
-fn check_test<R: AllocGlobal + HostTime, O: Write, E: Write>(
+fn check_test<R: Host + Clock + Sync, O: Write, E: Write>(
     rt: &R,
     asked: &Asked,
+    workers: Option<Workers>,
     file: &str,
     test: &Test,
     layout: &Layout,
@@ -126,23 +136,15 @@ fn check_test<R: AllocGlobal + HostTime, O: Write, E: Write>(
     out: &mut O,
     err: &mut E,
 ) -> io::Result<Result<u8, CheckError>> {
-    let is_whole = is_whole(&asked.builder);
-    let mut clock = HostClock::start(rt);
+    let builder = &asked.builder;
+    let is_whole = is_whole(builder);
     let mut warning = Warning {
         file,
         is_whole,
+        has_warned: false,
         err,
     };
-    let checked = check(
-        rt.alloc(),
-        &asked.builder,
-        test,
-        layout,
-        main,
-        &mut clock,
-        &mut warning,
-    );
-    let outcome = match checked {
+    let outcome = match find(rt, builder, workers, test, layout, main, &mut warning) {
         Ok(outcome) => outcome,
         Err(error) => return Ok(Err(error)),
     };
@@ -159,6 +161,37 @@ fn check_test<R: AllocGlobal + HostTime, O: Write, E: Write>(
     put_answer(rt.alloc(), asked, file, answer, main, out)
 }
 
+// What a check finds of the test, by one worker or by several.
+fn find<R: Host + Clock + Sync, H: Counting>(
+    rt: &R,
+    builder: &Builder,
+    workers: Option<Workers>,
+    test: &Test,
+    layout: &Layout,
+    main: &TestThread,
+    counting: &mut H,
+) -> Result<Outcome, CheckError> {
+    let alloc = rt.alloc();
+    let mut clock = HostClock::start(rt);
+    match workers {
+        None => check(alloc, builder, test, layout, main, &mut clock, counting),
+        Some(workers) => check_by(
+            rt, alloc, builder, test, layout, main, workers, &mut clock, counting,
+        ),
+    }
+}
+
+// So many workers, each with some time for a part.
+fn timed_workers(count: usize) -> Workers {
+    Workers {
+        count,
+        slice: Slice {
+            runs: u64::MAX,
+            until: Some(Duration::from_millis(SLICE_MILLIS)),
+        },
+    }
+}
+
 // The exit status: 0 where the test is known to hold.
 fn status_of(verdict: Verdict) -> u8 {
     match verdict {
@@ -168,7 +201,7 @@ fn status_of(verdict: Verdict) -> u8 {
 }
 
 // Covers the runs of the test with at most so many states, and prints what was found.
-fn cover_test<R: AllocGlobal + HostTime, O: Write>(
+fn cover_test<R: AllocGlobal + Clock, O: Write>(
     rt: &R,
     asked: &Asked,
     most_states: usize,
@@ -225,7 +258,7 @@ fn put_answer<O: Write>(
 }
 
 // Makes the runs of the walk, and prints what was seen.
-fn walk_test<R: AllocGlobal + HostTime, O: Write>(
+fn walk_test<R: AllocGlobal + Clock, O: Write>(
     rt: &R,
     asked: &Asked,
     drawn: Walk,
@@ -284,13 +317,15 @@ fn print_answer<O: Write>(
 struct Warning<'a, E> {
     file: &'a str,
     is_whole: bool,
+    has_warned: bool,
     err: &'a mut E,
 }
 
 // What can't be written is left out: the check goes on.
 impl<E: Write> Counting for Warning<'_, E> {
     fn made(&mut self, runs: u64) {
-        if self.is_whole && runs == MANY_RUNS + 1 {
+        if self.is_whole && !self.has_warned && runs > MANY_RUNS {
+            self.has_warned = true;
             let file = self.file;
             let _ = writeln!(
                 self.err,
@@ -368,33 +403,5 @@ fn explain<O: Write>(
             Ok(Ok(()))
         }
         Err(error) => Ok(Err(error)),
-    }
-}
-
-// The host's clock, from the begin of a check on. If it fails the time is over.
-#[derive(Drop)]
-struct HostClock<'a, R> {
-    rt: &'a R,
-    start: Option<Instant>,
-}
-
-impl<'a, R: HostTime> HostClock<'a, R> {
-    // The clock of a check that begins now.
-    fn start(rt: &'a R) -> HostClock<'a, R> {
-        HostClock {
-            rt,
-            start: Instant::now(rt).ok(),
-        }
-    }
-}
-
-impl<R: HostTime> Clock for HostClock<'_, R> {
-    ghost answered = { λ _ _. ⊤ };
-
-    fn elapsed(&mut self) -> Duration {
-        match &self.start {
-            Some(start) => start.elapsed(self.rt).unwrap_or(Duration::MAX),
-            None => Duration::MAX,
-        }
     }
 }

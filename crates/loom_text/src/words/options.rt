@@ -1,4 +1,5 @@
 //! The command line of `loom_litmus`.
+use clap::error::ErrorKind;
 use clap::{Arg, ArgAction, ArgMatches, Command, Error, value_parser};
 use loom::model::Walk;
 use loom::model::builder::Builder;
@@ -34,6 +35,8 @@ pub struct Asked<'a> {
     pub walk: Option<Walk>,
     /// How many states are remembered at most. None where another search is asked for.
     pub covers: Option<usize>,
+    /// Among how many workers the check is shared out, if it is. Zero are as many as there are processors.
+    pub jobs: Option<usize>,
     /// Whether a failure, or the run that is made, is explained.
     pub explains: bool,
 }
@@ -79,7 +82,7 @@ const FLAG: Known = Known {
 const OTHER_SEARCHES: [&str; 5] = ["reduce", "whole", "preemption-bound", "replay", "walk"];
 
 // All options, in the order of the help, which clap adds itself.
-static OPTIONS: [Known; 15] = [
+static OPTIONS: [Known; 16] = [
     Known {
         name: "reduce",
         help: "try another thread only where an access calls for it",
@@ -132,6 +135,13 @@ static OPTIONS: [Known; 15] = [
         name: "max-duration",
         takes: Takes::Number("SECONDS"),
         help: "stop after this time",
+        ..FLAG
+    },
+    Known {
+        name: "jobs",
+        takes: Takes::Number("N"),
+        help: "share the check out among this many workers, or as many as there are processors, where it is 0",
+        conflicts: &["replay", "walk"],
         ..FLAG
     },
     Known {
@@ -194,9 +204,17 @@ impl Known {
     }
 }
 
+// A search that remembers states isn't shared out.
+const SHARED: &str = "--jobs needs --whole or --reduce";
+
 /// What these words ask for. The error has clap's text: the cause, or the help (own).
 pub fn read<'a>(alloc: Global, words: &'a [&'a str]) -> Result<Asked<'a>, Error> {
     let matches = command(alloc)?.try_get_matches_from(words)?;
+    let covers = most_states(&matches);
+    let jobs = matches.get_one("jobs");
+    if covers.is_some() && jobs.is_some() {
+        return Err(command(alloc)?.error(ErrorKind::MissingRequiredArgument, SHARED)?);
+    }
     let files = files(alloc, &matches)?;
     let shows = shown_by(&matches, files.len());
     Ok(Asked {
@@ -204,7 +222,8 @@ pub fn read<'a>(alloc: Global, words: &'a [&'a str]) -> Result<Asked<'a>, Error>
         shows,
         replay: matches.get_str("replay"),
         walk: walk(&matches),
-        covers: most_states(&matches),
+        covers,
+        jobs,
         explains: matches.get_flag("explain"),
         files,
     })
